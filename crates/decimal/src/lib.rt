@@ -1,0 +1,148 @@
+// Decimal fields of any width, as document 01 sets them: right-justified, space-filled, without leading zeros, zero as `0`.
+ghost use Prim.Native.Nat.{_+_, _-_, _*_};
+ghost use mathlib.Core.Path.{_≡_};
+ghost use mathlib.Core.Bool.{cond};
+ghost use lib.ListN.{length};
+ghost use Rattle.lists.specs.Bytes.{eqList};
+ghost use Rattle.decimal.specs.Field.{isDigit, within, figure, place, fieldText};
+ghost use Rattle.decimal.specs.Cut.{capped, steppedTo};
+ghost use Rattle.decimal.specs.Word.{putWord};
+
+// How far a field has been read: spaces only, a figure, or something that is no figure.
+pub enum Scan {
+    Blank,
+    Number(u32),
+    Wrong,
+}
+
+// The figure v with one digit more. It is made in 64 bits, which hold it whatever v is.
+fn digit(v: u32, b: u8, high: u32) -> Scan
+    ensures { λ r. ⌜ r ≡ capped high (cond (isDigit b) (Scan.Number (v * 10 + (b - 48))) Scan.Wrong) ⌝ }
+{
+    if b < 48 {
+        return Scan::Wrong;
+    }
+    if b > 57 {
+        return Scan::Wrong;
+    }
+    let n = (v as u64) * 10 + ((b - 48) as u64);
+    if n > (high as u64) {
+        return Scan::Wrong;
+    }
+    Scan::Number(n as u32)
+}
+
+// One byte more: spaces stand before the figure only, and nothing follows a leading `0`.
+fn step(st: Scan, b: u8, high: u32) -> Scan
+    ensures { λ r. ⌜ r ≡ steppedTo high st b ⌝ }
+{
+    match st {
+        Scan::Blank => {
+            if b == 32 {
+                return Scan::Blank;
+            }
+            digit(0, b, high)
+        }
+        Scan::Number(v) => {
+            if v == 0 {
+                return Scan::Wrong;
+            }
+            digit(v, b, high)
+        }
+        Scan::Wrong => Scan::Wrong,
+    }
+}
+
+// A figure from low to high, or `Wrong`.
+fn bounded(st: Scan, low: u32, high: u32) -> Scan
+    ensures { λ r. ⌜ r ≡ within low high st ⌝ }
+{
+    match st {
+        Scan::Blank => Scan::Wrong,
+        Scan::Number(v) => {
+            if v < low {
+                return Scan::Wrong;
+            }
+            if v > high {
+                return Scan::Wrong;
+            }
+            Scan::Number(v)
+        }
+        Scan::Wrong => Scan::Wrong,
+    }
+}
+
+// What the field s holds, where a figure from low to high is wanted: `Number`, or `Wrong`.
+pub fn read(s: &[u8], low: u32, high: u32) -> Scan
+    ensures { λ r. ⌜ r ≡ figure low high (now (s .entry)) ⌝ }
+{
+    let n = s.len();
+    let mut st = Scan::Blank;
+    let mut i = 0;
+    while i < n {
+        st = step(st, s[i], high);
+        i += 1;
+    }
+    bounded(st, low, high)
+}
+
+// The last digit of what is left of a figure, or a space where nothing is left.
+fn column(rest: u32) -> u8
+    ensures { λ r. ⌜ r ≡ place rest ⌝ }
+{
+    if rest == 0 {
+        return 32;
+    }
+    48 + ((rest % 10) as u8)
+}
+
+// The figure v over the whole of s, from its last column, which is never blank.
+pub fn write(s: &mut [u8], v: u32)
+    ensures { λ r. ⌜ now (s .exit) ≡ fieldText (length (now (s .entry))) v ⌝ }
+{
+    let mut i = s.len();
+    if i == 0 {
+        return;
+    }
+    i -= 1;
+    s[i] = 48 + ((v % 10) as u8);
+    let mut rest = v / 10;
+    while i > 0 {
+        i -= 1;
+        s[i] = column(rest);
+        rest = rest / 10;
+    }
+}
+
+// The two hold the same bytes.
+pub fn same(s: &[u8], t: &[u8]) -> bool
+    ensures { λ r. ⌜ r ≡ eqList (now (s .entry)) (now (t .entry)) ⌝ }
+{
+    let n = s.len();
+    if n != t.len() {
+        return false;
+    }
+    let mut i = 0;
+    while i < n {
+        if s[i] != t[i] {
+            return false;
+        }
+        i += 1;
+    }
+    true
+}
+
+// The word t over s, where it has the length of s.
+pub fn put(s: &mut [u8], t: &[u8])
+    ensures { λ r. ⌜ now (s .exit) ≡ putWord (now (s .entry)) (now (t .entry)) ⌝ }
+{
+    let n = s.len();
+    if n != t.len() {
+        return;
+    }
+    let mut i = 0;
+    while i < n {
+        s[i] = t[i];
+        i += 1;
+    }
+}

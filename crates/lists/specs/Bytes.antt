@@ -1,0 +1,48 @@
+-- Text as a list of bytes, and equality of two lists of numbers as a test.
+use Prim.Native.Nat.{ℕ, zero, suc, _<_}
+use native.Mathlib.Omega.{arith}
+use Prim.Native.Char.{Char, code}
+use Prim.Native.String as String
+use Prim.Native.String.{String}
+use mathlib.Core.Path.{_≡_, refl, ap, ap₂}
+use mathlib.Core.Bool.{Bool, true, false, _&&_, true≢false}
+use mathlib.Core.List.{List, [], _∷_, _++_}
+use lib.Dec.{eqb}
+use lib.ListN.{getD}
+use borrow.Author.Tests.{eqb-true, eq-eqb}
+use Rattle.lists.specs.Tests.{and-fst, and-snd, and-both}
+
+-- the bytes of a text in ASCII
+unfoldable pub bytes : String → List ℕ
+bytes String.[] = []
+bytes (String._∷_ c s) = code c ∷ bytes s
+
+-- the two lists are equal
+unfoldable pub eqList : List ℕ → List ℕ → Bool
+eqList [] [] = true
+eqList [] (b ∷ t) = false
+eqList (a ∷ s) [] = false
+eqList (a ∷ s) (b ∷ t) = eqb a b && eqList s t
+
+pub eqList-true : (s t : List ℕ) → eqList s t ≡ true → s ≡ t
+unfolding eqList
+eqList-true [] [] e = refl
+eqList-true [] (b ∷ t) e = absurd (true≢false (mathlib.Core.Path.sym e))
+eqList-true (a ∷ s) [] e = absurd (true≢false (mathlib.Core.Path.sym e))
+eqList-true (a ∷ s) (b ∷ t) e =
+    ap₂ _∷_ (eqb-true a b (and-fst _ _ e)) (eqList-true s t (and-snd (eqb a b) (eqList s t) e))
+
+pub eqList-refl : (s : List ℕ) → eqList s s ≡ true
+unfolding eqList
+eqList-refl [] = refl
+eqList-refl (a ∷ s) = and-both (eq-eqb a a refl) (eqList-refl s)
+
+-- a bound on the elements of two lists is one on those of the two joined
+pub below-append : (n : ℕ) (s t : List ℕ) → ((i : ℕ) → getD s i 0 < n) → ((i : ℕ) → getD t i 0 < n) → (i : ℕ) → getD (s ++ t) i 0 < n
+below-append n [] t f g i = g i
+below-append n (a ∷ s) t f g zero = f 0
+below-append n (a ∷ s) t f g (suc i) = below-append n s t (λ j. f (suc j)) g i
+
+pub below-one : (n a : ℕ) → a < n → (i : ℕ) → getD (a ∷ []) i 0 < n
+below-one n a l zero = l
+below-one n a l (suc i) = omega arith

@@ -1,0 +1,33 @@
+-- Lists taken element by element: a test that all pass, pieces of equal length, lists joined, lists in order.
+use Prim.Native.Nat.{ℕ, zero, suc}
+use mathlib.Core.Bool.{Bool, true, false, _&&_, _||_}
+use mathlib.Core.List.{List, [], _∷_, _++_}
+use lib.ListN.{take, drop, getD}
+use lib.Dec.{eqb, ltb}
+
+-- every element passes the test
+unfoldable pub all {ℓ} : {A : Type ℓ} → (A → Bool) → List A → Bool
+all p [] = true
+all p (x ∷ xs) = p x && all p xs
+
+-- the lists one after another
+unfoldable pub joined {ℓ} : {A : Type ℓ} → List (List A) → List A
+joined [] = []
+joined (x ∷ xs) = x ++ joined xs
+
+-- a list cut into n pieces of w elements: the lines of a sheet, the rows of a list of numbers
+unfoldable pub pieces {ℓ} : {A : Type ℓ} → ℕ → ℕ → List A → List (List A)
+pieces w zero s = []
+pieces w (suc n) s = take w s ∷ pieces w n (drop w s)
+
+-- the n elements from place i on, 0 past the end
+unfoldable pub listed : ℕ → ℕ → List ℕ → List ℕ
+listed i zero v = []
+listed i (suc n) v = getD v i 0 ∷ listed (suc i) n v
+
+-- s comes before t: compared number by number from the left, a list before its continuations
+unfoldable pub less : List ℕ → List ℕ → Bool
+less [] [] = false
+less [] (b ∷ t) = true
+less (a ∷ s) [] = false
+less (a ∷ s) (b ∷ t) = ltb a b || eqb a b && less s t

@@ -1,0 +1,7 @@
+-- Definitions and laws on lists, tests and choices that several crates cite.
+pub mod Bytes
+pub mod All
+pub mod Each
+pub mod Order
+pub mod Pieces
+pub mod Tests

@@ -1,0 +1,102 @@
+-- Laws of pieces: a list of n * w elements is its n pieces joined, and a piece is found and replaced by its place.
+-- Each goes by induction on the number of pieces.
+use Prim.Native.Nat.{ℕ, zero, suc, _+_, _-_, _*_, _≤_, _<_}
+use mathlib.Core.Path.{_≡_, refl, sym, ap, ap₂, _∙_}
+use mathlib.Core.Bool.{Bool, true, false, _&&_}
+use mathlib.Core.List.{List, [], _∷_, _++_, map, append-assoc}
+use native.Mathlib.Omega.{arith}
+use native.Mathlib.Nat.{suc-mul, zero-mul, zero-add, add-comm, add-assoc}
+use lib.ListN.{length, take, drop, getD, set, length-take, length-drop, length-append, take-append-drop, drop-of-length-le}
+use lib.Seq.{take-at, drop-at, drop-drop, take-add}
+use Rattle.lists.specs.Each.{all, joined, pieces}
+
+-- an empty list where there is nothing
+pub length-zero {ℓ} : {A : Type ℓ} (s : List A) → length s ≡ 0 → s ≡ []
+length-zero [] e = refl
+length-zero (x ∷ s) e = absurd (omega arith)
+
+pub length-pieces {ℓ} : {A : Type ℓ} (w n : ℕ) (s : List A) → length (pieces w n s) ≡ n
+unfolding pieces
+length-pieces w zero s = refl
+length-pieces w (suc n) s = ap suc (length-pieces w n (drop w s))
+
+pub joined-pieces {ℓ} : {A : Type ℓ} (w n : ℕ) (s : List A) → length s ≡ n * w → joined (pieces w n s) ≡ s
+unfolding pieces joined
+joined-pieces w zero s e = sym (length-zero s (rw zero-mul at e))
+joined-pieces w (suc n) s e =
+    let h : length s ≡ n * w + w = rw suc-mul at e in
+    let k : length (drop w s) ≡ n * w = simp length-drop (omega arith) in
+    ap (λ (t : List _). take w s ++ t) (joined-pieces w n (drop w s) k) ∙ take-append-drop w s
+
+-- every list of ls has w elements
+abbrev pub AllOf {ℓ} : {A : Type ℓ} → ℕ → List (List A) → Type 0
+AllOf w [] = Unit {0}
+AllOf w (x ∷ xs) = (length x ≡ w) × AllOf w xs
+
+pub length-joined {ℓ} : {A : Type ℓ} (w : ℕ) (xs : List (List A)) → AllOf w xs → length (joined xs) ≡ length xs * w
+unfolding joined
+length-joined w [] h = sym (zero-mul w)
+length-joined w (x ∷ xs) h =
+    let e : length (joined xs) ≡ length xs * w = length-joined w xs (h .1) in
+    let l : length x ≡ w = h .0 in
+    rw (length-append, suc-mul) (omega arith)
+
+pub pieces-joined {ℓ} : {A : Type ℓ} (w : ℕ) (xs : List (List A)) → AllOf w xs → pieces w (length xs) (joined xs) ≡ xs
+unfolding pieces joined
+pieces-joined w [] h = refl
+pieces-joined w (x ∷ xs) h =
+    ap₂ _∷_ (take-at x (joined xs) w (h .0))
+    (ap (pieces w (length xs)) (drop-at x (joined xs) w (h .0)) ∙ pieces-joined w xs (h .1))
+
+-- the pieces from place i on
+pub drop-pieces {ℓ} : {A : Type ℓ} (w i n : ℕ) (s : List A) → drop i (pieces w (i + n) s) ≡ pieces w n (drop (i * w) s)
+unfolding pieces
+drop-pieces w zero n s = rw (zero-add, zero-mul)
+drop-pieces w (suc i) n s =
+    let e : suc i + n ≡ suc (i + n) = omega arith in
+    let f : suc i * w ≡ w + i * w = rw suc-mul (omega arith) in
+    rw (e, f) (drop-pieces w i n (drop w s) ∙ ap (pieces w n) (drop-drop (i * w) w s))
+
+pub getD-pieces {ℓ} : {A : Type ℓ} (w i n : ℕ) (s : List A) → i < n → getD (pieces w n s) i [] ≡ take w (drop (i * w) s)
+unfolding pieces
+getD-pieces w i zero s h = absurd (omega arith)
+getD-pieces w zero (suc n) s h = rw zero-mul
+getD-pieces w (suc i) (suc n) s h =
+    let f : suc i * w ≡ w + i * w = rw suc-mul (omega arith) in
+    rw f (getD-pieces w i n (drop w s) (omega arith) ∙ ap (take w) (drop-drop (i * w) w s))
+
+-- s with t in place of what stands from a on
+unfoldable pub over {ℓ} : {A : Type ℓ} → List A → ℕ → List A → List A
+over s a t = take a s ++ (t ++ drop (a + length t) s)
+
+pub over-zero {ℓ} : {A : Type ℓ} (s t : List A) → over s 0 t ≡ t ++ drop (length t) s
+unfolding over
+over-zero s t = rw zero-add
+
+-- what stands before the place replaced
+pub over-after {ℓ} : {A : Type ℓ} (s t : List A) (w a : ℕ) → over s (w + a) t ≡ take w s ++ over (drop w s) a t
+unfolding over
+over-after s t w a =
+    let e : drop (w + a + length t) s ≡ drop (a + length t) (drop w s) = rw (add-assoc, drop-drop) in
+    rw (take-add, e) (append-assoc (take w s) (take a (drop w s)) _)
+
+pub length-over {ℓ} : {A : Type ℓ} (s t : List A) (a : ℕ) → a + length t ≤ length s → length (over s a t) ≡ length s
+unfolding over
+length-over s t a h = simp (length-append, length-take, length-drop) (omega arith)
+
+-- replacing the elements of piece i is replacing piece i
+pub pieces-over {ℓ} : {A : Type ℓ} (w i n : ℕ) (s t : List A) → i < n → length s ≡ n * w → length t ≡ w → pieces w n (over s (i * w) t) ≡ set (pieces w n s) i t
+unfolding pieces
+pieces-over w i zero s t h e l = absurd (omega arith)
+pieces-over w zero (suc n) s t h e l =
+    let o : over s (0 * w) t ≡ t ++ drop w s = rw (zero-mul, ← l) (over-zero s t) in
+    rw o (ap₂ _∷_ (take-at t (drop w s) w l) (ap (pieces w n) (drop-at t (drop w s) w l)))
+pieces-over w (suc i) (suc n) s t h e l =
+    let f : suc i * w ≡ w + i * w = rw suc-mul (omega arith) in
+    let m : length s ≡ n * w + w = rw suc-mul at e in
+    let k : length (drop w s) ≡ n * w = simp length-drop (omega arith) in
+    let j : length (take w s) ≡ w = simp length-take (omega arith) in
+    let o : over s (suc i * w) t ≡ take w s ++ over (drop w s) (i * w) t = rw f (over-after s t w (i * w)) in
+    rw o
+    (ap₂ _∷_ (take-at (take w s) _ w j)
+    (ap (pieces w n) (drop-at (take w s) _ w j) ∙ pieces-over w i n (drop w s) t (omega arith) k l))

@@ -1,0 +1,1 @@
+// Laws on lists, tests and choices that several crates cite (specs/). No code.

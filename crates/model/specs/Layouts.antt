@@ -1,0 +1,91 @@
+-- The layout of every line, as data: widths, kinds and ranges of its fields, in the order of document 01's tables.
+use Prim.Native.Nat.{ℕ}
+use mathlib.Core.List.{List, [], _∷_}
+use lib.ListN.{getD}
+use Rattle.lists.specs.Bytes.{bytes}
+use Rattle.types.specs.declared.Kind.{Kind}
+use Rattle.types.specs.declared.Kind.the-variants.{Figure, StateWord, DecisionWord, UnitLetter}
+use Rattle.types.specs.declared.Column.{Column}
+use Rattle.types.specs.declared.Layout.{Layout}
+use Rattle.types.specs.declared.Layout.the-variants.{RecordLine, CoordinatorHead, CoordinatorLine}
+
+-- the words of a kind, each right-justified in ten bytes; a field of fewer columns holds the last bytes of one
+unfoldable pub words : Kind → List (List ℕ)
+words Figure = []
+words StateWord = bytes "    ABSENT" ∷ bytes " COMMITTED" ∷ bytes "  PREPARED" ∷ []
+words DecisionWord = bytes "         -" ∷ bytes " COMMITTED" ∷ bytes "   ABORTED" ∷ []
+words UnitLetter =
+    bytes "         R" ∷ bytes "         P" ∷ bytes "         T" ∷ bytes "         N" ∷ bytes "         S" ∷ []
+
+-- word n of a kind, ten spaces where there is none
+abbrev pub wordAt : Kind → ℕ → List ℕ
+wordAt kind n = getD (words kind) n (bytes "          ")
+
+-- a figure from low to high in w columns
+abbrev pub figures : ℕ → ℕ → ℕ → Column
+figures w low high = record { width = w; kind = Figure; low = low; high = high }
+
+-- a word of a kind that has high + 1 of them
+abbrev pub word : ℕ → Kind → ℕ → Column
+word w kind high = record { width = w; kind = kind; low = 0; high = high }
+
+-- document 01, "Record sheet"
+unfoldable pub recordLayout : List Column
+recordLayout =
+    figures 2 1 9  -- storage
+    ∷ figures 3 1 99  -- namespace
+    ∷ figures 3 1 99  -- table
+    ∷ figures 6 0 99999  -- partition
+    ∷ figures 6 0 99999  -- clustering
+    ∷ word 10 StateWord 2
+    ∷ figures 6 0 99999  -- version
+    ∷ figures 4 0 999  -- TxID
+    ∷ figures 9 0 99999999  -- column 1
+    ∷ figures 9 0 99999999  -- column 2
+    ∷ figures 6 0 99999  -- before version
+    ∷ figures 4 0 999  -- before TxID
+    ∷ figures 9 0 99999999  -- before column 1
+    ∷ figures 9 0 99999999  -- before column 2
+    ∷ figures 11 0 4294967295  -- prepare clock
+    ∷ []
+
+-- document 01, "Coordinator sheet": the head, its count and nine unit letters, a space before the first
+unfoldable pub headLayout : List Column
+headLayout =
+    figures 4 0 999  -- count of numbers issued
+    ∷ word 2 UnitLetter 4  -- the unit of storage 1, with the space before it
+    ∷ word 1 UnitLetter 4
+    ∷ word 1 UnitLetter 4
+    ∷ word 1 UnitLetter 4
+    ∷ word 1 UnitLetter 4
+    ∷ word 1 UnitLetter 4
+    ∷ word 1 UnitLetter 4
+    ∷ word 1 UnitLetter 4
+    ∷ word 1 UnitLetter 4
+    ∷ []
+
+abbrev pub decisionColumn : Column
+decisionColumn = word 10 DecisionWord 2
+
+-- line k: its number and its decision
+unfoldable pub lineLayout : List Column
+lineLayout = figures 4 1 999 ∷ decisionColumn ∷ []
+
+unfoldable pub layout : Layout → List Column
+layout RecordLine = recordLayout
+layout CoordinatorHead = headLayout
+layout CoordinatorLine = lineLayout
+
+-- bytes of a record line, and of a coordinator line, LF included
+abbrev pub recordBytes : ℕ
+recordBytes = 98
+
+abbrev pub coordinatorBytes : ℕ
+coordinatorBytes = 15
+
+-- numbers of a record, and of a coordinator's head
+abbrev pub recordFields : ℕ
+recordFields = 15
+
+abbrev pub headFields : ℕ
+headFields = 10

@@ -1,0 +1,177 @@
+-- The record sheet: a line as a record, and the rules that records keep. Document 01, "Record sheet".
+use Prim.Native.Nat.{ℕ, zero, suc, _+_, _-_, _*_, _/_}
+use mathlib.Core.Bool.{Bool, true, false, _&&_, _||_, not, cond}
+use mathlib.Core.List.{List, [], _∷_, _++_, map}
+use lib.ListN.{length, take, getD}
+use lib.Dec.{eqb, leb}
+use Rattle.lists.specs.Bytes.{eqList}
+use Rattle.lists.specs.Each.{all, joined, pieces, less}
+use Rattle.types.specs.declared.State.{State}
+use Rattle.types.specs.declared.State.the-variants.{Absent, Committed, Prepared}
+use Rattle.types.specs.declared.Key.{Key}
+use Rattle.types.specs.declared.Image.{Image}
+use Rattle.types.specs.declared.Record.{Record}
+use Rattle.types.specs.declared.Found.{Found}
+use Rattle.types.specs.declared.Found.the-variants.{At, Nothing}
+use Rattle.model.specs.Layouts.{recordLayout, recordBytes, recordFields}
+use Rattle.model.specs.Lines.{rowOf, lineText, rowGood, linesOf, linesSet}
+
+-- State words by their place among the words.
+
+unfoldable pub stateNumber : State → ℕ
+stateNumber Absent = 0
+stateNumber Committed = 1
+stateNumber Prepared = 2
+
+unfoldable pub stateOf : ℕ → State
+stateOf zero = Absent
+stateOf (suc zero) = Committed
+stateOf (suc (suc n)) = Prepared
+
+abbrev pub byState {ℓ} : {A : Type ℓ} → State → A → A → A → A
+byState Absent a c p = a
+byState Committed a c p = c
+byState Prepared a c p = p
+
+-- A row of numbers as a record, and back.
+
+unfoldable pub keyNumbers : Key → List ℕ
+keyNumbers k = k .storage ∷ k .namespace ∷ k .table ∷ k .partition ∷ k .clustering ∷ []
+
+unfoldable pub imageNumbers : Image → List ℕ
+imageNumbers m = m .version ∷ m .txid ∷ m .column1 ∷ m .column2 ∷ []
+
+unfoldable pub keyOf : List ℕ → Key
+keyOf v =
+    record {
+      storage = getD v 0 0;
+      namespace = getD v 1 0;
+      table = getD v 2 0;
+      partition = getD v 3 0;
+      clustering = getD v 4 0;
+    }
+
+-- the image whose numbers start at place i
+unfoldable pub imageFrom : ℕ → List ℕ → Image
+imageFrom i v =
+    record {
+      version = getD v i 0;
+      txid = getD v (i + 1) 0;
+      column1 = getD v (i + 2) 0;
+      column2 = getD v (i + 3) 0;
+    }
+
+unfoldable pub recordOf : List ℕ → Record
+recordOf v =
+    record {
+      key = keyOf v;
+      state = stateOf (getD v 5 0);
+      image = imageFrom 6 v;
+      before = imageFrom 10 v;
+      clock = getD v 14 0;
+    }
+
+unfoldable pub recordNumbers : Record → List ℕ
+recordNumbers r =
+    keyNumbers (r .key)
+    ++ (stateNumber (r .state) ∷ imageNumbers (r .image) ++ imageNumbers (r .before) ++ (r .clock ∷ []))
+
+-- The rules.
+
+-- every field of the image is 0
+unfoldable pub isZero : Image → Bool
+isZero m = eqb (m .version) 0 && eqb (m .txid) 0 && eqb (m .column1) 0 && eqb (m .column2) 0
+
+-- "ABSENT: every field after the state word is 0."
+unfoldable pub absentRule : Record → Bool
+absentRule r = isZero (r .image) && isZero (r .before) && eqb (r .clock) 0
+
+-- "COMMITTED: version at least 1, before fields and clock 0; TxID 0 marks a line loaded at layout."
+unfoldable pub committedRule : Record → Bool
+committedRule r = leb 1 (r .image .version) && isZero (r .before) && eqb (r .clock) 0
+
+-- "PREPARED: TxID at least 1, version = before version + 1; if before version is 0, the other before fields are 0."
+unfoldable pub preparedRule : Record → Bool
+preparedRule r =
+    leb 1 (r .image .txid)
+    && eqb (r .image .version) (r .before .version + 1)
+    && (leb 1 (r .before .version) || isZero (r .before))
+
+-- a record good alone: its numbers are in their ranges, and it keeps the rule of its state
+unfoldable pub goodAlone : Record → Bool
+goodAlone r =
+    rowGood recordLayout (recordNumbers r)
+    && byState (r .state) (absentRule r) (committedRule r) (preparedRule r)
+
+-- "Keys rise strictly down the sheet, compared field by field from storage."
+unfoldable pub keyLess : Key → Key → Bool
+keyLess a b = less (keyNumbers a) (keyNumbers b)
+
+-- the key of r comes before that of the next record, if there is one
+unfoldable pub inOrder : Record → List Record → Bool
+inOrder r [] = true
+inOrder r (next ∷ rs) = keyLess (r .key) (next .key)
+
+unfoldable pub rising : List Record → Bool
+rising [] = true
+rising (r ∷ rs) = inOrder r rs && rising rs
+
+-- 1 to 500 records, each good alone, neighbours in rising order
+unfoldable pub recordsGood : List Record → Bool
+recordsGood rs = leb 1 (length rs) && leb (length rs) 500 && all goodAlone rs && rising rs
+
+-- The sheet.
+
+-- the record that a line of bytes says
+unfoldable pub recordIn : List ℕ → Record
+recordIn line = recordOf (rowOf recordLayout line)
+
+-- the line for a record
+unfoldable pub recordText : Record → List ℕ
+recordText r = lineText recordLayout (recordNumbers r)
+
+-- the records of a sheet, whatever its bytes
+unfoldable pub records : List ℕ → List Record
+records s = map recordIn (linesOf recordBytes s)
+
+-- the sheet for a list of records
+unfoldable pub recordsText : List Record → List ℕ
+recordsText rs = joined (map recordText rs)
+
+-- the record sheets that refusal 1 lets pass
+unfoldable pub recordsAccepted : List ℕ → Bool
+recordsAccepted s = linesSet recordLayout recordBytes s && recordsGood (records s)
+
+-- Records as a lent list of numbers, 15 to a record.
+
+unfoldable pub rows : List ℕ → List (List ℕ)
+rows xs = pieces recordFields (length xs / recordFields) xs
+
+-- the numbers of all the records
+unfoldable pub allNumbers : List Record → List ℕ
+allNumbers rs = joined (map recordNumbers rs)
+
+-- whole records in range that keep the rules
+unfoldable pub rowsAccepted : List ℕ → Bool
+rowsAccepted xs =
+    eqb (length xs) (length xs / recordFields * recordFields)
+    && all (rowGood recordLayout) (rows xs)
+    && recordsGood (map recordOf (rows xs))
+
+-- Looking up a key.
+
+-- a key whose fields are in range
+unfoldable pub keyInRange : Key → Bool
+keyInRange k = rowGood (take 5 recordLayout) (keyNumbers k)
+
+unfoldable pub sameKey : Key → Key → Bool
+sameKey a b = eqList (keyNumbers a) (keyNumbers b)
+
+-- the place of the first record with the key, counted from i
+unfoldable pub foundFrom : ℕ → Key → List Record → Found
+foundFrom i k [] = Nothing
+foundFrom i k (r ∷ rs) = cond (sameKey (r .key) k) (At i) (foundFrom (suc i) k rs)
+
+-- the place of the line that has the key
+unfoldable pub found : Key → List Record → Found
+found k rs = foundFrom 0 k rs

@@ -1,0 +1,105 @@
+-- The calls that take no transaction and no clock: the check, sheets to numbers and back, the look-up.
+-- For each, its conditions of refusal in order, and what it answers or leaves in the lent target.
+use Prim.Native.Nat.{ℕ, _+_, _-_, _*_, _/_}
+use mathlib.Core.Bool.{Bool, true, false, _&&_, not, cond}
+use mathlib.Core.List.{List, [], _∷_, map}
+use lib.ListN.{length, take, drop}
+use lib.Dec.{eqb}
+use Rattle.lists.specs.Each.{all}
+use Rattle.types.specs.declared.Key.{Key}
+use Rattle.types.specs.declared.Found.{Found}
+use Rattle.types.specs.declared.Found.the-variants.{At, Nothing}
+use Rattle.model.specs.Layouts.{recordBytes, coordinatorBytes, recordFields, headFields}
+use Rattle.model.specs.Records.{
+  records,
+  recordsAccepted,
+  recordsText,
+  recordOf,
+  rows,
+  rowsAccepted,
+  allNumbers,
+  keyInRange,
+  found,
+}
+use Rattle.model.specs.Coordinator.{
+  coordinatorOf,
+  coordinatorAccepted,
+  coordinatorText,
+  coordinatorFrom,
+  coordinatorNumbers,
+  numbersAccepted,
+  namesIssued,
+}
+use Rattle.model.specs.Refusals.{Condition, refuse, refusalOf}
+
+-- a target after a call: what was to be written, or as it came where the call was refused
+abbrev pub unlessRefused : List Condition → List ℕ → List ℕ → List ℕ
+unlessRefused cs written target = cond (eqb (refusalOf cs) 0) written target
+
+-- The check of both sheets.
+
+-- no record names a number that has not been issued
+unfoldable pub allIssued : List ℕ → List ℕ → Bool
+allIssued rs cs = all (namesIssued (coordinatorOf cs .issued)) (records rs)
+
+unfoldable pub checkConditions : List ℕ → List ℕ → List Condition
+checkConditions rs cs =
+    refuse 1 (not (recordsAccepted rs)) ∷ refuse 2 (not (coordinatorAccepted cs && allIssued rs cs)) ∷ []
+
+-- Record sheet to numbers, 15 to a line, and back. The target is exactly as long as whole lines or records need.
+
+unfoldable pub readRecordsConditions : List ℕ → List ℕ → List Condition
+readRecordsConditions s target =
+    refuse 1 (not (recordsAccepted s)) ∷ refuse 1 (not (eqb (length target) (length s / recordBytes * recordFields))) ∷ []
+
+unfoldable pub numbersRead : List ℕ → List ℕ → List ℕ
+numbersRead s target = unlessRefused (readRecordsConditions s target) (allNumbers (records s)) target
+
+unfoldable pub writeRecordsConditions : List ℕ → List ℕ → List Condition
+writeRecordsConditions v target =
+    refuse 1 (not (rowsAccepted v)) ∷ refuse 1 (not (eqb (length target) (length v / recordFields * recordBytes))) ∷ []
+
+unfoldable pub recordsWritten : List ℕ → List ℕ → List ℕ
+recordsWritten v target =
+    unlessRefused (writeRecordsConditions v target) (recordsText (map recordOf (rows v))) target
+
+-- Coordinator sheet to numbers, ten for the head and one for each line, and back.
+
+unfoldable pub readCoordinatorConditions : List ℕ → List ℕ → List Condition
+readCoordinatorConditions s target =
+    refuse 1 (not (eqb (length target) (headFields + length (drop coordinatorBytes s) / coordinatorBytes)))
+    ∷ refuse 2 (not (coordinatorAccepted s))
+    ∷ []
+
+unfoldable pub decisionsRead : List ℕ → List ℕ → List ℕ
+decisionsRead s target =
+    unlessRefused (readCoordinatorConditions s target) (coordinatorNumbers (coordinatorOf s)) target
+
+unfoldable pub writeCoordinatorConditions : List ℕ → List ℕ → List Condition
+writeCoordinatorConditions v target =
+    refuse 1 (not (eqb (length target) (coordinatorBytes + length (drop headFields v) * coordinatorBytes)))
+    ∷ refuse 2 (not (numbersAccepted v))
+    ∷ []
+
+unfoldable pub coordinatorWritten : List ℕ → List ℕ → List ℕ
+coordinatorWritten v target =
+    unlessRefused (writeCoordinatorConditions v target) (coordinatorText (coordinatorFrom v)) target
+
+-- The look-up of a key.
+
+unfoldable pub isMissing : Found → Bool
+isMissing (At i) = false
+isMissing Nothing = true
+
+unfoldable pub lookupConditions : List ℕ → Key → List Condition
+lookupConditions s k =
+    refuse 1 (not (recordsAccepted s)) ∷ refuse 5 (not (keyInRange k)) ∷ refuse 6 (isMissing (found k (records s))) ∷ []
+
+-- the bytes of the line at a place, none at no place
+unfoldable pub lineAt : List ℕ → Found → List ℕ
+lineAt s (At i) = take recordBytes (drop (i * recordBytes) s)
+lineAt s Nothing = []
+
+-- the line that has the key, or nothing
+unfoldable pub lookedUp : List ℕ → Key → List ℕ
+lookedUp s k = unlessRefused (lookupConditions s k) (lineAt s (found k (records s))) []

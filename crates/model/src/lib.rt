@@ -1,0 +1,1 @@
+// The specification (specs/): definitions only. No code.

@@ -1,0 +1,88 @@
+-- A coordinator as numbers, ten for the head and one for each decision: both round trips, part by part.
+use Prim.Native.Nat.{ℕ, zero, suc, _+_, _-_, _≤_, _<_}
+use mathlib.Core.Path.{_≡_, refl, sym, ap, ap₂, _∙_}
+use mathlib.Core.Bool.{Bool, true, false, _&&_, true≢false}
+use mathlib.Core.List.{List, [], _∷_, _++_, map}
+use native.Mathlib.Omega.{arith}
+use lib.ListN.{length, take, drop, getD, length-map, length-append, length-take, take-append-drop}
+use lib.Seq.{take-at, drop-at}
+use lib.Dec.{leb}
+use borrow.Author.Tests.{leb-true, le-leb}
+use Rattle.lists.specs.Tests.{and-fst, and-snd, and-both, tests}
+use Rattle.lists.specs.Each.{all}
+use Rattle.lists.specs.All.{all-map, all-weaken, all-always, map-map, map-same}
+use Rattle.types.specs.declared.Decision.{Decision}
+use Rattle.types.specs.declared.AtomicityUnit.{AtomicityUnit}
+use Rattle.model.specs.Layouts.{headLayout, decisionColumn}
+use Rattle.model.specs.Lines.{rowGood, inRange}
+use Rattle.model.specs.Coordinator.{
+  Coordinator,
+  decisionNumber,
+  decisionOf,
+  unitNumber,
+  unitOf,
+  coordinatorGood,
+  headNumbers,
+  coordinatorNumbers,
+  coordinatorFrom,
+  numbersAccepted,
+}
+use Rattle.sheet_laws.specs.Coordinator.{
+  Bounds,
+  bounds,
+  decision-of-number,
+  number-of-decision,
+  decision-ranged,
+  units-back,
+  head-ranged,
+  head-numbers,
+}
+
+-- the decisions of numbers, and back
+decisions-back : (ds : List Decision) → map decisionOf (map decisionNumber ds) ≡ ds
+decisions-back ds =
+    map-map decisionOf decisionNumber ds
+    ∙ map-same (λ (d : Decision). true) (λ (d : Decision). decisionOf (decisionNumber d)) (λ d e. decision-of-number d) ds (all-always ds)
+
+-- T3, coordinator as numbers: a rule-keeping coordinator, as numbers and back, is the same, and its numbers are accepted
+pub coordinator-of-numbers : (c : Coordinator) → coordinatorGood c ≡ true → (coordinatorFrom (coordinatorNumbers c) ≡ c) × (numbersAccepted (coordinatorNumbers c) ≡ true)
+unfolding coordinatorFrom coordinatorNumbers numbersAccepted headNumbers
+coordinator-of-numbers c h =
+    let b = bounds c h in
+    let nine : length (c .units) ≡ 9 = b .units in
+    let few : length (c .decisions) ≤ 999 = b .few in
+    let most : c .issued ≤ length (c .decisions) = b .issued in
+    let us = map unitNumber (c .units) in
+    let ds = map decisionNumber (c .decisions) in
+    let n : length us ≡ 9 = length-map (c .units) unitNumber ∙ nine in
+    let u : take 9 (us ++ ds) ≡ us = take-at us ds 9 n in
+    let d : drop 9 (us ++ ds) ≡ ds = drop-at us ds 9 n in
+    let same : coordinatorFrom (coordinatorNumbers c) ≡ c =
+    λ i. record {
+      issued = c .issued;
+      units = (ap (map unitOf) u ∙ units-back (c .units)) i;
+      decisions = (ap (map decisionOf) d ∙ decisions-back (c .decisions)) i;
+    } in
+    let l : 10 ≤ length (coordinatorNumbers c) = simp length-append (omega arith) in
+    let head : rowGood headLayout (take 10 (coordinatorNumbers c)) ≡ true =
+    rw u (head-ranged c (omega arith) nine) in
+    let each : all (inRange decisionColumn) (drop 10 (coordinatorNumbers c)) ≡ true =
+    rw d
+    (all-map (inRange decisionColumn) decisionNumber (c .decisions)
+    ∙ all-weaken (λ (x : Decision). true) (λ (x : Decision). inRange decisionColumn (decisionNumber x)) (λ x e. decision-ranged x) (c .decisions) (all-always (c .decisions))) in
+    (same, and-both (and-both (and-both (le-leb 10 (length (coordinatorNumbers c)) l) head) each) (rw same h))
+
+-- T3, coordinator as numbers: accepted numbers are those of their coordinator
+pub numbers-of-coordinator : (v : List ℕ) → numbersAccepted v ≡ true → coordinatorNumbers (coordinatorFrom v) ≡ v
+unfolding coordinatorFrom coordinatorNumbers numbersAccepted headNumbers
+numbers-of-coordinator [] h = absurd (true≢false (sym h))
+numbers-of-coordinator (x ∷ v) h =
+    let l : 10 ≤ length (x ∷ v) = search tests in
+    let g : rowGood headLayout (x ∷ take 9 v) ≡ true = search tests in
+    let each : all (inRange decisionColumn) (drop 9 v) ≡ true = search tests in
+    let n : length (x ∷ take 9 v) ≡ 10 = simp length-take (omega arith) in
+    let e : x ∷ map unitNumber (map unitOf (take 9 v)) ≡ x ∷ take 9 v = head-numbers (x ∷ take 9 v) g n in
+    let d : map decisionNumber (map decisionOf (drop 9 v)) ≡ drop 9 v =
+    map-map decisionNumber decisionOf (drop 9 v)
+    ∙ map-same (inRange decisionColumn) (λ (k : ℕ). decisionNumber (decisionOf k)) number-of-decision (drop 9 v) each in
+    ap₂ _++_ e d ∙ ap (λ (t : List ℕ). x ∷ t) (take-append-drop 9 v)

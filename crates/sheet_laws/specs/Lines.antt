@@ -1,0 +1,106 @@
+-- A line, for any layout whose columns pass `columnOk`: both round trips, field by field from the left.
+use Prim.Native.Nat.{ℕ, zero, suc, _+_, _-_, _≤_, _<_}
+use mathlib.Core.Path.{_≡_, refl, sym, ap, ap₂, subst, _∙_}
+use mathlib.Core.Bool.{Bool, true, false, _&&_}
+use mathlib.Core.List.{List, [], _∷_, _++_}
+use native.Mathlib.Omega.{arith}
+use lib.ListN.{length, take, drop, getD, length-take, length-drop, length-append, take-append-drop}
+use lib.Seq.{take-at, drop-at, getD-drop}
+use Rattle.lists.specs.Tests.{and-fst, and-snd, and-both, tests}
+use Rattle.lists.specs.Bytes.{eqList, eqList-true, eqList-refl}
+use Rattle.lists.specs.Each.{all}
+use Rattle.decimal.specs.declared.Scan.{Scan}
+use Rattle.decimal.specs.declared.Scan.the-variants.{Blank, Number, Wrong}
+use Rattle.decimal.specs.Field.{number, isNumber}
+use Rattle.decimal.specs.Laws.{isNumber-number}
+use Rattle.types.specs.declared.Column.{Column}
+use Rattle.model.specs.Lines.{fieldValue, fieldBytes, inRange, rowOf, lineSet, lineText, rowGood}
+use Rattle.sheet_laws.specs.Fields.{columnOk, field-read-written, field-written-read}
+
+abbrev pub layoutOk : List Column → Bool
+layoutOk cs = all columnOk cs
+
+-- the bytes of a line, LF included
+unfoldable pub lineBytes : List Column → ℕ
+lineBytes [] = 1
+lineBytes (c ∷ cs) = c .width + lineBytes cs
+
+pub length-rowOf : (cs : List Column) (s : List ℕ) → length (rowOf cs s) ≡ length cs
+unfolding rowOf
+length-rowOf [] s = refl
+length-rowOf (c ∷ cs) s = ap suc (length-rowOf cs (drop (c .width) s))
+
+-- a line that can be read has its layout's length; so none of its fields is cut short
+pub line-length : (cs : List Column) (s : List ℕ) → lineSet cs s ≡ true → length s ≡ lineBytes cs
+unfolding lineSet lineBytes
+line-length [] s h = ap length (eqList-true s (10 ∷ []) h)
+line-length (c ∷ cs) s h =
+    let r : length (drop (c .width) s) ≡ lineBytes cs =
+    line-length cs (drop (c .width) s) (and-snd (isNumber (fieldValue c (take (c .width) s))) _ h) in
+    let p : 1 ≤ lineBytes cs = positive cs in
+    omega (arith, length-drop (c .width) s)
+  where
+    positive : (ds : List Column) → 1 ≤ lineBytes ds
+    positive [] = omega arith
+    positive (d ∷ ds) = omega (arith, positive ds)
+
+-- what reads as a row is what would be written for it, and its numbers are in range
+pub line-written-read : (cs : List Column) (s : List ℕ) → layoutOk cs ≡ true → lineSet cs s ≡ true → (lineText cs (rowOf cs s) ≡ s) × (rowGood cs (rowOf cs s) ≡ true)
+unfolding all lineSet rowOf lineText rowGood
+line-written-read [] s o h = (sym (eqList-true s (10 ∷ []) h), refl)
+line-written-read (c ∷ cs) s o h =
+    let w = c .width in
+    let g = isNumber (fieldValue c (take w s)) in
+    let f = isNumber-number (fieldValue c (take w s)) (and-fst g (lineSet cs (drop w s)) h) in
+    let n : length s ≡ w + lineBytes cs = unfold lineBytes in line-length (c ∷ cs) s h in
+    let l : length (take w s) ≡ w = simp length-take (omega arith) in
+    let r = field-written-read c (take w s) (number (fieldValue c (take w s))) (and-fst (columnOk c) (all columnOk cs) o) l f in
+    let k = line-written-read cs (drop w s) (and-snd (columnOk c) (all columnOk cs) o) (and-snd g (lineSet cs (drop w s)) h) in
+    (ap₂ _++_ (sym (r .0)) (k .0) ∙ take-append-drop w s, and-both (r .1) (k .1))
+
+-- a row in range, written, can be read
+pub line-read-written : (cs : List Column) (vs : List ℕ) → layoutOk cs ≡ true → rowGood cs vs ≡ true → lineSet cs (lineText cs vs) ≡ true
+unfolding all lineSet lineText rowGood isNumber
+line-read-written [] vs o g = eqList-refl (10 ∷ [])
+line-read-written (c ∷ cs) vs o g =
+    let v = getD vs 0 0 in
+    let t = lineText cs (drop 1 vs) in
+    let r = field-read-written c v (and-fst (columnOk c) (all columnOk cs) o) (and-fst (inRange c v) (rowGood cs (drop 1 vs)) g) in
+    let k = line-read-written cs (drop 1 vs) (and-snd (columnOk c) (all columnOk cs) o) (and-snd (inRange c v) (rowGood cs (drop 1 vs)) g) in
+    rw (take-at (fieldBytes c v) t (c .width) (r .1), drop-at (fieldBytes c v) t (c .width) (r .1), r .0) k
+
+-- a row in range, written and read, is the same row
+pub row-read-written : (cs : List Column) (vs : List ℕ) → layoutOk cs ≡ true → rowGood cs vs ≡ true → length vs ≡ length cs → rowOf cs (lineText cs vs) ≡ vs
+unfolding all rowOf lineText rowGood number
+row-read-written [] [] o g n = refl
+row-read-written [] (v ∷ vs) o g n = absurd (omega arith)
+row-read-written (c ∷ cs) [] o g n = absurd (omega arith)
+row-read-written (c ∷ cs) (v ∷ vs) o g n =
+    let t = lineText cs vs in
+    let r = field-read-written c v (and-fst (columnOk c) (all columnOk cs) o) (and-fst (inRange c v) (rowGood cs vs) g) in
+    let k = row-read-written cs vs (and-snd (columnOk c) (all columnOk cs) o) (and-snd (inRange c v) (rowGood cs vs) g) (omega arith) in
+    rw (take-at (fieldBytes c v) t (c .width) (r .1), drop-at (fieldBytes c v) t (c .width) (r .1), r .0, k)
+
+pub length-lineText : (cs : List Column) (vs : List ℕ) → layoutOk cs ≡ true → rowGood cs vs ≡ true → length (lineText cs vs) ≡ lineBytes cs
+length-lineText cs vs o g = line-length cs (lineText cs vs) (line-read-written cs vs o g)
+
+-- each number of a row in range is in its column's range
+pub row-in-range : (cs : List Column) (vs : List ℕ) (d : Column) (i : ℕ) → rowGood cs vs ≡ true → i < length cs → inRange (getD cs i d) (getD vs i 0) ≡ true
+unfolding rowGood
+row-in-range [] vs d i g l = absurd (omega arith)
+row-in-range (c ∷ cs) vs d zero g l = and-fst (inRange c (getD vs 0 0)) (rowGood cs (drop 1 vs)) g
+row-in-range (c ∷ cs) vs d (suc i) g l =
+    let e : getD (drop 1 vs) i 0 ≡ getD vs (suc i) 0 = getD-drop 1 vs i 0 ∙ ap (λ (k : ℕ). getD vs k 0) (omega arith) in
+    rw e at (row-in-range cs (drop 1 vs) d i (and-snd (inRange c (getD vs 0 0)) (rowGood cs (drop 1 vs)) g) (omega arith))
+
+-- A line with another first field: the other fields read as before.
+module _ (c : Column) (cs : List Column) (t s : List ℕ) (n : ℕ) (wide : length t ≡ c .width) (reads : fieldValue c t ≡ Number n) where
+  pub first-field-row : rowOf (c ∷ cs) (t ++ drop (c .width) s) ≡ n ∷ drop 1 (rowOf (c ∷ cs) s)
+  unfolding rowOf number
+  first-field-row = rw (take-at t (drop (c .width) s) (c .width) wide, drop-at t (drop (c .width) s) (c .width) wide, reads)
+
+  pub first-field-set : lineSet (c ∷ cs) s ≡ true → lineSet (c ∷ cs) (t ++ drop (c .width) s) ≡ true
+  unfolding lineSet isNumber
+  first-field-set h =
+      rw (take-at t (drop (c .width) s) (c .width) wide, drop-at t (drop (c .width) s) (c .width) wide, reads)
+      (and-snd (isNumber (fieldValue c (take (c .width) s))) (lineSet cs (drop (c .width) s)) h)

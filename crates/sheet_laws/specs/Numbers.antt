@@ -1,0 +1,78 @@
+-- Records as numbers, fifteen to a record: both round trips, record by record.
+use Prim.Native.Nat.{ℕ, zero, suc, _+_, _*_, _/_, _≤_, _<_}
+use mathlib.Core.Path.{_≡_, refl, sym, ap, _∙_}
+use mathlib.Core.Bool.{Bool, true, false, _&&_}
+use mathlib.Core.List.{List, [], _∷_, map}
+use native.Mathlib.Omega.{arith}
+use lib.ListN.{length, take, drop, getD, length-map}
+use lib.Dec.{eqb, leb}
+use borrow.Author.Tests.{eqb-true, leb-true, eq-eqb}
+use Rattle.lists.specs.Tests.{and-fst, and-snd, and-both, tests}
+use Rattle.lists.specs.Each.{all, joined, pieces}
+use Rattle.lists.specs.All.{all-map, all-and, all-weaken, all-of, pieces-whole, map-map, map-same}
+use Rattle.lists.specs.Pieces.{AllOf, joined-pieces, pieces-joined, length-joined}
+use Rattle.types.specs.declared.Record.{Record}
+use Rattle.model.specs.Layouts.{recordLayout}
+use Rattle.model.specs.Lines.{rowGood}
+use Rattle.model.specs.Records.{
+  recordOf,
+  recordNumbers,
+  goodAlone,
+  recordsGood,
+  rows,
+  allNumbers,
+  rowsAccepted,
+}
+use Rattle.sheet_laws.specs.Records.{
+  ranged,
+  good-ranged,
+  length-numbers,
+  record-of-numbers,
+  numbers-of-record,
+  state-ranged,
+}
+
+-- the rows of the numbers of records are the numbers of each
+rows-of-numbers : (rs : List Record) → all ranged rs ≡ true → (rows (allNumbers rs) ≡ map recordNumbers rs) × (length (allNumbers rs) ≡ length rs * 15)
+unfolding rows allNumbers
+rows-of-numbers rs h =
+    let w = all-of 15 ranged recordNumbers (λ r p. length-numbers r) rs h in
+    let m : length (map recordNumbers rs) ≡ length rs = length-map rs recordNumbers in
+    let n : length (joined (map recordNumbers rs)) ≡ length (map recordNumbers rs) * 15 =
+    length-joined 15 (map recordNumbers rs) w in
+    let k : length (joined (map recordNumbers rs)) / 15 ≡ length (map recordNumbers rs) = omega arith in
+    (rw k (pieces-joined 15 (map recordNumbers rs) w), n ∙ ap (λ (i : ℕ). i * 15) m)
+
+-- T3, records as numbers: rule-keeping records, as numbers and back, are the same records, and their numbers are accepted
+pub numbers-read-written : (rs : List Record) → recordsGood rs ≡ true → (map recordOf (rows (allNumbers rs)) ≡ rs) × (rowsAccepted (allNumbers rs) ≡ true)
+unfolding recordsGood rowsAccepted
+numbers-read-written rs h =
+    let g : all goodAlone rs ≡ true = search tests in
+    let a : all ranged rs ≡ true = all-weaken goodAlone ranged good-ranged rs g in
+    let l = rows-of-numbers rs a in
+    let e : map recordOf (rows (allNumbers rs)) ≡ rs =
+    ap (map recordOf) (l .0)
+    ∙ map-map recordOf recordNumbers rs
+    ∙ map-same ranged (λ (r : Record). recordOf (recordNumbers r)) (λ r p. record-of-numbers r) rs a in
+    let n : length (allNumbers rs) ≡ length rs * 15 = l .1 in
+    let k : length (allNumbers rs) ≡ length (allNumbers rs) / 15 * 15 = omega arith in
+    let s : all (rowGood recordLayout) (rows (allNumbers rs)) ≡ true = rw (l .0) (rw all-map a) in
+    (e, and-both (and-both (eq-eqb (length (allNumbers rs)) (length (allNumbers rs) / 15 * 15) k) s) (rw e h))
+
+row-same : (x : List ℕ) → (rowGood recordLayout x && eqb (length x) 15) ≡ true → recordNumbers (recordOf x) ≡ x
+row-same x h =
+    numbers-of-record x (eqb-true (length x) 15 (and-snd (rowGood recordLayout x) (eqb (length x) 15) h))
+    (state-ranged x (and-fst (rowGood recordLayout x) (eqb (length x) 15) h))
+
+-- T3, records as numbers: accepted numbers are those of their records
+pub numbers-written-read : (v : List ℕ) → rowsAccepted v ≡ true → allNumbers (map recordOf (rows v)) ≡ v
+unfolding rowsAccepted allNumbers rows
+numbers-written-read v h =
+    let n : length v ≡ length v / 15 * 15 = search tests in
+    let g : all (rowGood recordLayout) (pieces 15 (length v / 15) v) ≡ true = search tests in
+    let w = pieces-whole 15 (length v / 15) v n in
+    let both = all-and (rowGood recordLayout) (λ (x : List ℕ). eqb (length x) 15) (pieces 15 (length v / 15) v) g w in
+    ap joined
+    (map-map recordNumbers recordOf (pieces 15 (length v / 15) v)
+    ∙ map-same (λ (x : List ℕ). rowGood recordLayout x && eqb (length x) 15) (λ (x : List ℕ). recordNumbers (recordOf x)) row-same _ both)
+    ∙ joined-pieces 15 (length v / 15) v n

@@ -1,0 +1,109 @@
+-- A line of an accepted record sheet by its place: what it says, and what replacing it does to the records.
+-- Bytes go by `pieces`; the order of keys stays since a record is replaced by one of the same key.
+use Prim.Native.Nat.{ℕ, zero, suc, _+_, _*_, _/_, _≤_, _<_}
+use mathlib.Core.Path.{_≡_, refl, sym, ap, ap₂, _∙_}
+use mathlib.Core.Bool.{Bool, true, false, _&&_}
+use mathlib.Core.List.{List, [], _∷_, map}
+use native.Mathlib.Omega.{arith}
+use lib.ListN.{length, take, drop, getD, set, length-map, length-set, List·getD-map}
+use lib.Dec.{eqb, leb}
+use borrow.Author.Tests.{eqb-true, eq-eqb}
+use Rattle.lists.specs.Tests.{and-fst, and-snd, and-both, tests}
+use Rattle.lists.specs.Each.{all, pieces}
+use Rattle.lists.specs.All.{all-set, map-set}
+use Rattle.lists.specs.Pieces.{over, length-pieces, pieces-over, getD-pieces, length-over}
+use Rattle.types.specs.declared.Key.{Key}
+use Rattle.types.specs.declared.Record.{Record}
+use Rattle.model.specs.Layouts.{recordLayout}
+use Rattle.model.specs.Lines.{lineSet, rowGood, linesOf, linesSet}
+use Rattle.model.specs.Records.{
+  goodAlone,
+  keyLess,
+  inOrder,
+  rising,
+  recordsGood,
+  recordIn,
+  recordText,
+  recordNumbers,
+  records,
+  recordsAccepted,
+}
+use Rattle.sheet_laws.specs.Records.{
+  ranged,
+  good-ranged,
+  record-read-written,
+  record-text-set,
+  length-recordText,
+}
+
+pub length-records : (s : List ℕ) → length (records s) ≡ length s / 98
+unfolding records linesOf
+length-records s = length-map (pieces 98 (length s / 98) s) recordIn ∙ length-pieces 98 (length s / 98) s
+
+-- the record at a place is what the 98 bytes there say
+pub record-at : (s : List ℕ) (i : ℕ) → i < length s / 98 → getD (records s) i (recordIn []) ≡ recordIn (take 98 (drop (i * 98) s))
+unfolding records linesOf
+record-at s i l = List·getD-map recordIn (pieces 98 (length s / 98) s) i [] ∙ ap recordIn (getD-pieces 98 i (length s / 98) s l)
+
+-- Order goes by keys alone.
+
+order-left : (a b : Record) (rs : List Record) → a .key ≡ b .key → inOrder a rs ≡ inOrder b rs
+unfolding inOrder
+order-left a b [] e = refl
+order-left a b (r ∷ rs) e = ap (λ (k : Key). keyLess k (r .key)) e
+
+order-right : (a r d : Record) (rs : List Record) (i : ℕ) → i < length rs → r .key ≡ getD rs i d .key → inOrder a (set rs i r) ≡ inOrder a rs
+unfolding inOrder
+order-right a r d [] i l e = refl
+order-right a r d (x ∷ rs) zero l e = ap (λ (k : Key). keyLess (a .key) k) e
+order-right a r d (x ∷ rs) (suc i) l e = refl
+
+pub rising-set : (rs : List Record) (i : ℕ) (r d : Record) → i < length rs → r .key ≡ getD rs i d .key → rising (set rs i r) ≡ rising rs
+unfolding rising
+rising-set [] i r d l e = absurd (omega arith)
+rising-set (x ∷ rs) zero r d l e = ap (λ (b : Bool). b && rising rs) (order-left r x rs e)
+rising-set (x ∷ rs) (suc i) r d l e =
+    ap₂ _&&_ (order-right x r d rs i (omega arith) e) (rising-set rs i r d (omega arith) e)
+
+module _ (s : List ℕ) (i : ℕ) (r : Record) (place : i < length s / 98) (fits : ranged r ≡ true) where
+  -- the text of a record over the bytes of a place
+  over-length : length (over s (i * 98) (recordText r)) ≡ length s
+  over-length =
+      let n : length (recordText r) ≡ 98 = length-recordText r fits in
+      length-over s (recordText r) (i * 98) (omega arith)
+
+  -- replacing the line is replacing the record, and nothing else
+  pub records-over : length s ≡ length s / 98 * 98 → records (over s (i * 98) (recordText r)) ≡ set (records s) i r
+  unfolding records linesOf
+  records-over n =
+      let q : length (over s (i * 98) (recordText r)) / 98 ≡ length s / 98 = ap (λ (k : ℕ). k / 98) over-length in
+      rw q
+      (ap (map recordIn) (pieces-over 98 i (length s / 98) s (recordText r) place n (length-recordText r fits))
+      ∙ map-set recordIn (pieces 98 (length s / 98) s) i (recordText r)
+      ∙ ap (set (map recordIn (pieces 98 (length s / 98) s)) i) (record-read-written r fits))
+
+-- an accepted sheet stays accepted where the new record keeps the rules and the key
+pub accepted-over : (s : List ℕ) (i : ℕ) (r d : Record) → recordsAccepted s ≡ true → i < length s / 98 → goodAlone r ≡ true → r .key ≡ getD (records s) i d .key → recordsAccepted (over s (i * 98) (recordText r)) ≡ true
+unfolding recordsAccepted linesSet recordsGood linesOf
+accepted-over s i r d a l g e =
+    let f : ranged r ≡ true = good-ranged r g in
+    let n : length s ≡ length s / 98 * 98 = search tests in
+    let m : length (over s (i * 98) (recordText r)) ≡ length s = over-length s i r l f in
+    let c : records (over s (i * 98) (recordText r)) ≡ set (records s) i r = records-over s i r l f n in
+    let k : length (set (records s) i r) ≡ length (records s) = length-set (records s) i r in
+    let j : i < length (records s) = omega (arith, length-records s) in
+    let p = and-fst (eqb (length s) (length s / 98 * 98) && all (lineSet recordLayout) (pieces 98 (length s / 98) s)) _ a in
+    let w : all (lineSet recordLayout) (pieces 98 (length s / 98) s) ≡ true = search (tests, p) in
+    let q = and-snd (eqb (length s) (length s / 98 * 98) && all (lineSet recordLayout) (pieces 98 (length s / 98) s)) (leb 1 (length (records s)) && leb (length (records s)) 500 && all goodAlone (records s) && rising (records s)) a in
+    let q1 : leb 1 (length (records s)) ≡ true = search (tests, q) in
+    let q2 : leb (length (records s)) 500 ≡ true = search (tests, q) in
+    let q3 : all goodAlone (records s) ≡ true = search (tests, q) in
+    let q4 : rising (records s) ≡ true = search (tests, q) in
+    rw (c, k, m)
+    (and-both
+    (and-both (eq-eqb (length s) (length s / 98 * 98) n)
+    (rw (pieces-over 98 i (length s / 98) s (recordText r) l n (length-recordText r f))
+    (all-set (lineSet recordLayout) (pieces 98 (length s / 98) s) i (recordText r) w (record-text-set r f))))
+    (and-both
+    (and-both (and-both q1 q2) (all-set goodAlone (records s) i r q3 g))
+    (rising-set (records s) i r d j e ∙ q4)))

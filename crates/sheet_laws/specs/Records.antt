@@ -1,0 +1,179 @@
+-- The record sheet: an accepted sheet is the text of its records, and rule-keeping records are those of their text.
+-- A line goes by the round trips of `recordLayout`, a sheet line by line; replacing a line is replacing a record.
+use Prim.Native.Nat.{ℕ, zero, suc, _+_, _-_, _*_, _/_, _≤_, _<_}
+use mathlib.Core.Path.{_≡_, refl, sym, ap, ap₂, subst, _∙_}
+use mathlib.Core.Bool.{Bool, true, false, _&&_}
+use mathlib.Core.List.{List, [], _∷_, _++_, map}
+use native.Mathlib.Omega.{arith}
+use lib.ListN.{length, take, drop, getD, set, length-map, length-set, List·getD-map}
+use lib.Dec.{eqb, leb}
+use borrow.Author.Tests.{eqb-true, leb-true, eq-eqb}
+use Rattle.lists.specs.Tests.{and-fst, and-snd, and-both, tests}
+use Rattle.lists.specs.Bytes.{bytes, eqList}
+use Rattle.lists.specs.Each.{all, joined, pieces, listed}
+use Rattle.lists.specs.All.{all-at, all-set, all-map, all-weaken, all-of, map-same, map-map, map-set, listed-is}
+use Rattle.lists.specs.Pieces.{AllOf, over, joined-pieces, pieces-joined, length-joined, length-pieces, pieces-over, getD-pieces, length-over}
+use Rattle.types.specs.declared.State.{State}
+use Rattle.types.specs.declared.State.the-variants.{Absent, Committed, Prepared}
+use Rattle.types.specs.declared.Kind.the-variants.{Figure}
+use Rattle.types.specs.declared.Column.{Column}
+use Rattle.types.specs.declared.Record.{Record}
+use Rattle.model.specs.Layouts.{recordLayout, words, figures}
+use Rattle.model.specs.Lines.{fieldValue, fieldBytes, wordFrom, rowOf, lineSet, lineText, rowGood, inRange, linesOf, linesSet}
+use Rattle.model.specs.Records.{
+  stateNumber,
+  stateOf,
+  keyNumbers,
+  imageNumbers,
+  keyOf,
+  imageFrom,
+  recordOf,
+  recordNumbers,
+  goodAlone,
+  keyLess,
+  inOrder,
+  rising,
+  recordsGood,
+  recordIn,
+  recordText,
+  records,
+  recordsText,
+  recordsAccepted,
+  rows,
+  allNumbers,
+  rowsAccepted,
+}
+use Rattle.sheet_laws.specs.Fields.{columnOk, allBelow, isThe, wordOk}
+use Rattle.sheet_laws.specs.Lines.{
+  layoutOk,
+  lineBytes,
+  length-rowOf,
+  line-length,
+  line-written-read,
+  line-read-written,
+  row-read-written,
+  row-in-range,
+  length-lineText,
+}
+
+state-of-number : (s : State) → stateOf (stateNumber s) ≡ s
+unfolding stateOf stateNumber
+state-of-number Absent = refl
+state-of-number Committed = refl
+state-of-number Prepared = refl
+
+number-of-state : (n : ℕ) → n ≤ 2 → stateNumber (stateOf n) ≡ n
+unfolding stateOf stateNumber
+number-of-state zero l = refl
+number-of-state (suc zero) l = refl
+number-of-state (suc (suc zero)) l = refl
+number-of-state (suc (suc (suc n))) l = absurd (omega arith)
+
+-- a record is that of its numbers
+pub record-of-numbers : (r : Record) → recordOf (recordNumbers r) ≡ r
+unfolding recordOf recordNumbers keyOf keyNumbers imageFrom imageNumbers
+record-of-numbers r =
+    ap
+    (λ (s : State). record { key = r .key; state = s; image = r .image; before = r .before; clock = r .clock })
+    (state-of-number (r .state))
+
+-- fifteen numbers whose sixth is a state's are those of their record
+pub numbers-of-record : (v : List ℕ) → length v ≡ 15 → getD v 5 0 ≤ 2 → recordNumbers (recordOf v) ≡ v
+unfolding recordOf recordNumbers keyOf keyNumbers imageFrom imageNumbers listed
+numbers-of-record v n l =
+    let e : listed 0 15 v ≡ v = listed-is 0 15 v n in
+    rw (number-of-state (getD v 5 0) l) e
+
+-- `recordLayout` passes the test of layouts, and its lines have 98 bytes
+pub record-layout-ok : layoutOk recordLayout ≡ true
+unfolding all columnOk recordLayout words allBelow wordOk isThe fieldValue fieldBytes wordFrom bytes eqList
+record-layout-ok = refl
+
+pub record-bytes : lineBytes recordLayout ≡ 98
+unfolding lineBytes recordLayout
+record-bytes = refl
+
+-- the sixth number of a row in range is a state's
+pub state-ranged : (v : List ℕ) → rowGood recordLayout v ≡ true → getD v 5 0 ≤ 2
+unfolding recordLayout inRange
+state-ranged v g =
+    let i = row-in-range recordLayout v (figures 0 0 0) 5 g (omega arith) in
+    leb-true (getD v 5 0) 2 (and-snd (leb 0 (getD v 5 0)) (leb (getD v 5 0) 2) i)
+
+-- the numbers of a line that can be read are those of its record
+pub line-numbers : (line : List ℕ) → lineSet recordLayout line ≡ true → recordNumbers (recordIn line) ≡ rowOf recordLayout line
+unfolding recordIn
+line-numbers line h =
+    let v = rowOf recordLayout line in
+    let g : rowGood recordLayout v ≡ true = line-written-read recordLayout line record-layout-ok h .1 in
+    numbers-of-record v (unfold recordLayout in length-rowOf recordLayout line) (state-ranged v g)
+
+-- a line that can be read is the text of its record
+pub record-written-read : (line : List ℕ) → lineSet recordLayout line ≡ true → recordText (recordIn line) ≡ line
+unfolding recordText
+record-written-read line h =
+    ap (lineText recordLayout) (line-numbers line h) ∙ line-written-read recordLayout line record-layout-ok h .0
+
+-- numbers in their ranges
+abbrev pub ranged : Record → Bool
+ranged r = rowGood recordLayout (recordNumbers r)
+
+pub good-ranged : (r : Record) → goodAlone r ≡ true → ranged r ≡ true
+unfolding goodAlone
+good-ranged r h = search tests
+
+pub length-numbers : (r : Record) → length (recordNumbers r) ≡ 15
+unfolding recordNumbers keyNumbers imageNumbers
+length-numbers r = refl
+
+-- a record in range is that of its text, and its text is a line
+pub record-read-written : (r : Record) → ranged r ≡ true → recordIn (recordText r) ≡ r
+unfolding recordIn recordText
+record-read-written r g =
+    ap recordOf (row-read-written recordLayout (recordNumbers r) record-layout-ok g (unfold recordLayout in length-numbers r))
+    ∙ record-of-numbers r
+
+pub record-text-set : (r : Record) → ranged r ≡ true → lineSet recordLayout (recordText r) ≡ true
+unfolding recordText
+record-text-set r g = line-read-written recordLayout (recordNumbers r) record-layout-ok g
+
+pub length-recordText : (r : Record) → ranged r ≡ true → length (recordText r) ≡ 98
+length-recordText r g = line-length recordLayout (recordText r) (record-text-set r g) ∙ record-bytes
+
+-- T3, record sheet: an accepted sheet, read into records and written again, is the same sheet
+pub sheet-written-read : (s : List ℕ) → recordsAccepted s ≡ true → recordsText (records s) ≡ s
+unfolding recordsAccepted linesSet recordsText records linesOf
+sheet-written-read s h =
+    let n : length s ≡ length s / 98 * 98 = search tests in
+    let l : all (lineSet recordLayout) (pieces 98 (length s / 98) s) ≡ true = search tests in
+    ap joined
+    (map-map recordText recordIn (pieces 98 (length s / 98) s)
+    ∙ map-same (lineSet recordLayout) (λ (x : List ℕ). recordText (recordIn x)) record-written-read _ l)
+    ∙ joined-pieces 98 (length s / 98) s n
+
+-- the lines of the text of records in range are the records' texts
+pub lines-of-text : (rs : List Record) → all ranged rs ≡ true → (linesOf 98 (recordsText rs) ≡ map recordText rs) × (length (recordsText rs) ≡ length rs * 98)
+unfolding linesOf recordsText
+lines-of-text rs h =
+    let w = all-of 98 ranged recordText length-recordText rs h in
+    let m : length (map recordText rs) ≡ length rs = length-map rs recordText in
+    let n : length (joined (map recordText rs)) ≡ length (map recordText rs) * 98 = length-joined 98 (map recordText rs) w in
+    let k : length (joined (map recordText rs)) / 98 ≡ length (map recordText rs) = omega arith in
+    (rw k (pieces-joined 98 (map recordText rs) w), n ∙ ap (λ (i : ℕ). i * 98) m)
+
+-- T3, record sheet: rule-keeping records, written and read, are the same records, and their sheet is accepted
+pub records-read-written : (rs : List Record) → recordsGood rs ≡ true → (records (recordsText rs) ≡ rs) × (recordsAccepted (recordsText rs) ≡ true)
+unfolding recordsGood recordsAccepted linesSet records
+records-read-written rs h =
+    let g : all goodAlone rs ≡ true = search tests in
+    let a : all ranged rs ≡ true = all-weaken goodAlone ranged good-ranged rs g in
+    let l = lines-of-text rs a in
+    let e : map recordIn (linesOf 98 (recordsText rs)) ≡ rs =
+    ap (map recordIn) (l .0)
+    ∙ map-map recordIn recordText rs
+    ∙ map-same ranged (λ (r : Record). recordIn (recordText r)) record-read-written rs a in
+    let n : length (recordsText rs) ≡ length rs * 98 = l .1 in
+    let s : all (lineSet recordLayout) (linesOf 98 (recordsText rs)) ≡ true =
+    rw (l .0) (rw all-map (all-weaken ranged (λ (r : Record). lineSet recordLayout (recordText r)) record-text-set rs a)) in
+    let k : length (recordsText rs) ≡ length (recordsText rs) / 98 * 98 = omega arith in
+    (e, and-both (and-both (eq-eqb (length (recordsText rs)) (length (recordsText rs) / 98 * 98) k) s) (rw e h))
