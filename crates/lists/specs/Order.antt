@@ -21,7 +21,7 @@ less-cons a b s t = go (eqb a b) refl (ltb a b) refl
     go false p false q = rw (q, p)
 
 -- a comparison in three steps, grouped from the right or from the left
-regroup : (l e m f r : Bool) → (l || e && (m || f && r)) ≡ ((l || e && m) || (e && f) && r)
+pub regroup : (l e m f r : Bool) → (l || e && (m || f && r)) ≡ ((l || e && m) || (e && f) && r)
 regroup true e m f r = refl
 regroup false true m f r = refl
 regroup false false m f r = refl

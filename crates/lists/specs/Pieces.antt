@@ -73,6 +73,11 @@ pub over-zero {ℓ} : {A : Type ℓ} (s t : List A) → over s 0 t ≡ t ++ drop
 unfolding over
 over-zero s t = rw zero-add
 
+-- a part lent from a to e and come back as t
+pub over-part {ℓ} : {A : Type ℓ} (s t : List A) (a e : ℕ) → length t ≡ e - a → take a s ++ (t ++ drop (e - a) (drop a s)) ≡ over s a t
+unfolding over
+over-part s t a e n = rw (drop-drop, ← n)
+
 -- what stands before the place replaced
 pub over-after {ℓ} : {A : Type ℓ} (s t : List A) (w a : ℕ) → over s (w + a) t ≡ take w s ++ over (drop w s) a t
 unfolding over

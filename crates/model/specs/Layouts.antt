@@ -29,6 +29,10 @@ figures w low high = record { width = w; kind = Figure; low = low; high = high }
 abbrev pub word : ℕ → Kind → ℕ → Column
 word w kind high = record { width = w; kind = kind; low = 0; high = high }
 
+-- what stands past the last column
+abbrev pub noColumn : Column
+noColumn = figures 0 0 0
+
 -- document 01, "Record sheet"
 unfoldable pub recordLayout : List Column
 recordLayout =

@@ -76,6 +76,20 @@ recordNumbers r =
     keyNumbers (r .key)
     ++ (stateNumber (r .state) ∷ imageNumbers (r .image) ++ imageNumbers (r .before) ++ (r .clock ∷ []))
 
+-- what stands past the last record: absent, of no key
+abbrev pub noImage : Image
+noImage = record { version = 0; txid = 0; column1 = 0; column2 = 0 }
+
+abbrev pub noRecord : Record
+noRecord =
+    record {
+      key = record { storage = 0; namespace = 0; table = 0; partition = 0; clustering = 0 };
+      state = Absent;
+      image = noImage;
+      before = noImage;
+      clock = 0;
+    }
+
 -- The rules.
 
 -- every field of the image is 0

@@ -12,6 +12,7 @@ use lib.Dec.{eqb, leb, ltb}
 use borrow.Author.Tests.{eqb-true, eqb-false, leb-true, ltb-true, le-leb}
 use Rattle.lists.specs.Tests.{and-fst, and-snd, and-both, choose-by, tests}
 use Rattle.lists.specs.Bytes.{bytes, eqList, eqList-true}
+use Rattle.lists.specs.Each.{all}
 use Rattle.decimal.specs.declared.Scan.{Scan}
 use Rattle.decimal.specs.declared.Scan.the-variants.{Blank, Number, Wrong}
 use Rattle.decimal.specs.Field.{figure, fieldText}
@@ -134,3 +135,18 @@ field-written-read c s v = go (c .kind) (c .width) (c .low) (c .high)
     go StateWord w low high h l e = words-written-read (column StateWord w low high) s v h e
     go DecisionWord w low high h l e = words-written-read (column DecisionWord w low high) s v h e
     go UnitLetter w low high h l e = words-written-read (column UnitLetter w low high) s v h e
+
+-- one of several lists of ten bytes, or ten spaces
+of-ten : (ts : List (List ℕ)) (n : ℕ) → all (λ (t : List ℕ). eqb (length t) 10) ts ≡ true → length (getD ts n (bytes "          ")) ≡ 10
+unfolding all bytes
+of-ten [] n h = refl
+of-ten (t ∷ ts) zero h = eqb-true (length t) 10 (and-fst (eqb (length t) 10) (all (λ (x : List ℕ). eqb (length x) 10) ts) h)
+of-ten (t ∷ ts) (suc n) h = of-ten ts n (and-snd (eqb (length t) 10) (all (λ (x : List ℕ). eqb (length x) 10) ts) h)
+
+-- every word has ten bytes
+pub length-wordAt : (k : Kind) (n : ℕ) → length (wordAt k n) ≡ 10
+unfolding words bytes all
+length-wordAt Figure n = refl
+length-wordAt StateWord n = of-ten (words StateWord) n refl
+length-wordAt DecisionWord n = of-ten (words DecisionWord) n refl
+length-wordAt UnitLetter n = of-ten (words UnitLetter) n refl

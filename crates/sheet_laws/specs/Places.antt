@@ -5,18 +5,25 @@ use mathlib.Core.Path.{_≡_, refl, sym, ap, ap₂, _∙_}
 use mathlib.Core.Bool.{Bool, true, false, _&&_}
 use mathlib.Core.List.{List, [], _∷_, map}
 use native.Mathlib.Omega.{arith}
-use lib.ListN.{length, take, drop, getD, set, length-map, length-set, List·getD-map}
+use lib.ListN.{length, take, drop, getD, set, length-map, length-set, List·getD-map, List·getD-eq-default}
 use lib.Dec.{eqb, leb}
 use borrow.Author.Tests.{eqb-true, eq-eqb}
+use Rattle.lists.specs.Bytes.{bytes, eqList}
+use Rattle.decimal.specs.Field.{number, figure, scanned, within}
 use Rattle.lists.specs.Tests.{and-fst, and-snd, and-both, tests}
 use Rattle.lists.specs.Each.{all, pieces}
 use Rattle.lists.specs.All.{all-set, map-set}
 use Rattle.lists.specs.Pieces.{over, length-pieces, pieces-over, getD-pieces, length-over}
 use Rattle.types.specs.declared.Key.{Key}
 use Rattle.types.specs.declared.Record.{Record}
-use Rattle.model.specs.Layouts.{recordLayout}
-use Rattle.model.specs.Lines.{lineSet, rowGood, linesOf, linesSet}
+use Rattle.model.specs.Layouts.{recordLayout, words}
+use Rattle.model.specs.Lines.{fieldValue, wordFrom, rowOf, lineSet, rowGood, linesOf, linesSet}
 use Rattle.model.specs.Records.{
+  noRecord,
+  recordOf,
+  keyOf,
+  imageFrom,
+  stateOf,
   goodAlone,
   keyLess,
   inOrder,
@@ -40,10 +47,20 @@ pub length-records : (s : List ℕ) → length (records s) ≡ length s / 98
 unfolding records linesOf
 length-records s = length-map (pieces 98 (length s / 98) s) recordIn ∙ length-pieces 98 (length s / 98) s
 
+-- no bytes say nothing
+no-record : recordIn [] ≡ noRecord
+unfolding recordIn recordOf keyOf imageFrom stateOf rowOf recordLayout fieldValue wordFrom words bytes eqList number figure scanned within
+no-record = refl
+
+pub record-past : (s : List ℕ) (i : ℕ) → length s / 98 ≤ i → getD (records s) i noRecord ≡ noRecord
+record-past s i l = let n : length (records s) ≤ i = omega (arith, length-records s) in List·getD-eq-default (records s) noRecord n
+
 -- the record at a place is what the 98 bytes there say
-pub record-at : (s : List ℕ) (i : ℕ) → i < length s / 98 → getD (records s) i (recordIn []) ≡ recordIn (take 98 (drop (i * 98) s))
+pub record-at : (s : List ℕ) (i : ℕ) → i < length s / 98 → getD (records s) i noRecord ≡ recordIn (take 98 (drop (i * 98) s))
 unfolding records linesOf
-record-at s i l = List·getD-map recordIn (pieces 98 (length s / 98) s) i [] ∙ ap recordIn (getD-pieces 98 i (length s / 98) s l)
+record-at s i l =
+    ap (getD (map recordIn (pieces 98 (length s / 98) s)) i) (sym no-record)
+    ∙ List·getD-map recordIn (pieces 98 (length s / 98) s) i [] ∙ ap recordIn (getD-pieces 98 i (length s / 98) s l)
 
 -- Order goes by keys alone.
 

@@ -1,0 +1,94 @@
+-- A line lent as a part of a sheet: what is read there, and what stands in the sheet once it has come back.
+use Prim.Native.Nat.{ℕ, zero, suc, _+_, _-_, _*_, _/_, _≤_, _<_}
+use mathlib.Core.Path.{_≡_, refl, sym, ap, _∙_}
+use mathlib.Core.Bool.{Bool, true, false, _&&_, cond, true≢false}
+use mathlib.Core.List.{List, [], _∷_, _++_}
+use native.Mathlib.Omega.{arith}
+use lib.ListN.{length, take, drop, getD, length-take, length-drop, List·getD-eq-default}
+use lib.Seq.{take-take, take-all}
+use lib.Dec.{leb}
+use borrow.Author.Tests.{leb-true, leb-false, le-leb}
+use Rattle.lists.specs.Pieces.{over, over-part, over-zero}
+use Rattle.types.specs.declared.State.{State}
+use Rattle.types.specs.declared.State.the-variants.{Prepared}
+use Rattle.types.specs.declared.Record.{Record}
+use Rattle.types.specs.declared.Decision.the-variants.{Undecided, Aborted}
+use Rattle.lists.specs.Tests.{and-fst, and-snd, tests}
+use Rattle.decimal.specs.Field.{number, figure, fieldText}
+use Rattle.decimal.specs.Laws.{length-fieldText}
+use Rattle.model.specs.Layouts.{recordLayout, headLayout, lineLayout}
+use Rattle.model.specs.Lines.{fieldValue, rowOf, lineText}
+use Rattle.model.specs.Records.{stateOf, recordOf, recordIn, recordText, recordNumbers, records, noRecord}
+use Rattle.model.specs.Coordinator.{decisionOf, decisionIn, decision, coordinatorOf}
+use Rattle.sheet_laws.specs.Places.{record-at}
+use Rattle.sheet_laws.specs.Decisions.{decision-at, length-decisions}
+
+-- the last of the three states
+pub state-else : (n : ℕ) → (n ≡ 0 → ⊥) → (n ≡ 1 → ⊥) → Prepared ≡ stateOf n
+unfolding stateOf
+state-else zero z o = absurd (z refl)
+state-else (suc zero) z o = absurd (o refl)
+state-else (suc (suc n)) z o = refl
+
+-- the row read from the part of place i is that of the record there
+pub record-part : (s row : List ℕ) (i : ℕ) → i < length s / 98 → row ≡ rowOf recordLayout (take (i * 98 + 98 - i * 98) (drop (i * 98) s)) → recordOf row ≡ getD (records s) i noRecord
+unfolding recordIn
+record-part s row i l e =
+    let w : i * 98 + 98 - i * 98 ≡ 98 = omega arith in
+    ap recordOf (rw w at e) ∙ sym (record-at s i l)
+
+-- a part from a on, where there is room for it
+pub room-part : (b : Bool) (w a : ℕ) (s t u : List ℕ) → b ≡ true → length t ≡ a + w - a → t ≡ u → take a s ++ (t ++ drop (a + w - a) (drop a s)) ≡ cond b (over s a u) s
+room-part b w a s t u h e q = rw h (over-part s t a (a + w) e ∙ ap (over s a) q)
+
+-- A number that has a line in a coordinator sheet.
+abbrev pub hasLine : ℕ → List ℕ → Bool
+hasLine n s = leb 1 n && leb n (length (drop 15 s) / 15)
+
+-- the line of a number is within the sheet
+pub line-ends : (n : ℕ) (s : List ℕ) → hasLine n s ≡ true → n * 15 + 15 ≤ length s
+line-ends n s h =
+    let l : 1 ≤ n = search tests in
+    let m : n ≤ length (drop 15 s) / 15 = search tests in
+    omega (arith, length-drop 15 s)
+
+-- the last of the three decisions
+pub decision-else : (n : ℕ) → (n ≡ 0 → ⊥) → (n ≡ 1 → ⊥) → Aborted ≡ decisionOf n
+unfolding decisionOf
+decision-else zero z o = absurd (z refl)
+decision-else (suc zero) z o = absurd (o refl)
+decision-else (suc (suc n)) z o = refl
+
+-- the figure of the first four bytes is the count
+pub issued-part : (s : List ℕ) → number (figure 0 999 (take 4 s)) ≡ coordinatorOf s .issued
+unfolding coordinatorOf rowOf headLayout fieldValue
+issued-part s = ap (λ (t : List ℕ). number (figure 0 999 t)) (sym (take-take 4 15 s (omega arith)))
+
+pub issued-short : (s : List ℕ) → length s < 4 → number (figure 0 999 s) ≡ coordinatorOf s .issued
+issued-short s l = ap (λ (t : List ℕ). number (figure 0 999 t)) (sym (take-all 4 s (omega arith))) ∙ issued-part s
+
+-- the row read from the line of a number is that of its decision
+pub decision-part : (s row : List ℕ) (n : ℕ) → hasLine n s ≡ true → row ≡ rowOf lineLayout (take (n * 15 + 15 - n * 15) (drop (n * 15) s)) → decisionOf (getD row 1 0) ≡ decision n (coordinatorOf s)
+unfolding decisionIn
+decision-part s row zero h e = absurd (true≢false (sym h))
+decision-part s row (suc i) h e =
+    let w : suc i * 15 + 15 - suc i * 15 ≡ 15 = omega arith in
+    let l : suc i ≤ length (drop 15 s) / 15 = leb-true (suc i) (length (drop 15 s) / 15) (and-snd (leb 1 (suc i)) (leb (suc i) (length (drop 15 s) / 15)) h) in
+    ap (λ (v : List ℕ). decisionOf (getD v 1 0)) (rw w at e) ∙ sym (decision-at s i l)
+
+-- a number without a line is undecided
+pub decision-past : (s : List ℕ) (n : ℕ) → hasLine n s ≡ false → Undecided ≡ decision n (coordinatorOf s)
+unfolding decision
+decision-past s zero h = refl
+decision-past s (suc i) h =
+    let f : leb (suc i) (length (drop 15 s) / 15) ≡ false = sym (ap (λ (b : Bool). b && leb (suc i) (length (drop 15 s) / 15)) (le-leb 1 (suc i) (omega arith))) ∙ h in
+    let l : length (coordinatorOf s .decisions) ≤ i = omega (arith, leb-false (suc i) (length (drop 15 s) / 15) f, length-decisions s) in
+    sym (List·getD-eq-default (coordinatorOf s .decisions) Undecided l)
+
+-- the first four bytes, come back as the figure n
+pub count-part : (s t : List ℕ) (n : ℕ) → 4 ≤ length s → t ≡ fieldText (length (take 4 s)) n → t ++ drop 4 s ≡ cond (leb 4 (length s)) (over s 0 (fieldText 4 n)) s
+count-part s t n l e =
+    let w : length (take 4 s) ≡ 4 = simp length-take (omega arith) in
+    let f : t ≡ fieldText 4 n = rw w at e in
+    let o : over s 0 (fieldText 4 n) ≡ fieldText 4 n ++ drop 4 s = rw (over-zero s (fieldText 4 n), length-fieldText 4 n) in
+    rw (le-leb 4 (length s) l, o, f)

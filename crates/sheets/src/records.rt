@@ -1,0 +1,144 @@
+// Records of a sheet by their place: the bytes of a record sheet are touched through these alone.
+ghost use mathlib.Core.Path.{_≡_};
+ghost use mathlib.Core.Bool.{cond};
+ghost use Prim.Native.Nat.{_*_, _/_};
+ghost use lib.ListN.{length, getD};
+ghost use lib.Dec.{ltb};
+ghost use Rattle.lists.specs.Pieces.{over};
+ghost use Rattle.model.specs.Records.{stateOf, stateNumber, recordOf, recordNumbers, recordText, noRecord};
+ghost use Rattle.model.specs.Records as model;
+use crate::lines;
+use types::Image;
+use types::Key;
+use types::Layout;
+use types::Record;
+use types::State;
+
+const NO_IMAGE: Image = Image {
+    version: 0,
+    txid: 0,
+    column1: 0,
+    column2: 0,
+};
+
+const NO_RECORD: Record = Record {
+    key: Key {
+        storage: 0,
+        namespace: 0,
+        table: 0,
+        partition: 0,
+        clustering: 0,
+    },
+    state: State::Absent,
+    image: NO_IMAGE,
+    before: NO_IMAGE,
+    clock: 0,
+};
+
+// The state of its number.
+fn state_of(n: u32) -> State
+    ensures { λ r. ⌜ r ≡ stateOf n ⌝ }
+{
+    match n {
+        0 => State::Absent,
+        1 => State::Committed,
+        _ => State::Prepared,
+    }
+}
+
+// The number of a state.
+fn state_number(s: State) -> u32
+    ensures { λ r. ⌜ r ≡ stateNumber s ⌝ }
+{
+    match s {
+        State::Absent => 0,
+        State::Committed => 1,
+        State::Prepared => 2,
+    }
+}
+
+// The record of its numbers.
+pub fn record_of(v: [u32; 15]) -> Record
+    ensures { λ r. ⌜ r ≡ recordOf v ⌝ }
+{
+    Record {
+        key: Key {
+            storage: v[0],
+            namespace: v[1],
+            table: v[2],
+            partition: v[3],
+            clustering: v[4],
+        },
+        state: state_of(v[5]),
+        image: Image {
+            version: v[6],
+            txid: v[7],
+            column1: v[8],
+            column2: v[9],
+        },
+        before: Image {
+            version: v[10],
+            txid: v[11],
+            column1: v[12],
+            column2: v[13],
+        },
+        clock: v[14],
+    }
+}
+
+// The numbers of a record.
+pub fn numbers_of(r: Record) -> [u32; 15]
+    ensures { λ v. ⌜ v ≡ recordNumbers r ⌝ }
+{
+    let s = r.state;
+    [
+        r.key.storage,
+        r.key.namespace,
+        r.key.table,
+        r.key.partition,
+        r.key.clustering,
+        state_number(s),
+        r.image.version,
+        r.image.txid,
+        r.image.column1,
+        r.image.column2,
+        r.before.version,
+        r.before.txid,
+        r.before.column1,
+        r.before.column2,
+        r.clock,
+    ]
+}
+
+// How many records a sheet has.
+pub fn count(records: &[u8]) -> usize
+    ensures { λ r. ⌜ r ≡ length (now (records .entry)) / 98 ⌝ }
+{
+    records.len() / 98
+}
+
+// The record at place i, an absent one of no key past the end.
+pub fn record_at(records: &[u8], i: usize) -> Record
+    ensures { λ r. ⌜ r ≡ getD (model.records (now (records .entry))) i noRecord ⌝ }
+{
+    if i < records.len() / 98 {
+        let at = i * 98;
+        let end = at + 98;
+        let mut row = [0u32; 15];
+        lines::read_row(Layout::RecordLine, &records[at..end], &mut row);
+        return record_of(row);
+    }
+    NO_RECORD
+}
+
+// The text of a record over the line at place i; past the end nothing changes.
+pub fn set_record(records: &mut [u8], i: usize, r: Record)
+    ensures { λ u. ⌜ now (records .exit) ≡ cond (ltb i (length (now (records .entry)) / 98)) (over (now (records .entry)) (i * 98) (recordText r)) (now (records .entry)) ⌝ }
+{
+    if i < records.len() / 98 {
+        let at = i * 98;
+        let end = at + 98;
+        let row = numbers_of(r);
+        lines::write_row(Layout::RecordLine, &row, &mut records[at..end]);
+    }
+}
