@@ -37,6 +37,13 @@ unfolding eqList
 eqList-refl [] = refl
 eqList-refl (a ∷ s) = and-both (eq-eqb a a refl) (eqList-refl s)
 
+pub ne-eqList : (s t : List ℕ) → (s ≡ t → ⊥) → eqList s t ≡ false
+ne-eqList s t d = go (eqList s t) refl
+  where
+    go : (b : Bool) → eqList s t ≡ b → b ≡ false
+    go true e = absurd (d (eqList-true s t e))
+    go false e = refl
+
 -- a bound on the elements of two lists is one on those of the two joined
 pub below-append : (n : ℕ) (s t : List ℕ) → ((i : ℕ) → getD s i 0 < n) → ((i : ℕ) → getD t i 0 < n) → (i : ℕ) → getD (s ++ t) i 0 < n
 below-append n [] t f g i = g i

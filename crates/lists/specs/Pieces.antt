@@ -7,7 +7,7 @@ use mathlib.Core.List.{List, [], _∷_, _++_, map, append-assoc}
 use native.Mathlib.Omega.{arith}
 use native.Mathlib.Nat.{suc-mul, zero-mul, zero-add, add-comm, add-assoc}
 use lib.ListN.{length, take, drop, getD, set, length-take, length-drop, length-append, take-append-drop, drop-of-length-le}
-use lib.Seq.{take-at, drop-at, drop-drop, take-add}
+use lib.Seq.{take-at, drop-at, drop-drop, take-add, take-take, take-nil}
 use Rattle.lists.specs.Each.{all, joined, pieces}
 
 -- an empty list where there is nothing
@@ -64,6 +64,13 @@ getD-pieces w zero (suc n) s h = rw zero-mul
 getD-pieces w (suc i) (suc n) s h =
     let f : suc i * w ≡ w + i * w = rw suc-mul (omega arith) in
     rw f (getD-pieces w i n (drop w s) (omega arith) ∙ ap (take w) (drop-drop (i * w) w s))
+
+-- a part of a beginning is a part of the whole
+pub take-drop-take {ℓ} : {A : Type ℓ} (k o n : ℕ) (l : List A) → o + k ≤ n → take k (drop o (take n l)) ≡ take k (drop o l)
+take-drop-take k zero n l h = take-take k n l (omega arith)
+take-drop-take k (suc o) n [] h = ap (λ (t : List _). take k (drop (suc o) t)) (take-nil n)
+take-drop-take k (suc o) zero (x ∷ l) h = absurd (omega arith)
+take-drop-take k (suc o) (suc n) (x ∷ l) h = take-drop-take k o n l (omega arith)
 
 -- s with t in place of what stands from a on
 unfoldable pub over {ℓ} : {A : Type ℓ} → List A → ℕ → List A → List A

@@ -1,13 +1,13 @@
 -- The layout of every line, as data: widths, kinds and ranges of its fields, in the order of document 01's tables.
 use Prim.Native.Nat.{ℕ}
 use mathlib.Core.List.{List, [], _∷_}
-use lib.ListN.{getD}
+use lib.ListN.{take, getD}
 use Rattle.lists.specs.Bytes.{bytes}
 use Rattle.types.specs.declared.Kind.{Kind}
 use Rattle.types.specs.declared.Kind.the-variants.{Figure, StateWord, DecisionWord, UnitLetter}
 use Rattle.types.specs.declared.Column.{Column}
 use Rattle.types.specs.declared.Layout.{Layout}
-use Rattle.types.specs.declared.Layout.the-variants.{RecordLine, CoordinatorHead, CoordinatorLine}
+use Rattle.types.specs.declared.Layout.the-variants.{RecordLine, KeyLine, CoordinatorHead, CoordinatorLine}
 
 -- the words of a kind, each right-justified in ten bytes; a field of fewer columns holds the last bytes of one
 unfoldable pub words : Kind → List (List ℕ)
@@ -53,6 +53,10 @@ recordLayout =
     ∷ figures 11 0 4294967295  -- prepare clock
     ∷ []
 
+-- "The key is the first five fields."
+unfoldable pub keyLayout : List Column
+keyLayout = take 5 recordLayout
+
 -- document 01, "Coordinator sheet": the head, its count and nine unit letters, a space before the first
 unfoldable pub headLayout : List Column
 headLayout =
@@ -77,6 +81,7 @@ lineLayout = figures 4 1 999 ∷ decisionColumn ∷ []
 
 unfoldable pub layout : Layout → List Column
 layout RecordLine = recordLayout
+layout KeyLine = keyLayout
 layout CoordinatorHead = headLayout
 layout CoordinatorLine = lineLayout
 

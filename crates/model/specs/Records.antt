@@ -2,7 +2,7 @@
 use Prim.Native.Nat.{ℕ, zero, suc, _+_, _-_, _*_, _/_}
 use mathlib.Core.Bool.{Bool, true, false, _&&_, _||_, not, cond}
 use mathlib.Core.List.{List, [], _∷_, _++_, map}
-use lib.ListN.{length, take, getD}
+use lib.ListN.{length, getD}
 use lib.Dec.{eqb, leb}
 use Rattle.lists.specs.Bytes.{eqList}
 use Rattle.lists.specs.Each.{all, joined, pieces, less}
@@ -13,7 +13,7 @@ use Rattle.types.specs.declared.Image.{Image}
 use Rattle.types.specs.declared.Record.{Record}
 use Rattle.types.specs.declared.Found.{Found}
 use Rattle.types.specs.declared.Found.the-variants.{At, Nothing}
-use Rattle.model.specs.Layouts.{recordLayout, recordBytes, recordFields}
+use Rattle.model.specs.Layouts.{recordLayout, keyLayout, recordBytes, recordFields}
 use Rattle.model.specs.Lines.{rowOf, lineText, rowGood, linesOf, linesSet}
 
 -- State words by their place among the words.
@@ -176,7 +176,7 @@ rowsAccepted xs =
 
 -- a key whose fields are in range
 unfoldable pub keyInRange : Key → Bool
-keyInRange k = rowGood (take 5 recordLayout) (keyNumbers k)
+keyInRange k = rowGood keyLayout (keyNumbers k)
 
 unfoldable pub sameKey : Key → Key → Bool
 sameKey a b = eqList (keyNumbers a) (keyNumbers b)

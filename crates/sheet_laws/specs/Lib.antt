@@ -4,6 +4,7 @@ pub mod Lines
 pub mod Records
 pub mod Places
 pub mod Numbers
+pub mod Keys
 pub mod Coordinator
 pub mod CoordinatorNumbers
 pub mod Decisions

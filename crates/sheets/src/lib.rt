@@ -1,5 +1,2 @@
-// The bytes of both sheets: everything above speaks of records, decisions and counts.
-pub mod coordinator;
-mod fields;
-mod lines;
-pub mod records;
+// The calls on sheets that take no transaction: the look-up of a key, the check, sheets to numbers and back.
+pub mod lookup;

@@ -64,9 +64,10 @@ pub struct Column {
     pub high: u32,
 }
 
-// The kinds of line.
+// The kinds of line. A key line is the first five fields of a record line.
 pub enum Layout {
     RecordLine,
+    KeyLine,
     CoordinatorHead,
     CoordinatorLine,
 }

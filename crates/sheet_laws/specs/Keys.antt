@@ -1,0 +1,134 @@
+-- A key as text: the first twenty bytes of its line. Two keys in range are the same where their texts are, since a key line
+-- reads as its key.
+use Prim.Native.Nat.{ℕ, zero, suc, _+_, _≤_, _<_}
+use mathlib.Core.Path.{_≡_, refl, sym, ap, ap₂, _∙_}
+use mathlib.Core.Bool.{Bool, true, false, _&&_}
+use mathlib.Core.List.{List, [], _∷_, _++_, append-assoc, append-nil}
+use native.Mathlib.Omega.{arith}
+use lib.ListN.{length, take, drop, getD, length-append, take-append-drop}
+use lib.Seq.{take-at, drop-drop}
+use Rattle.lists.specs.Tests.{and-fst, and-snd, and-both, same-test}
+use Rattle.lists.specs.Bytes.{eqList, eqList-true, eqList-refl}
+use Rattle.lists.specs.Each.{all}
+use Rattle.types.specs.declared.Column.{Column}
+use Rattle.types.specs.declared.Key.{Key}
+use Rattle.types.specs.declared.Record.{Record}
+use Rattle.model.specs.Layouts.{recordLayout, keyLayout}
+use Rattle.model.specs.Lines.{fieldBytes, inRange, lineText, lineSet, rowOf, rowGood}
+use Rattle.model.specs.Records.{
+  keyNumbers,
+  imageNumbers,
+  recordNumbers,
+  recordIn,
+  recordText,
+  keyInRange,
+  sameKey,
+}
+use Rattle.sheet_laws.specs.Fields.{columnOk}
+use Rattle.sheet_laws.specs.Lines.{layoutOk, lineBytes, length-lineText, line-written-read, row-read-written}
+use Rattle.sheet_laws.specs.Records.{ranged, record-layout-ok, record-written-read, line-numbers}
+
+-- the line of a key alone
+abbrev pub keyLine : Key → List ℕ
+keyLine k = lineText keyLayout (keyNumbers k)
+
+-- the fields of a row, without LF
+unfoldable pub fieldsText : List Column → List ℕ → List ℕ
+fieldsText [] vs = []
+fieldsText (c ∷ cs) vs = fieldBytes c (getD vs 0 0) ++ fieldsText cs (drop 1 vs)
+
+-- a line is its first fields and then the line of the others
+line-split : (cs ds : List Column) (vs : List ℕ) → lineText (cs ++ ds) vs ≡ fieldsText cs vs ++ lineText ds (drop (length cs) vs)
+unfolding lineText fieldsText
+line-split [] ds vs = refl
+line-split (c ∷ cs) ds vs =
+    let n : 1 + length cs ≡ suc (length cs) = omega arith in
+    let e : drop (length cs) (drop 1 vs) ≡ drop (suc (length cs)) vs = drop-drop (length cs) 1 vs ∙ ap (λ (k : ℕ). drop k vs) n in
+    ap (λ (t : List ℕ). fieldBytes c (getD vs 0 0) ++ t) (line-split cs ds (drop 1 vs) ∙ ap (λ (x : List ℕ). fieldsText cs (drop 1 vs) ++ lineText ds x) e)
+    ∙ sym (append-assoc (fieldBytes c (getD vs 0 0)) (fieldsText cs (drop 1 vs)) (lineText ds (drop (suc (length cs)) vs)))
+
+-- a row in range is in range in its first fields
+row-split : (cs ds : List Column) (vs : List ℕ) → rowGood (cs ++ ds) vs ≡ true → rowGood cs vs ≡ true
+unfolding rowGood
+row-split [] ds vs h = refl
+row-split (c ∷ cs) ds vs h =
+    and-both (and-fst (inRange c (getD vs 0 0)) (rowGood (cs ++ ds) (drop 1 vs)) h)
+    (row-split cs ds (drop 1 vs) (and-snd (inRange c (getD vs 0 0)) (rowGood (cs ++ ds) (drop 1 vs)) h))
+
+-- a key's twenty bytes
+abbrev pub keyText : Key → List ℕ
+keyText k = fieldsText keyLayout (keyNumbers k)
+
+key-layout-ok : layoutOk keyLayout ≡ true
+unfolding all columnOk keyLayout recordLayout
+key-layout-ok = refl
+
+whole-layout : keyLayout ++ drop 5 recordLayout ≡ recordLayout
+unfolding keyLayout
+whole-layout = take-append-drop 5 recordLayout
+
+key-line : (k : Key) → keyLine k ≡ keyText k ++ (10 ∷ [])
+unfolding lineText
+key-line k = ap (λ (cs : List Column). lineText cs (keyNumbers k)) (sym (append-nil keyLayout)) ∙ line-split keyLayout [] (keyNumbers k)
+
+length-keyText : (k : Key) → keyInRange k ≡ true → length (keyText k) ≡ 20
+unfolding keyInRange keyLayout recordLayout lineBytes
+length-keyText k h =
+    let n : length (keyLine k) ≡ 21 = length-lineText keyLayout (keyNumbers k) key-layout-ok h in
+    let e : length (keyLine k) ≡ length (keyText k) + 1 = ap length (key-line k) ∙ length-append (keyText k) (10 ∷ []) in
+    omega arith
+
+pub key-line-text : (k : Key) → keyInRange k ≡ true → take 20 (keyLine k) ≡ keyText k
+key-line-text k h = ap (take 20) (key-line k) ∙ take-at (keyText k) (10 ∷ []) 20 (length-keyText k h)
+
+key-count : (k : Key) → length (keyNumbers k) ≡ length keyLayout
+unfolding keyNumbers keyLayout recordLayout
+key-count k = refl
+
+-- keys in range that have the same text are the same
+pub key-of-text : (a b : Key) → keyInRange a ≡ true → keyInRange b ≡ true → keyText a ≡ keyText b → keyNumbers a ≡ keyNumbers b
+unfolding keyInRange
+key-of-text a b g h e =
+    let l : keyLine a ≡ keyLine b = key-line a ∙ (ap (λ (t : List ℕ). t ++ (10 ∷ [])) e ∙ sym (key-line b)) in
+    sym (row-read-written keyLayout (keyNumbers a) key-layout-ok g (key-count a))
+    ∙ (ap (rowOf keyLayout) l ∙ row-read-written keyLayout (keyNumbers b) key-layout-ok h (key-count b))
+
+-- the key of a record in range is in range
+pub key-ranged : (r : Record) → ranged r ≡ true → keyInRange (r .key) ≡ true
+unfolding keyInRange recordNumbers keyNumbers imageNumbers keyLayout recordLayout rowGood
+key-ranged r g = row-split (take 5 recordLayout) (drop 5 recordLayout) (recordNumbers r) g
+
+-- the key's fields come first
+key-first : (r : Record) → fieldsText keyLayout (recordNumbers r) ≡ keyText (r .key)
+unfolding fieldsText recordNumbers keyNumbers imageNumbers keyLayout recordLayout
+key-first r = refl
+
+pub record-key-text : (r : Record) → ranged r ≡ true → take 20 (recordText r) ≡ keyText (r .key)
+unfolding recordText
+record-key-text r g =
+    let rest = lineText (drop 5 recordLayout) (drop (length keyLayout) (recordNumbers r)) in
+    let e : lineText recordLayout (recordNumbers r) ≡ keyText (r .key) ++ rest =
+    ap (λ (cs : List Column). lineText cs (recordNumbers r)) (sym whole-layout)
+    ∙ (line-split keyLayout (drop 5 recordLayout) (recordNumbers r) ∙ ap (λ (t : List ℕ). t ++ rest) (key-first r)) in
+    ap (take 20) e ∙ take-at (keyText (r .key)) rest 20 (length-keyText (r .key) (key-ranged r g))
+
+-- The key of a line that can be read.
+module _ (line : List ℕ) (set : lineSet recordLayout line ≡ true) where
+  pub line-ranged : ranged (recordIn line) ≡ true
+  line-ranged = rw (line-numbers line set) (line-written-read recordLayout line record-layout-ok set .1)
+
+  pub line-key-text : take 20 line ≡ keyText (recordIn line .key)
+  line-key-text = ap (take 20) (sym (record-written-read line set)) ∙ record-key-text (recordIn line) line-ranged
+
+  -- the line has the key k exactly if it begins with the text of k
+  pub key-same : (k : Key) → keyInRange k ≡ true → eqList (take 20 line) (keyText k) ≡ sameKey (recordIn line .key) k
+  unfolding sameKey
+  key-same k h =
+      same-test (eqList (take 20 line) (keyText k)) (eqList (keyNumbers (recordIn line .key)) (keyNumbers k))
+      (λ e.
+      let n : keyNumbers (recordIn line .key) ≡ keyNumbers k =
+      key-of-text (recordIn line .key) k (key-ranged (recordIn line) line-ranged) h (sym line-key-text ∙ eqList-true (take 20 line) (keyText k) e) in
+      ap (λ (t : List ℕ). eqList t (keyNumbers k)) n ∙ eqList-refl (keyNumbers k))
+      (λ e.
+      let n : take 20 line ≡ keyText k = line-key-text ∙ ap (fieldsText keyLayout) (eqList-true (keyNumbers (recordIn line .key)) (keyNumbers k) e) in
+      ap (λ (t : List ℕ). eqList t (keyText k)) n ∙ eqList-refl (keyText k))

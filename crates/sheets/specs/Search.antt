@@ -1,0 +1,159 @@
+-- The search of a key, line by line and field by field: the first line whose twenty bytes are those of the key's line.
+use Prim.Native.Nat.{ℕ, zero, suc, _+_, _-_, _*_, _/_, _≤_, _<_}
+use mathlib.Core.Path.{_≡_, refl, sym, ap, ap₂, _∙_}
+use mathlib.Core.Bool.{Bool, true, false, _&&_, cond, true≢false}
+use mathlib.Core.List.{List, [], _∷_, _++_, map}
+use native.Mathlib.Omega.{arith}
+use native.Mathlib.Nat.{zero-add}
+use native.Mathlib.Numerals.{add-one}
+use lib.ListN.{length, take, drop, getD, drop-of-length-le}
+use lib.Seq.{drop-cons, drop-drop, take-add}
+use lib.Dec.{ltb}
+use Rattle.lists.specs.Tests.{and-fst, and-snd, tests}
+use Rattle.lists.specs.Bytes.{eqList, eqList-true, eqList-refl, ne-eqList}
+use Rattle.lists.specs.Each.{all, pieces}
+use Rattle.lists.specs.Pieces.{take-drop-take, getD-pieces, length-pieces}
+use Rattle.types.specs.declared.Found.{Found}
+use Rattle.types.specs.declared.Found.the-variants.{At, Nothing}
+use Rattle.types.specs.declared.Key.{Key}
+use Rattle.types.specs.declared.Record.{Record}
+use Rattle.model.specs.Layouts.{recordLayout}
+use Rattle.model.specs.Lines.{lineSet, linesOf, linesSet}
+use Rattle.model.specs.Records.{
+  records,
+  recordIn,
+  recordsAccepted,
+  keyInRange,
+  foundFrom,
+  found,
+}
+use Rattle.sheet_laws.specs.Keys.{keyLine, keyText, key-line-text, key-same}
+
+-- where key field f begins
+unfoldable pub edge : ℕ → ℕ
+edge f = getD (0 ∷ 2 ∷ 5 ∷ 8 ∷ 14 ∷ 20 ∷ []) f 0
+
+pub edges : (f : ℕ) → f < 5 → (edge f ≤ edge (f + 1)) × (edge (f + 1) ≤ 20)
+unfolding edge
+edges zero l = omega arith
+edges (suc zero) l = omega arith
+edges (suc (suc zero)) l = omega arith
+edges (suc (suc (suc zero))) l = omega arith
+edges (suc (suc (suc (suc zero)))) l = omega arith
+edges (suc (suc (suc (suc (suc f))))) l = absurd (omega arith)
+
+-- key field f of the line at `at`
+abbrev pub keyField : ℕ → ℕ → List ℕ → List ℕ
+keyField f at s = take (at + edge (f + 1) - (at + edge f)) (drop (at + edge f) s)
+
+-- the line at a place
+abbrev lineBytesAt : List ℕ → ℕ → List ℕ
+lineBytesAt s i = take 98 (drop (i * 98) s)
+
+-- a field of the sheet is that of its line
+field-of-line : (s : List ℕ) (i f : ℕ) → f < 5 → keyField f (i * 98) s ≡ take (edge (f + 1) - edge f) (drop (edge f) (lineBytesAt s i))
+field-of-line s i f l =
+    let e = edges f l in
+    let n : i * 98 + edge (f + 1) - (i * 98 + edge f) ≡ edge (f + 1) - edge f = omega arith in
+    rw n
+    (ap (take (edge (f + 1) - edge f)) (sym (drop-drop (edge f) (i * 98) s))
+    ∙ sym (take-drop-take (edge (f + 1) - edge f) (edge f) 98 (drop (i * 98) s) (omega arith)))
+
+pub field-of-text : (t : List ℕ) (f : ℕ) → keyField f 0 t ≡ take (edge (f + 1) - edge f) (drop (edge f) t)
+field-of-text t f = simp zero-add
+
+-- the parts that the code compares are those of the line and of the key's line
+parts-compared : (s text : List ℕ) (i f : ℕ) (b : Bool) → f < 5 → eqList (keyField f (i * 98) s) (keyField f 0 text) ≡ b → eqList (take (edge (f + 1) - edge f) (drop (edge f) (lineBytesAt s i))) (take (edge (f + 1) - edge f) (drop (edge f) text)) ≡ b
+parts-compared s text i f b l e = sym (ap₂ eqList (field-of-line s i f l) (field-of-text text f)) ∙ e
+
+-- Two texts that agree up to o agree up to p if the parts between do, and differ in their first n if the parts differ.
+module _ (line text : List ℕ) (o p : ℕ) (rising : o ≤ p) where
+  agree-more : take o line ≡ take o text → eqList (take (p - o) (drop o line)) (take (p - o) (drop o text)) ≡ true → take p line ≡ take p text
+  agree-more h e =
+      let n : o + (p - o) ≡ p = omega arith in
+      let q = eqList-true (take (p - o) (drop o line)) (take (p - o) (drop o text)) e in
+      rw (← n) (take-add o (p - o) line ∙ (ap₂ _++_ h q ∙ sym (take-add o (p - o) text)))
+
+  agree-not : (n : ℕ) → p ≤ n → eqList (take (p - o) (drop o line)) (take (p - o) (drop o text)) ≡ false → take n line ≡ take n text → ⊥
+  agree-not n l e h =
+      let a = take-drop-take (p - o) o n line (omega arith) in
+      let b = take-drop-take (p - o) o n text (omega arith) in
+      let q : take (p - o) (drop o line) ≡ take (p - o) (drop o text) =
+      sym a ∙ (ap (λ (t : List ℕ). take (p - o) (drop o t)) h ∙ b) in
+      true≢false (sym (eqList-refl (take (p - o) (drop o text))) ∙ (ap (λ (t : List ℕ). eqList t (take (p - o) (drop o text))) (sym q) ∙ e))
+
+-- the place of the first line, counted from i, that begins as the text does
+unfoldable pub foundLine : ℕ → List ℕ → List (List ℕ) → Found
+foundLine i text [] = Nothing
+foundLine i text (l ∷ ls) = cond (eqList (take 20 l) (take 20 text)) (At i) (foundLine (suc i) text ls)
+
+-- How far the lines have been passed: none before i begins so.
+pub record Passed (s text : List ℕ) (i : ℕ) : Type 0 where
+  pub place : i ≤ length s / 98
+  pub rest : foundLine i text (drop i (linesOf 98 s)) ≡ foundLine 0 text (linesOf 98 s)
+
+-- How far line i agrees with the key's line: up to field f.
+pub record Agreed (s text : List ℕ) (i f : ℕ) : Type 0 where
+  pub place : f ≤ 5
+  pub same : take (edge f) (lineBytesAt s i) ≡ take (edge f) text
+
+pub pass-first : (s text : List ℕ) → Passed s text 0
+pass-first s text = record { place = omega arith; rest = refl }
+
+pub agree-first : (s text : List ℕ) (i : ℕ) → Agreed s text i 0
+unfolding edge
+agree-first s text i = record { place = omega arith; same = refl }
+
+pub agree-next : (s text : List ℕ) (i f : ℕ) → f < 5 → eqList (keyField f (i * 98) s) (keyField f 0 text) ≡ true → Agreed s text i f → Agreed s text i (f + 1)
+agree-next s text i f l e a =
+    let k = edges f l in
+    record { place = omega arith; same = agree-more (lineBytesAt s i) text (edge f) (edge (f + 1)) (k .0) (a .same) (parts-compared s text i f true l e) }
+
+-- The line at place i, by whether it begins as the text does.
+module _ (s text : List ℕ) (i : ℕ) (here : i < length s / 98) (p : Passed s text i) where
+  from-here : cond (eqList (take 20 (lineBytesAt s i)) (take 20 text)) (At i) (foundLine (i + 1) text (drop (i + 1) (linesOf 98 s))) ≡ foundLine 0 text (linesOf 98 s)
+  unfolding foundLine linesOf
+  from-here =
+      let n : i < length (pieces 98 (length s / 98) s) = omega (arith, length-pieces 98 (length s / 98) s) in
+      let d : drop i (linesOf 98 s) ≡ lineBytesAt s i ∷ drop (i + 1) (linesOf 98 s) =
+      drop-cons (pieces 98 (length s / 98) s) i [] n
+      ∙ ap₂ _∷_ (getD-pieces 98 i (length s / 98) s here) (ap (λ (k : ℕ). drop k (linesOf 98 s)) (sym (add-one i))) in
+      sym (rw (d, add-one)) ∙ p .rest
+
+  pub pass-met : (f : ℕ) → 5 ≤ f → Agreed s text i f → At i ≡ foundLine 0 text (linesOf 98 s)
+  unfolding edge
+  pass-met f l a =
+      let n : f ≡ 5 = let m = a .place in omega arith in
+      let k : take 20 (lineBytesAt s i) ≡ take 20 text = rw n at (a .same) in
+      let m : eqList (take 20 (lineBytesAt s i)) (take 20 text) ≡ true = rw k (eqList-refl (take 20 text)) in
+      rw m at from-here
+
+  pub pass-next : (f : ℕ) → f < 5 → eqList (keyField f (i * 98) s) (keyField f 0 text) ≡ false → Passed s text (i + 1)
+  pass-next f l d =
+      let k = edges f l in
+      let x : take 20 (lineBytesAt s i) ≡ take 20 text → ⊥ =
+      agree-not (lineBytesAt s i) text (edge f) (edge (f + 1)) (k .0) 20 (k .1) (parts-compared s text i f false l d) in
+      let m : eqList (take 20 (lineBytesAt s i)) (take 20 text) ≡ false = ne-eqList (take 20 (lineBytesAt s i)) (take 20 text) x in
+      record { place = omega arith; rest = rw m at from-here }
+
+pub pass-last : (s text : List ℕ) (i : ℕ) → length s / 98 ≤ i → Passed s text i → Nothing ≡ foundLine 0 text (linesOf 98 s)
+unfolding foundLine linesOf
+pass-last s text i l p =
+    let n : length (pieces 98 (length s / 98) s) ≤ i = omega (arith, length-pieces 98 (length s / 98) s) in
+    let d : drop i (linesOf 98 s) ≡ [] = drop-of-length-le (pieces 98 (length s / 98) s) n in
+    rw d at (p .rest)
+
+-- the line that begins as a key line does is the one that has the key
+same-search : (i : ℕ) (k : Key) (ls : List (List ℕ)) → keyInRange k ≡ true → all (lineSet recordLayout) ls ≡ true → foundLine i (keyLine k) ls ≡ foundFrom i k (map recordIn ls)
+unfolding foundLine foundFrom all
+same-search i k [] g h = refl
+same-search i k (l ∷ ls) g h =
+    let o = and-fst (lineSet recordLayout l) (all (lineSet recordLayout) ls) h in
+    let r = same-search (suc i) k ls g (and-snd (lineSet recordLayout l) (all (lineSet recordLayout) ls) h) in
+    ap₂ (λ (b : Bool) (t : Found). cond b (At i) t) (ap (eqList (take 20 l)) (key-line-text k g) ∙ key-same l o k g) r
+
+pub search-is : (s : List ℕ) (k : Key) → recordsAccepted s ≡ true → keyInRange k ≡ true → foundLine 0 (keyLine k) (linesOf 98 s) ≡ found k (records s)
+unfolding recordsAccepted linesSet records found
+search-is s k a g =
+    let w : all (lineSet recordLayout) (linesOf 98 s) ≡ true = search tests in
+    same-search 0 k (linesOf 98 s) g w

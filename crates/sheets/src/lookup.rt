@@ -1,0 +1,96 @@
+// The line that has a key.
+ghost use mathlib.Core.Path.{_≡_};
+ghost use mathlib.Core.Bool.{true};
+ghost use Prim.Native.Nat.{_+_, _<_, _≤_};
+ghost use lib.ListN.{length};
+ghost use Rattle.lists.specs.Bytes.{eqList};
+ghost use Rattle.model.specs.Records.{recordsAccepted, keyInRange, found, keyNumbers};
+ghost use Rattle.model.specs.Records as model;
+ghost use Rattle.sheet_laws.specs.Keys.{keyLine};
+ghost use Rattle.model.specs.Lines.{linesOf};
+ghost use Rattle.sheets.specs.Search.{keyField, foundLine};
+use types::Found;
+use types::Key;
+use types::Layout;
+
+// Where each key field begins, and the end of the last.
+const EDGES: [usize; 6] = [0, 2, 5, 8, 14, 20];
+
+// The numbers of a key.
+fn numbers_of(key: Key) -> [u32; 5]
+    ensures { λ r. ⌜ r ≡ keyNumbers key ⌝ }
+{
+    [
+        key.storage,
+        key.namespace,
+        key.table,
+        key.partition,
+        key.clustering,
+    ]
+}
+
+// The line of a key alone, with which the lines of a sheet are compared.
+fn key_line(key: Key) -> [u8; 21]
+    ensures { λ r. ⌜ r ≡ keyLine key ⌝ }
+{
+    let row = numbers_of(key);
+    let mut text = [0u8; 21];
+    codec::lines::write_row(Layout::KeyLine, &row, &mut text);
+    text
+}
+
+// Key field f of the line at `at` is that of the key line.
+fn same_field(records: &[u8], at: usize, text: &[u8], f: usize) -> bool
+    requires { ⌜ (f < 5) × ((at + 98 ≤ length (now records)) × (21 ≤ length (now text))) ⌝ }
+    ensures { λ r. ⌜ r ≡ eqList (keyField f at (now (records .entry))) (keyField f 0 (now (text .entry))) ⌝ }
+{
+    let edges = EDGES;
+    let from = edges[f];
+    let to = edges[f + 1];
+    let a = at + from;
+    let e = at + to;
+    decimal::same(&records[a..e], &text[from..to])
+}
+
+// The place of the first line that begins as a key line does.
+fn find_line(records: &[u8], text: &[u8]) -> Found
+    requires { ⌜ 21 ≤ length (now text) ⌝ }
+    ensures { λ r. ⌜ r ≡ foundLine 0 (now (text .entry)) (linesOf 98 (now (records .entry))) ⌝ }
+{
+    let n = records.len() / 98;
+    let mut i = 0;
+    'lines: while i < n {
+        let at = i * 98;
+        let mut f = 0;
+        while f < 5 {
+            if !same_field(records, at, text, f) {
+                i += 1;
+                continue 'lines;
+            }
+            f += 1;
+        }
+        break 'lines;
+    }
+    if i < n {
+        return Found::At(i);
+    }
+    Found::Nothing
+}
+
+// The place of the line that has the key, in an accepted sheet.
+pub fn find(records: &[u8], key: Key) -> Found
+    requires { ⌜ recordsAccepted (now records) ≡ true ⌝ }
+    requires { ⌜ keyInRange key ≡ true ⌝ }
+    ensures { λ r. ⌜ r ≡ found key (model.records (now (records .entry))) ⌝ }
+{
+    let text = key_line(key);
+    find_line(records, &text)
+}
+
+// Every field of the key is in its range.
+pub fn key_in_range(key: Key) -> bool
+    ensures { λ r. ⌜ r ≡ keyInRange key ⌝ }
+{
+    let row = numbers_of(key);
+    codec::lines::row_good(Layout::KeyLine, &row)
+}

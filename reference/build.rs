@@ -1,0 +1,23 @@
+//! Says where the engine's static archive lies, if the feature `engine` asks for it.
+
+use std::env;
+use std::path::PathBuf;
+
+/// A folder that has `libc_api.a`, in place of the repository's own.
+const FOLDER: &str = "RAPYHEO_ARCHIVE_DIR";
+
+fn main() {
+    println!("cargo:rerun-if-changed=build.rs");
+    println!("cargo:rerun-if-env-changed={FOLDER}");
+    if env::var_os("CARGO_FEATURE_ENGINE").is_none() {
+        return;
+    }
+    let folder = match env::var_os(FOLDER) {
+        Some(folder) => PathBuf::from(folder),
+        None => PathBuf::from(env!("CARGO_MANIFEST_DIR")).join("../target/staticlib"),
+    };
+    let folder = folder.display();
+    println!("cargo:rerun-if-changed={folder}/libc_api.a");
+    println!("cargo:rustc-link-search=native={folder}");
+    println!("cargo:rustc-link-lib=static=c_api");
+}

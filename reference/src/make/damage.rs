@@ -1,0 +1,281 @@
+//! One thing wrong with sheets that were accepted. At times the damage does none: the check decides.
+
+use super::random::Random;
+use super::sheets::{self, Mix, Size};
+use super::Sheets;
+
+pub const RECORD_LINE: usize = 98;
+pub const COORDINATOR_LINE: usize = 15;
+
+/// A figure of the record line: its first column, the column after it, its range.
+struct Figure {
+    start: usize,
+    end: usize,
+    least: u64,
+    most: u64,
+}
+
+const fn figure(start: usize, end: usize, least: u64, most: u64) -> Figure {
+    Figure {
+        start,
+        end,
+        least,
+        most,
+    }
+}
+
+const FIGURES: [Figure; 14] = [
+    figure(0, 2, 1, 9),
+    figure(2, 5, 1, 99),
+    figure(5, 8, 1, 99),
+    figure(8, 14, 0, 99_999),
+    figure(14, 20, 0, 99_999),
+    VERSION,
+    TX_ID,
+    figure(40, 49, 0, 99_999_999),
+    figure(49, 58, 0, 99_999_999),
+    BEFORE_VERSION,
+    BEFORE_TX_ID,
+    figure(68, 77, 0, 99_999_999),
+    figure(77, 86, 0, 99_999_999),
+    CLOCK,
+];
+
+const VERSION: Figure = figure(30, 36, 0, 99_999);
+const TX_ID: Figure = figure(36, 40, 0, 999);
+const BEFORE_VERSION: Figure = figure(58, 64, 0, 99_999);
+const BEFORE_TX_ID: Figure = figure(64, 68, 0, 999);
+const CLOCK: Figure = figure(86, 97, 0, 4_294_967_295);
+
+/// Bytes that a rule names, and bytes beside them.
+pub const TELLING: &[u8] =
+    b" 0123456789/:-!,\n\t\0\x0f\x10\x1f\x7f\x80\xb0\xffABCDEMNOPRSTabcdemnoprst";
+
+/// Words for a sheet of records or of decisions, and words for neither.
+const WORDS: [[u8; 10]; 16] = [
+    *b"    ABSENT",
+    *b" COMMITTED",
+    *b"  PREPARED",
+    *b"   ABORTED",
+    *b"         -",
+    *b"COMMITTED ",
+    *b"PREPARED  ",
+    *b"-         ",
+    *b" committed",
+    *b"  Prepared",
+    *b"   DELETED",
+    *b"  OMMITTED",
+    *b" COMMORTED",
+    *b" COBORTED\n",
+    *b"  PABSENT ",
+    *b"          ",
+];
+
+/// Damages one of the sheets, or what ties them.
+pub fn damage(random: &mut Random, sheets: &mut Sheets) {
+    if sheets.records.len() < RECORD_LINE || sheets.coordinator.len() < 2 * COORDINATOR_LINE {
+        return; // An earlier damage left nothing to work on.
+    }
+    match random.below(20) {
+        0..=2 => any_byte(random, &mut sheets.records),
+        3 => any_byte(random, &mut sheets.coordinator),
+        4 => length(random, &mut sheets.records, RECORD_LINE),
+        5 => length(random, &mut sheets.coordinator, COORDINATOR_LINE),
+        6..=8 => figure_text(random, &mut sheets.records),
+        9 | 10 => figure_value(random, &mut sheets.records),
+        11 | 12 => key_order(random, &mut sheets.records),
+        13 => state_word(random, &mut sheets.records),
+        14 | 15 => state_rule(random, &mut sheets.records),
+        16 => tx_id(random, sheets),
+        17 => head(random, &mut sheets.coordinator),
+        18 => decision(random, &mut sheets.coordinator),
+        _ => size(random, sheets),
+    }
+}
+
+/// The first byte of a random whole line.
+fn some_start(random: &mut Random, sheet: &[u8], line: usize) -> usize {
+    random.below(sheet.len() / line) * line
+}
+
+fn some_line<'a>(random: &mut Random, sheet: &'a mut [u8], line: usize) -> &'a mut [u8] {
+    let start = some_start(random, sheet, line);
+    &mut sheet[start..start + line]
+}
+
+/// Sets a figure; one too wide loses its first digits.
+fn set_figure(columns: &mut [u8], value: u64) {
+    let text = format!("{value:>20}").into_bytes();
+    columns.copy_from_slice(&text[20 - columns.len()..]);
+}
+
+fn figure_of(columns: &[u8]) -> u64 {
+    let digits = columns.iter().filter(|b| b.is_ascii_digit());
+    digits.fold(0, |value, b| value * 10 + u64::from(b - b'0'))
+}
+
+fn any_byte(random: &mut Random, sheet: &mut [u8]) {
+    let place = random.below(sheet.len());
+    sheet[place] = match random.below(4) {
+        0 => random.draw() as u8,
+        1 => sheet[place] ^ (1 << random.below(8)),
+        _ => random.pick(TELLING),
+    };
+}
+
+/// A byte or a line too many or too few.
+fn length(random: &mut Random, sheet: &mut Vec<u8>, line: usize) {
+    let start = some_start(random, sheet, line);
+    match random.below(7) {
+        0 => sheet.truncate(sheet.len() - 1),
+        1 => sheet.push(b'\n'),
+        2 => sheet.truncate(start),
+        3 => sheet.truncate(random.below(sheet.len())),
+        4 => drop(sheet.drain(start..start + line)),
+        5 => sheet.extend_from_within(start..start + line),
+        _ => drop(sheet.remove(random.below(sheet.len()))),
+    }
+}
+
+/// A figure not set as the paper asks.
+fn figure_text(random: &mut Random, sheet: &mut [u8]) {
+    let line = some_line(random, sheet, RECORD_LINE);
+    let figure = &FIGURES[random.below(FIGURES.len())];
+    let columns = &mut line[figure.start..figure.end];
+    let blanks = columns.iter().take_while(|b| **b == b' ').count();
+    let last = columns.len() - 1;
+    match random.below(8) {
+        0 => columns[blanks.saturating_sub(1)] = b'0',
+        1 => columns[..blanks].fill(b'0'),
+        2 => columns.fill(b' '),
+        3 => columns.rotate_left(1),
+        4 => columns[(blanks + 1).min(last)] = b' ',
+        5 => columns[blanks.min(last)] = b'0',
+        6 => columns[blanks.saturating_sub(1)] = random.pick(b"-+.,_"),
+        _ => columns[..blanks].fill(random.pick(b"\t\0\xa0")),
+    }
+}
+
+/// A figure at an end of its range or past it.
+fn figure_value(random: &mut Random, sheet: &mut [u8]) {
+    let line = some_line(random, sheet, RECORD_LINE);
+    let figure = &FIGURES[random.below(FIGURES.len())];
+    let columns = &mut line[figure.start..figure.end];
+    let widest = 10u64.pow(columns.len() as u32) - 1;
+    let value = match random.below(7) {
+        0 => 0,
+        1 => figure.least,
+        2 => figure.most,
+        3 => figure.most + 1,
+        4 => widest,
+        5 => figure.most + random.draw() % (widest - figure.most) + 1,
+        _ => random.draw() % (widest + 1),
+    };
+    set_figure(columns, value);
+}
+
+/// Keys that are equal, out of order, or merely close.
+fn key_order(random: &mut Random, sheet: &mut [u8]) {
+    let one = some_start(random, sheet, RECORD_LINE);
+    let other = some_start(random, sheet, RECORD_LINE);
+    match random.below(4) {
+        0 => sheet.copy_within(one..one + 20, other),
+        1 => swap(sheet, one, other, RECORD_LINE),
+        2 => swap(sheet, one, other, 20),
+        _ => {
+            let figure = &FIGURES[random.below(5)];
+            let from = one + figure.start..one + figure.end;
+            sheet.copy_within(from, other + figure.start);
+        }
+    }
+}
+
+/// Changes the places of two parts of the same length.
+fn swap(sheet: &mut [u8], one: usize, other: usize, length: usize) {
+    for i in 0..length {
+        sheet.swap(one + i, other + i);
+    }
+}
+
+fn state_word(random: &mut Random, sheet: &mut [u8]) {
+    let line = some_line(random, sheet, RECORD_LINE);
+    line[20..30].copy_from_slice(&random.pick(&WORDS));
+}
+
+/// A line that its state's rule turns away, most often.
+fn state_rule(random: &mut Random, sheet: &mut [u8]) {
+    let line = some_line(random, sheet, RECORD_LINE);
+    let before = figure_of(&line[BEFORE_VERSION.start..BEFORE_VERSION.end]);
+    let step = random.pick(&[0, 1, 2, 10, 11, 101]);
+    let (figure, value) = match random.below(8) {
+        0 => (&VERSION, before + step),
+        1 => (&VERSION, before.saturating_sub(step)),
+        2 => (&BEFORE_VERSION, before + step),
+        3 => (&BEFORE_VERSION, 0),
+        4 => (&TX_ID, 0),
+        5 => (&BEFORE_TX_ID, step),
+        6 => (&CLOCK, step),
+        _ => (&FIGURES[5 + random.below(9)], random.draw() % 3),
+    };
+    set_figure(&mut line[figure.start..figure.end], value);
+}
+
+/// A TxID near the issued count, in the line or in its before fields.
+fn tx_id(random: &mut Random, sheets: &mut Sheets) {
+    let issued = figure_of(&sheets.coordinator[0..4]);
+    let line = some_line(random, &mut sheets.records, RECORD_LINE);
+    let figure = random.pick(&[&TX_ID, &BEFORE_TX_ID]);
+    let value = random.pick(&[issued, issued + 1, issued + 1, issued + 10, 999]);
+    set_figure(&mut line[figure.start..figure.end], value);
+}
+
+/// A head that does not go with the lines, or is not set as the paper asks.
+fn head(random: &mut Random, sheet: &mut [u8]) {
+    let lines = (sheet.len() / COORDINATOR_LINE - 1) as u64;
+    let issued = figure_of(&sheet[0..4]);
+    let place = 4 + random.below(11);
+    match random.below(7) {
+        0 => set_figure(&mut sheet[0..4], lines + 1),
+        1 => set_figure(&mut sheet[0..4], issued.saturating_sub(1)),
+        2 => set_figure(&mut sheet[0..4], random.draw() % 2_000),
+        3 => {
+            sheet[0..4].copy_from_slice(random.pick(&[b"   -", b"    ", b"0001", b" 00 ", b"1   "]))
+        }
+        4 => sheet[place] = sheet[place].to_ascii_lowercase(),
+        5 => sheet[place] = random.pick(b"RPTNSrptnsABCOQU "),
+        _ => sheet[place] = random.pick(TELLING),
+    }
+}
+
+/// A line of the coordinator with another word or number.
+fn decision(random: &mut Random, sheet: &mut [u8]) {
+    let lines = &mut sheet[COORDINATOR_LINE..];
+    let other = some_start(random, lines, COORDINATOR_LINE);
+    let one = some_start(random, lines, COORDINATOR_LINE);
+    let number = figure_of(&lines[one..one + 4]);
+    match random.below(5) {
+        0 | 1 => lines[one + 4..one + 14].copy_from_slice(&random.pick(&WORDS)),
+        2 => set_figure(&mut lines[one..one + 4], number + 1),
+        3 => swap(lines, one, other, COORDINATOR_LINE),
+        _ => lines.copy_within(other..other + COORDINATOR_LINE, one),
+    }
+}
+
+/// Good lines, but none, or more than a sheet may have.
+fn size(random: &mut Random, sheets: &mut Sheets) {
+    let mut size = Size {
+        records: 2,
+        decisions: 3,
+        issued: 2,
+    };
+    match random.below(40) {
+        0 => size.records = 501 + random.below(3),
+        1 => size.decisions = 1_000 + random.below(3),
+        2..=12 => size.records = 0,
+        13..=24 => size.decisions = 0,
+        25..=32 => return sheets.coordinator.clear(),
+        _ => return sheets.records.clear(),
+    }
+    size.issued = random.below(size.decisions.min(2) + 1);
+    *sheets = sheets::of_size(random, size, Mix::Thirds);
+}

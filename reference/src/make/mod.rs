@@ -1,0 +1,47 @@
+//! Sheets to try the checks on: accepted, damaged and forged ones, the same for the same seed.
+
+pub mod damage;
+pub mod forge;
+pub mod random;
+pub mod sheets;
+
+use random::Random;
+
+/// What a check is called with.
+#[derive(Clone, Debug, PartialEq, Eq)]
+pub struct Sheets {
+    pub records: Vec<u8>,
+    pub coordinator: Vec<u8>,
+}
+
+/// One input of any kind: a quarter accepted, an eighth forged, the rest damaged in one place or a few.
+pub fn any(random: &mut Random) -> Sheets {
+    let mut sheets = sheets::accepted(random);
+    match random.below(8) {
+        0 | 1 => {}
+        2 => forge::forge(random, &mut sheets),
+        3 => {
+            for _ in 0..2 + random.below(3) {
+                damage::damage(random, &mut sheets);
+            }
+        }
+        _ => damage::damage(random, &mut sheets),
+    }
+    sheets
+}
+
+impl std::fmt::Display for Sheets {
+    /// Both sheets whole, with every byte visible.
+    fn fmt(&self, out: &mut std::fmt::Formatter) -> std::fmt::Result {
+        for (name, sheet) in [
+            ("record sheet", &self.records),
+            ("coordinator sheet", &self.coordinator),
+        ] {
+            writeln!(out, "{name}, {} bytes:", sheet.len())?;
+            for line in sheet.split_inclusive(|b| *b == b'\n') {
+                writeln!(out, "{}", line.escape_ascii())?;
+            }
+        }
+        Ok(())
+    }
+}

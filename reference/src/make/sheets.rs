@@ -1,0 +1,156 @@
+//! Accepted sheets of every size, written by the standard library's formatting and not by `plain`.
+
+use super::random::Random;
+use super::Sheets;
+use std::collections::BTreeSet;
+
+/// The states that a sheet's lines may take.
+#[derive(Clone, Copy)]
+pub enum Mix {
+    Committed,
+    Prepared,
+    /// About a third each of ABSENT, COMMITTED and PREPARED.
+    Thirds,
+}
+
+/// How large the sheets are to be, and how far the numbers are issued.
+#[derive(Clone, Copy)]
+pub struct Size {
+    pub records: usize,
+    pub decisions: usize,
+    pub issued: usize,
+}
+
+/// Sheets of a random size, small ones more often.
+pub fn accepted(random: &mut Random) -> Sheets {
+    let records = size(random, 500);
+    let decisions = size(random, 999);
+    let issued = match random.below(4) {
+        0 => decisions,
+        _ => random.below(decisions + 1),
+    };
+    let mix = random.pick(&[Mix::Committed, Mix::Prepared, Mix::Thirds, Mix::Thirds]);
+    let size = Size {
+        records,
+        decisions,
+        issued,
+    };
+    of_size(random, size, mix)
+}
+
+fn size(random: &mut Random, most: usize) -> usize {
+    match random.below(200) {
+        0 => most,
+        1 => 1 + random.below(most),
+        2..=20 => 1 + random.below(40),
+        _ => 1 + random.below(6),
+    }
+}
+
+/// Sheets of the size asked for. Beyond 500 or 999 lines they keep every rule but that one.
+pub fn of_size(random: &mut Random, size: Size, mix: Mix) -> Sheets {
+    Sheets {
+        records: record_sheet(random, size, mix),
+        coordinator: coordinator_sheet(random, size),
+    }
+}
+
+fn record_sheet(random: &mut Random, size: Size, mix: Mix) -> Vec<u8> {
+    let mut text = String::with_capacity(size.records * 98);
+    for key in keys(random, size.records) {
+        let [storage, namespace, table, partition, clustering] = key;
+        let rest = after_key(random, size.issued as u32, mix);
+        let key = format!("{storage:>2}{namespace:>3}{table:>3}{partition:>6}{clustering:>6}");
+        text += &format!("{key}{rest}\n");
+    }
+    text.into_bytes()
+}
+
+/// As many rising keys as asked for. Each field's range is narrow or wide, so that neighbours differ in any field.
+fn keys(random: &mut Random, count: usize) -> BTreeSet<[u32; 5]> {
+    let storage = random.pick(&[1, 2, 9]);
+    let namespace = random.pick(&[1, 3, 12, 99]);
+    let table = random.pick(&[1, 3, 12, 99]);
+    let partition = random.pick(&[0, 2, 11, 1_002, 99_999]);
+    let clustering = random.pick(&[2_000, 99_999]);
+    let mut keys = BTreeSet::new();
+    while keys.len() < count {
+        keys.insert([
+            random.figure(1, storage),
+            random.figure(1, namespace),
+            random.figure(1, table),
+            random.figure(0, partition),
+            random.figure(0, clustering),
+        ]);
+    }
+    keys
+}
+
+/// A line's fields from the state word on.
+fn after_key(random: &mut Random, issued: u32, mix: Mix) -> String {
+    let state = match mix {
+        Mix::Committed => 1,
+        Mix::Prepared => 2,
+        Mix::Thirds => random.below(3),
+    };
+    match state {
+        0 => fields("ABSENT", [0; 4], [0; 4], 0),
+        2 if issued > 0 => prepared(random, issued),
+        // Without an issued number no line can be PREPARED.
+        _ => fields("COMMITTED", image(random, issued), [0; 4], 0),
+    }
+}
+
+fn prepared(random: &mut Random, issued: u32) -> String {
+    let before = if random.once_in(4) {
+        [0; 4]
+    } else {
+        let mut image = image(random, issued);
+        image[0] = image[0].min(99_998);
+        image
+    };
+    let mut image = image(random, issued);
+    image[0] = before[0] + 1;
+    image[1] = random.figure(1, issued);
+    let clock = match random.below(8) {
+        0 => 4_294_967_000 + random.below(296) as u32,
+        _ => random.figure(0, u32::MAX),
+    };
+    fields("PREPARED", image, before, clock)
+}
+
+/// Version from 1, TxID, column 1, column 2.
+fn image(random: &mut Random, issued: u32) -> [u32; 4] {
+    [
+        random.figure(1, 99_999),
+        random.figure(0, issued.min(999)),
+        random.figure(0, 99_999_999),
+        random.figure(0, 99_999_999),
+    ]
+}
+
+fn fields(state: &str, image: [u32; 4], before: [u32; 4], clock: u32) -> String {
+    let image = image_text(image);
+    let before = image_text(before);
+    format!("{state:>10}{image}{before}{clock:>11}")
+}
+
+fn image_text([version, tx_id, column_1, column_2]: [u32; 4]) -> String {
+    format!("{version:>6}{tx_id:>4}{column_1:>9}{column_2:>9}")
+}
+
+fn coordinator_sheet(random: &mut Random, size: Size) -> Vec<u8> {
+    let mut text = format!("{:>4} ", size.issued);
+    for _ in 0..9 {
+        text.push(random.pick(&['R', 'P', 'T', 'N', 'S']));
+    }
+    text.push('\n');
+    for k in 1..=size.decisions {
+        let word = match k <= size.issued {
+            true => random.pick(&["-", "COMMITTED", "ABORTED"]),
+            false => "-",
+        };
+        text += &format!("{k:>4}{word:>10}\n");
+    }
+    text.into_bytes()
+}

@@ -1,0 +1,197 @@
+//! The record sheet: its lines, the rules of each state and the order of keys.
+
+use super::field::{is_word, read_figure, write_figure, write_word};
+
+/// Bytes of a record line, LF counted.
+pub const LINE: usize = 98;
+/// The most lines a record sheet may have.
+pub const MOST_LINES: usize = 500;
+
+/// The five key fields in the order in which they are compared.
+#[derive(Clone, Copy, Debug, PartialEq, Eq, PartialOrd, Ord)]
+pub struct Key {
+    pub storage: u32,
+    pub namespace: u32,
+    pub table: u32,
+    pub partition: u32,
+    pub clustering: u32,
+}
+
+#[derive(Clone, Copy, Debug, PartialEq, Eq)]
+pub enum State {
+    Absent,
+    Committed,
+    Prepared,
+}
+
+/// What a line says of its record at one version; the before fields are a second image.
+#[derive(Clone, Copy, Debug, PartialEq, Eq)]
+pub struct Image {
+    pub version: u32,
+    pub tx_id: u32,
+    pub column_1: u32,
+    pub column_2: u32,
+}
+
+#[derive(Clone, Copy, Debug, PartialEq, Eq)]
+pub struct Record {
+    pub key: Key,
+    pub state: State,
+    pub image: Image,
+    pub before: Image,
+    pub prepare_clock: u32,
+}
+
+/// The image whose fields are all 0.
+pub const NOTHING: Image = Image {
+    version: 0,
+    tx_id: 0,
+    column_1: 0,
+    column_2: 0,
+};
+
+impl Key {
+    pub fn from_numbers(n: [u32; 5]) -> Key {
+        Key {
+            storage: n[0],
+            namespace: n[1],
+            table: n[2],
+            partition: n[3],
+            clustering: n[4],
+        }
+    }
+
+    pub fn in_range(&self) -> bool {
+        (1..=9).contains(&self.storage)
+            && (1..=99).contains(&self.namespace)
+            && (1..=99).contains(&self.table)
+            && self.partition <= 99_999
+            && self.clustering <= 99_999
+    }
+}
+
+impl Image {
+    fn in_range(&self) -> bool {
+        self.version <= 99_999
+            && self.tx_id <= 999
+            && self.column_1 <= 99_999_999
+            && self.column_2 <= 99_999_999
+    }
+}
+
+impl Record {
+    /// Whether the line could stand alone in a sheet: its ranges and the rule of its state.
+    pub fn keeps_rules(&self) -> bool {
+        self.in_range() && self.keeps_state_rule()
+    }
+
+    /// Every u32 is in the prepare clock's range.
+    fn in_range(&self) -> bool {
+        self.key.in_range() && self.image.in_range() && self.before.in_range()
+    }
+
+    fn keeps_state_rule(&self) -> bool {
+        let unprepared = self.before == NOTHING && self.prepare_clock == 0;
+        match self.state {
+            State::Absent => self.image == NOTHING && unprepared,
+            State::Committed => self.image.version >= 1 && unprepared,
+            State::Prepared => {
+                self.image.tx_id >= 1
+                    && self.image.version == self.before.version + 1
+                    && (self.before.version >= 1 || self.before == NOTHING)
+            }
+        }
+    }
+}
+
+/// The word for each state.
+pub fn state_word(state: State) -> &'static str {
+    match state {
+        State::Absent => "ABSENT",
+        State::Committed => "COMMITTED",
+        State::Prepared => "PREPARED",
+    }
+}
+
+/// In the order of their numbers.
+pub const STATES: [State; 3] = [State::Absent, State::Committed, State::Prepared];
+
+fn read_state(columns: &[u8]) -> Option<State> {
+    STATES
+        .into_iter()
+        .find(|s| is_word(columns, state_word(*s)))
+}
+
+fn read_key(columns: &[u8]) -> Option<Key> {
+    Some(Key {
+        storage: read_figure(&columns[0..2])?,
+        namespace: read_figure(&columns[2..5])?,
+        table: read_figure(&columns[5..8])?,
+        partition: read_figure(&columns[8..14])?,
+        clustering: read_figure(&columns[14..20])?,
+    })
+}
+
+fn read_image(columns: &[u8]) -> Option<Image> {
+    Some(Image {
+        version: read_figure(&columns[0..6])?,
+        tx_id: read_figure(&columns[6..10])?,
+        column_1: read_figure(&columns[10..19])?,
+        column_2: read_figure(&columns[19..28])?,
+    })
+}
+
+/// The fields of one line of 98 bytes, if each is well set; ranges and rules are not looked at.
+fn read_line(line: &[u8]) -> Option<Record> {
+    if line[97] != b'\n' {
+        return None;
+    }
+    Some(Record {
+        key: read_key(&line[0..20])?,
+        state: read_state(&line[20..30])?,
+        image: read_image(&line[30..58])?,
+        before: read_image(&line[58..86])?,
+        prepare_clock: read_figure(&line[86..97])?,
+    })
+}
+
+/// Whether these records may stand in a sheet, in this order.
+pub fn keep_rules(records: &[Record]) -> bool {
+    let count = (1..=MOST_LINES).contains(&records.len());
+    let rising = records.windows(2).all(|pair| pair[0].key < pair[1].key);
+    count && rising && records.iter().all(Record::keeps_rules)
+}
+
+/// The records of a sheet that refusal 1 lets pass.
+pub fn read_sheet(sheet: &[u8]) -> Option<Vec<Record>> {
+    if !sheet.len().is_multiple_of(LINE) {
+        return None;
+    }
+    let records: Option<Vec<Record>> = sheet.chunks(LINE).map(read_line).collect();
+    records.filter(|r| keep_rules(r))
+}
+
+fn write_key(columns: &mut [u8], key: &Key) {
+    write_figure(&mut columns[0..2], key.storage);
+    write_figure(&mut columns[2..5], key.namespace);
+    write_figure(&mut columns[5..8], key.table);
+    write_figure(&mut columns[8..14], key.partition);
+    write_figure(&mut columns[14..20], key.clustering);
+}
+
+fn write_image(columns: &mut [u8], image: &Image) {
+    write_figure(&mut columns[0..6], image.version);
+    write_figure(&mut columns[6..10], image.tx_id);
+    write_figure(&mut columns[10..19], image.column_1);
+    write_figure(&mut columns[19..28], image.column_2);
+}
+
+/// Writes a record that keeps the rules as one line of 98 bytes.
+pub fn write_line(line: &mut [u8], record: &Record) {
+    write_key(&mut line[0..20], &record.key);
+    write_word(&mut line[20..30], state_word(record.state));
+    write_image(&mut line[30..58], &record.image);
+    write_image(&mut line[58..86], &record.before);
+    write_figure(&mut line[86..97], record.prepare_clock);
+    line[97] = b'\n';
+}
