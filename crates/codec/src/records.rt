@@ -58,8 +58,9 @@ fn state_number(s: State) -> u32
 }
 
 // The record of its numbers.
-pub fn record_of(v: [u32; 15]) -> Record
-    ensures { λ r. ⌜ r ≡ recordOf v ⌝ }
+pub fn record_of(v: &[u32]) -> Record
+    requires { ⌜ length (now v) ≡ 15 ⌝ }
+    ensures { λ r. ⌜ r ≡ recordOf (now (v .entry)) ⌝ }
 {
     Record {
         key: Key {
@@ -126,7 +127,7 @@ pub fn record_at(records: &[u8], i: usize) -> Record
         let end = at + 98;
         let mut row = [0u32; 15];
         lines::read_row(Layout::RecordLine, &records[at..end], &mut row);
-        return record_of(row);
+        return record_of(&row);
     }
     NO_RECORD
 }

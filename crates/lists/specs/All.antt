@@ -86,6 +86,12 @@ map-set f [] i y = refl
 map-set f (x ∷ xs) zero y = refl
 map-set f (x ∷ xs) (suc i) y = ap (λ (t : List _). f x ∷ t) (map-set f xs i y)
 
+-- within a list what stands past its end does not matter
+pub getD-any {ℓ} : {A : Type ℓ} (xs : List A) (i : ℕ) (d e : A) → i < length xs → getD xs i d ≡ getD xs i e
+getD-any [] i d e l = absurd (omega arith)
+getD-any (x ∷ xs) zero d e l = refl
+getD-any (x ∷ xs) (suc i) d e l = getD-any xs i d e (omega arith)
+
 -- a list is its elements listed
 pub listed-is : (i n : ℕ) (v : List ℕ) → length v ≡ i + n → listed i n v ≡ drop i v
 unfolding listed

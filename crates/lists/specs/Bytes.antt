@@ -4,11 +4,11 @@ use native.Mathlib.Omega.{arith}
 use Prim.Native.Char.{Char, code}
 use Prim.Native.String as String
 use Prim.Native.String.{String}
-use mathlib.Core.Path.{_≡_, refl, ap, ap₂}
-use mathlib.Core.Bool.{Bool, true, false, _&&_, true≢false}
+use mathlib.Core.Path.{_≡_, refl, sym, ap, ap₂, _∙_}
+use mathlib.Core.Bool.{Bool, true, false, _&&_, true≢false, and-assoc}
 use mathlib.Core.List.{List, [], _∷_, _++_}
 use lib.Dec.{eqb}
-use lib.ListN.{getD}
+use lib.ListN.{length, getD}
 use borrow.Author.Tests.{eqb-true, eq-eqb}
 use Rattle.lists.specs.Tests.{and-fst, and-snd, and-both}
 
@@ -27,8 +27,8 @@ eqList (a ∷ s) (b ∷ t) = eqb a b && eqList s t
 pub eqList-true : (s t : List ℕ) → eqList s t ≡ true → s ≡ t
 unfolding eqList
 eqList-true [] [] e = refl
-eqList-true [] (b ∷ t) e = absurd (true≢false (mathlib.Core.Path.sym e))
-eqList-true (a ∷ s) [] e = absurd (true≢false (mathlib.Core.Path.sym e))
+eqList-true [] (b ∷ t) e = absurd (true≢false (sym e))
+eqList-true (a ∷ s) [] e = absurd (true≢false (sym e))
 eqList-true (a ∷ s) (b ∷ t) e =
     ap₂ _∷_ (eqb-true a b (and-fst _ _ e)) (eqList-true s t (and-snd (eqb a b) (eqList s t) e))
 
@@ -43,6 +43,15 @@ ne-eqList s t d = go (eqList s t) refl
     go : (b : Bool) → eqList s t ≡ b → b ≡ false
     go true e = absurd (d (eqList-true s t e))
     go false e = refl
+
+-- two beginnings of one length are equal, and so are the rests
+pub eqList-append : (s t s′ t′ : List ℕ) → length s ≡ length t → eqList (s ++ s′) (t ++ t′) ≡ (eqList s t && eqList s′ t′)
+unfolding eqList
+eqList-append [] [] s′ t′ n = refl
+eqList-append [] (b ∷ t) s′ t′ n = absurd (omega arith)
+eqList-append (a ∷ s) [] s′ t′ n = absurd (omega arith)
+eqList-append (a ∷ s) (b ∷ t) s′ t′ n =
+    ap (λ (x : Bool). eqb a b && x) (eqList-append s t s′ t′ (omega arith)) ∙ sym (and-assoc (eqb a b) (eqList s t) (eqList s′ t′))
 
 -- a bound on the elements of two lists is one on those of the two joined
 pub below-append : (n : ℕ) (s t : List ℕ) → ((i : ℕ) → getD s i 0 < n) → ((i : ℕ) → getD t i 0 < n) → (i : ℕ) → getD (s ++ t) i 0 < n

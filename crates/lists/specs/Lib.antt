@@ -2,6 +2,7 @@
 pub mod Bytes
 pub mod All
 pub mod Each
+pub mod Fill
 pub mod Order
 pub mod Pieces
 pub mod Tests

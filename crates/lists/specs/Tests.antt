@@ -27,6 +27,26 @@ same-test true b f g = sym (f refl)
 same-test false true f g = g refl
 same-test false false f g = refl
 
+-- what follows a test counts only where the test holds
+pub and-same : (a b c : Bool) → (a ≡ true → b ≡ c) → (a && b) ≡ (a && c)
+and-same true b c f = f refl
+and-same false b c f = refl
+
+-- the second and the third of three tests in the other order
+pub and-move : (a b c : Bool) → (a && b && c) ≡ (a && c && b)
+and-move true true true = refl
+and-move true true false = refl
+and-move true false true = refl
+and-move true false false = refl
+and-move false b c = refl
+
+-- the same of two pairs of tests
+pub and-swap : (a b c d : Bool) → (a && b && (c && d)) ≡ (a && c && (b && d))
+and-swap true true c d = refl
+and-swap true false true d = refl
+and-swap true false false d = refl
+and-swap false b c d = refl
+
 -- a fact about a choice, from the fact about each case with the test's outcome at hand
 pub choose-by {ℓ κ} : {A : Type ℓ} (P : A → Type κ) (b : Bool) {x y : A} → (b ≡ true → P x) → (b ≡ false → P y) → P (cond b x y)
 choose-by P true f g = f refl

@@ -111,11 +111,13 @@ preparedRule r =
     && eqb (r .image .version) (r .before .version + 1)
     && (leb 1 (r .before .version) || isZero (r .before))
 
+-- the record keeps the rule of its state
+abbrev pub stateRule : Record → Bool
+stateRule r = byState (r .state) (absentRule r) (committedRule r) (preparedRule r)
+
 -- a record good alone: its numbers are in their ranges, and it keeps the rule of its state
 unfoldable pub goodAlone : Record → Bool
-goodAlone r =
-    rowGood recordLayout (recordNumbers r)
-    && byState (r .state) (absentRule r) (committedRule r) (preparedRule r)
+goodAlone r = rowGood recordLayout (recordNumbers r) && stateRule r
 
 -- "Keys rise strictly down the sheet, compared field by field from storage."
 unfoldable pub keyLess : Key → Key → Bool

@@ -12,7 +12,7 @@ use lib.Seq.{drop-cons, drop-drop, take-add, getD-drop}
 use lib.Dec.{eqb, ltb}
 use lib.Pow.{areBytes}
 use borrow.Author.Tests.{eqb-true, eqb-false, ltb-true, ltb-false, lt-ltb, le-ltb, eq-eqb}
-use Rattle.lists.specs.Bytes.{eqList}
+use Rattle.lists.specs.Bytes.{eqList, eqList-append}
 use Rattle.lists.specs.Each.{less}
 use Rattle.lists.specs.Order.{regroup, less-append}
 use Rattle.lists.specs.Tests.{and-both, same-test, tests}
@@ -128,29 +128,63 @@ part-bytes s n at h = all n (drop at s) (λ i. rw getD-drop (h (at + i)))
     all (suc n) [] h = refl
     all (suc n) (b ∷ t) h = and-both (lt-ltb b 256 (h 0)) (all n t (λ i. h (suc i)))
 
-module _ (s : List ℕ) (bytes : (i : ℕ) → getD s i 0 < 256) (n a b : ℕ) (f : a + n ≤ length s) (g : b + n ≤ length s) where
-  same-length : length (bytesAt s n a) ≡ length (bytesAt s n b)
-  same-length = simp (length-take, length-drop) (omega arith)
+two : (s : List ℕ) (a : ℕ) → a + 2 ≤ length s → bytesAt s 2 a ≡ getD s a 0 ∷ getD s (a + 1) 0 ∷ []
+two s a h = rw (drop-cons s a 0 (omega arith), add-one a, drop-cons s (suc a) 0 (omega arith))
 
-  part-less : less (bytesAt s n a) (bytesAt s n b) ≡ ltb (wordOf (bytesAt s n a)) (wordOf (bytesAt s n b))
-  part-less = less-is (bytesAt s n a) (bytesAt s n b) (part-bytes s n a bytes) (part-bytes s n b bytes) same-length
+-- parts of two texts of bytes
+module _ (s t : List ℕ) (of-s : (i : ℕ) → getD s i 0 < 256) (of-t : (i : ℕ) → getD t i 0 < 256) where
+  same-length : (n a b : ℕ) → a + n ≤ length s → b + n ≤ length t → length (bytesAt s n a) ≡ length (bytesAt t n b)
+  same-length n a b f g = simp (length-take, length-drop) (omega arith)
 
-  part-equal : eqList (bytesAt s n a) (bytesAt s n b) ≡ eqb (wordOf (bytesAt s n a)) (wordOf (bytesAt s n b))
-  part-equal = equal-is (bytesAt s n a) (bytesAt s n b) (part-bytes s n a bytes) (part-bytes s n b bytes) same-length
+  part-less : (n a b : ℕ) → a + n ≤ length s → b + n ≤ length t → less (bytesAt s n a) (bytesAt t n b) ≡ ltb (wordOf (bytesAt s n a)) (wordOf (bytesAt t n b))
+  part-less n a b f g =
+      less-is (bytesAt s n a) (bytesAt t n b) (part-bytes s n a of-s) (part-bytes t n b of-t) (same-length n a b f g)
+
+  -- of n and m bytes the first n are compared as numbers
+  part-split : (n m a b : ℕ) → a + (n + m) ≤ length s → b + (n + m) ≤ length t
+      → less (bytesAt s (n + m) a) (bytesAt t (n + m) b)
+      ≡ (ltb (wordOf (bytesAt s n a)) (wordOf (bytesAt t n b))
+      || (eqb (wordOf (bytesAt s n a)) (wordOf (bytesAt t n b)) && less (bytesAt s m (a + n)) (bytesAt t m (b + n))))
+  part-split n m a b f g =
+      let l = same-length n a b (omega arith) (omega arith) in
+      let e = equal-is (bytesAt s n a) (bytesAt t n b) (part-bytes s n a of-s) (part-bytes t n b of-t) l in
+      rw (take-add n m (drop a s), take-add n m (drop b t), drop-drop n a s, drop-drop n b t)
+      (less-append (bytesAt s n a) (bytesAt t n b) (bytesAt s m (a + n)) (bytesAt t m (b + n)) l
+      ∙ rw (part-less n a b (omega arith) (omega arith), e))
+
+  -- twelve bytes, as two numbers
+  pub twelve-is : (a b : ℕ) → a + 12 ≤ length s → b + 12 ≤ length t
+      → less (bytesAt s 12 a) (bytesAt t 12 b)
+      ≡ (ltb (wordOf (bytesAt s 8 a)) (wordOf (bytesAt t 8 b))
+      || (eqb (wordOf (bytesAt s 8 a)) (wordOf (bytesAt t 8 b))
+      && ltb (wordOf (bytesAt s 4 (a + 8))) (wordOf (bytesAt t 4 (b + 8)))))
+  twelve-is a b f g = part-split 8 4 a b f g ∙ rw (part-less 4 (a + 8) (b + 8) (omega arith) (omega arith))
+
+  -- ten bytes, as a number and two bytes
+  pub ten-is : (a b : ℕ) → a + 10 ≤ length s → b + 10 ≤ length t
+      → eqList (bytesAt s 10 a) (bytesAt t 10 b)
+      ≡ (eqb (wordOf (bytesAt s 8 a)) (wordOf (bytesAt t 8 b))
+      && eqb (getD s (a + 8) 0) (getD t (b + 8) 0)
+      && eqb (getD s (a + 9) 0) (getD t (b + 9) 0))
+  unfolding eqList
+  ten-is a b f g =
+      let l = same-length 8 a b (omega arith) (omega arith) in
+      let e = equal-is (bytesAt s 8 a) (bytesAt t 8 b) (part-bytes s 8 a of-s) (part-bytes t 8 b of-t) l in
+      let x = eqb (getD s (a + 8) 0) (getD t (b + 8) 0) in
+      let y = eqb (getD s (a + 9) 0) (getD t (b + 9) 0) in
+      rw (
+        take-add 8 2 (drop a s),
+        take-add 8 2 (drop b t),
+        drop-drop 8 a s,
+        drop-drop 8 b t,
+        two s (a + 8) (omega arith),
+        two t (b + 8) (omega arith),
+        add-assoc a 8 1,
+        add-assoc b 8 1,
+      )
+      (eqList-append (bytesAt s 8 a) (bytesAt t 8 b) _ _ l ∙ rw (e, and-true y) (sym (and-assoc (eqb (wordOf (bytesAt s 8 a)) (wordOf (bytesAt t 8 b))) x y)))
 
 module _ (s : List ℕ) (bytes : (i : ℕ) → getD s i 0 < 256) where
-  -- of n and m bytes the first n are compared as numbers
-  part-split : (n m a b : ℕ) → a + (n + m) ≤ length s → b + (n + m) ≤ length s
-      → less (bytesAt s (n + m) a) (bytesAt s (n + m) b)
-      ≡ (ltb (wordOf (bytesAt s n a)) (wordOf (bytesAt s n b))
-      || (eqb (wordOf (bytesAt s n a)) (wordOf (bytesAt s n b)) && less (bytesAt s m (a + n)) (bytesAt s m (b + n))))
-  part-split n m a b f g =
-      let f′ : a + n ≤ length s = omega arith in
-      let g′ : b + n ≤ length s = omega arith in
-      rw (take-add n m (drop a s), take-add n m (drop b s), drop-drop n a s, drop-drop n b s)
-      (less-append (bytesAt s n a) (bytesAt s n b) (bytesAt s m (a + n)) (bytesAt s m (b + n)) (same-length s bytes n a b f′ g′)
-      ∙ rw (part-less s bytes n a b f′ g′, part-equal s bytes n a b f′ g′))
-
   -- keys of 20 bytes, as three numbers
   pub key-is : (a b : ℕ) → a + 20 ≤ length s → b + 20 ≤ length s
       → less (bytesAt s 20 a) (bytesAt s 20 b)
@@ -160,10 +194,9 @@ module _ (s : List ℕ) (bytes : (i : ℕ) → getD s i 0 < 256) where
       || (eqb (wordOf (bytesAt s 8 (a + 8))) (wordOf (bytesAt s 8 (b + 8)))
       && ltb (wordOf (bytesAt s 4 (a + 16))) (wordOf (bytesAt s 4 (b + 16)))))))
   key-is a b f g =
-      part-split 8 12 a b f g
+      part-split s s bytes bytes 8 12 a b f g
       ∙ rw (
-        part-split 8 4 (a + 8) (b + 8) (omega arith) (omega arith),
-        part-less s bytes 4 (a + 8 + 8) (b + 8 + 8) (omega arith) (omega arith),
+        twelve-is s s bytes bytes (a + 8) (b + 8) (omega arith) (omega arith),
         add-assoc a 8 8,
         add-assoc b 8 8,
       )

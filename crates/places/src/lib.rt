@@ -4,6 +4,7 @@ ghost use mathlib.Core.Path.{_≡_};
 ghost use Prim.Native.Nat.{_+_, _^_, _<_, _≤_};
 ghost use lib.ListN.{length, take, drop};
 ghost use Rattle.places.specs.Places.{asLong, judgedAt, lineOk};
+ghost use Rattle.lists.specs.Bytes.{eqList};
 ghost use Rattle.lists.specs.Each.{less};
 ghost use Rattle.places.specs.Order.{wordOf};
 
@@ -48,7 +49,7 @@ pub fn line_ok(line: &[u8], low: &[u8], high: &[u8], barred: &[u8], also: &[u8])
 }
 
 // `b` at the width of a word.
-fn wide(b: u8) -> u64
+pub fn wide(b: u8) -> u64
     ensures { λ r. ⌜ r ≡ b ⌝ }
 {
     b as u64
@@ -88,4 +89,26 @@ pub fn key_less(s: &[u8], a: usize, b: usize) -> bool
     let a2 = half(s, a + 16);
     let b2 = half(s, b + 16);
     (a0 < b0) | ((a0 == b0) & ((a1 < b1) | ((a1 == b1) & (a2 < b2))))
+}
+
+// Whether the 12 bytes at `a` of `s` come before the 12 bytes at `b` of `t`: eight and four of them as numbers.
+pub fn twelve_less(s: &[u8], a: usize, t: &[u8], b: usize) -> bool
+    requires { ⌜ a + 12 ≤ length (now s) ⌝ }
+    requires { ⌜ b + 12 ≤ length (now t) ⌝ }
+    ensures { λ r. ⌜ r ≡ less (take 12 (drop a (now (s .entry)))) (take 12 (drop b (now (t .entry)))) ⌝ }
+{
+    let s0 = word(s, a);
+    let t0 = word(t, b);
+    let s1 = half(s, a + 8);
+    let t1 = half(t, b + 8);
+    (s0 < t0) | ((s0 == t0) & (s1 < t1))
+}
+
+// Whether the 10 bytes at `a` of `s` are the 10 bytes at `b` of `t`: eight of them as a number, without a branch.
+pub fn ten_equal(s: &[u8], a: usize, t: &[u8], b: usize) -> bool
+    requires { ⌜ a + 10 ≤ length (now s) ⌝ }
+    requires { ⌜ b + 10 ≤ length (now t) ⌝ }
+    ensures { λ r. ⌜ r ≡ eqList (take 10 (drop a (now (s .entry)))) (take 10 (drop b (now (t .entry)))) ⌝ }
+{
+    (word(s, a) == word(t, b)) & (s[a + 8] == t[b + 8]) & (s[a + 9] == t[b + 9])
 }

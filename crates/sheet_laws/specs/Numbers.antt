@@ -59,7 +59,7 @@ numbers-read-written rs h =
     let s : all (rowGood recordLayout) (rows (allNumbers rs)) ≡ true = rw (l .0) (rw all-map a) in
     (e, and-both (and-both (eq-eqb (length (allNumbers rs)) (length (allNumbers rs) / 15 * 15) k) s) (rw e h))
 
-row-same : (x : List ℕ) → (rowGood recordLayout x && eqb (length x) 15) ≡ true → recordNumbers (recordOf x) ≡ x
+pub row-same : (x : List ℕ) → (rowGood recordLayout x && eqb (length x) 15) ≡ true → recordNumbers (recordOf x) ≡ x
 row-same x h =
     numbers-of-record x (eqb-true (length x) 15 (and-snd (rowGood recordLayout x) (eqb (length x) 15) h))
     (state-ranged x (and-fst (rowGood recordLayout x) (eqb (length x) 15) h))

@@ -1,2 +1,4 @@
 -- What one turn of a loop does to the definition that the loop computes.
 pub mod Search
+pub mod Filling
+pub mod RowsPass

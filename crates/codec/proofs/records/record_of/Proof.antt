@@ -16,93 +16,93 @@ use Rattle.codec.proofs.records.record_of.Reads as reads
 use Rattle.codec.proofs.records.record_of.Lts as lts
 use Rattle.codec.proofs.records.state_of.Reads as state-of-reads
 
--- src/records.rt:50:29
-array-read-t5 : tie.Need-array-read-t5
-array-read-t5 c = search needs
+-- src/records.rt:67:22
+shared-slice-read-t3 : tie.Need-shared-slice-read-t3
+shared-slice-read-t3 c = search needs
 
--- src/records.rt:50:46
-array-read-t8 : tie.Need-array-read-t8
-array-read-t8 c = search needs
+-- src/records.rt:68:24
+shared-slice-read-t5 : tie.Need-shared-slice-read-t5
+shared-slice-read-t5 c = search needs
 
--- src/records.rt:50:59
-array-read-t11 : tie.Need-array-read-t11
-array-read-t11 c = search needs
+-- src/records.rt:69:20
+shared-slice-read-t7 : tie.Need-shared-slice-read-t7
+shared-slice-read-t7 c = search needs
 
--- src/records.rt:50:76
-array-read-t14 : tie.Need-array-read-t14
-array-read-t14 c = search needs
+-- src/records.rt:70:24
+shared-slice-read-t9 : tie.Need-shared-slice-read-t9
+shared-slice-read-t9 c = search needs
 
--- src/records.rt:50:94
-array-read-t17 : tie.Need-array-read-t17
-array-read-t17 c = search needs
+-- src/records.rt:71:25
+shared-slice-read-t11 : tie.Need-shared-slice-read-t11
+shared-slice-read-t11 c = search needs
 
--- src/records.rt:51:25
-array-read-state-of : tie.Need-array-read-state-of
-array-read-state-of c = search needs
+-- src/records.rt:73:25
+shared-slice-read-state-of : tie.Need-shared-slice-read-state-of
+shared-slice-read-state-of c = search needs
 
--- src/records.rt:51:16
+-- src/records.rt:73:16
 state-of-requires : tie.Need-state-of-requires
 state-of-requires c κs = search needs
 
--- src/records.rt:52:33
-array-read-t25 : tie.Need-array-read-t25
-array-read-t25 c = search needs
+-- src/records.rt:75:22
+shared-slice-read-t17 : tie.Need-shared-slice-read-t17
+shared-slice-read-t17 c = search needs
 
--- src/records.rt:52:45
-array-read-t28 : tie.Need-array-read-t28
-array-read-t28 c = search needs
+-- src/records.rt:76:19
+shared-slice-read-t19 : tie.Need-shared-slice-read-t19
+shared-slice-read-t19 c = search needs
 
--- src/records.rt:52:60
-array-read-t31 : tie.Need-array-read-t31
-array-read-t31 c = search needs
+-- src/records.rt:77:22
+shared-slice-read-t21 : tie.Need-shared-slice-read-t21
+shared-slice-read-t21 c = search needs
 
--- src/records.rt:52:75
-array-read-t34 : tie.Need-array-read-t34
-array-read-t34 c = search needs
+-- src/records.rt:78:22
+shared-slice-read-t23 : tie.Need-shared-slice-read-t23
+shared-slice-read-t23 c = search needs
 
--- src/records.rt:53:34
-array-read-t38 : tie.Need-array-read-t38
-array-read-t38 c = search needs
+-- src/records.rt:81:22
+shared-slice-read-t26 : tie.Need-shared-slice-read-t26
+shared-slice-read-t26 c = search needs
 
--- src/records.rt:53:47
-array-read-t41 : tie.Need-array-read-t41
-array-read-t41 c = search needs
+-- src/records.rt:82:19
+shared-slice-read-t28 : tie.Need-shared-slice-read-t28
+shared-slice-read-t28 c = search needs
 
--- src/records.rt:53:63
-array-read-t44 : tie.Need-array-read-t44
-array-read-t44 c = search needs
+-- src/records.rt:83:22
+shared-slice-read-t30 : tie.Need-shared-slice-read-t30
+shared-slice-read-t30 c = search needs
 
--- src/records.rt:53:79
-array-read-t47 : tie.Need-array-read-t47
-array-read-t47 c = search needs
+-- src/records.rt:84:22
+shared-slice-read-t32 : tie.Need-shared-slice-read-t32
+shared-slice-read-t32 c = search needs
 
--- src/records.rt:54:16
-array-read-t51 : tie.Need-array-read-t51
-array-read-t51 c = search needs
+-- src/records.rt:86:16
+shared-slice-read-t35 : tie.Need-shared-slice-read-t35
+shared-slice-read-t35 c = search needs
 
--- src/records.rt:46:1
+-- src/records.rt:61:1
 returns : tie.Need-returns
 unfolding recordOf keyOf imageFrom
-returns c = rw (c .state-of .ensures)
+returns c = rw (c .before .before .before .before .before .before .before .before .before .state-of .ensures)
 
 pub record-of-spec : {M : Type 1} → statement M
 record-of-spec =
     tie.close
     (tie.spec
-    array-read-t5
-    array-read-t8
-    array-read-t11
-    array-read-t14
-    array-read-t17
-    array-read-state-of
+    shared-slice-read-t3
+    shared-slice-read-t5
+    shared-slice-read-t7
+    shared-slice-read-t9
+    shared-slice-read-t11
+    shared-slice-read-state-of
     state-of-requires
-    array-read-t25
-    array-read-t28
-    array-read-t31
-    array-read-t34
-    array-read-t38
-    array-read-t41
-    array-read-t44
-    array-read-t47
-    array-read-t51
+    shared-slice-read-t17
+    shared-slice-read-t19
+    shared-slice-read-t21
+    shared-slice-read-t23
+    shared-slice-read-t26
+    shared-slice-read-t28
+    shared-slice-read-t30
+    shared-slice-read-t32
+    shared-slice-read-t35
     returns)

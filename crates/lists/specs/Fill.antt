@@ -1,0 +1,63 @@
+-- Filling a list piece by piece, w elements each: pieces before i are there, and those from i on are still to come.
+use Prim.Native.Nat.{ℕ, zero, suc, _+_, _-_, _*_, _≤_, _<_}
+use mathlib.Core.Path.{_≡_, refl, sym, ap, ap₂, _∙_}
+use mathlib.Core.List.{List, [], _∷_, _++_, append-assoc, append-nil}
+use native.Mathlib.Omega.{arith}
+use native.Mathlib.Nat.{suc-mul, zero-mul}
+use native.Mathlib.Numerals.{add-one}
+use lib.ListN.{length, take, drop, getD, length-append, length-take, length-drop, drop-of-length-le}
+use lib.Seq.{take-at, take-all, drop-cons}
+use Rattle.lists.specs.Each.{joined}
+use Rattle.lists.specs.Pieces.{over, length-over}
+
+pub record FilledTo (w : ℕ) (parts : List (List ℕ)) (target : List ℕ) (i : ℕ) : Type 0 where
+  pub place : i ≤ length parts
+  pub room : length target ≡ length parts * w
+  pub done : take (i * w) target ++ joined (drop i parts) ≡ joined parts
+
+pub fill-first : (w : ℕ) (parts : List (List ℕ)) (target : List ℕ) → length target ≡ length parts * w → FilledTo w parts target 0
+fill-first w parts target n =
+    let z : 0 * w ≡ 0 = zero-mul w in
+    record { place = omega arith; room = n; done = rw z }
+
+-- there is room for piece i
+pub fill-room : (w n i : ℕ) → i < n → i * w + w ≤ n * w
+fill-room w zero i l = absurd (omega arith)
+fill-room w (suc n) zero l = let e : suc n * w ≡ n * w + w = suc-mul n w in let z : 0 * w ≡ 0 = zero-mul w in omega arith
+fill-room w (suc n) (suc i) l =
+    let e : suc n * w ≡ n * w + w = suc-mul n w in
+    let f : suc i * w ≡ i * w + w = suc-mul i w in
+    let r : i * w + w ≤ n * w = fill-room w n i (omega arith) in
+    omega arith
+
+pub fill-next : (w : ℕ) (parts : List (List ℕ)) (target t : List ℕ) (i : ℕ) → i < length parts → t ≡ getD parts i [] → length t ≡ w → FilledTo w parts target i → FilledTo w parts (over target (i * w) t) (i + 1)
+unfolding joined over
+fill-next w parts target t i l e n f =
+    let r : i * w + w ≤ length parts * w = fill-room w (length parts) i l in
+    let m : length target ≡ length parts * w = f .room in
+    let s : (i + 1) * w ≡ i * w + w = ap (λ (k : ℕ). k * w) (add-one i) ∙ suc-mul i w in
+    let k : length (take (i * w) target ++ t) ≡ i * w + w = simp (length-append, length-take) (omega arith) in
+    let d : drop i parts ≡ t ∷ drop (i + 1) parts =
+    drop-cons parts i [] l ∙ ap₂ _∷_ (sym e) (ap (λ (j : ℕ). drop j parts) (sym (add-one i))) in
+    let a : take ((i + 1) * w) (over target (i * w) t) ≡ take (i * w) target ++ t =
+    ap₂ take s (sym (append-assoc (take (i * w) target) t (drop (i * w + length t) target)))
+    ∙ take-at (take (i * w) target ++ t) (drop (i * w + length t) target) (i * w + w) k in
+    record {
+      place = omega arith;
+      room = length-over target t (i * w) (omega arith) ∙ m;
+      done =
+          ap (λ (x : List ℕ). x ++ joined (drop (i + 1) parts)) a
+          ∙ (append-assoc (take (i * w) target) t (joined (drop (i + 1) parts))
+          ∙ (ap (λ (x : List (List ℕ)). take (i * w) target ++ joined x) (sym d) ∙ f .done));
+    }
+
+pub fill-last : (w : ℕ) (parts : List (List ℕ)) (target : List ℕ) (i : ℕ) → length parts ≤ i → FilledTo w parts target i → target ≡ joined parts
+unfolding joined
+fill-last w parts target i l f =
+    let p : i ≤ length parts = f .place in
+    let e : i ≡ length parts = omega arith in
+    let d : drop i parts ≡ [] = drop-of-length-le parts l in
+    let m : length target ≡ length parts * w = f .room in
+    let q : i * w ≡ length parts * w = ap (λ (k : ℕ). k * w) e in
+    let t : take (i * w) target ≡ target = take-all (i * w) target (omega arith) in
+    sym (append-nil target) ∙ (rw (d, t) at (f .done))

@@ -1,0 +1,113 @@
+-- The loop's invariant: what is left from line i on decides as the whole does. A line that is not good, or a key that does not rise, ends it.
+use Prim.Native.Nat.{_+_, _-_, _*_, _≤_}
+use mathlib.Core.Path.{_≡_, sym, _∙_}
+use mathlib.Core.Bool.{and-false}
+use native.Mathlib.Omega.{arith}
+use lib.ListN.{take, drop}
+use borrow.Author.Tests.{not-true, not-false}
+use borrow.Author.Needs.{needs}
+use Rattle.record_check.specs.Line.{lineGood}
+use Rattle.record_check.specs.Sheet.{linesPass, pass-next}
+use Rattle.record_check.proofs.lines_pass.Statement.{statement}
+use Rattle.record_check.proofs.lines_pass.Tie as tie
+
+abbrev Inv-loop : tie.InvT-loop
+Inv-loop s n committed absent ctables atables ptables highest i₀ i =
+    (i ≤ n) × (linesPass (n - i) (drop (i * 98) s) ≡ linesPass n s)
+
+abbrev μ-loop : tie.MeasureT-loop
+μ-loop s n committed absent ctables atables ptables highest i₀ i = n - i
+
+loop-holds : tie.Need-loop-holds Inv-loop μ-loop
+loop-holds c =
+    let a = c .before .before .before .before .before .before .before .args in
+    let e : a .n - 0 ≡ a .n = omega arith in
+    (omega arith, rw e)
+
+mul-at : tie.Need-mul-at Inv-loop μ-loop
+mul-at c = search needs
+
+add-end : tie.Need-add-end Inv-loop μ-loop
+add-end c = search needs
+
+sub-line-good : tie.Need-sub-line-good Inv-loop μ-loop
+sub-line-good c = search needs
+
+part-line-good-start : tie.Need-part-line-good-start Inv-loop μ-loop
+part-line-good-start c = search needs
+
+part-line-good-end : tie.Need-part-line-good-end Inv-loop μ-loop
+part-line-good-end c = search needs
+
+line-good-requires : tie.Need-line-good-requires Inv-loop μ-loop
+line-good-requires c κs = search needs
+
+-- the answer for a line is that for the 98 bytes at its place
+judged : (c : tie.After-line-good Inv-loop μ-loop)
+    → let l = c .before .before .before in
+    c .line-good .result ≡ lineGood (take 98 (drop (l .loop .i * 98) (l .before .before .before .before .before .before .before .before .args .s .now)))
+judged c =
+    let i = c .before .before .before .loop .i in
+    let w : i * 98 + 98 - i * 98 ≡ 98 = omega arith in
+    rw w at (c .line-good .ensures)
+
+returns : tie.Need-returns Inv-loop μ-loop
+returns c =
+    let a = c .before .before .before .before .before .before .before .before .before .before .before .before .args in
+    let l = c .before .before .before .before .loop in
+    let f = sym (judged (c .before)) ∙ not-true (c .before .line-good .result) (c .if1 .taken) in
+    sym (sym (l .inv .1) ∙ (pass-next (l .i) (a .n) (a .s .now) (c .before .before .before .loop-test .taken) ∙ rw f))
+
+key-rises-requires : tie.Need-key-rises-requires Inv-loop μ-loop
+key-rises-requires c κs = search needs
+
+returns-2 : tie.Need-returns-2 Inv-loop μ-loop
+returns-2 c =
+    let a = c .before .before .before .before .before .before .before .before .before .before .before .before .before .before .args in
+    let l = c .before .before .before .before .before .before .loop in
+    let f = sym (c .before .key-rises .ensures) ∙ not-true (c .before .key-rises .result) (c .if2 .taken) in
+    sym (sym (l .inv .1)
+    ∙ (pass-next (l .i) (a .n) (a .s .now) (c .before .before .before .before .before .loop-test .taken) ∙ rw (f, and-false)))
+
+add-i : tie.Need-add-i Inv-loop μ-loop
+add-i c = search needs
+
+loop-less : tie.Need-loop-less Inv-loop μ-loop
+loop-less c = search needs
+
+loop-again : tie.Need-loop-again Inv-loop μ-loop
+loop-again c =
+    let a = c .before .before .before .before .before .before .before .before .before .before .before .before .before .before .args in
+    let k = c .before .before .before in
+    let l = k .before .before .before .loop in
+    let f = sym (judged k) ∙ not-false (k .line-good .result) (c .before .before .if1 .left) in
+    let g = sym (c .before .key-rises .ensures) ∙ not-false (c .before .key-rises .result) (c .if2 .left) in
+    (omega arith, rw (f, g) at (sym (pass-next (l .i) (a .n) (a .s .now) (k .before .before .loop-test .taken))) ∙ l .inv .1)
+
+returns-3 : tie.Need-returns-3 Inv-loop μ-loop
+unfolding linesPass
+returns-3 c =
+    let l = c .before .loop in
+    let e : c .before .before .before .before .before .before .before .before .before .args .n - l .i ≡ 0 = omega arith in
+    rw e at (l .inv .1)
+
+pub lines-pass-spec : {M : Type 1} → statement M
+lines-pass-spec =
+    tie.close
+    (tie.spec
+    Inv-loop
+    μ-loop
+    loop-holds
+    mul-at
+    add-end
+    sub-line-good
+    part-line-good-start
+    part-line-good-end
+    line-good-requires
+    returns
+    key-rises-requires
+    returns-2
+    add-i
+    loop-less
+    loop-again
+    returns-3)

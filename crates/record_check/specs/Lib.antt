@@ -1,0 +1,11 @@
+-- The fast check of a record sheet, proved equal to the plain one.
+pub mod Ranges
+pub mod LayoutParts
+pub mod Limits
+pub mod Figures
+pub mod States
+pub mod Relations
+pub mod Line
+pub mod Tables
+pub mod Keys
+pub mod Sheet
