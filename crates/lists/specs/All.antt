@@ -98,3 +98,9 @@ unfolding listed
 listed-is i zero v e = let l : length v ≤ i = omega arith in sym (drop-of-length-le v l)
 listed-is i (suc n) v e =
     ap (λ (t : List ℕ). getD v i 0 ∷ t) (listed-is (suc i) n v (omega arith)) ∙ sym (drop-cons v i 0 (omega arith))
+
+-- two maps that agree on every element of a list
+pub map-equal {ℓ κ} : {A : Type ℓ} {B : Type κ} (p : A → Bool) (f g : A → B) → ((x : A) → p x ≡ true → f x ≡ g x) → (xs : List A) → all p xs ≡ true → map f xs ≡ map g xs
+unfolding all
+map-equal p f g e [] h = refl
+map-equal p f g e (x ∷ xs) h = ap₂ _∷_ (e x (and-fst (p x) (all p xs) h)) (map-equal p f g e xs (and-snd (p x) (all p xs) h))

@@ -9,14 +9,19 @@ use lib.Dec.{eqb, leb}
 use borrow.Author.Tests.{eqb-true, leb-true, eq-eqb}
 use Rattle.lists.specs.Tests.{and-fst, and-snd, and-both, tests}
 use Rattle.lists.specs.Each.{all, joined, pieces}
-use Rattle.lists.specs.All.{all-map, all-and, all-weaken, all-of, pieces-whole, map-map, map-same}
+use Rattle.lists.specs.All.{all-map, all-and, all-weaken, all-of, pieces-whole, map-map, map-same, map-equal}
 use Rattle.lists.specs.Pieces.{AllOf, joined-pieces, pieces-joined, length-joined}
 use Rattle.types.specs.declared.Record.{Record}
 use Rattle.model.specs.Layouts.{recordLayout}
-use Rattle.model.specs.Lines.{rowGood}
+use Rattle.model.specs.Lines.{rowOf, lineText, lineSet, linesOf, linesSet, rowGood}
 use Rattle.model.specs.Records.{
   recordOf,
   recordNumbers,
+  recordIn,
+  recordText,
+  recordsText,
+  records,
+  recordsAccepted,
   goodAlone,
   recordsGood,
   rows,
@@ -30,6 +35,7 @@ use Rattle.sheet_laws.specs.Records.{
   record-of-numbers,
   numbers-of-record,
   state-ranged,
+  line-numbers,
 }
 
 -- the rows of the numbers of records are the numbers of each
@@ -76,3 +82,25 @@ numbers-written-read v h =
     (map-map recordNumbers recordOf (pieces 15 (length v / 15) v)
     ∙ map-same (λ (x : List ℕ). rowGood recordLayout x && eqb (length x) 15) (λ (x : List ℕ). recordNumbers (recordOf x)) row-same _ both)
     ∙ joined-pieces 15 (length v / 15) v n
+
+-- the rows of an accepted sheet's lines are the numbers of its records
+pub numbers-of-lines : (s : List ℕ) → recordsAccepted s ≡ true → joined (map (rowOf recordLayout) (linesOf 98 s)) ≡ allNumbers (records s)
+unfolding recordsAccepted linesSet records allNumbers
+numbers-of-lines s h =
+    let w : all (lineSet recordLayout) (linesOf 98 s) ≡ true = search tests in
+    ap joined
+    (sym
+    (map-map recordNumbers recordIn (linesOf 98 s)
+    ∙ map-equal (lineSet recordLayout) (λ (x : List ℕ). recordNumbers (recordIn x)) (rowOf recordLayout) line-numbers (linesOf 98 s) w))
+
+-- the lines of accepted rows are those of their records
+pub lines-of-numbers : (v : List ℕ) → rowsAccepted v ≡ true → joined (map (lineText recordLayout) (rows v)) ≡ recordsText (map recordOf (rows v))
+unfolding rowsAccepted recordsText recordText rows
+lines-of-numbers v h =
+    let n : length v ≡ length v / 15 * 15 = search tests in
+    let g : all (rowGood recordLayout) (pieces 15 (length v / 15) v) ≡ true = search tests in
+    let w = pieces-whole 15 (length v / 15) v n in
+    let both = all-and (rowGood recordLayout) (λ (x : List ℕ). eqb (length x) 15) (pieces 15 (length v / 15) v) g w in
+    ap joined
+    (map-equal (λ (x : List ℕ). rowGood recordLayout x && eqb (length x) 15) (lineText recordLayout) (λ (x : List ℕ). lineText recordLayout (recordNumbers (recordOf x))) (λ x e. ap (lineText recordLayout) (sym (row-same x e))) (pieces 15 (length v / 15) v) both
+    ∙ sym (map-map (λ (r : Record). lineText recordLayout (recordNumbers r)) recordOf (pieces 15 (length v / 15) v)))

@@ -2,3 +2,4 @@
 pub mod Search
 pub mod Filling
 pub mod RowsPass
+pub mod Answers

@@ -1,5 +1,5 @@
 // The calls on sheets that take no transaction: the look-up of a key, the check, sheets to numbers and back.
 pub mod lookup;
-mod numbers;
+pub mod numbers;
 mod rows;
 pub mod rules;

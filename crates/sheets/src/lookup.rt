@@ -8,6 +8,8 @@ ghost use Rattle.model.specs.Records.{recordsAccepted, keyInRange, found, keyNu
 ghost use Rattle.model.specs.Records as model;
 ghost use Rattle.sheet_laws.specs.Keys.{keyLine};
 ghost use Rattle.model.specs.Lines.{linesOf};
+ghost use Rattle.model.specs.Refusals.{refusalOf};
+ghost use Rattle.model.specs.SheetCalls.{lookedUp, lookupConditions};
 ghost use Rattle.sheets.specs.Search.{keyField, foundLine};
 use types::Found;
 use types::Key;
@@ -93,4 +95,40 @@ pub fn key_in_range(key: Key) -> bool
 {
     let row = numbers_of(key);
     codec::lines::row_good(Layout::KeyLine, &row)
+}
+
+// The line that has the key, as a part of the caller's sheet; an empty part where 1, 5 or 6 applies.
+pub fn lookup(records: &[u8], key: Key) -> &[u8]
+    ensures { λ r. ⌜ now r ≡ lookedUp (now (records .entry)) key ⌝ }
+{
+    if !record_check::records_ok(records) {
+        return &records[..0];
+    }
+    if !key_in_range(key) {
+        return &records[..0];
+    }
+    match find(records, key) {
+        Found::At(i) => {
+            let at = i * 98;
+            let end = at + 98;
+            &records[at..end]
+        }
+        Found::Nothing => &records[..0],
+    }
+}
+
+// The number that belongs to the look-up: 0, or the refusal.
+pub fn lookup_refusal(records: &[u8], key: Key) -> u32
+    ensures { λ r. ⌜ r ≡ refusalOf (lookupConditions (now (records .entry)) key) ⌝ }
+{
+    if !record_check::records_ok(records) {
+        return 1;
+    }
+    if !key_in_range(key) {
+        return 5;
+    }
+    match find(records, key) {
+        Found::At(_) => 0,
+        Found::Nothing => 6,
+    }
 }

@@ -7,6 +7,9 @@ ghost use Rattle.lists.specs.Each.{joined};
 ghost use Rattle.model.specs.Layouts.{recordLayout};
 ghost use Rattle.model.specs.Lines.{rowOf, lineText, linesOf};
 ghost use Rattle.model.specs.Records.{rows};
+ghost use Rattle.model.specs.Refusals.{refusalOf};
+ghost use Rattle.model.specs.SheetCalls.{readRecordsConditions, numbersRead, writeRecordsConditions, recordsWritten};
+use crate::rows;
 use types::Layout;
 
 // The numbers of every line over the target.
@@ -45,4 +48,34 @@ fn fill_records(numbers: &[u32], records: &mut [u8])
             &mut records[at..past],
         );
     }
+}
+
+// Record sheet to numbers: 0, or the refusal.
+pub fn read_records(records: &[u8], numbers: &mut [u32]) -> u32
+    ensures answer { λ r. ⌜ r ≡ refusalOf (readRecordsConditions (now (records .entry)) (now (numbers .entry))) ⌝ }
+    ensures target { λ r. ⌜ now (numbers .exit) ≡ numbersRead (now (records .entry)) (now (numbers .entry)) ⌝ }
+{
+    if !record_check::records_ok(records) {
+        return 1;
+    }
+    if numbers.len() != records.len() / 98 * 15 {
+        return 1;
+    }
+    fill_numbers(records, numbers);
+    0
+}
+
+// Numbers to record sheet: 0, or the refusal.
+pub fn write_records(numbers: &[u32], records: &mut [u8]) -> u32
+    ensures answer { λ r. ⌜ r ≡ refusalOf (writeRecordsConditions (now (numbers .entry)) (now (records .entry))) ⌝ }
+    ensures target { λ r. ⌜ now (records .exit) ≡ recordsWritten (now (numbers .entry)) (now (records .entry)) ⌝ }
+{
+    if !rows::rows_ok(numbers) {
+        return 1;
+    }
+    if records.len() != numbers.len() / 15 * 98 {
+        return 1;
+    }
+    fill_records(numbers, records);
+    0
 }

@@ -1,0 +1,121 @@
+-- What each call answers, case by case in the order of its conditions.
+use Prim.Native.Nat.{ℕ, zero, suc, _+_, _-_, _*_, _/_, _≤_, _<_}
+use mathlib.Core.Path.{_≡_, refl, sym, ap, _∙_}
+use mathlib.Core.Bool.{Bool, true, false, cond, not}
+use mathlib.Core.List.{List, [], _∷_, map}
+use native.Mathlib.Omega.{arith}
+use lib.ListN.{length, take, drop}
+use lib.Dec.{eqb}
+use borrow.Author.Tests.{eq-eqb, ne-eqb}
+use Rattle.lists.specs.Each.{joined}
+use Rattle.types.specs.declared.Found.{Found}
+use Rattle.types.specs.declared.Found.the-variants.{At, Nothing}
+use Rattle.types.specs.declared.Key.{Key}
+use Rattle.types.specs.declared.Record.{Record}
+use Rattle.model.specs.Layouts.{recordLayout}
+use Rattle.model.specs.Lines.{rowOf, lineText, linesOf}
+use Rattle.model.specs.Records.{
+  records,
+  recordsAccepted,
+  rows,
+  rowsAccepted,
+  keyInRange,
+  sameKey,
+  foundFrom,
+  found,
+}
+use Rattle.model.specs.Refusals.{refusalOf}
+use Rattle.model.specs.SheetCalls.{
+  readRecordsConditions,
+  numbersRead,
+  writeRecordsConditions,
+  recordsWritten,
+  isMissing,
+  lookupConditions,
+  lineAt,
+  lookedUp,
+}
+use Rattle.sheet_laws.specs.Numbers.{numbers-of-lines, lines-of-numbers}
+use Rattle.sheet_laws.specs.Places.{length-records}
+
+-- Record sheet to numbers.
+module _ (s t : List ℕ) where
+  -- the answer r with the target left as u
+  abbrev pub ReadRecords : ℕ → List ℕ → Type 0
+  ReadRecords r u = (r ≡ refusalOf (readRecordsConditions s t)) × (u ≡ numbersRead s t)
+
+  pub read-bad : recordsAccepted s ≡ false → ReadRecords 1 t
+  unfolding readRecordsConditions numbersRead refusalOf
+  read-bad e = rw e (refl, refl)
+
+  pub read-misfit : recordsAccepted s ≡ true → (length t ≡ length s / 98 * 15 → ⊥) → ReadRecords 1 t
+  unfolding readRecordsConditions numbersRead refusalOf
+  read-misfit e n = rw (e, ne-eqb (length t) (length s / 98 * 15) n) (refl, refl)
+
+  pub read-done : (u : List ℕ) → recordsAccepted s ≡ true → length t ≡ length s / 98 * 15 → u ≡ joined (map (rowOf recordLayout) (linesOf 98 s)) → ReadRecords 0 u
+  unfolding readRecordsConditions numbersRead refusalOf
+  read-done u e n q =
+      let k = numbers-of-lines s e in
+      rw (e, eq-eqb (length t) (length s / 98 * 15) n) (refl, q ∙ k)
+
+-- Numbers to record sheet.
+module _ (v t : List ℕ) where
+  abbrev pub WriteRecords : ℕ → List ℕ → Type 0
+  WriteRecords r u = (r ≡ refusalOf (writeRecordsConditions v t)) × (u ≡ recordsWritten v t)
+
+  pub write-bad : rowsAccepted v ≡ false → WriteRecords 1 t
+  unfolding writeRecordsConditions recordsWritten refusalOf
+  write-bad e = rw e (refl, refl)
+
+  pub write-misfit : rowsAccepted v ≡ true → (length t ≡ length v / 15 * 98 → ⊥) → WriteRecords 1 t
+  unfolding writeRecordsConditions recordsWritten refusalOf
+  write-misfit e n = rw (e, ne-eqb (length t) (length v / 15 * 98) n) (refl, refl)
+
+  pub write-done : (u : List ℕ) → rowsAccepted v ≡ true → length t ≡ length v / 15 * 98 → u ≡ joined (map (lineText recordLayout) (rows v)) → WriteRecords 0 u
+  unfolding writeRecordsConditions recordsWritten refusalOf
+  write-done u e n q =
+      let k = lines-of-numbers v e in
+      rw (e, eq-eqb (length t) (length v / 15 * 98) n) (refl, q ∙ k)
+
+-- The look-up: the part handed back and the companion's number.
+module _ (s : List ℕ) (k : Key) where
+  abbrev pub LookedUp : List ℕ → ℕ → Type 0
+  LookedUp part r = (part ≡ lookedUp s k) × (r ≡ refusalOf (lookupConditions s k))
+
+  pub lookup-bad : recordsAccepted s ≡ false → LookedUp [] 1
+  unfolding lookedUp lookupConditions refusalOf
+  lookup-bad e = rw e (refl, refl)
+
+  pub lookup-out : recordsAccepted s ≡ true → keyInRange k ≡ false → LookedUp [] 5
+  unfolding lookedUp lookupConditions refusalOf
+  lookup-out e g = rw (e, g) (refl, refl)
+
+  pub lookup-none : recordsAccepted s ≡ true → keyInRange k ≡ true → found k (records s) ≡ Nothing → LookedUp [] 6
+  unfolding lookedUp lookupConditions refusalOf isMissing
+  lookup-none e g f = rw (e, g, f) (refl, refl)
+
+  pub lookup-met : (i : ℕ) → recordsAccepted s ≡ true → keyInRange k ≡ true → found k (records s) ≡ At i → LookedUp (take 98 (drop (i * 98) s)) 0
+  unfolding lookedUp lookupConditions refusalOf isMissing lineAt
+  lookup-met i e g f = rw (e, g, f) (refl, refl)
+
+-- a place that was found is one of the sheet's
+found-below : (j : ℕ) (k : Key) (rs : List Record) (i : ℕ) → foundFrom j k rs ≡ At i → i < j + length rs
+unfolding foundFrom
+found-below j k [] i e = let z : _≡_ {A = ℕ} 0 1 = cc in absurd (omega arith)
+found-below j k (r ∷ rs) i e = go (sameKey (r .key) k) refl (found-below (suc j) k rs i)
+  where
+    go : (b : Bool) → sameKey (r .key) k ≡ b → (foundFrom (suc j) k rs ≡ At i → i < suc j + length rs) → i < j + length (r ∷ rs)
+    go true h rest =
+        let f : _≡_ {A = Found} (At j) (At i) = rw h at e in
+        let g : j ≡ i = cc in
+        omega arith
+    go false h rest =
+        let f : foundFrom (suc j) k rs ≡ At i = rw h at e in
+        let l = rest f in
+        omega arith
+
+pub found-fits : (s : List ℕ) (k : Key) (i : ℕ) → found k (records s) ≡ At i → i * 98 + 98 ≤ length s
+unfolding found
+found-fits s k i e =
+    let l = found-below 0 k (records s) i e in
+    omega (arith, length-records s)
