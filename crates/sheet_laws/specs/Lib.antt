@@ -8,3 +8,4 @@ pub mod Keys
 pub mod Coordinator
 pub mod CoordinatorNumbers
 pub mod Decisions
+pub mod RoundTrips

@@ -39,7 +39,7 @@ use Rattle.sheet_laws.specs.Records.{
 }
 
 -- the rows of the numbers of records are the numbers of each
-rows-of-numbers : (rs : List Record) → all ranged rs ≡ true → (rows (allNumbers rs) ≡ map recordNumbers rs) × (length (allNumbers rs) ≡ length rs * 15)
+pub rows-of-numbers : (rs : List Record) → all ranged rs ≡ true → (rows (allNumbers rs) ≡ map recordNumbers rs) × (length (allNumbers rs) ≡ length rs * 15)
 unfolding rows allNumbers
 rows-of-numbers rs h =
     let w = all-of 15 ranged recordNumbers (λ r p. length-numbers r) rs h in

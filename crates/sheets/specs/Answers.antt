@@ -25,7 +25,10 @@ use Rattle.model.specs.Records.{
   found,
 }
 use Rattle.model.specs.Refusals.{refusalOf}
+use Rattle.model.specs.Coordinator.{coordinatorAccepted}
 use Rattle.model.specs.SheetCalls.{
+  allIssued,
+  checkConditions,
   readRecordsConditions,
   numbersRead,
   writeRecordsConditions,
@@ -119,3 +122,24 @@ unfolding found
 found-fits s k i e =
     let l = found-below 0 k (records s) i e in
     omega (arith, length-records s)
+
+-- The check of both sheets.
+module _ (rs cs : List ℕ) where
+  abbrev pub Checked : ℕ → Type 0
+  Checked r = r ≡ refusalOf (checkConditions rs cs)
+
+  pub check-bad : recordsAccepted rs ≡ false → Checked 1
+  unfolding checkConditions refusalOf
+  check-bad e = rw e
+
+  pub check-coordinator : recordsAccepted rs ≡ true → coordinatorAccepted cs ≡ false → Checked 2
+  unfolding checkConditions refusalOf
+  check-coordinator e f = rw (e, f)
+
+  pub check-unissued : recordsAccepted rs ≡ true → coordinatorAccepted cs ≡ true → allIssued rs cs ≡ false → Checked 2
+  unfolding checkConditions refusalOf
+  check-unissued e f g = rw (e, f, g)
+
+  pub check-good : recordsAccepted rs ≡ true → coordinatorAccepted cs ≡ true → allIssued rs cs ≡ true → Checked 0
+  unfolding checkConditions refusalOf
+  check-good e f g = rw (e, f, g)
