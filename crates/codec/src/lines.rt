@@ -5,6 +5,7 @@ ghost use Rattle.model.specs.Layouts.{layout};
 ghost use Rattle.model.specs.Lines.{rowOf, lineText, rowGood};
 ghost use Rattle.sheet_laws.specs.Lines.{lineBytes};
 use crate::fields;
+use crate::layouts;
 use types::Layout;
 
 // The numbers of a line over the row.
@@ -16,7 +17,7 @@ pub fn read_row(l: Layout, line: &[u8], row: &mut [u32])
     let n = row.len();
     let mut at = 0;
     for i in 0..n {
-        let c = fields::column(l, i);
+        let c = layouts::column(l, i);
         let end = at + c.width;
         row[i] = fields::number_of(fields::read_field(c, &line[at..end]));
         at = end;
@@ -32,7 +33,7 @@ pub fn write_row(l: Layout, row: &[u32], line: &mut [u8])
     let n = row.len();
     let mut at = 0;
     for i in 0..n {
-        let c = fields::column(l, i);
+        let c = layouts::column(l, i);
         let end = at + c.width;
         fields::write_field(c, row[i], &mut line[at..end]);
         at = end;
@@ -47,7 +48,7 @@ pub fn row_good(l: Layout, row: &[u32]) -> bool
 {
     let n = row.len();
     for i in 0..n {
-        if !fields::in_range(fields::column(l, i), row[i]) {
+        if !fields::in_range(layouts::column(l, i), row[i]) {
             return false;
         }
     }

@@ -24,7 +24,7 @@ use Rattle.model.specs.Records.{
   recordsAccepted,
   rows,
   allNumbers,
-  rowsAccepted
+  rowsAccepted,
 }
 use Rattle.model.specs.Coordinator.{
   Coordinator,
@@ -37,7 +37,7 @@ use Rattle.model.specs.Coordinator.{
   coordinatorAccepted,
   coordinatorFrom,
   coordinatorNumbers,
-  numbersAccepted
+  numbersAccepted,
 }
 use Rattle.model.specs.Refusals.{refusalOf}
 use Rattle.model.specs.SheetCalls.{
@@ -48,7 +48,7 @@ use Rattle.model.specs.SheetCalls.{
   readCoordinatorConditions,
   decisionsRead,
   writeCoordinatorConditions,
-  coordinatorWritten
+  coordinatorWritten,
 }
 use Rattle.sheet_laws.specs.Records.{ranged, good-ranged, sheet-written-read, records-read-written, lines-of-text}
 use Rattle.sheet_laws.specs.Numbers.{numbers-read-written, numbers-written-read, rows-of-numbers}

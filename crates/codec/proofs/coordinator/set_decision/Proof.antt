@@ -1,72 +1,53 @@
+-- The part of the line comes back as the new line, and nothing else was lent.
+use Prim.Native.Nat.{ℕ, _+_, _-_, _*_, _≤_}
+use mathlib.Core.Path.{_≡_, refl, sym, ap, _∙_}
+use mathlib.Core.Bool.{false}
+use mathlib.Core.List.{[], _∷_}
+use native.Mathlib.Omega.{arith}
+use lib.ListN.{length, length-take, length-drop}
+use borrow.Author.Needs.{needs}
 use Rattle.model.specs.Layouts.{layout, lineLayout}
 use Rattle.model.specs.Lines.{lineText}
 use Rattle.sheet_laws.specs.Lines.{lineBytes}
 use Rattle.codec.specs.Parts.{hasLine, line-ends, room-part}
-use Prim.Native.Nat.{ℕ, zero, suc, _+_, _-_, _*_, _/_, _%_, _≤_, _<_}
-use mathlib.Core.Path.{_≡_, refl, sym, ap, _∙_}
-use mathlib.Core.Bool.{Bool, true, false}
-use mathlib.Core.List.{List, [], _∷_, _++_}
-use native.Mathlib.Omega.{arith}
-use native.Mathlib.Numerals.{add-one}
-use lib.ListN.{length, getD, take, drop, set, length-take, length-drop, length-set, drop-of-length-le}
-use lib.Seq.{drop-cons}
-use lib.Dec.{ltb, leb, eqb}
-use borrow.Author.Tests.{lt-ltb, le-ltb, le-leb, lt-leb, eq-eqb, ne-eqb, not-true, not-false}
-use borrow.Author.Needs.{needs}
 use Rattle.codec.proofs.coordinator.set_decision.Statement.{statement}
 use Rattle.codec.proofs.coordinator.set_decision.Tie as tie
-use Rattle.codec.proofs.coordinator.set_decision.Reads as reads
-use Rattle.codec.proofs.coordinator.set_decision.Lts as lts
-use Rattle.codec.proofs.coordinator.decision_number.Reads as decision-number-reads
-use Rattle.codec.proofs.coordinator.has_line.Reads as has-line-reads
-use Rattle.codec.proofs.lines.write_row.Reads as write-row-reads
 
--- src/coordinator.rt:87:8
 has-line-requires : tie.Need-has-line-requires
 has-line-requires c κs = search needs
 
--- src/coordinator.rt:88:18
 mul-at : tie.Need-mul-at
 mul-at c = search needs
 
--- src/coordinator.rt:89:19
 add-end : tie.Need-add-end
 add-end c = search needs
 
--- src/coordinator.rt:90:23
 decision-number-requires : tie.Need-decision-number-requires
 decision-number-requires c κs = search needs
 
--- src/coordinator.rt:91:51
 slice-aggregate-write-row : tie.Need-slice-aggregate-write-row
 slice-aggregate-write-row c = search needs
 
--- src/coordinator.rt:91:57
 sub-write-row : tie.Need-sub-write-row
 sub-write-row c = search needs
 
--- src/coordinator.rt:91:57
 part-write-row-start : tie.Need-part-write-row-start
 part-write-row-start c = search needs
 
--- src/coordinator.rt:91:57
 part-write-row-end : tie.Need-part-write-row-end
 part-write-row-end c =
     let e : c .before .before .before .before .before .before .args .n * 15 + 15 ≤ length (c .before .before .before .before .before .before .args .coordinator .now) = line-ends (c .before .before .before .before .before .before .args .n) (c .before .before .before .before .before .before .args .coordinator .now) (sym (c .before .before .before .has-line .ensures) ∙ c .before .before .if1 .taken) in
     omega arith
 
--- src/coordinator.rt:91:9
 write-row-requires : tie.Need-write-row-requires
 unfolding layout lineLayout lineBytes
 write-row-requires c κs =
     let e : c .before .before .before .before .before .before .before .args .n * 15 + 15 ≤ length (c .before .before .before .before .before .before .before .args .coordinator .now) = line-ends (c .before .before .before .before .before .before .before .args .n) (c .before .before .before .before .before .before .before .args .coordinator .now) (sym (c .before .before .before .before .has-line .ensures) ∙ c .before .before .before .if1 .taken) in
     (refl, simp (length-take, length-drop) (omega arith))
 
--- src/coordinator.rt:84:1
 same-length : tie.Need-same-length
 same-length c = search needs
 
--- src/coordinator.rt:84:1
 returns : tie.Need-returns
 unfolding layout
 returns c =
@@ -76,11 +57,9 @@ returns c =
     room-part (hasLine (c .before .before .before .before .before .before .before .before .before .before .args .n) (c .before .before .before .before .before .before .before .before .before .before .args .coordinator .now)) 15 (c .before .before .before .before .before .before .before .before .before .before .args .n * 15) _ _ _ (sym (c .before .before .before .before .before .before .before .has-line .ensures) ∙ c .before .before .before .before .before .before .if1 .taken) k
     (c .before .before .write-row .ensures ∙ ap (λ (d : ℕ). lineText lineLayout (c .before .before .before .before .before .before .before .before .before .before .args .n ∷ d ∷ [])) (c .before .before .before .before .before .decision-number .ensures))
 
--- src/coordinator.rt:84:1
 same-length-2 : tie.Need-same-length-2
 same-length-2 c = search needs
 
--- src/coordinator.rt:84:1
 returns-2 : tie.Need-returns-2
 returns-2 c = let h : hasLine (c .before .before .before .before .args .n) (c .before .before .before .before .args .coordinator .now) ≡ false = sym (c .before .has-line .ensures) ∙ c .if1 .left in rw h
 

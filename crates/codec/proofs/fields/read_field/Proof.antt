@@ -1,67 +1,43 @@
-use Rattle.codec.specs.Turns.{read-figure, read-a-word}
-use Prim.Native.Nat.{ℕ, zero, suc, _+_, _-_, _*_, _/_, _%_, _≤_, _<_}
-use mathlib.Core.Path.{_≡_, refl, sym, ap, _∙_}
-use mathlib.Core.Bool.{Bool, true, false}
-use mathlib.Core.List.{List, [], _∷_, _++_}
-use native.Mathlib.Omega.{arith}
-use native.Mathlib.Numerals.{add-one}
-use lib.ListN.{length, getD, take, drop, set, length-take, length-drop, length-set, drop-of-length-le}
-use lib.Seq.{drop-cons}
-use lib.Dec.{ltb, leb, eqb}
-use borrow.Author.Tests.{lt-ltb, le-ltb, le-leb, lt-leb, eq-eqb, ne-eqb, not-true, not-false}
+-- By the kind: a figure is read as decimal, any other as one of its words.
+use mathlib.Core.Path.{refl, _∙_}
 use borrow.Author.Needs.{needs}
+use Rattle.codec.specs.Turns.{read-figure, read-a-word}
 use Rattle.codec.proofs.fields.read_field.Statement.{statement}
 use Rattle.codec.proofs.fields.read_field.Tie as tie
-use Rattle.codec.proofs.fields.read_field.Reads as reads
-use Rattle.codec.proofs.fields.read_field.Lts as lts
-use Rattle.decimal.proofs.read.Reads as read-reads
-use Rattle.codec.proofs.fields.read_word.Reads as read-word-reads
 
--- src/fields.rt:159:25
 enum-told : tie.Need-enum-told
 enum-told c = search needs
 
--- src/fields.rt:159:25
 read-requires : tie.Need-read-requires
 read-requires c κs = search needs
 
--- src/fields.rt:160:28
 enum-told-2 : tie.Need-enum-told-2
 enum-told-2 c = search needs
 
--- src/fields.rt:160:28
 read-word-requires : tie.Need-read-word-requires
 read-word-requires c κs = search needs
 
--- src/fields.rt:161:31
 enum-told-3 : tie.Need-enum-told-3
 enum-told-3 c = search needs
 
--- src/fields.rt:161:31
 read-word-requires-2 : tie.Need-read-word-requires-2
 read-word-requires-2 c κs = search needs
 
--- src/fields.rt:162:29
 enum-told-4 : tie.Need-enum-told-4
 enum-told-4 c = search needs
 
--- src/fields.rt:162:29
 read-word-requires-3 : tie.Need-read-word-requires-3
 read-word-requires-3 c κs = search needs
 
--- src/fields.rt:154:1
 returns : tie.Need-returns
 returns c = c .read .ensures ∙ read-figure (c .before .before .before .before .args .c) (c .before .before .before .before .args .s .now) (c .before .enum-told .given .1)
 
--- src/fields.rt:154:1
 returns-2 : tie.Need-returns-2
 returns-2 c = c .read-word .ensures ∙ read-a-word (c .before .before .before .before .args .c) (c .before .before .before .before .args .s .now) _ refl (c .before .enum-told2 .given .1)
 
--- src/fields.rt:154:1
 returns-3 : tie.Need-returns-3
 returns-3 c = c .read-word2 .ensures ∙ read-a-word (c .before .before .before .before .args .c) (c .before .before .before .before .args .s .now) _ refl (c .before .enum-told3 .given .1)
 
--- src/fields.rt:154:1
 returns-4 : tie.Need-returns-4
 returns-4 c = c .read-word3 .ensures ∙ read-a-word (c .before .before .before .before .args .c) (c .before .before .before .before .args .s .now) _ refl (c .before .enum-told4 .given .1)
 

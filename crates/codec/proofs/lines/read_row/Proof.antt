@@ -1,24 +1,14 @@
+-- Fields before i are in the row, and the bytes from `at` on are those of the others.
+use Prim.Native.Nat.{_-_}
+use mathlib.Core.Path.{_≡_, ap, _∙_}
+use native.Mathlib.Omega.{arith}
+use lib.ListN.{length}
+use borrow.Author.Needs.{needs}
 use Rattle.decimal.specs.Field.{number}
 use Rattle.model.specs.Layouts.{layout}
 use Rattle.codec.specs.Rows.{ReadTo, read-first, field-ends, read-next, read-last}
-use Prim.Native.Nat.{ℕ, zero, suc, _+_, _-_, _*_, _/_, _%_, _≤_, _<_}
-use mathlib.Core.Path.{_≡_, refl, sym, ap, _∙_}
-use mathlib.Core.Bool.{Bool, true, false}
-use mathlib.Core.List.{List, [], _∷_, _++_}
-use native.Mathlib.Omega.{arith}
-use native.Mathlib.Numerals.{add-one}
-use lib.ListN.{length, getD, take, drop, set, length-take, length-drop, length-set, drop-of-length-le}
-use lib.Seq.{drop-cons}
-use lib.Dec.{ltb, leb, eqb}
-use borrow.Author.Tests.{lt-ltb, le-ltb, le-leb, lt-leb, eq-eqb, ne-eqb, not-true, not-false}
-use borrow.Author.Needs.{needs}
 use Rattle.codec.proofs.lines.read_row.Statement.{statement}
 use Rattle.codec.proofs.lines.read_row.Tie as tie
-use Rattle.codec.proofs.lines.read_row.Reads as reads
-use Rattle.codec.proofs.lines.read_row.Lts as lts
-use Rattle.codec.proofs.fields.column.Reads as column-reads
-use Rattle.codec.proofs.fields.number_of.Reads as number-of-reads
-use Rattle.codec.proofs.fields.read_field.Reads as read-field-reads
 
 abbrev Inv-loop : tie.InvT-loop
 Inv-loop l line row₀ n at₀ i₀ row at i = (n ≡ length (layout l)) × ReadTo (layout l) line row at i
@@ -26,67 +16,52 @@ Inv-loop l line row₀ n at₀ i₀ row at i = (n ≡ length (layout l)) × Read
 abbrev μ-loop : tie.MeasureT-loop
 μ-loop l line row₀ n at₀ i₀ row at i = n - i
 
--- src/lines.rt:19:5
 loop-holds : tie.Need-loop-holds Inv-loop μ-loop
 loop-holds c = (c .before .before .pre .1, read-first _ _ _ (c .before .before .pre .0) (c .before .before .pre .1))
 
--- src/lines.rt:20:13
 column-requires : tie.Need-column-requires Inv-loop μ-loop
 column-requires c κs = search needs
 
--- src/lines.rt:21:19
 add-end : tie.Need-add-end Inv-loop μ-loop
 add-end c =
     let e = field-ends (layout (c .before .before .before .before .before .before .args .l)) (c .before .before .before .loop .i) (c .before .before .before .loop .at) (length (c .before .before .before .before .before .before .args .line .now)) (c .before .column .result) (omega arith) (c .before .column .ensures) (c .before .before .before .loop .inv .1 .left) in
     omega arith
 
--- src/lines.rt:22:58
 sub-read-field : tie.Need-sub-read-field Inv-loop μ-loop
 sub-read-field c = search needs
 
--- src/lines.rt:22:58
 part-read-field-start : tie.Need-part-read-field-start Inv-loop μ-loop
 part-read-field-start c = search needs
 
--- src/lines.rt:22:58
 part-read-field-end : tie.Need-part-read-field-end Inv-loop μ-loop
 part-read-field-end c =
     let e = field-ends (layout (c .before .before .before .before .before .before .args .l)) (c .before .before .before .loop .i) (c .before .before .before .loop .at) (length (c .before .before .before .before .before .before .args .line .now)) (c .before .column .result) (omega arith) (c .before .column .ensures) (c .before .before .before .loop .inv .1 .left) in
     omega arith
 
--- src/lines.rt:22:36
 read-field-requires : tie.Need-read-field-requires Inv-loop μ-loop
 read-field-requires c κs = search needs
 
--- src/lines.rt:22:18
 number-of-requires : tie.Need-number-of-requires Inv-loop μ-loop
 number-of-requires c κs = search needs
 
--- src/lines.rt:22:9
 mul-row : tie.Need-mul-row Inv-loop μ-loop
 mul-row c = search needs
 
--- src/lines.rt:22:9
 slice-write-row : tie.Need-slice-write-row Inv-loop μ-loop
 slice-write-row c = search needs
 
--- src/lines.rt:19:9
 add-i : tie.Need-add-i Inv-loop μ-loop
 add-i c = search needs
 
--- src/lines.rt:19:5
 loop-less : tie.Need-loop-less Inv-loop μ-loop
 loop-less c = search needs
 
--- src/lines.rt:19:5
 loop-again : tie.Need-loop-again Inv-loop μ-loop
 loop-again c = (c .before .before .before .before .before .before .loop .inv .0, read-next _ _ _ _ _ _ _ (omega arith) (c .before .before .before .before .column .ensures) (c .number-of .ensures ∙ ap number (c .before .read-field .ensures)) (c .before .before .before .before .before .before .loop .inv .1))
 
--- src/lines.rt:12:1
 same-length : tie.Need-same-length Inv-loop μ-loop
 same-length c = search needs
 
--- src/lines.rt:12:1
 returns : tie.Need-returns Inv-loop μ-loop
 returns c =
     read-last _ _ _ _ _ (omega arith) (c .before .loop .inv .1)

@@ -1,21 +1,14 @@
-use Rattle.sheets.specs.Search.{Passed, Agreed, pass-first, agree-first, agree-next, pass-met, pass-next, pass-last}
+-- No line before i begins so; line i agrees up to field f. A field that differs passes the line, and five that agree are a match.
 use mathlib.Core.Logic.{⊎-elim}
-use Prim.Native.Nat.{ℕ, zero, suc, _+_, _-_, _*_, _/_, _%_, _≤_, _<_}
-use mathlib.Core.Path.{_≡_, refl, sym, ap, _∙_}
-use mathlib.Core.Bool.{Bool, true, false}
-use mathlib.Core.List.{List, [], _∷_, _++_}
+use Prim.Native.Nat.{_-_, _/_, _≤_, _<_}
+use mathlib.Core.Path.{_≡_, refl, sym, _∙_}
 use native.Mathlib.Omega.{arith}
-use native.Mathlib.Numerals.{add-one}
-use lib.ListN.{length, getD, take, drop, set, length-take, length-drop, length-set, drop-of-length-le}
-use lib.Seq.{drop-cons}
-use lib.Dec.{ltb, leb, eqb}
-use borrow.Author.Tests.{lt-ltb, le-ltb, le-leb, lt-leb, eq-eqb, ne-eqb, not-true, not-false}
+use lib.ListN.{length}
+use borrow.Author.Tests.{not-true, not-false}
 use borrow.Author.Needs.{needs}
+use Rattle.sheets.specs.Search.{Passed, Agreed, pass-first, agree-first, agree-next, pass-met, pass-next, pass-last}
 use Rattle.sheets.proofs.lookup.find_line.Statement.{statement}
 use Rattle.sheets.proofs.lookup.find_line.Tie as tie
-use Rattle.sheets.proofs.lookup.find_line.Reads as reads
-use Rattle.sheets.proofs.lookup.find_line.Lts as lts
-use Rattle.sheets.proofs.lookup.same_field.Reads as same-field-reads
 
 abbrev Inv-loop : tie.InvT-loop
 Inv-loop records text n i₀ at f₀ i f = (i ≡ i₀) × Agreed records text i₀ f
@@ -29,47 +22,36 @@ Inv-lines records text n i₀ i = (n ≡ length records / 98) × Passed records 
 abbrev μ-lines : tie.MeasureT-lines
 μ-lines records text n i₀ i = n - i
 
--- src/lookup.rt:54:5
 lines-holds : tie.Need-lines-holds Inv-loop μ-loop Inv-lines μ-lines
 lines-holds c = (refl, pass-first _ _)
 
--- src/lookup.rt:55:18
 mul-at : tie.Need-mul-at Inv-loop μ-loop Inv-lines μ-lines
 mul-at c = search needs
 
--- src/lookup.rt:57:9
 loop-holds : tie.Need-loop-holds Inv-loop μ-loop Inv-lines μ-lines
 loop-holds c = (refl, agree-first _ _ _)
 
--- src/lookup.rt:58:17
 same-field-requires : tie.Need-same-field-requires Inv-loop μ-loop Inv-lines μ-lines
 same-field-requires c κs = (c .loop-test .taken, (omega arith, c .before .before .before .before .before .before .pre))
 
--- src/lookup.rt:59:17
 add-i : tie.Need-add-i Inv-loop μ-loop Inv-lines μ-lines
 add-i c = search needs
 
--- src/lookup.rt:54:5
 lines-less : tie.Need-lines-less Inv-loop μ-loop Inv-lines μ-lines
 lines-less c = search needs
 
--- src/lookup.rt:54:5
 lines-again : tie.Need-lines-again Inv-loop μ-loop Inv-lines μ-lines
 lines-again c = (c .before .before .before .before .before .lines .inv .0, rw (c .before .before .before .loop .inv .0) (pass-next _ _ _ (omega arith) (c .before .before .before .before .before .lines .inv .1) _ (c .before .before .loop-test .taken) (sym (c .before .same-field .ensures) ∙ not-true _ (c .if1 .taken))))
 
--- src/lookup.rt:62:13
 add-f : tie.Need-add-f Inv-loop μ-loop Inv-lines μ-lines
 add-f c = search needs
 
--- src/lookup.rt:57:9
 loop-less : tie.Need-loop-less Inv-loop μ-loop Inv-lines μ-lines
 loop-less c = search needs
 
--- src/lookup.rt:57:9
 loop-again : tie.Need-loop-again Inv-loop μ-loop Inv-lines μ-lines
 loop-again c = (c .before .before .before .loop .inv .0, agree-next _ _ _ _ (c .before .before .loop-test .taken) (sym (c .before .same-field .ensures) ∙ not-false _ (c .if1 .left)) (c .before .before .before .loop .inv .1))
 
--- src/lookup.rt:67:9
 returns : tie.Need-returns Inv-loop μ-loop Inv-lines μ-lines
 returns c =
     ⊎-elim (λ w. absurd (omega arith))
@@ -78,7 +60,6 @@ returns c =
     rw (w .3, w .1 .inv .0) (pass-met _ _ _ here (c .before .before .lines .inv .1) _ (w .2 .left) (w .1 .inv .1)))
     (c .before .lines-test .came)
 
--- src/lookup.rt:48:1
 returns-2 : tie.Need-returns-2 Inv-loop μ-loop Inv-lines μ-lines
 returns-2 c =
     ⊎-elim

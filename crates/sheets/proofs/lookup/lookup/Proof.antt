@@ -1,84 +1,59 @@
-use Rattle.sheets.specs.Answers.{lookup-bad, lookup-out, lookup-none, lookup-met, found-fits}
-use Prim.Native.Nat.{ℕ, zero, suc, _+_, _-_, _*_, _/_, _%_, _≤_, _<_}
-use mathlib.Core.Path.{_≡_, refl, sym, ap, _∙_}
-use mathlib.Core.Bool.{Bool, true, false}
-use mathlib.Core.List.{List, [], _∷_, _++_}
+-- Case by case in the order of the refusals; a place that was found is within the sheet.
+use Prim.Native.Nat.{ℕ, _+_, _-_, _*_}
+use mathlib.Core.Path.{_≡_, sym, ap, _∙_}
 use native.Mathlib.Omega.{arith}
-use native.Mathlib.Numerals.{add-one}
-use lib.ListN.{length, getD, take, drop, set, length-take, length-drop, length-set, drop-of-length-le}
-use lib.Seq.{drop-cons}
-use lib.Dec.{ltb, leb, eqb}
-use borrow.Author.Tests.{lt-ltb, le-ltb, le-leb, lt-leb, eq-eqb, ne-eqb, not-true, not-false}
+use lib.ListN.{take, drop}
+use borrow.Author.Tests.{not-true, not-false}
 use borrow.Author.Needs.{needs}
+use Rattle.sheets.specs.Answers.{lookup-bad, lookup-out, lookup-none, lookup-met, found-fits}
 use Rattle.sheets.proofs.lookup.lookup.Statement.{statement}
 use Rattle.sheets.proofs.lookup.lookup.Tie as tie
-use Rattle.sheets.proofs.lookup.lookup.Reads as reads
-use Rattle.sheets.proofs.lookup.lookup.Lts as lts
-use Rattle.record_check.proofs.records_ok.Reads as records-ok-reads
-use Rattle.sheets.proofs.lookup.find.Reads as find-reads
-use Rattle.sheets.proofs.lookup.key_in_range.Reads as key-in-range-reads
 
--- src/lookup.rt:104:9
 records-ok-requires : tie.Need-records-ok-requires
 records-ok-requires c κs = search needs
 
--- src/lookup.rt:105:9
 slice-aggregate-result : tie.Need-slice-aggregate-result
 slice-aggregate-result c = search needs
 
--- src/lookup.rt:105:9
 returns : tie.Need-returns
 returns c = lookup-bad (c .before .before .before .before .args .records .now) (c .before .before .before .before .args .key) (sym (c .before .before .records-ok .ensures) ∙ not-true _ (c .before .if1 .taken)) .0
 
--- src/lookup.rt:107:9
 key-in-range-requires : tie.Need-key-in-range-requires
 key-in-range-requires c κs = search needs
 
--- src/lookup.rt:108:9
 slice-aggregate-result-2 : tie.Need-slice-aggregate-result-2
 slice-aggregate-result-2 c = search needs
 
--- src/lookup.rt:108:9
 returns-2 : tie.Need-returns-2
 returns-2 c = lookup-out (c .before .before .before .before .before .before .args .records .now) (c .before .before .before .before .before .before .args .key) (sym (c .before .before .before .before .records-ok .ensures) ∙ not-false _ (c .before .before .before .if1 .left)) (sym (c .before .before .key-in-range .ensures) ∙ not-true _ (c .before .if2 .taken)) .0
 
--- src/lookup.rt:110:11
 find-requires : tie.Need-find-requires
 find-requires c κs = (sym (c .before .before .before .records-ok .ensures) ∙ not-false _ (c .before .before .if1 .left), sym (c .before .key-in-range .ensures) ∙ not-false _ (c .if2 .left))
 
--- src/lookup.rt:111:19
 enum-known-i : tie.Need-enum-known-i
 enum-known-i c = search needs
 
--- src/lookup.rt:112:22
 mul-at : tie.Need-mul-at
 mul-at c = let e = found-fits (c .before .before .before .before .before .before .before .before .before .args .records .now) (c .before .before .before .before .before .before .before .before .before .args .key) _ (sym (c .before .before .before .find .ensures) ∙ c .before .i .given .1) in omega arith
 
--- src/lookup.rt:113:23
 add-end : tie.Need-add-end
 add-end c = let e = found-fits (c .before .before .before .before .before .before .before .before .before .args .records .now) (c .before .before .before .before .before .before .before .before .before .args .key) _ (sym (c .before .before .before .find .ensures) ∙ c .before .i .given .1) in omega arith
 
--- src/lookup.rt:114:13
 sub-result : tie.Need-sub-result
 sub-result c = search needs
 
--- src/lookup.rt:114:13
 part-result-start : tie.Need-part-result-start
 part-result-start c = search needs
 
--- src/lookup.rt:114:13
 part-result-end : tie.Need-part-result-end
 part-result-end c = let e = found-fits (c .before .before .before .before .before .before .before .before .before .args .records .now) (c .before .before .before .before .before .before .before .before .before .args .key) _ (sym (c .before .before .before .find .ensures) ∙ c .before .i .given .1) in omega arith
 
--- src/lookup.rt:116:27
 enum-told : tie.Need-enum-told
 enum-told c = search needs
 
--- src/lookup.rt:116:27
 slice-aggregate-result-3 : tie.Need-slice-aggregate-result-3
 slice-aggregate-result-3 c = search needs
 
--- src/lookup.rt:101:1
 returns-3 : tie.Need-returns-3
 returns-3 c =
     let i = c .before .before .i .given .0 .0 in
@@ -86,7 +61,6 @@ returns-3 c =
     ap (λ (n : ℕ). take n (drop (i * 98) (c .before .before .before .before .before .before .before .before .before .before .args .records .now))) w
     ∙ lookup-met (c .before .before .before .before .before .before .before .before .before .before .args .records .now) (c .before .before .before .before .before .before .before .before .before .before .args .key) i (sym (c .before .before .before .before .before .before .before .before .records-ok .ensures) ∙ not-false _ (c .before .before .before .before .before .before .before .if1 .left)) (sym (c .before .before .before .before .before .before .key-in-range .ensures) ∙ not-false _ (c .before .before .before .before .before .if2 .left)) (sym (c .before .before .before .before .find .ensures) ∙ c .before .before .i .given .1) .0
 
--- src/lookup.rt:101:1
 returns-4 : tie.Need-returns-4
 returns-4 c = lookup-none (c .before .before .before .before .before .before .before .before .before .args .records .now) (c .before .before .before .before .before .before .before .before .before .args .key) (sym (c .before .before .before .before .before .before .before .records-ok .ensures) ∙ not-false _ (c .before .before .before .before .before .before .if1 .left)) (sym (c .before .before .before .before .before .key-in-range .ensures) ∙ not-false _ (c .before .before .before .before .if2 .left)) (sym (c .before .before .before .find .ensures) ∙ c .before .enum-told .given .1) .0
 

@@ -1,21 +1,9 @@
-use Rattle.model.specs.Records.{keyNumbers}
-use Prim.Native.Nat.{ℕ, zero, suc, _+_, _-_, _*_, _/_, _%_, _≤_, _<_}
-use mathlib.Core.Path.{_≡_, refl, sym, ap, _∙_}
-use mathlib.Core.Bool.{Bool, true, false}
-use mathlib.Core.List.{List, [], _∷_, _++_}
-use native.Mathlib.Omega.{arith}
-use native.Mathlib.Numerals.{add-one}
-use lib.ListN.{length, getD, take, drop, set, length-take, length-drop, length-set, drop-of-length-le}
-use lib.Seq.{drop-cons}
-use lib.Dec.{ltb, leb, eqb}
-use borrow.Author.Tests.{lt-ltb, le-ltb, le-leb, lt-leb, eq-eqb, ne-eqb, not-true, not-false}
+-- Field by field.
 use borrow.Author.Needs.{needs}
+use Rattle.model.specs.Records.{keyNumbers}
 use Rattle.sheets.proofs.lookup.numbers_of.Statement.{statement}
 use Rattle.sheets.proofs.lookup.numbers_of.Tie as tie
-use Rattle.sheets.proofs.lookup.numbers_of.Reads as reads
-use Rattle.sheets.proofs.lookup.numbers_of.Lts as lts
 
--- src/lookup.rt:20:1
 returns : tie.Need-returns
 unfolding keyNumbers
 returns c = search needs

@@ -1,23 +1,15 @@
+-- Rows before i are in the target, and those from i on are still to come.
+use Prim.Native.Nat.{_+_, _-_, _*_, _/_}
+use mathlib.Core.Path.{_≡_, refl, _∙_}
+use native.Mathlib.Omega.{arith}
+use lib.ListN.{length, length-take, length-drop}
+use borrow.Author.Needs.{needs}
 use Rattle.model.specs.Layouts.{layout, recordLayout}
 use Rattle.model.specs.Lines.{rowOf, linesOf}
 use Rattle.sheet_laws.specs.Lines.{lineBytes}
 use Rattle.sheets.specs.Filling.{MadeTo, made-first, made-next, made-last, made-room}
-use Prim.Native.Nat.{ℕ, zero, suc, _+_, _-_, _*_, _/_, _%_, _≤_, _<_}
-use mathlib.Core.Path.{_≡_, refl, sym, ap, _∙_}
-use mathlib.Core.Bool.{Bool, true, false}
-use mathlib.Core.List.{List, [], _∷_, _++_}
-use native.Mathlib.Omega.{arith}
-use native.Mathlib.Numerals.{add-one}
-use lib.ListN.{length, getD, take, drop, set, length-take, length-drop, length-set, drop-of-length-le}
-use lib.Seq.{drop-cons}
-use lib.Dec.{ltb, leb, eqb}
-use borrow.Author.Tests.{lt-ltb, le-ltb, le-leb, lt-leb, eq-eqb, ne-eqb, not-true, not-false}
-use borrow.Author.Needs.{needs}
 use Rattle.sheets.proofs.numbers.fill_numbers.Statement.{statement}
 use Rattle.sheets.proofs.numbers.fill_numbers.Tie as tie
-use Rattle.sheets.proofs.numbers.fill_numbers.Reads as reads
-use Rattle.sheets.proofs.numbers.fill_numbers.Lts as lts
-use Rattle.codec.proofs.lines.read_row.Reads as read-row-reads
 
 abbrev Inv-loop : tie.InvT-loop
 Inv-loop records numbers₀ n i₀ numbers i = (n ≡ length records / 98) × MadeTo 98 15 (rowOf recordLayout) records n numbers i
@@ -25,72 +17,56 @@ Inv-loop records numbers₀ n i₀ numbers i = (n ≡ length records / 98) × Ma
 abbrev μ-loop : tie.MeasureT-loop
 μ-loop records numbers₀ n i₀ numbers i = n - i
 
--- src/numbers.rt:19:5
 loop-holds : tie.Need-loop-holds Inv-loop μ-loop
 loop-holds c = (refl, made-first 98 15 (rowOf recordLayout) _ _ _ (c .before .before .pre))
 
--- src/numbers.rt:20:18
 mul-at : tie.Need-mul-at Inv-loop μ-loop
 mul-at c = search needs
 
--- src/numbers.rt:21:19
 add-end : tie.Need-add-end Inv-loop μ-loop
 add-end c = search needs
 
--- src/numbers.rt:22:18
 mul-to : tie.Need-mul-to Inv-loop μ-loop
 mul-to c = search needs
 
--- src/numbers.rt:23:20
 add-past : tie.Need-add-past Inv-loop μ-loop
 add-past c = search needs
 
--- src/numbers.rt:24:52
 sub-read-row : tie.Need-sub-read-row Inv-loop μ-loop
 sub-read-row c = search needs
 
--- src/numbers.rt:24:52
 part-read-row-start : tie.Need-part-read-row-start Inv-loop μ-loop
 part-read-row-start c = search needs
 
--- src/numbers.rt:24:52
 part-read-row-end : tie.Need-part-read-row-end Inv-loop μ-loop
 part-read-row-end c = search needs
 
--- src/numbers.rt:24:71
 mul-read-row : tie.Need-mul-read-row Inv-loop μ-loop
 mul-read-row c = search needs
 
--- src/numbers.rt:24:71
 sub-read-row-2 : tie.Need-sub-read-row-2 Inv-loop μ-loop
 sub-read-row-2 c = search needs
 
--- src/numbers.rt:24:71
 part-read-row-start-2 : tie.Need-part-read-row-start-2 Inv-loop μ-loop
 part-read-row-start-2 c = search needs
 
--- src/numbers.rt:24:71
 part-read-row-end-2 : tie.Need-part-read-row-end-2 Inv-loop μ-loop
 part-read-row-end-2 c =
     let r = made-room 98 15 (rowOf recordLayout) (c .before .before .before .before .before .args .records .now) (length (c .before .before .before .before .before .args .records .now) / 98) (c .before .before .loop .numbers) (c .before .before .loop .i) (c .before .before .loop .inv .1) in
     omega arith
 
--- src/numbers.rt:24:9
 read-row-requires : tie.Need-read-row-requires Inv-loop μ-loop
 unfolding layout recordLayout lineBytes
 read-row-requires c κs =
     let r = made-room 98 15 (rowOf recordLayout) (c .before .before .before .before .before .before .args .records .now) (length (c .before .before .before .before .before .before .args .records .now) / 98) (c .before .before .before .loop .numbers) (c .before .before .before .loop .i) (c .before .before .before .loop .inv .1) in
     (simp (length-take, length-drop) (omega arith), simp (length-take, length-drop) (omega arith))
 
--- src/numbers.rt:19:9
 add-i : tie.Need-add-i Inv-loop μ-loop
 add-i c = search needs
 
--- src/numbers.rt:19:5
 loop-less : tie.Need-loop-less Inv-loop μ-loop
 loop-less c = search needs
 
--- src/numbers.rt:19:5
 loop-again : tie.Need-loop-again Inv-loop μ-loop
 unfolding layout
 loop-again c =
@@ -99,13 +75,11 @@ loop-again c =
     c .before .before .read-row .kept .1 .1 .0 ∙ simp (length-take, length-drop) (omega arith) in
     (c .before .before .before .before .before .before .loop .inv .0, made-next 98 15 (rowOf recordLayout) _ _ _ _ (c .before .before .before .before .before .before .loop .i) (c .before .before .before .before .before .loop-test .taken) k (c .before .before .read-row .ensures) (c .before .before .before .before .before .before .loop .inv .1))
 
--- src/numbers.rt:14:1
 same-length : tie.Need-same-length Inv-loop μ-loop
 same-length c =
     let r = made-room 98 15 (rowOf recordLayout) (c .before .before .before .before .args .records .now) (length (c .before .before .before .before .args .records .now) / 98) (c .before .loop .numbers) (c .before .loop .i) (c .before .loop .inv .1) in
     omega arith
 
--- src/numbers.rt:14:1
 returns : tie.Need-returns Inv-loop μ-loop
 unfolding linesOf
 returns c = made-last 98 15 (rowOf recordLayout) (c .before .before .before .before .args .records .now) (length (c .before .before .before .before .args .records .now) / 98) (c .before .loop .numbers) (c .before .loop .i) (c .loop-test .left) (c .before .loop .inv .1)

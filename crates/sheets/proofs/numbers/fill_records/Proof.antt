@@ -1,24 +1,16 @@
+-- Lines before i are in the target, and those from i on are still to come.
+use Prim.Native.Nat.{_+_, _-_, _*_, _/_}
+use mathlib.Core.Path.{_≡_, refl, _∙_}
+use native.Mathlib.Omega.{arith}
+use lib.ListN.{length, length-take, length-drop}
+use borrow.Author.Needs.{needs}
 use Rattle.model.specs.Layouts.{layout, recordLayout}
 use Rattle.model.specs.Lines.{lineText}
 use Rattle.model.specs.Records.{rows}
 use Rattle.sheet_laws.specs.Lines.{lineBytes}
 use Rattle.sheets.specs.Filling.{MadeTo, made-first, made-next, made-last, made-room}
-use Prim.Native.Nat.{ℕ, zero, suc, _+_, _-_, _*_, _/_, _%_, _≤_, _<_}
-use mathlib.Core.Path.{_≡_, refl, sym, ap, _∙_}
-use mathlib.Core.Bool.{Bool, true, false}
-use mathlib.Core.List.{List, [], _∷_, _++_}
-use native.Mathlib.Omega.{arith}
-use native.Mathlib.Numerals.{add-one}
-use lib.ListN.{length, getD, take, drop, set, length-take, length-drop, length-set, drop-of-length-le}
-use lib.Seq.{drop-cons}
-use lib.Dec.{ltb, leb, eqb}
-use borrow.Author.Tests.{lt-ltb, le-ltb, le-leb, lt-leb, eq-eqb, ne-eqb, not-true, not-false}
-use borrow.Author.Needs.{needs}
 use Rattle.sheets.proofs.numbers.fill_records.Statement.{statement}
 use Rattle.sheets.proofs.numbers.fill_records.Tie as tie
-use Rattle.sheets.proofs.numbers.fill_records.Reads as reads
-use Rattle.sheets.proofs.numbers.fill_records.Lts as lts
-use Rattle.codec.proofs.lines.write_row.Reads as write-row-reads
 
 abbrev Inv-loop : tie.InvT-loop
 Inv-loop numbers records₀ n i₀ records i = (n ≡ length numbers / 15) × MadeTo 15 98 (lineText recordLayout) numbers n records i
@@ -26,72 +18,56 @@ Inv-loop numbers records₀ n i₀ records i = (n ≡ length numbers / 15) × Ma
 abbrev μ-loop : tie.MeasureT-loop
 μ-loop numbers records₀ n i₀ records i = n - i
 
--- src/numbers.rt:34:5
 loop-holds : tie.Need-loop-holds Inv-loop μ-loop
 loop-holds c = (refl, made-first 15 98 (lineText recordLayout) _ _ _ (c .before .before .pre))
 
--- src/numbers.rt:35:20
 mul-from : tie.Need-mul-from Inv-loop μ-loop
 mul-from c = search needs
 
--- src/numbers.rt:36:19
 add-end : tie.Need-add-end Inv-loop μ-loop
 add-end c = search needs
 
--- src/numbers.rt:37:18
 mul-at : tie.Need-mul-at Inv-loop μ-loop
 mul-at c = search needs
 
--- src/numbers.rt:38:20
 add-past : tie.Need-add-past Inv-loop μ-loop
 add-past c = search needs
 
--- src/numbers.rt:39:53
 mul-write-row : tie.Need-mul-write-row Inv-loop μ-loop
 mul-write-row c = search needs
 
--- src/numbers.rt:39:53
 sub-write-row : tie.Need-sub-write-row Inv-loop μ-loop
 sub-write-row c = search needs
 
--- src/numbers.rt:39:53
 part-write-row-start : tie.Need-part-write-row-start Inv-loop μ-loop
 part-write-row-start c = search needs
 
--- src/numbers.rt:39:53
 part-write-row-end : tie.Need-part-write-row-end Inv-loop μ-loop
 part-write-row-end c = search needs
 
--- src/numbers.rt:39:74
 sub-write-row-2 : tie.Need-sub-write-row-2 Inv-loop μ-loop
 sub-write-row-2 c = search needs
 
--- src/numbers.rt:39:74
 part-write-row-start-2 : tie.Need-part-write-row-start-2 Inv-loop μ-loop
 part-write-row-start-2 c = search needs
 
--- src/numbers.rt:39:74
 part-write-row-end-2 : tie.Need-part-write-row-end-2 Inv-loop μ-loop
 part-write-row-end-2 c =
     let r = made-room 15 98 (lineText recordLayout) (c .before .before .before .before .before .args .numbers .now) (length (c .before .before .before .before .before .args .numbers .now) / 15) (c .before .before .loop .records) (c .before .before .loop .i) (c .before .before .loop .inv .1) in
     omega arith
 
--- src/numbers.rt:39:9
 write-row-requires : tie.Need-write-row-requires Inv-loop μ-loop
 unfolding layout recordLayout lineBytes
 write-row-requires c κs =
     let r = made-room 15 98 (lineText recordLayout) (c .before .before .before .before .before .before .args .numbers .now) (length (c .before .before .before .before .before .before .args .numbers .now) / 15) (c .before .before .before .loop .records) (c .before .before .before .loop .i) (c .before .before .before .loop .inv .1) in
     (simp (length-take, length-drop) (omega arith), simp (length-take, length-drop) (omega arith))
 
--- src/numbers.rt:34:9
 add-i : tie.Need-add-i Inv-loop μ-loop
 add-i c = search needs
 
--- src/numbers.rt:34:5
 loop-less : tie.Need-loop-less Inv-loop μ-loop
 loop-less c = search needs
 
--- src/numbers.rt:34:5
 loop-again : tie.Need-loop-again Inv-loop μ-loop
 unfolding layout
 loop-again c =
@@ -100,13 +76,11 @@ loop-again c =
     c .before .before .write-row .kept .1 .1 .0 ∙ simp (length-take, length-drop) (omega arith) in
     (c .before .before .before .before .before .before .loop .inv .0, made-next 15 98 (lineText recordLayout) _ _ _ _ (c .before .before .before .before .before .before .loop .i) (c .before .before .before .before .before .loop-test .taken) k (c .before .before .write-row .ensures) (c .before .before .before .before .before .before .loop .inv .1))
 
--- src/numbers.rt:29:1
 same-length : tie.Need-same-length Inv-loop μ-loop
 same-length c =
     let r = made-room 15 98 (lineText recordLayout) (c .before .before .before .before .args .numbers .now) (length (c .before .before .before .before .args .numbers .now) / 15) (c .before .loop .records) (c .before .loop .i) (c .before .loop .inv .1) in
     omega arith
 
--- src/numbers.rt:29:1
 returns : tie.Need-returns Inv-loop μ-loop
 unfolding rows
 returns c = made-last 15 98 (lineText recordLayout) (c .before .before .before .before .args .numbers .now) (length (c .before .before .before .before .args .numbers .now) / 15) (c .before .loop .records) (c .before .loop .i) (c .loop-test .left) (c .before .loop .inv .1)

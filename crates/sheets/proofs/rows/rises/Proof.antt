@@ -1,90 +1,60 @@
-use mathlib.Core.Path.{ap₂}
+-- The two rows lent are row i and the next; the last row comes before none.
+use mathlib.Core.Path.{ap₂, ap, _∙_}
+use borrow.Author.Needs.{needs}
 use Rattle.types.specs.declared.Record.{Record}
 use Rattle.model.specs.Records.{recordOf, keyLess}
-use Rattle.sheets.specs.RowsPass.{rowAt, row-part, row-part-next, before-none, before-next}
-use Prim.Native.Nat.{ℕ, zero, suc, _+_, _-_, _*_, _/_, _%_, _≤_, _<_}
-use mathlib.Core.Path.{_≡_, refl, sym, ap, _∙_}
-use mathlib.Core.Bool.{Bool, true, false}
-use mathlib.Core.List.{List, [], _∷_, _++_}
-use native.Mathlib.Omega.{arith}
-use native.Mathlib.Numerals.{add-one}
-use lib.ListN.{length, getD, take, drop, set, length-take, length-drop, length-set, drop-of-length-le}
-use lib.Seq.{drop-cons}
-use lib.Dec.{ltb, leb, eqb}
-use borrow.Author.Tests.{lt-ltb, le-ltb, le-leb, lt-leb, eq-eqb, ne-eqb, not-true, not-false}
-use borrow.Author.Needs.{needs}
+use Rattle.sheets.specs.RowsPass.{row-part, row-part-next, before-none, before-next}
 use Rattle.sheets.proofs.rows.rises.Statement.{statement}
 use Rattle.sheets.proofs.rows.rises.Tie as tie
-use Rattle.sheets.proofs.rows.rises.Reads as reads
-use Rattle.sheets.proofs.rows.rises.Lts as lts
-use Rattle.codec.proofs.records.record_of.Reads as record-of-reads
-use Rattle.sheets.proofs.rules.key_less.Reads as key-less-reads
 
--- src/rows.rt:29:30
 add-if1 : tie.Need-add-if1
 add-if1 c = search needs
 
--- src/rows.rt:30:9
 returns : tie.Need-returns
 returns c = before-none (c .before .before .args .numbers .now) (c .before .before .args .i) (c .if1 .taken)
 
--- src/rows.rt:32:14
 mul-at : tie.Need-mul-at
 mul-at c = search needs
 
--- src/rows.rt:33:15
 add-mid : tie.Need-add-mid
 add-mid c = search needs
 
--- src/rows.rt:34:15
 add-end : tie.Need-add-end
 add-end c = search needs
 
--- src/rows.rt:35:39
 mul-record-of : tie.Need-mul-record-of
 mul-record-of c = search needs
 
--- src/rows.rt:35:39
 sub-record-of : tie.Need-sub-record-of
 sub-record-of c = search needs
 
--- src/rows.rt:35:39
 part-record-of-start : tie.Need-part-record-of-start
 part-record-of-start c = search needs
 
--- src/rows.rt:35:39
 part-record-of-end : tie.Need-part-record-of-end
 part-record-of-end c = search needs
 
--- src/rows.rt:35:9
 record-of-requires : tie.Need-record-of-requires
 record-of-requires c κs = search needs
 
--- src/rows.rt:36:39
 mul-record-of-2 : tie.Need-mul-record-of-2
 mul-record-of-2 c = search needs
 
--- src/rows.rt:36:39
 sub-record-of-2 : tie.Need-sub-record-of-2
 sub-record-of-2 c = search needs
 
--- src/rows.rt:36:39
 part-record-of-start-2 : tie.Need-part-record-of-start-2
 part-record-of-start-2 c = search needs
 
--- src/rows.rt:36:39
 part-record-of-end-2 : tie.Need-part-record-of-end-2
 part-record-of-end-2 c = search needs
 
--- src/rows.rt:36:9
 record-of-requires-2 : tie.Need-record-of-requires-2
 record-of-requires-2 c κs = search needs
 
--- src/rows.rt:37:5
 key-less-requires : tie.Need-key-less-requires
 key-less-requires c κs = search needs
 
--- src/rows.rt:25:1
 returns-2 : tie.Need-returns-2
 returns-2 c =
     let v = c .before .before .before .before .before .before .before .args .numbers .now in

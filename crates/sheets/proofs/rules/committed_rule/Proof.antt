@@ -1,26 +1,12 @@
-use Rattle.model.specs.Records.{committedRule}
-use Prim.Native.Nat.{ℕ, zero, suc, _+_, _-_, _*_, _/_, _%_, _≤_, _<_}
-use mathlib.Core.Path.{_≡_, refl, sym, ap, _∙_}
-use mathlib.Core.Bool.{Bool, true, false}
-use mathlib.Core.List.{List, [], _∷_, _++_}
-use native.Mathlib.Omega.{arith}
-use native.Mathlib.Numerals.{add-one}
-use lib.ListN.{length, getD, take, drop, set, length-take, length-drop, length-set, drop-of-length-le}
-use lib.Seq.{drop-cons}
-use lib.Dec.{ltb, leb, eqb}
-use borrow.Author.Tests.{lt-ltb, le-ltb, le-leb, lt-leb, eq-eqb, ne-eqb, not-true, not-false}
+-- The code is the definition, with the before image judged by `is_zero`.
 use borrow.Author.Needs.{needs}
+use Rattle.model.specs.Records.{committedRule}
 use Rattle.sheets.proofs.rules.committed_rule.Statement.{statement}
 use Rattle.sheets.proofs.rules.committed_rule.Tie as tie
-use Rattle.sheets.proofs.rules.committed_rule.Reads as reads
-use Rattle.sheets.proofs.rules.committed_rule.Lts as lts
-use Rattle.sheets.proofs.rules.is_zero.Reads as is-zero-reads
 
--- src/rules.rt:23:30
 is-zero-requires : tie.Need-is-zero-requires
 is-zero-requires c κs = search needs
 
--- src/rules.rt:20:1
 returns : tie.Need-returns
 unfolding committedRule
 returns c = rw (c .before .is-zero .ensures)

@@ -1,21 +1,9 @@
-use Rattle.model.specs.Records.{isZero}
-use Prim.Native.Nat.{ℕ, zero, suc, _+_, _-_, _*_, _/_, _%_, _≤_, _<_}
-use mathlib.Core.Path.{_≡_, refl, sym, ap, _∙_}
-use mathlib.Core.Bool.{Bool, true, false}
-use mathlib.Core.List.{List, [], _∷_, _++_}
-use native.Mathlib.Omega.{arith}
-use native.Mathlib.Numerals.{add-one}
-use lib.ListN.{length, getD, take, drop, set, length-take, length-drop, length-set, drop-of-length-le}
-use lib.Seq.{drop-cons}
-use lib.Dec.{ltb, leb, eqb}
-use borrow.Author.Tests.{lt-ltb, le-ltb, le-leb, lt-leb, eq-eqb, ne-eqb, not-true, not-false}
+-- The code is the definition.
 use borrow.Author.Needs.{needs}
+use Rattle.model.specs.Records.{isZero}
 use Rattle.sheets.proofs.rules.is_zero.Statement.{statement}
 use Rattle.sheets.proofs.rules.is_zero.Tie as tie
-use Rattle.sheets.proofs.rules.is_zero.Reads as reads
-use Rattle.sheets.proofs.rules.is_zero.Lts as lts
 
--- src/rules.rt:8:1
 returns : tie.Need-returns
 unfolding isZero
 returns c = search needs

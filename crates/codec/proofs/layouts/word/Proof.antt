@@ -1,109 +1,83 @@
+-- By the kind and the number; past the last word there are spaces.
+use Prim.Native.Nat.{_≤_}
+use mathlib.Core.Path.{sym}
+use native.Mathlib.Omega.{arith}
+use lib.ListN.{List·getD-eq-default}
+use borrow.Author.Needs.{needs}
 use Rattle.types.specs.declared.Kind.the-variants.{StateWord, DecisionWord, UnitLetter}
 use Rattle.lists.specs.Bytes.{bytes}
 use Rattle.model.specs.Layouts.{words}
-use Prim.Native.Nat.{ℕ, zero, suc, _+_, _-_, _*_, _/_, _%_, _≤_, _<_}
-use mathlib.Core.Path.{_≡_, refl, sym, ap, _∙_}
-use mathlib.Core.Bool.{Bool, true, false}
-use mathlib.Core.List.{List, [], _∷_, _++_}
-use native.Mathlib.Omega.{arith}
-use native.Mathlib.Numerals.{add-one}
-use lib.ListN.{length, getD, take, drop, set, length-take, length-drop, length-set, drop-of-length-le, List·getD-eq-default}
-use lib.Seq.{drop-cons}
-use lib.Dec.{ltb, leb, eqb}
-use borrow.Author.Tests.{lt-ltb, le-ltb, le-leb, lt-leb, eq-eqb, ne-eqb, not-true, not-false}
-use borrow.Author.Needs.{needs}
-use Rattle.codec.proofs.fields.word.Statement.{statement}
-use Rattle.codec.proofs.fields.word.Tie as tie
-use Rattle.codec.proofs.fields.word.Reads as reads
-use Rattle.codec.proofs.fields.word.Lts as lts
+use Rattle.codec.proofs.layouts.word.Statement.{statement}
+use Rattle.codec.proofs.layouts.word.Tie as tie
 
--- src/fields.rt:82:28
 enum-told : tie.Need-enum-told
 enum-told c = search needs
 
--- src/fields.rt:88:31
 enum-told-2 : tie.Need-enum-told-2
 enum-told-2 c = search needs
 
--- src/fields.rt:94:29
 enum-told-3 : tie.Need-enum-told-3
 enum-told-3 c = search needs
 
--- src/fields.rt:102:26
 enum-told-4 : tie.Need-enum-told-4
 enum-told-4 c = search needs
 
--- src/fields.rt:78:1
 returns : tie.Need-returns
 unfolding words bytes
 returns c = rw (c .before .before .before .enum-told .given .1, c .before .before .match2 .keys1)
 
--- src/fields.rt:78:1
 returns-2 : tie.Need-returns-2
 unfolding words bytes
 returns-2 c = rw (c .before .before .before .enum-told .given .1, c .before .before .match2 .keys2)
 
--- src/fields.rt:78:1
 returns-3 : tie.Need-returns-3
 unfolding words bytes
 returns-3 c = rw (c .before .before .before .enum-told .given .1, c .before .before .match2 .keys3)
 
--- src/fields.rt:78:1
 returns-4 : tie.Need-returns-4
 unfolding words bytes
 returns-4 c = let l : 3 ≤ c .before .before .before .before .before .args .n = omega arith in rw (c .before .before .before .enum-told .given .1) (sym (List·getD-eq-default (words StateWord) (bytes "          ") l))
 
--- src/fields.rt:78:1
 returns-5 : tie.Need-returns-5
 unfolding words bytes
 returns-5 c = rw (c .before .before .before .enum-told2 .given .1, c .before .before .match3 .keys1)
 
--- src/fields.rt:78:1
 returns-6 : tie.Need-returns-6
 unfolding words bytes
 returns-6 c = rw (c .before .before .before .enum-told2 .given .1, c .before .before .match3 .keys2)
 
--- src/fields.rt:78:1
 returns-7 : tie.Need-returns-7
 unfolding words bytes
 returns-7 c = rw (c .before .before .before .enum-told2 .given .1, c .before .before .match3 .keys3)
 
--- src/fields.rt:78:1
 returns-8 : tie.Need-returns-8
 unfolding words bytes
 returns-8 c = let l : 3 ≤ c .before .before .before .before .before .args .n = omega arith in rw (c .before .before .before .enum-told2 .given .1) (sym (List·getD-eq-default (words DecisionWord) (bytes "          ") l))
 
--- src/fields.rt:78:1
 returns-9 : tie.Need-returns-9
 unfolding words bytes
 returns-9 c = rw (c .before .before .before .enum-told3 .given .1, c .before .before .match4 .keys1)
 
--- src/fields.rt:78:1
 returns-10 : tie.Need-returns-10
 unfolding words bytes
 returns-10 c = rw (c .before .before .before .enum-told3 .given .1, c .before .before .match4 .keys2)
 
--- src/fields.rt:78:1
 returns-11 : tie.Need-returns-11
 unfolding words bytes
 returns-11 c = rw (c .before .before .before .enum-told3 .given .1, c .before .before .match4 .keys3)
 
--- src/fields.rt:78:1
 returns-12 : tie.Need-returns-12
 unfolding words bytes
 returns-12 c = rw (c .before .before .before .enum-told3 .given .1, c .before .before .match4 .keys4)
 
--- src/fields.rt:78:1
 returns-13 : tie.Need-returns-13
 unfolding words bytes
 returns-13 c = rw (c .before .before .before .enum-told3 .given .1, c .before .before .match4 .keys5)
 
--- src/fields.rt:78:1
 returns-14 : tie.Need-returns-14
 unfolding words bytes
 returns-14 c = let l : 5 ≤ c .before .before .before .before .before .args .n = omega arith in rw (c .before .before .before .enum-told3 .given .1) (sym (List·getD-eq-default (words UnitLetter) (bytes "          ") l))
 
--- src/fields.rt:78:1
 returns-15 : tie.Need-returns-15
 unfolding words bytes
 returns-15 c = rw (c .before .before .enum-told4 .given .1)

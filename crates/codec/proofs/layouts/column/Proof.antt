@@ -1,106 +1,78 @@
-use Rattle.model.specs.Layouts.{layout, noColumn, recordLayout, keyLayout, headLayout, lineLayout}
+-- By the layout: within its columns the table has the column, past them there is none.
 use lib.ListN.{List·getD-eq-default}
 use lib.Seq.{getD-take}
-use Prim.Native.Nat.{ℕ, zero, suc, _+_, _-_, _*_, _/_, _%_, _≤_, _<_}
-use mathlib.Core.Path.{_≡_, refl, sym, ap, _∙_}
-use mathlib.Core.Bool.{Bool, true, false}
-use mathlib.Core.List.{List, [], _∷_, _++_}
+use Prim.Native.Nat.{_≤_}
+use mathlib.Core.Path.{sym}
 use native.Mathlib.Omega.{arith}
-use native.Mathlib.Numerals.{add-one}
-use lib.ListN.{length, getD, take, drop, set, length-take, length-drop, length-set, drop-of-length-le}
-use lib.Seq.{drop-cons}
-use lib.Dec.{ltb, leb, eqb}
-use borrow.Author.Tests.{lt-ltb, le-ltb, le-leb, lt-leb, eq-eqb, ne-eqb, not-true, not-false}
 use borrow.Author.Needs.{needs}
-use Rattle.codec.proofs.fields.column.Statement.{statement}
-use Rattle.codec.proofs.fields.column.Tie as tie
-use Rattle.codec.proofs.fields.column.Reads as reads
-use Rattle.codec.proofs.fields.column.Lts as lts
+use Rattle.model.specs.Layouts.{layout, noColumn, recordLayout, keyLayout, headLayout, lineLayout}
+use Rattle.codec.proofs.layouts.column.Statement.{statement}
+use Rattle.codec.proofs.layouts.column.Tie as tie
 
--- src/fields.rt:201:16
 enum-told : tie.Need-enum-told
 enum-told c = search needs
 
--- src/fields.rt:202:24
 mul-result : tie.Need-mul-result
 mul-result c = search needs
 
--- src/fields.rt:202:24
 array-copy-out-result : tie.Need-array-copy-out-result
 array-copy-out-result c = search needs
 
--- src/fields.rt:202:17
 returns : tie.Need-returns
 unfolding layout recordLayout
 returns c = rw (c .before .before .enum-told .given .1)
 
--- src/fields.rt:207:16
 enum-told-2 : tie.Need-enum-told-2
 enum-told-2 c = search needs
 
--- src/fields.rt:208:24
 mul-result-2 : tie.Need-mul-result-2
 mul-result-2 c = search needs
 
--- src/fields.rt:208:24
 array-copy-out-result-2 : tie.Need-array-copy-out-result-2
 array-copy-out-result-2 c = search needs
 
--- src/fields.rt:208:17
 returns-2 : tie.Need-returns-2
 unfolding layout recordLayout keyLayout
 returns-2 c = rw (c .before .before .enum-told2 .given .1) (sym (getD-take 5 recordLayout (c .before .before .before .before .args .i) noColumn (c .before .if2 .taken)))
 
--- src/fields.rt:213:16
 enum-told-3 : tie.Need-enum-told-3
 enum-told-3 c = search needs
 
--- src/fields.rt:214:24
 mul-result-3 : tie.Need-mul-result-3
 mul-result-3 c = search needs
 
--- src/fields.rt:214:24
 array-copy-out-result-3 : tie.Need-array-copy-out-result-3
 array-copy-out-result-3 c = search needs
 
--- src/fields.rt:214:17
 returns-3 : tie.Need-returns-3
 unfolding layout headLayout
 returns-3 c = rw (c .before .before .enum-told3 .given .1)
 
--- src/fields.rt:219:16
 enum-told-4 : tie.Need-enum-told-4
 enum-told-4 c = search needs
 
--- src/fields.rt:220:24
 mul-result-4 : tie.Need-mul-result-4
 mul-result-4 c = search needs
 
--- src/fields.rt:220:24
 array-copy-out-result-4 : tie.Need-array-copy-out-result-4
 array-copy-out-result-4 c = search needs
 
--- src/fields.rt:220:17
 returns-4 : tie.Need-returns-4
 unfolding layout lineLayout
 returns-4 c = rw (c .before .before .enum-told4 .given .1)
 
--- src/fields.rt:196:1
 returns-5 : tie.Need-returns-5
 unfolding layout recordLayout
 returns-5 c = let l : 15 ≤ c .before .before .before .args .i = omega arith in rw (c .before .enum-told .given .1) (sym (List·getD-eq-default recordLayout noColumn l))
 
--- src/fields.rt:196:1
 returns-6 : tie.Need-returns-6
 unfolding layout recordLayout keyLayout
 returns-6 c = let l : 5 ≤ c .before .before .before .args .i = omega arith in rw (c .before .enum-told2 .given .1) (sym (List·getD-eq-default keyLayout noColumn l))
 
--- src/fields.rt:196:1
 returns-7 : tie.Need-returns-7
 unfolding layout headLayout
 returns-7 c = let l : 10 ≤ c .before .before .before .args .i = omega arith in rw (c .before .enum-told3 .given .1) (sym (List·getD-eq-default headLayout noColumn l))
 
--- src/fields.rt:196:1
 returns-8 : tie.Need-returns-8
 unfolding layout lineLayout
 returns-8 c = let l : 2 ≤ c .before .before .before .args .i = omega arith in rw (c .before .enum-told4 .given .1) (sym (List·getD-eq-default lineLayout noColumn l))
