@@ -48,6 +48,17 @@ pieces-joined w (x ∷ xs) h =
     ap₂ _∷_ (take-at x (joined xs) w (h .0))
     (ap (pieces w (length xs)) (drop-at x (joined xs) w (h .0)) ∙ pieces-joined w xs (h .1))
 
+-- the first i pieces, and the n after them
+pub pieces-add {ℓ} : {A : Type ℓ} (w i n : ℕ) (s : List A) → pieces w (i + n) s ≡ pieces w i s ++ pieces w n (drop (i * w) s)
+unfolding pieces
+pieces-add w zero n s = rw (zero-add, zero-mul)
+pieces-add w (suc i) n s =
+    let e : suc i + n ≡ suc (i + n) = omega arith in
+    let f : suc i * w ≡ w + i * w = rw suc-mul (omega arith) in
+    rw (e, f)
+    (ap (λ (t : List (List _)). take w s ∷ t)
+    (pieces-add w i n (drop w s) ∙ ap (λ (t : List _). pieces w i (drop w s) ++ pieces w n t) (drop-drop (i * w) w s)))
+
 -- the pieces from place i on
 pub drop-pieces {ℓ} : {A : Type ℓ} (w i n : ℕ) (s : List A) → drop i (pieces w (i + n) s) ≡ pieces w n (drop (i * w) s)
 unfolding pieces

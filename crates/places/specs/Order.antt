@@ -120,7 +120,7 @@ word-halves s at h =
     ∙ rw (drop-drop 4 at s, beside 0 (bytesAt s 4 at), weight (wordOf (bytesAt s 4 at)) (bytesAt s 4 (at + 4)), l)
 
 -- what stands in a text of bytes is bytes
-part-bytes : (s : List ℕ) (n at : ℕ) → ((i : ℕ) → getD s i 0 < 256) → areBytes (bytesAt s n at) ≡ true
+pub part-bytes : (s : List ℕ) (n at : ℕ) → ((i : ℕ) → getD s i 0 < 256) → areBytes (bytesAt s n at) ≡ true
 part-bytes s n at h = all n (drop at s) (λ i. rw getD-drop (h (at + i)))
   where
     all : (n : ℕ) (t : List ℕ) → ((i : ℕ) → getD t i 0 < 256) → areBytes (take n t) ≡ true

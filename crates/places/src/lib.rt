@@ -56,7 +56,7 @@ pub fn wide(b: u8) -> u64
 }
 
 // The four bytes at `at` as one number, the first byte weighing most.
-fn half(s: &[u8], at: usize) -> u64
+pub fn half(s: &[u8], at: usize) -> u64
     requires { ⌜ at + 4 ≤ length (now s) ⌝ }
     ensures { λ r. ⌜ r ≡ wordOf (take 4 (drop at (now (s .entry)))) ⌝ }
     ensures { λ r. ⌜ r < 2 ^ 32 ⌝ }

@@ -1,0 +1,108 @@
+-- Each test is one of `sheetMade`, in its order, and `sheetMade` is acceptance.
+use mathlib.Core.Path.{_≡_, sym, _∙_}
+use mathlib.Core.Bool.{true}
+use native.Mathlib.Omega.{arith}
+use lib.ListN.{length, take, length-take}
+use borrow.Author.Needs.{needs}
+use borrow.Author.Tests.{not-true, not-false}
+use Rattle.model.specs.Coordinator.{coordinatorAccepted}
+use Rattle.coordinator_check.specs.Head.{lettersSet}
+use Rattle.coordinator_check.specs.Sheet.{wholeLines, whole-parts, ofNumber, decisionsMade, accepted-made, not-whole, not-lettered, by-count}
+use Rattle.coordinator_check.proofs.coordinator_ok.Statement.{statement}
+use Rattle.coordinator_check.proofs.coordinator_ok.Tie as tie
+
+-- past the first test the lines are whole, and past the second the letters are set
+whole : (c : tie.Else1) → wholeLines (length (c .before .before .before .args .coordinator .now)) ≡ true
+whole c = sym (c .before .whole-lines .ensures) ∙ not-false (c .before .whole-lines .result) (c .if1 .left)
+
+lettered : (c : tie.Else2) → lettersSet (take 15 (c .before .before .before .before .before .before .args .coordinator .now)) ≡ true
+lettered c = sym (c .before .letters-ok .ensures) ∙ not-false (c .before .letters-ok .result) (c .if2 .left)
+
+whole-lines-requires : tie.Need-whole-lines-requires
+whole-lines-requires c κs = search needs
+
+returns : tie.Need-returns
+returns c =
+    let s = c .before .before .before .args .coordinator .now in
+    not-whole s (sym (c .before .whole-lines .ensures) ∙ not-true (c .before .whole-lines .result) (c .if1 .taken))
+    ∙ sym (accepted-made s (λ i. c .before .before .shared-slice-known .given i .fits))
+
+slice-aggregate-letters-ok : tie.Need-slice-aggregate-letters-ok
+slice-aggregate-letters-ok c = let w = whole-parts _ (whole (c .before)) in simp length-take (omega arith)
+
+letters-ok-requires : tie.Need-letters-ok-requires
+letters-ok-requires c κs = let w = whole-parts _ (whole (c .before)) in simp length-take (omega arith)
+
+returns-2 : tie.Need-returns-2
+returns-2 c =
+    let s = c .before .before .before .before .before .before .args .coordinator .now in
+    not-lettered
+    s
+    (whole (c .before .before .before))
+    (sym (c .before .letters-ok .ensures) ∙ not-true (c .before .letters-ok .result) (c .if2 .taken))
+    ∙ sym (accepted-made s (λ i. c .before .before .before .before .before .shared-slice-known .given i .fits))
+
+slice-aggregate-read : tie.Need-slice-aggregate-read
+slice-aggregate-read c =
+    let w = whole-parts _ (whole (c .before .before .before .before)) in
+    simp length-take (omega arith)
+
+read-requires : tie.Need-read-requires
+read-requires c κs = search needs
+
+enum-known-issued : tie.Need-enum-known-issued
+enum-known-issued c = search needs
+
+cast-decisions-ok : tie.Need-cast-decisions-ok
+cast-decisions-ok c = search needs
+
+decisions-ok-requires : tie.Need-decisions-ok-requires
+decisions-ok-requires c κs =
+    (whole (c .before .before .before .before .before .before .before .before), sym (c .before .before .before .read .ensures) ∙ c .before .issued .given .1)
+
+enum-told : tie.Need-enum-told
+enum-told c = search needs
+
+enum-told-2 : tie.Need-enum-told-2
+enum-told-2 c = search needs
+
+-- what is read decides, once the lines are whole and the letters set
+decided : (c : tie.After-read)
+    → let s = c .before .before .before .before .before .before .before .before .args .coordinator .now in
+    ofNumber (λ issued. decisionsMade issued s) (c .read .result) ≡ coordinatorAccepted s
+decided c =
+    let s = c .before .before .before .before .before .before .before .before .args .coordinator .now in
+    by-count s (c .read .result) (whole (c .before .before .before .before .before)) (lettered (c .before .before)) (c .read .ensures)
+    ∙ sym (accepted-made s (λ i. c .before .before .before .before .before .before .before .shared-slice-known .given i .fits))
+
+returns-3 : tie.Need-returns-3
+unfolding ofNumber
+returns-3 c = c .decisions-ok .ensures ∙ (rw (c .before .before .issued .given .1) at (decided (c .before .before .before .before)))
+
+returns-4 : tie.Need-returns-4
+unfolding ofNumber
+returns-4 c = rw (c .enum-told .given .1) at (decided (c .before .before))
+
+returns-5 : tie.Need-returns-5
+unfolding ofNumber
+returns-5 c = rw (c .enum-told2 .given .1) at (decided (c .before .before))
+
+pub coordinator-ok-spec : {M : Type 1} → statement M
+coordinator-ok-spec =
+    tie.close
+    (tie.spec
+    whole-lines-requires
+    returns
+    slice-aggregate-letters-ok
+    letters-ok-requires
+    returns-2
+    slice-aggregate-read
+    read-requires
+    enum-known-issued
+    cast-decisions-ok
+    decisions-ok-requires
+    enum-told
+    enum-told-2
+    returns-3
+    returns-4
+    returns-5)

@@ -1,0 +1,53 @@
+-- Each number is that of its word, and the words are the layout's by computation.
+use borrow.Author.Needs.{needs}
+use Rattle.lists.specs.Bytes.{bytes}
+use Rattle.types.specs.declared.Decision.the-variants.{Undecided, Committed, Aborted}
+use Rattle.model.specs.Layouts.{words}
+use Rattle.model.specs.Coordinator.{decisionNumber}
+use Rattle.coordinator_check.specs.Lines.{table, table-fits}
+use Rattle.coordinator_check.proofs.lines.any_decision.Statement.{statement}
+use Rattle.coordinator_check.proofs.lines.any_decision.Tie as tie
+
+front-requires : tie.Need-front-requires
+front-requires c κs = search needs
+
+front-requires-2 : tie.Need-front-requires-2
+front-requires-2 c κs = search needs
+
+front-requires-3 : tie.Need-front-requires-3
+front-requires-3 c κs = search needs
+
+back-requires : tie.Need-back-requires
+back-requires c κs = search needs
+
+back-requires-2 : tie.Need-back-requires-2
+back-requires-2 c κs = search needs
+
+back-requires-3 : tie.Need-back-requires-3
+back-requires-3 c κs = search needs
+
+returns : tie.Need-returns
+unfolding table words bytes decisionNumber
+returns c =
+    let f = c .before .before .before .before .before .before in
+    table-fits Undecided Committed Aborted Undecided
+    (rw (
+      c .back3 .ensures,
+      c .before .before .back2 .ensures,
+      c .before .before .before .before .back .ensures,
+      f .front3 .ensures,
+      f .before .before .front2 .ensures,
+      f .before .before .before .before .front .ensures,
+    ))
+
+pub any-decision-spec : {M : Type 1} → statement M
+any-decision-spec =
+    tie.close
+    (tie.spec
+    front-requires
+    front-requires-2
+    front-requires-3
+    back-requires
+    back-requires-2
+    back-requires-3
+    returns)

@@ -1,0 +1,61 @@
+-- The code's two numbers are those of the law on a line. Their sum fits, since the table leaves room.
+use native.Mathlib.Omega.{arith}
+use borrow.Author.Needs.{needs}
+use Rattle.coordinator_check.specs.Lines.{told, line-is}
+use Rattle.coordinator_check.proofs.lines.line_ok.Statement.{statement}
+use Rattle.coordinator_check.proofs.lines.line_ok.Tie as tie
+
+add-word : tie.Need-add-word
+add-word c = search needs
+
+word-requires : tie.Need-word-requires
+word-requires c κs = search needs
+
+word-requires-2 : tie.Need-word-requires-2
+word-requires-2 c κs = search needs
+
+mul-result : tie.Need-mul-result
+mul-result c = search needs
+
+mul-result-2 : tie.Need-mul-result-2
+mul-result-2 c = search needs
+
+shared-slice-read-result : tie.Need-shared-slice-read-result
+shared-slice-read-result c = let n = c .before .before .before .before .before .pre .1 .1 .eight in search needs
+
+add-result : tie.Need-add-result
+add-result c =
+    let i = told (c .before .before .word .result) in
+    omega (arith, c .before .before .before .before .before .pre .1 .1 .room i (omega arith))
+
+add-result-2 : tie.Need-add-result-2
+add-result-2 c = search needs
+
+mul-result-3 : tie.Need-mul-result-3
+mul-result-3 c = search needs
+
+shared-slice-read-result-2 : tie.Need-shared-slice-read-result-2
+shared-slice-read-result-2 c = let n = c .before .before .before .before .before .before .pre .1 .1 .eight in search needs
+
+returns : tie.Need-returns
+returns c =
+    let a = c .before .before .before .before .before .before .args in
+    let front = c .before .before .word2 in
+    let back = c .before .before .before .word in
+    line-is (a .number) (front .result) (back .result) (a .start) (a .words .now) (a .sheet .now) (front .ensures) (back .ensures)
+
+pub line-ok-spec : {M : Type 1} → statement M
+line-ok-spec =
+    tie.close
+    (tie.spec
+    add-word
+    word-requires
+    word-requires-2
+    mul-result
+    mul-result-2
+    shared-slice-read-result
+    add-result
+    add-result-2
+    mul-result-3
+    shared-slice-read-result-2
+    returns)

@@ -1,0 +1,31 @@
+-- Each number is that of its word, and the word is the layout's by computation.
+use borrow.Author.Needs.{needs}
+use Rattle.lists.specs.Bytes.{bytes}
+use Rattle.types.specs.declared.Decision.the-variants.{Undecided}
+use Rattle.model.specs.Layouts.{words}
+use Rattle.model.specs.Coordinator.{decisionNumber}
+use Rattle.coordinator_check.specs.Lines.{table, table-fits}
+use Rattle.coordinator_check.proofs.lines.no_decision.Statement.{statement}
+use Rattle.coordinator_check.proofs.lines.no_decision.Tie as tie
+
+slice-aggregate-front : tie.Need-slice-aggregate-front
+slice-aggregate-front c = search needs
+
+front-requires : tie.Need-front-requires
+front-requires c κs = search needs
+
+slice-aggregate-back : tie.Need-slice-aggregate-back
+slice-aggregate-back c = search needs
+
+back-requires : tie.Need-back-requires
+back-requires c κs = search needs
+
+returns : tie.Need-returns
+unfolding table words bytes decisionNumber
+returns c =
+    table-fits Undecided Undecided Undecided Undecided (rw (c .back .ensures, c .before .before .front .ensures))
+
+pub no-decision-spec : {M : Type 1} → statement M
+no-decision-spec =
+    tie.close
+    (tie.spec slice-aggregate-front front-requires slice-aggregate-back back-requires returns)

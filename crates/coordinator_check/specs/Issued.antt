@@ -1,0 +1,138 @@
+-- No record names a number above the issued count: four columns that hold a figure order as their bytes do, and so as one number.
+-- A field of a line that can be read is found by the widths of those before it; the loop goes record by record.
+use Prim.Native.Nat.{ℕ, zero, suc, _+_, _*_, _/_, _<_, _≤_}
+use mathlib.Core.Path.{_≡_, refl, sym, ap, ap₂, _∙_}
+use mathlib.Core.Bool.{Bool, true, false, _&&_, not, and-assoc, and-true}
+use mathlib.Core.List.{List, [], _∷_}
+use native.Mathlib.Omega.{arith}
+use native.Mathlib.Numerals.{add-one}
+use lib.ListN.{length, take, drop, getD, length-take, length-drop, drop-of-length-le}
+use lib.Seq.{drop-cons, drop-drop}
+use lib.Dec.{leb, ltb}
+use lib.Pow.{areBytes}
+use borrow.Author.Tests.{leb-true, leb-false, le-ltb, lt-ltb}
+use Rattle.lists.specs.Each.{all, pieces}
+use Rattle.lists.specs.All.{all-at}
+use Rattle.lists.specs.Pieces.{take-drop-take, getD-pieces, length-pieces}
+use Rattle.lists.specs.Tests.{and-fst, and-snd, tests}
+use Rattle.decimal.specs.declared.Scan.the-variants.{Number}
+use Rattle.decimal.specs.Field.{figure, isNumber}
+use Rattle.decimal.specs.Laws.{isNumber-number, figure-scan}
+use Rattle.decimal.specs.Order.{order-bytes}
+use Rattle.places.specs.Order.{wordOf, bytesAt, less-is, part-bytes}
+use Rattle.types.specs.declared.Column.{Column}
+use Rattle.model.specs.Layouts.{recordLayout, noColumn}
+use Rattle.model.specs.Lines.{fieldValue, rowOf, lineSet, linesOf, linesSet}
+use Rattle.model.specs.Records.{noRecord, recordOf, imageFrom, recordIn, records, recordsAccepted}
+use Rattle.model.specs.Coordinator.{coordinatorOf, coordinatorAccepted, namesIssued}
+use Rattle.model.specs.SheetCalls.{allIssued}
+use Rattle.sheet_laws.specs.Places.{record-at, length-records}
+use Rattle.sheet_laws.specs.Decisions.{accepted-length}
+use Rattle.coordinator_check.specs.Lines.{Bytes}
+use Rattle.coordinator_check.specs.Sheet.{accepted-head}
+
+-- where field i of a line begins
+unfoldable pub offset : List Column → ℕ → ℕ
+offset [] i = 0
+offset (c ∷ cs) zero = 0
+offset (c ∷ cs) (suc i) = c .width + offset cs i
+
+-- the bytes of field i
+abbrev field : List Column → ℕ → List ℕ → List ℕ
+field cs i s = take (getD cs i noColumn .width) (drop (offset cs i) s)
+
+-- field i of a line that can be read has the number that the row has there
+field-at : (cs : List Column) (i : ℕ) (s : List ℕ) → lineSet cs s ≡ true → i < length cs
+    → fieldValue (getD cs i noColumn) (field cs i s) ≡ Number (getD (rowOf cs s) i 0)
+unfolding lineSet rowOf offset
+field-at [] i s h l = absurd (omega arith)
+field-at (c ∷ cs) zero s h l =
+    isNumber-number (fieldValue c (take (c .width) s)) (and-fst (isNumber (fieldValue c (take (c .width) s))) (lineSet cs (drop (c .width) s)) h)
+field-at (c ∷ cs) (suc i) s h l =
+    rw (drop-drop (offset cs i) (c .width) s) at
+    (field-at cs i (drop (c .width) s) (and-snd (isNumber (fieldValue c (take (c .width) s))) (lineSet cs (drop (c .width) s)) h) (omega arith))
+
+-- the TxIDs of a record line
+txid-at : (line : List ℕ) → lineSet recordLayout line ≡ true → figure 0 999 (take 4 (drop 36 line)) ≡ Number (recordIn line .image .txid)
+unfolding recordLayout offset fieldValue recordIn recordOf imageFrom
+txid-at line h = field-at recordLayout 7 line h (omega arith)
+
+before-txid-at : (line : List ℕ) → lineSet recordLayout line ≡ true → figure 0 999 (take 4 (drop 64 line)) ≡ Number (recordIn line .before .txid)
+unfolding recordLayout offset fieldValue recordIn recordOf imageFrom
+before-txid-at line h = field-at recordLayout 11 line h (omega arith)
+
+at-most : (a b : ℕ) → leb a b ≡ not (ltb b a)
+at-most a b = go (leb a b) refl
+  where
+    go : (t : Bool) → leb a b ≡ t → t ≡ not (ltb b a)
+    go true e = ap not (sym (le-ltb b a (leb-true a b e)))
+    go false e = ap not (sym (lt-ltb b a (leb-false a b e)))
+
+-- figures of one width are ordered by their bytes' numbers
+figures-order : (s t : List ℕ) (a b : ℕ) → figure 0 999 s ≡ Number a → figure 0 999 t ≡ Number b → areBytes s ≡ true → areBytes t ≡ true
+    → length s ≡ length t → leb (wordOf s) (wordOf t) ≡ leb a b
+figures-order s t a b p q f g n =
+    at-most (wordOf s) (wordOf t)
+    ∙ ap not (sym (less-is t s g f (sym n)) ∙ order-bytes t s b a (figure-scan 0 999 t b q .0) (figure-scan 0 999 s a p .0) (sym n))
+    ∙ sym (at-most a b)
+
+-- How far the records have been looked at: those before i are good, or one is not.
+pub record NamedTo (rs cs : List ℕ) (i : ℕ) (good : Bool) : Type 0 where
+  pub place : i ≤ length rs / 98
+  pub left : (good && all (namesIssued (coordinatorOf cs .issued)) (drop i (records rs))) ≡ allIssued rs cs
+
+pub named-first : (rs cs : List ℕ) → NamedTo rs cs 0 true
+unfolding allIssued
+named-first rs cs = record { place = omega arith; left = refl }
+
+pub named-last : (rs cs : List ℕ) (i : ℕ) (good : Bool) → length rs / 98 ≤ i → NamedTo rs cs i good → good ≡ allIssued rs cs
+unfolding all
+named-last rs cs i good l t =
+    let n : length (records rs) ≤ i = omega (arith, length-records rs) in
+    let d : drop i (records rs) ≡ [] = drop-of-length-le (records rs) n in
+    sym (and-true good) ∙ (rw d at (t .left))
+
+module _ (rs cs : List ℕ) (good-rs : recordsAccepted rs ≡ true) (good-cs : coordinatorAccepted cs ≡ true) (bytes-rs : Bytes rs) (bytes-cs : Bytes cs) where
+  -- the number of the four bytes at o of record i is at most that of the count
+  abbrev named : (i o : ℕ) → Bool
+  named i o = leb (wordOf (bytesAt rs 4 (i * 98 + o))) (wordOf (bytesAt cs 4 0))
+
+  line-at : (i : ℕ) → i < length rs / 98 → lineSet recordLayout (take 98 (drop (i * 98) rs)) ≡ true
+  unfolding recordsAccepted linesSet linesOf
+  line-at i l =
+      let h = good-rs in
+      let each : all (lineSet recordLayout) (pieces 98 (length rs / 98) rs) ≡ true = search tests in
+      rw (getD-pieces 98 i (length rs / 98) rs l) at
+      (all-at (lineSet recordLayout) (pieces 98 (length rs / 98) rs) [] i each (omega (arith, length-pieces 98 (length rs / 98) rs)))
+
+  -- the test of a figure in record i
+  named-is : (i o v : ℕ) → i < length rs / 98 → o + 4 ≤ 98 → figure 0 999 (take 4 (drop o (take 98 (drop (i * 98) rs)))) ≡ Number v
+      → named i o ≡ leb v (coordinatorOf cs .issued)
+  named-is i o v l m e =
+      let w : take 4 (drop o (take 98 (drop (i * 98) rs))) ≡ bytesAt rs 4 (i * 98 + o) =
+      take-drop-take 4 o 98 (drop (i * 98) rs) m ∙ ap (take 4) (drop-drop o (i * 98) rs) in
+      let long : 15 ≤ length cs = accepted-length cs good-cs in
+      figures-order (bytesAt rs 4 (i * 98 + o)) (bytesAt cs 4 0) v (coordinatorOf cs .issued) (rw w at e) (accepted-head cs good-cs .0)
+      (part-bytes rs 4 (i * 98 + o) bytes-rs) (part-bytes cs 4 0 bytes-cs) (simp (length-take, length-drop) (omega arith))
+
+  record-is : (i : ℕ) → i < length rs / 98 → namesIssued (coordinatorOf cs .issued) (getD (records rs) i noRecord) ≡ (named i 36 && named i 64)
+  unfolding namesIssued
+  record-is i l =
+      let line = take 98 (drop (i * 98) rs) in
+      ap (namesIssued (coordinatorOf cs .issued)) (record-at rs i l)
+      ∙ ap₂ _&&_ (sym (named-is i 36 (recordIn line .image .txid) l (omega arith) (txid-at line (line-at i l))))
+      (sym (named-is i 64 (recordIn line .before .txid) l (omega arith) (before-txid-at line (line-at i l))))
+
+  pub named-next : (i : ℕ) (good : Bool) → i < length rs / 98 → NamedTo rs cs i good → NamedTo rs cs (i + 1) (good && named i 36 && named i 64)
+  unfolding all
+  named-next i good l t =
+      let p = namesIssued (coordinatorOf cs .issued) in
+      let e : all p (drop i (records rs)) ≡ ((named i 36 && named i 64) && all p (drop (i + 1) (records rs))) =
+      ap (all p) (drop-cons (records rs) i noRecord (omega (arith, length-records rs)))
+      ∙ ap₂ _&&_ (record-is i l) (ap (λ (k : ℕ). all p (drop k (records rs))) (sym (add-one i))) in
+      record {
+        place = omega arith;
+        left =
+            ap (λ (b : Bool). b && all p (drop (i + 1) (records rs))) (and-assoc good (named i 36) (named i 64))
+            ∙ (and-assoc good (named i 36 && named i 64) (all p (drop (i + 1) (records rs))) ∙ (ap (λ (b : Bool). good && b) (sym e) ∙ t .left));
+      }

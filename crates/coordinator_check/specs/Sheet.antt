@@ -1,0 +1,342 @@
+-- The sheet as the check takes it: whole lines, the head, lines up to the issued count with any decision, and lines above it with none.
+-- That this is acceptance is shown each way from the parts of acceptance, the lines cut at the issued count.
+use Prim.Native.Nat.{ℕ, suc, _+_, _-_, _*_, _/_, _%_, _<_, _≤_}
+use mathlib.Core.Path.{_≡_, refl, sym, ap, ap₂, _∙_}
+use mathlib.Core.Bool.{Bool, true, false, _&&_, true≢false, and-assoc}
+use mathlib.Core.List.{List, [], _∷_, _++_, map}
+use native.Mathlib.Omega.{arith}
+use native.Mathlib.Nat.{add-zero}
+use lib.ListN.{length, take, drop, getD, length-take, length-drop, length-map}
+use lib.Seq.{take-take, drop-drop, getD-take, getD-drop}
+use lib.Dec.{eqb, leb}
+use borrow.Author.Tests.{eqb-true, leb-true, eq-eqb, le-leb, lt-leb}
+use Rattle.lists.specs.Bytes.{bytes}
+use Rattle.lists.specs.Each.{all, pieces}
+use Rattle.lists.specs.All.{all-append, all-always, all-map}
+use Rattle.lists.specs.Pieces.{pieces-add, length-pieces}
+use Rattle.lists.specs.Tests.{and-fst, and-snd, and-both, same-test, tests}
+use Rattle.decimal.specs.declared.Scan.{Scan}
+use Rattle.decimal.specs.declared.Scan.the-variants.{Blank, Number, Wrong}
+use Rattle.decimal.specs.Field.{figure, number, isNumber, fieldText, ahead}
+use Rattle.decimal.specs.Laws.{isNumber-number, written-read}
+use Rattle.places.specs.Order.{wordOf, wordFrom}
+use Rattle.types.specs.declared.Decision.{Decision}
+use Rattle.types.specs.declared.Decision.the-variants.{Undecided, Committed, Aborted}
+use Rattle.model.specs.Layouts.{headLayout, lineLayout, words}
+use Rattle.model.specs.Lines.{fieldValue, rowOf, lineSet, linesOf}
+use Rattle.model.specs.Coordinator.{decisionNumber, unitOf, isUndecided, coordinatorGood, decisionIn, coordinatorOf, numbered, coordinatorAccepted}
+use Rattle.sheet_laws.specs.Lines.{length-rowOf}
+use Rattle.sheet_laws.specs.Coordinator.{bounds}
+use Rattle.sheet_laws.specs.Decisions.{accepted-parts, parts-accepted, accepted-length, length-decisions}
+use Rattle.coordinator_check.specs.Numbers.{columns}
+use Rattle.coordinator_check.specs.Head.{lettersSet, head-set}
+use Rattle.coordinator_check.specs.Lines.{Bytes, table, lineMade, wordFor, backOf, told, decisionFor}
+use Rattle.coordinator_check.specs.Passes.{linesMade, Reads, made-read, read-made, Ready}
+
+-- a head and 1 to 999 lines of 15 bytes
+unfoldable pub wholeLines : ℕ → Bool
+wholeLines n = leb 30 n && leb n 15000 && eqb (n % 15) 0
+
+pub record Whole (n : ℕ) : Type 0 where
+  pub least : 30 ≤ n
+  pub most : n ≤ 15000
+  pub turns : n % 15 ≡ 0
+
+pub whole-parts : (n : ℕ) → wholeLines n ≡ true → Whole n
+unfolding wholeLines
+whole-parts n h = record { least = search tests; most = search tests; turns = search tests }
+
+-- the table for lines with any decision; nothing that is read tells the fourth place
+abbrev pub anyDecision : List ℕ
+anyDecision = table Undecided Committed Aborted Undecided
+
+-- the table for lines with none
+abbrev pub noDecision : List ℕ
+noDecision = table Undecided Undecided Undecided Undecided
+
+-- the lines after the head
+abbrev pub count : List ℕ → ℕ
+count s = length s / 15 - 1
+
+unfoldable pub decisionsMade : (issued : ℕ) (s : List ℕ) → Bool
+decisionsMade issued s =
+    leb issued (count s)
+    && (linesMade anyDecision 0 issued (drop 14 s)
+    && linesMade noDecision issued (count s - issued) (drop (issued * 15 + 14) s))
+
+-- a number was read, and passes the test
+unfoldable pub ofNumber : (ℕ → Bool) → Scan → Bool
+ofNumber p Blank = false
+ofNumber p (Number v) = p v
+ofNumber p Wrong = false
+
+unfoldable pub sheetMade : List ℕ → Bool
+sheetMade s =
+    wholeLines (length s)
+    && (lettersSet (take 15 s) && ofNumber (λ (issued : ℕ). decisionsMade issued s) (figure 0 999 (take 4 s)))
+
+is-number : (p : ℕ → Bool) (st : Scan) → ofNumber p st ≡ true → (st ≡ Number (number st)) × (p (number st) ≡ true)
+unfolding ofNumber number
+is-number p Blank h = absurd (true≢false (sym h))
+is-number p (Number v) h = (refl, h)
+is-number p Wrong h = absurd (true≢false (sym h))
+
+-- What the sheet says, by its bytes.
+
+count-read : (s : List ℕ) → coordinatorOf s .issued ≡ number (figure 0 999 (take 4 s))
+unfolding coordinatorOf rowOf headLayout fieldValue
+count-read s = ap (λ (t : List ℕ). number (figure 0 999 t)) (take-take 4 15 s (omega arith))
+
+decisions-read : (s : List ℕ) → coordinatorOf s .decisions ≡ map decisionIn (pieces 15 (length (drop 15 s) / 15) (drop 15 s))
+unfolding coordinatorOf linesOf
+decisions-read s = refl
+
+nine-units : (s : List ℕ) → length (coordinatorOf s .units) ≡ 9
+unfolding coordinatorOf headLayout
+nine-units s =
+    let n : length (rowOf headLayout (take 15 s)) ≡ 10 = length-rowOf headLayout (take 15 s) in
+    length-map (drop 1 (rowOf headLayout (take 15 s))) unitOf ∙ (length-drop 1 (rowOf headLayout (take 15 s)) ∙ omega arith)
+
+head-parts : (s : List ℕ) → 15 ≤ length s → lineSet headLayout (take 15 s) ≡ (isNumber (figure 0 999 (take 4 s)) && lettersSet (take 15 s))
+head-parts s l =
+    head-set (take 15 s) (simp length-take (omega arith))
+    ∙ ap (λ (t : List ℕ). isNumber (figure 0 999 t) && lettersSet (take 15 s)) (take-take 4 15 s (omega arith))
+
+-- the first four bytes of an accepted sheet hold its count, and the letters after them are set
+pub accepted-head : (s : List ℕ) → coordinatorAccepted s ≡ true
+    → (figure 0 999 (take 4 s) ≡ Number (coordinatorOf s .issued)) × (lettersSet (take 15 s) ≡ true)
+accepted-head s h =
+    let f = figure 0 999 (take 4 s) in
+    let p = sym (head-parts s (accepted-length s h)) ∙ accepted-parts s h .head in
+    (isNumber-number f (and-fst (isNumber f) (lettersSet (take 15 s)) p) ∙ ap Number (sym (count-read s)), and-snd (isNumber f) (lettersSet (take 15 s)) p)
+
+-- The lines cut at the issued count.
+
+numbered-append : (k : ℕ) (xs ys : List (List ℕ)) → numbered k (xs ++ ys) ≡ (numbered k xs && numbered (k + length xs) ys)
+unfolding numbered
+numbered-append k [] ys = ap (λ (j : ℕ). numbered j ys) (sym (add-zero k))
+numbered-append k (x ∷ xs) ys =
+    let e : suc k + length xs ≡ k + length (x ∷ xs) = omega arith in
+    rw (numbered-append (suc k) xs ys, e)
+    (sym (and-assoc (eqb (getD (rowOf lineLayout x) 0 0) k) (numbered (suc k) xs) (numbered (k + length (x ∷ xs)) ys)))
+
+module _ (s : List ℕ) (issued rest : ℕ) (whole : length (drop 15 s) / 15 ≡ issued + rest) where
+  abbrev lines : List (List ℕ)
+  lines = pieces 15 (length (drop 15 s) / 15) (drop 15 s)
+
+  abbrev low : List (List ℕ)
+  low = pieces 15 issued (drop 15 s)
+
+  abbrev high : List (List ℕ)
+  high = pieces 15 rest (drop (issued * 15) (drop 15 s))
+
+  cut : lines ≡ low ++ high
+  cut = rw whole (pieces-add 15 issued rest (drop 15 s))
+
+  low-length : length low ≡ issued
+  low-length = length-pieces 15 issued (drop 15 s)
+
+  readable-cut : all (lineSet lineLayout) lines ≡ (all (lineSet lineLayout) low && all (lineSet lineLayout) high)
+  readable-cut = rw cut (all-append (lineSet lineLayout) low high)
+
+  in-turn-cut : numbered 1 lines ≡ (numbered 1 low && numbered (suc issued) high)
+  in-turn-cut =
+      let e : 1 + issued ≡ suc issued = omega arith in
+      rw cut (numbered-append 1 low high ∙ rw (low-length, e))
+
+  decided-cut : all isUndecided (drop issued (map decisionIn lines)) ≡ all (λ (l : List ℕ). isUndecided (decisionIn l)) high
+  decided-cut =
+      let e : drop issued (map decisionIn (low ++ high)) ≡ map decisionIn high =
+      ap (λ (n : ℕ). drop n (map decisionIn (low ++ high))) (sym low-length) ∙ drop-map low high in
+      rw (cut, e) (all-map isUndecided decisionIn high)
+    where
+      drop-map : (xs ys : List (List ℕ)) → drop (length xs) (map decisionIn (xs ++ ys)) ≡ map decisionIn ys
+      drop-map [] ys = refl
+      drop-map (x ∷ xs) ys = drop-map xs ys
+
+-- each decision stands in the tables where its word tells
+tells-any : (d : Decision) → _≡_ {A = Bool} true true → decisionFor Undecided Committed Aborted Undecided (told (backOf (wordFor d))) ≡ d
+unfolding words bytes decisionNumber wordFrom
+tells-any Undecided p = refl
+tells-any Committed p = refl
+tells-any Aborted p = refl
+
+tells-none : (d : Decision) → isUndecided d ≡ true → decisionFor Undecided Undecided Undecided Undecided (told (backOf (wordFor d))) ≡ d
+unfolding words bytes decisionNumber wordFrom isUndecided
+tells-none Undecided p = refl
+tells-none Committed p = absurd (true≢false (sym p))
+tells-none Aborted p = absurd (true≢false (sym p))
+
+-- A line alone: what is judged is that the line can be read and has its number.
+pub line-judged : (k : ℕ) (r : List ℕ) → k < 999 → Bytes r → 16 ≤ length r → getD r 0 0 ≡ 10
+    → lineMade (columns (suc k)) anyDecision r
+    ≡ (lineSet lineLayout (take 15 (drop 1 r)) && eqb (getD (rowOf lineLayout (take 15 (drop 1 r))) 0 0) (suc k))
+unfolding linesMade pieces all numbered
+line-judged k r l f n z =
+    let a = lineSet lineLayout (take 15 (drop 1 r)) in
+    let b = eqb (getD (rowOf lineLayout (take 15 (drop 1 r))) 0 0) (suc k) in
+    same-test (lineMade (columns (suc k)) anyDecision r) (a && b)
+    (λ h.
+    let t = made-read Undecided Committed Aborted Undecided (λ (d : Decision). true) refl k 1 r f (omega arith) (omega arith) (and-both h refl) in
+    and-both (and-fst a true (t .readable)) (and-fst b true (t .in-turn)))
+    (λ h.
+    and-fst (lineMade (columns (suc k)) anyDecision r) true
+    (read-made Undecided Committed Aborted Undecided (λ (d : Decision). true) tells-any k 1 r f (omega arith) (omega arith) z
+    (record { readable = and-both (and-fst a b h) refl; in-turn = and-both (and-snd a b h) refl; decided = refl })
+    .0))
+
+module _ (s : List ℕ) (each : Bytes s) where
+  each-from : (a : ℕ) → Bytes (drop a s)
+  each-from a i = rw getD-drop (each (a + i))
+
+  -- the lines after line a follow its LF
+  after : (a : ℕ) → drop 1 (drop (a * 15 + 14) s) ≡ drop (a * 15) (drop 15 s)
+  after a =
+      let e : a * 15 + 14 + 1 ≡ 15 + a * 15 = omega arith in
+      drop-drop 1 (a * 15 + 14) s ∙ (ap (λ (n : ℕ). drop n s) e ∙ sym (drop-drop (a * 15) 15 s))
+
+  -- the two passes, for the issued count v
+  module _ (v : ℕ) (sized : length s ≡ count s * 15 + 15) (few : count s ≤ 999) where
+    abbrev LowReads : Type 0
+    LowReads = Reads (λ (d : Decision). true) 1 (pieces 15 v (drop 15 s))
+
+    abbrev HighReads : Type 0
+    HighReads = Reads isUndecided (suc v) (pieces 15 (count s - v) (drop (v * 15) (drop 15 s)))
+
+    reads-pass : v ≤ count s → getD s 14 0 ≡ 10 → LowReads → HighReads → decisionsMade v s ≡ true
+    unfolding decisionsMade
+    reads-pass l z r t =
+        let p =
+        read-made Undecided Committed Aborted Undecided (λ (d : Decision). true) tells-any 0 v (drop 14 s) (each-from 14)
+        (simp length-drop (omega arith)) (omega arith) (getD-drop 14 s 0 0 ∙ z) (rw (after 0) r) in
+        let e : 14 + v * 15 ≡ v * 15 + 14 + 0 = omega arith in
+        let lf : getD (drop (v * 15 + 14) s) 0 0 ≡ 10 =
+        getD-drop (v * 15 + 14) s 0 0 ∙ (ap (λ (i : ℕ). getD s i 0) (sym e) ∙ (sym (getD-drop 14 s (v * 15) 0) ∙ p .1)) in
+        let q =
+        read-made Undecided Undecided Undecided Undecided isUndecided tells-none v (count s - v) (drop (v * 15 + 14) s) (each-from (v * 15 + 14))
+        (simp length-drop (omega arith)) (omega arith) lf (rw (after v) t) in
+        and-both (le-leb v (count s) l) (and-both (p .0) (q .0))
+
+    pass-reads : decisionsMade v s ≡ true → (v ≤ count s) × (LowReads × HighReads)
+    unfolding decisionsMade all isUndecided
+    pass-reads h =
+        let l : v ≤ count s = search tests in
+        let r =
+        made-read Undecided Committed Aborted Undecided (λ (d : Decision). true) refl 0 v (drop 14 s) (each-from 14)
+        (simp length-drop (omega arith)) (omega arith) (search tests) in
+        let t =
+        made-read Undecided Undecided Undecided Undecided isUndecided refl v (count s - v) (drop (v * 15 + 14) s) (each-from (v * 15 + 14))
+        (simp length-drop (omega arith)) (omega arith) (search tests) in
+        (l, (rw (after 0) at r, rw (after v) at t))
+
+  accepted-passes : coordinatorAccepted s ≡ true → sheetMade s ≡ true
+  unfolding sheetMade wholeLines lettersSet ofNumber coordinatorGood
+  accepted-passes h =
+      let a = accepted-parts s h in
+      let v = coordinatorOf s .issued in
+      let n = length (coordinatorOf s .decisions) in
+      let some : 1 ≤ n = leb-true 1 n (search (tests, a .good)) in
+      let few : n ≤ 999 = bounds (coordinatorOf s) (a .good) .few in
+      let most : v ≤ n = bounds (coordinatorOf s) (a .good) .issued in
+      let above : all isUndecided (drop v (coordinatorOf s .decisions)) ≡ true = search (tests, a .good) in
+      let long : 15 ≤ length s = accepted-length s h in
+      let lines : n ≡ length (drop 15 s) / 15 = length-decisions s in
+      let whole : length (drop 15 s) ≡ length (drop 15 s) / 15 * 15 = a .whole in
+      let size : length (drop 15 s) ≡ length s - 15 = length-drop 15 s in
+      let rest : length (drop 15 s) / 15 ≡ v + (count s - v) = omega arith in
+      let head = accepted-head s h in
+      let letters : lettersSet (take 15 s) ≡ true = head .1 in
+      let lf : getD s 14 0 ≡ 10 =
+      sym (getD-take 15 s 14 0 (omega arith)) ∙ eqb-true (getD (take 15 s) 14 0) 10 (search (tests, letters)) in
+      let r = sym (readable-cut s v (count s - v) rest) ∙ a .readable in
+      let t = sym (in-turn-cut s v (count s - v) rest) ∙ a .in-turn in
+      let u = sym (decided-cut s v (count s - v) rest) ∙ (ap (λ (ds : List Decision). all isUndecided (drop v ds)) (sym (decisions-read s)) ∙ above) in
+      let pass =
+      reads-pass v (omega arith) (omega arith) (omega arith) lf
+      (record { readable = search (tests, r); in-turn = search (tests, t); decided = all-always (pieces 15 v (drop 15 s)) })
+      (record { readable = search (tests, r); in-turn = search (tests, t); decided = u }) in
+      and-both
+      (and-both (and-both (le-leb 30 (length s) (omega arith)) (le-leb (length s) 15000 (omega arith))) (eq-eqb (length s % 15) 0 (omega arith)))
+      (and-both letters (ap (ofNumber (λ (issued : ℕ). decisionsMade issued s)) (head .0) ∙ pass))
+
+  passes-accepted : sheetMade s ≡ true → coordinatorAccepted s ≡ true
+  unfolding sheetMade isNumber coordinatorGood
+  passes-accepted h =
+      let w = whole-parts (length s) (search tests) in
+      let f = figure 0 999 (take 4 s) in
+      let v = number f in
+      let c = is-number (λ (issued : ℕ). decisionsMade issued s) f (search tests) in
+      let p = pass-reads v (omega arith) (omega arith) (c .1) in
+      let l : v ≤ count s = p .0 in
+      let n = length (coordinatorOf s .decisions) in
+      let issued : coordinatorOf s .issued ≡ v = count-read s in
+      let lines : n ≡ length (drop 15 s) / 15 = length-decisions s in
+      let size : length (drop 15 s) ≡ length s - 15 = length-drop 15 s in
+      let rest : length (drop 15 s) / 15 ≡ v + (count s - v) = omega arith in
+      let letters : lettersSet (take 15 s) ≡ true = search tests in
+      let above : all isUndecided (drop (coordinatorOf s .issued) (coordinatorOf s .decisions)) ≡ true =
+      ap₂ (λ (k : ℕ) (ds : List Decision). all isUndecided (drop k ds)) issued (decisions-read s)
+      ∙ (decided-cut s v (count s - v) rest ∙ p .1 .1 .decided) in
+      let bounded =
+      and-both
+      (and-both (eq-eqb (length (coordinatorOf s .units)) 9 (nine-units s)) (le-leb 1 n (omega arith)))
+      (le-leb n 999 (omega arith)) in
+      parts-accepted s
+      (record {
+        head = head-parts s (omega arith) ∙ and-both (ap isNumber (c .0)) letters;
+        whole = omega arith;
+        readable = readable-cut s v (count s - v) rest ∙ and-both (p .1 .0 .readable) (p .1 .1 .readable);
+        in-turn = in-turn-cut s v (count s - v) rest ∙ and-both (p .1 .0 .in-turn) (p .1 .1 .in-turn);
+        good = and-both (and-both bounded (le-leb (coordinatorOf s .issued) n (omega arith))) above;
+      })
+
+  -- what the check computes is acceptance
+  pub accepted-made : coordinatorAccepted s ≡ sheetMade s
+  accepted-made = same-test (coordinatorAccepted s) (sheetMade s) accepted-passes passes-accepted
+
+-- The code's passes: each starts with the columns of the number before its first line.
+
+-- those of `   0`
+pub columns-zero : wordOf (32 ∷ 32 ∷ 32 ∷ 48 ∷ []) ≡ columns 0
+unfolding fieldText ahead
+columns-zero = refl
+
+module _ (s : List ℕ) (issued : ℕ) (whole : wholeLines (length s) ≡ true) (place : issued ≤ count s) where
+  pub ready-low : (before : ℕ) → before ≡ columns 0 → Ready s 0 issued before
+  ready-low before q =
+      let w = whole-parts (length s) whole in
+      record { order = omega arith; few = omega arith; long = omega arith; counted = q }
+
+  pub ready-high : (before : ℕ) → figure 0 999 (take 4 s) ≡ Number issued → before ≡ wordOf (take 4 s) → Ready s issued (count s) before
+  ready-high before f q =
+      let w = whole-parts (length s) whole in
+      let n : length (take 4 s) ≡ 4 = simp length-take (omega arith) in
+      let t : take 4 s ≡ fieldText 4 issued = written-read 0 999 (take 4 s) issued f .0 ∙ ap (λ (k : ℕ). fieldText k issued) n in
+      record { order = place; few = omega arith; long = omega arith; counted = q ∙ ap wordOf t }
+
+-- The code's tests in turn.
+
+pub too-few : (issued : ℕ) (s : List ℕ) → count s < issued → false ≡ decisionsMade issued s
+unfolding decisionsMade
+too-few issued s l = rw (lt-leb issued (count s) l)
+
+pub passes-are : (issued : ℕ) (s any none : List ℕ) (low high : Bool) → issued ≤ count s → any ≡ anyDecision → none ≡ noDecision
+    → low ≡ linesMade any 0 (issued - 0) (drop 14 s) → high ≡ linesMade none issued (count s - issued) (drop (issued * 15 + 14) s)
+    → (low && high) ≡ decisionsMade issued s
+unfolding decisionsMade
+passes-are issued s any none low high l e f p q =
+    let z : issued - 0 ≡ issued = omega arith in
+    rw (p, q, e, f, z, le-leb issued (count s) l)
+
+pub not-whole : (s : List ℕ) → wholeLines (length s) ≡ false → false ≡ sheetMade s
+unfolding sheetMade
+not-whole s h = rw h
+
+pub not-lettered : (s : List ℕ) → wholeLines (length s) ≡ true → lettersSet (take 15 s) ≡ false → false ≡ sheetMade s
+unfolding sheetMade
+not-lettered s h l = rw (h, l)
+
+pub by-count : (s : List ℕ) (st : Scan) → wholeLines (length s) ≡ true → lettersSet (take 15 s) ≡ true → st ≡ figure 0 999 (take 4 s)
+    → ofNumber (λ (issued : ℕ). decisionsMade issued s) st ≡ sheetMade s
+unfolding sheetMade
+by-count s st h l e = rw (h, l, e)

@@ -1,0 +1,55 @@
+// The check of a coordinator sheet by itself, and against the numbers that records name.
+ghost use mathlib.Core.Path.{_≡_};
+ghost use mathlib.Core.Bool.{true};
+ghost use Rattle.model.specs.Records.{recordsAccepted};
+ghost use Rattle.model.specs.Coordinator.{coordinatorAccepted};
+ghost use Rattle.model.specs.SheetCalls.{allIssued};
+ghost use Rattle.coordinator_check.specs.Sheet.{wholeLines};
+
+mod head;
+mod lines;
+
+use decimal::Scan;
+use places::half;
+
+// A head and 1 to 999 lines of 15 bytes.
+fn whole_lines(size: usize) -> bool
+    ensures { λ r. ⌜ r ≡ wholeLines size ⌝ }
+{
+    (30 <= size) & (size <= 15000) & (size % 15 == 0)
+}
+
+// Whether the sheet breaks no rule of its own.
+pub fn coordinator_ok(coordinator: &[u8]) -> bool
+    ensures { λ r. ⌜ r ≡ coordinatorAccepted (now (coordinator .entry)) ⌝ }
+{
+    if !whole_lines(coordinator.len()) {
+        return false;
+    }
+    if !head::letters_ok(&coordinator[..15]) {
+        return false;
+    }
+    match decimal::read(&coordinator[..4], 0, 999) {
+        Scan::Number(issued) => lines::decisions_ok(coordinator, issued as usize),
+        Scan::Blank => false,
+        Scan::Wrong => false,
+    }
+}
+
+// Whether every number that a record names, as its TxID or its before TxID, has been issued. Figures of one width order as their bytes do, so
+// that none is read.
+pub fn all_issued(records: &[u8], coordinator: &[u8]) -> bool
+    requires { ⌜ recordsAccepted (now records) ≡ true ⌝ }
+    requires { ⌜ coordinatorAccepted (now coordinator) ≡ true ⌝ }
+    ensures { λ r. ⌜ r ≡ allIssued (now (records .entry)) (now (coordinator .entry)) ⌝ }
+{
+    let issued = half(coordinator, 0);
+    let count = records.len() / 98;
+    let mut good = true;
+    for i in 0..count {
+        let txid = half(records, i * 98 + 36);
+        let before_txid = half(records, i * 98 + 64);
+        good = good & (txid <= issued) & (before_txid <= issued);
+    }
+    good
+}

@@ -1,0 +1,128 @@
+// The lines after the head: their numbers in turn, any decision up to the issued count, and none above it.
+// A line is compared as two numbers of eight bytes: LF before it, its number's four columns and three bytes of its word; the other seven and LF.
+ghost use mathlib.Core.Path.{_≡_};
+ghost use mathlib.Core.Bool.{true};
+ghost use Prim.Native.Nat.{_+_, _-_, _*_, _^_, _<_, _≤_};
+ghost use lib.ListN.{length, take, drop};
+ghost use Rattle.decimal.specs.declared.Scan.the-variants.{Number};
+ghost use Rattle.decimal.specs.Field.{figure};
+ghost use Rattle.coordinator_check.specs.Numbers.{gained, following};
+ghost use Rattle.coordinator_check.specs.Lines.{frontOf, backOf, Table, lineMade};
+ghost use Rattle.coordinator_check.specs.Passes.{linesMade, Ready};
+ghost use Rattle.coordinator_check.specs.Sheet.{wholeLines, anyDecision, noDecision, decisionsMade};
+use places::half;
+use places::word;
+
+// What a column gains that takes a carry: a space (32) becomes `1`, a digit the next one.
+fn gain(column: u64) -> u64
+    ensures { λ r. ⌜ r ≡ gained column ⌝ }
+    ensures { λ r. ⌜ r ≤ 17 ⌝ }
+{
+    if column == 32 {
+        return 17;
+    }
+    1
+}
+
+// The columns of the next number, from those of `number` as one number: the last rises by one, or each `9` (57) at the end becomes `0` and
+// the column before takes the carry. Counting them up spares a table of 999 entries.
+fn next(number: u64) -> u64
+    requires { ⌜ number < 2 ^ 32 ⌝ }
+    ensures { λ r. ⌜ r ≡ following number ⌝ }
+{
+    if number % 256 != 57 {
+        return number + 1;
+    }
+    let tens = number / 256 % 256;
+    if tens != 57 {
+        return number - 9 + gain(tens) * 256;
+    }
+    number - 2313 + gain(number / 65536 % 256) * 65536
+}
+
+// LF before a line and the first three bytes of its word, with zeros where the columns of its number stand.
+fn front(text: &[u8]) -> u64
+    requires { ⌜ length (now text) ≡ 10 ⌝ }
+    ensures { λ r. ⌜ r ≡ frontOf (now (text .entry)) ⌝ }
+{
+    0x0a00_0000_0000_0000 + half(text, 0) / 256
+}
+
+// The other seven bytes of the word and LF.
+fn back(text: &[u8]) -> u64
+    requires { ⌜ length (now text) ≡ 10 ⌝ }
+    ensures { λ r. ⌜ r ≡ backOf (now (text .entry)) ⌝ }
+{
+    word(text, 2) % 0x0100_0000_0000_0000 * 256 + 10
+}
+
+// Fronts and then backs, each at the place that the word's fifth byte tells: ` `, `M` and `B` leave 0, 1 and 2 by 4, and no word's leaves 3.
+fn any_decision() -> [u64; 8]
+    ensures { λ r. ⌜ r ≡ anyDecision ⌝ }
+    ensures { λ r. ⌜ Table r ⌝ }
+{
+    let undecided = b"         -";
+    let committed = b" COMMITTED";
+    let aborted = b"   ABORTED";
+    let f0 = front(undecided);
+    let f1 = front(committed);
+    let f2 = front(aborted);
+    let b0 = back(undecided);
+    let b1 = back(committed);
+    let b2 = back(aborted);
+    [f0, f1, f2, f0, b0, b1, b2, b0]
+}
+
+// The same where no decision may stand.
+fn no_decision() -> [u64; 8]
+    ensures { λ r. ⌜ r ≡ noDecision ⌝ }
+    ensures { λ r. ⌜ Table r ⌝ }
+{
+    let f = front(b"         -");
+    let b = back(b"         -");
+    [f, f, f, f, b, b, b, b]
+}
+
+// Whether LF stands at `start`, and after it the line with these columns and a word of the table.
+fn line_ok(sheet: &[u8], start: usize, number: u64, words: &[u64]) -> bool
+    requires { ⌜ start + 16 ≤ length (now sheet) ⌝ }
+    requires { ⌜ number < 2 ^ 32 ⌝ }
+    requires { ⌜ Table (now words) ⌝ }
+    ensures { λ r. ⌜ r ≡ lineMade number (now (words .entry)) (drop start (now (sheet .entry))) ⌝ }
+{
+    let last = word(sheet, start + 8);
+    let i = (last / 0x0001_0000_0000_0000 % 4) as usize;
+    (word(sheet, start) == number * 0x0100_0000 + words[i]) & (last == words[i + 4])
+}
+
+// Whether the lines after number `after` up to number `to` pass, where `before` is the columns of `after`. Without an exit, so that no branch
+// depends on what a line says.
+fn lines_ok(sheet: &[u8], after: usize, to: usize, before: u64, words: &[u64]) -> bool
+    requires { ⌜ Ready (now sheet) after to before ⌝ }
+    requires { ⌜ Table (now words) ⌝ }
+    ensures { λ r. ⌜ r ≡ linesMade (now (words .entry)) after (to - after) (drop (after * 15 + 14) (now (sheet .entry))) ⌝ }
+{
+    let mut good = true;
+    let mut number = before;
+    for k in after..to {
+        number = next(number);
+        good = good & line_ok(sheet, k * 15 + 14, number, words);
+    }
+    good
+}
+
+// Whether the lines pass, where the head has the count `issued`. The head's own columns are those before the first line above the count.
+pub fn decisions_ok(sheet: &[u8], issued: usize) -> bool
+    requires { ⌜ wholeLines (length (now sheet)) ≡ true ⌝ }
+    requires { ⌜ figure 0 999 (take 4 (now sheet)) ≡ Number issued ⌝ }
+    ensures { λ r. ⌜ r ≡ decisionsMade issued (now (sheet .entry)) ⌝ }
+{
+    let count = sheet.len() / 15 - 1;
+    if issued > count {
+        return false;
+    }
+    let any = any_decision();
+    let none = no_decision();
+    let low = lines_ok(sheet, 0, issued, half(b"   0", 0), &any);
+    low & lines_ok(sheet, issued, count, half(sheet, 0), &none)
+}
