@@ -1,12 +1,13 @@
--- Filling a list piece by piece, w elements each: pieces before i are there, and those from i on are still to come.
+-- Filling a list piece by piece, w elements each, or one by one: those before i are there, and those from i on are still to come.
+-- Filling it in two parts, lent one after the other.
 use Prim.Native.Nat.{ℕ, zero, suc, _+_, _-_, _*_, _≤_, _<_}
 use mathlib.Core.Path.{_≡_, refl, sym, ap, ap₂, _∙_}
 use mathlib.Core.List.{List, [], _∷_, _++_, append-assoc, append-nil}
 use native.Mathlib.Omega.{arith}
 use native.Mathlib.Nat.{suc-mul, zero-mul}
 use native.Mathlib.Numerals.{add-one}
-use lib.ListN.{length, take, drop, getD, length-append, length-take, length-drop, drop-of-length-le}
-use lib.Seq.{take-at, take-all, drop-cons}
+use lib.ListN.{length, take, drop, getD, set, length-append, length-take, length-drop, length-set, drop-of-length-le}
+use lib.Seq.{take-at, take-all, take-suc-set, append-snoc, drop-at, drop-cons}
 use Rattle.lists.specs.Each.{joined}
 use Rattle.lists.specs.Pieces.{over, length-over}
 
@@ -61,3 +62,63 @@ fill-last w parts target i l f =
     let q : i * w ≡ length parts * w = ap (λ (k : ℕ). k * w) e in
     let t : take (i * w) target ≡ target = take-all (i * w) target (omega arith) in
     sym (append-nil target) ∙ (rw (d, t) at (f .done))
+
+-- One by one.
+pub record StoredTo (parts target : List ℕ) (i : ℕ) : Type 0 where
+  pub place : i ≤ length parts
+  pub room : length target ≡ length parts
+  pub done : take i target ++ drop i parts ≡ parts
+
+pub store-first : (parts target : List ℕ) → length target ≡ length parts → StoredTo parts target 0
+store-first parts target n = record { place = omega arith; room = n; done = refl }
+
+pub store-next : (parts target : List ℕ) (v i : ℕ) → i < length parts → v ≡ getD parts i 0 → StoredTo parts target i → StoredTo parts (set target i v) (i + 1)
+store-next parts target v i l e f =
+    let m : length target ≡ length parts = f .room in
+    let t : take (i + 1) (set target i v) ≡ take i target ++ (v ∷ []) =
+    ap (λ (k : ℕ). take k (set target i v)) (add-one i) ∙ take-suc-set target i v (omega arith) in
+    let d : drop i parts ≡ v ∷ drop (i + 1) parts =
+    drop-cons parts i 0 l ∙ ap₂ _∷_ (sym e) (ap (λ (j : ℕ). drop j parts) (sym (add-one i))) in
+    record {
+      place = omega arith;
+      room = length-set target i v ∙ m;
+      done =
+          ap (λ (x : List ℕ). x ++ drop (i + 1) parts) t
+          ∙ (append-snoc (take i target) v (drop (i + 1) parts) ∙ (ap (λ (x : List ℕ). take i target ++ x) (sym d) ∙ f .done));
+    }
+
+pub store-last : (parts target : List ℕ) (i : ℕ) → length parts ≤ i → StoredTo parts target i → target ≡ parts
+store-last parts target i l f =
+    let m : length target ≡ length parts = f .room in
+    let d : drop i parts ≡ [] = drop-of-length-le parts l in
+    let t : take i target ≡ target = take-all i target (omega arith) in
+    sym (append-nil target) ∙ (rw (d, t) at (f .done))
+
+-- In two parts.
+
+-- the part from n on, to the end
+pub rest-part : (n : ℕ) (s : List ℕ) → take (length s - n) (drop n s) ≡ drop n s
+rest-part n s = take-all (length s - n) (drop n s) (simp length-drop (omega arith))
+
+-- A list whose first n elements were lent and came back as t: what is lent after them, and what stands there once that came back as u.
+module _ (n : ℕ) (t v : List ℕ) (kept : length t ≡ length (take n v)) (fits : n ≤ length v) where
+  front-wide : length t ≡ n
+  front-wide = kept ∙ simp length-take (omega arith)
+
+  pub front-length : length (t ++ drop n v) ≡ length v
+  front-length = let w = front-wide in simp (length-append, length-drop) (omega arith)
+
+  pub front-rest : take (length (t ++ drop n v) - n) (drop n (t ++ drop n v)) ≡ drop n v
+  front-rest = rest-part n (t ++ drop n v) ∙ drop-at t (drop n v) n front-wide
+
+  pub front-back : (u : List ℕ) → take n (t ++ drop n v) ++ (u ++ drop (length (t ++ drop n v) - n) (drop n (t ++ drop n v))) ≡ t ++ u
+  front-back u =
+      let l : length (drop n (t ++ drop n v)) ≤ length (t ++ drop n v) - n = simp length-drop (omega arith) in
+      let e : drop (length (t ++ drop n v) - n) (drop n (t ++ drop n v)) ≡ [] = drop-of-length-le (drop n (t ++ drop n v)) l in
+      ap₂ _++_ (take-at t (drop n v) n front-wide) (ap (λ (x : List ℕ). u ++ x) e ∙ append-nil u)
+
+  pub front-same : (u : List ℕ) → length u ≡ length (take (length (t ++ drop n v) - n) (drop n (t ++ drop n v))) → length (take n (t ++ drop n v) ++ (u ++ drop (length (t ++ drop n v) - n) (drop n (t ++ drop n v)))) ≡ length v
+  front-same u e =
+      let w = front-wide in
+      let k : length u ≡ length v - n = e ∙ (ap length front-rest ∙ length-drop n v) in
+      ap length (front-back u) ∙ simp length-append (omega arith)

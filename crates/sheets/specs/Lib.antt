@@ -3,3 +3,6 @@ pub mod Search
 pub mod Filling
 pub mod RowsPass
 pub mod Answers
+pub mod Decisions
+pub mod DecisionFills
+pub mod DecisionAnswers

@@ -1,0 +1,140 @@
+-- A coordinator as numbers, judged decision by decision: below the issued count any of the three, from it on none.
+-- The two tests of the rules, range and no decision, are one pass, by induction on the decisions.
+use Prim.Native.Nat.{ℕ, zero, suc, _+_, _-_, _*_, _/_, _%_, _≤_, _<_}
+use mathlib.Core.Path.{_≡_, refl, sym, ap, ap₂, _∙_}
+use mathlib.Core.Bool.{Bool, true, false, _&&_, and-assoc}
+use mathlib.Core.List.{List, [], _∷_, map}
+use native.Mathlib.Omega.{arith}
+use native.Mathlib.Numerals.{add-one}
+use lib.ListN.{length, take, drop, getD, length-map, length-take, length-drop, drop-of-length-le}
+use lib.Seq.{drop-cons}
+use lib.Dec.{eqb, leb, leb·zero}
+use borrow.Author.Tests.{eqb-true, leb-true, le-leb, lt-leb, eq-eqb, ne-eqb}
+use Rattle.lists.specs.Tests.{same-test, and-swap}
+use Rattle.lists.specs.Each.{all}
+use Rattle.model.specs.Layouts.{headLayout, decisionColumn}
+use Rattle.model.specs.Lines.{inRange, rowGood}
+use Rattle.model.specs.Coordinator.{
+  decisionOf,
+  unitOf,
+  isUndecided,
+  coordinatorGood,
+  coordinatorFrom,
+  numbersAccepted,
+}
+
+-- the highest decision that may stand where k numbers of those from here on are issued
+unfoldable pub highest : ℕ → ℕ
+highest zero = 0
+highest (suc k) = 2
+
+-- every decision may stand, where the first k are of issued numbers
+unfoldable pub decisionsPass : ℕ → List ℕ → Bool
+decisionsPass k [] = true
+decisionsPass k (d ∷ ds) = leb d (highest k) && decisionsPass (k - 1) ds
+
+pub highest-open : (issued i : ℕ) → i < issued → 2 ≡ highest (issued - i)
+unfolding highest
+highest-open issued i l = let e : issued - i ≡ suc (issued - i - 1) = omega arith in rw e
+
+pub highest-shut : (issued i : ℕ) → issued ≤ i → 0 ≡ highest (issued - i)
+unfolding highest
+highest-shut issued i l = let e : issued - i ≡ 0 = omega arith in rw e
+
+-- a decision in range
+ranged : (d : ℕ) → inRange decisionColumn d ≡ leb d 2
+unfolding inRange
+ranged d = rw (leb·zero d)
+
+-- the only number of no decision is 0
+none : (d : ℕ) → (inRange decisionColumn d && isUndecided (decisionOf d)) ≡ leb d 0
+unfolding inRange isUndecided decisionOf
+none zero = refl
+none (suc zero) = refl
+none (suc (suc d)) =
+    let e : leb (suc (suc d)) 0 ≡ false = lt-leb (suc (suc d)) 0 (omega arith) in
+    rw e (and-false (inRange decisionColumn (suc (suc d))))
+  where
+    and-false : (b : Bool) → (b && false) ≡ false
+    and-false true = refl
+    and-false false = refl
+
+-- the tests of the rules are the pass
+pub decisions-pass : (k : ℕ) (ds : List ℕ) → (all (inRange decisionColumn) ds && all isUndecided (drop k (map decisionOf ds))) ≡ decisionsPass k ds
+unfolding all decisionsPass highest
+decisions-pass zero [] = refl
+decisions-pass (suc k) [] = refl
+decisions-pass zero (d ∷ ds) =
+    and-swap (inRange decisionColumn d) (all (inRange decisionColumn) ds) (isUndecided (decisionOf d)) (all isUndecided (map decisionOf ds))
+    ∙ ap₂ _&&_ (none d) (decisions-pass 0 ds)
+decisions-pass (suc k) (d ∷ ds) =
+    let e : suc k - 1 ≡ k = omega arith in
+    and-assoc (inRange decisionColumn d) (all (inRange decisionColumn) ds) (all isUndecided (drop k (map decisionOf ds)))
+    ∙ rw e (ap₂ _&&_ (ranged d) (decisions-pass k ds))
+
+-- How far the decisions have been judged.
+pub record PassedTo (issued : ℕ) (ds : List ℕ) (i : ℕ) : Type 0 where
+  pub place : i ≤ length ds
+  pub rest : decisionsPass (issued - i) (drop i ds) ≡ decisionsPass issued ds
+
+pub pass-first : (issued : ℕ) (ds : List ℕ) → PassedTo issued ds 0
+pass-first issued ds =
+    let e : issued - 0 ≡ issued = omega arith in
+    record { place = omega arith; rest = ap (λ (k : ℕ). decisionsPass k ds) e }
+
+module _ (issued : ℕ) (ds : List ℕ) (i : ℕ) (here : i < length ds) (p : PassedTo issued ds i) where
+  pass-turn : (leb (getD ds i 0) (highest (issued - i)) && decisionsPass (issued - (i + 1)) (drop (i + 1) ds)) ≡ decisionsPass issued ds
+  unfolding decisionsPass
+  pass-turn =
+      let e : issued - (i + 1) ≡ issued - i - 1 = omega arith in
+      let d : drop i ds ≡ getD ds i 0 ∷ drop (i + 1) ds = drop-cons ds i 0 here ∙ ap (λ (k : ℕ). getD ds i 0 ∷ drop k ds) (sym (add-one i)) in
+      rw e (sym (ap (decisionsPass (issued - i)) d) ∙ p .rest)
+
+  pub pass-bad : highest (issued - i) < getD ds i 0 → false ≡ decisionsPass issued ds
+  pass-bad l = rw (lt-leb (getD ds i 0) (highest (issued - i)) l) at pass-turn
+
+  pub pass-next : getD ds i 0 ≤ highest (issued - i) → PassedTo issued ds (i + 1)
+  pass-next l = record { place = omega arith; rest = rw (le-leb (getD ds i 0) (highest (issued - i)) l) at pass-turn }
+
+pub pass-last : (issued : ℕ) (ds : List ℕ) (i : ℕ) → length ds ≤ i → PassedTo issued ds i → true ≡ decisionsPass issued ds
+unfolding decisionsPass
+pass-last issued ds i l p =
+    let d : drop i ds ≡ [] = drop-of-length-le ds l in
+    rw d at (p .rest)
+
+-- the decisions judged last
+reorder : (g a b c d z : Bool) → (g && a && (b && c && d && z)) ≡ (g && (b && (c && (d && (a && z)))))
+reorder false a b c d z = refl
+reorder true a b c d z =
+    and-swap true a (b && c && d) z ∙ (and-assoc (b && c) d (a && z) ∙ and-assoc b c (d && (a && z)))
+
+-- the acceptance of numbers, in the order in which the code asks
+pub accepted-numbers : (v : List ℕ) → numbersAccepted v ≡ (leb 10 (length v) && (rowGood headLayout (take 10 v) && (leb 1 (length v - 10) && (leb (length v - 10) 999 && (leb (getD v 0 0) (length v - 10) && decisionsPass (getD v 0 0) (drop 10 v))))))
+unfolding numbersAccepted coordinatorGood coordinatorFrom
+accepted-numbers v = go (leb 10 (length v)) refl
+  where
+    count : length (map decisionOf (drop 10 v)) ≡ length v - 10
+    count = length-map (drop 10 v) decisionOf ∙ length-drop 10 v
+
+    go : (b : Bool) → leb 10 (length v) ≡ b → numbersAccepted v ≡ (leb 10 (length v) && (rowGood headLayout (take 10 v) && (leb 1 (length v - 10) && (leb (length v - 10) 999 && (leb (getD v 0 0) (length v - 10) && decisionsPass (getD v 0 0) (drop 10 v))))))
+    go true e =
+        let l = leb-true 10 (length v) e in
+        let n : length (map unitOf (take 9 (drop 1 v))) ≡ 9 = length-map (take 9 (drop 1 v)) unitOf ∙ simp (length-take, length-drop) (omega arith) in
+        rw (e, n, count)
+        (reorder (rowGood headLayout (take 10 v)) (all (inRange decisionColumn) (drop 10 v)) (leb 1 (length v - 10)) (leb (length v - 10) 999) (leb (getD v 0 0) (length v - 10)) (all isUndecided (drop (getD v 0 0) (map decisionOf (drop 10 v))))
+        ∙ ap (λ (b : Bool). rowGood headLayout (take 10 v) && (leb 1 (length v - 10) && (leb (length v - 10) 999 && (leb (getD v 0 0) (length v - 10) && b)))) (decisions-pass (getD v 0 0) (drop 10 v)))
+    go false e = rw e
+
+-- The room for a head and n lines, by whole lines.
+
+pub room-short : (m n : ℕ) → m < 15 → false ≡ eqb m (15 + n * 15)
+room-short m n l = sym (ne-eqb m (15 + n * 15) (λ e. omega arith))
+
+pub room-broken : (m n : ℕ) → (m % 15 ≡ 0 → ⊥) → false ≡ eqb m (15 + n * 15)
+room-broken m n b = sym (ne-eqb m (15 + n * 15) (λ e. b (omega arith)))
+
+pub room-lines : (m n : ℕ) → 15 ≤ m → m % 15 ≡ 0 → eqb (m / 15 - 1) n ≡ eqb m (15 + n * 15)
+room-lines m n l w =
+    same-test (eqb (m / 15 - 1) n) (eqb m (15 + n * 15))
+    (λ e. let q = eqb-true (m / 15 - 1) n e in eq-eqb m (15 + n * 15) (omega arith))
+    (λ e. let q = eqb-true m (15 + n * 15) e in eq-eqb (m / 15 - 1) n (omega arith))
