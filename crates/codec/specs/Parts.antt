@@ -21,7 +21,7 @@ use Rattle.model.specs.Lines.{fieldValue, rowOf, lineText}
 use Rattle.model.specs.Records.{stateOf, recordOf, recordIn, recordText, recordNumbers, records, noRecord}
 use Rattle.model.specs.Coordinator.{decisionOf, decisionIn, decision, coordinatorOf}
 use Rattle.sheet_laws.specs.Places.{record-at}
-use Rattle.sheet_laws.specs.Decisions.{decision-at, length-decisions}
+use Rattle.sheet_laws.specs.Decisions.{issued-at, decision-at, length-decisions}
 
 -- the last of the three states
 pub state-else : (n : ℕ) → (n ≡ 0 → ⊥) → (n ≡ 1 → ⊥) → Prepared ≡ stateOf n
@@ -59,13 +59,9 @@ decision-else zero z o = absurd (z refl)
 decision-else (suc zero) z o = absurd (o refl)
 decision-else (suc (suc n)) z o = refl
 
--- the figure of the first four bytes is the count
-pub issued-part : (s : List ℕ) → number (figure 0 999 (take 4 s)) ≡ coordinatorOf s .issued
-unfolding coordinatorOf rowOf headLayout fieldValue
-issued-part s = ap (λ (t : List ℕ). number (figure 0 999 t)) (sym (take-take 4 15 s (omega arith)))
-
+-- fewer than four bytes are all that the count has
 pub issued-short : (s : List ℕ) → length s < 4 → number (figure 0 999 s) ≡ coordinatorOf s .issued
-issued-short s l = ap (λ (t : List ℕ). number (figure 0 999 t)) (sym (take-all 4 s (omega arith))) ∙ issued-part s
+issued-short s l = ap (λ (t : List ℕ). number (figure 0 999 t)) (sym (take-all 4 s (omega arith))) ∙ issued-at s
 
 -- the row read from the line of a number is that of its decision
 pub decision-part : (s row : List ℕ) (n : ℕ) → hasLine n s ≡ true → row ≡ rowOf lineLayout (take (n * 15 + 15 - n * 15) (drop (n * 15) s)) → decisionOf (getD row 1 0) ≡ decision n (coordinatorOf s)

@@ -1,4 +1,4 @@
-// The issued count and the decisions: the bytes of a coordinator sheet are touched through these alone.
+// The issued count and the decisions: what a call with a transaction reads and writes of a coordinator sheet.
 ghost use mathlib.Core.Path.{_≡_};
 ghost use mathlib.Core.Bool.{cond};
 ghost use Prim.Native.Nat.{_*_, _/_};

@@ -1,4 +1,4 @@
-// The bytes of both sheets: everything above speaks of records, decisions and counts.
+// The bytes of both sheets, read and written by place, so that calls above can speak of records, decisions and counts.
 pub mod coordinator;
 mod fields;
 mod layouts;

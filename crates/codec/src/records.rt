@@ -1,4 +1,4 @@
-// Records of a sheet by their place: the bytes of a record sheet are touched through these alone.
+// Records of a sheet by their place: what a call with a transaction reads and writes of a record sheet.
 ghost use mathlib.Core.Path.{_≡_};
 ghost use mathlib.Core.Bool.{cond};
 ghost use Prim.Native.Nat.{_*_, _/_};

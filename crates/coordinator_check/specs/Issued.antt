@@ -1,5 +1,5 @@
 -- No record names a number above the issued count: four columns that hold a figure order as their bytes do, and so as one number.
--- A field of a line that can be read is found by the widths of those before it; the loop goes record by record.
+-- The loop goes record by record.
 use Prim.Native.Nat.{ℕ, zero, suc, _+_, _*_, _/_, _<_, _≤_}
 use mathlib.Core.Path.{_≡_, refl, sym, ap, ap₂, _∙_}
 use mathlib.Core.Bool.{Bool, true, false, _&&_, not, and-assoc, and-true}
@@ -26,40 +26,20 @@ use Rattle.model.specs.Lines.{fieldValue, rowOf, lineSet, linesOf, linesSet}
 use Rattle.model.specs.Records.{noRecord, recordOf, imageFrom, recordIn, records, recordsAccepted}
 use Rattle.model.specs.Coordinator.{coordinatorOf, coordinatorAccepted, namesIssued}
 use Rattle.model.specs.SheetCalls.{allIssued}
+use Rattle.sheet_laws.specs.Lines.{offset, fieldAt, field-at}
 use Rattle.sheet_laws.specs.Places.{record-at, length-records}
 use Rattle.sheet_laws.specs.Decisions.{accepted-length}
 use Rattle.coordinator_check.specs.Lines.{Bytes}
 use Rattle.coordinator_check.specs.Sheet.{accepted-head}
 
--- where field i of a line begins
-unfoldable pub offset : List Column → ℕ → ℕ
-offset [] i = 0
-offset (c ∷ cs) zero = 0
-offset (c ∷ cs) (suc i) = c .width + offset cs i
-
--- the bytes of field i
-abbrev field : List Column → ℕ → List ℕ → List ℕ
-field cs i s = take (getD cs i noColumn .width) (drop (offset cs i) s)
-
--- field i of a line that can be read has the number that the row has there
-field-at : (cs : List Column) (i : ℕ) (s : List ℕ) → lineSet cs s ≡ true → i < length cs
-    → fieldValue (getD cs i noColumn) (field cs i s) ≡ Number (getD (rowOf cs s) i 0)
-unfolding lineSet rowOf offset
-field-at [] i s h l = absurd (omega arith)
-field-at (c ∷ cs) zero s h l =
-    isNumber-number (fieldValue c (take (c .width) s)) (and-fst (isNumber (fieldValue c (take (c .width) s))) (lineSet cs (drop (c .width) s)) h)
-field-at (c ∷ cs) (suc i) s h l =
-    rw (drop-drop (offset cs i) (c .width) s) at
-    (field-at cs i (drop (c .width) s) (and-snd (isNumber (fieldValue c (take (c .width) s))) (lineSet cs (drop (c .width) s)) h) (omega arith))
-
 -- the TxIDs of a record line
 txid-at : (line : List ℕ) → lineSet recordLayout line ≡ true → figure 0 999 (take 4 (drop 36 line)) ≡ Number (recordIn line .image .txid)
-unfolding recordLayout offset fieldValue recordIn recordOf imageFrom
-txid-at line h = field-at recordLayout 7 line h (omega arith)
+unfolding recordLayout offset fieldAt fieldValue recordIn recordOf imageFrom
+txid-at line h = field-at 7 recordLayout line (omega arith) h
 
 before-txid-at : (line : List ℕ) → lineSet recordLayout line ≡ true → figure 0 999 (take 4 (drop 64 line)) ≡ Number (recordIn line .before .txid)
-unfolding recordLayout offset fieldValue recordIn recordOf imageFrom
-before-txid-at line h = field-at recordLayout 11 line h (omega arith)
+unfolding recordLayout offset fieldAt fieldValue recordIn recordOf imageFrom
+before-txid-at line h = field-at 11 recordLayout line (omega arith) h
 
 at-most : (a b : ℕ) → leb a b ≡ not (ltb b a)
 at-most a b = go (leb a b) refl

@@ -27,7 +27,7 @@ use Rattle.model.specs.Lines.{fieldValue, rowOf, lineSet, linesOf}
 use Rattle.model.specs.Coordinator.{decisionNumber, unitOf, isUndecided, coordinatorGood, decisionIn, coordinatorOf, numbered, coordinatorAccepted}
 use Rattle.sheet_laws.specs.Lines.{length-rowOf}
 use Rattle.sheet_laws.specs.Coordinator.{bounds}
-use Rattle.sheet_laws.specs.Decisions.{accepted-parts, parts-accepted, accepted-length, length-decisions}
+use Rattle.sheet_laws.specs.Decisions.{issued-at, accepted-parts, parts-accepted, accepted-length, length-decisions}
 use Rattle.coordinator_check.specs.Numbers.{columns}
 use Rattle.coordinator_check.specs.Head.{lettersSet, head-set}
 use Rattle.coordinator_check.specs.Lines.{Bytes, table, lineMade, wordFor, backOf, told, decisionFor}
@@ -81,12 +81,6 @@ is-number p Blank h = absurd (true≢false (sym h))
 is-number p (Number v) h = (refl, h)
 is-number p Wrong h = absurd (true≢false (sym h))
 
--- What the sheet says, by its bytes.
-
-count-read : (s : List ℕ) → coordinatorOf s .issued ≡ number (figure 0 999 (take 4 s))
-unfolding coordinatorOf rowOf headLayout fieldValue
-count-read s = ap (λ (t : List ℕ). number (figure 0 999 t)) (take-take 4 15 s (omega arith))
-
 decisions-read : (s : List ℕ) → coordinatorOf s .decisions ≡ map decisionIn (pieces 15 (length (drop 15 s) / 15) (drop 15 s))
 unfolding coordinatorOf linesOf
 decisions-read s = refl
@@ -108,7 +102,7 @@ pub accepted-head : (s : List ℕ) → coordinatorAccepted s ≡ true
 accepted-head s h =
     let f = figure 0 999 (take 4 s) in
     let p = sym (head-parts s (accepted-length s h)) ∙ accepted-parts s h .head in
-    (isNumber-number f (and-fst (isNumber f) (lettersSet (take 15 s)) p) ∙ ap Number (sym (count-read s)), and-snd (isNumber f) (lettersSet (take 15 s)) p)
+    (isNumber-number f (and-fst (isNumber f) (lettersSet (take 15 s)) p) ∙ ap Number (issued-at s), and-snd (isNumber f) (lettersSet (take 15 s)) p)
 
 -- The lines cut at the issued count.
 
@@ -269,7 +263,7 @@ module _ (s : List ℕ) (each : Bytes s) where
       let p = pass-reads v (omega arith) (omega arith) (c .1) in
       let l : v ≤ count s = p .0 in
       let n = length (coordinatorOf s .decisions) in
-      let issued : coordinatorOf s .issued ≡ v = count-read s in
+      let issued : coordinatorOf s .issued ≡ v = sym (issued-at s) in
       let lines : n ≡ length (drop 15 s) / 15 = length-decisions s in
       let size : length (drop 15 s) ≡ length s - 15 = length-drop 15 s in
       let rest : length (drop 15 s) / 15 ≡ v + (count s - v) = omega arith in

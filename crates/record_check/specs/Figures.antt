@@ -21,29 +21,8 @@ use Rattle.types.specs.declared.Kind.the-variants.{Figure, StateWord, DecisionW
 use Rattle.types.specs.declared.Column.{Column}
 use Rattle.model.specs.Layouts.{noColumn}
 use Rattle.model.specs.Lines.{byKind, fieldValue, rowOf, lineSet}
+use Rattle.sheet_laws.specs.Lines.{offset, fieldAt, field-at}
 use Rattle.record_check.specs.Ranges.{column}
-
--- the columns of a line before field i
-unfoldable pub offset : ℕ → List Column → ℕ
-offset zero cs = 0
-offset (suc i) [] = 0
-offset (suc i) (c ∷ cs) = c .width + offset i cs
-
--- the bytes of field i
-unfoldable pub fieldAt : ℕ → List Column → List ℕ → List ℕ
-fieldAt i cs s = take (getD cs i noColumn .width) (drop (offset i cs) s)
-
--- the number of field i is what its bytes hold
-pub field-at : (i : ℕ) (cs : List Column) (s : List ℕ)
-    → i < length cs → lineSet cs s ≡ true → fieldValue (getD cs i noColumn) (fieldAt i cs s) ≡ Number (getD (rowOf cs s) i 0)
-unfolding fieldAt offset rowOf lineSet
-field-at i [] s l h = absurd (omega arith)
-field-at zero (c ∷ cs) s l h =
-    let r = fieldValue c (take (c .width) s) in
-    isNumber-number r (and-fst (isNumber r) (lineSet cs (drop (c .width) s)) h)
-field-at (suc i) (c ∷ cs) s l h =
-    let g = isNumber (fieldValue c (take (c .width) s)) in
-    rw drop-drop at (field-at i cs (drop (c .width) s) (omega arith) (and-snd g (lineSet cs (drop (c .width) s)) h))
 
 abbrev pub isFigure : Column → Bool
 isFigure c = byKind (c .kind) true false

@@ -14,11 +14,11 @@ use Rattle.types.specs.declared.Kind.the-variants.{StateWord}
 use Rattle.model.specs.Layouts.{recordLayout, words}
 use Rattle.model.specs.Lines.{fieldValue, wordFrom, rowOf, lineSet, rowGood}
 use Rattle.model.specs.Records.{recordOf, goodAlone, recordIn}
-use Rattle.sheet_laws.specs.Lines.{line-written-read}
+use Rattle.sheet_laws.specs.Lines.{line-written-read, offset, fieldAt, field-at}
 use Rattle.sheet_laws.specs.Records.{record-layout-ok, line-numbers}
 use Rattle.places.specs.Parts.{partsOk}
 use Rattle.record_check.specs.Ranges.{opened, lineHeld, set-is-held, same-row}
-use Rattle.record_check.specs.Figures.{offset, fieldAt, field-at}
+use Rattle.record_check.specs.Figures.{}
 use Rattle.record_check.specs.Limits.{keeps, limited-line, limited-parts}
 use Rattle.record_check.specs.States.{
   absentLimits,

@@ -19,9 +19,9 @@ use Rattle.types.specs.declared.Column.{Column}
 use Rattle.model.specs.Layouts.{recordLayout, noColumn}
 use Rattle.model.specs.Lines.{rowOf, lineSet}
 use Rattle.model.specs.Records.{stateOf, imageFrom, recordOf, isZero, preparedRule}
-use Rattle.sheet_laws.specs.Lines.{lineBytes, line-length}
+use Rattle.sheet_laws.specs.Lines.{lineBytes, line-length, offset, fieldAt, field-at}
 use Rattle.record_check.specs.Ranges.{opened}
-use Rattle.record_check.specs.Figures.{offset, fieldAt, field-at, scan-of, figureAt, digits-at, line-end}
+use Rattle.record_check.specs.Figures.{scan-of, figureAt, digits-at, line-end}
 use Rattle.record_check.specs.Limits.{keeps}
 use Rattle.record_check.specs.States.{preparedLimits, clockLimit, rule}
 

@@ -7,7 +7,7 @@ use mathlib.Core.List.{List, [], _∷_, _++_, map}
 use native.Mathlib.Omega.{arith}
 use native.Mathlib.Numerals.{add-one}
 use lib.ListN.{length, take, drop, getD, set, length-map, length-set, length-append, length-drop, length-take, List·getD-map}
-use lib.Seq.{take-at, drop-at, drop-set-lt, drop-drop, take-add, take-append-add, drop-append-add}
+use lib.Seq.{take-at, drop-at, drop-set-lt, drop-drop, take-add, take-append-add, drop-append-add, take-take}
 use lib.Dec.{eqb, leb}
 use borrow.Author.Tests.{eqb-true, leb-true, eq-eqb, le-leb}
 use Rattle.lists.specs.Bytes.{bytes, eqList}
@@ -16,7 +16,7 @@ use Rattle.lists.specs.Each.{all, pieces}
 use Rattle.lists.specs.All.{all-drop, all-set, map-set}
 use Rattle.lists.specs.Pieces.{over, over-after, over-zero, length-over, length-pieces, pieces-over, getD-pieces}
 use Rattle.decimal.specs.declared.Scan.the-variants.{Number}
-use Rattle.decimal.specs.Field.{fieldText, number}
+use Rattle.decimal.specs.Field.{figure, fieldText, number}
 use Rattle.decimal.specs.Laws.{read-written, length-fieldText}
 use Rattle.types.specs.declared.Decision.{Decision}
 use Rattle.types.specs.declared.Decision.the-variants.{Undecided}
@@ -51,6 +51,11 @@ use Rattle.sheet_laws.specs.Coordinator.{
 pub length-decisions : (s : List ℕ) → length (coordinatorOf s .decisions) ≡ length (drop 15 s) / 15
 unfolding coordinatorOf linesOf
 length-decisions s = length-map (decisionLines s) decisionIn ∙ length-pieces 15 (length (drop 15 s) / 15) (drop 15 s)
+
+-- the count is the figure of the first four bytes
+pub issued-at : (s : List ℕ) → number (figure 0 999 (take 4 s)) ≡ coordinatorOf s .issued
+unfolding coordinatorOf rowOf headLayout fieldValue
+issued-at s = ap (λ (t : List ℕ). number (figure 0 999 t)) (sym (take-take 4 15 s (omega arith)))
 
 -- no bytes say nothing
 no-decision : decisionIn [] ≡ Undecided

@@ -5,7 +5,7 @@ use mathlib.Core.Bool.{Bool, true, false, _&&_}
 use mathlib.Core.List.{List, [], _∷_, _++_}
 use native.Mathlib.Omega.{arith}
 use lib.ListN.{length, take, drop, getD, length-take, length-drop, length-append, take-append-drop}
-use lib.Seq.{take-at, drop-at, getD-drop}
+use lib.Seq.{take-at, drop-at, getD-drop, drop-drop}
 use Rattle.lists.specs.Tests.{and-fst, and-snd, and-both, tests}
 use Rattle.lists.specs.Bytes.{eqList, eqList-true, eqList-refl}
 use Rattle.lists.specs.Each.{all}
@@ -14,6 +14,7 @@ use Rattle.decimal.specs.declared.Scan.the-variants.{Blank, Number, Wrong}
 use Rattle.decimal.specs.Field.{number, isNumber}
 use Rattle.decimal.specs.Laws.{isNumber-number}
 use Rattle.types.specs.declared.Column.{Column}
+use Rattle.model.specs.Layouts.{noColumn}
 use Rattle.model.specs.Lines.{fieldValue, fieldBytes, inRange, rowOf, lineSet, lineText, rowGood}
 use Rattle.sheet_laws.specs.Fields.{columnOk, field-read-written, field-written-read}
 
@@ -104,3 +105,27 @@ module _ (c : Column) (cs : List Column) (t s : List ℕ) (n : ℕ) (wide : leng
   first-field-set h =
       rw (take-at t (drop (c .width) s) (c .width) wide, drop-at t (drop (c .width) s) (c .width) wide, reads)
       (and-snd (isNumber (fieldValue c (take (c .width) s))) (lineSet cs (drop (c .width) s)) h)
+
+-- A field by its place.
+
+-- the columns of a line before field i
+unfoldable pub offset : ℕ → List Column → ℕ
+offset zero cs = 0
+offset (suc i) [] = 0
+offset (suc i) (c ∷ cs) = c .width + offset i cs
+
+-- the bytes of field i
+unfoldable pub fieldAt : ℕ → List Column → List ℕ → List ℕ
+fieldAt i cs s = take (getD cs i noColumn .width) (drop (offset i cs) s)
+
+-- the number of field i is what its bytes hold
+pub field-at : (i : ℕ) (cs : List Column) (s : List ℕ)
+    → i < length cs → lineSet cs s ≡ true → fieldValue (getD cs i noColumn) (fieldAt i cs s) ≡ Number (getD (rowOf cs s) i 0)
+unfolding fieldAt offset rowOf lineSet
+field-at i [] s l h = absurd (omega arith)
+field-at zero (c ∷ cs) s l h =
+    let r = fieldValue c (take (c .width) s) in
+    isNumber-number r (and-fst (isNumber r) (lineSet cs (drop (c .width) s)) h)
+field-at (suc i) (c ∷ cs) s l h =
+    let g = isNumber (fieldValue c (take (c .width) s)) in
+    rw drop-drop at (field-at i cs (drop (c .width) s) (omega arith) (and-snd g (lineSet cs (drop (c .width) s)) h))

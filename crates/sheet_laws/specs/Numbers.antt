@@ -10,7 +10,7 @@ use borrow.Author.Tests.{eqb-true, leb-true, eq-eqb}
 use Rattle.lists.specs.Tests.{and-fst, and-snd, and-both, tests}
 use Rattle.lists.specs.Each.{all, joined, pieces}
 use Rattle.lists.specs.All.{all-map, all-and, all-weaken, all-of, pieces-whole, map-map, map-same, map-equal}
-use Rattle.lists.specs.Pieces.{AllOf, joined-pieces, pieces-joined, length-joined}
+use Rattle.lists.specs.Pieces.{AllOf, length-pieces, joined-pieces, pieces-joined, length-joined}
 use Rattle.types.specs.declared.Record.{Record}
 use Rattle.model.specs.Layouts.{recordLayout}
 use Rattle.model.specs.Lines.{rowOf, lineText, lineSet, linesOf, linesSet, rowGood}
@@ -37,6 +37,10 @@ use Rattle.sheet_laws.specs.Records.{
   state-ranged,
   line-numbers,
 }
+
+pub length-rows : (v : List ℕ) → length (rows v) ≡ length v / 15
+unfolding rows
+length-rows v = length-pieces 15 (length v / 15) v
 
 -- the rows of the numbers of records are the numbers of each
 pub rows-of-numbers : (rs : List Record) → all ranged rs ≡ true → (rows (allNumbers rs) ≡ map recordNumbers rs) × (length (allNumbers rs) ≡ length rs * 15)

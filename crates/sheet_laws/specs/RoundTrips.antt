@@ -51,7 +51,7 @@ use Rattle.model.specs.SheetCalls.{
   coordinatorWritten,
 }
 use Rattle.sheet_laws.specs.Records.{ranged, good-ranged, sheet-written-read, records-read-written, lines-of-text}
-use Rattle.sheet_laws.specs.Numbers.{numbers-read-written, numbers-written-read, rows-of-numbers}
+use Rattle.sheet_laws.specs.Numbers.{length-rows, numbers-read-written, numbers-written-read, rows-of-numbers}
 use Rattle.sheet_laws.specs.Places.{length-records}
 use Rattle.sheet_laws.specs.Coordinator.{Bounds, bounds, coordinator-written-read, coordinator-read-written}
 use Rattle.sheet_laws.specs.Decisions.{Accepted, accepted-parts, accepted-length, length-decisions}
@@ -78,10 +78,6 @@ all-ranged rs h = let g : all goodAlone rs ≡ true = search tests in all-weaken
 length-accepted : (s : List ℕ) → recordsAccepted s ≡ true → length s ≡ length s / 98 * 98
 unfolding recordsAccepted linesSet
 length-accepted s a = search tests
-
-length-rows : (v : List ℕ) → length (rows v) ≡ length v / 15
-unfolding rows
-length-rows v = length-pieces 15 (length v / 15) v
 
 -- T3, record sheet: read into numbers and written again
 pub records-round-trip : (s t u : List ℕ) → recordsAccepted s ≡ true → length t ≡ length s / 98 * 15 → length u ≡ length s → recordsWritten (numbersRead s t) u ≡ s

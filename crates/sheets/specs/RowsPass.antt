@@ -29,7 +29,7 @@ use Rattle.model.specs.Records.{
   rows,
   rowsAccepted,
 }
-use Rattle.sheet_laws.specs.Numbers.{row-same}
+use Rattle.sheet_laws.specs.Numbers.{length-rows, row-same}
 
 -- a row good by itself
 unfoldable pub rowOk : List ℕ → Bool
@@ -133,10 +133,6 @@ judge-last v i l j =
     let n : length (pieces 15 (length v / 15) v) ≤ i = omega (arith, length-pieces 15 (length v / 15) v) in
     let d : drop i (pieces 15 (length v / 15) v) ≡ [] = drop-of-length-le (pieces 15 (length v / 15) v) n in
     rw d at (j .rest)
-
-length-rows : (v : List ℕ) → length (rows v) ≡ length v / 15
-unfolding rows
-length-rows v = length-pieces 15 (length v / 15) v
 
 rows-whole : (v : List ℕ) → length v ≡ length v / 15 * 15 → all whole (rows v) ≡ true
 unfolding rows

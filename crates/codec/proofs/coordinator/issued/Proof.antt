@@ -4,7 +4,8 @@ use native.Mathlib.Omega.{arith}
 use lib.ListN.{length-take}
 use borrow.Author.Needs.{needs}
 use Rattle.decimal.specs.Field.{number}
-use Rattle.codec.specs.Parts.{issued-part, issued-short}
+use Rattle.sheet_laws.specs.Decisions.{issued-at}
+use Rattle.codec.specs.Parts.{issued-short}
 use Rattle.codec.proofs.coordinator.issued.Statement.{statement}
 use Rattle.codec.proofs.coordinator.issued.Tie as tie
 
@@ -27,7 +28,7 @@ number-of-requires-2 : tie.Need-number-of-requires-2
 number-of-requires-2 c κs = search needs
 
 returns-2 : tie.Need-returns-2
-returns-2 c = c .number-of2 .ensures ∙ (ap number (c .before .read2 .ensures) ∙ issued-part _)
+returns-2 c = c .number-of2 .ensures ∙ (ap number (c .before .read2 .ensures) ∙ issued-at _)
 
 pub issued-spec : {M : Type 1} → statement M
 issued-spec =
