@@ -32,7 +32,7 @@ loop-holds : tie.Need-loop-holds Inv-loop μ-loop Inv-lines μ-lines
 loop-holds c = (refl, agree-first _ _ _)
 
 same-field-requires : tie.Need-same-field-requires Inv-loop μ-loop Inv-lines μ-lines
-same-field-requires c κs = (c .loop-test .taken, (omega arith, c .before .before .before .before .before .before .pre))
+same-field-requires c κs = (omega arith, (omega arith, c .before .before .before .before .before .before .pre))
 
 add-i : tie.Need-add-i Inv-loop μ-loop Inv-lines μ-lines
 add-i c = search needs
@@ -41,7 +41,7 @@ lines-less : tie.Need-lines-less Inv-loop μ-loop Inv-lines μ-lines
 lines-less c = search needs
 
 lines-again : tie.Need-lines-again Inv-loop μ-loop Inv-lines μ-lines
-lines-again c = (c .before .before .before .before .before .lines .inv .0, rw (c .before .before .before .loop .inv .0) (pass-next _ _ _ (omega arith) (c .before .before .before .before .before .lines .inv .1) _ (c .before .before .loop-test .taken) (sym (c .before .same-field .ensures) ∙ not-true _ (c .if1 .taken))))
+lines-again c = (c .before .before .before .before .before .lines .inv .0, rw (c .before .before .before .loop .inv .0) (pass-next _ _ _ (omega arith) (c .before .before .before .before .before .lines .inv .1) (c .before .before .before .loop .f) (omega arith) (sym (c .before .same-field .ensures) ∙ not-true _ (c .if1 .taken))))
 
 add-f : tie.Need-add-f Inv-loop μ-loop Inv-lines μ-lines
 add-f c = search needs
@@ -50,7 +50,7 @@ loop-less : tie.Need-loop-less Inv-loop μ-loop Inv-lines μ-lines
 loop-less c = search needs
 
 loop-again : tie.Need-loop-again Inv-loop μ-loop Inv-lines μ-lines
-loop-again c = (c .before .before .before .loop .inv .0, agree-next _ _ _ _ (c .before .before .loop-test .taken) (sym (c .before .same-field .ensures) ∙ not-false _ (c .if1 .left)) (c .before .before .before .loop .inv .1))
+loop-again c = (c .before .before .before .loop .inv .0, agree-next _ _ _ (c .before .before .before .loop .f) (omega arith) (sym (c .before .same-field .ensures) ∙ not-false _ (c .if1 .left)) (c .before .before .before .loop .inv .1))
 
 returns : tie.Need-returns Inv-loop μ-loop Inv-lines μ-lines
 returns c =
