@@ -1,6 +1,6 @@
--- Lists taken element by element: a test that all pass, pieces of equal length, lists joined, lists in order.
+-- Lists taken element by element: tests that all, some or so many pass, pieces of equal length, lists joined, lists in order.
 use Prim.Native.Nat.{ℕ, zero, suc}
-use mathlib.Core.Bool.{Bool, true, false, _&&_, _||_}
+use mathlib.Core.Bool.{Bool, true, false, _&&_, _||_, cond}
 use mathlib.Core.List.{List, [], _∷_, _++_}
 use lib.ListN.{take, drop, getD}
 use lib.Dec.{eqb, ltb}
@@ -9,6 +9,21 @@ use lib.Dec.{eqb, ltb}
 unfoldable pub all {ℓ} : {A : Type ℓ} → (A → Bool) → List A → Bool
 all p [] = true
 all p (x ∷ xs) = p x && all p xs
+
+-- some element passes the test
+unfoldable pub any {ℓ} : {A : Type ℓ} → (A → Bool) → List A → Bool
+any p [] = false
+any p (x ∷ xs) = p x || any p xs
+
+-- the elements that pass the test
+unfoldable pub filter {ℓ} : {A : Type ℓ} → (A → Bool) → List A → List A
+filter p [] = []
+filter p (x ∷ xs) = cond (p x) (x ∷ filter p xs) (filter p xs)
+
+-- how many pass the test
+unfoldable pub count {ℓ} : {A : Type ℓ} → (A → Bool) → List A → ℕ
+count p [] = 0
+count p (x ∷ xs) = cond (p x) (suc (count p xs)) (count p xs)
 
 -- the lists one after another
 unfoldable pub joined {ℓ} : {A : Type ℓ} → List (List A) → List A

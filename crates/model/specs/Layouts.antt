@@ -1,7 +1,7 @@
 -- The layout of every line, as data: widths, kinds and ranges of its fields, in the order of document 01's tables.
 use Prim.Native.Nat.{ℕ}
 use mathlib.Core.List.{List, [], _∷_}
-use lib.ListN.{take, getD}
+use lib.ListN.{take, drop, getD}
 use Rattle.lists.specs.Bytes.{bytes}
 use Rattle.types.specs.declared.Kind.{Kind}
 use Rattle.types.specs.declared.Kind.the-variants.{Figure, StateWord, DecisionWord, UnitLetter}
@@ -56,6 +56,13 @@ recordLayout =
 -- "The key is the first five fields."
 unfoldable pub keyLayout : List Column
 keyLayout = take 5 recordLayout
+
+-- version, TxID and columns of an image, and the columns alone
+unfoldable pub imageLayout : List Column
+imageLayout = take 4 (drop 6 recordLayout)
+
+unfoldable pub columnsLayout : List Column
+columnsLayout = drop 2 imageLayout
 
 -- document 01, "Coordinator sheet": the head, its count and nine unit letters, a space before the first
 unfoldable pub headLayout : List Column

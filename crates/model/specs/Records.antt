@@ -191,3 +191,24 @@ foundFrom i k (r ∷ rs) = cond (sameKey (r .key) k) (At i) (foundFrom (suc i) k
 -- the place of the line that has the key
 unfoldable pub found : Key → List Record → Found
 found k rs = foundFrom 0 k rs
+
+abbrev pub byFound {ℓ} : {A : Type ℓ} → Found → A → (ℕ → A) → A
+byFound Nothing a f = a
+byFound (At i) a f = f i
+
+unfoldable pub isMissing : Found → Bool
+isMissing (At i) = false
+isMissing Nothing = true
+
+-- some line has the key
+abbrev pub hasLine : Key → List Record → Bool
+hasLine k rs = not (isMissing (found k rs))
+
+-- a key without a line counts as an ABSENT line of version 0
+abbrev pub absentAt : Key → Record
+absentAt k = record { key = k; state = Absent; image = noImage; before = noImage; clock = 0 }
+
+-- the line of a key
+unfoldable pub lineOf : Key → List Record → Record
+lineOf k [] = absentAt k
+lineOf k (r ∷ rs) = cond (sameKey (r .key) k) r (lineOf k rs)

@@ -20,6 +20,7 @@ use Rattle.model.specs.Records.{
   allNumbers,
   keyInRange,
   found,
+  isMissing,
 }
 use Rattle.model.specs.Coordinator.{
   coordinatorOf,
@@ -86,10 +87,6 @@ coordinatorWritten v target =
     unlessRefused (writeCoordinatorConditions v target) (coordinatorText (coordinatorFrom v)) target
 
 -- The look-up of a key.
-
-unfoldable pub isMissing : Found → Bool
-isMissing (At i) = false
-isMissing Nothing = true
 
 unfoldable pub lookupConditions : List ℕ → Key → List Condition
 lookupConditions s k =

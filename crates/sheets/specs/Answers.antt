@@ -23,6 +23,7 @@ use Rattle.model.specs.Records.{
   sameKey,
   foundFrom,
   found,
+  isMissing,
 }
 use Rattle.model.specs.Refusals.{refusalOf}
 use Rattle.model.specs.Coordinator.{coordinatorAccepted}
@@ -33,7 +34,6 @@ use Rattle.model.specs.SheetCalls.{
   numbersRead,
   writeRecordsConditions,
   recordsWritten,
-  isMissing,
   lookupConditions,
   lineAt,
   lookedUp,

@@ -23,6 +23,7 @@ pub enum AtomicityUnit {
     Storage,
 }
 
+#[repr(C)]
 pub struct Key {
     pub storage: u32,
     pub namespace: u32,
@@ -32,6 +33,7 @@ pub struct Key {
 }
 
 // What a record holds: its columns, and the version and number of the transaction that wrote them.
+#[repr(C)]
 pub struct Image {
     pub version: u32,
     pub txid: u32,
@@ -76,4 +78,50 @@ pub enum Layout {
 pub enum Found {
     At(usize),
     Nothing,
+}
+
+// The columns that a put brings, or a read answers.
+#[repr(C)]
+pub struct Columns {
+    pub column1: u32,
+    pub column2: u32,
+}
+
+// A record that a transaction holds: what was read, and what was put if `wrote` is 1.
+#[repr(C)]
+pub struct Entry {
+    pub key: Key,
+    pub seen: Image,
+    pub wrote: u32,
+    pub put: Columns,
+}
+
+// A transaction as its client keeps it. Every field is a number, so that any bytes are a value. `serializable` (document 01: checked) is 0 or 1; phases
+// are numbered from 0 in the order of the step table (open, prepare, validate, decide, withdraw, finish, undo, done; document 01 says check
+// for validate); verdicts are 0 none, 1 committed, 2 aborted. Entries from `count` on mean nothing.
+#[repr(C)]
+pub struct Transaction {
+    pub number: u32,
+    pub serializable: u32,
+    pub phase: u32,
+    pub place: u32,
+    pub verdict: u32,
+    pub count: u32,
+    pub entries: [Entry; 8],
+}
+
+// What a visit comes to: the line stays, is rolled forward or back, its owner is aborted and the visit must come again, or the owner may still be at work.
+pub enum Recovery {
+    Stays,
+    Forward,
+    Back,
+    Again,
+    Busy,
+}
+
+// What a read answers.
+pub enum Reading {
+    Absent,
+    Value(Columns),
+    Again,
 }

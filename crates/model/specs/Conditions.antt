@@ -1,0 +1,84 @@
+-- Which refusals each call can give, in the order in which they are asked. Document 01, "Numbered refusals"; 1 and 2, of the sheets themselves,
+-- come before these (ByteCalls).
+use Prim.Native.Nat.{ℕ}
+use mathlib.Core.Bool.{Bool, true, false, _&&_, not}
+use mathlib.Core.List.{List, [], _∷_}
+use lib.ListN.{length, getD}
+use lib.Dec.{eqb, leb}
+use Rattle.types.specs.declared.Decision.{Decision}
+use Rattle.types.specs.declared.Key.{Key}
+use Rattle.types.specs.declared.Entry.{Entry}
+use Rattle.types.specs.declared.Transaction.{Transaction}
+use Rattle.model.specs.Records.{keyInRange, hasLine, lineOf, isMissing, byFound}
+use Rattle.model.specs.Coordinator.{Coordinator, decision}
+use Rattle.model.specs.Refusals.{Condition, refuse}
+use Rattle.model.specs.Transactions.{byPhase, openPhase, noEntry, heldAt}
+use Rattle.model.specs.Images.{byDecision}
+use Rattle.model.specs.Writes.{Sheets}
+use Rattle.model.specs.Visits.{meeting, isBusy}
+use Rattle.model.specs.WellFormed.{columnsInRange, wellFormed}
+use Rattle.model.specs.Results.{Call, begin, read, put, advance, abort, visit}
+
+-- the key is not held, so that a read visits its line
+abbrev pub isNew : Key → Transaction → Bool
+isNew k t = isMissing (heldAt k t)
+
+-- the entry that holds the key, if there is one
+abbrev pub heldEntry : Key → Transaction → Entry
+heldEntry k t = byFound (heldAt k t) noEntry (λ (i : ℕ). getD (t .entries) i noEntry)
+
+-- the visit of the key would find its line undecided and not expired
+abbrev pub busy : Key → ℕ → Sheets → Bool
+busy k now s = isBusy (meeting now (s .coordinator) (lineOf k (s .lines)))
+
+abbrev pub notOpen : Transaction → Bool
+notOpen t = not (eqb (t .phase) openPhase)
+
+-- the decision on the transaction's own coordinator line
+abbrev pub ownDecision : Transaction → Sheets → Decision
+ownDecision t s = decision (t .number) (s .coordinator)
+
+-- "call not for this phase; also finish not COMMITTED, undo not ABORTED, decide or withdraw finding COMMITTED"
+unfoldable pub cannotAdvance : Transaction → Sheets → Bool
+cannotAdvance t s =
+    byPhase (t .phase) false false false (byDecision (ownDecision t s) false true false)
+    (byDecision (ownDecision t s) false true false) (byDecision (ownDecision t s) true false true)
+    (byDecision (ownDecision t s) true true false) true true
+
+-- "Abort turns open, prepare, check or decide into withdraw."
+unfoldable pub cannotAbort : Transaction → Bool
+cannotAbort t = byPhase (t .phase) false false false false true true true true true
+
+unfoldable pub conditions : Call → Sheets → List Condition
+conditions (begin serializable) s =
+    refuse 8 (eqb (s .coordinator .issued) (length (s .coordinator .decisions))) ∷ []
+conditions (read t k now) s =
+    refuse 3 (not (wellFormed s t))
+    ∷ refuse 4 (notOpen t)
+    ∷ refuse 5 (not (keyInRange k))
+    ∷ refuse 6 (not (hasLine k (s .lines)))
+    ∷ refuse 9 (isNew k t && leb 8 (t .count))
+    ∷ refuse 12 (isNew k t && busy k now s)
+    ∷ []
+conditions (put t k c) s =
+    refuse 3 (not (wellFormed s t))
+    ∷ refuse 4 (notOpen t)
+    ∷ refuse 5 (not (keyInRange k))
+    ∷ refuse 6 (not (hasLine k (s .lines)))
+    ∷ refuse 7 (not (columnsInRange c))
+    ∷ refuse 10 (isNew k t)
+    ∷ refuse 11 (leb 99999 (heldEntry k t .seen .version))
+    ∷ []
+conditions (advance t now) s = refuse 3 (not (wellFormed s t)) ∷ refuse 4 (cannotAdvance t s) ∷ []
+conditions (abort t) s = refuse 3 (not (wellFormed s t)) ∷ refuse 4 (cannotAbort t) ∷ []
+conditions (visit k now) s =
+    refuse 5 (not (keyInRange k)) ∷ refuse 6 (not (hasLine k (s .lines))) ∷ refuse 12 (busy k now s) ∷ []
+
+-- the numbers that a call can give, and no others
+unfoldable pub refusals : Call → List ℕ
+refusals (begin serializable) = 1 ∷ 2 ∷ 8 ∷ []
+refusals (read t k now) = 1 ∷ 2 ∷ 3 ∷ 4 ∷ 5 ∷ 6 ∷ 9 ∷ 12 ∷ []
+refusals (put t k c) = 1 ∷ 2 ∷ 3 ∷ 4 ∷ 5 ∷ 6 ∷ 7 ∷ 10 ∷ 11 ∷ []
+refusals (advance t now) = 1 ∷ 2 ∷ 3 ∷ 4 ∷ []
+refusals (abort t) = 1 ∷ 2 ∷ 3 ∷ 4 ∷ []
+refusals (visit k now) = 1 ∷ 2 ∷ 5 ∷ 6 ∷ 12 ∷ []

@@ -1,0 +1,50 @@
+-- Atomicity units, and the groups of a transaction's puts. Document 01, "Atomicity units".
+use Prim.Native.Nat.{ℕ, zero, suc}
+use mathlib.Core.Bool.{Bool, cond}
+use mathlib.Core.List.{List, [], _∷_}
+use lib.ListN.{length, take, getD}
+use lib.Dec.{eqb}
+use Rattle.lists.specs.Bytes.{eqList}
+use Rattle.lists.specs.Each.{any, filter, count, less}
+use Rattle.types.specs.declared.AtomicityUnit.{AtomicityUnit}
+use Rattle.types.specs.declared.AtomicityUnit.the-variants.{Record as RecordUnit, Partition, Table, Namespace, Storage}
+use Rattle.types.specs.declared.Key.{Key}
+use Rattle.types.specs.declared.Entry.{Entry}
+use Rattle.model.specs.Records.{keyNumbers}
+
+-- "Puts are in one group if their keys agree in the first 5, 4, 3, 2 or 1 fields."
+unfoldable pub unitFields : AtomicityUnit → ℕ
+unitFields RecordUnit = 5
+unitFields Partition = 4
+unitFields Table = 3
+unitFields Namespace = 2
+unitFields Storage = 1
+
+-- the unit of a storage, counted from 1
+unfoldable pub unitFor : ℕ → List AtomicityUnit → AtomicityUnit
+unitFor zero us = RecordUnit
+unitFor (suc i) us = getD us i RecordUnit
+
+-- the fields of a key that the unit of its storage compares: "all those above too"
+unfoldable pub scope : List AtomicityUnit → Key → List ℕ
+scope us k = take (unitFields (unitFor (k .storage) us)) (keyNumbers k)
+
+-- a list of scopes and one more, unless it is there
+unfoldable pub addScope : List ℕ → List (List ℕ) → List (List ℕ)
+addScope s ss = cond (any (eqList s) ss) ss (s ∷ ss)
+
+-- the scopes of the entries, each once
+unfoldable pub scopes : List AtomicityUnit → List Entry → List (List ℕ)
+scopes us [] = []
+scopes us (e ∷ es) = addScope (scope us (e .key)) (scopes us es)
+
+unfoldable pub groupCount : List AtomicityUnit → List Entry → ℕ
+groupCount us es = length (scopes us es)
+
+-- "Groups go in rising key order": the place of a key's group is the number of groups before it.
+unfoldable pub groupPlace : List AtomicityUnit → List Entry → Key → ℕ
+groupPlace us es k = count (λ (s : List ℕ). less s (scope us k)) (scopes us es)
+
+-- the group at a place
+unfoldable pub group : List AtomicityUnit → List Entry → ℕ → List Entry
+group us es i = filter (λ (e : Entry). eqb (groupPlace us es (e .key)) i) es

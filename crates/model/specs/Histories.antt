@@ -1,0 +1,133 @@
+-- Histories of calls, and which are legal. Document 01, "The cut-off rule". A crash falls between two calls, so that it needs no event of its own.
+use Prim.Native.Nat.{ℕ, _^_, _<_}
+use mathlib.Core.Path.{_≡_}
+use mathlib.Core.Logic.{_⊎_}
+use mathlib.Core.List.{List, [], _∷_}
+use mathlib.Core.Option.{Option, none, some}
+use Rattle.types.specs.declared.Key.{Key}
+use Rattle.types.specs.declared.Columns.{Columns}
+use Rattle.types.specs.declared.Transaction.{Transaction}
+use Rattle.types.specs.declared.Reading.{Reading}
+use Rattle.types.specs.declared.Recovery.{Recovery}
+use Rattle.model.specs.Writes.{Sheets, apply}
+use Rattle.model.specs.Results.{Call, begin, read, put, advance, abort, visit, Result, refused, made}
+use Rattle.model.specs.Calls.{
+  ReadAnswer,
+  beginResult,
+  readResult,
+  putResult,
+  advanceResult,
+  abortResult,
+  visitResult,
+}
+
+-- What a call answers to its client.
+pub data Answer : Type 0 where
+  turnedAway : ℕ → Answer
+  returned : Transaction → Answer
+  answered : Reading → Transaction → Answer
+  visited : Recovery → Answer
+
+-- a call made, and its answer
+pub record Event : Type 0 where
+  pub call : Call
+  pub answer : Answer
+
+-- the answer of a result, by what it makes of an accepted one
+abbrev pub answerOf : {A : Type 0} → (A → Answer) → Result A → Answer
+answerOf f (refused n) = turnedAway n
+answerOf f (made a w) = f a
+
+-- the sheets after a result
+abbrev pub sheetsAfter : {A : Type 0} → Result A → Sheets → Sheets
+sheetsAfter (refused n) s = s
+sheetsAfter (made a w) s = apply w s
+
+abbrev pub readAnswered : ReadAnswer → Answer
+readAnswered a = answered (a .value) (a .transaction)
+
+-- what the call answers, made with these sheets
+unfoldable pub answer : Call → Sheets → Answer
+answer (begin b) s = answerOf returned (beginResult b s)
+answer (read t k now) s = answerOf readAnswered (readResult t k now s)
+answer (put t k c) s = answerOf returned (putResult t k c s)
+answer (advance t now) s = answerOf returned (advanceResult t now s)
+answer (abort t) s = answerOf returned (abortResult t s)
+answer (visit k now) s = answerOf visited (visitResult k now s)
+
+-- the sheets as the call leaves them
+unfoldable pub after : Call → Sheets → Sheets
+after (begin b) s = sheetsAfter (beginResult b s) s
+after (read t k now) s = sheetsAfter (readResult t k now s) s
+after (put t k c) s = sheetsAfter (putResult t k c s) s
+after (advance t now) s = sheetsAfter (advanceResult t now s) s
+after (abort t) s = sheetsAfter (abortResult t s) s
+after (visit k now) s = sheetsAfter (visitResult k now s) s
+
+-- the transaction that a call is given
+unfoldable pub given : Call → Option Transaction
+given (begin b) = none
+given (read t k now) = some t
+given (put t k c) = some t
+given (advance t now) = some t
+given (abort t) = some t
+given (visit k now) = none
+
+-- the transaction that an accepted call returns, begin's included; "a transaction that a refusal leaves unchanged isn't returned by it"
+unfoldable pub returns : Answer → Option Transaction
+returns (turnedAway n) = none
+returns (returned t) = some t
+returns (answered v t) = some t
+returns (visited v) = none
+
+-- the transaction that an accepted call takes; a refused call takes none
+abbrev pub takenBy : Call → Answer → Option Transaction
+takenBy c (turnedAway n) = none
+takenBy c (returned t) = given c
+takenBy c (answered v t) = given c
+takenBy c (visited v) = given c
+
+abbrev pub taken : Event → Option Transaction
+taken e = takenBy (e .call) (e .answer)
+
+-- "a state that begin gave in this list, or that an accepted call of it returned for the one it took, and that no accepted call has taken since":
+-- over the events so far, the last one first
+abbrev pub Available : Transaction → List Event → Type 0
+Available t [] = ⊥
+Available t (e ∷ es) =
+    (returns (e .answer) ≡ some t) ⊎ ((taken e ≡ some t → ⊥) × Available t es)
+
+-- the clock reading of a call is a number below 2^32
+abbrev pub ClockFits : Call → Type 0
+ClockFits (begin b) = Unit {0}
+ClockFits (read t k now) = now < 2 ^ 32
+ClockFits (put t k c) = Unit {0}
+ClockFits (advance t now) = now < 2 ^ 32
+ClockFits (abort t) = Unit {0}
+ClockFits (visit k now) = now < 2 ^ 32
+
+-- "A refused call may bring any transaction, key and clock. An accepted one that takes a transaction takes a state" that is available.
+pub record Permitted (c : Call) (a : Answer) (es : List Event) : Type 0 where
+  pub clock : ClockFits c
+  pub state : (t : Transaction) → takenBy c a ≡ some t → Available t es
+
+-- Histories over any kind of sheets, decoded or bytes, by what a call answers with them and how it leaves them.
+module _ {S : Type 0} (answers : Call → S → Answer) (leaves : Call → S → S) where
+  -- the call made with these sheets, and its answer
+  abbrev pub event : Call → S → Event
+  event c s = record { call = c; answer = answers c s }
+
+  -- the calls that have been made, the last one first
+  unfoldable pub eventsAfter : List Call → S → List Event → List Event
+  eventsAfter [] s es = es
+  eventsAfter (c ∷ cs) s es = eventsAfter cs (leaves c s) (event c s ∷ es)
+
+  -- "each call given the sheets as the last one left them"
+  unfoldable pub leftBy : List Call → S → S
+  leftBy [] s = s
+  leftBy (c ∷ cs) s = leftBy cs (leaves c s)
+
+  -- a legal history from these sheets, after these events
+  abbrev pub Legal : List Call → S → List Event → Type 0
+  Legal [] s es = Unit {0}
+  Legal (c ∷ cs) s es = Permitted c (answers c s) es × Legal cs (leaves c s) (event c s ∷ es)

@@ -1,0 +1,90 @@
+-- What becomes of one record: prepared, committed in one phase, rolled forward or back; and what a visit comes to. Document 01, "Transaction".
+use Prim.Native.Nat.{ℕ, _+_, _-_, _%_, _^_}
+use mathlib.Core.Bool.{Bool, true, false, _&&_, not, cond}
+use lib.Dec.{eqb, leb}
+use Rattle.types.specs.declared.State.{State}
+use Rattle.types.specs.declared.State.the-variants.{Absent, Committed, Prepared}
+use Rattle.types.specs.declared.Decision.{Decision}
+use Rattle.types.specs.declared.Decision.the-variants as Decided
+use Rattle.types.specs.declared.Image.{Image}
+use Rattle.types.specs.declared.Record.{Record}
+use Rattle.types.specs.declared.Entry.{Entry}
+use Rattle.types.specs.declared.Recovery.{Recovery}
+use Rattle.types.specs.declared.Recovery.the-variants.{Stays, Forward, Back, Again, Busy}
+use Rattle.model.specs.Records.{byState, noImage}
+
+-- pending: prepared by a transaction, and neither rolled forward nor back
+abbrev pub isPrepared : Record → Bool
+isPrepared r = byState (r .state) false false true
+
+-- pending by the transaction of this number
+unfoldable pub preparedBy : ℕ → Record → Bool
+preparedBy n r = isPrepared r && eqb (r .image .txid) n
+
+-- "The condition of an entry: its line isn't PREPARED and has the TxID and version read."
+unfoldable pub unchanged : Entry → Record → Bool
+unchanged e r =
+    not (isPrepared r)
+    && eqb (r .image .txid) (e .seen .txid)
+    && eqb (r .image .version) (e .seen .version)
+
+-- the put of an entry under a number: "version + 1"
+abbrev pub putImage : ℕ → Entry → Record → Image
+putImage n e r =
+    record {
+      version = r .image .version + 1;
+      txid = n;
+      column1 = e .put .column1;
+      column2 = e .put .column2;
+    }
+
+-- "write its lines PREPARED, old values to the before fields, version + 1, clock = now"
+unfoldable pub prepared : ℕ → ℕ → Entry → Record → Record
+prepared n now e r =
+    record { key = r .key; state = Prepared; image = putImage n e r; before = r .image; clock = now }
+
+-- one-phase: "write the puts as COMMITTED under this number, version + 1"
+unfoldable pub committed : ℕ → Entry → Record → Record
+committed n e r =
+    record { key = r .key; state = Committed; image = putImage n e r; before = noImage; clock = 0 }
+
+-- "Forward: COMMITTED, before fields and clock 0."
+unfoldable pub rolledForward : Record → Record
+rolledForward r =
+    record { key = r .key; state = Committed; image = r .image; before = noImage; clock = 0 }
+
+-- the state of a before image: ABSENT if its version is 0
+abbrev pub beforeState : Image → State
+beforeState m = cond (eqb (m .version) 0) Absent Committed
+
+-- "Back: the before image as COMMITTED, or ABSENT if its version is 0."
+unfoldable pub rolledBack : Record → Record
+rolledBack r =
+    record { key = r .key; state = beforeState (r .before); image = r .before; before = noImage; clock = 0 }
+
+-- "the clock minus its prepare clock, modulo 4294967296"
+unfoldable pub elapsed : ℕ → ℕ → ℕ
+elapsed now clock = (now + (2 ^ 32 - clock)) % 2 ^ 32
+
+-- "A prepared line has expired when [that] is from 15000 to 2147483647."
+unfoldable pub lineExpired : ℕ → Record → Bool
+lineExpired now r = leb 15000 (elapsed now (r .clock)) && leb (elapsed now (r .clock)) 2147483647
+
+-- a choice by a decision
+abbrev pub byDecision {ℓ} : {A : Type ℓ} → Decision → A → A → A → A
+byDecision Decided.Undecided u c a = u
+byDecision Decided.Committed u c a = c
+byDecision Decided.Aborted u c a = a
+
+-- "Visit: a line not PREPARED stays. Owner COMMITTED: forward. Owner ABORTED: back. Undecided and expired: .. again"; not expired: refusal 12.
+unfoldable pub recovery : Record → Decision → Bool → Recovery
+recovery r owner expired =
+    cond (isPrepared r) (byDecision owner (cond expired Again Busy) Forward Back) Stays
+
+-- a choice by what a visit comes to
+abbrev pub byRecovery {ℓ} : {A : Type ℓ} → Recovery → A → A → A → A → A → A
+byRecovery Stays s f b g u = s
+byRecovery Forward s f b g u = f
+byRecovery Back s f b g u = b
+byRecovery Again s f b g u = g
+byRecovery Busy s f b g u = u

@@ -1,0 +1,116 @@
+-- The sequential model (document 01: the plain book): a line for each key and a write set (page) for each number. It is fed each call's arguments and
+-- its answer, and never sees the sheets.
+use Prim.Native.Nat.{ℕ, _+_}
+use mathlib.Core.Bool.{Bool, true, false, _&&_, cond}
+use mathlib.Core.List.{List, [], _∷_}
+use mathlib.Core.Option.{Option, none, some}
+use lib.Dec.{eqb}
+use Rattle.types.specs.declared.State.the-variants.{Committed}
+use Rattle.types.specs.declared.Key.{Key}
+use Rattle.types.specs.declared.Columns.{Columns}
+use Rattle.types.specs.declared.Record.{Record}
+use Rattle.types.specs.declared.Transaction.{Transaction}
+use Rattle.model.specs.Records.{noImage, sameKey, lineOf}
+use Rattle.model.specs.Transactions.{noVerdict, committedVerdict}
+use Rattle.model.specs.Results.{Call, begin, read, put, advance, abort, visit}
+use Rattle.model.specs.Histories.{Event, Answer, turnedAway, returned, answered, visited, given, returns}
+
+-- the columns to be written to each key
+abbrev pub WriteSet : Type 0
+WriteSet = Key → Option Columns
+
+pub record Model : Type 0 where
+  -- the line of each key
+  pub line : Key → Record
+  -- the write set (page) of each number
+  pub writes : ℕ → WriteSet
+  -- the numbers committed, the last one first
+  pub committed : List ℕ
+
+-- "a line for each key, at first the record sheet's"
+unfoldable pub firstModel : List Record → Model
+firstModel rs =
+    record {
+      line = λ (k : Key). lineOf k rs;
+      writes = λ (n : ℕ) (k : Key). none;
+      committed = [];
+    }
+
+-- "accepted begin: an empty page for the number given"
+unfoldable pub modelBegin : ℕ → Model → Model
+modelBegin n m =
+    record {
+      line = m .line;
+      writes = λ (i : ℕ). cond (eqb i n) (λ (k : Key). none) (m .writes i);
+      committed = m .committed;
+    }
+
+-- "accepted put: key and columns go on that number's page, in place of earlier ones for the key"
+unfoldable pub modelPut : ℕ → Key → Columns → Model → Model
+modelPut n k c m =
+    record {
+      line = m .line;
+      writes = λ (i : ℕ) (j : Key). cond (eqb i n && sameKey k j) (some c) (m .writes i j);
+      committed = m .committed;
+    }
+
+-- "the book's line becomes COMMITTED, version + 1, TxID its number, the page's columns, before fields and clock 0"
+unfoldable pub written : ℕ → Option Columns → Record → Record
+written n none r = r
+written n (some c) r =
+    record {
+      key = r .key;
+      state = Committed;
+      image =
+          record {
+            version = r .image .version + 1;
+            txid = n;
+            column1 = c .column1;
+            column2 = c .column2;
+          };
+      before = noImage;
+      clock = 0;
+    }
+
+-- "the transaction is committed", for each key on its page
+unfoldable pub modelCommit : ℕ → Model → Model
+modelCommit n m =
+    record {
+      line = λ (k : Key). written n (m .writes n k) (m .line k);
+      writes = m .writes;
+      committed = n ∷ m .committed;
+    }
+
+-- "an accepted call that takes a transaction with verdict none and returns it committed"
+abbrev pub commitsIt : Option Transaction → Option Transaction → Bool
+commitsIt (some t) (some t′) = eqb (t .verdict) noVerdict && eqb (t′ .verdict) committedVerdict
+commitsIt (some t) none = false
+commitsIt none u = false
+
+abbrev pub numberOf : Option Transaction → ℕ
+numberOf none = 0
+numberOf (some t) = t .number
+
+-- the model after a call that returned this transaction
+unfoldable pub modelCall : Call → Option Transaction → Model → Model
+modelCall (begin b) u m = modelBegin (numberOf u) m
+modelCall (put t k c) u m = modelPut (t .number) k c m
+modelCall (read t k now) u m = cond (commitsIt (some t) u) (modelCommit (t .number) m) m
+modelCall (advance t now) u m = cond (commitsIt (some t) u) (modelCommit (t .number) m) m
+modelCall (abort t) u m = cond (commitsIt (some t) u) (modelCommit (t .number) m) m
+modelCall (visit k now) u m = m
+
+-- "any other call, refused ones too: nothing"
+unfoldable pub modelStep : Event → Model → Model
+modelStep e m = byAnswer (e .answer)
+  where
+    byAnswer : Answer → Model
+    byAnswer (turnedAway n) = m
+    byAnswer (returned t) = modelCall (e .call) (some t) m
+    byAnswer (answered v t) = modelCall (e .call) (some t) m
+    byAnswer (visited v) = m
+
+-- the model after events, the last one first
+unfoldable pub modelAfter : List Event → Model → Model
+modelAfter [] m = m
+modelAfter (e ∷ es) m = modelStep e (modelAfter es m)

@@ -1,0 +1,158 @@
+-- The step table: what an advance does in each of the eight phases, whether or not it would be refused. Document 01, "Transaction".
+use Prim.Native.Nat.{ℕ, _+_}
+use mathlib.Core.Bool.{Bool, true, false, _&&_, _||_, not, cond}
+use mathlib.Core.List.{List, [], _∷_, map}
+use lib.ListN.{length, getD}
+use lib.Dec.{eqb, ltb}
+use Rattle.lists.specs.Each.{all}
+use Rattle.types.specs.declared.AtomicityUnit.{AtomicityUnit}
+use Rattle.types.specs.declared.Decision.the-variants.{Committed, Aborted}
+use Rattle.types.specs.declared.Key.{Key}
+use Rattle.types.specs.declared.Record.{Record}
+use Rattle.types.specs.declared.Entry.{Entry}
+use Rattle.types.specs.declared.Transaction.{Transaction}
+use Rattle.model.specs.Records.{hasLine, lineOf}
+use Rattle.model.specs.Coordinator.{decision}
+use Rattle.model.specs.Transactions.{
+  byPhase,
+  preparePhase,
+  validatePhase,
+  decidePhase,
+  withdrawPhase,
+  finishPhase,
+  undoPhase,
+  donePhase,
+  committedVerdict,
+  abortedVerdict,
+  isSerializable,
+  isEmpty,
+  puts,
+  toValidate,
+  noEntry,
+  moved,
+}
+use Rattle.model.specs.Groups.{groupCount, group}
+use Rattle.model.specs.Images.{unchanged, byDecision}
+use Rattle.model.specs.Writes.{Sheets, Write, nothing, decide, commit, prepare, forward, back}
+
+-- the transaction that comes back, and what is written
+pub record Step : Type 0 where
+  pub transaction : Transaction
+  pub write : Write
+
+-- "The condition of an entry": total, and false where its key has no line
+unfoldable pub holds : List Record → Entry → Bool
+holds rs e = hasLine (e .key) rs && unchanged e (lineOf (e .key) rs)
+
+abbrev pub unitsOf : Sheets → List AtomicityUnit
+unitsOf s = s .coordinator .units
+
+abbrev pub groupsOf : Transaction → Sheets → ℕ
+groupsOf t s = groupCount (unitsOf s) (puts t)
+
+-- the puts of the group at the transaction's place
+abbrev pub groupAt : Transaction → Sheets → List Entry
+groupAt t s = group (unitsOf s) (puts t) (t .place)
+
+abbrev pub keysOf : List Entry → List Key
+keysOf es = map (λ (e : Entry). e .key) es
+
+-- to a phase without a verdict, at place 0, with nothing written
+abbrev pub to : ℕ → Transaction → Step
+to phase t = record { transaction = moved phase 0 (t .verdict) t; write = nothing }
+
+-- nothing changes, where there is no step
+abbrev pub noStep : Transaction → Step
+noStep t = record { transaction = t; write = nothing }
+
+-- to done, committed
+abbrev pub commits : Transaction → Transaction
+commits t = moved donePhase 0 committedVerdict t
+
+-- "one group and not checked"
+unfoldable pub onePhaseAllowed : Transaction → Sheets → Bool
+onePhaseAllowed t s = eqb (groupsOf t s) 1 && not (isSerializable t)
+
+-- "no puts: to check if checked with entries, else done, committed"
+unfoldable pub openWithoutPuts : Transaction → Step
+openWithoutPuts t =
+    cond (isEmpty (toValidate t)) (record { transaction = commits t; write = nothing }) (to validatePhase t)
+
+-- "if all conditions in the group hold, write the puts as COMMITTED under this number, version + 1, to done, committed (one-phase); if not, to withdraw"
+unfoldable pub onePhase : Transaction → Sheets → Step
+onePhase t s =
+    cond (all (holds (s .lines)) (groupAt t s))
+    (record { transaction = commits t; write = commit (t .number) (groupAt t s) })
+    (to withdrawPhase t)
+
+unfoldable pub openStep : Transaction → Sheets → Step
+openStep t s =
+    cond (isEmpty (puts t)) (openWithoutPuts t) (cond (onePhaseAllowed t s) (onePhase t s) (to preparePhase t))
+
+-- "after the last check (if checked with entries not put) or decide"
+abbrev pub afterPrepare : Transaction → ℕ
+afterPrepare t = cond (isEmpty (toValidate t)) decidePhase validatePhase
+
+-- the next group, or after the last another phase and its verdict
+unfoldable pub nextGroup : ℕ → Transaction → Sheets → Transaction
+nextGroup after t s =
+    cond (ltb (t .place + 1) (groupsOf t s)) (moved (t .phase) (t .place + 1) (t .verdict) t)
+    (moved after 0 (t .verdict) t)
+
+-- "if all conditions in the group hold, write its lines PREPARED ..; next group .. If one fails, nothing is written; to withdraw."
+unfoldable pub prepareStep : Transaction → ℕ → Sheets → Step
+prepareStep t now s =
+    cond (all (holds (s .lines)) (groupAt t s))
+    (record {
+      transaction = nextGroup (afterPrepare t) t s;
+      write = prepare (t .number) now (groupAt t s);
+    })
+    (to withdrawPhase t)
+
+-- "next, after the last decide, or done, committed, without puts"
+unfoldable pub nextEntry : Transaction → Transaction
+nextEntry t =
+    cond (ltb (t .place + 1) (length (toValidate t))) (moved validatePhase (t .place + 1) (t .verdict) t)
+    (cond (isEmpty (puts t)) (commits t) (moved decidePhase 0 (t .verdict) t))
+
+-- "one entry without put, in the order read; its condition holds: next .. Fails: withdraw."
+unfoldable pub validateStep : Transaction → Sheets → Step
+validateStep t s =
+    cond (holds (s .lines) (getD (toValidate t) (t .place) noEntry))
+    (record { transaction = nextEntry t; write = nothing })
+    (to withdrawPhase t)
+
+-- "own line `-`: write COMMITTED, to finish. ABORTED: to undo, aborted."
+unfoldable pub decideStep : Transaction → Sheets → Step
+decideStep t s =
+    byDecision (decision (t .number) (s .coordinator))
+    (record { transaction = moved finishPhase 0 committedVerdict t; write = decide (t .number) Committed })
+    (noStep t)
+    (record { transaction = moved undoPhase 0 abortedVerdict t; write = nothing })
+
+-- "to undo, or to done if there are no puts; aborted either way"
+abbrev pub withdrawn : Transaction → Transaction
+withdrawn t = moved (cond (isEmpty (puts t)) donePhase undoPhase) 0 abortedVerdict t
+
+-- "write ABORTED if `-`"
+unfoldable pub withdrawStep : Transaction → Sheets → Step
+withdrawStep t s =
+    byDecision (decision (t .number) (s .coordinator))
+    (record { transaction = withdrawn t; write = decide (t .number) Aborted })
+    (noStep t)
+    (record { transaction = withdrawn t; write = nothing })
+
+-- "roll forward, or back, the group's lines that are PREPARED by this number, skip the rest; next group, then done"
+unfoldable pub finishStep : Transaction → Sheets → Step
+finishStep t s =
+    record { transaction = nextGroup donePhase t s; write = forward (t .number) (keysOf (groupAt t s)) }
+
+unfoldable pub undoStep : Transaction → Sheets → Step
+undoStep t s =
+    record { transaction = nextGroup donePhase t s; write = back (t .number) (keysOf (groupAt t s)) }
+
+-- "Every call is a decision over eight phases."
+unfoldable pub step : Transaction → ℕ → Sheets → Step
+step t now s =
+    byPhase (t .phase) (openStep t s) (prepareStep t now s) (validateStep t s) (decideStep t s) (withdrawStep t s)
+    (finishStep t s) (undoStep t s) (noStep t) (noStep t)

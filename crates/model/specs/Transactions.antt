@@ -1,0 +1,147 @@
+-- A transaction as its client keeps it: names for its numbers, and the entries that it holds. Document 01, "Transaction".
+use Prim.Native.Nat.{ℕ, suc}
+use mathlib.Core.Bool.{Bool, true, false, _&&_, not, cond}
+use mathlib.Core.List.{List, [], _∷_}
+use lib.ListN.{take, set}
+use lib.Dec.{eqb}
+use Rattle.lists.specs.Each.{filter}
+use Rattle.types.specs.declared.Key.{Key}
+use Rattle.types.specs.declared.Image.{Image}
+use Rattle.types.specs.declared.Columns.{Columns}
+use Rattle.types.specs.declared.Entry.{Entry}
+use Rattle.types.specs.declared.Transaction.{Transaction}
+use Rattle.types.specs.declared.Reading.{Reading}
+use Rattle.types.specs.declared.Reading.the-variants.{Absent, Value}
+use Rattle.types.specs.declared.Found.{Found}
+use Rattle.types.specs.declared.Found.the-variants.{At, Nothing}
+use Rattle.model.specs.Records.{noImage, noRecord, sameKey}
+
+-- Phases by number, in the order of the step table. Validate is document 01's check.
+
+abbrev pub openPhase : ℕ
+openPhase = 0
+
+abbrev pub preparePhase : ℕ
+preparePhase = 1
+
+abbrev pub validatePhase : ℕ
+validatePhase = 2
+
+abbrev pub decidePhase : ℕ
+decidePhase = 3
+
+abbrev pub withdrawPhase : ℕ
+withdrawPhase = 4
+
+abbrev pub finishPhase : ℕ
+finishPhase = 5
+
+abbrev pub undoPhase : ℕ
+undoPhase = 6
+
+abbrev pub donePhase : ℕ
+donePhase = 7
+
+-- a choice by phase, in that order; the last is for a number that is no phase
+abbrev pub byPhase {ℓ} : {A : Type ℓ} → ℕ → A → A → A → A → A → A → A → A → A → A
+byPhase p o r v d w f u e x =
+    cond (eqb p openPhase) o
+    (cond (eqb p preparePhase) r
+    (cond (eqb p validatePhase) v
+    (cond (eqb p decidePhase) d
+    (cond (eqb p withdrawPhase) w
+    (cond (eqb p finishPhase) f (cond (eqb p undoPhase) u (cond (eqb p donePhase) e x)))))))
+
+-- Verdicts by number.
+
+abbrev pub noVerdict : ℕ
+noVerdict = 0
+
+abbrev pub committedVerdict : ℕ
+committedVerdict = 1
+
+abbrev pub abortedVerdict : ℕ
+abortedVerdict = 2
+
+-- document 01's "checked"
+abbrev pub isSerializable : Transaction → Bool
+isSerializable t = eqb (t .serializable) 1
+
+-- Entries.
+
+-- those in use, in the order read
+unfoldable pub held : Transaction → List Entry
+held t = take (t .count) (t .entries)
+
+abbrev pub isPut : Entry → Bool
+isPut e = eqb (e .wrote) 1
+
+unfoldable pub puts : Transaction → List Entry
+puts t = filter isPut (held t)
+
+-- an entry that must be validated before the transaction may commit: one without a put, if the transaction is serializable
+abbrev pub mustValidate : Transaction → Entry → Bool
+mustValidate t e = isSerializable t && not (isPut e)
+
+unfoldable pub toValidate : Transaction → List Entry
+toValidate t = filter (mustValidate t) (held t)
+
+abbrev pub noEntry : Entry
+noEntry =
+    record { key = noRecord .key; seen = noImage; wrote = 0; put = record { column1 = 0; column2 = 0 } }
+
+abbrev pub isEmpty {ℓ} : {A : Type ℓ} → List A → Bool
+isEmpty [] = true
+isEmpty (x ∷ xs) = false
+
+-- the place of the first entry with the key, counted from i
+unfoldable pub heldFrom : ℕ → Key → List Entry → Found
+heldFrom i k [] = Nothing
+heldFrom i k (e ∷ es) = cond (sameKey (e .key) k) (At i) (heldFrom (suc i) k es)
+
+-- the place of the entry that holds the key
+unfoldable pub heldAt : Key → Transaction → Found
+heldAt k t = heldFrom 0 k (held t)
+
+-- "Read gives a held entry as last put, else as first read"; "Read answers an ABSENT line as absent."
+unfoldable pub reading : Entry → Reading
+reading e =
+    cond (isPut e) (Value (e .put))
+    (cond (eqb (e .seen .version) 0) Absent
+    (Value (record { column1 = e .seen .column1; column2 = e .seen .column2 })))
+
+-- the entry of a record as read
+abbrev pub entryAs : Key → Image → Entry
+entryAs k m = record { key = k; seen = m; wrote = 0; put = record { column1 = 0; column2 = 0 } }
+
+-- the entry with a put, "in place of an earlier put"
+abbrev pub withPut : Columns → Entry → Entry
+withPut c e = record { key = e .key; seen = e .seen; wrote = 1; put = c }
+
+-- A transaction with some fields replaced.
+
+-- "A new phase starts at place 0."
+abbrev pub moved : ℕ → ℕ → ℕ → Transaction → Transaction
+moved phase place verdict t =
+    record {
+      number = t .number;
+      serializable = t .serializable;
+      phase = phase;
+      place = place;
+      verdict = verdict;
+      count = t .count;
+      entries = t .entries;
+    }
+
+-- the first n entries in use, and e at place i
+abbrev pub withEntry : ℕ → ℕ → Entry → Transaction → Transaction
+withEntry n i e t =
+    record {
+      number = t .number;
+      serializable = t .serializable;
+      phase = t .phase;
+      place = t .place;
+      verdict = t .verdict;
+      count = n;
+      entries = set (t .entries) i e;
+    }

@@ -1,0 +1,94 @@
+-- Well-formed transactions (refusal 3): a line for each clause of document 01, "Transaction", and READINGS.
+use Prim.Native.Nat.{ℕ}
+use mathlib.Core.Bool.{Bool, true, false, _&&_, _||_, not}
+use mathlib.Core.List.{List, [], _∷_}
+use lib.ListN.{length}
+use lib.Dec.{eqb, leb, ltb}
+use Rattle.lists.specs.Each.{all, any}
+use Rattle.types.specs.declared.AtomicityUnit.{AtomicityUnit}
+use Rattle.types.specs.declared.Image.{Image}
+use Rattle.types.specs.declared.Columns.{Columns}
+use Rattle.types.specs.declared.Entry.{Entry}
+use Rattle.types.specs.declared.Record.{Record}
+use Rattle.types.specs.declared.Transaction.{Transaction}
+use Rattle.model.specs.Layouts.{imageLayout, columnsLayout}
+use Rattle.model.specs.Lines.{rowGood}
+use Rattle.model.specs.Records.{imageNumbers, isZero, sameKey, hasLine}
+use Rattle.model.specs.Transactions.{
+  byPhase,
+  validatePhase,
+  decidePhase,
+  noVerdict,
+  committedVerdict,
+  abortedVerdict,
+  isSerializable,
+  isPut,
+  isEmpty,
+  held,
+  puts,
+  toValidate,
+}
+use Rattle.model.specs.Groups.{groupCount}
+use Rattle.model.specs.Writes.{Sheets}
+
+-- the image's numbers are in the ranges of a record's
+unfoldable pub imageInRange : Image → Bool
+imageInRange m = rowGood imageLayout (imageNumbers m)
+
+-- neither put column is too large
+unfoldable pub columnsInRange : Columns → Bool
+columnsInRange c = rowGood columnsLayout (c .column1 ∷ c .column2 ∷ [])
+
+-- "a put entry has version at most 99998", and its put columns are in range; those of an entry without put mean nothing
+unfoldable pub putFits : Entry → Bool
+putFits e = not (isPut e) || leb (e .seen .version) 99998 && columnsInRange (e .put)
+
+-- An entry by itself.
+unfoldable pub entryFormed : ℕ → Entry → Bool
+entryFormed issued e =
+    leb (e .wrote) 1
+    && imageInRange (e .seen)  -- "values are in range"
+    && leb (e .seen .txid) issued  -- "TxIDs read are at most the issued count"
+    && (leb 1 (e .seen .version) || isZero (e .seen))  -- "version 0 has TxID and columns 0"
+    && putFits e
+
+-- "entries with distinct keys"
+unfoldable pub distinctKeys : List Entry → Bool
+distinctKeys [] = true
+distinctKeys (e ∷ es) = not (any (λ (f : Entry). sameKey (f .key) (e .key)) es) && distinctKeys es
+
+-- "place is below the number of groups (prepare, finish, undo) or of entries without put (check), else 0"; a number that is no phase has no place
+unfoldable pub placeFormed : List AtomicityUnit → Transaction → Bool
+placeFormed us t =
+    byPhase (t .phase) (eqb (t .place) 0) (ltb (t .place) (groupCount us (puts t))) (ltb (t .place) (length (toValidate t)))
+    (eqb (t .place) 0) (eqb (t .place) 0) (ltb (t .place) (groupCount us (puts t))) (ltb (t .place) (groupCount us (puts t)))
+    (eqb (t .place) 0) false
+
+-- "Verdict is committed in finish, aborted in undo, either in done, none elsewhere."
+unfoldable pub verdictFormed : Transaction → Bool
+verdictFormed t =
+    byPhase (t .phase) (eqb (t .verdict) noVerdict) (eqb (t .verdict) noVerdict) (eqb (t .verdict) noVerdict)
+    (eqb (t .verdict) noVerdict) (eqb (t .verdict) noVerdict) (eqb (t .verdict) committedVerdict)
+    (eqb (t .verdict) abortedVerdict) (eqb (t .verdict) committedVerdict || eqb (t .verdict) abortedVerdict) false
+
+-- What can be told from the units and the issued count.
+unfoldable pub formed : List AtomicityUnit → ℕ → Transaction → Bool
+formed us issued t =
+    leb 1 (t .number)
+    && leb (t .number) issued  -- "its number is 1 to the issued count"
+    && leb (t .serializable) 1
+    && leb (t .count) 8  -- "up to 8 entries"
+    && all (entryFormed issued) (held t)
+    && distinctKeys (held t)
+    && (not (eqb (t .phase) decidePhase) || not (isEmpty (puts t)))  -- "decide has a put"
+    && (not (eqb (t .phase) validatePhase) || isSerializable t)  -- "only a checked one is in check"
+    && placeFormed us t
+    && verdictFormed t
+
+-- "each key has a line"
+unfoldable pub linesHeld : List Record → Transaction → Bool
+linesHeld rs t = all (λ (e : Entry). hasLine (e .key) rs) (held t)
+
+unfoldable pub wellFormed : Sheets → Transaction → Bool
+wellFormed s t =
+    formed (s .coordinator .units) (s .coordinator .issued) t && linesHeld (s .lines) t

@@ -1,0 +1,69 @@
+-- What a call writes, as data: the lines of one group, or the coordinator sheet, or nothing. Only `apply` changes sheets.
+use Prim.Native.Nat.{ℕ, _+_}
+use mathlib.Core.Bool.{Bool, true, false, _&&_, cond}
+use mathlib.Core.List.{List, [], _∷_, map}
+use mathlib.Core.Option.{Option, none, some}
+use Rattle.lists.specs.Each.{any}
+use Rattle.types.specs.declared.Decision.{Decision}
+use Rattle.types.specs.declared.Key.{Key}
+use Rattle.types.specs.declared.Record.{Record}
+use Rattle.types.specs.declared.Entry.{Entry}
+use Rattle.model.specs.Records.{sameKey}
+use Rattle.model.specs.Coordinator.{Coordinator, withDecision, withIssued}
+use Rattle.model.specs.Images.{preparedBy, prepared, committed, rolledForward, rolledBack}
+
+-- both sheets, decoded
+pub record Sheets : Type 0 where
+  pub lines : List Record
+  pub coordinator : Coordinator
+
+pub data Write : Type 0 where
+  nothing : Write
+  -- one more number
+  issue : Write
+  -- the decision of a number
+  decide : ℕ → Decision → Write
+  -- the puts of a group, in one phase, under a number
+  commit : ℕ → List Entry → Write
+  -- the puts of a group, prepared by a number at a clock reading
+  prepare : ℕ → ℕ → List Entry → Write
+  -- the lines of these keys that a number has prepared
+  forward : ℕ → List Key → Write
+  back : ℕ → List Key → Write
+
+-- the entry of a key among those of a group
+unfoldable pub entryFor : Key → List Entry → Option Entry
+entryFor k [] = none
+entryFor k (e ∷ es) = cond (sameKey (e .key) k) (some e) (entryFor k es)
+
+-- what an entry makes of a record, which stays as it is if there is none
+abbrev pub byEntry : Option Entry → Record → (Entry → Record) → Record
+byEntry none r f = r
+byEntry (some e) r f = f e
+
+-- one of the lines of these keys that the number has prepared
+unfoldable pub isOf : ℕ → List Key → Record → Bool
+isOf n ks r = preparedBy n r && any (sameKey (r .key)) ks
+
+-- "A group's lines are those of its puts only": every other line stays.
+unfoldable pub lineAfter : Write → Record → Record
+lineAfter nothing r = r
+lineAfter issue r = r
+lineAfter (decide n d) r = r
+lineAfter (commit n es) r = byEntry (entryFor (r .key) es) r (λ (e : Entry). committed n e r)
+lineAfter (prepare n now es) r = byEntry (entryFor (r .key) es) r (λ (e : Entry). prepared n now e r)
+lineAfter (forward n ks) r = cond (isOf n ks r) (rolledForward r) r
+lineAfter (back n ks) r = cond (isOf n ks r) (rolledBack r) r
+
+unfoldable pub decisionsAfter : Write → Coordinator → Coordinator
+decisionsAfter nothing c = c
+decisionsAfter issue c = withIssued (c .issued + 1) c
+decisionsAfter (decide n d) c = withDecision n d c
+decisionsAfter (commit n es) c = c
+decisionsAfter (prepare n now es) c = c
+decisionsAfter (forward n ks) c = c
+decisionsAfter (back n ks) c = c
+
+unfoldable pub apply : Write → Sheets → Sheets
+apply w s =
+    record { lines = map (lineAfter w) (s .lines); coordinator = decisionsAfter w (s .coordinator) }
