@@ -20,3 +20,6 @@ pub mod Histories
 pub mod SequentialModel
 pub mod RecoveryPass
 pub mod ByteHistories
+pub mod Visitor
+pub mod Cases
+pub mod Learners

@@ -1,0 +1,47 @@
+-- The places where learners go astray, as theorems. Document 01, "Where learners go astray"; the first, on grouping, is in the table of Cases.
+-- Each follows by the case of the definition that it is about.
+use Prim.Native.Nat.{ℕ}
+use mathlib.Core.Path.{_≡_, refl, sym, ap, _∙_}
+use mathlib.Core.Bool.{Bool, true, false, _&&_, cond}
+use mathlib.Core.List.{List, [], _∷_, map}
+use lib.Dec.{eqb}
+use borrow.Author.Tests.{eqb-true}
+use Rattle.lists.specs.Each.{all, any}
+use Rattle.lists.specs.Tests.{and-fst, and-snd}
+use Rattle.types.specs.declared.Key.{Key}
+use Rattle.types.specs.declared.Record.{Record}
+use Rattle.types.specs.declared.Transaction.{Transaction}
+use Rattle.types.specs.declared.Recovery.the-variants.{Again, Back}
+use Rattle.model.specs.Images.{preparedBy}
+use Rattle.model.specs.Writes.{Sheets, Write, nothing, forward, back, isOf, lineAfter, decisionsAfter, apply}
+use Rattle.model.specs.Visits.{recoveryWrite}
+use Rattle.model.specs.Steps.{holds, groupAt, prepareStep}
+
+map-unmoved : (f : Record → Record) → ((r : Record) → f r ≡ r) → (rs : List Record) → map f rs ≡ rs
+map-unmoved f e [] = refl
+map-unmoved f e (r ∷ rs) = ap (λ (x : Record). x ∷ map f rs) (e r) ∙ ap (λ (x : List Record). r ∷ x) (map-unmoved f e rs)
+
+-- Rolling back and writing ABORTED in one call: a visit that writes ABORTED leaves every line as it is ..
+pub again-leaves-lines : (s : Sheets) (r : Record) → apply (recoveryWrite Again r) s .lines ≡ s .lines
+unfolding apply recoveryWrite lineAfter
+again-leaves-lines s r = map-unmoved _ (λ (x : Record). refl) (s .lines)
+
+-- .. and one that rolls back writes nothing to the coordinator.
+pub back-leaves-coordinator : (s : Sheets) (r : Record) → apply (recoveryWrite Back r) s .coordinator ≡ s .coordinator
+unfolding apply recoveryWrite decisionsAfter
+back-leaves-coordinator s r = refl
+
+-- Finishing a line that another TxID has since prepared: it is skipped ..
+pub finish-skips-others : (n : ℕ) (ks : List Key) (r : Record) → preparedBy n r ≡ false → lineAfter (forward n ks) r ≡ r
+unfolding lineAfter isOf
+finish-skips-others n ks r e = rw e
+
+-- .. and so it is by undoing.
+pub undo-skips-others : (n : ℕ) (ks : List Key) (r : Record) → preparedBy n r ≡ false → lineAfter (back n ks) r ≡ r
+unfolding lineAfter isOf
+undo-skips-others n ks r e = rw e
+
+-- Preparing part of a group when one condition fails: nothing is written.
+pub failing-group-writes-nothing : (t : Transaction) (now : ℕ) (s : Sheets) → all (holds (s .lines)) (groupAt t s) ≡ false → prepareStep t now s .write ≡ nothing
+unfolding prepareStep
+failing-group-writes-nothing t now s e = rw e
