@@ -1,0 +1,2 @@
+-- Theorems about the calls.
+pub mod Exactness

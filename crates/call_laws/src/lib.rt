@@ -1,0 +1,1 @@
+// Theorems about the calls; no code.
