@@ -1,2 +1,6 @@
 -- Theorems about the calls.
+pub mod Choices
 pub mod Exactness
+pub mod Keys
+pub mod Groups
+pub mod SingleUnit

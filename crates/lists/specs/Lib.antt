@@ -1,6 +1,7 @@
 -- Definitions and laws on lists, tests and choices that several crates cite.
 pub mod Bytes
 pub mod All
+pub mod Chosen
 pub mod Each
 pub mod Fill
 pub mod Order

@@ -9,8 +9,8 @@ use Rattle.types.specs.declared.Columns.{Columns}
 use Rattle.types.specs.declared.Transaction.{Transaction}
 use Rattle.types.specs.declared.Reading.{Reading}
 use Rattle.types.specs.declared.Recovery.{Recovery}
-use Rattle.model.specs.Writes.{Sheets, apply}
-use Rattle.model.specs.Results.{Call, begin, read, put, advance, abort, visit, Result, refused, made}
+use Rattle.model.specs.Writes.{Sheets, Write, apply}
+use Rattle.model.specs.Results.{Call, begin, read, put, advance, abort, visit, Result, refused, made, writeOf}
 use Rattle.model.specs.Calls.{
   ReadAnswer,
   beginResult,
@@ -38,11 +38,6 @@ abbrev pub answerOf : {A : Type 0} → (A → Answer) → Result A → Answer
 answerOf f (refused n) = turnedAway n
 answerOf f (made a w) = f a
 
--- the sheets after a result
-abbrev pub sheetsAfter : {A : Type 0} → Result A → Sheets → Sheets
-sheetsAfter (refused n) s = s
-sheetsAfter (made a w) s = apply w s
-
 abbrev pub readAnswered : ReadAnswer → Answer
 readAnswered a = answered (a .value) (a .transaction)
 
@@ -55,14 +50,18 @@ answer (advance t now) s = answerOf returned (advanceResult t now s)
 answer (abort t) s = answerOf returned (abortResult t s)
 answer (visit k now) s = answerOf visited (visitResult k now s)
 
+-- what the call writes, made with these sheets
+unfoldable pub written : Call → Sheets → Write
+written (begin b) s = writeOf (beginResult b s)
+written (read t k now) s = writeOf (readResult t k now s)
+written (put t k c) s = writeOf (putResult t k c s)
+written (advance t now) s = writeOf (advanceResult t now s)
+written (abort t) s = writeOf (abortResult t s)
+written (visit k now) s = writeOf (visitResult k now s)
+
 -- the sheets as the call leaves them
 unfoldable pub after : Call → Sheets → Sheets
-after (begin b) s = sheetsAfter (beginResult b s) s
-after (read t k now) s = sheetsAfter (readResult t k now s) s
-after (put t k c) s = sheetsAfter (putResult t k c s) s
-after (advance t now) s = sheetsAfter (advanceResult t now s) s
-after (abort t) s = sheetsAfter (abortResult t s) s
-after (visit k now) s = sheetsAfter (visitResult k now s) s
+after c s = apply (written c s) s
 
 -- the transaction that a call is given
 unfoldable pub given : Call → Option Transaction

@@ -55,9 +55,9 @@ modelPut n k c m =
     }
 
 -- "the book's line becomes COMMITTED, version + 1, TxID its number, the page's columns, before fields and clock 0"
-unfoldable pub written : ℕ → Option Columns → Record → Record
-written n none r = r
-written n (some c) r =
+unfoldable pub overwritten : ℕ → Option Columns → Record → Record
+overwritten n none r = r
+overwritten n (some c) r =
     record {
       key = r .key;
       state = Committed;
@@ -76,7 +76,7 @@ written n (some c) r =
 unfoldable pub modelCommit : ℕ → Model → Model
 modelCommit n m =
     record {
-      line = λ (k : Key). written n (m .writes n k) (m .line k);
+      line = λ (k : Key). overwritten n (m .writes n k) (m .line k);
       writes = m .writes;
       committed = n ∷ m .committed;
     }

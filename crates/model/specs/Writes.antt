@@ -43,7 +43,7 @@ byEntry (some e) r f = f e
 
 -- one of the lines of these keys that the number has prepared
 unfoldable pub isOf : ℕ → List Key → Record → Bool
-isOf n ks r = preparedBy n r && any (sameKey (r .key)) ks
+isOf n ks r = preparedBy n r && any (λ (k : Key). sameKey k (r .key)) ks
 
 -- "A group's lines are those of its puts only": every other line stays.
 unfoldable pub lineAfter : Write → Record → Record

@@ -1,0 +1,31 @@
+-- What holds of a choice holds of each of its cases: one rule for each combinator of the specification, with the case's equation at hand.
+use Prim.Native.Nat.{ℕ}
+use mathlib.Core.Path.{_≡_, refl}
+use mathlib.Core.Bool.{Bool, true, false, cond}
+use mathlib.Core.List.{List}
+use lib.Dec.{eqb}
+use Rattle.lists.specs.Tests.{choose-by}
+use Rattle.types.specs.declared.Decision.{Decision}
+use Rattle.types.specs.declared.Decision.the-variants.{Undecided, Committed, Aborted}
+use Rattle.model.specs.Refusals.{Condition, refusalOf}
+use Rattle.model.specs.Transactions.{byPhase}
+use Rattle.model.specs.Images.{byDecision}
+use Rattle.model.specs.Results.{Result, refused, unless}
+
+pub by-phase {ℓ κ} : {A : Type ℓ} (P : A → Type κ) (p : ℕ) {o r v d w f u e x : A} → P o → P r → P v → P d → P w → P f → P u → P e → P x → P (byPhase p o r v d w f u e x)
+by-phase P p o r v d w f u e x =
+    choose-by P (eqb p 0) (λ _. o)
+    (λ _. choose-by P (eqb p 1) (λ _. r)
+    (λ _. choose-by P (eqb p 2) (λ _. v)
+    (λ _. choose-by P (eqb p 3) (λ _. d)
+    (λ _. choose-by P (eqb p 4) (λ _. w)
+    (λ _. choose-by P (eqb p 5) (λ _. f) (λ _. choose-by P (eqb p 6) (λ _. u) (λ _. choose-by P (eqb p 7) (λ _. e) (λ _. x))))))))
+
+pub by-decision {ℓ κ} : {A : Type ℓ} (P : A → Type κ) (d : Decision) {u c a : A} → P u → P c → P a → P (byDecision d u c a)
+by-decision P Undecided x y z = x
+by-decision P Committed x y z = y
+by-decision P Aborted x y z = z
+
+-- a result, refused or not
+pub unless-by {κ} : {A : Type 0} (P : Result A → Type κ) (cs : List Condition) {r : Result A} → P (refused (refusalOf cs)) → P r → P (unless cs r)
+unless-by P cs n h = choose-by P (eqb (refusalOf cs) 0) (λ e. h) (λ e. n)

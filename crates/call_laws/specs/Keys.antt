@@ -1,0 +1,62 @@
+-- Keys compared as numbers are equal as keys, and entries are found by their keys.
+use Prim.Native.Nat.{ℕ}
+use mathlib.Core.Path.{_≡_, refl, sym, ap, _∙_}
+use mathlib.Core.Bool.{Bool, true, false, _&&_, _||_, cond, true≢false}
+use mathlib.Core.List.{List, [], _∷_, map}
+use mathlib.Core.Option.{Option, none, some}
+use Rattle.lists.specs.Bytes.{eqList, eqList-true, eqList-refl, ne-eqList}
+use Rattle.lists.specs.Each.{any, filter}
+use Rattle.lists.specs.Chosen.{any-filter, any-weaken, or-else, or-left, or-right}
+use Rattle.lists.specs.Tests.{and-fst, and-snd}
+use Rattle.types.specs.declared.Key.{Key}
+use Rattle.types.specs.declared.Entry.{Entry}
+use Rattle.model.specs.Records.{keyNumbers, keyOf, sameKey}
+use Rattle.model.specs.Writes.{entryFor}
+
+pub same-key : (a b : Key) → sameKey a b ≡ true → a ≡ b
+unfolding sameKey keyNumbers keyOf
+same-key a b h = ap keyOf (eqList-true (keyNumbers a) (keyNumbers b) h)
+
+pub same-key-refl : (k : Key) → sameKey k k ≡ true
+unfolding sameKey
+same-key-refl k = eqList-refl (keyNumbers k)
+
+pub other-key : (a b : Key) → (a ≡ b → ⊥) → sameKey a b ≡ false
+unfolding sameKey
+other-key a b d = go (sameKey a b) refl
+  where
+    go : (x : Bool) → sameKey a b ≡ x → x ≡ false
+    go true e = absurd (d (same-key a b e))
+    go false e = refl
+
+-- some entry has the key
+abbrev pub hasKey : Key → List Entry → Bool
+hasKey k es = any (λ (e : Entry). sameKey (e .key) k) es
+
+pub no-entry : (k : Key) (es : List Entry) → hasKey k es ≡ false → entryFor k es ≡ none
+unfolding entryFor any
+no-entry k [] h = refl
+no-entry k (e ∷ es) h = go (sameKey (e .key) k) h (no-entry k es)
+  where
+    go : (x : Bool) → (x || hasKey k es) ≡ false → (hasKey k es ≡ false → entryFor k es ≡ none) → cond x (some e) (entryFor k es) ≡ none
+    go true g f = absurd (true≢false g)
+    go false g f = f g
+
+-- a test of keys that an entry of this key passes
+pub key-passes : (q : Key → Bool) (k : Key) (es : List Entry) → any (λ (e : Entry). q (e .key) && sameKey (e .key) k) es ≡ true → q k ≡ true
+unfolding any
+key-passes q k [] h = absurd (true≢false (sym h))
+key-passes q k (e ∷ es) h =
+    or-else (q (e .key) && sameKey (e .key) k) (any (λ (f : Entry). q (f .key) && sameKey (f .key) k) es) h
+    (λ g. ap q (sym (same-key (e .key) k (and-snd (q (e .key)) (sameKey (e .key) k) g))) ∙ and-fst (q (e .key)) (sameKey (e .key) k) g)
+    (λ g n. key-passes q k es n)
+
+-- the keys of those entries whose keys pass a test
+pub chosen-key : (q : Key → Bool) (k : Key) (es : List Entry) → hasKey k (filter (λ (e : Entry). q (e .key)) es) ≡ true → (hasKey k es ≡ true) × (q k ≡ true)
+chosen-key q k es h =
+    let b : any (λ (e : Entry). q (e .key) && sameKey (e .key) k) es ≡ true =
+    sym (any-filter (λ (e : Entry). q (e .key)) (λ (e : Entry). sameKey (e .key) k) es) ∙ h in (
+      any-weaken (λ (e : Entry). q (e .key) && sameKey (e .key) k) (λ (e : Entry). sameKey (e .key) k)
+          (λ e g. and-snd (q (e .key)) (sameKey (e .key) k) g) es b,
+      key-passes q k es b,
+    )

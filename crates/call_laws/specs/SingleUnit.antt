@@ -1,0 +1,234 @@
+-- T2: whatever a call writes, it changes lines of one atomicity unit and leaves the coordinator alone, or it leaves the record sheet alone.
+-- A write of a group changes only lines whose keys are in it, and those agree in the fields of their unit; a visit changes one line.
+use Prim.Native.Nat.{ℕ}
+use mathlib.Core.Path.{_≡_, refl, sym, ap, _∙_}
+use mathlib.Core.Bool.{Bool, true, false, _&&_, cond, true≢false}
+use mathlib.Core.List.{List, [], _∷_, map}
+use mathlib.Core.Option.{Option, none, some}
+use lib.ListN.{getD}
+use Rattle.lists.specs.Bytes.{eqList, eqList-refl}
+use Rattle.lists.specs.Each.{all, any}
+use Rattle.lists.specs.Chosen.{any-map, or-left, and-false}
+use Rattle.lists.specs.Tests.{choose-by}
+use Rattle.types.specs.declared.Decision.{Decision}
+use Rattle.types.specs.declared.Decision.the-variants.{Committed, Aborted}
+use Rattle.types.specs.declared.Transaction.{Transaction}
+use Rattle.types.specs.declared.Recovery.{Recovery}
+use Rattle.types.specs.declared.Recovery.the-variants.{Stays, Forward, Back, Again, Busy}
+use Rattle.types.specs.declared.AtomicityUnit.{AtomicityUnit}
+use Rattle.types.specs.declared.Key.{Key}
+use Rattle.types.specs.declared.Record.{Record}
+use Rattle.types.specs.declared.Entry.{Entry}
+use Rattle.model.specs.Records.{sameKey, lineOf}
+use Rattle.model.specs.Coordinator.{Coordinator, decision}
+use Rattle.model.specs.Groups.{scope, groupPlace, group}
+use Rattle.model.specs.Images.{preparedBy, prepared, committed, rolledForward, rolledBack}
+use Rattle.model.specs.Writes.{
+  Sheets,
+  Write,
+  nothing,
+  issue,
+  decide,
+  commit,
+  prepare,
+  forward,
+  back,
+  entryFor,
+  byEntry,
+  isOf,
+  lineAfter,
+  decisionsAfter,
+  apply,
+}
+use Rattle.model.specs.Transactions.{puts, toValidate, isEmpty, noEntry}
+use Rattle.model.specs.Visits.{recoveryWrite, meeting, isAgain}
+use Rattle.model.specs.Steps.{
+  Step,
+  holds,
+  unitsOf,
+  groupAt,
+  keysOf,
+  onePhaseAllowed,
+  openWithoutPuts,
+  onePhase,
+  openStep,
+  prepareStep,
+  validateStep,
+  decideStep,
+  withdrawStep,
+  finishStep,
+  undoStep,
+  step,
+}
+use Rattle.model.specs.Results.{Call, begin, read, put, advance, abort, visit, Result, refused, made, writeOf}
+use Rattle.model.specs.Conditions.{isNew, conditions}
+use Rattle.model.specs.Calls.{
+  ReadAnswer,
+  readNew,
+  beginResult,
+  readResult,
+  putResult,
+  advanceResult,
+  abortResult,
+  visitResult,
+}
+use Rattle.model.specs.Histories.{written}
+use Rattle.call_laws.specs.Choices.{by-phase, by-decision, unless-by}
+use Rattle.call_laws.specs.Keys.{other-key, same-key, same-key-refl, hasKey, no-entry}
+use Rattle.call_laws.specs.Groups.{InGroup, in-group, one-scope}
+
+-- a write to lines of one scope, or to the coordinator sheet
+pub data SingleUnit (us : List AtomicityUnit) (w : Write) : Type 0 where
+  one-unit : (g : List ℕ) → ((r : Record) → (scope us (r .key) ≡ g → ⊥) → lineAfter w r ≡ r) → ((c : Coordinator) → decisionsAfter w c ≡ c) → SingleUnit us w
+  coordinator-only : ((r : Record) → lineAfter w r ≡ r) → SingleUnit us w
+
+module _ (us : List AtomicityUnit) (es : List Entry) (i : ℕ) where
+  -- the scope of the group at place i, no fields if there is none
+  groupScope : List Entry → List ℕ
+  groupScope [] = []
+  groupScope (e ∷ g) = scope us (e .key)
+
+  -- a key of the group has the group's scope
+  own-scope : (g : List Entry) → g ≡ group us es i → (k : Key) → hasKey k g ≡ true → scope us k ≡ groupScope g
+  unfolding any groupScope
+  own-scope [] e k h = absurd (true≢false (sym h))
+  own-scope (f ∷ g) e k h =
+      let a : InGroup us es i k = in-group us es i k (ap (hasKey k) (sym e) ∙ h) in
+      let o : hasKey (f .key) (f ∷ g) ≡ true = or-left (sameKey (f .key) (f .key)) (hasKey (f .key) g) (same-key-refl (f .key)) in
+      let b : InGroup us es i (f .key) = in-group us es i (f .key) (ap (hasKey (f .key)) (sym e) ∙ o) in
+      one-scope us es k (f .key) (a .listed) (b .listed) (a .place ∙ sym (b .place))
+
+  -- a line of another scope is no line of the group
+  not-in : (r : Record) → (scope us (r .key) ≡ groupScope (group us es i) → ⊥) → hasKey (r .key) (group us es i) ≡ false
+  not-in r d = go (hasKey (r .key) (group us es i)) refl
+    where
+      go : (b : Bool) → hasKey (r .key) (group us es i) ≡ b → b ≡ false
+      go true e = absurd (d (own-scope (group us es i) refl (r .key) e))
+      go false e = refl
+
+  pub commit-unit : (n : ℕ) → SingleUnit us (commit n (group us es i))
+  unfolding lineAfter decisionsAfter
+  commit-unit n =
+      one-unit (groupScope (group us es i))
+      (λ r d. ap (λ (o : Option Entry). byEntry o r (λ (e : Entry). committed n e r)) (no-entry (r .key) (group us es i) (not-in r d)))
+      (λ c. refl)
+
+  pub prepare-unit : (n now : ℕ) → SingleUnit us (prepare n now (group us es i))
+  unfolding lineAfter decisionsAfter
+  prepare-unit n now =
+      one-unit (groupScope (group us es i))
+      (λ r d. ap (λ (o : Option Entry). byEntry o r (λ (e : Entry). prepared n now e r)) (no-entry (r .key) (group us es i) (not-in r d)))
+      (λ c. refl)
+
+  -- none of the group's lines that the number has prepared
+  not-of : (n : ℕ) (r : Record) → (scope us (r .key) ≡ groupScope (group us es i) → ⊥) → isOf n (keysOf (group us es i)) r ≡ false
+  unfolding isOf
+  not-of n r d =
+      let e : any (λ (k : Key). sameKey k (r .key)) (keysOf (group us es i)) ≡ false =
+      any-map (λ (f : Entry). f .key) (λ (k : Key). sameKey k (r .key)) (group us es i) ∙ not-in r d in
+      rw e (and-false (preparedBy n r))
+
+  pub forward-unit : (n : ℕ) → SingleUnit us (forward n (keysOf (group us es i)))
+  unfolding lineAfter decisionsAfter
+  forward-unit n =
+      one-unit (groupScope (group us es i))
+      (λ r d. ap (λ (b : Bool). cond b (rolledForward r) r) (not-of n r d))
+      (λ c. refl)
+
+  pub back-unit : (n : ℕ) → SingleUnit us (back n (keysOf (group us es i)))
+  unfolding lineAfter decisionsAfter
+  back-unit n =
+      one-unit (groupScope (group us es i))
+      (λ r d. ap (λ (b : Bool). cond b (rolledBack r) r) (not-of n r d))
+      (λ c. refl)
+
+module _ (us : List AtomicityUnit) where
+  -- nothing, one more number, a decision: no line changes
+  pub nothing-unit : SingleUnit us nothing
+  unfolding lineAfter
+  nothing-unit = coordinator-only (λ r. refl)
+
+  pub issue-unit : SingleUnit us issue
+  unfolding lineAfter
+  issue-unit = coordinator-only (λ r. refl)
+
+  pub decide-unit : (n : ℕ) (d : Decision) → SingleUnit us (decide n d)
+  unfolding lineAfter
+  decide-unit n d = coordinator-only (λ r. refl)
+
+  -- a visit: one line, or the coordinator
+  not-line : (n : ℕ) (k : Key) (r : Record) → (scope us (r .key) ≡ scope us k → ⊥) → isOf n (k ∷ []) r ≡ false
+  unfolding isOf any
+  not-line n k r d =
+      let e : sameKey k (r .key) ≡ false = other-key k (r .key) (λ p. d (ap (scope us) (sym p))) in
+      rw e (and-false (preparedBy n r))
+
+  pub visit-unit : (v : Recovery) (r : Record) → SingleUnit us (recoveryWrite v r)
+  unfolding recoveryWrite lineAfter decisionsAfter
+  visit-unit Stays r = nothing-unit
+  visit-unit Forward r =
+      one-unit (scope us (r .key)) (λ x d. ap (λ (b : Bool). cond b (rolledForward x) x) (not-line (r .image .txid) (r .key) x d)) (λ c. refl)
+  visit-unit Back r =
+      one-unit (scope us (r .key)) (λ x d. ap (λ (b : Bool). cond b (rolledBack x) x) (not-line (r .image .txid) (r .key) x d)) (λ c. refl)
+  visit-unit Again r = decide-unit (r .image .txid) Aborted
+  visit-unit Busy r = nothing-unit
+
+-- The calls.
+
+abbrev pub Single : Sheets → Write → Type 0
+Single s w = SingleUnit (s .coordinator .units) w
+
+prepare-single : (t : Transaction) (now : ℕ) (s : Sheets) → Single s (prepareStep t now s .write)
+unfolding prepareStep
+prepare-single t now s =
+    choose-by (λ (x : Step). Single s (x .write)) (all (holds (s .lines)) (groupAt t s))
+    (λ e. prepare-unit (unitsOf s) (puts t) (t .place) (t .number) now)
+    (λ e. nothing-unit (unitsOf s))
+
+open-single : (t : Transaction) (s : Sheets) → Single s (openStep t s .write)
+unfolding openStep openWithoutPuts onePhase
+open-single t s =
+    choose-by P (isEmpty (puts t))
+    (λ e. choose-by P (isEmpty (toValidate t)) (λ f. nothing-unit (unitsOf s)) (λ f. nothing-unit (unitsOf s)))
+    (λ e. choose-by P (onePhaseAllowed t s)
+    (λ f. choose-by P (all (holds (s .lines)) (groupAt t s))
+    (λ g. commit-unit (unitsOf s) (puts t) (t .place) (t .number))
+    (λ g. nothing-unit (unitsOf s)))
+    (λ f. nothing-unit (unitsOf s)))
+  where
+    P : Step → Type 0
+    P x = Single s (x .write)
+
+step-single : (t : Transaction) (now : ℕ) (s : Sheets) → Single s (step t now s .write)
+unfolding step validateStep decideStep withdrawStep finishStep undoStep
+step-single t now s =
+    by-phase (λ (x : Step). Single s (x .write)) (t .phase)
+    (open-single t s)
+    (prepare-single t now s)
+    (choose-by (λ (x : Step). Single s (x .write)) (holds (s .lines) (getD (toValidate t) (t .place) noEntry)) (λ e. none) (λ e. none))
+    (by-decision (λ (x : Step). Single s (x .write)) (decision (t .number) (s .coordinator)) (decide-unit (unitsOf s) (t .number) Committed) none none)
+    (by-decision (λ (x : Step). Single s (x .write)) (decision (t .number) (s .coordinator)) (decide-unit (unitsOf s) (t .number) Aborted) none none)
+    (forward-unit (unitsOf s) (puts t) (t .place) (t .number))
+    (back-unit (unitsOf s) (puts t) (t .place) (t .number))
+    none none
+  where
+    none : Single s nothing
+    none = nothing-unit (unitsOf s)
+
+-- "writes to at most one unit or the coordinator sheet", whatever the call, its arguments and the sheets
+pub single-unit : (c : Call) (s : Sheets) → Single s (written c s)
+unfolding written beginResult readResult putResult advanceResult abortResult visitResult readNew
+single-unit (begin b) s = unless-by (λ (x : Result Transaction). Single s (writeOf x)) (conditions (begin b) s) (nothing-unit (unitsOf s)) (issue-unit (unitsOf s))
+single-unit (read t k now) s =
+    unless-by (λ (x : Result ReadAnswer). Single s (writeOf x)) (conditions (read t k now) s) (nothing-unit (unitsOf s))
+    (choose-by (λ (x : Result ReadAnswer). Single s (writeOf x)) (isNew k t)
+    (λ e. choose-by (λ (x : Result ReadAnswer). Single s (writeOf x)) (isAgain (meeting now (s .coordinator) (lineOf k (s .lines))))
+    (λ f. visit-unit (unitsOf s) (meeting now (s .coordinator) (lineOf k (s .lines))) (lineOf k (s .lines)))
+    (λ f. visit-unit (unitsOf s) (meeting now (s .coordinator) (lineOf k (s .lines))) (lineOf k (s .lines))))
+    (λ e. nothing-unit (unitsOf s)))
+single-unit (put t k c) s = unless-by (λ (x : Result Transaction). Single s (writeOf x)) (conditions (put t k c) s) (nothing-unit (unitsOf s)) (nothing-unit (unitsOf s))
+single-unit (advance t now) s = unless-by (λ (x : Result Transaction). Single s (writeOf x)) (conditions (advance t now) s) (nothing-unit (unitsOf s)) (step-single t now s)
+single-unit (abort t) s = unless-by (λ (x : Result Transaction). Single s (writeOf x)) (conditions (abort t) s) (nothing-unit (unitsOf s)) (nothing-unit (unitsOf s))
+single-unit (visit k now) s =
+    unless-by (λ (x : Result Recovery). Single s (writeOf x)) (conditions (visit k now) s) (nothing-unit (unitsOf s))
+    (visit-unit (unitsOf s) (meeting now (s .coordinator) (lineOf k (s .lines))) (lineOf k (s .lines)))

@@ -1,0 +1,112 @@
+-- Laws of `any`, `filter` and `count`: each by induction on the list, with the first element's test at hand.
+use Prim.Native.Nat.{ℕ, zero, suc, _≤_, _<_}
+use mathlib.Core.Path.{_≡_, refl, sym, ap, _∙_}
+use mathlib.Core.Bool.{Bool, true, false, _&&_, _||_, not, cond, true≢false}
+use mathlib.Core.List.{List, [], _∷_, map}
+use native.Mathlib.Omega.{arith}
+use lib.ListN.{length}
+use Rattle.lists.specs.Bytes.{eqList, eqList-true}
+use Rattle.lists.specs.Tests.{and-fst, and-snd, and-both}
+use Rattle.lists.specs.Each.{all, any, filter, count}
+
+-- the first passes, or a later one does
+pub or-else : {P : Type 0} (a b : Bool) → (a || b) ≡ true → (a ≡ true → P) → (a ≡ false → b ≡ true → P) → P
+or-else true b h f g = f refl
+or-else false b h f g = g refl h
+
+pub or-right : (a b : Bool) → b ≡ true → (a || b) ≡ true
+or-right true b h = refl
+or-right false b h = h
+
+pub or-left : (a b : Bool) → a ≡ true → (a || b) ≡ true
+or-left a b h = rw h
+
+pub and-false : (a : Bool) → (a && false) ≡ false
+and-false true = refl
+and-false false = refl
+
+module _ {ℓ} {A : Type ℓ} where
+  -- some element passes both tests if it stands among those that pass the first
+  pub any-filter : (p q : A → Bool) (xs : List A) → any q (filter p xs) ≡ any (λ (x : A). p x && q x) xs
+  unfolding any filter
+  any-filter p q [] = refl
+  any-filter p q (x ∷ xs) = go (p x) (any-filter p q xs)
+    where
+      go : (b : Bool) → any q (filter p xs) ≡ any (λ (y : A). p y && q y) xs → any q (cond b (x ∷ filter p xs) (filter p xs)) ≡ (b && q x || any (λ (y : A). p y && q y) xs)
+      go true e = ap (λ (z : Bool). q x || z) e
+      go false e = e
+
+  -- a test that holds wherever another does
+  pub any-weaken : (p q : A → Bool) → ((x : A) → p x ≡ true → q x ≡ true) → (xs : List A) → any p xs ≡ true → any q xs ≡ true
+  unfolding any
+  any-weaken p q e [] h = h
+  any-weaken p q e (x ∷ xs) h =
+      or-else (p x) (any p xs) h (λ g. or-left (q x) (any q xs) (e x g)) (λ g k. or-right (q x) (any q xs) (any-weaken p q e xs k))
+
+  pub any-map : {B : Type ℓ} (f : B → A) (p : A → Bool) (xs : List B) → any p (map f xs) ≡ any (λ (x : B). p (f x)) xs
+  unfolding any
+  any-map f p [] = refl
+  any-map f p (x ∷ xs) = ap (λ (b : Bool). p (f x) || b) (any-map f p xs)
+
+  -- what all pass, an element among them passes
+  pub all-any : (p q : A → Bool) (xs : List A) → all p xs ≡ true → any q xs ≡ true → any (λ (x : A). p x && q x) xs ≡ true
+  unfolding all any
+  all-any p q [] h g = g
+  all-any p q (x ∷ xs) h g =
+      or-else (q x) (any q xs) g
+      (λ e. or-left (p x && q x) _ (and-both (and-fst (p x) (all p xs) h) e))
+      (λ e k. or-right (p x && q x) _ (all-any p q xs (and-snd (p x) (all p xs) h) k))
+
+  pub all-filter : (p q : A → Bool) (xs : List A) → all q xs ≡ true → all q (filter p xs) ≡ true
+  unfolding all filter
+  all-filter p q [] h = refl
+  all-filter p q (x ∷ xs) h = go (p x) (all-filter p q xs (and-snd (q x) (all q xs) h))
+    where
+      go : (b : Bool) → all q (filter p xs) ≡ true → all q (cond b (x ∷ filter p xs) (filter p xs)) ≡ true
+      go true e = and-both (and-fst (q x) (all q xs) h) e
+      go false e = e
+
+  -- those that were chosen pass the test
+  pub filter-passes : (p : A → Bool) (xs : List A) → all p (filter p xs) ≡ true
+  unfolding all filter
+  filter-passes p [] = refl
+  filter-passes p (x ∷ xs) = go (p x) refl (filter-passes p xs)
+    where
+      go : (b : Bool) → p x ≡ b → all p (filter p xs) ≡ true → all p (cond b (x ∷ filter p xs) (filter p xs)) ≡ true
+      go true f e = and-both f e
+      go false f e = e
+
+  pub count-le : (p q : A → Bool) → ((x : A) → p x ≡ true → q x ≡ true) → (xs : List A) → count p xs ≤ count q xs
+  unfolding count
+  count-le p q e [] = omega arith
+  count-le p q e (x ∷ xs) = go (p x) refl (q x) refl (count-le p q e xs)
+    where
+      go : (a : Bool) → p x ≡ a → (b : Bool) → q x ≡ b → count p xs ≤ count q xs → cond a (suc (count p xs)) (count p xs) ≤ cond b (suc (count q xs)) (count q xs)
+      go true f true g l = omega arith
+      go true f false g l = absurd (true≢false (sym (e x f) ∙ g))
+      go false f true g l = omega arith
+      go false f false g l = l
+
+  pub count-all : (xs : List A) → count (λ (x : A). true) xs ≡ length xs
+  unfolding count
+  count-all [] = refl
+  count-all (x ∷ xs) = ap suc (count-all xs)
+
+-- one more passes: the wider test has an element that the narrower has not
+pub count-less : (p q : List ℕ → Bool) → ((x : List ℕ) → p x ≡ true → q x ≡ true) → (y : List ℕ) → p y ≡ false → q y ≡ true → (xs : List (List ℕ)) → any (eqList y) xs ≡ true → count p xs < count q xs
+unfolding count any
+count-less p q e y f g [] h = absurd (true≢false (sym h))
+count-less p q e y f g (x ∷ xs) h =
+    or-else (eqList y x) (any (eqList y) xs) h
+    (λ s. let d : y ≡ x = eqList-true y x s in
+    let a : p x ≡ false = ap p (sym d) ∙ f in
+    let b : q x ≡ true = ap q (sym d) ∙ g in
+    let l : count p xs ≤ count q xs = count-le p q e xs in
+    rw (a, b) (omega arith))
+    (λ s k. step (p x) refl (q x) refl (count-less p q e y f g xs k))
+  where
+    step : (a : Bool) → p x ≡ a → (b : Bool) → q x ≡ b → count p xs < count q xs → cond a (suc (count p xs)) (count p xs) < cond b (suc (count q xs)) (count q xs)
+    step true c true d l = omega arith
+    step true c false d l = absurd (true≢false (sym (e x c) ∙ d))
+    step false c true d l = omega arith
+    step false c false d l = l
