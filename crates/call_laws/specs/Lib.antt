@@ -4,3 +4,6 @@ pub mod Exactness
 pub mod Keys
 pub mod Groups
 pub mod SingleUnit
+pub mod Ranges
+pub mod Images
+pub mod Lines

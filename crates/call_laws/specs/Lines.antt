@@ -1,0 +1,147 @@
+-- Lines by their keys: a write keeps keys, so that order and look-up stay; on a sheet in order the line of a record's key is that record.
+use Prim.Native.Nat.{ℕ, zero, suc}
+use mathlib.Core.Path.{_≡_, refl, sym, ap, ap₂, _∙_}
+use mathlib.Core.Bool.{Bool, true, false, _&&_, _||_, not, cond, true≢false}
+use mathlib.Core.List.{List, [], _∷_, map}
+use mathlib.Core.Option.{Option, none, some}
+use Rattle.lists.specs.Each.{all, any, less}
+use Rattle.lists.specs.Order.{less-irrefl, less-trans}
+use Rattle.lists.specs.Tests.{and-fst, and-snd, and-both, choose-by}
+use Rattle.lists.specs.Chosen.{or-else, or-left, or-right}
+use Rattle.types.specs.declared.Key.{Key}
+use Rattle.types.specs.declared.Record.{Record}
+use Rattle.types.specs.declared.Entry.{Entry}
+use Rattle.types.specs.declared.Found.the-variants.{At, Nothing}
+use Rattle.model.specs.Records.{
+  keyNumbers,
+  keyLess,
+  inOrder,
+  rising,
+  sameKey,
+  foundFrom,
+  found,
+  isMissing,
+  hasLine,
+  absentAt,
+  lineOf,
+}
+use Rattle.model.specs.Images.{prepared, committed, rolledForward, rolledBack}
+use Rattle.model.specs.Writes.{
+  Write,
+  nothing,
+  issue,
+  decide,
+  commit,
+  prepare,
+  forward,
+  back,
+  entryFor,
+  byEntry,
+  isOf,
+  lineAfter,
+}
+use Rattle.call_laws.specs.Keys.{same-key, same-key-refl, other-key}
+
+-- some line has the key
+abbrev pub listsKey : Key → List Record → Bool
+listsKey k rs = any (λ (r : Record). sameKey (r .key) k) rs
+
+found-listed : (i : ℕ) (k : Key) (rs : List Record) → not (isMissing (foundFrom i k rs)) ≡ listsKey k rs
+unfolding foundFrom isMissing any
+found-listed i k [] = refl
+found-listed i k (r ∷ rs) = go (sameKey (r .key) k) (found-listed (suc i) k rs)
+  where
+    go : (b : Bool) → not (isMissing (foundFrom (suc i) k rs)) ≡ listsKey k rs → not (isMissing (cond b (At i) (foundFrom (suc i) k rs))) ≡ (b || listsKey k rs)
+    go true e = refl
+    go false e = e
+
+pub has-line : (k : Key) (rs : List Record) → hasLine k rs ≡ listsKey k rs
+unfolding found
+has-line k rs = found-listed 0 k rs
+
+key-trans : (a b c : Key) → keyLess a b ≡ true → keyLess b c ≡ true → keyLess a c ≡ true
+unfolding keyLess
+key-trans a b c f g = less-trans (keyNumbers a) (keyNumbers b) (keyNumbers c) f g
+
+-- Keys are kept.
+
+entry-key : (o : Option Entry) (r : Record) (f : Entry → Record) → ((e : Entry) → f e .key ≡ r .key) → byEntry o r f .key ≡ r .key
+entry-key none r f h = refl
+entry-key (some e) r f h = h e
+
+-- "Keys are fixed when the sheet is laid out."
+pub line-key : (w : Write) (r : Record) → lineAfter w r .key ≡ r .key
+unfolding lineAfter prepared committed rolledForward rolledBack
+line-key nothing r = refl
+line-key issue r = refl
+line-key (decide n d) r = refl
+line-key (commit n es) r = entry-key (entryFor (r .key) es) r (λ (e : Entry). committed n e r) (λ e. refl)
+line-key (prepare n now es) r = entry-key (entryFor (r .key) es) r (λ (e : Entry). prepared n now e r) (λ e. refl)
+line-key (forward n ks) r = choose-by (λ (x : Record). x .key ≡ r .key) (isOf n ks r) (λ e. refl) (λ e. refl)
+line-key (back n ks) r = choose-by (λ (x : Record). x .key ≡ r .key) (isOf n ks r) (λ e. refl) (λ e. refl)
+
+module _ (f : Record → Record) (kept : (r : Record) → f r .key ≡ r .key) where
+  order-kept : (r : Record) (rs : List Record) → inOrder (f r) (map f rs) ≡ inOrder r rs
+  unfolding inOrder
+  order-kept r [] = refl
+  order-kept r (x ∷ rs) = ap₂ keyLess (kept r) (kept x)
+
+  pub rising-kept : (rs : List Record) → rising (map f rs) ≡ rising rs
+  unfolding rising
+  rising-kept [] = refl
+  rising-kept (r ∷ rs) = ap₂ _&&_ (order-kept r rs) (rising-kept rs)
+
+  pub lists-kept : (k : Key) (rs : List Record) → listsKey k (map f rs) ≡ listsKey k rs
+  unfolding any
+  lists-kept k [] = refl
+  lists-kept k (r ∷ rs) = ap₂ _||_ (ap (λ (x : Key). sameKey x k) (kept r)) (lists-kept k rs)
+
+  pub has-line-kept : (k : Key) (rs : List Record) → hasLine k (map f rs) ≡ hasLine k rs
+  has-line-kept k rs = has-line k (map f rs) ∙ (lists-kept k rs ∙ sym (has-line k rs))
+
+  -- the line of a key that has one, after a map that keeps keys
+  pub line-mapped : (k : Key) (rs : List Record) → listsKey k rs ≡ true → lineOf k (map f rs) ≡ f (lineOf k rs)
+  unfolding lineOf any
+  line-mapped k [] h = absurd (true≢false (sym h))
+  line-mapped k (r ∷ rs) h =
+      ap (λ (x : Key). cond (sameKey x k) (f r) (lineOf k (map f rs))) (kept r) ∙ go (sameKey (r .key) k) h (line-mapped k rs)
+    where
+      go : (b : Bool) → (b || listsKey k rs) ≡ true → (listsKey k rs ≡ true → lineOf k (map f rs) ≡ f (lineOf k rs)) → cond b (f r) (lineOf k (map f rs)) ≡ f (cond b r (lineOf k rs))
+      go true g e = refl
+      go false g e = e g
+
+-- The line of a key.
+
+pub line-of-key : (k : Key) (rs : List Record) → lineOf k rs .key ≡ k
+unfolding lineOf
+line-of-key k [] = refl
+line-of-key k (r ∷ rs) =
+    choose-by (λ (x : Record). x .key ≡ k) (sameKey (r .key) k) (λ e. same-key (r .key) k e) (λ e. line-of-key k rs)
+
+-- a key after the first of a sheet in order is another
+key-later : (r : Record) (rs : List Record) (k : Key) → rising (r ∷ rs) ≡ true → listsKey k rs ≡ true → keyLess (r .key) k ≡ true
+unfolding rising inOrder any
+key-later r [] k h g = absurd (true≢false (sym g))
+key-later r (x ∷ rs) k h g =
+    let a : keyLess (r .key) (x .key) ≡ true = and-fst (keyLess (r .key) (x .key)) (rising (x ∷ rs)) h in
+    let b : rising (x ∷ rs) ≡ true = and-snd (keyLess (r .key) (x .key)) (rising (x ∷ rs)) h in
+    or-else (sameKey (x .key) k) (listsKey k rs) g
+    (λ e. ap (keyLess (r .key)) (sym (same-key (x .key) k e)) ∙ a)
+    (λ e n. key-trans (r .key) (x .key) k a (key-later x rs k b n))
+
+pub apart : (r : Record) (rs : List Record) (k : Key) → rising (r ∷ rs) ≡ true → listsKey k rs ≡ true → sameKey (r .key) k ≡ false
+unfolding keyLess
+apart r rs k h g =
+    other-key (r .key) k
+    (λ e. true≢false (sym (key-later r rs k h g) ∙ (ap (keyLess (r .key)) (sym e) ∙ less-irrefl (keyNumbers (r .key)))))
+
+-- every line passes a test that each record passes that is the line of its key
+pub all-lines : (p : Record → Bool) (rs : List Record) → rising rs ≡ true → ((r : Record) → listsKey (r .key) rs ≡ true → lineOf (r .key) rs ≡ r → p r ≡ true) → all p rs ≡ true
+unfolding all rising any lineOf
+all-lines p [] h f = refl
+all-lines p (r ∷ rs) h f =
+    and-both
+    (f r (or-left (sameKey (r .key) (r .key)) (listsKey (r .key) rs) (same-key-refl (r .key))) (ap (λ (b : Bool). cond b r (lineOf (r .key) rs)) (same-key-refl (r .key))))
+    (all-lines p rs (and-snd (inOrder r rs) (rising rs) h)
+    (λ x g e. f x (or-right (sameKey (r .key) (x .key)) (listsKey (x .key) rs) g)
+    (ap (λ (b : Bool). cond b r (lineOf (x .key) rs)) (apart r rs (x .key) h g) ∙ e)))
