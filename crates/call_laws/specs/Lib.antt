@@ -7,3 +7,4 @@ pub mod SingleUnit
 pub mod Ranges
 pub mod Images
 pub mod Lines
+pub mod Sheets

@@ -145,3 +145,14 @@ all-lines p (r ∷ rs) h f =
     (all-lines p rs (and-snd (inOrder r rs) (rising rs) h)
     (λ x g e. f x (or-right (sameKey (r .key) (x .key)) (listsKey (x .key) rs) g)
     (ap (λ (b : Bool). cond b r (lineOf (x .key) rs)) (apart r rs (x .key) h g) ∙ e)))
+
+-- what all lines pass, the line of a key passes
+pub line-passes : (p : Record → Bool) (k : Key) (rs : List Record) → all p rs ≡ true → listsKey k rs ≡ true → p (lineOf k rs) ≡ true
+unfolding all any lineOf
+line-passes p k [] h g = absurd (true≢false (sym g))
+line-passes p k (r ∷ rs) h g =
+    go (sameKey (r .key) k) g (line-passes p k rs (and-snd (p r) (all p rs) h))
+  where
+    go : (b : Bool) → (b || listsKey k rs) ≡ true → (listsKey k rs ≡ true → p (lineOf k rs) ≡ true) → p (cond b r (lineOf k rs)) ≡ true
+    go true e f = and-fst (p r) (all p rs) h
+    go false e f = f e

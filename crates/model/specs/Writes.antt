@@ -3,19 +3,26 @@ use Prim.Native.Nat.{ℕ, _+_}
 use mathlib.Core.Bool.{Bool, true, false, _&&_, cond}
 use mathlib.Core.List.{List, [], _∷_, map}
 use mathlib.Core.Option.{Option, none, some}
-use Rattle.lists.specs.Each.{any}
+use Rattle.lists.specs.Each.{all, any}
 use Rattle.types.specs.declared.Decision.{Decision}
 use Rattle.types.specs.declared.Key.{Key}
 use Rattle.types.specs.declared.Record.{Record}
 use Rattle.types.specs.declared.Entry.{Entry}
-use Rattle.model.specs.Records.{sameKey}
-use Rattle.model.specs.Coordinator.{Coordinator, withDecision, withIssued}
+use Rattle.model.specs.Records.{sameKey, recordsGood}
+use Rattle.model.specs.Coordinator.{Coordinator, coordinatorGood, namesIssued, withDecision, withIssued}
 use Rattle.model.specs.Images.{preparedBy, prepared, committed, rolledForward, rolledBack}
 
 -- both sheets, decoded
 pub record Sheets : Type 0 where
   pub lines : List Record
   pub coordinator : Coordinator
+
+-- the sheets that refusals 1 and 2 let pass
+unfoldable pub sheetsGood : Sheets → Bool
+sheetsGood s =
+    recordsGood (s .lines)
+    && coordinatorGood (s .coordinator)
+    && all (namesIssued (s .coordinator .issued)) (s .lines)
 
 pub data Write : Type 0 where
   nothing : Write

@@ -144,7 +144,7 @@ module _ (s : List ℕ) (i : ℕ) (d : Decision) (head : 15 ≤ length s) (place
         rw (over-line .0, over-line .1, lines-over, e)
 
 -- the rules after a decision of an issued number
-good-decided : (i : ℕ) (d : Decision) (c : Coordinator) → coordinatorGood c ≡ true → i < c .issued → coordinatorGood (withDecision (suc i) d c) ≡ true
+pub good-decided : (i : ℕ) (d : Decision) (c : Coordinator) → coordinatorGood c ≡ true → i < c .issued → coordinatorGood (withDecision (suc i) d c) ≡ true
 unfolding coordinatorGood withDecision
 good-decided i d c h l =
     let n : length (set (c .decisions) i d) ≡ length (c .decisions) = length-set (c .decisions) i d in
@@ -212,7 +212,7 @@ module _ (s : List ℕ) (n : ℕ) (head : 15 ≤ length s) (few : n ≤ 999) whe
   coordinator-counted = rw (over-count .0, over-count .1, head-row)
 
 -- the rules after one number more was issued
-good-raised : (c : Coordinator) → coordinatorGood c ≡ true → c .issued < length (c .decisions) → coordinatorGood (withIssued (suc (c .issued)) c) ≡ true
+pub good-raised : (c : Coordinator) → coordinatorGood c ≡ true → c .issued < length (c .decisions) → coordinatorGood (withIssued (suc (c .issued)) c) ≡ true
 unfolding coordinatorGood withIssued
 good-raised c h l =
     let u : eqb (length (c .units)) 9 ≡ true = search tests in

@@ -1,0 +1,188 @@
+-- Sheets stay good under the writes that calls make: each line by the lemma of its image, order because keys are kept, the coordinator by its own rules.
+use Prim.Native.Nat.{ℕ, zero, suc, _+_, _≤_, _<_}
+use mathlib.Core.Path.{_≡_, refl, sym, ap, ap₂, _∙_}
+use mathlib.Core.Bool.{Bool, true, false, _&&_, _||_, not, cond, true≢false}
+use mathlib.Core.List.{List, [], _∷_, map}
+use mathlib.Core.Option.{Option, none, some}
+use native.Mathlib.Omega.{arith}
+use native.Mathlib.Numerals.{add-one}
+use lib.ListN.{length, length-map}
+use lib.Dec.{eqb, leb}
+use borrow.Author.Tests.{le-leb, leb-true}
+use Rattle.lists.specs.Each.{all, any}
+use Rattle.lists.specs.All.{all-and, all-weaken, all-map}
+use Rattle.lists.specs.Tests.{and-fst, and-snd, and-both, tests, choose-by}
+use Rattle.types.specs.declared.Decision.{Decision}
+use Rattle.types.specs.declared.Key.{Key}
+use Rattle.types.specs.declared.Record.{Record}
+use Rattle.types.specs.declared.Entry.{Entry}
+use Rattle.model.specs.Records.{goodAlone, rising, recordsGood, sameKey, lineOf}
+use Rattle.model.specs.Coordinator.{Coordinator, coordinatorGood, namesIssued, withDecision, withIssued}
+use Rattle.model.specs.Images.{isPrepared, preparedBy, prepared, committed, rolledForward, rolledBack}
+use Rattle.model.specs.Writes.{
+  Sheets,
+  sheetsGood,
+  Write,
+  nothing,
+  issue,
+  decide,
+  commit,
+  prepare,
+  forward,
+  back,
+  entryFor,
+  byEntry,
+  isOf,
+  lineAfter,
+  decisionsAfter,
+  apply,
+}
+use Rattle.sheet_laws.specs.Coordinator.{Bounds, bounds}
+use Rattle.sheet_laws.specs.Decisions.{good-decided, good-raised}
+use Rattle.call_laws.specs.Ranges.{GoodParts, fine, fine-parts, parts-fine}
+use Rattle.call_laws.specs.Images.{MayPut, committed-fine, prepared-fine, forward-fine, back-fine}
+use Rattle.call_laws.specs.Lines.{listsKey, line-key, rising-kept, all-lines, line-passes}
+
+-- Good sheets, in parts.
+pub record GoodSheets (s : Sheets) : Type 0 where
+  pub some-lines : 1 ≤ length (s .lines)
+  pub few-lines : length (s .lines) ≤ 500
+  pub fine-lines : all (fine (s .coordinator .issued)) (s .lines) ≡ true
+  pub order : rising (s .lines) ≡ true
+  pub decisions : coordinatorGood (s .coordinator) ≡ true
+
+pub good-parts : (s : Sheets) → sheetsGood s ≡ true → GoodSheets s
+unfolding sheetsGood recordsGood
+good-parts s h =
+    let a : all goodAlone (s .lines) ≡ true = search tests in
+    let b : all (namesIssued (s .coordinator .issued)) (s .lines) ≡ true = search tests in
+    record {
+      some-lines = search tests;
+      few-lines = search tests;
+      fine-lines = all-and goodAlone (namesIssued (s .coordinator .issued)) (s .lines) a b;
+      order = search tests;
+      decisions = search tests;
+    }
+
+pub parts-good : (s : Sheets) → GoodSheets s → sheetsGood s ≡ true
+unfolding sheetsGood recordsGood
+parts-good s g =
+    let i = s .coordinator .issued in
+    let a : all goodAlone (s .lines) ≡ true =
+    all-weaken (fine i) goodAlone (λ r h. and-fst (goodAlone r) (namesIssued i r) h) (s .lines) (g .fine-lines) in
+    let b : all (namesIssued i) (s .lines) ≡ true =
+    all-weaken (fine i) (namesIssued i) (λ r h. and-snd (goodAlone r) (namesIssued i r) h) (s .lines) (g .fine-lines) in
+    and-both
+    (and-both
+    (and-both (and-both (and-both (le-leb 1 (length (s .lines)) (g .some-lines)) (le-leb (length (s .lines)) 500 (g .few-lines))) a) (g .order))
+    (g .decisions)) b
+
+-- an entry may be put over the line of its key
+abbrev pub MayPutAll : Sheets → ℕ → List Entry → Type 0
+MayPutAll s n es =
+    (r : Record) → listsKey (r .key) (s .lines) ≡ true → lineOf (r .key) (s .lines) ≡ r → (e : Entry) → entryFor (r .key) es ≡ some e → MayPut (s .coordinator .issued) n e r
+
+-- The writes that keep sheets good.
+pub data Fit (s : Sheets) : Write → Type 0 where
+  fit-nothing : Fit s nothing
+  fit-issue : s .coordinator .issued < length (s .coordinator .decisions) → Fit s issue
+  fit-decide : (n : ℕ) (d : Decision) → n ≤ s .coordinator .issued → Fit s (decide n d)
+  fit-commit : (n : ℕ) (es : List Entry) → MayPutAll s n es → Fit s (commit n es)
+  fit-prepare : (n now : ℕ) (es : List Entry) → now ≤ 4294967295 → MayPutAll s n es → Fit s (prepare n now es)
+  fit-forward : (n : ℕ) (ks : List Key) → Fit s (forward n ks)
+  fit-back : (n : ℕ) (ks : List Key) → Fit s (back n ks)
+
+-- a decision leaves the count and the units alone
+pub decided-issued : (n : ℕ) (d : Decision) (c : Coordinator) → withDecision n d c .issued ≡ c .issued
+unfolding withDecision
+decided-issued zero d c = refl
+decided-issued (suc n) d c = refl
+
+pub decided-units : (n : ℕ) (d : Decision) (c : Coordinator) → withDecision n d c .units ≡ c .units
+unfolding withDecision
+decided-units zero d c = refl
+decided-units (suc n) d c = refl
+
+-- more numbers issued
+pub more-issued : (i j : ℕ) (r : Record) → i ≤ j → GoodParts i r → GoodParts j r
+more-issued i j r l g =
+    record {
+      key = g .key;
+      image = g .image;
+      before = g .before;
+      clock = g .clock;
+      rule = g .rule;
+      txid = let a : r .image .txid ≤ i = g .txid in omega arith;
+      before-txid = let a : r .before .txid ≤ i = g .before-txid in omega arith;
+    }
+
+-- a line with the put of an entry, if there is one
+entry-fine : (i : ℕ) (r : Record) (o : Option Entry) (f : Entry → Record) → GoodParts i r → ((e : Entry) → o ≡ some e → GoodParts i (f e)) → GoodParts i (byEntry o r f)
+entry-fine i r none f g h = g
+entry-fine i r (some e) f g h = h e refl
+
+-- a rolled line was prepared
+rolled : (n : ℕ) (ks : List Key) (r : Record) → isOf n ks r ≡ true → isPrepared r ≡ true
+unfolding isOf preparedBy
+rolled n ks r h = search tests
+
+module _ (s : Sheets) (good : GoodSheets s) where
+  -- the line after a write
+  line-fit : {w : Write} → Fit s w → (r : Record) → listsKey (r .key) (s .lines) ≡ true → lineOf (r .key) (s .lines) ≡ r → GoodParts (s .coordinator .issued) r → GoodParts (decisionsAfter w (s .coordinator) .issued) (lineAfter w r)
+  unfolding lineAfter decisionsAfter withIssued
+  line-fit fit-nothing r k e g = g
+  line-fit (fit-issue l) r k e g =
+      more-issued (s .coordinator .issued) (s .coordinator .issued + 1) r (omega arith) g
+  line-fit (fit-decide n d l) r k e g =
+      more-issued (s .coordinator .issued) (withDecision n d (s .coordinator) .issued) r (omega (arith, decided-issued n d (s .coordinator))) g
+  line-fit (fit-commit n es m) r k e g =
+      entry-fine (s .coordinator .issued) r (entryFor (r .key) es) (λ (x : Entry). committed n x r) g
+      (λ x o. committed-fine (s .coordinator .issued) n x r g (m r k e x o))
+  line-fit (fit-prepare n now es l m) r k e g =
+      entry-fine (s .coordinator .issued) r (entryFor (r .key) es) (λ (x : Entry). prepared n now x r) g
+      (λ x o. prepared-fine (s .coordinator .issued) n x r g (m r k e x o) now l)
+  line-fit (fit-forward n ks) r k e g =
+      choose-by (GoodParts (s .coordinator .issued)) (isOf n ks r)
+      (λ h. forward-fine (s .coordinator .issued) r g (rolled n ks r h)) (λ h. g)
+  line-fit (fit-back n ks) r k e g =
+      choose-by (GoodParts (s .coordinator .issued)) (isOf n ks r)
+      (λ h. back-fine (s .coordinator .issued) r g (rolled n ks r h)) (λ h. g)
+
+  lines-fit : {w : Write} → Fit s w → all (fine (decisionsAfter w (s .coordinator) .issued)) (map (lineAfter w) (s .lines)) ≡ true
+  lines-fit {w} f =
+      all-map (fine (decisionsAfter w (s .coordinator) .issued)) (lineAfter w) (s .lines)
+      ∙ all-lines (λ (r : Record). fine (decisionsAfter w (s .coordinator) .issued) (lineAfter w r)) (s .lines) (good .order)
+      (λ r k e. let h : fine (s .coordinator .issued) r ≡ true =
+      ap (fine (s .coordinator .issued)) (sym e) ∙ line-passes (fine (s .coordinator .issued)) (r .key) (s .lines) (good .fine-lines) k in
+      parts-fine (decisionsAfter w (s .coordinator) .issued) (lineAfter w r) (line-fit f r k e (fine-parts (s .coordinator .issued) r h)))
+
+  decide-fit : (n : ℕ) (d : Decision) → n ≤ s .coordinator .issued → coordinatorGood (withDecision n d (s .coordinator)) ≡ true
+  unfolding withDecision
+  decide-fit zero d l = good .decisions
+  decide-fit (suc n) d l = good-decided n d (s .coordinator) (good .decisions) (omega arith)
+
+  decisions-fit : {w : Write} → Fit s w → coordinatorGood (decisionsAfter w (s .coordinator)) ≡ true
+  unfolding decisionsAfter
+  decisions-fit fit-nothing = good .decisions
+  decisions-fit (fit-issue l) =
+      ap (λ (n : ℕ). coordinatorGood (withIssued n (s .coordinator))) (add-one (s .coordinator .issued)) ∙ good-raised (s .coordinator) (good .decisions) l
+  decisions-fit (fit-decide n d l) = decide-fit n d l
+  decisions-fit (fit-commit n es m) = good .decisions
+  decisions-fit (fit-prepare n now es l m) = good .decisions
+  decisions-fit (fit-forward n ks) = good .decisions
+  decisions-fit (fit-back n ks) = good .decisions
+
+  -- good sheets stay good
+  pub write-closed : {w : Write} → Fit s w → GoodSheets (apply w s)
+  unfolding apply
+  write-closed {w} f =
+      let n : length (map (lineAfter w) (s .lines)) ≡ length (s .lines) = length-map (s .lines) (lineAfter w) in
+      let a : 1 ≤ length (s .lines) = good .some-lines in
+      let b : length (s .lines) ≤ 500 = good .few-lines in
+      record {
+        some-lines = omega arith;
+        few-lines = omega arith;
+        fine-lines = lines-fit f;
+        order = rising-kept (lineAfter w) (line-key w) (s .lines) ∙ good .order;
+        decisions = decisions-fit f;
+      }
