@@ -1,13 +1,15 @@
 -- What holds of a choice holds of each of its cases: one rule for each combinator of the specification, with the case's equation at hand.
-use Prim.Native.Nat.{ℕ}
+use Prim.Native.Nat.{ℕ, _≤_}
 use mathlib.Core.Path.{_≡_, refl}
 use mathlib.Core.Bool.{Bool, true, false, cond}
-use mathlib.Core.List.{List}
+use mathlib.Core.List.{List, _∷_}
+use native.Mathlib.Omega.{arith}
 use lib.Dec.{eqb}
+use borrow.Author.Tests.{eqb-true}
 use Rattle.lists.specs.Tests.{choose-by}
 use Rattle.types.specs.declared.Decision.{Decision}
 use Rattle.types.specs.declared.Decision.the-variants.{Undecided, Committed, Aborted}
-use Rattle.model.specs.Refusals.{Condition, refusalOf}
+use Rattle.model.specs.Refusals.{Condition, refuse, refusalOf}
 use Rattle.model.specs.Transactions.{byPhase}
 use Rattle.model.specs.Images.{byDecision}
 use Rattle.model.specs.Results.{Result, refused, unless}
@@ -21,6 +23,17 @@ by-phase P p o r v d w f u e x =
     (λ _. choose-by P (eqb p 4) (λ _. w)
     (λ _. choose-by P (eqb p 5) (λ _. f) (λ _. choose-by P (eqb p 6) (λ _. u) (λ _. choose-by P (eqb p 7) (λ _. e) (λ _. x))))))))
 
+-- the same with the phase at hand; a number that is no phase is refused where the rule is used
+pub by-phase-of {ℓ κ} : {A : Type ℓ} (P : A → Type κ) (p : ℕ) {o r v d w f u e x : A} → (p ≡ 0 → P o) → (p ≡ 1 → P r) → (p ≡ 2 → P v) → (p ≡ 3 → P d) → (p ≡ 4 → P w) → (p ≡ 5 → P f) → (p ≡ 6 → P u) → (p ≡ 7 → P e) → P x → P (byPhase p o r v d w f u e x)
+by-phase-of P p o r v d w f u e x =
+    choose-by P (eqb p 0) (λ q. o (eqb-true p 0 q))
+    (λ _. choose-by P (eqb p 1) (λ q. r (eqb-true p 1 q))
+    (λ _. choose-by P (eqb p 2) (λ q. v (eqb-true p 2 q))
+    (λ _. choose-by P (eqb p 3) (λ q. d (eqb-true p 3 q))
+    (λ _. choose-by P (eqb p 4) (λ q. w (eqb-true p 4 q))
+    (λ _. choose-by P (eqb p 5) (λ q. f (eqb-true p 5 q))
+    (λ _. choose-by P (eqb p 6) (λ q. u (eqb-true p 6 q)) (λ _. choose-by P (eqb p 7) (λ q. e (eqb-true p 7 q)) (λ _. x))))))))
+
 pub by-decision {ℓ κ} : {A : Type ℓ} (P : A → Type κ) (d : Decision) {u c a : A} → P u → P c → P a → P (byDecision d u c a)
 by-decision P Undecided x y z = x
 by-decision P Committed x y z = y
@@ -29,3 +42,9 @@ by-decision P Aborted x y z = z
 -- a result, refused or not
 pub unless-by {κ} : {A : Type 0} (P : Result A → Type κ) (cs : List Condition) {r : Result A} → P (refused (refusalOf cs)) → P r → P (unless cs r)
 unless-by P cs n h = choose-by P (eqb (refusalOf cs) 0) (λ e. h) (λ e. n)
+
+-- what an accepted call knows: none of its conditions holds
+pub not-first : (n : ℕ) (x : Bool) (cs : List Condition) → 1 ≤ n → refusalOf (refuse n x ∷ cs) ≡ 0 → (x ≡ false) × (refusalOf cs ≡ 0)
+unfolding refusalOf
+not-first n true cs l h = absurd (omega (arith, h))
+not-first n false cs l h = (refl, h)

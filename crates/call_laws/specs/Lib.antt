@@ -8,3 +8,4 @@ pub mod Ranges
 pub mod Images
 pub mod Lines
 pub mod Sheets
+pub mod Transactions

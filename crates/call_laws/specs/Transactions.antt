@@ -1,0 +1,247 @@
+-- A well-formed transaction in parts: its body, which no step changes, and its stage (phase, place and verdict).
+use Prim.Native.Nat.{ℕ, zero, suc, _+_, _≤_, _<_}
+use mathlib.Core.Path.{_≡_, refl, sym, ap, ap₂, _∙_}
+use mathlib.Core.Bool.{Bool, true, false, _&&_, _||_, not, cond, true≢false}
+use mathlib.Core.List.{List, [], _∷_}
+use native.Mathlib.Omega.{arith}
+use lib.ListN.{length}
+use lib.Dec.{eqb, leb, ltb}
+use borrow.Author.Tests.{eqb-true, eq-eqb, le-leb, leb-true, ltb-true, lt-ltb}
+use Rattle.lists.specs.Each.{all, any, filter}
+use Rattle.lists.specs.Chosen.{or-left}
+use Rattle.lists.specs.Tests.{and-fst, and-snd, and-both, tests}
+use Rattle.types.specs.declared.AtomicityUnit.{AtomicityUnit}
+use Rattle.types.specs.declared.Entry.{Entry}
+use Rattle.types.specs.declared.Record.{Record}
+use Rattle.types.specs.declared.Transaction.{Transaction}
+use Rattle.model.specs.Records.{hasLine, sameKey}
+use Rattle.model.specs.Transactions.{
+  preparePhase,
+  validatePhase,
+  decidePhase,
+  withdrawPhase,
+  finishPhase,
+  undoPhase,
+  donePhase,
+  noVerdict,
+  committedVerdict,
+  abortedVerdict,
+  isSerializable,
+  isPut,
+  isEmpty,
+  held,
+  puts,
+  mustValidate,
+  toValidate,
+  moved,
+}
+use Rattle.model.specs.Groups.{scopes, addScope, groupCount, groupPlace}
+use Rattle.model.specs.Writes.{Sheets}
+use Rattle.model.specs.WellFormed.{
+  entryFormed,
+  distinctKeys,
+  placeFormed,
+  verdictFormed,
+  formed,
+  linesHeld,
+  wellFormed,
+}
+use Rattle.call_laws.specs.Keys.{hasKey, same-key-refl}
+use Rattle.call_laws.specs.Groups.{place-below}
+
+-- what no step changes
+pub record Body (s : Sheets) (t : Transaction) : Type 0 where
+  pub number : 1 ≤ t .number
+  pub known : t .number ≤ s .coordinator .issued
+  pub flag : t .serializable ≤ 1
+  pub few : t .count ≤ 8
+  pub entries : all (entryFormed (s .coordinator .issued)) (held t) ≡ true
+  pub distinct : distinctKeys (held t) ≡ true
+  pub lines : linesHeld (s .lines) t ≡ true
+
+-- phase, place and verdict
+pub record Stage (us : List AtomicityUnit) (t : Transaction) : Type 0 where
+  pub decides : (not (eqb (t .phase) decidePhase) || not (isEmpty (puts t))) ≡ true
+  pub validates : (not (eqb (t .phase) validatePhase) || isSerializable t) ≡ true
+  pub place : placeFormed us t ≡ true
+  pub verdict : verdictFormed t ≡ true
+
+pub well-formed-parts : (s : Sheets) (t : Transaction) → wellFormed s t ≡ true → Body s t × Stage (s .coordinator .units) t
+unfolding wellFormed formed
+well-formed-parts s t h =
+    let f : formed (s .coordinator .units) (s .coordinator .issued) t ≡ true = and-fst _ (linesHeld (s .lines) t) h in
+    let us = s .coordinator .units in
+    let p0 = leb 1 (t .number) && leb (t .number) (s .coordinator .issued) && leb (t .serializable) 1 && leb (t .count) 8 in
+    let p1 = p0 && all (entryFormed (s .coordinator .issued)) (held t) in
+    let p2 = p1 && distinctKeys (held t) in
+    let p3 = p2 && (not (eqb (t .phase) decidePhase) || not (isEmpty (puts t))) in
+    let p4 = p3 && (not (eqb (t .phase) validatePhase) || isSerializable t) in
+    let p5 = p4 && placeFormed us t in
+    let h5 : p5 ≡ true = and-fst p5 (verdictFormed t) f in
+    let h4 : p4 ≡ true = and-fst p4 (placeFormed us t) h5 in
+    let h3 : p3 ≡ true = and-fst p3 (not (eqb (t .phase) validatePhase) || isSerializable t) h4 in
+    let h2 : p2 ≡ true = and-fst p2 (not (eqb (t .phase) decidePhase) || not (isEmpty (puts t))) h3 in
+    let h1 : p1 ≡ true = and-fst p1 (distinctKeys (held t)) h2 in
+    let h0 : p0 ≡ true = and-fst p0 (all (entryFormed (s .coordinator .issued)) (held t)) h1 in (
+      record {
+        number = search (tests, h0);
+        known = search (tests, h0);
+        flag = search (tests, h0);
+        few = search (tests, h0);
+        entries = and-snd p0 (all (entryFormed (s .coordinator .issued)) (held t)) h1;
+        distinct = and-snd p1 (distinctKeys (held t)) h2;
+        lines = and-snd (formed us (s .coordinator .issued) t) (linesHeld (s .lines) t) h;
+      },
+      record {
+        decides = and-snd p2 (not (eqb (t .phase) decidePhase) || not (isEmpty (puts t))) h3;
+        validates = and-snd p3 (not (eqb (t .phase) validatePhase) || isSerializable t) h4;
+        place = and-snd p4 (placeFormed us t) h5;
+        verdict = and-snd p5 (verdictFormed t) f;
+      },
+    )
+
+pub parts-well-formed : (s : Sheets) (t : Transaction) → Body s t → Stage (s .coordinator .units) t → wellFormed s t ≡ true
+unfolding wellFormed formed
+parts-well-formed s t b g =
+    and-both
+    (and-both
+    (and-both
+    (and-both
+    (and-both
+    (and-both
+    (and-both
+    (and-both
+    (and-both
+    (and-both (le-leb 1 (t .number) (b .number)) (le-leb (t .number) (s .coordinator .issued) (b .known)))
+    (le-leb (t .serializable) 1 (b .flag)))
+    (le-leb (t .count) 8 (b .few)))
+    (b .entries))
+    (b .distinct))
+    (g .decides))
+    (g .validates))
+    (g .place))
+    (g .verdict))
+    (b .lines)
+
+-- A step keeps the body.
+pub body-moved : (s : Sheets) (t : Transaction) (phase place verdict : ℕ) → Body s t → Body s (moved phase place verdict t)
+unfolding held linesHeld
+body-moved s t phase place verdict b =
+    record {
+      number = b .number;
+      known = b .known;
+      flag = b .flag;
+      few = b .few;
+      entries = b .entries;
+      distinct = b .distinct;
+      lines = b .lines;
+    }
+
+-- What the stage says in a phase.
+
+abbrev placeAt : List AtomicityUnit → ℕ → Transaction → Bool
+placeAt us p t = placeFormed us (moved p (t .place) (t .verdict) t)
+
+abbrev verdictAt : ℕ → Transaction → Bool
+verdictAt p t = verdictFormed (moved p (t .place) (t .verdict) t)
+
+module _ (us : List AtomicityUnit) (t : Transaction) (g : Stage us t) where
+  pub place-at : (p : ℕ) → t .phase ≡ p → placeAt us p t ≡ true
+  place-at p e = ap (λ (q : ℕ). placeAt us q t) (sym e) ∙ g .place
+
+  pub verdict-at : (p : ℕ) → t .phase ≡ p → verdictAt p t ≡ true
+  verdict-at p e = ap (λ (q : ℕ). verdictAt q t) (sym e) ∙ g .verdict
+
+-- Groups and entries to validate: there are some.
+
+groups-some : (us : List AtomicityUnit) (es : List Entry) → isEmpty es ≡ false → 0 < groupCount us es
+unfolding any
+groups-some us [] h = absurd (true≢false h)
+groups-some us (e ∷ es) h =
+    let k : hasKey (e .key) (e ∷ es) ≡ true = or-left (sameKey (e .key) (e .key)) (hasKey (e .key) es) (same-key-refl (e .key)) in
+    let l : groupPlace us (e ∷ es) (e .key) < groupCount us (e ∷ es) = place-below us (e ∷ es) (e .key) k in
+    omega arith
+
+groups-none : (us : List AtomicityUnit) (es : List Entry) (i : ℕ) → i < groupCount us es → isEmpty es ≡ false
+unfolding groupCount scopes
+groups-none us [] i l = absurd (omega arith)
+groups-none us (e ∷ es) i l = refl
+
+length-some : (es : List Entry) → isEmpty es ≡ false → 0 < length es
+length-some [] h = absurd (true≢false h)
+length-some (e ∷ es) h = omega arith
+
+filter-never : (p : Entry → Bool) → ((e : Entry) → p e ≡ false) → (es : List Entry) → filter p es ≡ []
+unfolding filter
+filter-never p h [] = refl
+filter-never p h (e ∷ es) = ap (λ (b : Bool). cond b (e ∷ filter p es) (filter p es)) (h e) ∙ filter-never p h es
+
+-- only a serializable transaction has entries to validate
+validates-serializable : (t : Transaction) → isEmpty (toValidate t) ≡ false → isSerializable t ≡ true
+unfolding toValidate
+validates-serializable t h = go (isSerializable t) refl
+  where
+    go : (b : Bool) → isSerializable t ≡ b → b ≡ true
+    go true e = refl
+    go false e =
+        let n : filter (mustValidate t) (held t) ≡ [] = filter-never (mustValidate t) (λ x. ap (λ (b : Bool). b && not (isPut x)) e) (held t) in
+        absurd (true≢false (sym (ap isEmpty n) ∙ h))
+
+-- The stages that steps lead to. A new phase starts at place 0.
+module _ (us : List AtomicityUnit) (t : Transaction) where
+  pub to-withdraw : t .verdict ≡ noVerdict → Stage us (moved withdrawPhase 0 (t .verdict) t)
+  unfolding placeFormed verdictFormed puts held
+  to-withdraw v = record { decides = refl; validates = refl; place = refl; verdict = eq-eqb (t .verdict) 0 v }
+
+  pub to-prepare : t .verdict ≡ noVerdict → isEmpty (puts t) ≡ false → Stage us (moved preparePhase 0 (t .verdict) t)
+  unfolding placeFormed verdictFormed puts held
+  to-prepare v n =
+      record {
+        decides = refl;
+        validates = refl;
+        place = lt-ltb 0 (groupCount us (puts t)) (groups-some us (puts t) n);
+        verdict = eq-eqb (t .verdict) 0 v;
+      }
+
+  pub to-validate : t .verdict ≡ noVerdict → isEmpty (toValidate t) ≡ false → Stage us (moved validatePhase 0 (t .verdict) t)
+  unfolding placeFormed verdictFormed toValidate held
+  to-validate v n =
+      record {
+        decides = refl;
+        validates = validates-serializable t n;
+        place = lt-ltb 0 (length (toValidate t)) (length-some (toValidate t) n);
+        verdict = eq-eqb (t .verdict) 0 v;
+      }
+
+  pub to-decide : t .verdict ≡ noVerdict → isEmpty (puts t) ≡ false → Stage us (moved decidePhase 0 (t .verdict) t)
+  unfolding placeFormed verdictFormed puts held
+  to-decide v n =
+      record { decides = ap not n; validates = refl; place = refl; verdict = eq-eqb (t .verdict) 0 v }
+
+  pub to-finish : isEmpty (puts t) ≡ false → Stage us (moved finishPhase 0 committedVerdict t)
+  unfolding placeFormed verdictFormed puts held
+  to-finish n =
+      record {
+        decides = refl;
+        validates = refl;
+        place = lt-ltb 0 (groupCount us (puts t)) (groups-some us (puts t) n);
+        verdict = refl;
+      }
+
+  pub to-undo : isEmpty (puts t) ≡ false → Stage us (moved undoPhase 0 abortedVerdict t)
+  unfolding placeFormed verdictFormed puts held
+  to-undo n =
+      record {
+        decides = refl;
+        validates = refl;
+        place = lt-ltb 0 (groupCount us (puts t)) (groups-some us (puts t) n);
+        verdict = refl;
+      }
+
+  pub to-done-committed : Stage us (moved donePhase 0 committedVerdict t)
+  unfolding placeFormed verdictFormed
+  to-done-committed = record { decides = refl; validates = refl; place = refl; verdict = refl }
+
+  pub to-done-aborted : Stage us (moved donePhase 0 abortedVerdict t)
+  unfolding placeFormed verdictFormed
+  to-done-aborted = record { decides = refl; validates = refl; place = refl; verdict = refl }
