@@ -3,9 +3,9 @@ use Prim.Native.Nat.{ℕ}
 use mathlib.Core.Path.{_≡_, refl, sym, ap, _∙_}
 use mathlib.Core.Bool.{Bool, true, false, _&&_, _||_, cond, true≢false}
 use mathlib.Core.List.{List, [], _∷_, map}
-use mathlib.Core.Option.{Option, none, some}
+use mathlib.Core.Option.{Option, none, some, Option·none-ne-some, Option·some-injective}
 use Rattle.lists.specs.Bytes.{eqList, eqList-true, eqList-refl, ne-eqList}
-use Rattle.lists.specs.Each.{any, filter}
+use Rattle.lists.specs.Each.{all, any, filter}
 use Rattle.lists.specs.Chosen.{any-filter, any-weaken, or-else, or-left, or-right}
 use Rattle.lists.specs.Tests.{and-fst, and-snd}
 use Rattle.types.specs.declared.Key.{Key}
@@ -60,3 +60,24 @@ chosen-key q k es h =
           (λ e g. and-snd (q (e .key)) (sameKey (e .key) k) g) es b,
       key-passes q k es b,
     )
+
+-- The entry of a key.
+
+pub entry-has-key : (k : Key) (es : List Entry) (e : Entry) → entryFor k es ≡ some e → e .key ≡ k
+unfolding entryFor
+entry-has-key k [] e h = absurd (Option·none-ne-some e h)
+entry-has-key k (f ∷ es) e h = go (sameKey (f .key) k) refl h (entry-has-key k es e)
+  where
+    go : (b : Bool) → sameKey (f .key) k ≡ b → cond b (some f) (entryFor k es) ≡ some e → (entryFor k es ≡ some e → e .key ≡ k) → e .key ≡ k
+    go true g o i = ap (λ (x : Entry). x .key) (sym (Option·some-injective f e o)) ∙ same-key (f .key) k g
+    go false g o i = i o
+
+-- what all entries pass, the entry of a key passes
+pub entry-passes : (p : Entry → Bool) (k : Key) (es : List Entry) (e : Entry) → all p es ≡ true → entryFor k es ≡ some e → p e ≡ true
+unfolding entryFor all
+entry-passes p k [] e h o = absurd (Option·none-ne-some e o)
+entry-passes p k (f ∷ es) e h o = go (sameKey (f .key) k) o (entry-passes p k es e (and-snd (p f) (all p es) h))
+  where
+    go : (b : Bool) → cond b (some f) (entryFor k es) ≡ some e → (entryFor k es ≡ some e → p e ≡ true) → p e ≡ true
+    go true q i = ap p (sym (Option·some-injective f e q)) ∙ and-fst (p f) (all p es) h
+    go false q i = i q

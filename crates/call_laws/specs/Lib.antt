@@ -9,3 +9,4 @@ pub mod Images
 pub mod Lines
 pub mod Sheets
 pub mod Transactions
+pub mod Steps

@@ -6,7 +6,7 @@ use mathlib.Core.List.{List, [], _∷_}
 use native.Mathlib.Omega.{arith}
 use lib.ListN.{length}
 use lib.Dec.{eqb, leb, ltb}
-use borrow.Author.Tests.{eqb-true, eq-eqb, le-leb, leb-true, ltb-true, lt-ltb}
+use borrow.Author.Tests.{not-true, eqb-true, eq-eqb, le-leb, leb-true, ltb-true, lt-ltb}
 use Rattle.lists.specs.Each.{all, any, filter}
 use Rattle.lists.specs.Chosen.{or-left}
 use Rattle.lists.specs.Tests.{and-fst, and-snd, and-both, tests}
@@ -162,7 +162,7 @@ groups-some us (e ∷ es) h =
     let l : groupPlace us (e ∷ es) (e .key) < groupCount us (e ∷ es) = place-below us (e ∷ es) (e .key) k in
     omega arith
 
-groups-none : (us : List AtomicityUnit) (es : List Entry) (i : ℕ) → i < groupCount us es → isEmpty es ≡ false
+pub groups-none : (us : List AtomicityUnit) (es : List Entry) (i : ℕ) → i < groupCount us es → isEmpty es ≡ false
 unfolding groupCount scopes
 groups-none us [] i l = absurd (omega arith)
 groups-none us (e ∷ es) i l = refl
@@ -170,6 +170,10 @@ groups-none us (e ∷ es) i l = refl
 length-some : (es : List Entry) → isEmpty es ≡ false → 0 < length es
 length-some [] h = absurd (true≢false h)
 length-some (e ∷ es) h = omega arith
+
+length-none : (es : List Entry) (i : ℕ) → i < length es → isEmpty es ≡ false
+length-none [] i l = absurd (omega arith)
+length-none (e ∷ es) i l = refl
 
 filter-never : (p : Entry → Bool) → ((e : Entry) → p e ≡ false) → (es : List Entry) → filter p es ≡ []
 unfolding filter
@@ -245,3 +249,31 @@ module _ (us : List AtomicityUnit) (t : Transaction) where
   pub to-done-aborted : Stage us (moved donePhase 0 abortedVerdict t)
   unfolding placeFormed verdictFormed
   to-done-aborted = record { decides = refl; validates = refl; place = refl; verdict = refl }
+
+  -- the next place in the same phase
+  pub next-prepare : t .verdict ≡ noVerdict → ltb (t .place + 1) (groupCount us (puts t)) ≡ true → Stage us (moved preparePhase (t .place + 1) (t .verdict) t)
+  unfolding placeFormed verdictFormed puts held
+  next-prepare v l = record { decides = refl; validates = refl; place = l; verdict = eq-eqb (t .verdict) 0 v }
+
+  pub next-validate : t .verdict ≡ noVerdict → ltb (t .place + 1) (length (toValidate t)) ≡ true → Stage us (moved validatePhase (t .place + 1) (t .verdict) t)
+  unfolding placeFormed verdictFormed toValidate held
+  next-validate v l =
+      record {
+        decides = refl;
+        validates = validates-serializable t (length-none (toValidate t) (t .place + 1) (ltb-true (t .place + 1) (length (toValidate t)) l));
+        place = l;
+        verdict = eq-eqb (t .verdict) 0 v;
+      }
+
+  pub next-finish : t .verdict ≡ committedVerdict → ltb (t .place + 1) (groupCount us (puts t)) ≡ true → Stage us (moved finishPhase (t .place + 1) (t .verdict) t)
+  unfolding placeFormed verdictFormed puts held
+  next-finish v l = record { decides = refl; validates = refl; place = l; verdict = eq-eqb (t .verdict) 1 v }
+
+  pub next-undo : t .verdict ≡ abortedVerdict → ltb (t .place + 1) (groupCount us (puts t)) ≡ true → Stage us (moved undoPhase (t .place + 1) (t .verdict) t)
+  unfolding placeFormed verdictFormed puts held
+  next-undo v l = record { decides = refl; validates = refl; place = l; verdict = eq-eqb (t .verdict) 2 v }
+
+  -- "decide has a put"
+  pub has-put : Stage us t → t .phase ≡ decidePhase → isEmpty (puts t) ≡ false
+  has-put g e =
+      not-true (isEmpty (puts t)) (ap (λ (p : ℕ). not (eqb p decidePhase) || not (isEmpty (puts t))) (sym e) ∙ g .decides)
