@@ -9,9 +9,12 @@ use borrow.Author.Tests.{eqb-true}
 use Rattle.lists.specs.Tests.{choose-by}
 use Rattle.types.specs.declared.Decision.{Decision}
 use Rattle.types.specs.declared.Decision.the-variants.{Undecided, Committed, Aborted}
+use Rattle.types.specs.declared.Record.{Record}
+use Rattle.types.specs.declared.Recovery.{Recovery}
+use Rattle.types.specs.declared.Recovery.the-variants.{Stays, Forward, Back, Again, Busy}
 use Rattle.model.specs.Refusals.{Condition, refuse, refusalOf}
 use Rattle.model.specs.Transactions.{byPhase}
-use Rattle.model.specs.Images.{byDecision}
+use Rattle.model.specs.Images.{isPrepared, byDecision, recovery}
 use Rattle.model.specs.Results.{Result, refused, unless}
 
 pub by-phase {ℓ κ} : {A : Type ℓ} (P : A → Type κ) (p : ℕ) {o r v d w f u e x : A} → P o → P r → P v → P d → P w → P f → P u → P e → P x → P (byPhase p o r v d w f u e x)
@@ -34,14 +37,27 @@ by-phase-of P p o r v d w f u e x =
     (λ _. choose-by P (eqb p 5) (λ q. f (eqb-true p 5 q))
     (λ _. choose-by P (eqb p 6) (λ q. u (eqb-true p 6 q)) (λ _. choose-by P (eqb p 7) (λ q. e (eqb-true p 7 q)) (λ _. x))))))))
 
+pub by-decision-of {ℓ κ} : {A : Type ℓ} (P : A → Type κ) (d : Decision) {u c a : A} → (d ≡ Undecided → P u) → (d ≡ Committed → P c) → (d ≡ Aborted → P a) → P (byDecision d u c a)
+by-decision-of P Undecided x y z = x refl
+by-decision-of P Committed x y z = y refl
+by-decision-of P Aborted x y z = z refl
+
+-- what a visit comes to
+pub by-meeting {κ} : (P : Recovery → Type κ) (r : Record) (d : Decision) (x : Bool) → (isPrepared r ≡ false → P Stays) → (isPrepared r ≡ true → d ≡ Committed → P Forward) → (isPrepared r ≡ true → d ≡ Aborted → P Back) → (isPrepared r ≡ true → d ≡ Undecided → x ≡ true → P Again) → (isPrepared r ≡ true → d ≡ Undecided → x ≡ false → P Busy) → P (recovery r d x)
+unfolding recovery
+by-meeting P r d x s f b a u =
+    choose-by P (isPrepared r)
+    (λ p. by-decision-of P d (λ e. choose-by P x (λ y. a p e y) (λ y. u p e y)) (λ e. f p e) (λ e. b p e))
+    s
+
 pub by-decision {ℓ κ} : {A : Type ℓ} (P : A → Type κ) (d : Decision) {u c a : A} → P u → P c → P a → P (byDecision d u c a)
 by-decision P Undecided x y z = x
 by-decision P Committed x y z = y
 by-decision P Aborted x y z = z
 
--- a result, refused or not
-pub unless-by {κ} : {A : Type 0} (P : Result A → Type κ) (cs : List Condition) {r : Result A} → P (refused (refusalOf cs)) → P r → P (unless cs r)
-unless-by P cs n h = choose-by P (eqb (refusalOf cs) 0) (λ e. h) (λ e. n)
+-- a result, refused or not: an accepted one has no condition that holds
+pub unless-by {κ} : {A : Type 0} (P : Result A → Type κ) (cs : List Condition) {r : Result A} → P (refused (refusalOf cs)) → (refusalOf cs ≡ 0 → P r) → P (unless cs r)
+unless-by P cs n h = choose-by P (eqb (refusalOf cs) 0) (λ e. h (eqb-true (refusalOf cs) 0 e)) (λ e. n)
 
 -- what an accepted call knows: none of its conditions holds
 pub not-first : (n : ℕ) (x : Bool) (cs : List Condition) → 1 ≤ n → refusalOf (refuse n x ∷ cs) ≡ 0 → (x ≡ false) × (refusalOf cs ≡ 0)

@@ -29,6 +29,9 @@ other-key a b d = go (sameKey a b) refl
     go true e = absurd (d (same-key a b e))
     go false e = refl
 
+pub same-key-flip : (a b : Key) → sameKey a b ≡ false → sameKey b a ≡ false
+same-key-flip a b h = other-key b a (λ e. true≢false (sym (same-key-refl b) ∙ (ap (λ (k : Key). sameKey k b) e ∙ h)))
+
 -- some entry has the key
 abbrev pub hasKey : Key → List Entry → Bool
 hasKey k es = any (λ (e : Entry). sameKey (e .key) k) es

@@ -10,3 +10,5 @@ pub mod Lines
 pub mod Sheets
 pub mod Transactions
 pub mod Steps
+pub mod Entries
+pub mod Closure

@@ -218,17 +218,17 @@ step-single t now s =
 -- "writes to at most one unit or the coordinator sheet", whatever the call, its arguments and the sheets
 pub single-unit : (c : Call) (s : Sheets) → Single s (written c s)
 unfolding written beginResult readResult putResult advanceResult abortResult visitResult readNew
-single-unit (begin b) s = unless-by (λ (x : Result Transaction). Single s (writeOf x)) (conditions (begin b) s) (nothing-unit (unitsOf s)) (issue-unit (unitsOf s))
+single-unit (begin b) s = unless-by (λ (x : Result Transaction). Single s (writeOf x)) (conditions (begin b) s) (nothing-unit (unitsOf s)) (λ z. issue-unit (unitsOf s))
 single-unit (read t k now) s =
     unless-by (λ (x : Result ReadAnswer). Single s (writeOf x)) (conditions (read t k now) s) (nothing-unit (unitsOf s))
-    (choose-by (λ (x : Result ReadAnswer). Single s (writeOf x)) (isNew k t)
+    (λ z. choose-by (λ (x : Result ReadAnswer). Single s (writeOf x)) (isNew k t)
     (λ e. choose-by (λ (x : Result ReadAnswer). Single s (writeOf x)) (isAgain (meeting now (s .coordinator) (lineOf k (s .lines))))
     (λ f. visit-unit (unitsOf s) (meeting now (s .coordinator) (lineOf k (s .lines))) (lineOf k (s .lines)))
     (λ f. visit-unit (unitsOf s) (meeting now (s .coordinator) (lineOf k (s .lines))) (lineOf k (s .lines))))
     (λ e. nothing-unit (unitsOf s)))
-single-unit (put t k c) s = unless-by (λ (x : Result Transaction). Single s (writeOf x)) (conditions (put t k c) s) (nothing-unit (unitsOf s)) (nothing-unit (unitsOf s))
-single-unit (advance t now) s = unless-by (λ (x : Result Transaction). Single s (writeOf x)) (conditions (advance t now) s) (nothing-unit (unitsOf s)) (step-single t now s)
-single-unit (abort t) s = unless-by (λ (x : Result Transaction). Single s (writeOf x)) (conditions (abort t) s) (nothing-unit (unitsOf s)) (nothing-unit (unitsOf s))
+single-unit (put t k c) s = unless-by (λ (x : Result Transaction). Single s (writeOf x)) (conditions (put t k c) s) (nothing-unit (unitsOf s)) (λ z. nothing-unit (unitsOf s))
+single-unit (advance t now) s = unless-by (λ (x : Result Transaction). Single s (writeOf x)) (conditions (advance t now) s) (nothing-unit (unitsOf s)) (λ z. step-single t now s)
+single-unit (abort t) s = unless-by (λ (x : Result Transaction). Single s (writeOf x)) (conditions (abort t) s) (nothing-unit (unitsOf s)) (λ z. nothing-unit (unitsOf s))
 single-unit (visit k now) s =
     unless-by (λ (x : Result Recovery). Single s (writeOf x)) (conditions (visit k now) s) (nothing-unit (unitsOf s))
-    (visit-unit (unitsOf s) (meeting now (s .coordinator) (lineOf k (s .lines))) (lineOf k (s .lines)))
+    (λ z. visit-unit (unitsOf s) (meeting now (s .coordinator) (lineOf k (s .lines))) (lineOf k (s .lines)))

@@ -21,6 +21,15 @@ or-right false b h = h
 pub or-left : (a b : Bool) → a ≡ true → (a || b) ≡ true
 or-left a b h = rw h
 
+-- neither passes
+pub or-fst : (a b : Bool) → (a || b) ≡ false → a ≡ false
+or-fst true b h = h
+or-fst false b h = refl
+
+pub or-snd : (a b : Bool) → (a || b) ≡ false → b ≡ false
+or-snd true b h = absurd (true≢false h)
+or-snd false b h = h
+
 pub and-false : (a : Bool) → (a && false) ≡ false
 and-false true = refl
 and-false false = refl
