@@ -8,20 +8,22 @@ use native.Mathlib.Omega.{arith}
 use native.Mathlib.Numerals.{add-one}
 use lib.ListN.{length, take, getD, set}
 use lib.Dec.{eqb, leb, ltb}
-use borrow.Author.Tests.{not-true, not-false, eqb-true, eqb-false, eq-eqb, le-leb, leb-true}
+use borrow.Author.Tests.{not-true, not-false, eqb-true, eqb-false, eq-eqb, le-leb, leb-true, leb-false}
 use Rattle.lists.specs.Each.{all, any}
 use Rattle.lists.specs.All.{all-weaken, all-at}
 use Rattle.lists.specs.Tests.{and-fst, and-snd, and-both, tests, choose-by}
 use Rattle.types.specs.declared.AtomicityUnit.{AtomicityUnit}
+use Rattle.types.specs.declared.State.{State}
 use Rattle.types.specs.declared.Decision.{Decision}
 use Rattle.types.specs.declared.Key.{Key}
 use Rattle.types.specs.declared.Columns.{Columns}
 use Rattle.types.specs.declared.Entry.{Entry}
 use Rattle.types.specs.declared.Record.{Record}
 use Rattle.types.specs.declared.Transaction.{Transaction}
+use Rattle.types.specs.declared.Found.{Found}
 use Rattle.types.specs.declared.Recovery.{Recovery}
 use Rattle.types.specs.declared.Recovery.the-variants.{Stays, Forward, Back, Again, Busy}
-use Rattle.model.specs.Records.{hasLine, lineOf, keyInRange, isMissing, byFound}
+use Rattle.model.specs.Records.{byState, isZero, hasLine, lineOf, keyInRange, isMissing, byFound}
 use Rattle.model.specs.Coordinator.{Coordinator, withIssued}
 use Rattle.model.specs.Refusals.{Condition, refuse, refusalOf}
 use Rattle.model.specs.Transactions.{
@@ -67,7 +69,7 @@ use Rattle.model.specs.WellFormed.{
   linesHeld,
   wellFormed,
 }
-use Rattle.model.specs.Visits.{meeting, recovered, recoveryWrite}
+use Rattle.model.specs.Visits.{meeting, isAgain, isBusy, recovered, recoveryWrite}
 use Rattle.model.specs.Results.{Call, begin, read, put, advance, abort, visit, Result, refused, made, writeOf}
 use Rattle.model.specs.Conditions.{isNew, heldEntry, busy, cannotAbort, conditions}
 use Rattle.model.specs.Steps.{unitsOf, step}
@@ -105,7 +107,7 @@ use Rattle.call_laws.specs.Sheets.{
   decided-issued,
   decided-units,
 }
-use Rattle.call_laws.specs.Transactions.{Body, Stage, well-formed-parts, parts-well-formed, body-moved, place-at, verdict-at, to-withdraw}
+use Rattle.call_laws.specs.Transactions.{Body, Stage, well-formed-parts, parts-well-formed, body-moved, place-at, verdict-at, to-withdraw, stage-open}
 use Rattle.call_laws.specs.Steps.{Closed, step-closed, few-issued}
 use Rattle.call_laws.specs.Entries.{found-held, HeldAt, held-by, getD-first, all-more, all-replaced, distinct-more, distinct-replaced}
 
@@ -194,6 +196,25 @@ line-good : (s : Sheets) → GoodSheets s → (k : Key) → hasLine k (s .lines)
 line-good s good k h =
     fine-parts (s .coordinator .issued) (lineOf k (s .lines))
     (line-passes (fine (s .coordinator .issued)) k (s .lines) (good .fine-lines) (sym (has-line k (s .lines)) ∙ h))
+
+back-settled : (r : Record) → isPrepared (rolledBack r) ≡ false
+unfolding rolledBack
+back-settled r =
+    choose-by (λ (x : State). byState x false false true ≡ false) (eqb (r .before .version) 0) (λ e. refl) (λ e. refl)
+
+less-than-eight : (n : ℕ) → leb 8 n ≡ false → n < 8
+less-than-eight n h = leb-false 8 n h
+
+-- a new key is held by no entry
+not-held : (k : Key) (t : Transaction) → isNew k t ≡ true → hasKey k (held t) ≡ false
+unfolding heldAt
+not-held k t n = not-true (hasKey k (held t)) (sym (found-held 0 k (held t)) ∙ n)
+
+-- an open transaction stays open with another entry
+open-again : (us : List AtomicityUnit) (t : Transaction) → Stage us t → t .phase ≡ 0 → (n i : ℕ) (e : Entry) → Stage us (withEntry n i e t)
+unfolding placeFormed verdictFormed
+open-again us t g ph n i e =
+    stage-open us (withEntry n i e t) ph (eqb-true (t .place) 0 (place-at us t g 0 ph)) (eqb-true (t .verdict) 0 (verdict-at us t g 0 ph))
 
 module _ (s : Sheets) (good : GoodSheets s) where
   -- Begin.
@@ -286,3 +307,156 @@ module _ (s : Sheets) (good : GoodSheets s) where
         fits = visit-fits k now (not-false (hasLine k (s .lines)) (b .0));
         formed = λ t e. absurd (Option·none-ne-some t e);
       })
+
+  -- Read.
+
+  -- a line that was visited, and neither aborted nor busy
+  visited-good : (k : Key) (now : ℕ) → hasLine k (s .lines) ≡ true → isAgain (meeting now (s .coordinator) (lineOf k (s .lines))) ≡ false → isBusy (meeting now (s .coordinator) (lineOf k (s .lines))) ≡ false → GoodParts (s .coordinator .issued) (recovered (meeting now (s .coordinator) (lineOf k (s .lines))) (lineOf k (s .lines))) × (isPrepared (recovered (meeting now (s .coordinator) (lineOf k (s .lines))) (lineOf k (s .lines))) ≡ false)
+  unfolding meeting recovered rolledForward
+  visited-good k now h =
+      by-meeting
+      (λ (v : Recovery). isAgain v ≡ false → isBusy v ≡ false → GoodParts (s .coordinator .issued) (recovered v (lineOf k (s .lines))) × (isPrepared (recovered v (lineOf k (s .lines))) ≡ false))
+      (lineOf k (s .lines)) _ _
+      (λ p a b. (line-good s good k h, p))
+      (λ p d a b. (forward-fine (s .coordinator .issued) (lineOf k (s .lines)) (line-good s good k h) p, refl))
+      (λ p d a b. (back-fine (s .coordinator .issued) (lineOf k (s .lines)) (line-good s good k h) p, back-settled (lineOf k (s .lines))))
+      (λ p d x a b. absurd (true≢false a))
+      (λ p d x a b. absurd (true≢false b))
+
+  -- the entry of a good line that isn't prepared is well formed
+  entry-of-line : (k : Key) (r : Record) → GoodParts (s .coordinator .issued) r → isPrepared r ≡ false → entryFormed (s .coordinator .issued) (entryAs k (r .image)) ≡ true
+  unfolding entryFormed putFits
+  entry-of-line k r g p =
+      and-both (and-both (and-both (and-both refl (g .image)) (le-leb (r .image .txid) (s .coordinator .issued) (g .txid))) (when-settled r p (g .rule))) refl
+
+  module _ (t : Transaction) (b : Body s t) where
+    -- one more entry, of a key that isn't held
+    holding-body : (e : Entry) → t .count < 8 → hasKey (e .key) (held t) ≡ false → entryFormed (s .coordinator .issued) e ≡ true → hasLine (e .key) (s .lines) ≡ true → Body s (holding e t)
+    unfolding held linesHeld
+    holding-body e l n f h =
+        let more : take (t .count + 1) (set (t .entries) (t .count) e) ≡ take (suc (t .count)) (set (t .entries) (t .count) e) =
+        ap (λ (m : ℕ). take m (set (t .entries) (t .count) e)) (add-one (t .count)) in
+        record {
+          number = b .number;
+          known = b .known;
+          flag = b .flag;
+          few = omega arith;
+          entries =
+              ap (all (entryFormed (s .coordinator .issued))) more
+              ∙ all-more (entryFormed (s .coordinator .issued)) e (t .count) (t .entries) (b .entries) f;
+          distinct = ap distinctKeys more ∙ distinct-more e (t .count) (t .entries) (b .distinct) n;
+          lines =
+              ap (all (λ (x : Entry). hasLine (x .key) (s .lines))) more
+              ∙ all-more (λ (x : Entry). hasLine (x .key) (s .lines)) e (t .count) (t .entries) (b .lines) h;
+        }
+
+  read-keeps : (t : Transaction) (k : Key) (now : ℕ) → Keeps s readAnswered (readResult t k now s)
+  unfolding readResult conditions returns readNew
+  read-keeps t k now =
+      unless-by (Keeps s readAnswered) (conditions (read t k now) s) (keeps-refused s readAnswered _)
+      (λ z. let p = taken-parts s t _ z in
+      let r = lineOf k (s .lines) in
+      let v = meeting now (s .coordinator) r in
+      let c3 = not-first 3 (not (wellFormed s t)) _ (omega arith) z in
+      let c4 = not-first 4 (not (eqb (t .phase) 0)) _ (omega arith) (c3 .1) in
+      let c5 = not-first 5 (not (keyInRange k)) _ (omega arith) (c4 .1) in
+      let c6 = not-first 6 (not (hasLine k (s .lines))) _ (omega arith) (c5 .1) in
+      let c9 = not-first 9 (isNew k t && leb 8 (t .count)) _ (omega arith) (c6 .1) in
+      let c12 = not-first 12 (isNew k t && busy k now s) [] (omega arith) (c9 .1) in
+      let h : hasLine k (s .lines) ≡ true = not-false (hasLine k (s .lines)) (c6 .0) in
+      let ph : t .phase ≡ 0 = eqb-true (t .phase) 0 (not-false (eqb (t .phase) 0) (c4 .0)) in
+      choose-by (Keeps s readAnswered) (isNew k t)
+      (λ n. choose-by (Keeps s readAnswered) (isAgain v)
+      (λ a. keeps-made s readAnswered _ (recoveryWrite v r) t refl (visit-fits k now h) (formed-after s (recoveryWrite v r) t (p .0) (p .1)))
+      (λ a. let u = visited-good k now h a (ap (λ (x : Bool). x && busy k now s) (sym n) ∙ c12 .0) in
+      let e = entryAs (r .key) (recovered v r .image) in
+      let l : leb 8 (t .count) ≡ false = ap (λ (x : Bool). x && leb 8 (t .count)) (sym n) ∙ c9 .0 in
+      let kk : r .key ≡ k = line-of-key k (s .lines) in
+      let body : Body s (holding e t) =
+      holding-body t (p .0) e (less-than-eight (t .count) l) (ap (λ (x : Key). hasKey x (held t)) kk ∙ not-held k t n)
+      (entry-of-line (r .key) (recovered v r) (u .0) (u .1)) (ap (λ (x : Key). hasLine x (s .lines)) kk ∙ h) in
+      keeps-made s readAnswered _ (recoveryWrite v r) (holding e t) refl (visit-fits k now h)
+      (formed-after s (recoveryWrite v r) (holding e t) body (open-again (unitsOf s) t (p .1) ph (t .count + 1) (t .count) e))))
+      (λ n. keeps-made s readAnswered _ nothing t refl fit-nothing (formed-after s nothing t (p .0) (p .1))))
+
+  -- Put.
+
+  put-entry : (c : Columns) (y : Entry) → entryFormed (s .coordinator .issued) y ≡ true → columnsInRange c ≡ true → leb 99999 (y .seen .version) ≡ false → entryFormed (s .coordinator .issued) (withPut c y) ≡ true
+  unfolding entryFormed putFits
+  put-entry c y f r v =
+      let l : y .seen .version < 99999 = leb-false 99999 (y .seen .version) v in
+      let a : leb (y .seen .version) 99998 ≡ true = le-leb (y .seen .version) 99998 (omega arith) in
+      let b : imageInRange (y .seen) ≡ true = search (tests, f) in
+      let d : leb (y .seen .txid) (s .coordinator .issued) ≡ true = search (tests, f) in
+      let e : (leb 1 (y .seen .version) || isZero (y .seen)) ≡ true = search (tests, f) in
+      and-both (and-both (and-both (and-both refl b) d) e) (and-both a r)
+
+  module _ (t : Transaction) (b : Body s t) (c : Columns) where
+    -- the entry at a place replaced by one with a put
+    put-body : (k : Key) (m : ℕ) → HeldAt k (held t) noEntry m → columnsInRange c ≡ true → leb 99999 (getD (t .entries) m noEntry .seen .version) ≡ false → Body s (withEntry (t .count) m (withPut c (getD (t .entries) m noEntry)) t)
+    unfolding held linesHeld
+    put-body k m x r v =
+        let y = getD (t .entries) m noEntry in
+        let same : getD (held t) m noEntry ≡ y = getD-first (t .count) (t .entries) m noEntry (x .within) in
+        let f : entryFormed (s .coordinator .issued) y ≡ true =
+        ap (entryFormed (s .coordinator .issued)) (sym same) ∙ all-at (entryFormed (s .coordinator .issued)) (held t) noEntry m (b .entries) (x .within) in
+        let h : hasLine (y .key) (s .lines) ≡ true =
+        ap (λ (e : Entry). hasLine (e .key) (s .lines)) (sym same) ∙ all-at (λ (e : Entry). hasLine (e .key) (s .lines)) (held t) noEntry m (b .lines) (x .within) in
+        record {
+          number = b .number;
+          known = b .known;
+          flag = b .flag;
+          few = b .few;
+          entries = all-replaced (entryFormed (s .coordinator .issued)) (withPut c y) (t .count) m (t .entries) (b .entries) (put-entry c y f r v);
+          distinct = distinct-replaced (withPut c y) noEntry (t .count) m (t .entries) refl ∙ b .distinct;
+          lines = all-replaced (λ (e : Entry). hasLine (e .key) (s .lines)) (withPut c y) (t .count) m (t .entries) (b .lines) h;
+        }
+
+    -- what a put leaves is well formed
+    put-formed : (k : Key) → Stage (unitsOf s) t → t .phase ≡ 0 → columnsInRange c ≡ true → leb 99999 (heldEntry k t .seen .version) ≡ false → wellFormed (apply nothing s) (afterPut t k c) ≡ true
+    unfolding afterPut heldAt
+    put-formed k g ph r =
+        held-by
+        (λ (f : Found). leb 99999 (byFound f noEntry (λ (i : ℕ). getD (t .entries) i noEntry) .seen .version) ≡ false → wellFormed (apply nothing s) (byFound f t (λ (i : ℕ). withEntry (t .count) i (withPut c (getD (t .entries) i noEntry)) t)) ≡ true)
+        k (held t) noEntry
+        (λ n v. formed-after s nothing t b g)
+        (λ m x v. formed-after s nothing (withEntry (t .count) m (withPut c (getD (t .entries) m noEntry)) t) (put-body k m x r v)
+        (open-again (unitsOf s) t g ph (t .count) m (withPut c (getD (t .entries) m noEntry))))
+
+  put-keeps : (t : Transaction) (k : Key) (c : Columns) → Keeps s returned (putResult t k c s)
+  unfolding putResult conditions returns
+  put-keeps t k c =
+      unless-by (Keeps s returned) (conditions (put t k c) s) (keeps-refused s returned _)
+      (λ z. let p = taken-parts s t _ z in
+      let c3 = not-first 3 (not (wellFormed s t)) _ (omega arith) z in
+      let c4 = not-first 4 (not (eqb (t .phase) 0)) _ (omega arith) (c3 .1) in
+      let c5 = not-first 5 (not (keyInRange k)) _ (omega arith) (c4 .1) in
+      let c6 = not-first 6 (not (hasLine k (s .lines))) _ (omega arith) (c5 .1) in
+      let c7 = not-first 7 (not (columnsInRange c)) _ (omega arith) (c6 .1) in
+      let c10 = not-first 10 (isNew k t) _ (omega arith) (c7 .1) in
+      let c11 = not-first 11 (leb 99999 (heldEntry k t .seen .version)) [] (omega arith) (c10 .1) in
+      let ph : t .phase ≡ 0 = eqb-true (t .phase) 0 (not-false (eqb (t .phase) 0) (c4 .0)) in
+      keeps-made s returned (afterPut t k c) nothing (afterPut t k c) refl fit-nothing
+      (put-formed t (p .0) c k (p .1) ph (not-false (columnsInRange c) (c7 .0)) (c11 .0)))
+
+-- Every call.
+
+kept : (c : Call) (s : Sheets) → GoodSheets s → ClockFits c → Fit s (written c s) × ((t : Transaction) → returns (answer c s) ≡ some t → wellFormed (after c s) t ≡ true)
+unfolding written answer after
+kept (begin b) s g l = let k = begin-keeps s g b in (k .fits, k .formed)
+kept (read t k now) s g l = let x = read-keeps s g t k now in (x .fits, x .formed)
+kept (put t k c) s g l = let x = put-keeps s g t k c in (x .fits, x .formed)
+kept (advance t now) s g l = let x = advance-keeps s g t now l in (x .fits, x .formed)
+kept (abort t) s g l = let x = abort-keeps s g t in (x .fits, x .formed)
+kept (visit k now) s g l = let x = visit-keeps s g k now in (x .fits, x .formed)
+
+-- the sheets after any call are good if they were
+pub sheets-stay-good : (c : Call) (s : Sheets) → ClockFits c → sheetsGood s ≡ true → sheetsGood (after c s) ≡ true
+unfolding after
+sheets-stay-good c s l h =
+    let g : GoodSheets s = good-parts s h in
+    parts-good (after c s) (write-closed s g (kept c s g l .0))
+
+-- the transaction that a call returns is well formed, on the sheets that it leaves
+pub returned-well-formed : (c : Call) (s : Sheets) (t : Transaction) → ClockFits c → sheetsGood s ≡ true → returns (answer c s) ≡ some t → wellFormed (after c s) t ≡ true
+returned-well-formed c s t l h e = kept c s (good-parts s h) l .1 t e

@@ -277,3 +277,14 @@ module _ (us : List AtomicityUnit) (t : Transaction) where
   pub has-put : Stage us t → t .phase ≡ decidePhase → isEmpty (puts t) ≡ false
   has-put g e =
       not-true (isEmpty (puts t)) (ap (λ (p : ℕ). not (eqb p decidePhase) || not (isEmpty (puts t))) (sym e) ∙ g .decides)
+
+  -- open, at place 0, without a verdict
+  pub stage-open : t .phase ≡ 0 → t .place ≡ 0 → t .verdict ≡ noVerdict → Stage us t
+  unfolding placeFormed verdictFormed
+  stage-open e p v =
+      record {
+        decides = ap (λ (q : ℕ). not (eqb q decidePhase) || not (isEmpty (puts t))) e;
+        validates = ap (λ (q : ℕ). not (eqb q validatePhase) || isSerializable t) e;
+        place = ap (λ (q : ℕ). placeAt us q t) e ∙ eq-eqb (t .place) 0 p;
+        verdict = ap (λ (q : ℕ). verdictAt q t) e ∙ eq-eqb (t .verdict) 0 v;
+      }
