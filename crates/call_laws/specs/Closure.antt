@@ -1,20 +1,19 @@
 -- T4: after an accepted call the sheets are good and the transaction that it returns is well formed; after a refused one nothing has changed.
-use Prim.Native.Nat.{ℕ, zero, suc, _+_, _^_, _≤_, _<_}
-use mathlib.Core.Path.{_≡_, refl, sym, ap, ap₂, _∙_, subst}
-use mathlib.Core.Bool.{Bool, true, false, _&&_, _||_, not, cond, true≢false}
+use Prim.Native.Nat.{ℕ, suc, _+_, _^_, _≤_, _<_}
+use mathlib.Core.Path.{_≡_, refl, sym, ap, _∙_, subst}
+use mathlib.Core.Bool.{Bool, true, false, _&&_, _||_, not, true≢false}
 use mathlib.Core.List.{List, [], _∷_, map}
-use mathlib.Core.Option.{Option, none, some, Option·none-ne-some, Option·some-injective}
+use mathlib.Core.Option.{some, Option·none-ne-some, Option·some-injective}
 use native.Mathlib.Omega.{arith}
 use native.Mathlib.Numerals.{add-one}
 use lib.ListN.{length, take, getD, set}
-use lib.Dec.{eqb, leb, ltb}
-use borrow.Author.Tests.{not-true, not-false, eqb-true, eqb-false, eq-eqb, le-leb, leb-true, leb-false}
-use Rattle.lists.specs.Each.{all, any}
+use lib.Dec.{eqb, leb}
+use borrow.Author.Tests.{not-true, not-false, eqb-true, eqb-false, le-leb, leb-true, leb-false}
+use Rattle.lists.specs.Each.{all}
 use Rattle.lists.specs.All.{all-weaken, all-at}
-use Rattle.lists.specs.Tests.{and-fst, and-snd, and-both, tests, choose-by}
+use Rattle.lists.specs.Tests.{and-both, tests, choose-by}
 use Rattle.types.specs.declared.AtomicityUnit.{AtomicityUnit}
 use Rattle.types.specs.declared.State.{State}
-use Rattle.types.specs.declared.Decision.{Decision}
 use Rattle.types.specs.declared.Key.{Key}
 use Rattle.types.specs.declared.Columns.{Columns}
 use Rattle.types.specs.declared.Entry.{Entry}
@@ -23,25 +22,10 @@ use Rattle.types.specs.declared.Transaction.{Transaction}
 use Rattle.types.specs.declared.Found.{Found}
 use Rattle.types.specs.declared.Recovery.{Recovery}
 use Rattle.types.specs.declared.Recovery.the-variants.{Stays, Forward, Back, Again, Busy}
-use Rattle.model.specs.Records.{byState, isZero, hasLine, lineOf, keyInRange, isMissing, byFound}
+use Rattle.model.specs.Records.{byState, isZero, hasLine, lineOf, keyInRange, byFound}
 use Rattle.model.specs.Coordinator.{Coordinator, withIssued}
 use Rattle.model.specs.Refusals.{Condition, refuse, refusalOf}
-use Rattle.model.specs.Transactions.{
-  openPhase,
-  withdrawPhase,
-  noVerdict,
-  isSerializable,
-  isPut,
-  isEmpty,
-  held,
-  puts,
-  noEntry,
-  heldAt,
-  entryAs,
-  withPut,
-  moved,
-  withEntry,
-}
+use Rattle.model.specs.Transactions.{withdrawPhase, noVerdict, held, noEntry, heldAt, entryAs, withPut, moved, withEntry}
 use Rattle.model.specs.Images.{isPrepared, rolledForward, rolledBack}
 use Rattle.model.specs.Writes.{
   Sheets,
@@ -73,26 +57,14 @@ use Rattle.model.specs.Visits.{meeting, isAgain, isBusy, recovered, recoveryWri
 use Rattle.model.specs.Results.{Call, begin, read, put, advance, abort, visit, Result, refused, made, writeOf}
 use Rattle.model.specs.Conditions.{isNew, heldEntry, busy, cannotAbort, conditions}
 use Rattle.model.specs.Steps.{unitsOf, step}
-use Rattle.model.specs.Calls.{
-  newTransaction,
-  ReadAnswer,
-  readNew,
-  holding,
-  afterPut,
-  beginResult,
-  readResult,
-  putResult,
-  advanceResult,
-  abortResult,
-  visitResult,
-}
+use Rattle.model.specs.Calls.{newTransaction, readNew, holding, afterPut, beginResult, readResult, putResult, advanceResult, abortResult, visitResult}
 use Rattle.model.specs.Histories.{Answer, returned, visited, answerOf, readAnswered, answer, written, after, returns, ClockFits}
-use Rattle.sheet_laws.specs.Coordinator.{Bounds, bounds}
+use Rattle.sheet_laws.specs.Coordinator.{bounds}
 use Rattle.call_laws.specs.Choices.{by-phase-of, unless-by, not-first, by-meeting}
 use Rattle.call_laws.specs.Keys.{hasKey}
 use Rattle.call_laws.specs.Ranges.{GoodParts, fine, fine-parts}
 use Rattle.call_laws.specs.Images.{when-settled, forward-fine, back-fine}
-use Rattle.call_laws.specs.Lines.{listsKey, has-line, line-key, has-line-kept, line-of-key, line-passes}
+use Rattle.call_laws.specs.Lines.{has-line, line-key, has-line-kept, line-of-key, line-passes}
 use Rattle.call_laws.specs.Sheets.{
   GoodSheets,
   good-parts,
@@ -108,7 +80,7 @@ use Rattle.call_laws.specs.Sheets.{
   decided-units,
 }
 use Rattle.call_laws.specs.Transactions.{Body, Stage, well-formed-parts, parts-well-formed, body-moved, place-at, verdict-at, to-withdraw, stage-open}
-use Rattle.call_laws.specs.Steps.{Closed, step-closed, few-issued}
+use Rattle.call_laws.specs.Steps.{Closed, step-closed}
 use Rattle.call_laws.specs.Entries.{found-held, HeldAt, held-by, getD-first, all-more, all-replaced, distinct-more, distinct-replaced}
 
 -- What a write leaves of a transaction's rules.

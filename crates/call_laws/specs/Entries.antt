@@ -1,7 +1,7 @@
 -- Entries held by a transaction: found by key, one more held, one replaced. Each goes by induction on the entries.
-use Prim.Native.Nat.{ℕ, zero, suc, _+_, _≤_, _<_}
-use mathlib.Core.Path.{_≡_, refl, sym, ap, ap₂, _∙_, subst}
-use mathlib.Core.Bool.{Bool, true, false, _&&_, _||_, not, cond, true≢false}
+use Prim.Native.Nat.{ℕ, zero, suc, _+_, _<_}
+use mathlib.Core.Path.{_≡_, refl, ap, ap₂, _∙_, subst}
+use mathlib.Core.Bool.{Bool, true, false, _&&_, _||_, not, cond}
 use mathlib.Core.List.{List, [], _∷_}
 use native.Mathlib.Omega.{arith}
 use lib.ListN.{length, take, getD, set}
@@ -13,7 +13,7 @@ use Rattle.types.specs.declared.Key.{Key}
 use Rattle.types.specs.declared.Entry.{Entry}
 use Rattle.types.specs.declared.Found.{Found}
 use Rattle.types.specs.declared.Found.the-variants.{At, Nothing}
-use Rattle.model.specs.Records.{sameKey, isMissing, byFound}
+use Rattle.model.specs.Records.{sameKey, isMissing}
 use Rattle.model.specs.Transactions.{heldFrom}
 use Rattle.model.specs.WellFormed.{distinctKeys}
 use Rattle.call_laws.specs.Keys.{same-key, same-key-flip, hasKey}

@@ -1,14 +1,14 @@
 -- T1: for each call the refusal given is the lowest of its row whose condition holds, and after it both sheets are as they were.
 -- The first condition that holds is the lowest, since the numbers of each call's list rise.
-use Prim.Native.Nat.{ℕ, _≤_, _<_}
+use Prim.Native.Nat.{ℕ, _≤_}
 use mathlib.Core.Path.{_≡_, refl, sym, ap, _∙_}
-use mathlib.Core.Bool.{Bool, true, false, _&&_, _||_, not, cond, true≢false}
-use mathlib.Core.List.{List, [], _∷_, _++_, map}
+use mathlib.Core.Bool.{Bool, true, false, _&&_, _||_, not, cond}
+use mathlib.Core.List.{List, [], _∷_, map}
 use native.Mathlib.Omega.{arith}
 use lib.Dec.{eqb, leb}
-use borrow.Author.Tests.{eqb-true, eqb-false, eq-eqb, ne-eqb, le-leb, leb-true}
+use borrow.Author.Tests.{eqb-true, eq-eqb, ne-eqb, le-leb, leb-true}
 use Rattle.lists.specs.Each.{all, any}
-use Rattle.lists.specs.Tests.{and-fst, and-snd, and-both, tests, choose-by}
+use Rattle.lists.specs.Tests.{and-fst, and-snd, and-both}
 use Rattle.types.specs.declared.Record.{Record}
 use Rattle.types.specs.declared.Transaction.{Transaction}
 use Rattle.types.specs.declared.Recovery.{Recovery}
@@ -30,7 +30,7 @@ use Rattle.model.specs.ByteCalls.{
   coordinatorAfter,
 }
 use Rattle.model.specs.Histories.{Answer, turnedAway, returned, answered, visited, answerOf, readAnswered}
-use Rattle.model.specs.ByteHistories.{Bytes, saying, bytesAfter, answerOn, afterOn}
+use Rattle.model.specs.ByteHistories.{Bytes, bytesAfter, answerOn, afterOn}
 
 -- a condition of this number holds
 abbrev pub applies : ℕ → List Condition → Bool

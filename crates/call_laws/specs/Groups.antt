@@ -1,18 +1,17 @@
 -- Groups: keys whose groups have one place agree in the fields of their unit, and every put is in a group. The places count the scopes below, so that a
 -- scope below another has a lower place.
-use Prim.Native.Nat.{ℕ, _≤_, _<_}
+use Prim.Native.Nat.{ℕ, _<_}
 use mathlib.Core.Path.{_≡_, refl, sym, ap, _∙_}
-use mathlib.Core.Bool.{Bool, true, false, _&&_, _||_, cond, true≢false}
+use mathlib.Core.Bool.{Bool, true, false, cond}
 use mathlib.Core.List.{List, [], _∷_}
 use native.Mathlib.Omega.{arith}
 use lib.ListN.{length}
 use lib.Dec.{eqb}
 use borrow.Author.Tests.{eqb-true}
 use Rattle.lists.specs.Bytes.{eqList, eqList-refl}
-use Rattle.lists.specs.Each.{any, filter, count, less}
+use Rattle.lists.specs.Each.{any, count, less}
 use Rattle.lists.specs.Order.{less-irrefl, less-trans, less-total}
-use Rattle.lists.specs.Chosen.{any-filter, any-weaken, or-else, or-left, or-right, count-less, count-all}
-use Rattle.lists.specs.Tests.{and-fst, and-snd}
+use Rattle.lists.specs.Chosen.{or-else, or-left, or-right, count-less, count-all}
 use Rattle.types.specs.declared.AtomicityUnit.{AtomicityUnit}
 use Rattle.types.specs.declared.Key.{Key}
 use Rattle.types.specs.declared.Entry.{Entry}

@@ -1,12 +1,12 @@
 -- A record that keeps the rules keeps them when it is prepared, committed in one phase, rolled forward or back; and what rolling a prepared record gives.
 -- Each goes part by part, the rule of the new state from that of the old.
 use Prim.Native.Nat.{ℕ, _+_, _≤_}
-use mathlib.Core.Path.{_≡_, refl, sym, ap, ap₂, _∙_}
-use mathlib.Core.Bool.{Bool, true, false, _&&_, _||_, not, cond, true≢false}
+use mathlib.Core.Path.{_≡_, refl, sym, ap, _∙_}
+use mathlib.Core.Bool.{Bool, true, false, _||_, cond, true≢false}
 use native.Mathlib.Omega.{arith}
 use lib.Dec.{eqb, leb}
 use borrow.Author.Tests.{eqb-true, eqb-false, eq-eqb, ne-eqb, le-leb, leb-true}
-use Rattle.lists.specs.Tests.{and-fst, and-snd, and-both, tests, choose-by}
+use Rattle.lists.specs.Tests.{and-both, tests}
 use Rattle.lists.specs.Chosen.{or-else, or-right}
 use Rattle.types.specs.declared.State.{State}
 use Rattle.types.specs.declared.State.the-variants.{Absent, Committed, Prepared}

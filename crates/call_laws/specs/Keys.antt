@@ -1,12 +1,11 @@
 -- Keys compared as numbers are equal as keys, and entries are found by their keys.
-use Prim.Native.Nat.{ℕ}
 use mathlib.Core.Path.{_≡_, refl, sym, ap, _∙_}
 use mathlib.Core.Bool.{Bool, true, false, _&&_, _||_, cond, true≢false}
-use mathlib.Core.List.{List, [], _∷_, map}
-use mathlib.Core.Option.{Option, none, some, Option·none-ne-some, Option·some-injective}
-use Rattle.lists.specs.Bytes.{eqList, eqList-true, eqList-refl, ne-eqList}
+use mathlib.Core.List.{List, [], _∷_}
+use mathlib.Core.Option.{none, some, Option·none-ne-some, Option·some-injective}
+use Rattle.lists.specs.Bytes.{eqList-true, eqList-refl}
 use Rattle.lists.specs.Each.{all, any, filter}
-use Rattle.lists.specs.Chosen.{any-filter, any-weaken, or-else, or-left, or-right}
+use Rattle.lists.specs.Chosen.{any-filter, any-weaken, or-else}
 use Rattle.lists.specs.Tests.{and-fst, and-snd}
 use Rattle.types.specs.declared.Key.{Key}
 use Rattle.types.specs.declared.Entry.{Entry}

@@ -12,3 +12,4 @@ pub mod Transactions
 pub mod Steps
 pub mod Entries
 pub mod Closure
+pub mod Lifting

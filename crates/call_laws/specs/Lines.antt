@@ -1,30 +1,18 @@
 -- Lines by their keys: a write keeps keys, so that order and look-up stay; on a sheet in order the line of a record's key is that record.
-use Prim.Native.Nat.{ℕ, zero, suc}
+use Prim.Native.Nat.{ℕ, suc}
 use mathlib.Core.Path.{_≡_, refl, sym, ap, ap₂, _∙_}
 use mathlib.Core.Bool.{Bool, true, false, _&&_, _||_, not, cond, true≢false}
 use mathlib.Core.List.{List, [], _∷_, map}
 use mathlib.Core.Option.{Option, none, some}
-use Rattle.lists.specs.Each.{all, any, less}
+use Rattle.lists.specs.Each.{all, any}
 use Rattle.lists.specs.Order.{less-irrefl, less-trans}
 use Rattle.lists.specs.Tests.{and-fst, and-snd, and-both, choose-by}
 use Rattle.lists.specs.Chosen.{or-else, or-left, or-right}
 use Rattle.types.specs.declared.Key.{Key}
 use Rattle.types.specs.declared.Record.{Record}
 use Rattle.types.specs.declared.Entry.{Entry}
-use Rattle.types.specs.declared.Found.the-variants.{At, Nothing}
-use Rattle.model.specs.Records.{
-  keyNumbers,
-  keyLess,
-  inOrder,
-  rising,
-  sameKey,
-  foundFrom,
-  found,
-  isMissing,
-  hasLine,
-  absentAt,
-  lineOf,
-}
+use Rattle.types.specs.declared.Found.the-variants.{At}
+use Rattle.model.specs.Records.{keyNumbers, keyLess, inOrder, rising, sameKey, foundFrom, found, isMissing, hasLine, lineOf}
 use Rattle.model.specs.Images.{prepared, committed, rolledForward, rolledBack}
 use Rattle.model.specs.Writes.{
   Write,

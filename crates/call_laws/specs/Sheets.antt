@@ -1,24 +1,23 @@
 -- Sheets stay good under the writes that calls make: each line by the lemma of its image, order because keys are kept, the coordinator by its own rules.
 use Prim.Native.Nat.{ℕ, zero, suc, _+_, _≤_, _<_}
-use mathlib.Core.Path.{_≡_, refl, sym, ap, ap₂, _∙_}
-use mathlib.Core.Bool.{Bool, true, false, _&&_, _||_, not, cond, true≢false}
-use mathlib.Core.List.{List, [], _∷_, map}
+use mathlib.Core.Path.{_≡_, refl, sym, ap, _∙_}
+use mathlib.Core.Bool.{true}
+use mathlib.Core.List.{List, map}
 use mathlib.Core.Option.{Option, none, some}
 use native.Mathlib.Omega.{arith}
 use native.Mathlib.Numerals.{add-one}
 use lib.ListN.{length, length-map}
-use lib.Dec.{eqb, leb}
-use borrow.Author.Tests.{le-leb, leb-true}
-use Rattle.lists.specs.Each.{all, any}
+use borrow.Author.Tests.{le-leb}
+use Rattle.lists.specs.Each.{all}
 use Rattle.lists.specs.All.{all-and, all-weaken, all-map}
 use Rattle.lists.specs.Tests.{and-fst, and-snd, and-both, tests, choose-by}
 use Rattle.types.specs.declared.Decision.{Decision}
 use Rattle.types.specs.declared.Key.{Key}
 use Rattle.types.specs.declared.Record.{Record}
 use Rattle.types.specs.declared.Entry.{Entry}
-use Rattle.model.specs.Records.{goodAlone, rising, recordsGood, sameKey, lineOf}
+use Rattle.model.specs.Records.{goodAlone, rising, recordsGood, lineOf}
 use Rattle.model.specs.Coordinator.{Coordinator, coordinatorGood, namesIssued, withDecision, withIssued}
-use Rattle.model.specs.Images.{isPrepared, preparedBy, prepared, committed, rolledForward, rolledBack}
+use Rattle.model.specs.Images.{isPrepared, preparedBy, prepared, committed}
 use Rattle.model.specs.Writes.{
   Sheets,
   sheetsGood,
@@ -37,7 +36,6 @@ use Rattle.model.specs.Writes.{
   decisionsAfter,
   apply,
 }
-use Rattle.sheet_laws.specs.Coordinator.{Bounds, bounds}
 use Rattle.sheet_laws.specs.Decisions.{good-decided, good-raised}
 use Rattle.call_laws.specs.Ranges.{GoodParts, fine, fine-parts, parts-fine}
 use Rattle.call_laws.specs.Images.{MayPut, committed-fine, prepared-fine, forward-fine, back-fine}

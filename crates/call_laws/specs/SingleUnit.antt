@@ -2,11 +2,10 @@
 -- A write of a group changes only lines whose keys are in it, and those agree in the fields of their unit; a visit changes one line.
 use Prim.Native.Nat.{ℕ}
 use mathlib.Core.Path.{_≡_, refl, sym, ap, _∙_}
-use mathlib.Core.Bool.{Bool, true, false, _&&_, cond, true≢false}
-use mathlib.Core.List.{List, [], _∷_, map}
-use mathlib.Core.Option.{Option, none, some}
+use mathlib.Core.Bool.{Bool, true, false, cond, true≢false}
+use mathlib.Core.List.{List, [], _∷_}
+use mathlib.Core.Option.{Option, none}
 use lib.ListN.{getD}
-use Rattle.lists.specs.Bytes.{eqList, eqList-refl}
 use Rattle.lists.specs.Each.{all, any}
 use Rattle.lists.specs.Chosen.{any-map, or-left, and-false}
 use Rattle.lists.specs.Tests.{choose-by}
@@ -21,25 +20,9 @@ use Rattle.types.specs.declared.Record.{Record}
 use Rattle.types.specs.declared.Entry.{Entry}
 use Rattle.model.specs.Records.{sameKey, lineOf}
 use Rattle.model.specs.Coordinator.{Coordinator, decision}
-use Rattle.model.specs.Groups.{scope, groupPlace, group}
+use Rattle.model.specs.Groups.{scope, group}
 use Rattle.model.specs.Images.{preparedBy, prepared, committed, rolledForward, rolledBack}
-use Rattle.model.specs.Writes.{
-  Sheets,
-  Write,
-  nothing,
-  issue,
-  decide,
-  commit,
-  prepare,
-  forward,
-  back,
-  entryFor,
-  byEntry,
-  isOf,
-  lineAfter,
-  decisionsAfter,
-  apply,
-}
+use Rattle.model.specs.Writes.{Sheets, Write, nothing, issue, decide, commit, prepare, forward, back, byEntry, isOf, lineAfter, decisionsAfter}
 use Rattle.model.specs.Transactions.{puts, toValidate, isEmpty, noEntry}
 use Rattle.model.specs.Visits.{recoveryWrite, meeting, isAgain}
 use Rattle.model.specs.Steps.{
@@ -60,7 +43,7 @@ use Rattle.model.specs.Steps.{
   undoStep,
   step,
 }
-use Rattle.model.specs.Results.{Call, begin, read, put, advance, abort, visit, Result, refused, made, writeOf}
+use Rattle.model.specs.Results.{Call, begin, read, put, advance, abort, visit, Result, writeOf}
 use Rattle.model.specs.Conditions.{isNew, conditions}
 use Rattle.model.specs.Calls.{
   ReadAnswer,
@@ -74,7 +57,7 @@ use Rattle.model.specs.Calls.{
 }
 use Rattle.model.specs.Histories.{written}
 use Rattle.call_laws.specs.Choices.{by-phase, by-decision, unless-by}
-use Rattle.call_laws.specs.Keys.{other-key, same-key, same-key-refl, hasKey, no-entry}
+use Rattle.call_laws.specs.Keys.{other-key, same-key-refl, hasKey, no-entry}
 use Rattle.call_laws.specs.Groups.{InGroup, in-group, one-scope}
 
 -- a write to lines of one scope, or to the coordinator sheet

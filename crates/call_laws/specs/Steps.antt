@@ -1,24 +1,19 @@
 -- T4 for an advance: what a step writes keeps good sheets good, and the transaction that it returns is well formed.
 -- Each phase is a walk of its definition; the facts that a write needs come from the conditions that held and the well-formed entries.
-use Prim.Native.Nat.{ℕ, zero, suc, _+_, _≤_, _<_}
-use mathlib.Core.Path.{_≡_, refl, sym, ap, ap₂, _∙_, subst}
-use mathlib.Core.Bool.{Bool, true, false, _&&_, _||_, not, cond, true≢false}
-use mathlib.Core.List.{List, [], _∷_}
-use mathlib.Core.Option.{Option, none, some}
+use Prim.Native.Nat.{ℕ, _+_, _≤_}
+use mathlib.Core.Path.{_≡_, sym, ap, _∙_, subst}
+use mathlib.Core.Bool.{Bool, true, false, _&&_, _||_, not}
 use native.Mathlib.Omega.{arith}
 use lib.ListN.{length, getD}
-use lib.Dec.{eqb, leb, ltb}
-use borrow.Author.Tests.{not-true, eqb-true, eqb-false, eq-eqb, ne-eqb, le-leb, leb-true, ltb-true, lt-ltb}
-use Rattle.lists.specs.Each.{all, any, filter}
+use lib.Dec.{leb, ltb}
+use borrow.Author.Tests.{not-true, eqb-true, ltb-true}
+use Rattle.lists.specs.Each.{all}
 use Rattle.lists.specs.All.{all-and}
-use Rattle.lists.specs.Chosen.{all-filter, filter-passes, or-else}
-use Rattle.lists.specs.Tests.{and-fst, and-snd, and-both, tests, choose-by}
-use Rattle.types.specs.declared.AtomicityUnit.{AtomicityUnit}
-use Rattle.types.specs.declared.Decision.{Decision}
-use Rattle.types.specs.declared.Decision.the-variants.{Undecided, Committed, Aborted}
+use Rattle.lists.specs.Chosen.{all-filter, filter-passes}
+use Rattle.lists.specs.Tests.{and-fst, and-snd, tests, choose-by}
+use Rattle.types.specs.declared.Decision.the-variants.{Committed, Aborted}
 use Rattle.types.specs.declared.Key.{Key}
 use Rattle.types.specs.declared.Entry.{Entry}
-use Rattle.types.specs.declared.Record.{Record}
 use Rattle.types.specs.declared.Transaction.{Transaction}
 use Rattle.model.specs.Records.{hasLine, lineOf}
 use Rattle.model.specs.Coordinator.{decision}
@@ -41,42 +36,14 @@ use Rattle.model.specs.Transactions.{
   noEntry,
   moved,
 }
-use Rattle.model.specs.Groups.{groupCount, groupPlace, group}
-use Rattle.model.specs.Images.{isPrepared, unchanged, byDecision}
-use Rattle.model.specs.Writes.{Sheets, Write, nothing, decide, commit, prepare, forward, back, entryFor}
-use Rattle.model.specs.WellFormed.{columnsInRange, putFits, entryFormed, placeFormed, verdictFormed, wellFormed}
-use Rattle.model.specs.Conditions.{cannotAdvance}
-use Rattle.model.specs.Steps.{
-  Step,
-  holds,
-  unitsOf,
-  groupsOf,
-  groupAt,
-  keysOf,
-  to,
-  noStep,
-  commits,
-  onePhaseAllowed,
-  openWithoutPuts,
-  onePhase,
-  openStep,
-  afterPrepare,
-  nextGroup,
-  prepareStep,
-  nextEntry,
-  validateStep,
-  decideStep,
-  withdrawn,
-  withdrawStep,
-  finishStep,
-  undoStep,
-  step,
-}
-use Rattle.sheet_laws.specs.Coordinator.{Bounds, bounds}
+use Rattle.model.specs.Groups.{group}
+use Rattle.model.specs.Images.{isPrepared, unchanged}
+use Rattle.model.specs.Writes.{Sheets, Write, nothing, prepare, forward, back}
+use Rattle.model.specs.WellFormed.{columnsInRange, putFits, entryFormed, placeFormed, verdictFormed}
+use Rattle.model.specs.Steps.{Step, holds, unitsOf, groupsOf, groupAt, keysOf, to, onePhaseAllowed, openWithoutPuts, onePhase, openStep, afterPrepare, nextGroup, prepareStep, nextEntry, validateStep, decideStep, withdrawn, withdrawStep, finishStep, undoStep, step}
+use Rattle.sheet_laws.specs.Coordinator.{bounds}
 use Rattle.call_laws.specs.Choices.{by-phase-of, by-decision}
-use Rattle.call_laws.specs.Keys.{same-key, entry-has-key, entry-passes}
-use Rattle.call_laws.specs.Images.{MayPut}
-use Rattle.call_laws.specs.Lines.{listsKey}
+use Rattle.call_laws.specs.Keys.{entry-has-key, entry-passes}
 use Rattle.call_laws.specs.Sheets.{
   GoodSheets,
   MayPutAll,

@@ -1,20 +1,19 @@
 -- A well-formed transaction in parts: its body, which no step changes, and its stage (phase, place and verdict).
-use Prim.Native.Nat.{ℕ, zero, suc, _+_, _≤_, _<_}
-use mathlib.Core.Path.{_≡_, refl, sym, ap, ap₂, _∙_}
+use Prim.Native.Nat.{ℕ, _+_, _≤_, _<_}
+use mathlib.Core.Path.{_≡_, refl, sym, ap, _∙_}
 use mathlib.Core.Bool.{Bool, true, false, _&&_, _||_, not, cond, true≢false}
 use mathlib.Core.List.{List, [], _∷_}
 use native.Mathlib.Omega.{arith}
 use lib.ListN.{length}
 use lib.Dec.{eqb, leb, ltb}
-use borrow.Author.Tests.{not-true, eqb-true, eq-eqb, le-leb, leb-true, ltb-true, lt-ltb}
+use borrow.Author.Tests.{not-true, eq-eqb, le-leb, ltb-true, lt-ltb}
 use Rattle.lists.specs.Each.{all, any, filter}
 use Rattle.lists.specs.Chosen.{or-left}
 use Rattle.lists.specs.Tests.{and-fst, and-snd, and-both, tests}
 use Rattle.types.specs.declared.AtomicityUnit.{AtomicityUnit}
 use Rattle.types.specs.declared.Entry.{Entry}
-use Rattle.types.specs.declared.Record.{Record}
 use Rattle.types.specs.declared.Transaction.{Transaction}
-use Rattle.model.specs.Records.{hasLine, sameKey}
+use Rattle.model.specs.Records.{sameKey}
 use Rattle.model.specs.Transactions.{
   preparePhase,
   validatePhase,
@@ -35,7 +34,7 @@ use Rattle.model.specs.Transactions.{
   toValidate,
   moved,
 }
-use Rattle.model.specs.Groups.{scopes, addScope, groupCount, groupPlace}
+use Rattle.model.specs.Groups.{scopes, groupCount, groupPlace}
 use Rattle.model.specs.Writes.{Sheets}
 use Rattle.model.specs.WellFormed.{
   entryFormed,

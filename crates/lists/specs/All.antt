@@ -37,6 +37,11 @@ module _ {ℓ} {A : Type ℓ} where
   all-append p [] ys = refl
   all-append p (x ∷ xs) ys = rw (all-append p xs ys) (sym (and-assoc (p x) (all p xs) (all p ys)))
 
+  -- a map that leaves everything alone
+  pub map-unmoved : (f : A → A) → ((x : A) → f x ≡ x) → (xs : List A) → map f xs ≡ xs
+  map-unmoved f e [] = refl
+  map-unmoved f e (x ∷ xs) = ap₂ _∷_ (e x) (map-unmoved f e xs)
+
   -- a map that leaves every element of a list alone
   pub map-same : (p : A → Bool) (f : A → A) → ((x : A) → p x ≡ true → f x ≡ x) → (xs : List A) → all p xs ≡ true → map f xs ≡ xs
   unfolding all

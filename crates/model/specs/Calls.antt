@@ -1,7 +1,6 @@
 -- The six calls over decoded sheets: refused by the first condition that holds, or an answer and a write. Document 01, "Transaction".
 use Prim.Native.Nat.{ℕ, _+_}
-use mathlib.Core.Bool.{Bool, true, false, cond}
-use mathlib.Core.List.{List, [], _∷_}
+use mathlib.Core.Bool.{Bool, cond}
 use lib.ListN.{getD, replicate}
 use Rattle.types.specs.declared.Key.{Key}
 use Rattle.types.specs.declared.Columns.{Columns}
@@ -24,9 +23,9 @@ use Rattle.model.specs.Transactions.{
   moved,
   withEntry,
 }
-use Rattle.model.specs.Writes.{Sheets, Write, nothing, issue}
+use Rattle.model.specs.Writes.{Sheets, nothing, issue}
 use Rattle.model.specs.Visits.{meeting, isAgain, recovered, recoveryWrite}
-use Rattle.model.specs.Results.{Call, begin, read, put, advance, abort, visit, Result, refused, made, unless}
+use Rattle.model.specs.Results.{begin, read, put, advance, abort, visit, Result, made, unless}
 use Rattle.model.specs.Conditions.{isNew, heldEntry, conditions}
 use Rattle.model.specs.Steps.{step}
 

@@ -10,7 +10,7 @@ use Rattle.types.specs.declared.Key.{Key}
 use Rattle.types.specs.declared.Entry.{Entry}
 use Rattle.types.specs.declared.Transaction.{Transaction}
 use Rattle.model.specs.Records.{keyInRange, hasLine, lineOf, isMissing, byFound}
-use Rattle.model.specs.Coordinator.{Coordinator, decision}
+use Rattle.model.specs.Coordinator.{decision}
 use Rattle.model.specs.Refusals.{Condition, refuse}
 use Rattle.model.specs.Transactions.{byPhase, openPhase, noEntry, heldAt}
 use Rattle.model.specs.Images.{byDecision}

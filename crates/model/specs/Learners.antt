@@ -1,25 +1,19 @@
 -- The places where learners go astray, as theorems. Document 01, "Where learners go astray"; the first, on grouping, is in the table of Cases.
 -- Each follows by the case of the definition that it is about.
 use Prim.Native.Nat.{ℕ}
-use mathlib.Core.Path.{_≡_, refl, sym, ap, _∙_}
-use mathlib.Core.Bool.{Bool, true, false, _&&_, cond}
-use mathlib.Core.List.{List, [], _∷_, map}
-use lib.Dec.{eqb}
-use borrow.Author.Tests.{eqb-true}
-use Rattle.lists.specs.Each.{all, any}
-use Rattle.lists.specs.Tests.{and-fst, and-snd}
+use mathlib.Core.Path.{_≡_, refl}
+use mathlib.Core.Bool.{false}
+use mathlib.Core.List.{List}
+use Rattle.lists.specs.Each.{all}
+use Rattle.lists.specs.All.{map-unmoved}
 use Rattle.types.specs.declared.Key.{Key}
 use Rattle.types.specs.declared.Record.{Record}
 use Rattle.types.specs.declared.Transaction.{Transaction}
 use Rattle.types.specs.declared.Recovery.the-variants.{Again, Back}
 use Rattle.model.specs.Images.{preparedBy}
-use Rattle.model.specs.Writes.{Sheets, Write, nothing, forward, back, isOf, lineAfter, decisionsAfter, apply}
+use Rattle.model.specs.Writes.{Sheets, nothing, forward, back, isOf, lineAfter, decisionsAfter, apply}
 use Rattle.model.specs.Visits.{recoveryWrite}
 use Rattle.model.specs.Steps.{holds, groupAt, prepareStep}
-
-map-unmoved : (f : Record → Record) → ((r : Record) → f r ≡ r) → (rs : List Record) → map f rs ≡ rs
-map-unmoved f e [] = refl
-map-unmoved f e (r ∷ rs) = ap (λ (x : Record). x ∷ map f rs) (e r) ∙ ap (λ (x : List Record). r ∷ x) (map-unmoved f e rs)
 
 -- Rolling back and writing ABORTED in one call: a visit that writes ABORTED leaves every line as it is ..
 pub again-leaves-lines : (s : Sheets) (r : Record) → apply (recoveryWrite Again r) s .lines ≡ s .lines

@@ -1,14 +1,14 @@
 -- Fields, lines and sheets of lines, read and written by a layout: one codec for every kind of line.
 -- A line is read into a row of numbers, one for each field.
-use Prim.Native.Nat.{ℕ, zero, suc, _+_, _-_, _*_, _/_}
-use mathlib.Core.Bool.{Bool, true, false, _&&_, cond}
+use Prim.Native.Nat.{ℕ, suc, _+_, _-_, _*_, _/_}
+use mathlib.Core.Bool.{Bool, true, _&&_, cond}
 use mathlib.Core.List.{List, [], _∷_, _++_}
 use lib.ListN.{length, take, drop, getD}
 use lib.Dec.{eqb, leb}
 use Rattle.lists.specs.Bytes.{eqList}
 use Rattle.lists.specs.Each.{all, pieces}
 use Rattle.decimal.specs.declared.Scan.{Scan}
-use Rattle.decimal.specs.declared.Scan.the-variants.{Blank, Number, Wrong}
+use Rattle.decimal.specs.declared.Scan.the-variants.{Number, Wrong}
 use Rattle.decimal.specs.Field.{figure, fieldText, number, isNumber}
 use Rattle.types.specs.declared.Kind.{Kind}
 use Rattle.types.specs.declared.Kind.the-variants.{Figure, StateWord, DecisionWord, UnitLetter}

@@ -1,6 +1,6 @@
 -- Numbered refusals: a call lists its conditions in the order in which they are asked, and the first that holds is the answer.
 use Prim.Native.Nat.{ℕ}
-use mathlib.Core.Bool.{Bool, true, false, cond}
+use mathlib.Core.Bool.{Bool, cond}
 use mathlib.Core.List.{List, [], _∷_}
 
 -- a number of document 01's table, and whether its condition holds

@@ -1,7 +1,7 @@
 -- The sequential model (document 01: the plain book): a line for each key and a write set (page) for each number. It is fed each call's arguments and
 -- its answer, and never sees the sheets.
 use Prim.Native.Nat.{ℕ, _+_}
-use mathlib.Core.Bool.{Bool, true, false, _&&_, cond}
+use mathlib.Core.Bool.{Bool, false, _&&_, cond}
 use mathlib.Core.List.{List, [], _∷_}
 use mathlib.Core.Option.{Option, none, some}
 use lib.Dec.{eqb}
@@ -13,7 +13,7 @@ use Rattle.types.specs.declared.Transaction.{Transaction}
 use Rattle.model.specs.Records.{noImage, sameKey, lineOf}
 use Rattle.model.specs.Transactions.{noVerdict, committedVerdict}
 use Rattle.model.specs.Results.{Call, begin, read, put, advance, abort, visit}
-use Rattle.model.specs.Histories.{Event, Answer, turnedAway, returned, answered, visited, given, returns}
+use Rattle.model.specs.Histories.{Event, Answer, turnedAway, returned, answered, visited}
 
 -- the columns to be written to each key
 abbrev pub WriteSet : Type 0

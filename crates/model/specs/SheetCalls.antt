@@ -1,7 +1,7 @@
 -- The calls that take no transaction and no clock: the check, sheets to numbers and back, the look-up.
 -- For each, its conditions of refusal in order, and what it answers or leaves in the lent target.
-use Prim.Native.Nat.{ℕ, _+_, _-_, _*_, _/_}
-use mathlib.Core.Bool.{Bool, true, false, _&&_, not, cond}
+use Prim.Native.Nat.{ℕ, _+_, _*_, _/_}
+use mathlib.Core.Bool.{Bool, _&&_, not, cond}
 use mathlib.Core.List.{List, [], _∷_, map}
 use lib.ListN.{length, take, drop}
 use lib.Dec.{eqb}

@@ -1,6 +1,6 @@
 -- What a call writes, as data: the lines of one group, or the coordinator sheet, or nothing. Only `apply` changes sheets.
 use Prim.Native.Nat.{ℕ, _+_}
-use mathlib.Core.Bool.{Bool, true, false, _&&_, cond}
+use mathlib.Core.Bool.{Bool, _&&_, cond}
 use mathlib.Core.List.{List, [], _∷_, map}
 use mathlib.Core.Option.{Option, none, some}
 use Rattle.lists.specs.Each.{all, any}

@@ -1,0 +1,106 @@
+-- The calls on bytes are the calls on decoded sheets: on accepted bytes the answer is the same, and what is written, encoded, says the sheets after the call.
+use Prim.Native.Nat.{ℕ}
+use mathlib.Core.Path.{_≡_, refl, sym, ap, _∙_, subst}
+use mathlib.Core.Bool.{true, _&&_, not, cond}
+use mathlib.Core.List.{[], map}
+use native.Mathlib.Omega.{arith}
+use lib.Dec.{eqb}
+use borrow.Author.Tests.{not-false}
+use Rattle.lists.specs.Each.{all}
+use Rattle.lists.specs.All.{map-unmoved}
+use Rattle.lists.specs.Tests.{and-fst, and-snd, and-both}
+use Rattle.model.specs.Records.{records, recordsText, recordsGood, recordsAccepted}
+use Rattle.model.specs.Lines.{linesSet}
+use Rattle.model.specs.Layouts.{recordLayout}
+use Rattle.model.specs.Coordinator.{coordinatorText, coordinatorGood, coordinatorAccepted, namesIssued}
+use Rattle.model.specs.Refusals.{refusalOf}
+use Rattle.model.specs.SheetCalls.{allIssued, checkConditions}
+use Rattle.model.specs.Writes.{Sheets, sheetsGood, nothing, lineAfter, decisionsAfter, apply}
+use Rattle.model.specs.Results.{Call, begin, read, put, advance, abort, visit, Result, refused, made, writeOf}
+use Rattle.model.specs.Calls.{beginResult, readResult, putResult, advanceResult, abortResult, visitResult}
+use Rattle.model.specs.ByteCalls.{onSheets, beginOn, readOn, putOn, advanceOn, abortOn, visitOn, recordsAfter, coordinatorAfter}
+use Rattle.model.specs.Histories.{returned, visited, answerOf, readAnswered, answer, written, after, ClockFits}
+use Rattle.model.specs.ByteHistories.{Bytes, saying, bytesAfter, answerOn, afterOn}
+use Rattle.sheet_laws.specs.Records.{records-read-written, sheet-written-read}
+use Rattle.sheet_laws.specs.Coordinator.{coordinator-read-written, coordinator-written-read}
+use Rattle.sheet_laws.specs.Decisions.{accepted-parts}
+use Rattle.call_laws.specs.Choices.{not-first}
+use Rattle.call_laws.specs.Closure.{sheets-stay-good}
+
+-- "Accepted sheets are those that refusals 1 and 2 let pass."
+abbrev pub Passing : Bytes → Type 0
+Passing b = refusalOf (checkConditions (b .records) (b .coordinator)) ≡ 0
+
+-- accepted bytes say good sheets
+pub passing-good : (b : Bytes) → Passing b → sheetsGood (saying b) ≡ true
+unfolding checkConditions sheetsGood recordsAccepted allIssued
+passing-good b h =
+    let p = not-first 1 (not (recordsAccepted (b .records))) _ (omega arith) h in
+    let q = not-first 2 (not (coordinatorAccepted (b .coordinator) && allIssued (b .records) (b .coordinator))) [] (omega arith) (p .1) in
+    let r : recordsAccepted (b .records) ≡ true = not-false (recordsAccepted (b .records)) (p .0) in
+    let c : (coordinatorAccepted (b .coordinator) && allIssued (b .records) (b .coordinator)) ≡ true = not-false _ (q .0) in
+    and-both
+    (and-both (and-snd (linesSet recordLayout 98 (b .records)) (recordsGood (records (b .records))) r)
+    (accepted-parts (b .coordinator) (and-fst (coordinatorAccepted (b .coordinator)) (allIssued (b .records) (b .coordinator)) c) .good))
+    (and-snd (coordinatorAccepted (b .coordinator)) (allIssued (b .records) (b .coordinator)) c)
+
+-- the bytes for two sheets
+abbrev pub encoded : Sheets → Bytes
+encoded s = record { records = recordsText (s .lines); coordinator = coordinatorText (s .coordinator) }
+
+-- good sheets encoded say the same sheets, and pass
+pub encoded-says : (s : Sheets) → sheetsGood s ≡ true → (saying (encoded s) ≡ s) × Passing (encoded s)
+unfolding sheetsGood checkConditions allIssued refusalOf
+encoded-says s h =
+    let g : recordsGood (s .lines) ≡ true = and-fst _ (coordinatorGood (s .coordinator)) (and-fst _ (all (namesIssued (s .coordinator .issued)) (s .lines)) h) in
+    let c : coordinatorGood (s .coordinator) ≡ true = and-snd (recordsGood (s .lines)) (coordinatorGood (s .coordinator)) (and-fst _ (all (namesIssued (s .coordinator .issued)) (s .lines)) h) in
+    let n : all (namesIssued (s .coordinator .issued)) (s .lines) ≡ true = and-snd (recordsGood (s .lines) && coordinatorGood (s .coordinator)) _ h in
+    let p = records-read-written (s .lines) g in
+    let q = coordinator-read-written (s .coordinator) c in
+    (λ i. record { lines = p .0 i; coordinator = q .0 i }, rw (p .1, q .1, p .0, q .0, n))
+
+-- Calls on accepted bytes.
+
+on-passing : {A : Type 0} (b : Bytes) (call : Sheets → Result A) → Passing b → onSheets (b .records) (b .coordinator) call ≡ call (saying b)
+on-passing b call h =
+    ap (λ (n : ℕ). cond (eqb n 0) (call (saying b)) (refused n)) h
+
+pub same-answer : (c : Call) (b : Bytes) → Passing b → answerOn c b ≡ answer c (saying b)
+unfolding answerOn answer beginOn readOn putOn advanceOn abortOn visitOn
+same-answer (begin x) b h = ap (answerOf returned) (on-passing b (beginResult x) h)
+same-answer (read t k now) b h = ap (answerOf readAnswered) (on-passing b (readResult t k now) h)
+same-answer (put t k c) b h = ap (answerOf returned) (on-passing b (putResult t k c) h)
+same-answer (advance t now) b h = ap (answerOf returned) (on-passing b (advanceResult t now) h)
+same-answer (abort t) b h = ap (answerOf returned) (on-passing b (abortResult t) h)
+same-answer (visit k now) b h = ap (answerOf visited) (on-passing b (visitResult k now) h)
+
+-- the bytes after a result on accepted bytes are the sheets after it, encoded
+bytes-of-result : {A : Type 0} (b : Bytes) (r : Result A) → Passing b → bytesAfter b r ≡ encoded (apply (writeOf r) (saying b))
+unfolding recordsAfter coordinatorAfter checkConditions apply lineAfter decisionsAfter
+bytes-of-result b (made a w) h = refl
+bytes-of-result b (refused n) h =
+    let p = not-first 1 (not (recordsAccepted (b .records))) _ (omega arith) h in
+    let q = not-first 2 (not (coordinatorAccepted (b .coordinator) && allIssued (b .records) (b .coordinator))) [] (omega arith) (p .1) in
+    let c = and-fst (coordinatorAccepted (b .coordinator)) (allIssued (b .records) (b .coordinator)) (not-false _ (q .0)) in
+    let r = sheet-written-read (b .records) (not-false (recordsAccepted (b .records)) (p .0)) in
+    let m : map (lineAfter nothing) (records (b .records)) ≡ records (b .records) = map-unmoved (lineAfter nothing) (λ x. refl) (records (b .records)) in
+    λ i. record {
+      records = sym (ap recordsText m ∙ r) i;
+      coordinator = sym (coordinator-written-read (b .coordinator) c) i;
+    }
+
+pub same-bytes : (c : Call) (b : Bytes) → Passing b → afterOn c b ≡ encoded (after c (saying b))
+unfolding afterOn after written beginOn readOn putOn advanceOn abortOn visitOn
+same-bytes (begin x) b h = ap (bytesAfter b) (on-passing b (beginResult x) h) ∙ bytes-of-result b (beginResult x (saying b)) h
+same-bytes (read t k now) b h = ap (bytesAfter b) (on-passing b (readResult t k now) h) ∙ bytes-of-result b (readResult t k now (saying b)) h
+same-bytes (put t k c) b h = ap (bytesAfter b) (on-passing b (putResult t k c) h) ∙ bytes-of-result b (putResult t k c (saying b)) h
+same-bytes (advance t now) b h = ap (bytesAfter b) (on-passing b (advanceResult t now) h) ∙ bytes-of-result b (advanceResult t now (saying b)) h
+same-bytes (abort t) b h = ap (bytesAfter b) (on-passing b (abortResult t) h) ∙ bytes-of-result b (abortResult t (saying b)) h
+same-bytes (visit k now) b h = ap (bytesAfter b) (on-passing b (visitResult k now) h) ∙ bytes-of-result b (visitResult k now (saying b)) h
+
+-- T4 on bytes: the sheets after any call pass, and say what the call leaves
+pub bytes-stay-passing : (c : Call) (b : Bytes) → ClockFits c → Passing b → (saying (afterOn c b) ≡ after c (saying b)) × Passing (afterOn c b)
+bytes-stay-passing c b l h =
+    let g : sheetsGood (after c (saying b)) ≡ true = sheets-stay-good c (saying b) l (passing-good b h) in
+    let e = encoded-says (after c (saying b)) g in
+    (ap saying (same-bytes c b h) ∙ e .0, subst Passing (sym (same-bytes c b h)) (e .1))
