@@ -1,0 +1,4 @@
+-- The recovery theorem.
+pub mod Settling
+pub mod View
+pub mod Memory

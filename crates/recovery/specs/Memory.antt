@@ -1,0 +1,191 @@
+-- What is remembered of a transaction that may still commit: its decision is not COMMITTED, and while it is undecided the columns that it has prepared are
+-- those put in the groups done so far. Writes of others keep it.
+use Prim.Native.Nat.{ℕ, zero, suc, _≤_, _<_}
+use mathlib.Core.Path.{_≡_, refl, sym, ap, ap₂, _∙_, subst}
+use mathlib.Core.Bool.{Bool, true, false, _&&_, cond, true≢false}
+use mathlib.Core.List.{List, [], _∷_}
+use mathlib.Core.Option.{Option, none, some}
+use native.Mathlib.Omega.{arith}
+use lib.ListN.{getD, set}
+use lib.Dec.{eqb, leb, ltb}
+use borrow.Author.Tests.{eqb-true, eqb-false, ne-eqb}
+use Rattle.lists.specs.Each.{filter}
+use Rattle.lists.specs.Chosen.{and-false}
+use Rattle.lists.specs.Tests.{choose-by, tests}
+use Rattle.types.specs.declared.AtomicityUnit.{AtomicityUnit}
+use Rattle.types.specs.declared.Decision.{Decision}
+use Rattle.types.specs.declared.Decision.the-variants.{Undecided, Committed, Aborted}
+use Rattle.types.specs.declared.Key.{Key}
+use Rattle.types.specs.declared.Columns.{Columns}
+use Rattle.types.specs.declared.Entry.{Entry}
+use Rattle.types.specs.declared.Record.{Record}
+use Rattle.types.specs.declared.Transaction.{Transaction}
+use Rattle.model.specs.Records.{lineOf, sameKey}
+use Rattle.model.specs.Coordinator.{Coordinator, decision, withDecision, withIssued}
+use Rattle.model.specs.Transactions.{byPhase, isPut, held, puts}
+use Rattle.model.specs.Groups.{groupCount, groupPlace}
+use Rattle.model.specs.Images.{isPrepared, preparedBy, prepared, committed, rolledForward, rolledBack}
+use Rattle.model.specs.Writes.{
+  Sheets,
+  Write,
+  nothing,
+  issue,
+  decide,
+  commit,
+  prepare,
+  forward,
+  back,
+  entryFor,
+  byEntry,
+  isOf,
+  lineAfter,
+  decisionsAfter,
+  apply,
+}
+use Rattle.model.specs.Steps.{unitsOf}
+use Rattle.call_laws.specs.Lines.{listsKey}
+use Rattle.call_laws.specs.Sheets.{GoodSheets, MayPutAll}
+use Rattle.call_laws.specs.Closure.{units-kept}
+use Rattle.recovery.specs.Settling.{
+  decided-other,
+  issued-decision,
+  abort-commits-none,
+  own-line,
+  forward-plain,
+  back-plain,
+  undecided-committed,
+  undecided-aborted,
+}
+use Rattle.recovery.specs.View.{LineAt, line-at, listed-before, line-after}
+
+-- the columns put for a key, if any
+unfoldable pub putIn : Key → List Entry → Option Columns
+putIn k [] = none
+putIn k (e ∷ es) = cond (isPut e && sameKey (e .key) k) (some (e .put)) (putIn k es)
+
+-- the columns that a number has prepared on a line, if any
+unfoldable pub preparedColumns : ℕ → Record → Option Columns
+preparedColumns n r =
+    cond (preparedBy n r) (some (record { column1 = r .image .column1; column2 = r .image .column2 })) none
+
+-- the groups done so far: none in open, those before the place in prepare, all in validate and decide
+unfoldable pub groupsDone : List AtomicityUnit → Transaction → ℕ
+groupsDone us t =
+    byPhase (t .phase) 0 (t .place) (groupCount us (puts t)) (groupCount us (puts t)) 0 0 0 0 0
+
+-- the columns of a key that is in a group done so far
+unfoldable pub doneAt : List AtomicityUnit → Transaction → Key → Option Columns
+doneAt us t k = cond (ltb (groupPlace us (puts t) k) (groupsDone us t)) (putIn k (held t)) none
+
+pub record Memory (s : Sheets) (t : Transaction) : Type 0 where
+  pub undone : decision (t .number) (s .coordinator) ≡ Committed → ⊥
+  pub columns : decision (t .number) (s .coordinator) ≡ Undecided → (k : Key) → listsKey k (s .lines) ≡ true → preparedColumns (t .number) (lineOf k (s .lines)) ≡ doneAt (unitsOf s) t k
+
+-- The writes that keep the memory of number j: those of other numbers, and rolling its own lines once it is decided.
+pub data Away (s : Sheets) (j : ℕ) : Write → Type 0 where
+  away-nothing : Away s j nothing
+  away-issue : Away s j issue
+  away-abort : (i : ℕ) → Away s j (decide i Aborted)
+  away-decide : (i : ℕ) (d : Decision) → (i ≡ j → ⊥) → Away s j (decide i d)
+  away-commit : (i : ℕ) (es : List Entry) → MayPutAll s i es → Away s j (commit i es)
+  away-prepare : (i now : ℕ) (es : List Entry) → (i ≡ j → ⊥) → MayPutAll s i es → Away s j (prepare i now es)
+  away-forward : (i : ℕ) (ks : List Key) → (i ≡ j → decision j (s .coordinator) ≡ Committed) → Away s j (forward i ks)
+  away-back : (i : ℕ) (ks : List Key) → (i ≡ j → decision j (s .coordinator) ≡ Aborted) → Away s j (back i ks)
+
+-- A line without a preparation of the number.
+
+not-prepared : (j : ℕ) (r : Record) → isPrepared r ≡ false → preparedColumns j r ≡ none
+unfolding preparedColumns preparedBy
+not-prepared j r p = rw p
+
+other-owner : (j : ℕ) (r : Record) → (r .image .txid ≡ j → ⊥) → preparedColumns j r ≡ none
+unfolding preparedColumns preparedBy
+other-owner j r n =
+    let e : eqb (r .image .txid) j ≡ false = ne-eqb (r .image .txid) j n in
+    rw (e, and-false (isPrepared r))
+
+-- The columns prepared on a line stay.
+module _ (s : Sheets) (j : ℕ) (u : decision j (s .coordinator) ≡ Undecided) (r : Record) (listed : listsKey (r .key) (s .lines) ≡ true) (own : lineOf (r .key) (s .lines) ≡ r) where
+  put-away : (i : ℕ) (es : List Entry) (f : Entry → Record) → MayPutAll s i es → ((e : Entry) → preparedColumns j (f e) ≡ none) → preparedColumns j (byEntry (entryFor (r .key) es) r f) ≡ preparedColumns j r
+  put-away i es f m h = go (entryFor (r .key) es) refl
+    where
+      go : (o : Option Entry) → entryFor (r .key) es ≡ o → preparedColumns j (byEntry o r f) ≡ preparedColumns j r
+      go none e = refl
+      go (some x) e = h x ∙ sym (not-prepared j r (m r listed own x e .free))
+
+  roll-away : (i : ℕ) (ks : List Key) (r′ : Record) → (i ≡ j → ⊥) → isPrepared r′ ≡ false → preparedColumns j (cond (isOf i ks r) r′ r) ≡ preparedColumns j r
+  roll-away i ks r′ n p =
+      choose-by (λ (x : Record). preparedColumns j x ≡ preparedColumns j r) (isOf i ks r)
+      (λ h. not-prepared j r′ p ∙ sym (other-owner j r (λ e. n (sym (own-line i ks r h .1) ∙ e))))
+      (λ h. refl)
+
+  away-columns : (w : Write) → Away s j w → preparedColumns j (lineAfter w r) ≡ preparedColumns j r
+  unfolding lineAfter committed prepared
+  away-columns w away-nothing = refl
+  away-columns w away-issue = refl
+  away-columns w (away-abort i) = refl
+  away-columns w (away-decide i d n) = refl
+  away-columns w (away-commit i es m) =
+      put-away i es (λ (e : Entry). committed i e r) m (λ e. not-prepared j (committed i e r) refl)
+  away-columns w (away-prepare i now es n m) =
+      put-away i es (λ (e : Entry). prepared i now e r) m (λ e. other-owner j (prepared i now e r) n)
+  away-columns w (away-forward i ks h) =
+      roll-away i ks (rolledForward r) (λ e. undecided-committed (sym u ∙ h e)) (forward-plain r)
+  away-columns w (away-back i ks h) =
+      roll-away i ks (rolledBack r) (λ e. undecided-aborted (sym u ∙ h e)) (back-plain r)
+
+-- The decision.
+
+set-undecided : (ds : List Decision) (i : ℕ) → getD (set ds i Aborted) i Undecided ≡ Undecided → getD ds i Undecided ≡ Undecided
+set-undecided [] i e = refl
+set-undecided (d ∷ ds) zero e = absurd (undecided-aborted (sym e))
+set-undecided (d ∷ ds) (suc i) e = set-undecided ds i e
+
+own-undecided : (i : ℕ) (c : Coordinator) → decision i (withDecision i Aborted c) ≡ Undecided → decision i c ≡ Undecided
+unfolding decision withDecision
+own-undecided zero c e = refl
+own-undecided (suc i) c e = set-undecided (c .decisions) i e
+
+abort-undecided : (c : Coordinator) (i j : ℕ) → decision j (withDecision i Aborted c) ≡ Undecided → decision j c ≡ Undecided
+abort-undecided c i j e = go (eqb i j) refl
+  where
+    go : (b : Bool) → eqb i j ≡ b → decision j c ≡ Undecided
+    go true q = own-undecided j c (ap (λ (x : ℕ). decision j (withDecision x Aborted c)) (sym (eqb-true i j q)) ∙ e)
+    go false q = sym (decided-other i j Aborted c (eqb-false i j q)) ∙ e
+
+-- a number that is undecided afterwards was undecided before, and none becomes COMMITTED
+away-undecided : (s : Sheets) (j : ℕ) (w : Write) → Away s j w → decision j (decisionsAfter w (s .coordinator)) ≡ Undecided → decision j (s .coordinator) ≡ Undecided
+unfolding decisionsAfter
+away-undecided s j w away-nothing e = e
+away-undecided s j w away-issue e = sym (issued-decision _ j (s .coordinator)) ∙ e
+away-undecided s j w (away-abort i) e = abort-undecided (s .coordinator) i j e
+away-undecided s j w (away-decide i d n) e = sym (decided-other i j d (s .coordinator) n) ∙ e
+away-undecided s j w (away-commit i es m) e = e
+away-undecided s j w (away-prepare i now es n m) e = e
+away-undecided s j w (away-forward i ks h) e = e
+away-undecided s j w (away-back i ks h) e = e
+
+away-committed : (s : Sheets) (j : ℕ) (w : Write) → Away s j w → decision j (decisionsAfter w (s .coordinator)) ≡ Committed → decision j (s .coordinator) ≡ Committed
+unfolding decisionsAfter
+away-committed s j w away-nothing e = e
+away-committed s j w away-issue e = sym (issued-decision _ j (s .coordinator)) ∙ e
+away-committed s j w (away-abort i) e = abort-commits-none (s .coordinator) i j e
+away-committed s j w (away-decide i d n) e = sym (decided-other i j d (s .coordinator) n) ∙ e
+away-committed s j w (away-commit i es m) e = e
+away-committed s j w (away-prepare i now es n m) e = e
+away-committed s j w (away-forward i ks h) e = e
+away-committed s j w (away-back i ks h) e = e
+
+-- Writes away from a transaction keep what is remembered of it.
+pub memory-kept : (s : Sheets) (t : Transaction) (w : Write) → GoodSheets s → Away s (t .number) w → Memory s t → Memory (apply w s) t
+unfolding apply
+memory-kept s t w g a m =
+    record {
+      undone = λ e. m .undone (away-committed s (t .number) w a e);
+      columns = λ e k h. let l : listsKey k (s .lines) ≡ true = listed-before s w k h in
+          let u : decision (t .number) (s .coordinator) ≡ Undecided = away-undecided s (t .number) w a e in
+          let x : LineAt s k = line-at s g k l in
+          ap (preparedColumns (t .number)) (line-after s w k l)
+          ∙ (away-columns s (t .number) u (lineOf k (s .lines)) (x .listed) (x .own) w a
+          ∙ (m .columns u k l ∙ ap (λ (us : List AtomicityUnit). doneAt us t k) (sym (units-kept w (s .coordinator)))));
+    }

@@ -1,0 +1,1 @@
+// Theorems about histories of calls and recovery (specs/); no code.
