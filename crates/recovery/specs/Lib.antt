@@ -2,3 +2,5 @@
 pub mod Settling
 pub mod View
 pub mod Memory
+pub mod Puts
+pub mod OwnWrites

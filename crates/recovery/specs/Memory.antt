@@ -94,7 +94,7 @@ pub data Away (s : Sheets) (j : ℕ) : Write → Type 0 where
 
 -- A line without a preparation of the number.
 
-not-prepared : (j : ℕ) (r : Record) → isPrepared r ≡ false → preparedColumns j r ≡ none
+pub not-prepared : (j : ℕ) (r : Record) → isPrepared r ≡ false → preparedColumns j r ≡ none
 unfolding preparedColumns preparedBy
 not-prepared j r p = rw p
 

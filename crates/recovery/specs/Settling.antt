@@ -61,11 +61,11 @@ decided-other (suc i) (suc j) d c n = getD-set-other (c .decisions) i j d Undeci
 
 -- Settled lines.
 
-settled-plain : (c : Coordinator) (r : Record) → isPrepared r ≡ false → settle c r ≡ r
+pub settled-plain : (c : Coordinator) (r : Record) → isPrepared r ≡ false → settle c r ≡ r
 unfolding settle
 settled-plain c r p = ap (λ (b : Bool). cond b (byDecision (ownerDecision r c) (rolledBack r) (rolledForward r) (rolledBack r)) r) p
 
-settled-by : (c : Coordinator) (r : Record) (d : Decision) → isPrepared r ≡ true → ownerDecision r c ≡ d → settle c r ≡ byDecision d (rolledBack r) (rolledForward r) (rolledBack r)
+pub settled-by : (c : Coordinator) (r : Record) (d : Decision) → isPrepared r ≡ true → ownerDecision r c ≡ d → settle c r ≡ byDecision d (rolledBack r) (rolledForward r) (rolledBack r)
 unfolding settle
 settled-by c r d p e =
     ap₂ (λ (b : Bool) (x : Decision). cond b (byDecision x (rolledBack r) (rolledForward r) (rolledBack r)) r) p e
@@ -90,7 +90,7 @@ pub data Gentle (s : Sheets) : Write → Type 0 where
   gentle-prepare : (n now : ℕ) (es : List Entry) → (decision n (s .coordinator) ≡ Committed → ⊥) → MayPutAll s n es → Gentle s (prepare n now es)
 
 -- without a COMMITTED a prepared line counts as rolled back
-settled-back : (c : Coordinator) (r : Record) → isPrepared r ≡ true → (ownerDecision r c ≡ Committed → ⊥) → settle c r ≡ rolledBack r
+pub settled-back : (c : Coordinator) (r : Record) → isPrepared r ≡ true → (ownerDecision r c ≡ Committed → ⊥) → settle c r ≡ rolledBack r
 settled-back c r p n = go (ownerDecision r c) refl
   where
     go : (d : Decision) → ownerDecision r c ≡ d → settle c r ≡ rolledBack r
