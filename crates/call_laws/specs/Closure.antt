@@ -133,7 +133,7 @@ body-after s w t b =
           (λ e h. has-line-kept (lineAfter w) (line-key w) (e .key) (s .lines) ∙ h) (held t) (b .lines);
     }
 
-formed-after : (s : Sheets) (w : Write) (t : Transaction) → Body s t → Stage (unitsOf s) t → wellFormed (apply w s) t ≡ true
+pub formed-after : (s : Sheets) (w : Write) (t : Transaction) → Body s t → Stage (unitsOf s) t → wellFormed (apply w s) t ≡ true
 unfolding apply
 formed-after s w t b g =
     parts-well-formed (apply w s) t (body-after s w t b)

@@ -4,3 +4,5 @@ pub mod View
 pub mod Memory
 pub mod Puts
 pub mod OwnWrites
+pub mod Invariant
+pub mod Stages

@@ -1,0 +1,123 @@
+-- The invariant of a history: the sheets are good, the settled lines are the model's, and of every state that may be handed on it is remembered what it has
+-- put and prepared; one such state for each number. A call keeps it if its own state and the states of others do.
+use Prim.Native.Nat.{ℕ, _≤_, _<_}
+use mathlib.Core.Path.{_≡_, refl, sym, ap, ap₂, _∙_, subst}
+use mathlib.Core.Logic.{_⊎_, inl, inr}
+use mathlib.Core.List.{List, [], _∷_}
+use mathlib.Core.Option.{Option, none, some, Option·none-ne-some, Option·some-injective}
+use mathlib.Core.Bool.{Bool, true, false}
+use native.Mathlib.Omega.{arith}
+use Rattle.types.specs.declared.Key.{Key}
+use Rattle.types.specs.declared.Transaction.{Transaction}
+use Rattle.model.specs.Transactions.{held}
+use Rattle.model.specs.Writes.{Sheets, Write, nothing, apply}
+use Rattle.model.specs.WellFormed.{wellFormed}
+use Rattle.model.specs.Results.{Call}
+use Rattle.model.specs.Histories.{Event, Answer, returns, taken, Available}
+use Rattle.model.specs.SequentialModel.{Model}
+use Rattle.call_laws.specs.Sheets.{GoodSheets}
+use Rattle.call_laws.specs.Transactions.{well-formed-parts}
+use Rattle.call_laws.specs.Closure.{formed-after}
+use Rattle.recovery.specs.View.{View}
+use Rattle.recovery.specs.Memory.{putIn, Memory, Away, memory-kept}
+
+-- what is remembered of a state that may be handed on
+pub record Remembered (s : Sheets) (m : Model) (t : Transaction) : Type 0 where
+  pub formed : wellFormed s t ≡ true
+  -- its puts are the model's write set
+  pub sets : (k : Key) → m .writes (t .number) k ≡ putIn k (held t)
+  -- up to decide
+  pub memory : t .phase ≤ 3 → Memory s t
+
+pub record Inv (s : Sheets) (es : List Event) (m : Model) : Type 0 where
+  pub good : GoodSheets s
+  pub view : View s m
+  pub known : (t : Transaction) → Available t es → Remembered s m t
+  pub unique : (t u : Transaction) → Available t es → Available u es → t .number ≡ u .number → t ≡ u
+
+-- A call that takes the state t and returns the state t′.
+pub record Moves (s : Sheets) (m : Model) (t : Transaction) (w : Write) (m′ : Model) (t′ : Transaction) : Type 0 where
+  pub view : View (apply w s) m′
+  pub number : t′ .number ≡ t .number
+  pub sets : (k : Key) → m′ .writes (t .number) k ≡ putIn k (held t′)
+  pub memory : t′ .phase ≤ 3 → Memory (apply w s) t′
+  -- others
+  pub away : (j : ℕ) → (j ≡ t .number → ⊥) → Away s j w
+  pub others : (j : ℕ) (k : Key) → (j ≡ t .number → ⊥) → m′ .writes j k ≡ m .writes j k
+
+-- the state of another number
+other-kept : (s : Sheets) (w : Write) (m m′ : Model) (u : Transaction) → GoodSheets s → Away s (u .number) w → ((k : Key) → m′ .writes (u .number) k ≡ m .writes (u .number) k) → Remembered s m u → Remembered (apply w s) m′ u
+other-kept s w m m′ u g a e r =
+    let p = well-formed-parts s u (r .formed) in
+    record {
+      formed = formed-after s w u (p .0) (p .1);
+      sets = λ k. e k ∙ r .sets k;
+      memory = λ l. memory-kept s u w g a (r .memory l);
+    }
+
+pub inv-taken : (s : Sheets) (es : List Event) (m m′ : Model) (t t′ : Transaction) (w : Write) (e : Event) → Inv s es m → Available t es → taken e ≡ some t → returns (e .answer) ≡ some t′ → GoodSheets (apply w s) → wellFormed (apply w s) t′ ≡ true → Moves s m t w m′ t′ → Inv (apply w s) (e ∷ es) m′
+inv-taken s es m m′ t t′ w e inv a tk rt g f mv =
+    record { good = g; view = mv .view; known = known; unique = unique }
+  where
+    own : Remembered (apply w s) m′ t′
+    own = record { formed = f; sets = λ k. ap (λ (n : ℕ). m′ .writes n k) (mv .number) ∙ mv .sets k; memory = mv .memory }
+
+    -- a state that was not taken has another number
+    apart : (u : Transaction) → (taken e ≡ some u → ⊥) → Available u es → u .number ≡ t .number → ⊥
+    apart u n b q = n (tk ∙ ap some (sym (inv .unique u t b a q)))
+
+    known : (u : Transaction) → Available u (e ∷ es) → Remembered (apply w s) m′ u
+    known u (inl q) = subst (Remembered (apply w s) m′) (Option·some-injective t′ u (sym rt ∙ q)) own
+    known u (inr b) =
+        other-kept s w m m′ u (inv .good) (mv .away (u .number) (apart u (b .0) (b .1)))
+        (λ k. mv .others (u .number) k (apart u (b .0) (b .1))) (inv .known u (b .1))
+
+    unique : (u v : Transaction) → Available u (e ∷ es) → Available v (e ∷ es) → u .number ≡ v .number → u ≡ v
+    unique u v (inl p) (inl q) n = Option·some-injective u v (sym p ∙ q)
+    unique u v (inl p) (inr b) n =
+        let x : t′ ≡ u = Option·some-injective t′ u (sym rt ∙ p) in
+        absurd (apart v (b .0) (b .1) (sym n ∙ (ap (λ (y : Transaction). y .number) (sym x) ∙ mv .number)))
+    unique u v (inr b) (inl p) n =
+        let x : t′ ≡ v = Option·some-injective t′ v (sym rt ∙ p) in
+        absurd (apart u (b .0) (b .1) (n ∙ (ap (λ (y : Transaction). y .number) (sym x) ∙ mv .number)))
+    unique u v (inr b) (inr c) n = inv .unique u v (b .1) (c .1) n
+
+-- A call that neither takes nor returns a state.
+pub inv-free : (s : Sheets) (es : List Event) (m : Model) (w : Write) (e : Event) → Inv s es m → returns (e .answer) ≡ none → GoodSheets (apply w s) → View (apply w s) m → ((j : ℕ) → Away s j w) → Inv (apply w s) (e ∷ es) m
+inv-free s es m w e inv rt g v a =
+    record { good = g; view = v; known = known; unique = unique }
+  where
+    before : (u : Transaction) → Available u (e ∷ es) → Available u es
+    before u (inl q) = absurd (Option·none-ne-some u (sym rt ∙ q))
+    before u (inr b) = b .1
+
+    known : (u : Transaction) → Available u (e ∷ es) → Remembered (apply w s) m u
+    known u b = other-kept s w m m u (inv .good) (a (u .number)) (λ k. refl) (inv .known u (before u b))
+
+    unique : (u x : Transaction) → Available u (e ∷ es) → Available x (e ∷ es) → u .number ≡ x .number → u ≡ x
+    unique u x b c n = inv .unique u x (before u b) (before x c) n
+
+-- A call that returns the state of a new number.
+pub inv-begun : (s : Sheets) (es : List Event) (m m′ : Model) (t′ : Transaction) (w : Write) (e : Event) → Inv s es m → s .coordinator .issued < t′ .number → returns (e .answer) ≡ some t′ → GoodSheets (apply w s) → View (apply w s) m′ → ((j : ℕ) → Away s j w) → ((j : ℕ) (k : Key) → (j ≡ t′ .number → ⊥) → m′ .writes j k ≡ m .writes j k) → Remembered (apply w s) m′ t′ → Inv (apply w s) (e ∷ es) m′
+inv-begun s es m m′ t′ w e inv new rt g v a o own =
+    record { good = g; view = v; known = known; unique = unique }
+  where
+    apart : (u : Transaction) → Available u es → u .number ≡ t′ .number → ⊥
+    apart u b q =
+        let k : u .number ≤ s .coordinator .issued = well-formed-parts s u (inv .known u b .formed) .0 .known in
+        omega (arith, k, q, new)
+
+    known : (u : Transaction) → Available u (e ∷ es) → Remembered (apply w s) m′ u
+    known u (inl q) = subst (Remembered (apply w s) m′) (Option·some-injective t′ u (sym rt ∙ q)) own
+    known u (inr b) =
+        other-kept s w m m′ u (inv .good) (a (u .number)) (λ k. o (u .number) k (apart u (b .1))) (inv .known u (b .1))
+
+    unique : (u x : Transaction) → Available u (e ∷ es) → Available x (e ∷ es) → u .number ≡ x .number → u ≡ x
+    unique u x (inl p) (inl q) n = Option·some-injective u x (sym p ∙ q)
+    unique u x (inl p) (inr b) n =
+        let y : t′ ≡ u = Option·some-injective t′ u (sym rt ∙ p) in
+        absurd (apart x (b .1) (sym n ∙ ap (λ (z : Transaction). z .number) (sym y)))
+    unique u x (inr b) (inl p) n =
+        let y : t′ ≡ x = Option·some-injective t′ x (sym rt ∙ p) in
+        absurd (apart u (b .1) (n ∙ ap (λ (z : Transaction). z .number) (sym y)))
+    unique u x (inr b) (inr c) n = inv .unique u x (b .1) (c .1) n

@@ -1,0 +1,60 @@
+-- What is remembered as a transaction goes from phase to phase without a write, or after preparing a group.
+use Prim.Native.Nat.{ℕ, zero, suc, _+_, _≤_, _<_}
+use mathlib.Core.Path.{_≡_, refl, sym, ap, ap₂, _∙_, subst}
+use mathlib.Core.Bool.{Bool, true, false, cond}
+use mathlib.Core.List.{List}
+use mathlib.Core.Option.{Option, none, some}
+use native.Mathlib.Omega.{arith}
+use lib.Dec.{ltb}
+use borrow.Author.Tests.{le-ltb}
+use Rattle.types.specs.declared.AtomicityUnit.{AtomicityUnit}
+use Rattle.types.specs.declared.Decision.the-variants.{Undecided, Committed}
+use Rattle.types.specs.declared.Key.{Key}
+use Rattle.types.specs.declared.Columns.{Columns}
+use Rattle.types.specs.declared.Transaction.{Transaction}
+use Rattle.model.specs.Records.{lineOf}
+use Rattle.model.specs.Coordinator.{decision}
+use Rattle.model.specs.Transactions.{held, puts, moved}
+use Rattle.model.specs.Groups.{groupCount, groupPlace}
+use Rattle.model.specs.Writes.{Sheets}
+use Rattle.model.specs.Steps.{unitsOf}
+use Rattle.call_laws.specs.Lines.{listsKey}
+use Rattle.recovery.specs.Memory.{putIn, preparedColumns, groupsDone, doneAt, Memory}
+use Rattle.recovery.specs.OwnWrites.{doneTo, all-done}
+
+-- a state of the same number with the same columns done
+pub memory-as : (s : Sheets) (t t′ : Transaction) → t′ .number ≡ t .number → ((k : Key) → doneAt (unitsOf s) t′ k ≡ doneAt (unitsOf s) t k) → Memory s t → Memory s t′
+memory-as s t t′ n d m =
+    record {
+      undone = λ e. m .undone (ap (λ (x : ℕ). decision x (s .coordinator)) (sym n) ∙ e);
+      columns = λ e k h. ap (λ (x : ℕ). preparedColumns x (lineOf k (s .lines))) n
+          ∙ (m .columns (ap (λ (x : ℕ). decision x (s .coordinator)) (sym n) ∙ e) k h ∙ sym (d k));
+    }
+
+module _ (us : List AtomicityUnit) (t : Transaction) where
+  done-to : (p : ℕ) → groupsDone us t ≡ p → (k : Key) → doneAt us t k ≡ doneTo us t p k
+  unfolding doneAt
+  done-to p e k = ap (λ (n : ℕ). doneTo us t n k) e
+
+  -- in open nothing is done
+  pub done-in-open : t .phase ≡ 0 → (k : Key) → doneAt us t k ≡ none
+  unfolding groupsDone
+  done-in-open e k =
+      done-to 0 (ap (λ (p : ℕ). groupsDone us (moved p (t .place) (t .verdict) t)) e) k
+      ∙ ap (λ (b : Bool). cond b (putIn k (held t)) none) (le-ltb (groupPlace us (puts t) k) 0 (omega arith))
+
+  -- in prepare the groups before the place
+  pub done-in-prepare : t .phase ≡ 1 → (k : Key) → doneAt us t k ≡ doneTo us t (t .place) k
+  unfolding groupsDone
+  done-in-prepare e k = done-to (t .place) (ap (λ (p : ℕ). groupsDone us (moved p (t .place) (t .verdict) t)) e) k
+
+  -- in validate and decide all
+  pub done-in-validate : t .phase ≡ 2 → (k : Key) → doneAt us t k ≡ putIn k (held t)
+  unfolding groupsDone puts held
+  done-in-validate e k =
+      done-to (groupCount us (puts t)) (ap (λ (p : ℕ). groupsDone us (moved p (t .place) (t .verdict) t)) e) k ∙ all-done us t k
+
+  pub done-in-decide : t .phase ≡ 3 → (k : Key) → doneAt us t k ≡ putIn k (held t)
+  unfolding groupsDone puts held
+  done-in-decide e k =
+      done-to (groupCount us (puts t)) (ap (λ (p : ℕ). groupsDone us (moved p (t .place) (t .verdict) t)) e) k ∙ all-done us t k
