@@ -1,2 +1,4 @@
-// What the calls with a transaction decide without looking at a sheet: what becomes of a record, by value.
+// What the calls with a transaction decide without looking at a sheet: records, transactions, groups, well-formedness, each by value.
 pub mod images;
+mod keys;
+pub mod transactions;

@@ -1,6 +1,6 @@
 -- The code is the definition, with the image made by `put_image`.
-use Rattle.model.specs.Images.{committed}
 use borrow.Author.Needs.{needs}
+use Rattle.model.specs.Images.{committed}
 use Rattle.protocol.proofs.images.committed.Statement.{statement}
 use Rattle.protocol.proofs.images.committed.Tie as tie
 

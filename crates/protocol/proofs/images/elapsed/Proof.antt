@@ -1,7 +1,7 @@
 -- What added to the earlier reading wraps to the later one is what has elapsed.
 use native.Mathlib.Omega.{arith}
-use Rattle.protocol.specs.Clocks.{elapsed-is}
 use borrow.Author.Needs.{needs}
+use Rattle.protocol.specs.Clocks.{elapsed-is}
 use Rattle.protocol.proofs.images.elapsed.Statement.{statement}
 use Rattle.protocol.proofs.images.elapsed.Tie as tie
 

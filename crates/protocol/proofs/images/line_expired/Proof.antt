@@ -1,6 +1,6 @@
 -- The code is the definition, with the ticks counted by `elapsed`.
-use Rattle.model.specs.Images.{lineExpired}
 use borrow.Author.Needs.{needs}
+use Rattle.model.specs.Images.{lineExpired}
 use Rattle.protocol.proofs.images.line_expired.Statement.{statement}
 use Rattle.protocol.proofs.images.line_expired.Tie as tie
 

@@ -1,6 +1,6 @@
 -- The code is the definition, with the image made by `put_image`.
-use Rattle.model.specs.Images.{prepared}
 use borrow.Author.Needs.{needs}
+use Rattle.model.specs.Images.{prepared}
 use Rattle.protocol.proofs.images.prepared.Statement.{statement}
 use Rattle.protocol.proofs.images.prepared.Tie as tie
 

@@ -1,6 +1,6 @@
 -- The code is the definition, with the state judged by `is_prepared`.
-use Rattle.model.specs.Images.{preparedBy}
 use borrow.Author.Needs.{needs}
+use Rattle.model.specs.Images.{preparedBy}
 use Rattle.protocol.proofs.images.prepared_by.Statement.{statement}
 use Rattle.protocol.proofs.images.prepared_by.Tie as tie
 

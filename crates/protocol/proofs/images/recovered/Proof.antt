@@ -1,6 +1,6 @@
 -- By what the visit came to.
-use Rattle.model.specs.Visits.{recovered}
 use borrow.Author.Needs.{needs}
+use Rattle.model.specs.Visits.{recovered}
 use Rattle.protocol.proofs.images.recovered.Statement.{statement}
 use Rattle.protocol.proofs.images.recovered.Tie as tie
 

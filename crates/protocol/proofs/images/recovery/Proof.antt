@@ -1,8 +1,8 @@
 -- By whether the line is prepared, and then by its owner's decision.
 use mathlib.Core.Path.{sym, _∙_}
 use borrow.Author.Tests.{not-true, not-false}
-use Rattle.model.specs.Images.{recovery}
 use borrow.Author.Needs.{needs}
+use Rattle.model.specs.Images.{recovery}
 use Rattle.protocol.proofs.images.recovery.Statement.{statement}
 use Rattle.protocol.proofs.images.recovery.Tie as tie
 

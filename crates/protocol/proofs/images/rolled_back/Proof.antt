@@ -1,6 +1,6 @@
 -- The code is the definition, with the state chosen by `before_state`.
-use Rattle.model.specs.Images.{rolledBack}
 use borrow.Author.Needs.{needs}
+use Rattle.model.specs.Images.{rolledBack}
 use Rattle.protocol.proofs.images.rolled_back.Statement.{statement}
 use Rattle.protocol.proofs.images.rolled_back.Tie as tie
 

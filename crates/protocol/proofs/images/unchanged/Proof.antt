@@ -1,6 +1,6 @@
 -- The code is the definition, with the state judged by `is_prepared`.
-use Rattle.model.specs.Images.{unchanged}
 use borrow.Author.Needs.{needs}
+use Rattle.model.specs.Images.{unchanged}
 use Rattle.protocol.proofs.images.unchanged.Statement.{statement}
 use Rattle.protocol.proofs.images.unchanged.Tie as tie
 
