@@ -2,3 +2,5 @@
 pub mod Clocks
 pub mod Keys
 pub mod Held
+pub mod Units
+pub mod Groups

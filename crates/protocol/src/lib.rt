@@ -1,4 +1,5 @@
 // What the calls with a transaction decide without looking at a sheet: records, transactions, groups, well-formedness, each by value.
+pub mod groups;
 pub mod images;
 mod keys;
 pub mod transactions;
