@@ -3,3 +3,4 @@ pub mod groups;
 pub mod images;
 mod keys;
 pub mod transactions;
+pub mod well_formed;
