@@ -61,10 +61,10 @@ fn scope_recurs(letters: &[u8], t: Transaction, i: usize) -> bool
     ensures { λ r. ⌜ r ≡ any (sameScope (unitsIn (now (letters .entry))) (entryAt t i)) (after t i) ⌝ }
 {
     let n = t.count as usize;
-    let e = t.entries[i];
+    let e = transactions::entry_at(t, i);
     let first = i + 1;
     for j in first..n {
-        let f = t.entries[j];
+        let f = transactions::entry_at(t, j);
         if (f.wrote == 1) & same_scope(letters, e.key, f.key) {
             return true;
         }
@@ -77,7 +77,7 @@ fn last_of_scope(letters: &[u8], t: Transaction, i: usize) -> bool
     requires { ⌜ (t .count ≤ 8) × (i < t .count) ⌝ }
     ensures { λ r. ⌜ r ≡ lastOfScope (unitsIn (now (letters .entry))) (entryAt t i) (after t i) ⌝ }
 {
-    let e = t.entries[i];
+    let e = transactions::entry_at(t, i);
     (e.wrote == 1) & !scope_recurs(letters, t, i)
 }
 
@@ -101,7 +101,7 @@ pub fn group_place(letters: &[u8], t: Transaction, k: Key) -> u32
     let n = t.count as usize;
     let mut found = 0;
     for i in 0..n {
-        let e = t.entries[i];
+        let e = transactions::entry_at(t, i);
         let counts = last_of_scope(letters, t, i) & scope_less(letters, e.key, k);
         found = transactions::tally(found, counts);
     }

@@ -6,6 +6,7 @@ ghost use lib.ListN.{length, getD};
 ghost use Rattle.model.specs.Transactions as model;
 ghost use Rattle.model.specs.Transactions.{isEmpty, puts, toValidate, mustValidate, noEntry, heldAt};
 ghost use Rattle.model.specs.Calls.{newTransaction};
+ghost use Rattle.protocol.specs.Held.{entryAt};
 use crate::keys;
 use types::Columns;
 use types::Entry;
@@ -53,6 +54,14 @@ pub fn reading(e: Entry) -> Reading
     })
 }
 
+// Entry i, in a function of its own so that only here an array of structs is read.
+pub fn entry_at(t: Transaction, i: usize) -> Entry
+    requires { ⌜ i < 8 ⌝ }
+    ensures { λ e. ⌜ e ≡ entryAt t i ⌝ }
+{
+    t.entries[i]
+}
+
 // The place of the entry that holds the key.
 pub fn held_at(k: Key, t: Transaction) -> Found
     requires { ⌜ t .count ≤ 8 ⌝ }
@@ -60,7 +69,7 @@ pub fn held_at(k: Key, t: Transaction) -> Found
 {
     let n = t.count as usize;
     for i in 0..n {
-        let e = t.entries[i];
+        let e = entry_at(t, i);
         if keys::same_key(e.key, k) {
             return Found::At(i);
         }
@@ -111,7 +120,7 @@ pub fn has_puts(t: Transaction) -> bool
 {
     let n = t.count as usize;
     for i in 0..n {
-        let e = t.entries[i];
+        let e = entry_at(t, i);
         if e.wrote == 1 {
             return true;
         }
@@ -145,7 +154,7 @@ pub fn validate_count(t: Transaction) -> u32
     let n = t.count as usize;
     let mut found = 0;
     for i in 0..n {
-        let e = t.entries[i];
+        let e = entry_at(t, i);
         found = tally(found, must_validate(t, e));
     }
     found
@@ -159,7 +168,7 @@ pub fn to_validate(t: Transaction, place: u32) -> Entry
     let n = t.count as usize;
     let mut ahead = place;
     for i in 0..n {
-        let e = t.entries[i];
+        let e = entry_at(t, i);
         if must_validate(t, e) {
             if ahead == 0 {
                 return e;

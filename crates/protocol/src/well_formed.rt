@@ -65,7 +65,7 @@ fn entries_formed(issued: u32, t: Transaction) -> bool
 {
     let n = t.count as usize;
     for i in 0..n {
-        let e = t.entries[i];
+        let e = transactions::entry_at(t, i);
         if !entry_formed(issued, e) {
             return false;
         }
@@ -79,10 +79,10 @@ fn key_recurs(t: Transaction, i: usize) -> bool
     ensures { λ r. ⌜ r ≡ any (sameKeyAs (entryAt t i)) (after t i) ⌝ }
 {
     let n = t.count as usize;
-    let e = t.entries[i];
+    let e = transactions::entry_at(t, i);
     let first = i + 1;
     for j in first..n {
-        let f = t.entries[j];
+        let f = transactions::entry_at(t, j);
         if keys::same_key(f.key, e.key) {
             return true;
         }

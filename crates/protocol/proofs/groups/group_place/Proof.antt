@@ -13,22 +13,19 @@ use Rattle.protocol.proofs.groups.group_place.Statement.{statement}
 use Rattle.protocol.proofs.groups.group_place.Tie as tie
 
 abbrev Inv-loop : tie.InvT-loop
-Inv-loop letters k t n found₀ i₀ found i = TalliedTo t (countsAs (unitsIn letters) (λ (s : List ℕ). less s (scope (unitsIn letters) k))) (tallied (countsAs (unitsIn letters) (λ (s : List ℕ). less s (scope (unitsIn letters) k))) (held t)) found i
+Inv-loop letters t k n found₀ i₀ found i = TalliedTo t (countsAs (unitsIn letters) (λ (s : List ℕ). less s (scope (unitsIn letters) k))) (tallied (countsAs (unitsIn letters) (λ (s : List ℕ). less s (scope (unitsIn letters) k))) (held t)) found i
 
 abbrev μ-loop : tie.MeasureT-loop
-μ-loop letters k t n found₀ i₀ found i = n - i
+μ-loop letters t k n found₀ i₀ found i = n - i
 
 cast-n : tie.Need-cast-n Inv-loop μ-loop
 cast-n c = search needs
 
 loop-holds : tie.Need-loop-holds Inv-loop μ-loop
-loop-holds c = tally-first _ _ (c .before .good .1 .0) (c .before .pre)
+loop-holds c = tally-first _ _ (c .before .before .good .1 .0) (c .before .before .pre)
 
-mul-e : tie.Need-mul-e Inv-loop μ-loop
-mul-e c = search needs
-
-element-copy-out-e : tie.Need-element-copy-out-e Inv-loop μ-loop
-element-copy-out-e c = search needs
+entry-at-requires : tie.Need-entry-at-requires Inv-loop μ-loop
+entry-at-requires c κs = search needs
 
 last-of-scope-requires : tie.Need-last-of-scope-requires Inv-loop μ-loop
 last-of-scope-requires c κs = search needs
@@ -46,11 +43,11 @@ loop-less : tie.Need-loop-less Inv-loop μ-loop
 loop-less c = search needs
 
 loop-again : tie.Need-loop-again Inv-loop μ-loop
-loop-again c = tally-next _ _ _ _ _ _ (c .before .before .before .before .before .loop .inv) (c .before .before .before .before .loop-test .taken) (rw (c .before .before .last-of-scope .ensures, c .before .scope-less .ensures) at (c .tally .ensures))
+loop-again c = tally-next _ _ _ _ _ _ (c .before .before .before .before .before .loop .inv) (c .before .before .before .before .loop-test .taken) (rw (c .before .before .last-of-scope .ensures, c .before .scope-less .ensures, c .before .before .before .entry-at .ensures) at (c .tally .ensures))
 
 returns : tie.Need-returns Inv-loop μ-loop
 unfolding groupPlace puts
-returns c = tally-last _ _ _ _ _ (c .before .loop .inv) (c .loop-test .left) ∙ groups-tallied _ _ (held (c .before .before .before .args .t2))
+returns c = tally-last _ _ _ _ _ (c .before .loop .inv) (c .loop-test .left) ∙ groups-tallied _ _ (held (c .before .before .before .before .args .t))
 
 pub group-place-spec : {M : Type 1} → statement M
 group-place-spec =
@@ -60,8 +57,7 @@ group-place-spec =
     μ-loop
     cast-n
     loop-holds
-    mul-e
-    element-copy-out-e
+    entry-at-requires
     last-of-scope-requires
     scope-less-requires
     tally-requires

@@ -19,17 +19,14 @@ cast-n : tie.Need-cast-n Inv-loop μ-loop
 cast-n c = search needs
 
 loop-holds : tie.Need-loop-holds Inv-loop μ-loop
-loop-holds c = pass-first _ _ (c .good .0) (c .pre)
+loop-holds c = pass-first _ _ (c .before .good .0) (c .before .pre)
 
-mul-e : tie.Need-mul-e Inv-loop μ-loop
-mul-e c = search needs
-
-element-copy-out-e : tie.Need-element-copy-out-e Inv-loop μ-loop
-element-copy-out-e c = search needs
+entry-at-requires : tie.Need-entry-at-requires Inv-loop μ-loop
+entry-at-requires c κs = search needs
 
 returns : tie.Need-returns Inv-loop μ-loop
 unfolding puts
-returns c = any-met _ _ _ _ (c .before .before .before .before .loop .inv) (c .before .before .before .loop-test .taken) (eq-eqb _ _ (c .if1 .taken)) ∙ some-kept isPut (held (c .before .before .before .before .before .args .t1))
+returns c = any-met _ _ _ _ (c .before .before .before .before .loop .inv) (c .before .before .before .loop-test .taken) (rw (c .before .before .entry-at .ensures) at (eq-eqb _ _ (c .if1 .taken))) ∙ some-kept isPut (held (c .before .before .before .before .before .before .args .t))
 
 add-i : tie.Need-add-i Inv-loop μ-loop
 add-i c = search needs
@@ -38,11 +35,11 @@ loop-less : tie.Need-loop-less Inv-loop μ-loop
 loop-less c = search needs
 
 loop-again : tie.Need-loop-again Inv-loop μ-loop
-loop-again c = any-next _ _ _ _ (c .before .before .before .before .loop .inv) (c .before .before .before .loop-test .taken) (ne-eqb _ _ (c .if1 .left))
+loop-again c = any-next _ _ _ _ (c .before .before .before .before .loop .inv) (c .before .before .before .loop-test .taken) (rw (c .before .before .entry-at .ensures) at (ne-eqb _ _ (c .if1 .left)))
 
 returns-2 : tie.Need-returns-2 Inv-loop μ-loop
 unfolding puts
-returns-2 c = any-last _ _ _ _ (c .before .loop .inv) (c .loop-test .left) ∙ some-kept isPut (held (c .before .before .args .t1))
+returns-2 c = any-last _ _ _ _ (c .before .loop .inv) (c .loop-test .left) ∙ some-kept isPut (held (c .before .before .before .args .t))
 
 pub has-puts-spec : {M : Type 1} → statement M
 has-puts-spec =
@@ -52,8 +49,7 @@ has-puts-spec =
     μ-loop
     cast-n
     loop-holds
-    mul-e
-    element-copy-out-e
+    entry-at-requires
     returns
     add-i
     loop-less

@@ -9,29 +9,26 @@ use Rattle.protocol.proofs.transactions.to_validate.Statement.{statemen
 use Rattle.protocol.proofs.transactions.to_validate.Tie as tie
 
 abbrev Inv-loop : tie.InvT-loop
-Inv-loop place t n ahead₀ i₀ ahead i = PassedTo t (keptAt (mustValidate t) ahead) (keptAt (mustValidate t) place (held t)) i
+Inv-loop t place n ahead₀ i₀ ahead i = PassedTo t (keptAt (mustValidate t) ahead) (keptAt (mustValidate t) place (held t)) i
 
 abbrev μ-loop : tie.MeasureT-loop
-μ-loop place t n ahead₀ i₀ ahead i = n - i
+μ-loop t place n ahead₀ i₀ ahead i = n - i
 
 cast-n : tie.Need-cast-n Inv-loop μ-loop
 cast-n c = search needs
 
 loop-holds : tie.Need-loop-holds Inv-loop μ-loop
-loop-holds c = pass-first _ _ (c .good .0) (c .pre)
+loop-holds c = pass-first _ _ (c .before .good .0) (c .before .pre)
 
-mul-e : tie.Need-mul-e Inv-loop μ-loop
-mul-e c = search needs
-
-element-copy-out-e : tie.Need-element-copy-out-e Inv-loop μ-loop
-element-copy-out-e c = search needs
+entry-at-requires : tie.Need-entry-at-requires Inv-loop μ-loop
+entry-at-requires c κs = search needs
 
 must-validate-requires : tie.Need-must-validate-requires Inv-loop μ-loop
 must-validate-requires c κs = search needs
 
 returns : tie.Need-returns Inv-loop μ-loop
 unfolding toValidate
-returns c = kept-met _ _ _ _ _ (c .before .before .before .before .before .loop .inv) (c .before .before .before .before .loop-test .taken) (sym (c .before .before .must-validate .ensures) ∙ c .before .if1 .taken) (c .if2 .taken)
+returns c = c .before .before .before .entry-at .ensures ∙ kept-met _ _ _ _ _ (c .before .before .before .before .before .loop .inv) (c .before .before .before .before .loop-test .taken) (rw (c .before .before .before .entry-at .ensures) at (sym (c .before .before .must-validate .ensures) ∙ c .before .if1 .taken)) (c .if2 .taken)
 
 sub-ahead : tie.Need-sub-ahead Inv-loop μ-loop
 sub-ahead c = search needs
@@ -45,8 +42,8 @@ loop-less c = search needs
 loop-again : tie.Need-loop-again Inv-loop μ-loop
 loop-again c =
     ⊎-elim
-    (λ w. rw (w .2) (kept-next _ _ _ _ _ (c .before .before .before .before .loop .inv) (c .before .before .before .loop-test .taken) (sym (c .before .must-validate .ensures) ∙ w .0 .taken) (w .1 .left)))
-    (λ w. rw (w .1) (kept-skip _ _ _ _ _ (c .before .before .before .before .loop .inv) (c .before .before .before .loop-test .taken) (sym (c .before .must-validate .ensures) ∙ w .0 .left)))
+    (λ w. rw (w .2) (kept-next _ _ _ _ _ (c .before .before .before .before .loop .inv) (c .before .before .before .loop-test .taken) (rw (c .before .before .entry-at .ensures) at (sym (c .before .must-validate .ensures) ∙ w .0 .taken)) (w .1 .left)))
+    (λ w. rw (w .1) (kept-skip _ _ _ _ _ (c .before .before .before .before .loop .inv) (c .before .before .before .loop-test .taken) (rw (c .before .before .entry-at .ensures) at (sym (c .before .must-validate .ensures) ∙ w .0 .left))))
     (c .if1 .came)
 
 returns-2 : tie.Need-returns-2 Inv-loop μ-loop
@@ -61,8 +58,7 @@ to-validate-spec =
     μ-loop
     cast-n
     loop-holds
-    mul-e
-    element-copy-out-e
+    entry-at-requires
     must-validate-requires
     returns
     sub-ahead

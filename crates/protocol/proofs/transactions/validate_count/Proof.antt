@@ -19,13 +19,10 @@ cast-n : tie.Need-cast-n Inv-loop μ-loop
 cast-n c = search needs
 
 loop-holds : tie.Need-loop-holds Inv-loop μ-loop
-loop-holds c = tally-first _ _ (c .good .0) (c .pre)
+loop-holds c = tally-first _ _ (c .before .good .0) (c .before .pre)
 
-mul-e : tie.Need-mul-e Inv-loop μ-loop
-mul-e c = search needs
-
-element-copy-out-e : tie.Need-element-copy-out-e Inv-loop μ-loop
-element-copy-out-e c = search needs
+entry-at-requires : tie.Need-entry-at-requires Inv-loop μ-loop
+entry-at-requires c κs = search needs
 
 must-validate-requires : tie.Need-must-validate-requires Inv-loop μ-loop
 must-validate-requires c κs = search needs
@@ -40,11 +37,11 @@ loop-less : tie.Need-loop-less Inv-loop μ-loop
 loop-less c = search needs
 
 loop-again : tie.Need-loop-again Inv-loop μ-loop
-loop-again c = tally-next _ _ _ _ _ _ (c .before .before .before .before .loop .inv) (c .before .before .before .loop-test .taken) (rw (c .before .must-validate .ensures) at (c .tally .ensures))
+loop-again c = tally-next _ _ _ _ _ _ (c .before .before .before .before .loop .inv) (c .before .before .before .loop-test .taken) (rw (c .before .must-validate .ensures, c .before .before .entry-at .ensures) at (c .tally .ensures))
 
 returns : tie.Need-returns Inv-loop μ-loop
 unfolding toValidate
-returns c = tally-last _ _ _ _ _ (c .before .loop .inv) (c .loop-test .left) ∙ tallied-kept _ (held (c .before .before .args .t1))
+returns c = tally-last _ _ _ _ _ (c .before .loop .inv) (c .loop-test .left) ∙ tallied-kept _ (held (c .before .before .before .args .t))
 
 pub validate-count-spec : {M : Type 1} → statement M
 validate-count-spec =
@@ -54,8 +51,7 @@ validate-count-spec =
     μ-loop
     cast-n
     loop-holds
-    mul-e
-    element-copy-out-e
+    entry-at-requires
     must-validate-requires
     tally-requires
     add-i
