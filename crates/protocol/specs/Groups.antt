@@ -12,9 +12,10 @@ use Rattle.types.specs.declared.AtomicityUnit.{AtomicityUnit}
 use Rattle.types.specs.declared.AtomicityUnit.the-variants.{Record as RecordUnit, Partition, Table, Namespace, Storage}
 use Rattle.types.specs.declared.Entry.{Entry}
 use Rattle.types.specs.declared.Key.{Key}
+use Rattle.types.specs.declared.Transaction.{Transaction}
 use Rattle.model.specs.Records.{keyNumbers}
-use Rattle.model.specs.Transactions.{isPut}
-use Rattle.model.specs.Groups.{unitFields, unitFor, scope, addScope, scopes}
+use Rattle.model.specs.Transactions.{isPut, held, puts}
+use Rattle.model.specs.Groups.{unitFields, unitFor, scope, addScope, scopes, groupPlace, group}
 use Rattle.protocol.specs.Held.{tallied}
 
 -- a unit compares the storage at least
@@ -107,3 +108,25 @@ pub count-all {ℓ} : {A : Type ℓ} (xs : List A) → count (λ (x : A). true) 
 unfolding count
 count-all [] = refl
 count-all (x ∷ xs) = ap suc (count-all xs)
+
+-- The group at a place, among all the entries in use.
+
+abbrev pub inGroup : List AtomicityUnit → Transaction → ℕ → Entry → Bool
+inGroup us t i e = isPut e && eqb (groupPlace us (puts t) (e .key)) i
+
+-- what two filters keep is what both tests let pass
+module _ (p q : Entry → Bool) where
+  both-kept : (a b : Bool) (e : Entry) (es rs : List Entry) → q e ≡ b → filter q es ≡ rs → filter q (cond a (e ∷ es) es) ≡ cond (a && b) (e ∷ rs) rs
+  unfolding filter
+  both-kept false b e es rs h k = k
+  both-kept true true e es rs h k = rw h (ap (λ (x : List Entry). e ∷ x) k)
+  both-kept true false e es rs h k = rw h k
+
+  filter-filter : (es : List Entry) → filter q (filter p es) ≡ filter (λ (e : Entry). p e && q e) es
+  unfolding filter
+  filter-filter [] = refl
+  filter-filter (e ∷ es) = both-kept (p e) (q e) e (filter p es) (filter (λ (x : Entry). p x && q x) es) refl (filter-filter es)
+
+pub group-held : (us : List AtomicityUnit) (t : Transaction) (i : ℕ) → group us (puts t) i ≡ filter (inGroup us t i) (held t)
+unfolding group puts
+group-held us t i = filter-filter isPut (λ (e : Entry). eqb (groupPlace us (puts t) (e .key)) i) (held t)

@@ -7,9 +7,11 @@ use native.Mathlib.Omega.{arith}
 use native.Mathlib.Numerals.{add-one}
 use lib.ListN.{length, take, drop, getD, length-map, length-take, drop-of-length-le}
 use lib.Seq.{drop-cons, getD-take}
+use lib.Dec.{ltb}
 use mir.Val.{Val}
 use denote.Laws.{Is}
 use denote.Struct.Declared.{row}
+use borrow.Author.Tests.{lt-ltb}
 use Rattle.lists.specs.Each.{all, any, filter}
 use Rattle.types.proofs.Transaction.{the-type}
 use Rattle.types.specs.declared.Entry.{Entry}
@@ -20,7 +22,7 @@ use Rattle.types.specs.declared.Transaction.{Transaction}
 use Rattle.model.specs.Records.{sameKey}
 use Rattle.model.specs.Transactions.{held, heldFrom, isEmpty, noEntry}
 
--- a transaction has room for eight entries: what owning one tells
+-- a transaction has room for eight entries: what owning one tells of its seventh field
 eight : (t : Transaction) {vs : List Val} → Is (row the-type) t vs → length (t .entries) ≡ 8
 eight t p = sym (length-map (t .entries) _) ∙ p .1 .1 .1 .1 .1 .1 .1 .1 .0 .1 .0 .1
 
@@ -164,6 +166,11 @@ module _ (q : Entry → Bool) where
   unfolding tallied filter
   tallied-kept [] = refl
   tallied-kept (e ∷ es) = one-more (q e) (tallied (λ (x : Entry) (r : List Entry). q x) es) e (filter q es) (tallied-kept es)
+
+-- something is kept exactly if more than nothing is
+pub some-counted : (es : List Entry) → ltb 0 (length es) ≡ not (isEmpty es)
+some-counted [] = refl
+some-counted (e ∷ es) = lt-ltb 0 (suc (length es)) (omega arith)
 
 -- the entry kept at a place
 abbrev pub keptAt : (Entry → Bool) → ℕ → List Entry → Entry

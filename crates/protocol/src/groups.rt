@@ -8,9 +8,10 @@ ghost use Rattle.model.specs.Transactions.{puts};
 ghost use Rattle.model.specs.Groups.{unitFields, unitFor, scope, groupCount, groupPlace};
 ghost use Rattle.protocol.specs.Held.{entryAt, after};
 ghost use Rattle.protocol.specs.Units.{unitIn, unitsIn};
-ghost use Rattle.protocol.specs.Groups.{sameScope, lastOfScope};
+ghost use Rattle.protocol.specs.Groups.{sameScope, lastOfScope, inGroup};
 use crate::keys;
 use crate::transactions;
+use types::Entry;
 use types::Key;
 use types::Transaction;
 
@@ -106,4 +107,12 @@ pub fn group_place(letters: &[u8], t: Transaction, k: Key) -> u32
         found = transactions::tally(found, counts);
     }
     found
+}
+
+// The entry is a put of the group at a place.
+pub fn in_group(letters: &[u8], t: Transaction, e: Entry, place: u32) -> bool
+    requires { ⌜ t .count ≤ 8 ⌝ }
+    ensures { λ r. ⌜ r ≡ inGroup (unitsIn (now (letters .entry))) t place e ⌝ }
+{
+    (e.wrote == 1) & (group_place(letters, t, e.key) == place)
 }

@@ -160,6 +160,14 @@ pub fn validate_count(t: Transaction) -> u32
     found
 }
 
+// Some entry is to be validated.
+pub fn validates(t: Transaction) -> bool
+    requires { ⌜ t .count ≤ 8 ⌝ }
+    ensures { λ r. ⌜ r ≡ not (isEmpty (toValidate t)) ⌝ }
+{
+    0 < validate_count(t)
+}
+
 // The entry to be validated at a place, an empty one past the last.
 pub fn to_validate(t: Transaction, place: u32) -> Entry
     requires { ⌜ t .count ≤ 8 ⌝ }
