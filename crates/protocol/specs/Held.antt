@@ -20,7 +20,7 @@ use Rattle.types.specs.declared.Found.the-variants.{At, Nothing}
 use Rattle.types.specs.declared.Key.{Key}
 use Rattle.types.specs.declared.Transaction.{Transaction}
 use Rattle.model.specs.Records.{sameKey}
-use Rattle.model.specs.Transactions.{held, heldFrom, isEmpty, noEntry}
+use Rattle.model.specs.Transactions.{held, heldFrom, heldAt, isEmpty, noEntry}
 
 -- a transaction has room for eight entries: what owning one tells of its seventh field
 eight : (t : Transaction) {vs : List Val} → Is (row the-type) t vs → length (t .entries) ≡ 8
@@ -80,6 +80,26 @@ module _ (t : Transaction) (k : Key) (w : Found) (i : ℕ) (p : PassedTo t (held
   pub held-last : t .count ≤ i → Nothing ≡ w
   unfolding heldFrom
   held-last l = pass-last t (heldFrom i k) w i l p
+
+held-under : (j : ℕ) (k : Key) (es : List Entry) (i : ℕ) → heldFrom j k es ≡ At i → i < j + length es
+unfolding heldFrom
+held-under j k [] i e = let z : _≡_ {A = ℕ} 0 1 = cc in absurd (omega arith)
+held-under j k (x ∷ es) i e = go (sameKey (x .key) k) refl (held-under (suc j) k es i)
+  where
+    go : (b : Bool) → sameKey (x .key) k ≡ b → (heldFrom (suc j) k es ≡ At i → i < suc j + length es) → i < j + length (x ∷ es)
+    go true h rest =
+        let f : _≡_ {A = Found} (At j) (At i) = rw h at e in
+        let g : j ≡ i = cc in
+        omega arith
+    go false h rest =
+        let f : heldFrom (suc j) k es ≡ At i = rw h at e in
+        let l = rest f in
+        omega arith
+
+-- a place that was found is one of the entries in use
+pub held-below : (t : Transaction) (k : Key) (i : ℕ) → heldAt k t ≡ At i → i < t .count
+unfolding heldAt held
+held-below t k i e = omega (arith, held-under 0 k (held t) i e, length-take (t .count) (t .entries))
 
 -- Does some entry pass a test?
 module _ (t : Transaction) (q : Entry → Bool) (w : Bool) (i : ℕ) (p : PassedTo t (any q) w i) where
