@@ -1,7 +1,6 @@
 // Atomicity units and the groups of a transaction's puts. The units are the nine letters of the coordinator's head.
 ghost use mathlib.Core.Path.{_≡_};
 ghost use Prim.Native.Nat.{_≤_, _<_};
-ghost use lib.ListN.{length};
 ghost use Rattle.lists.specs.Bytes.{eqList};
 ghost use Rattle.lists.specs.Each.{any, less};
 ghost use Rattle.model.specs.Transactions.{puts};
