@@ -1,0 +1,67 @@
+-- As many of the entries before i are the last put of a scope before that of the key as were found.
+use Prim.Native.Nat.{ℕ, _-_}
+use mathlib.Core.Path.{_∙_}
+use mathlib.Core.List.{List}
+use borrow.Author.Needs.{needs}
+use Rattle.lists.specs.Each.{less}
+use Rattle.model.specs.Transactions.{held, puts}
+use Rattle.model.specs.Groups.{scope, groupPlace}
+use Rattle.protocol.specs.Held.{TalliedTo, tallied, tally-first, tally-next, tally-last}
+use Rattle.protocol.specs.Units.{unitsIn}
+use Rattle.protocol.specs.Groups.{countsAs, groups-tallied}
+use Rattle.protocol.proofs.groups.group_place.Statement.{statement}
+use Rattle.protocol.proofs.groups.group_place.Tie as tie
+
+abbrev Inv-loop : tie.InvT-loop
+Inv-loop letters t k n found₀ i₀ found i = TalliedTo t (countsAs (unitsIn letters) (λ (s : List ℕ). less s (scope (unitsIn letters) k))) (tallied (countsAs (unitsIn letters) (λ (s : List ℕ). less s (scope (unitsIn letters) k))) (held t)) found i
+
+abbrev μ-loop : tie.MeasureT-loop
+μ-loop letters t k n found₀ i₀ found i = n - i
+
+cast-n : tie.Need-cast-n Inv-loop μ-loop
+cast-n c = search needs
+
+loop-holds : tie.Need-loop-holds Inv-loop μ-loop
+loop-holds c = tally-first _ _ (c .before .before .good .1 .0) (c .before .before .pre)
+
+entry-at-requires : tie.Need-entry-at-requires Inv-loop μ-loop
+entry-at-requires c κs = search needs
+
+last-of-scope-requires : tie.Need-last-of-scope-requires Inv-loop μ-loop
+last-of-scope-requires c κs = search needs
+
+scope-less-requires : tie.Need-scope-less-requires Inv-loop μ-loop
+scope-less-requires c κs = search needs
+
+tally-requires : tie.Need-tally-requires Inv-loop μ-loop
+tally-requires c κs = search needs
+
+add-i : tie.Need-add-i Inv-loop μ-loop
+add-i c = search needs
+
+loop-less : tie.Need-loop-less Inv-loop μ-loop
+loop-less c = search needs
+
+loop-again : tie.Need-loop-again Inv-loop μ-loop
+loop-again c = tally-next _ _ _ _ _ _ (c .before .before .before .before .before .loop .inv) (c .before .before .before .before .loop-test .taken) (rw (c .before .before .last-of-scope .ensures, c .before .scope-less .ensures, c .before .before .before .entry-at .ensures) at (c .tally .ensures))
+
+returns : tie.Need-returns Inv-loop μ-loop
+unfolding groupPlace puts
+returns c = tally-last _ _ _ _ _ (c .before .loop .inv) (c .loop-test .left) ∙ groups-tallied _ _ (held (c .before .before .before .before .args .t))
+
+pub group-place-spec : {M : Type 1} → statement M
+group-place-spec =
+    tie.close
+    (tie.spec
+    Inv-loop
+    μ-loop
+    cast-n
+    loop-holds
+    entry-at-requires
+    last-of-scope-requires
+    scope-less-requires
+    tally-requires
+    add-i
+    loop-less
+    loop-again
+    returns)

@@ -1,0 +1,16 @@
+-- The code is the definition, with the later entries judged by `scope_recurs`.
+use borrow.Author.Needs.{needs}
+use Rattle.protocol.proofs.groups.last_of_scope.Statement.{statement}
+use Rattle.protocol.proofs.groups.last_of_scope.Tie as tie
+
+entry-at-requires : tie.Need-entry-at-requires
+entry-at-requires c κs = search needs
+
+scope-recurs-requires : tie.Need-scope-recurs-requires
+scope-recurs-requires c κs = search needs
+
+returns : tie.Need-returns
+returns c = rw (c .before .before .entry-at .ensures, c .scope-recurs .ensures)
+
+pub last-of-scope-spec : {M : Type 1} → statement M
+last-of-scope-spec = tie.close (tie.spec entry-at-requires scope-recurs-requires returns)

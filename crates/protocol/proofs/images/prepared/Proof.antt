@@ -1,0 +1,15 @@
+-- The code is the definition, with the image made by `put_image`.
+use borrow.Author.Needs.{needs}
+use Rattle.model.specs.Images.{prepared}
+use Rattle.protocol.proofs.images.prepared.Statement.{statement}
+use Rattle.protocol.proofs.images.prepared.Tie as tie
+
+put-image-requires : tie.Need-put-image-requires
+put-image-requires c κs = search needs
+
+returns : tie.Need-returns
+unfolding prepared
+returns c = rw (c .put-image .ensures)
+
+pub prepared-spec : {M : Type 1} → statement M
+prepared-spec = tie.close (tie.spec put-image-requires returns)

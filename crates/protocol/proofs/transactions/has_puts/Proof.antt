@@ -1,0 +1,57 @@
+-- No entry before i has a put.
+use Prim.Native.Nat.{_-_}
+use mathlib.Core.Path.{_∙_}
+use borrow.Author.Tests.{eq-eqb, ne-eqb}
+use borrow.Author.Needs.{needs}
+use Rattle.lists.specs.Each.{any}
+use Rattle.model.specs.Transactions.{held, isPut, puts}
+use Rattle.protocol.specs.Held.{PassedTo, pass-first, any-met, any-next, any-last, some-kept}
+use Rattle.protocol.proofs.transactions.has_puts.Statement.{statement}
+use Rattle.protocol.proofs.transactions.has_puts.Tie as tie
+
+abbrev Inv-loop : tie.InvT-loop
+Inv-loop t n i₀ i = PassedTo t (any isPut) (any isPut (held t)) i
+
+abbrev μ-loop : tie.MeasureT-loop
+μ-loop t n i₀ i = n - i
+
+cast-n : tie.Need-cast-n Inv-loop μ-loop
+cast-n c = search needs
+
+loop-holds : tie.Need-loop-holds Inv-loop μ-loop
+loop-holds c = pass-first _ _ (c .before .good .0) (c .before .pre)
+
+entry-at-requires : tie.Need-entry-at-requires Inv-loop μ-loop
+entry-at-requires c κs = search needs
+
+returns : tie.Need-returns Inv-loop μ-loop
+unfolding puts
+returns c = any-met _ _ _ _ (c .before .before .before .before .loop .inv) (c .before .before .before .loop-test .taken) (rw (c .before .before .entry-at .ensures) at (eq-eqb _ _ (c .if1 .taken))) ∙ some-kept isPut (held (c .before .before .before .before .before .before .args .t))
+
+add-i : tie.Need-add-i Inv-loop μ-loop
+add-i c = search needs
+
+loop-less : tie.Need-loop-less Inv-loop μ-loop
+loop-less c = search needs
+
+loop-again : tie.Need-loop-again Inv-loop μ-loop
+loop-again c = any-next _ _ _ _ (c .before .before .before .before .loop .inv) (c .before .before .before .loop-test .taken) (rw (c .before .before .entry-at .ensures) at (ne-eqb _ _ (c .if1 .left)))
+
+returns-2 : tie.Need-returns-2 Inv-loop μ-loop
+unfolding puts
+returns-2 c = any-last _ _ _ _ (c .before .loop .inv) (c .loop-test .left) ∙ some-kept isPut (held (c .before .before .before .args .t))
+
+pub has-puts-spec : {M : Type 1} → statement M
+has-puts-spec =
+    tie.close
+    (tie.spec
+    Inv-loop
+    μ-loop
+    cast-n
+    loop-holds
+    entry-at-requires
+    returns
+    add-i
+    loop-less
+    loop-again
+    returns-2)

@@ -1,0 +1,58 @@
+-- No entry before i holds the key.
+use Prim.Native.Nat.{_-_}
+use mathlib.Core.Path.{sym, _∙_}
+use borrow.Author.Needs.{needs}
+use Rattle.model.specs.Transactions.{heldFrom, heldAt}
+use Rattle.protocol.specs.Held.{PassedTo, pass-first, held-met, held-next, held-last}
+use Rattle.protocol.proofs.transactions.held_at.Statement.{statement}
+use Rattle.protocol.proofs.transactions.held_at.Tie as tie
+
+abbrev Inv-loop : tie.InvT-loop
+Inv-loop k t n i₀ i = PassedTo t (heldFrom i k) (heldAt k t) i
+
+abbrev μ-loop : tie.MeasureT-loop
+μ-loop k t n i₀ i = n - i
+
+cast-n : tie.Need-cast-n Inv-loop μ-loop
+cast-n c = search needs
+
+loop-holds : tie.Need-loop-holds Inv-loop μ-loop
+unfolding heldAt
+loop-holds c = pass-first _ _ (c .before .good .1 .0) (c .before .pre)
+
+entry-at-requires : tie.Need-entry-at-requires Inv-loop μ-loop
+entry-at-requires c κs = search needs
+
+same-key-requires : tie.Need-same-key-requires Inv-loop μ-loop
+same-key-requires c κs = search needs
+
+returns : tie.Need-returns Inv-loop μ-loop
+returns c = held-met _ _ _ _ (c .before .before .before .before .loop .inv) (c .before .before .before .loop-test .taken) (rw (c .before .before .entry-at .ensures) at (sym (c .before .same-key .ensures) ∙ c .if1 .taken))
+
+add-i : tie.Need-add-i Inv-loop μ-loop
+add-i c = search needs
+
+loop-less : tie.Need-loop-less Inv-loop μ-loop
+loop-less c = search needs
+
+loop-again : tie.Need-loop-again Inv-loop μ-loop
+loop-again c = held-next _ _ _ _ (c .before .before .before .before .loop .inv) (c .before .before .before .loop-test .taken) (rw (c .before .before .entry-at .ensures) at (sym (c .before .same-key .ensures) ∙ c .if1 .left))
+
+returns-2 : tie.Need-returns-2 Inv-loop μ-loop
+returns-2 c = held-last _ _ _ _ (c .before .loop .inv) (c .loop-test .left)
+
+pub held-at-spec : {M : Type 1} → statement M
+held-at-spec =
+    tie.close
+    (tie.spec
+    Inv-loop
+    μ-loop
+    cast-n
+    loop-holds
+    entry-at-requires
+    same-key-requires
+    returns
+    add-i
+    loop-less
+    loop-again
+    returns-2)

@@ -1,0 +1,68 @@
+-- The entry wanted is the one at place `ahead` among those still to come.
+use Prim.Native.Nat.{_-_}
+use mathlib.Core.Path.{_∙_, sym}
+use mathlib.Core.Logic.{⊎-elim}
+use borrow.Author.Needs.{needs}
+use Rattle.model.specs.Transactions.{held, mustValidate, toValidate}
+use Rattle.protocol.specs.Held.{PassedTo, keptAt, pass-first, kept-met, kept-next, kept-skip, kept-last}
+use Rattle.protocol.proofs.transactions.to_validate.Statement.{statement}
+use Rattle.protocol.proofs.transactions.to_validate.Tie as tie
+
+abbrev Inv-loop : tie.InvT-loop
+Inv-loop t place n ahead₀ i₀ ahead i = PassedTo t (keptAt (mustValidate t) ahead) (keptAt (mustValidate t) place (held t)) i
+
+abbrev μ-loop : tie.MeasureT-loop
+μ-loop t place n ahead₀ i₀ ahead i = n - i
+
+cast-n : tie.Need-cast-n Inv-loop μ-loop
+cast-n c = search needs
+
+loop-holds : tie.Need-loop-holds Inv-loop μ-loop
+loop-holds c = pass-first _ _ (c .before .good .0) (c .before .pre)
+
+entry-at-requires : tie.Need-entry-at-requires Inv-loop μ-loop
+entry-at-requires c κs = search needs
+
+must-validate-requires : tie.Need-must-validate-requires Inv-loop μ-loop
+must-validate-requires c κs = search needs
+
+returns : tie.Need-returns Inv-loop μ-loop
+unfolding toValidate
+returns c = c .before .before .before .entry-at .ensures ∙ kept-met _ _ _ _ _ (c .before .before .before .before .before .loop .inv) (c .before .before .before .before .loop-test .taken) (rw (c .before .before .before .entry-at .ensures) at (sym (c .before .before .must-validate .ensures) ∙ c .before .if1 .taken)) (c .if2 .taken)
+
+sub-ahead : tie.Need-sub-ahead Inv-loop μ-loop
+sub-ahead c = search needs
+
+add-i : tie.Need-add-i Inv-loop μ-loop
+add-i c = search needs
+
+loop-less : tie.Need-loop-less Inv-loop μ-loop
+loop-less c = search needs
+
+loop-again : tie.Need-loop-again Inv-loop μ-loop
+loop-again c =
+    ⊎-elim
+    (λ w. rw (w .2) (kept-next _ _ _ _ _ (c .before .before .before .before .loop .inv) (c .before .before .before .loop-test .taken) (rw (c .before .before .entry-at .ensures) at (sym (c .before .must-validate .ensures) ∙ w .0 .taken)) (w .1 .left)))
+    (λ w. rw (w .1) (kept-skip _ _ _ _ _ (c .before .before .before .before .loop .inv) (c .before .before .before .loop-test .taken) (rw (c .before .before .entry-at .ensures) at (sym (c .before .must-validate .ensures) ∙ w .0 .left))))
+    (c .if1 .came)
+
+returns-2 : tie.Need-returns-2 Inv-loop μ-loop
+unfolding toValidate
+returns-2 c = kept-last _ _ _ _ _ (c .before .loop .inv) (c .loop-test .left)
+
+pub to-validate-spec : {M : Type 1} → statement M
+to-validate-spec =
+    tie.close
+    (tie.spec
+    Inv-loop
+    μ-loop
+    cast-n
+    loop-holds
+    entry-at-requires
+    must-validate-requires
+    returns
+    sub-ahead
+    add-i
+    loop-less
+    loop-again
+    returns-2)

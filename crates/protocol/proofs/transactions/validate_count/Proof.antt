@@ -1,0 +1,60 @@
+-- As many of the entries before i are to be validated as were found.
+use Prim.Native.Nat.{_-_}
+use mathlib.Core.Path.{_∙_}
+use mathlib.Core.List.{List}
+use borrow.Author.Needs.{needs}
+use Rattle.types.specs.declared.Entry.{Entry}
+use Rattle.model.specs.Transactions.{held, mustValidate, toValidate}
+use Rattle.protocol.specs.Held.{TalliedTo, tallied, tally-first, tally-next, tally-last, tallied-kept}
+use Rattle.protocol.proofs.transactions.validate_count.Statement.{statement}
+use Rattle.protocol.proofs.transactions.validate_count.Tie as tie
+
+abbrev Inv-loop : tie.InvT-loop
+Inv-loop t n found₀ i₀ found i = TalliedTo t (λ (e : Entry) (es : List Entry). mustValidate t e) (tallied (λ (e : Entry) (es : List Entry). mustValidate t e) (held t)) found i
+
+abbrev μ-loop : tie.MeasureT-loop
+μ-loop t n found₀ i₀ found i = n - i
+
+cast-n : tie.Need-cast-n Inv-loop μ-loop
+cast-n c = search needs
+
+loop-holds : tie.Need-loop-holds Inv-loop μ-loop
+loop-holds c = tally-first _ _ (c .before .good .0) (c .before .pre)
+
+entry-at-requires : tie.Need-entry-at-requires Inv-loop μ-loop
+entry-at-requires c κs = search needs
+
+must-validate-requires : tie.Need-must-validate-requires Inv-loop μ-loop
+must-validate-requires c κs = search needs
+
+tally-requires : tie.Need-tally-requires Inv-loop μ-loop
+tally-requires c κs = search needs
+
+add-i : tie.Need-add-i Inv-loop μ-loop
+add-i c = search needs
+
+loop-less : tie.Need-loop-less Inv-loop μ-loop
+loop-less c = search needs
+
+loop-again : tie.Need-loop-again Inv-loop μ-loop
+loop-again c = tally-next _ _ _ _ _ _ (c .before .before .before .before .loop .inv) (c .before .before .before .loop-test .taken) (rw (c .before .must-validate .ensures, c .before .before .entry-at .ensures) at (c .tally .ensures))
+
+returns : tie.Need-returns Inv-loop μ-loop
+unfolding toValidate
+returns c = tally-last _ _ _ _ _ (c .before .loop .inv) (c .loop-test .left) ∙ tallied-kept _ (held (c .before .before .before .args .t))
+
+pub validate-count-spec : {M : Type 1} → statement M
+validate-count-spec =
+    tie.close
+    (tie.spec
+    Inv-loop
+    μ-loop
+    cast-n
+    loop-holds
+    entry-at-requires
+    must-validate-requires
+    tally-requires
+    add-i
+    loop-less
+    loop-again
+    returns)

@@ -1,0 +1,60 @@
+-- Every entry before i is well formed.
+use Prim.Native.Nat.{_-_}
+use mathlib.Core.Path.{sym, _∙_}
+use borrow.Author.Tests.{not-true, not-false}
+use borrow.Author.Needs.{needs}
+use Rattle.lists.specs.Each.{all}
+use Rattle.model.specs.Transactions.{held}
+use Rattle.model.specs.WellFormed.{entryFormed}
+use Rattle.protocol.specs.Held.{PassedTo, pass-first, all-unmet, all-next, all-last}
+use Rattle.protocol.proofs.well_formed.entries_formed.Statement.{statement}
+use Rattle.protocol.proofs.well_formed.entries_formed.Tie as tie
+
+abbrev Inv-loop : tie.InvT-loop
+Inv-loop issued t n i₀ i = PassedTo t (all (entryFormed issued)) (all (entryFormed issued) (held t)) i
+
+abbrev μ-loop : tie.MeasureT-loop
+μ-loop issued t n i₀ i = n - i
+
+cast-n : tie.Need-cast-n Inv-loop μ-loop
+cast-n c = search needs
+
+loop-holds : tie.Need-loop-holds Inv-loop μ-loop
+loop-holds c = pass-first _ _ (c .before .good .1 .0) (c .before .pre)
+
+entry-at-requires : tie.Need-entry-at-requires Inv-loop μ-loop
+entry-at-requires c κs = search needs
+
+entry-formed-requires : tie.Need-entry-formed-requires Inv-loop μ-loop
+entry-formed-requires c κs = search needs
+
+returns : tie.Need-returns Inv-loop μ-loop
+returns c = all-unmet _ _ _ _ (c .before .before .before .before .loop .inv) (c .before .before .before .loop-test .taken) (rw (c .before .before .entry-at .ensures) at (sym (c .before .entry-formed .ensures) ∙ not-true _ (c .if1 .taken)))
+
+add-i : tie.Need-add-i Inv-loop μ-loop
+add-i c = search needs
+
+loop-less : tie.Need-loop-less Inv-loop μ-loop
+loop-less c = search needs
+
+loop-again : tie.Need-loop-again Inv-loop μ-loop
+loop-again c = all-next _ _ _ _ (c .before .before .before .before .loop .inv) (c .before .before .before .loop-test .taken) (rw (c .before .before .entry-at .ensures) at (sym (c .before .entry-formed .ensures) ∙ not-false _ (c .if1 .left)))
+
+returns-2 : tie.Need-returns-2 Inv-loop μ-loop
+returns-2 c = all-last _ _ _ _ (c .before .loop .inv) (c .loop-test .left)
+
+pub entries-formed-spec : {M : Type 1} → statement M
+entries-formed-spec =
+    tie.close
+    (tie.spec
+    Inv-loop
+    μ-loop
+    cast-n
+    loop-holds
+    entry-at-requires
+    entry-formed-requires
+    returns
+    add-i
+    loop-less
+    loop-again
+    returns-2)

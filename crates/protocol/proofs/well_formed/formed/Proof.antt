@@ -1,0 +1,47 @@
+-- The head is asked first: where it is well formed, at most eight entries are in use, and the rest is asked.
+use mathlib.Core.Path.{sym, _∙_}
+use borrow.Author.Tests.{not-true, not-false}
+use borrow.Author.Needs.{needs}
+use Rattle.protocol.specs.Units.{unitsIn}
+use Rattle.protocol.specs.Formed.{head-few, formed-not, formed-rest}
+use Rattle.protocol.proofs.well_formed.formed.Statement.{statement}
+use Rattle.protocol.proofs.well_formed.formed.Tie as tie
+
+head-formed-requires : tie.Need-head-formed-requires
+head-formed-requires c κs = search needs
+
+returns : tie.Need-returns
+returns c = formed-not _ _ _ (sym (c .before .head-formed .ensures) ∙ not-true _ (c .if1 .taken))
+
+entries-formed-requires : tie.Need-entries-formed-requires
+entries-formed-requires c κs = head-few (c .before .before .before .args .issued) (c .before .before .before .args .t) (sym (c .before .head-formed .ensures) ∙ not-false _ (c .if1 .left))
+
+distinct-keys-requires : tie.Need-distinct-keys-requires
+distinct-keys-requires c κs = head-few (c .before .before .before .before .args .issued) (c .before .before .before .before .args .t) (sym (c .before .before .head-formed .ensures) ∙ not-false _ (c .before .if1 .left))
+
+phase-formed-requires : tie.Need-phase-formed-requires
+phase-formed-requires c κs = head-few (c .before .before .before .before .before .args .issued) (c .before .before .before .before .before .args .t) (sym (c .before .before .before .head-formed .ensures) ∙ not-false _ (c .before .before .if1 .left))
+
+place-formed-requires : tie.Need-place-formed-requires
+place-formed-requires c κs = head-few (c .before .before .before .before .before .before .args .issued) (c .before .before .before .before .before .before .args .t) (sym (c .before .before .before .before .head-formed .ensures) ∙ not-false _ (c .before .before .before .if1 .left))
+
+verdict-formed-requires : tie.Need-verdict-formed-requires
+verdict-formed-requires c κs = search needs
+
+returns-2 : tie.Need-returns-2
+returns-2 c =
+    rw (c .before .before .before .before .entries-formed .ensures, c .before .before .before .distinct-keys .ensures, c .before .before .phase-formed .ensures, c .before .place-formed .ensures, c .verdict-formed .ensures)
+    (formed-rest (unitsIn (c .before .before .before .before .before .before .before .before .args .letters .now)) (c .before .before .before .before .before .before .before .before .args .issued) (c .before .before .before .before .before .before .before .before .args .t) (sym (c .before .before .before .before .before .before .head-formed .ensures) ∙ not-false _ (c .before .before .before .before .before .if1 .left)))
+
+pub formed-spec : {M : Type 1} → statement M
+formed-spec =
+    tie.close
+    (tie.spec
+    head-formed-requires
+    returns
+    entries-formed-requires
+    distinct-keys-requires
+    phase-formed-requires
+    place-formed-requires
+    verdict-formed-requires
+    returns-2)

@@ -1,0 +1,72 @@
+-- By the phase.
+use borrow.Author.Needs.{needs}
+use Rattle.model.specs.WellFormed.{placeFormed}
+use Rattle.protocol.specs.Phases.{phase-none}
+use Rattle.protocol.proofs.well_formed.place_formed.Statement.{statement}
+use Rattle.protocol.proofs.well_formed.place_formed.Tie as tie
+
+group-count-requires : tie.Need-group-count-requires
+group-count-requires c κs = search needs
+
+validate-count-requires : tie.Need-validate-count-requires
+validate-count-requires c κs = search needs
+
+group-count-requires-2 : tie.Need-group-count-requires-2
+group-count-requires-2 c κs = search needs
+
+group-count-requires-3 : tie.Need-group-count-requires-3
+group-count-requires-3 c κs = search needs
+
+returns : tie.Need-returns
+unfolding placeFormed
+returns c = rw (c .before .match .keys1)
+
+returns-2 : tie.Need-returns-2
+unfolding placeFormed
+returns-2 c = rw (c .before .group-count .ensures, c .before .before .match .keys2)
+
+returns-3 : tie.Need-returns-3
+unfolding placeFormed
+returns-3 c = rw (c .before .validate-count .ensures, c .before .before .match .keys3)
+
+returns-4 : tie.Need-returns-4
+unfolding placeFormed
+returns-4 c = rw (c .before .match .keys4)
+
+returns-5 : tie.Need-returns-5
+unfolding placeFormed
+returns-5 c = rw (c .before .match .keys5)
+
+returns-6 : tie.Need-returns-6
+unfolding placeFormed
+returns-6 c = rw (c .before .group-count2 .ensures, c .before .before .match .keys6)
+
+returns-7 : tie.Need-returns-7
+unfolding placeFormed
+returns-7 c = rw (c .before .group-count3 .ensures, c .before .before .match .keys7)
+
+returns-8 : tie.Need-returns-8
+unfolding placeFormed
+returns-8 c = rw (c .before .match .keys8)
+
+returns-9 : tie.Need-returns-9
+unfolding placeFormed
+returns-9 c = phase-none _ _ _ _ _ _ _ _ _ _ (c .match .rest)
+
+pub place-formed-spec : {M : Type 1} → statement M
+place-formed-spec =
+    tie.close
+    (tie.spec
+    group-count-requires
+    validate-count-requires
+    group-count-requires-2
+    group-count-requires-3
+    returns
+    returns-2
+    returns-3
+    returns-4
+    returns-5
+    returns-6
+    returns-7
+    returns-8
+    returns-9)

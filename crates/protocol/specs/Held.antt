@@ -1,0 +1,216 @@
+-- The entries in use, one by one: how far a loop over them has come, and what one turn of it does, for each kind of question that a loop answers.
+use Prim.Native.Nat.{ℕ, suc, _+_, _-_, _≤_, _<_}
+use mathlib.Core.Path.{_≡_, refl, sym, ap, ap₂, _∙_}
+use mathlib.Core.Bool.{Bool, true, false, _||_, not, cond}
+use mathlib.Core.List.{List, [], _∷_}
+use native.Mathlib.Omega.{arith}
+use native.Mathlib.Numerals.{add-one}
+use lib.ListN.{length, take, drop, getD, length-map, length-take, drop-of-length-le}
+use lib.Seq.{drop-cons, getD-take}
+use lib.Dec.{ltb}
+use mir.Val.{Val}
+use denote.Laws.{Is}
+use denote.Struct.Declared.{row}
+use borrow.Author.Tests.{lt-ltb}
+use Rattle.lists.specs.Each.{all, any, filter}
+use Rattle.types.proofs.Transaction.{the-type}
+use Rattle.types.specs.declared.Entry.{Entry}
+use Rattle.types.specs.declared.Found.{Found}
+use Rattle.types.specs.declared.Found.the-variants.{At, Nothing}
+use Rattle.types.specs.declared.Key.{Key}
+use Rattle.types.specs.declared.Transaction.{Transaction}
+use Rattle.model.specs.Records.{sameKey}
+use Rattle.model.specs.Transactions.{held, heldFrom, heldAt, isEmpty, noEntry}
+
+-- a transaction has room for eight entries: what owning one tells of its seventh field
+eight : (t : Transaction) {vs : List Val} → Is (row the-type) t vs → length (t .entries) ≡ 8
+eight t p = sym (length-map (t .entries) _) ∙ p .1 .1 .1 .1 .1 .1 .1 .1 .0 .1 .0 .1
+
+abbrev pub entryAt : Transaction → ℕ → Entry
+entryAt t i = getD (t .entries) i noEntry
+
+-- the entries after place i
+abbrev pub after : Transaction → ℕ → List Entry
+after t i = drop (i + 1) (held t)
+
+-- f of the entries from place i on is what was to be computed, w
+pub record PassedTo {A : Type 0} (t : Transaction) (f : List Entry → A) (w : A) (i : ℕ) : Type 0 where
+  pub place : i ≤ t .count
+  pub room : t .count ≤ length (t .entries)
+  pub rest : f (drop i (held t)) ≡ w
+
+module _ {A : Type 0} (t : Transaction) (f : List Entry → A) where
+  pub pass-from : (i : ℕ) {vs : List Val} → Is (row the-type) t vs → t .count ≤ 8 → i ≤ t .count → PassedTo t f (f (drop i (held t))) i
+  pass-from i p l m = let n = eight t p in record { place = m; room = omega arith; rest = refl }
+
+  pub pass-first : {vs : List Val} → Is (row the-type) t vs → t .count ≤ 8 → PassedTo t f (f (held t)) 0
+  pass-first p l = pass-from 0 p l (omega arith)
+
+  -- entry i and those after it
+  pub pass-here : (w : A) (i : ℕ) → i < t .count → PassedTo t f w i → f (entryAt t i ∷ after t i) ≡ w
+  unfolding held
+  pass-here w i l p =
+      let m : t .count ≤ length (t .entries) = p .room in
+      let n : i < length (take (t .count) (t .entries)) = simp length-take (omega arith) in
+      let d : drop i (held t) ≡ entryAt t i ∷ after t i =
+      drop-cons (held t) i noEntry n
+      ∙ ap₂ _∷_ (getD-take (t .count) (t .entries) i noEntry l) (ap (λ (k : ℕ). drop k (held t)) (sym (add-one i))) in
+      ap f (sym d) ∙ p .rest
+
+  -- past entry i, where f of a list that begins with it is g of the rest
+  pub pass-next : (g : List Entry → A) (w : A) (i : ℕ) → i < t .count → PassedTo t f w i → f (entryAt t i ∷ after t i) ≡ g (after t i) → PassedTo t g w (i + 1)
+  pass-next g w i l p e = record { place = omega arith; room = p .room; rest = sym e ∙ pass-here w i l p }
+
+  pub pass-last : (w : A) (i : ℕ) → t .count ≤ i → PassedTo t f w i → f [] ≡ w
+  unfolding held
+  pass-last w i l p =
+      let n : length (take (t .count) (t .entries)) ≤ i = simp length-take (omega arith) in
+      ap f (sym (drop-of-length-le (held t) n)) ∙ p .rest
+
+-- Which entry has the key?
+module _ (t : Transaction) (k : Key) (w : Found) (i : ℕ) (p : PassedTo t (heldFrom i k) w i) where
+  pub held-met : i < t .count → sameKey (entryAt t i .key) k ≡ true → At i ≡ w
+  unfolding heldFrom
+  held-met l e = rw e at (pass-here t (heldFrom i k) w i l p)
+
+  pub held-next : i < t .count → sameKey (entryAt t i .key) k ≡ false → PassedTo t (heldFrom (i + 1) k) w (i + 1)
+  unfolding heldFrom
+  held-next l e = pass-next t (heldFrom i k) (heldFrom (i + 1) k) w i l p (rw (e, add-one))
+
+  pub held-last : t .count ≤ i → Nothing ≡ w
+  unfolding heldFrom
+  held-last l = pass-last t (heldFrom i k) w i l p
+
+held-under : (j : ℕ) (k : Key) (es : List Entry) (i : ℕ) → heldFrom j k es ≡ At i → i < j + length es
+unfolding heldFrom
+held-under j k [] i e = let z : _≡_ {A = ℕ} 0 1 = cc in absurd (omega arith)
+held-under j k (x ∷ es) i e = go (sameKey (x .key) k) refl (held-under (suc j) k es i)
+  where
+    go : (b : Bool) → sameKey (x .key) k ≡ b → (heldFrom (suc j) k es ≡ At i → i < suc j + length es) → i < j + length (x ∷ es)
+    go true h rest =
+        let f : _≡_ {A = Found} (At j) (At i) = rw h at e in
+        let g : j ≡ i = cc in
+        omega arith
+    go false h rest =
+        let f : heldFrom (suc j) k es ≡ At i = rw h at e in
+        let l = rest f in
+        omega arith
+
+-- a place that was found is one of the entries in use
+pub held-below : (t : Transaction) (k : Key) (i : ℕ) → heldAt k t ≡ At i → i < t .count
+unfolding heldAt held
+held-below t k i e = omega (arith, held-under 0 k (held t) i e, length-take (t .count) (t .entries))
+
+-- Does some entry pass a test?
+module _ (t : Transaction) (q : Entry → Bool) (w : Bool) (i : ℕ) (p : PassedTo t (any q) w i) where
+  pub any-met : i < t .count → q (entryAt t i) ≡ true → true ≡ w
+  unfolding any
+  any-met l e = rw e at (pass-here t (any q) w i l p)
+
+  pub any-next : i < t .count → q (entryAt t i) ≡ false → PassedTo t (any q) w (i + 1)
+  unfolding any
+  any-next l e = pass-next t (any q) (any q) w i l p (rw e)
+
+  pub any-last : t .count ≤ i → false ≡ w
+  unfolding any
+  any-last l = pass-last t (any q) w i l p
+
+-- Does every entry pass a test?
+module _ (t : Transaction) (q : Entry → Bool) (w : Bool) (i : ℕ) (p : PassedTo t (all q) w i) where
+  pub all-unmet : i < t .count → q (entryAt t i) ≡ false → false ≡ w
+  unfolding all
+  all-unmet l e = rw e at (pass-here t (all q) w i l p)
+
+  pub all-next : i < t .count → q (entryAt t i) ≡ true → PassedTo t (all q) w (i + 1)
+  unfolding all
+  all-next l e = pass-next t (all q) (all q) w i l p (rw e)
+
+  pub all-last : t .count ≤ i → true ≡ w
+  unfolding all
+  all-last l = pass-last t (all q) w i l p
+
+-- how many entries pass a test that may look at the entries after them
+unfoldable pub tallied : (Entry → List Entry → Bool) → List Entry → ℕ
+tallied q [] = 0
+tallied q (e ∷ es) = cond (q e es) (suc (tallied q es)) (tallied q es)
+
+-- How many entries pass? n of those before place i did.
+pub record TalliedTo (t : Transaction) (q : Entry → List Entry → Bool) (w : ℕ) (n i : ℕ) : Type 0 where
+  pub few : n ≤ i
+  pub passed : PassedTo t (λ (es : List Entry). n + tallied q es) w i
+
+module _ (t : Transaction) (q : Entry → List Entry → Bool) where
+  pub tally-first : {vs : List Val} → Is (row the-type) t vs → t .count ≤ 8 → TalliedTo t q (tallied q (held t)) 0 0
+  tally-first p l =
+      let e = pass-first t (tallied q) p l in
+      record { few = omega arith; passed = record { place = e .place; room = e .room; rest = omega arith } }
+
+  pub tally-next : (w n i m : ℕ) → TalliedTo t q w n i → i < t .count → m ≡ cond (q (entryAt t i) (after t i)) (n + 1) n → TalliedTo t q w m (i + 1)
+  unfolding tallied
+  tally-next w n i m p l e = go (q (entryAt t i) (after t i)) refl
+    where
+      go : (b : Bool) → q (entryAt t i) (after t i) ≡ b → TalliedTo t q w m (i + 1)
+      go true h =
+          let f : m ≡ n + 1 = rw h at e in
+          record {
+            few = omega (arith, p .few);
+            passed = pass-next t (λ (es : List Entry). n + tallied q es) (λ (es : List Entry). m + tallied q es) w i l (p .passed) (rw h (omega arith));
+          }
+      go false h =
+          let f : m ≡ n = rw h at e in
+          record {
+            few = omega (arith, p .few);
+            passed = pass-next t (λ (es : List Entry). n + tallied q es) (λ (es : List Entry). m + tallied q es) w i l (p .passed) (rw h (omega arith));
+          }
+
+  pub tally-last : (w n i : ℕ) → TalliedTo t q w n i → t .count ≤ i → n ≡ w
+  unfolding tallied
+  tally-last w n i p l = omega (arith, pass-last t (λ (es : List Entry). n + tallied q es) w i l (p .passed))
+
+-- What a filter keeps: whether anything, and how much.
+some-more : (b r : Bool) (e : Entry) (es : List Entry) → r ≡ not (isEmpty es) → (b || r) ≡ not (isEmpty (cond b (e ∷ es) es))
+some-more true r e es h = refl
+some-more false r e es h = h
+
+one-more : (b : Bool) (n : ℕ) (e : Entry) (es : List Entry) → n ≡ length es → cond b (suc n) n ≡ length (cond b (e ∷ es) es)
+one-more true n e es h = ap suc h
+one-more false n e es h = h
+
+module _ (q : Entry → Bool) where
+  pub some-kept : (es : List Entry) → any q es ≡ not (isEmpty (filter q es))
+  unfolding any filter
+  some-kept [] = refl
+  some-kept (e ∷ es) = some-more (q e) (any q es) e (filter q es) (some-kept es)
+
+  pub tallied-kept : (es : List Entry) → tallied (λ (e : Entry) (r : List Entry). q e) es ≡ length (filter q es)
+  unfolding tallied filter
+  tallied-kept [] = refl
+  tallied-kept (e ∷ es) = one-more (q e) (tallied (λ (x : Entry) (r : List Entry). q x) es) e (filter q es) (tallied-kept es)
+
+-- something is kept exactly if more than nothing is
+pub some-counted : (es : List Entry) → ltb 0 (length es) ≡ not (isEmpty es)
+some-counted [] = refl
+some-counted (e ∷ es) = lt-ltb 0 (suc (length es)) (omega arith)
+
+-- the entry kept at a place
+abbrev pub keptAt : (Entry → Bool) → ℕ → List Entry → Entry
+keptAt q n es = getD (filter q es) n noEntry
+
+module _ (t : Transaction) (q : Entry → Bool) (w : Entry) (n i : ℕ) (p : PassedTo t (keptAt q n) w i) where
+  pub kept-met : i < t .count → q (entryAt t i) ≡ true → n ≡ 0 → entryAt t i ≡ w
+  unfolding filter
+  kept-met l e z = rw (e, z) at (pass-here t (keptAt q n) w i l p)
+
+  pub kept-next : i < t .count → q (entryAt t i) ≡ true → (n ≡ 0 → ⊥) → PassedTo t (keptAt q (n - 1)) w (i + 1)
+  unfolding filter
+  kept-next l e z =
+      let m : n ≡ suc (n - 1) = omega arith in
+      pass-next t (keptAt q n) (keptAt q (n - 1)) w i l p (rw e (ap (λ (x : ℕ). getD (entryAt t i ∷ filter q (after t i)) x noEntry) m))
+
+  pub kept-skip : i < t .count → q (entryAt t i) ≡ false → PassedTo t (keptAt q n) w (i + 1)
+  unfolding filter
+  kept-skip l e = pass-next t (keptAt q n) (keptAt q n) w i l p (rw e)
+
+  pub kept-last : t .count ≤ i → noEntry ≡ w
+  unfolding filter
+  kept-last l = pass-last t (keptAt q n) w i l p

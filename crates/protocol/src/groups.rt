@@ -1,0 +1,117 @@
+// Atomicity units and the groups of a transaction's puts. The units are the nine letters of the coordinator's head.
+ghost use mathlib.Core.Path.{_≡_};
+ghost use Prim.Native.Nat.{_≤_, _<_};
+ghost use Rattle.lists.specs.Bytes.{eqList};
+ghost use Rattle.lists.specs.Each.{any, less};
+ghost use Rattle.model.specs.Transactions.{puts};
+ghost use Rattle.model.specs.Groups.{unitFields, unitFor, scope, groupCount, groupPlace};
+ghost use Rattle.protocol.specs.Held.{entryAt, after};
+ghost use Rattle.protocol.specs.Units.{unitIn, unitsIn};
+ghost use Rattle.protocol.specs.Groups.{sameScope, lastOfScope, inGroup};
+use crate::keys;
+use crate::transactions;
+use types::Entry;
+use types::Key;
+use types::Transaction;
+
+// How many fields of a key the unit of a letter compares.
+fn unit_fields(letter: u8) -> u32
+    ensures { λ r. ⌜ r ≡ unitFields (unitIn letter) ⌝ }
+{
+    match letter {
+        b'R' => 5,
+        b'P' => 4,
+        b'T' => 3,
+        b'N' => 2,
+        _ => 1,
+    }
+}
+
+// How many fields the unit of a storage compares; one without a letter counts as R.
+fn scope_fields(letters: &[u8], storage: u32) -> u32
+    ensures { λ r. ⌜ r ≡ unitFields (unitFor storage (unitsIn (now (letters .entry)))) ⌝ }
+{
+    if storage < 1 {
+        return 5;
+    }
+    let i = (storage - 1) as usize;
+    if letters.len() <= i {
+        return 5;
+    }
+    unit_fields(letters[i])
+}
+
+// Two keys are in one scope. Where the storages differ they decide, so the unit of one of them is enough.
+pub fn same_scope(letters: &[u8], a: Key, b: Key) -> bool
+    ensures { λ r. ⌜ r ≡ eqList (scope (unitsIn (now (letters .entry))) a) (scope (unitsIn (now (letters .entry))) b) ⌝ }
+{
+    keys::same_fields(scope_fields(letters, a.storage), a, b)
+}
+
+// The scope of a comes before that of b.
+pub fn scope_less(letters: &[u8], a: Key, b: Key) -> bool
+    ensures { λ r. ⌜ r ≡ less (scope (unitsIn (now (letters .entry))) a) (scope (unitsIn (now (letters .entry))) b) ⌝ }
+{
+    keys::fields_less(scope_fields(letters, a.storage), a, b)
+}
+
+// A put after entry i has its scope.
+fn scope_recurs(letters: &[u8], t: Transaction, i: usize) -> bool
+    requires { ⌜ (t .count ≤ 8) × (i < t .count) ⌝ }
+    ensures { λ r. ⌜ r ≡ any (sameScope (unitsIn (now (letters .entry))) (entryAt t i)) (after t i) ⌝ }
+{
+    let n = t.count as usize;
+    let e = transactions::entry_at(t, i);
+    let first = i + 1;
+    for j in first..n {
+        let f = transactions::entry_at(t, j);
+        if (f.wrote == 1) & same_scope(letters, e.key, f.key) {
+            return true;
+        }
+    }
+    false
+}
+
+// Entry i is the last put of its scope: each group has one such, so that counting them counts the groups.
+fn last_of_scope(letters: &[u8], t: Transaction, i: usize) -> bool
+    requires { ⌜ (t .count ≤ 8) × (i < t .count) ⌝ }
+    ensures { λ r. ⌜ r ≡ lastOfScope (unitsIn (now (letters .entry))) (entryAt t i) (after t i) ⌝ }
+{
+    let e = transactions::entry_at(t, i);
+    (e.wrote == 1) & !scope_recurs(letters, t, i)
+}
+
+pub fn group_count(letters: &[u8], t: Transaction) -> u32
+    requires { ⌜ t .count ≤ 8 ⌝ }
+    ensures { λ r. ⌜ r ≡ groupCount (unitsIn (now (letters .entry))) (puts t) ⌝ }
+{
+    let n = t.count as usize;
+    let mut found = 0;
+    for i in 0..n {
+        found = transactions::tally(found, last_of_scope(letters, t, i));
+    }
+    found
+}
+
+// The place of a key's group: how many groups come before it.
+pub fn group_place(letters: &[u8], t: Transaction, k: Key) -> u32
+    requires { ⌜ t .count ≤ 8 ⌝ }
+    ensures { λ r. ⌜ r ≡ groupPlace (unitsIn (now (letters .entry))) (puts t) k ⌝ }
+{
+    let n = t.count as usize;
+    let mut found = 0;
+    for i in 0..n {
+        let e = transactions::entry_at(t, i);
+        let counts = last_of_scope(letters, t, i) & scope_less(letters, e.key, k);
+        found = transactions::tally(found, counts);
+    }
+    found
+}
+
+// The entry is a put of the group at a place.
+pub fn in_group(letters: &[u8], t: Transaction, e: Entry, place: u32) -> bool
+    requires { ⌜ t .count ≤ 8 ⌝ }
+    ensures { λ r. ⌜ r ≡ inGroup (unitsIn (now (letters .entry))) t place e ⌝ }
+{
+    (e.wrote == 1) & (group_place(letters, t, e.key) == place)
+}
