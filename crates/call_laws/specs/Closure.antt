@@ -155,16 +155,16 @@ keeps-made s f a w t e g h =
       formed = λ u q. ap (wellFormed (apply w s)) (Option·some-injective u t (sym q ∙ e)) ∙ h;
     }
 
-strictly : (m n : ℕ) → m ≤ n → eqb m n ≡ false → m < n
+pub strictly : (m n : ℕ) → m ≤ n → eqb m n ≡ false → m < n
 strictly m n l h = omega (arith, eqb-false m n h)
 
 -- an accepted call that takes a transaction takes a well-formed one
-taken-parts : (s : Sheets) (t : Transaction) (cs : List Condition) → refusalOf (refuse 3 (not (wellFormed s t)) ∷ cs) ≡ 0 → Body s t × Stage (unitsOf s) t
+pub taken-parts : (s : Sheets) (t : Transaction) (cs : List Condition) → refusalOf (refuse 3 (not (wellFormed s t)) ∷ cs) ≡ 0 → Body s t × Stage (unitsOf s) t
 taken-parts s t cs z =
     well-formed-parts s t (not-false (wellFormed s t) (not-first 3 (not (wellFormed s t)) cs (omega arith) z .0))
 
 -- the line of a key is a good one
-line-good : (s : Sheets) → GoodSheets s → (k : Key) → hasLine k (s .lines) ≡ true → GoodParts (s .coordinator .issued) (lineOf k (s .lines))
+pub line-good : (s : Sheets) → GoodSheets s → (k : Key) → hasLine k (s .lines) ≡ true → GoodParts (s .coordinator .issued) (lineOf k (s .lines))
 line-good s good k h =
     fine-parts (s .coordinator .issued) (lineOf k (s .lines))
     (line-passes (fine (s .coordinator .issued)) k (s .lines) (good .fine-lines) (sym (has-line k (s .lines)) ∙ h))
@@ -178,7 +178,7 @@ less-than-eight : (n : ℕ) → leb 8 n ≡ false → n < 8
 less-than-eight n h = leb-false 8 n h
 
 -- a new key is held by no entry
-not-held : (k : Key) (t : Transaction) → isNew k t ≡ true → hasKey k (held t) ≡ false
+pub not-held : (k : Key) (t : Transaction) → isNew k t ≡ true → hasKey k (held t) ≡ false
 unfolding heldAt
 not-held k t n = not-true (hasKey k (held t)) (sym (found-held 0 k (held t)) ∙ n)
 
@@ -255,7 +255,7 @@ module _ (s : Sheets) (good : GoodSheets s) where
 
   -- Visit.
 
-  visit-fits : (k : Key) (now : ℕ) → hasLine k (s .lines) ≡ true → Fit s (recoveryWrite (meeting now (s .coordinator) (lineOf k (s .lines))) (lineOf k (s .lines)))
+  pub visit-fits : (k : Key) (now : ℕ) → hasLine k (s .lines) ≡ true → Fit s (recoveryWrite (meeting now (s .coordinator) (lineOf k (s .lines))) (lineOf k (s .lines)))
   unfolding recoveryWrite
   visit-fits k now h = any-fits (meeting now (s .coordinator) (lineOf k (s .lines)))
     where

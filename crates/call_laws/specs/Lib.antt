@@ -7,6 +7,7 @@ pub mod SingleUnit
 pub mod Ranges
 pub mod Images
 pub mod Lines
+pub mod Places
 pub mod Sheets
 pub mod Transactions
 pub mod Steps

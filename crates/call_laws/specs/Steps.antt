@@ -107,7 +107,7 @@ module _ (s : Sheets) (good : GoodSheets s) (t : Transaction) (b : Body s t) whe
       (all-filter isPut (entryFormed (s .coordinator .issued)) (held t) (b .entries)) (filter-passes isPut (held t)))
 
   -- the puts of a group whose conditions hold may be written
-  may-put : all (holds (s .lines)) (groupAt t s) ≡ true → MayPutAll s (t .number) (groupAt t s)
+  pub may-put : all (holds (s .lines)) (groupAt t s) ≡ true → MayPutAll s (t .number) (groupAt t s)
   unfolding holds unchanged
   may-put h r listed same e found =
       let i = s .coordinator .issued in

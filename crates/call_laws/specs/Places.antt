@@ -1,0 +1,179 @@
+-- Writes by place: the line of a key found on a sheet in order, replaced in the bytes, is the line of that key replaced on the decoded sheet; likewise a
+-- decision and the count of numbers issued.
+use Prim.Native.Nat.{ℕ, zero, suc, _+_, _*_, _/_, _≤_, _<_}
+use mathlib.Core.Path.{_≡_, refl, sym, ap, ap₂, _∙_, subst}
+use mathlib.Core.Bool.{Bool, true, false, _&&_, _||_, cond, true≢false}
+use mathlib.Core.List.{List, [], _∷_, map}
+use native.Mathlib.Omega.{arith}
+use lib.ListN.{length, drop, getD, set}
+use Rattle.lists.specs.Each.{any}
+use Rattle.lists.specs.Pieces.{over}
+use Rattle.lists.specs.Chosen.{or-left, or-right, or-fst, or-snd}
+use Rattle.lists.specs.Tests.{and-snd, choose-by, tests}
+use Rattle.decimal.specs.Field.{fieldText}
+use Rattle.types.specs.declared.Decision.{Decision}
+use Rattle.types.specs.declared.Key.{Key}
+use Rattle.types.specs.declared.Record.{Record}
+use Rattle.types.specs.declared.Found.{Found}
+use Rattle.types.specs.declared.Found.the-variants.{At, Nothing}
+use Rattle.model.specs.Lines.{linesOf, linesSet}
+use Rattle.model.specs.Records.{
+  noRecord,
+  recordText,
+  recordsText,
+  records,
+  recordsAccepted,
+  goodAlone,
+  inOrder,
+  rising,
+  sameKey,
+  foundFrom,
+  found,
+  lineOf,
+}
+use Rattle.model.specs.Coordinator.{coordinatorOf, coordinatorText, coordinatorAccepted, withDecision, withIssued}
+use Rattle.sheet_laws.specs.Records.{sheet-written-read, good-ranged}
+use Rattle.sheet_laws.specs.Places.{length-records, records-over, accepted-over}
+use Rattle.sheet_laws.specs.Coordinator.{decisionText, coordinator-written-read, Bounds, bounds}
+use Rattle.sheet_laws.specs.Decisions.{
+  Accepted,
+  accepted-parts,
+  accepted-length,
+  length-decisions,
+  coordinator-over,
+  accepted-decided,
+  coordinator-counted,
+  accepted-raised,
+}
+use Rattle.call_laws.specs.Keys.{same-key, same-key-refl}
+use Rattle.call_laws.specs.Lines.{listsKey, apart}
+
+-- The place of the line of a key.
+pub record FoundAt (k : Key) (rs : List Record) (i : ℕ) : Type 0 where
+  pub within : i < length rs
+  pub line : getD rs i noRecord ≡ lineOf k rs
+  pub listed : listsKey k rs ≡ true
+  pub key : getD rs i noRecord .key ≡ k
+
+found-from {κ} : (P : Found → Type κ) (i : ℕ) (k : Key) (rs : List Record) → (listsKey k rs ≡ false → P Nothing) → ((m : ℕ) → FoundAt k rs m → P (At (i + m))) → P (foundFrom i k rs)
+unfolding foundFrom any lineOf
+found-from P i k [] f g = f refl
+found-from P i k (r ∷ rs) f g =
+    choose-by P (sameKey (r .key) k)
+    (λ h. let z : i + 0 ≡ i = omega arith in
+    subst (λ (n : ℕ). P (At n)) z
+    (g 0
+    (record {
+      within = omega arith;
+      line = sym (ap (λ (b : Bool). cond b r (lineOf k rs)) h);
+      listed = ap (λ (b : Bool). b || listsKey k rs) h;
+      key = same-key (r .key) k h;
+    })))
+    (λ h. found-from P (suc i) k rs
+    (λ n. f (ap (λ (b : Bool). b || listsKey k rs) h ∙ n))
+    (λ m x. let z : i + suc m ≡ suc i + m = omega arith in
+    let l : m < length rs = x .within in
+    subst (λ (n : ℕ). P (At n)) z
+    (g (suc m)
+    (record {
+      within = omega arith;
+      line = x .line ∙ sym (ap (λ (b : Bool). cond b r (lineOf k rs)) h);
+      listed = ap (λ (b : Bool). b || listsKey k rs) h ∙ x .listed;
+      key = x .key;
+    }))))
+
+-- a fact about the place of a key: of none if no line has it, else of the place of its line
+pub found-by {κ} : (P : Found → Type κ) (k : Key) (rs : List Record) → (listsKey k rs ≡ false → P Nothing) → ((i : ℕ) → FoundAt k rs i → P (At i)) → P (found k rs)
+unfolding found
+found-by P k rs f g =
+    found-from P 0 k rs f (λ m x. let z : m ≡ 0 + m = omega arith in subst (λ (n : ℕ). P (At n)) z (g m x))
+
+-- a map that changes only the line of one key
+abbrev pub atKey : Key → (Record → Record) → Record → Record
+atKey k f r = cond (sameKey (r .key) k) (f r) r
+
+-- lines of other keys stay
+map-elsewhere : (k : Key) (f : Record → Record) (rs : List Record) → listsKey k rs ≡ false → map (atKey k f) rs ≡ rs
+unfolding any
+map-elsewhere k f [] h = refl
+map-elsewhere k f (r ∷ rs) h =
+    ap₂ _∷_ (ap (λ (b : Bool). cond b (f r) r) (or-fst (sameKey (r .key) k) (listsKey k rs) h))
+    (map-elsewhere k f rs (or-snd (sameKey (r .key) k) (listsKey k rs) h))
+
+lists-at : (k : Key) (rs : List Record) (i : ℕ) → i < length rs → getD rs i noRecord .key ≡ k → listsKey k rs ≡ true
+unfolding any
+lists-at k [] i l e = absurd (omega arith)
+lists-at k (r ∷ rs) zero l e = or-left (sameKey (r .key) k) (listsKey k rs) (ap (λ (j : Key). sameKey j k) e ∙ same-key-refl k)
+lists-at k (r ∷ rs) (suc i) l e = or-right (sameKey (r .key) k) (listsKey k rs) (lists-at k rs i (omega arith) e)
+
+-- the key of the first line is no later line's
+none-later : (k : Key) (r : Record) (rs : List Record) → rising (r ∷ rs) ≡ true → sameKey (r .key) k ≡ true → listsKey k rs ≡ false
+none-later k r rs h e = go (listsKey k rs) refl
+  where
+    go : (b : Bool) → listsKey k rs ≡ b → b ≡ false
+    go true m = absurd (true≢false (sym e ∙ apart r rs k h m))
+    go false m = refl
+
+-- on a sheet in order, changing the line of a key is setting the record at its place
+pub set-at-key : (k : Key) (f : Record → Record) (rs : List Record) (i : ℕ) → rising rs ≡ true → FoundAt k rs i → set rs i (f (lineOf k rs)) ≡ map (atKey k f) rs
+unfolding rising any lineOf
+set-at-key k f [] i h x = absurd (true≢false (sym (x .listed)))
+set-at-key k f (r ∷ rs) zero h x =
+    let e : sameKey (r .key) k ≡ true = ap (λ (j : Key). sameKey j k) (x .key) ∙ same-key-refl k in
+    ap₂ _∷_
+    (ap (λ (b : Bool). f (cond b r (lineOf k rs))) e ∙ sym (ap (λ (b : Bool). cond b (f r) r) e))
+    (sym (map-elsewhere k f rs (none-later k r rs h e)))
+set-at-key k f (r ∷ rs) (suc i) h x =
+    let l : suc i < suc (length rs) = x .within in
+    let m : listsKey k rs ≡ true = lists-at k rs i (omega arith) (x .key) in
+    let e : sameKey (r .key) k ≡ false = apart r rs k h m in
+    let y : FoundAt k rs i = record {
+      within = omega arith;
+      line = x .line ∙ ap (λ (b : Bool). cond b r (lineOf k rs)) e;
+      listed = m;
+      key = x .key;
+    } in
+    ap₂ _∷_ (sym (ap (λ (b : Bool). cond b (f r) r) e))
+    (ap (λ (b : Bool). set rs i (f (cond b r (lineOf k rs)))) e
+    ∙ set-at-key k f rs i (and-snd (inOrder r rs) (rising rs) h) y)
+
+-- The bytes.
+
+whole-lines : (s : List ℕ) → recordsAccepted s ≡ true → length s ≡ length s / 98 * 98
+unfolding recordsAccepted linesSet linesOf
+whole-lines s a = search tests
+
+-- the line at a place replaced
+pub line-replaced : (s : List ℕ) (i : ℕ) (r : Record) → recordsAccepted s ≡ true → i < length (records s) → goodAlone r ≡ true → r .key ≡ getD (records s) i noRecord .key → (over s (i * 98) (recordText r) ≡ recordsText (set (records s) i r)) × (recordsAccepted (over s (i * 98) (recordText r)) ≡ true)
+line-replaced s i r a l g e =
+    let n : i < length s / 98 = omega (arith, length-records s) in
+    let b : recordsAccepted (over s (i * 98) (recordText r)) ≡ true = accepted-over s i r noRecord a n g e in (
+      sym (sheet-written-read (over s (i * 98) (recordText r)) b)
+          ∙ ap recordsText (records-over s i r n (good-ranged r g) (whole-lines s a)),
+      b,
+    )
+
+-- the decision of an issued number replaced
+pub decision-replaced : (s : List ℕ) (i : ℕ) (d : Decision) → coordinatorAccepted s ≡ true → i < coordinatorOf s .issued → (over s (suc i * 15) (decisionText (suc i) d) ≡ coordinatorText (withDecision (suc i) d (coordinatorOf s))) × (coordinatorAccepted (over s (suc i * 15) (decisionText (suc i) d)) ≡ true)
+decision-replaced s i d a l =
+    let p : Accepted s = accepted-parts s a in
+    let b = bounds (coordinatorOf s) (p .good) in
+    let few : length (coordinatorOf s .decisions) ≤ 999 = b .few in
+    let most : coordinatorOf s .issued ≤ length (coordinatorOf s .decisions) = b .issued in
+    let count : length (coordinatorOf s .decisions) ≡ length (drop 15 s) / 15 = length-decisions s in
+    let c : coordinatorAccepted (over s (suc i * 15) (decisionText (suc i) d)) ≡ true = accepted-decided s i d a l in (
+      sym (coordinator-written-read (over s (suc i * 15) (decisionText (suc i) d)) c)
+          ∙ ap coordinatorText (coordinator-over s i d (accepted-length s a) (omega arith) (omega arith) (p .whole)),
+      c,
+    )
+
+-- one more number issued
+pub count-raised : (s : List ℕ) → coordinatorAccepted s ≡ true → coordinatorOf s .issued < length (coordinatorOf s .decisions) → (over s 0 (fieldText 4 (suc (coordinatorOf s .issued))) ≡ coordinatorText (withIssued (suc (coordinatorOf s .issued)) (coordinatorOf s))) × (coordinatorAccepted (over s 0 (fieldText 4 (suc (coordinatorOf s .issued)))) ≡ true)
+count-raised s a l =
+    let p : Accepted s = accepted-parts s a in
+    let few : length (coordinatorOf s .decisions) ≤ 999 = bounds (coordinatorOf s) (p .good) .few in
+    let c : coordinatorAccepted (over s 0 (fieldText 4 (suc (coordinatorOf s .issued)))) ≡ true = accepted-raised s a l in (
+      sym (coordinator-written-read (over s 0 (fieldText 4 (suc (coordinatorOf s .issued)))) c)
+          ∙ ap coordinatorText (coordinator-counted s (suc (coordinatorOf s .issued)) (accepted-length s a) (omega arith)),
+      c,
+    )
