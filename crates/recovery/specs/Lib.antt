@@ -6,3 +6,4 @@ pub mod Puts
 pub mod OwnWrites
 pub mod Invariant
 pub mod Stages
+pub mod Advance
