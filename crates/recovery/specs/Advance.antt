@@ -117,6 +117,14 @@ only-aborted Undecided h = absurd (true≢false h)
 only-aborted Committed h = absurd (true≢false h)
 only-aborted Aborted h = refl
 
+-- a verdict that stays commits nothing
+pub never-both : (x : ℕ) → (eqb x 0 && eqb x 1) ≡ false
+never-both x = go (eqb x 0) refl
+  where
+    go : (b : Bool) → eqb x 0 ≡ b → (b && eqb x 1) ≡ false
+    go true e = ne-eqb x 1 (λ q. omega (arith, eqb-true x 0 e, q))
+    go false e = refl
+
 module _ (s : Sheets) (m : Model) (t : Transaction) (good : GoodSheets s) (view : View s m) (known : Remembered s m t) where
   -- "an accepted call that takes a transaction with verdict none and returns it committed"
   unfoldable pub afterStep : Transaction → Model
@@ -132,7 +140,7 @@ module _ (s : Sheets) (m : Model) (t : Transaction) (good : GoodSheets s) (view 
   stage = well-formed-parts s t (known .formed) .1
 
   -- A step that commits nothing in the model.
-  plain : (w : Write) (t′ : Transaction) → (eqb (t .verdict) 0 && eqb (t′ .verdict) 1) ≡ false → Gentle s w → ((j : ℕ) → (j ≡ t .number → ⊥) → Away s j w) → t′ .number ≡ t .number → held t′ ≡ held t → (t′ .phase ≤ 3 → Memory (apply w s) t′) → Moves s m t w (afterStep t′) t′
+  pub plain : (w : Write) (t′ : Transaction) → (eqb (t .verdict) 0 && eqb (t′ .verdict) 1) ≡ false → Gentle s w → ((j : ℕ) → (j ≡ t .number → ⊥) → Away s j w) → t′ .number ≡ t .number → held t′ ≡ held t → (t′ .phase ≤ 3 → Memory (apply w s) t′) → Moves s m t w (afterStep t′) t′
   unfolding afterStep
   plain w t′ c g a n h mem =
       subst (λ (x : Model). Moves s m t w x t′) (sym (ap (λ (b : Bool). cond b (modelCommit (t .number) m) m) c))
@@ -160,19 +168,16 @@ module _ (s : Sheets) (m : Model) (t : Transaction) (good : GoodSheets s) (view 
       })
 
   -- a move to another stage with nothing written, and nothing committed
-  moves : (phase place verdict : ℕ) → (eqb (t .verdict) 0 && eqb verdict 1) ≡ false → (phase ≤ 3 → Memory (apply nothing s) (moved phase place verdict t)) → StepMoves (record { transaction = moved phase place verdict t; write = nothing })
+  pub moves : (phase place verdict : ℕ) → (eqb (t .verdict) 0 && eqb verdict 1) ≡ false → (phase ≤ 3 → Memory (apply nothing s) (moved phase place verdict t)) → StepMoves (record { transaction = moved phase place verdict t; write = nothing })
   unfolding held
   moves phase place verdict c mem =
       plain nothing (moved phase place verdict t) c gentle-nothing (λ j d. away-nothing) refl refl mem
 
-  no-verdict-yet : t .verdict ≡ noVerdict → (eqb (t .verdict) 0 && eqb (t .verdict) 1) ≡ false
-  no-verdict-yet v = ap (λ (x : ℕ). eqb x 0 && eqb x 1) v
-
   aborted-verdict : (eqb (t .verdict) 0 && eqb abortedVerdict 1) ≡ false
   aborted-verdict = and-false (eqb (t .verdict) 0)
 
-  withdraws : t .verdict ≡ noVerdict → StepMoves (to withdrawPhase t)
-  withdraws v = moves withdrawPhase 0 (t .verdict) (no-verdict-yet v) (λ l. absurd (omega arith))
+  pub withdraws : StepMoves (to withdrawPhase t)
+  withdraws = moves withdrawPhase 0 (t .verdict) (never-both (t .verdict)) (λ l. absurd (omega arith))
 
   -- the memory of a stage with the same columns done, and nothing written
   memory-at : (phase place verdict : ℕ) → t .phase ≤ 3 → ((k : Key) → doneAt (unitsOf s) (moved phase place verdict t) k ≡ doneAt (unitsOf s) t k) → Memory (apply nothing s) (moved phase place verdict t)
@@ -199,7 +204,7 @@ module _ (s : Sheets) (m : Model) (t : Transaction) (good : GoodSheets s) (view 
       choose-by StepMoves (isEmpty (puts t))
       (λ e. choose-by StepMoves (isEmpty (toValidate t))
       (λ f. commits-nothing v e)
-      (λ f. moves validatePhase 0 (t .verdict) (no-verdict-yet v)
+      (λ f. moves validatePhase 0 (t .verdict) (never-both (t .verdict))
       (λ l. memory-at validatePhase 0 (t .verdict) early
       (λ k. done-in-validate (unitsOf s) (moved validatePhase 0 (t .verdict) t) refl k
       ∙ (put-in-empty k (held t) e ∙ sym (done-in-open (unitsOf s) t ph k))))))
@@ -209,8 +214,8 @@ module _ (s : Sheets) (m : Model) (t : Transaction) (good : GoodSheets s) (view 
       commits-it (commit (t .number) (groupAt t s)) (commits t) (ap (λ (x : ℕ). eqb x 0 && true) v)
       (one-phase-view s good t m (known .sets) may z (eqb-true (groupsOf t s) 1 (and-fst (eqb (groupsOf t s) 1) (not (isSerializable t)) f)) view)
       (λ j d. away-commit (t .number) (groupAt t s) may) refl refl (λ l. absurd (omega arith)))
-      (λ h. withdraws v))
-      (λ f. moves preparePhase 0 (t .verdict) (no-verdict-yet v)
+      (λ h. withdraws))
+      (λ f. moves preparePhase 0 (t .verdict) (never-both (t .verdict))
       (λ l. memory-at preparePhase 0 (t .verdict) early
       (λ k. done-in-prepare (unitsOf s) (moved preparePhase 0 (t .verdict) t) refl k
       ∙ (done-none k ∙ sym (done-in-open (unitsOf s) t ph k))))))
@@ -244,21 +249,21 @@ module _ (s : Sheets) (m : Model) (t : Transaction) (good : GoodSheets s) (view 
       (λ h. let may : MayPutAll s (t .number) (groupAt t s) = may-put s good t body h in
       let gentle : Gentle s w = gentle-prepare (t .number) now (groupAt t s) (mem .undone) may in
       choose-by (λ (u : Transaction). StepMoves (record { transaction = u; write = w })) (ltb (t .place + 1) (groupsOf t s))
-      (λ l. plain w (moved (t .phase) (t .place + 1) (t .verdict) t) (no-verdict-yet v) gentle
+      (λ l. plain w (moved (t .phase) (t .place + 1) (t .verdict) t) (never-both (t .verdict)) gentle
       (λ j d. away-prepare (t .number) now (groupAt t s) (λ e. d (sym e)) may) refl refl
       (λ q. prepared-memory now ph (moved (t .phase) (t .place + 1) (t .verdict) t) refl
       (λ k. done-in-prepare (unitsOf s) (moved (t .phase) (t .place + 1) (t .verdict) t) ph k)))
       (λ l. let last : groupCount (unitsOf s) (puts t) ≡ t .place + 1 = let x : groupsOf t s ≤ t .place + 1 = ltb-false (t .place + 1) (groupsOf t s) l in omega arith in
       choose-by (λ (p : ℕ). StepMoves (record { transaction = moved p 0 (t .verdict) t; write = w })) (isEmpty (toValidate t))
-      (λ e. plain w (moved decidePhase 0 (t .verdict) t) (no-verdict-yet v) gentle
+      (λ e. plain w (moved decidePhase 0 (t .verdict) t) (never-both (t .verdict)) gentle
       (λ j d. away-prepare (t .number) now (groupAt t s) (λ q. d (sym q)) may) refl refl
       (λ q. prepared-memory now ph (moved decidePhase 0 (t .verdict) t) refl
       (λ k. done-in-decide (unitsOf s) (moved decidePhase 0 (t .verdict) t) refl k ∙ all-to last k)))
-      (λ e. plain w (moved validatePhase 0 (t .verdict) t) (no-verdict-yet v) gentle
+      (λ e. plain w (moved validatePhase 0 (t .verdict) t) (never-both (t .verdict)) gentle
       (λ j d. away-prepare (t .number) now (groupAt t s) (λ q. d (sym q)) may) refl refl
       (λ q. prepared-memory now ph (moved validatePhase 0 (t .verdict) t) refl
       (λ k. done-in-validate (unitsOf s) (moved validatePhase 0 (t .verdict) t) refl k ∙ all-to last k)))))
-      (λ h. withdraws v)
+      (λ h. withdraws)
     where
       all-to : groupCount (unitsOf s) (puts t) ≡ t .place + 1 → (k : Key) → putIn k (held t) ≡ doneTo (unitsOf s) t (t .place + 1) k
       all-to last k = sym (all-done (unitsOf s) t k) ∙ ap (λ (n : ℕ). doneTo (unitsOf s) t n k) last
@@ -271,28 +276,21 @@ module _ (s : Sheets) (m : Model) (t : Transaction) (good : GoodSheets s) (view 
       let early : t .phase ≤ 3 = omega arith in
       choose-by StepMoves (holds (s .lines) (getD (toValidate t) (t .place) noEntry))
       (λ h. choose-by (λ (u : Transaction). StepMoves (record { transaction = u; write = nothing })) (ltb (t .place + 1) (length (toValidate t)))
-      (λ l. moves validatePhase (t .place + 1) (t .verdict) (no-verdict-yet v)
+      (λ l. moves validatePhase (t .place + 1) (t .verdict) (never-both (t .verdict))
       (λ q. memory-at validatePhase (t .place + 1) (t .verdict) early
       (λ k. done-in-validate (unitsOf s) (moved validatePhase (t .place + 1) (t .verdict) t) refl k ∙ sym (done-in-validate (unitsOf s) t ph k))))
       (λ l. choose-by (λ (u : Transaction). StepMoves (record { transaction = u; write = nothing })) (isEmpty (puts t))
       (λ e. commits-nothing v e)
-      (λ e. moves decidePhase 0 (t .verdict) (no-verdict-yet v)
+      (λ e. moves decidePhase 0 (t .verdict) (never-both (t .verdict))
       (λ q. memory-at decidePhase 0 (t .verdict) early
       (λ k. done-in-decide (unitsOf s) (moved decidePhase 0 (t .verdict) t) refl k ∙ sym (done-in-validate (unitsOf s) t ph k))))))
-      (λ h. withdraws v)
+      (λ h. withdraws)
 
   -- the transaction as it is
-  stays : StepMoves (noStep t)
+  pub stays : StepMoves (noStep t)
   stays =
       plain nothing t (never-both (t .verdict)) gentle-nothing (λ j d. away-nothing) refl refl
       (λ l. memory-kept s t nothing good away-nothing (known .memory l))
-    where
-      never-both : (x : ℕ) → (eqb x 0 && eqb x 1) ≡ false
-      never-both x = go (eqb x 0) refl
-        where
-          go : (b : Bool) → eqb x 0 ≡ b → (b && eqb x 1) ≡ false
-          go true e = ne-eqb x 1 (λ q. omega (arith, eqb-true x 0 e, q))
-          go false e = refl
 
   -- Decide.
   decide-moves : t .phase ≡ 3 → StepMoves (decideStep t s)

@@ -7,3 +7,4 @@ pub mod OwnWrites
 pub mod Invariant
 pub mod Stages
 pub mod Advance
+pub mod Calls

@@ -98,7 +98,7 @@ pub not-prepared : (j : ℕ) (r : Record) → isPrepared r ≡ false → prepare
 unfolding preparedColumns preparedBy
 not-prepared j r p = rw p
 
-other-owner : (j : ℕ) (r : Record) → (r .image .txid ≡ j → ⊥) → preparedColumns j r ≡ none
+pub other-owner : (j : ℕ) (r : Record) → (r .image .txid ≡ j → ⊥) → preparedColumns j r ≡ none
 unfolding preparedColumns preparedBy
 other-owner j r n =
     let e : eqb (r .image .txid) j ≡ false = ne-eqb (r .image .txid) j n in

@@ -1,0 +1,269 @@
+-- Every call keeps the invariant of a history. A refused call changes nothing; a visit makes a gentle write; begin adds a state of a new number; read, put,
+-- abort and advance replace the state that they take.
+use Prim.Native.Nat.{ℕ, zero, suc, _+_, _≤_, _<_}
+use mathlib.Core.Path.{_≡_, refl, sym, ap, ap₂, _∙_, subst}
+use mathlib.Core.Bool.{Bool, true, false, _&&_, not, cond, true≢false}
+use mathlib.Core.List.{List, [], _∷_}
+use mathlib.Core.Option.{Option, none, some}
+use native.Mathlib.Omega.{arith}
+use native.Mathlib.Numerals.{add-one}
+use lib.ListN.{length, take, drop, getD, set}
+use lib.Dec.{eqb, leb}
+use borrow.Author.Tests.{not-false, eqb-true, eqb-false, eq-eqb, ne-eqb}
+use Rattle.lists.specs.Each.{all}
+use Rattle.lists.specs.Tests.{and-fst, and-snd, choose-by, tests}
+use Rattle.types.specs.declared.Decision.{Decision}
+use Rattle.types.specs.declared.Decision.the-variants.{Undecided, Committed, Aborted}
+use Rattle.types.specs.declared.Key.{Key}
+use Rattle.types.specs.declared.Columns.{Columns}
+use Rattle.types.specs.declared.Entry.{Entry}
+use Rattle.types.specs.declared.Record.{Record}
+use Rattle.types.specs.declared.Transaction.{Transaction}
+use Rattle.types.specs.declared.Found.{Found}
+use Rattle.types.specs.declared.Found.the-variants.{Nothing}
+use Rattle.types.specs.declared.Recovery.{Recovery}
+use Rattle.model.specs.Records.{sameKey, lineOf, hasLine, keyInRange, isMissing, byFound}
+use Rattle.model.specs.Coordinator.{Coordinator, decision, isUndecided, coordinatorGood}
+use Rattle.model.specs.Writes.{Sheets, Write, nothing, issue, lineAfter, decisionsAfter, apply}
+use Rattle.model.specs.WellFormed.{columnsInRange, wellFormed}
+use Rattle.model.specs.Visits.{ownerDecision, ownerExpired, meeting, isAgain, recovered, recoveryWrite}
+use Rattle.model.specs.Results.{Call, begin, read, put, advance, abort, visit, Result, refused, made, writeOf}
+use Rattle.model.specs.Transactions.{withdrawPhase, isPut, held, noEntry, heldAt, entryAs, withPut, moved, withEntry}
+use Rattle.model.specs.Conditions.{isNew, cannotAdvance, conditions}
+use Rattle.model.specs.Steps.{unitsOf, step}
+use Rattle.model.specs.Calls.{
+  newTransaction,
+  readNew,
+  holding,
+  afterPut,
+  beginResult,
+  readResult,
+  putResult,
+  advanceResult,
+  abortResult,
+  visitResult,
+}
+use Rattle.model.specs.Histories.{Event, Answer, returned, visited, answerOf, readAnswered, given, returns, takenBy, Available}
+use Rattle.model.specs.SequentialModel.{Model, modelBegin, modelPut, modelCommit, modelCall, modelStep}
+use Rattle.call_laws.specs.Choices.{unless-by, not-first, by-meeting}
+use Rattle.call_laws.specs.Lines.{listsKey}
+use Rattle.call_laws.specs.Sheets.{GoodSheets}
+use Rattle.call_laws.specs.Transactions.{well-formed-parts}
+use Rattle.call_laws.specs.Entries.{HeldAt, held-by, getD-first}
+use Rattle.recovery.specs.Settling.{
+  Gentle,
+  gentle-nothing,
+  gentle-issue,
+  gentle-abort,
+  gentle-forward,
+  gentle-back,
+  issued-decision,
+  undecided-committed,
+}
+use Rattle.recovery.specs.View.{View, line-at, listed-before, line-after, gentle-view}
+use Rattle.recovery.specs.Memory.{putIn, preparedColumns, Memory, other-owner, memory-kept, Away, away-nothing, away-issue, away-abort, away-forward, away-back}
+use Rattle.recovery.specs.Advance.{never-both, afterStep, plain, withdraws, stays, step-moves}
+use Rattle.recovery.specs.Puts.{put-in-more, put-in-replaced, take-set}
+use Rattle.recovery.specs.Stages.{memory-as, done-in-open}
+use Rattle.recovery.specs.Invariant.{Remembered, Inv, Moves, inv-taken, inv-free, inv-begun}
+
+-- What a visit of a line writes is gentle, and away from every number.
+pub record VisitWrites (s : Sheets) (v : Recovery) (r : Record) : Type 0 where
+  pub gentle : Gentle s (recoveryWrite v r)
+  pub away : (j : ℕ) → Away s j (recoveryWrite v r)
+
+pub visit-writes : (s : Sheets) (now : ℕ) (r : Record) → VisitWrites s (meeting now (s .coordinator) r) r
+unfolding meeting recoveryWrite
+visit-writes s now r =
+    by-meeting (λ (v : Recovery). VisitWrites s v r) r (ownerDecision r (s .coordinator)) (ownerExpired now r)
+    (λ p. record { gentle = gentle-nothing; away = λ j. away-nothing })
+    (λ p d. record {
+      gentle = gentle-forward (r .image .txid) (r .key ∷ []) d;
+      away = λ j. away-forward (r .image .txid) (r .key ∷ []) (λ e. ap (λ (x : ℕ). decision x (s .coordinator)) (sym e) ∙ d);
+    })
+    (λ p d. record {
+      gentle = gentle-back (r .image .txid) (r .key ∷ []) d;
+      away = λ j. away-back (r .image .txid) (r .key ∷ []) (λ e. ap (λ (x : ℕ). decision x (s .coordinator)) (sym e) ∙ d);
+    })
+    (λ p d x. record { gentle = gentle-abort (r .image .txid) d; away = λ j. away-abort (r .image .txid) })
+    (λ p d x. record { gentle = gentle-nothing; away = λ j. away-nothing })
+
+-- lines above the issued count are undecided
+undecided-from : (ds : List Decision) (n i : ℕ) → n ≤ i → all isUndecided (drop n ds) ≡ true → getD ds i Undecided ≡ Undecided
+unfolding all isUndecided
+undecided-from [] n i l h = refl
+undecided-from (Undecided ∷ ds) zero zero l h = refl
+undecided-from (Committed ∷ ds) zero zero l h = absurd (true≢false (sym h))
+undecided-from (Aborted ∷ ds) zero zero l h = absurd (true≢false (sym h))
+undecided-from (d ∷ ds) zero (suc i) l h = undecided-from ds zero i (omega arith) (and-snd (isUndecided d) (all isUndecided ds) h)
+undecided-from (d ∷ ds) (suc n) zero l h = absurd (omega arith)
+undecided-from (d ∷ ds) (suc n) (suc i) l h = undecided-from ds n i (omega arith) h
+
+pub above-undecided : (c : Coordinator) → coordinatorGood c ≡ true → (n : ℕ) → c .issued < n → decision n c ≡ Undecided
+unfolding decision coordinatorGood
+above-undecided c h zero l = refl
+above-undecided c h (suc n) l =
+    let d : all isUndecided (drop (c .issued) (c .decisions)) ≡ true = search tests in
+    undecided-from (c .decisions) (c .issued) n (omega arith) d
+
+missing-none : isMissing Nothing ≡ false → ⊥
+unfolding isMissing
+missing-none q = true≢false q
+
+module _ (s : Sheets) (es : List Event) (m : Model) (inv : Inv s es m) where
+  abbrev eventOf : {A : Type 0} → Call → (A → Answer) → Result A → Event
+  eventOf c f r = record { call = c; answer = answerOf f r }
+
+  -- A result keeps the invariant, if it leaves good sheets and a well-formed transaction, and takes a state that may be handed on.
+  abbrev pub Kept : {A : Type 0} → Call → (A → Answer) → Result A → Type 0
+  Kept c f r =
+      GoodSheets (apply (writeOf r) s)
+      → ((u : Transaction) → returns (answerOf f r) ≡ some u → wellFormed (apply (writeOf r) s) u ≡ true)
+      → ((u : Transaction) → takenBy c (answerOf f r) ≡ some u → Available u es)
+      → Inv (apply (writeOf r) s) (eventOf c f r ∷ es) (modelStep (eventOf c f r) m)
+
+  pub kept-refused : {A : Type 0} (c : Call) (f : A → Answer) (n : ℕ) → Kept c f (refused n)
+  unfolding modelStep returns
+  kept-refused c f n g w a =
+      inv-free s es m nothing _ inv refl g (gentle-view s m nothing (inv .good) gentle-nothing (inv .view)) (λ j. away-nothing)
+
+  pub visit-kept : (k : Key) (now : ℕ) → Kept (visit k now) visited (visitResult k now s)
+  unfolding visitResult modelStep returns
+  visit-kept k now =
+      unless-by (Kept (visit k now) visited) (conditions (visit k now) s) (kept-refused (visit k now) visited _)
+      (λ z g w a. let v : VisitWrites s (meeting now (s .coordinator) (lineOf k (s .lines))) (lineOf k (s .lines)) = visit-writes s now (lineOf k (s .lines)) in
+      inv-free s es m (recoveryWrite (meeting now (s .coordinator) (lineOf k (s .lines))) (lineOf k (s .lines))) _ inv refl g
+      (gentle-view s m _ (inv .good) (v .gentle) (inv .view)) (v .away))
+
+  pub advance-kept : (t : Transaction) (now : ℕ) → Kept (advance t now) returned (advanceResult t now s)
+  unfolding advanceResult conditions modelStep modelCall returns given afterStep
+  advance-kept t now =
+      unless-by (Kept (advance t now) returned) (conditions (advance t now) s) (kept-refused (advance t now) returned _)
+      (λ z g w a. let ok : cannotAdvance t s ≡ false = not-first 4 (cannotAdvance t s) [] (omega arith) (not-first 3 (not (wellFormed s t)) _ (omega arith) z .1) .0 in
+      inv-taken s es m _ t (step t now s .transaction) (step t now s .write) _ inv (a t refl) refl refl g (w (step t now s .transaction) refl)
+      (step-moves s m t (inv .good) (inv .view) (inv .known t (a t refl)) now ok))
+
+  pub abort-kept : (t : Transaction) → Kept (abort t) returned (abortResult t s)
+  unfolding abortResult modelStep modelCall returns given afterStep
+  abort-kept t =
+      unless-by (Kept (abort t) returned) (conditions (abort t) s) (kept-refused (abort t) returned _)
+      (λ z g w a. inv-taken s es m _ t (moved withdrawPhase 0 (t .verdict) t) nothing _ inv (a t refl) refl refl g (w (moved withdrawPhase 0 (t .verdict) t) refl)
+      (withdraws s m t (inv .good) (inv .view) (inv .known t (a t refl))))
+
+  -- Begin.
+
+  new-undecided : decision (s .coordinator .issued + 1) (s .coordinator) ≡ Undecided
+  new-undecided = above-undecided (s .coordinator) (inv .good .decisions) (s .coordinator .issued + 1) (omega arith)
+
+  -- nobody has prepared a line under a new number
+  begin-memory : (b : Bool) → Memory (apply issue s) (newTransaction (s .coordinator .issued + 1) b)
+  unfolding apply decisionsAfter lineAfter
+  begin-memory b =
+      record {
+        undone = λ e. undecided-committed (sym new-undecided ∙ (sym (issued-decision (s .coordinator .issued + 1) (s .coordinator .issued + 1) (s .coordinator)) ∙ e));
+        columns = λ e k h. let l : listsKey k (s .lines) ≡ true = listed-before s issue k h in
+            let x : lineOf k (s .lines) .image .txid ≤ s .coordinator .issued = line-at s (inv .good) k l .good .txid in
+            ap (preparedColumns (s .coordinator .issued + 1)) (line-after s issue k l)
+            ∙ (other-owner (s .coordinator .issued + 1) (lineOf k (s .lines)) (λ q. omega (arith, x, q))
+            ∙ sym (done-in-open (unitsOf (apply issue s)) (newTransaction (s .coordinator .issued + 1) b) refl k));
+      }
+
+  begin-sets : (b : Bool) (k : Key) → modelBegin (s .coordinator .issued + 1) m .writes (s .coordinator .issued + 1) k ≡ putIn k (held (newTransaction (s .coordinator .issued + 1) b))
+  unfolding modelBegin held putIn
+  begin-sets b k =
+      ap (λ (x : Bool). cond x (λ (i : Key). none) (m .writes (s .coordinator .issued + 1)) k) (eq-eqb (s .coordinator .issued + 1) (s .coordinator .issued + 1) refl)
+
+  pub begin-kept : (b : Bool) → Kept (begin b) returned (beginResult b s)
+  unfolding beginResult modelStep modelCall modelBegin returns
+  begin-kept b =
+      unless-by (Kept (begin b) returned) (conditions (begin b) s) (kept-refused (begin b) returned _)
+      (λ z g w a. inv-begun s es m (modelBegin (s .coordinator .issued + 1) m) (newTransaction (s .coordinator .issued + 1) b) issue _ inv (omega arith) refl g
+      (gentle-view s m issue (inv .good) gentle-issue (inv .view)) (λ j. away-issue)
+      (λ j k d. let e : eqb j (s .coordinator .issued + 1) ≡ false = ne-eqb j (s .coordinator .issued + 1) d in
+      ap (λ (x : Bool). cond x (λ (i : Key). none) (m .writes j) k) e)
+      (record {
+        formed = w (newTransaction (s .coordinator .issued + 1) b) refl;
+        sets = begin-sets b;
+        memory = λ l. begin-memory b;
+      }))
+
+  -- Put.
+
+  put-moves : (t : Transaction) (k : Key) (c : Columns) (i : ℕ) → Remembered s m t → t .phase ≡ 0 → HeldAt k (held t) noEntry i → Moves s m t nothing (modelPut (t .number) k c m) (withEntry (t .count) i (withPut c (getD (t .entries) i noEntry)) t)
+  unfolding modelPut held
+  put-moves t k c i known ph x =
+      let y = getD (t .entries) i noEntry in
+      let same : getD (held t) i noEntry ≡ y = getD-first (t .count) (t .entries) i noEntry (x .within) in
+      let t′ = withEntry (t .count) i (withPut c y) t in
+      record {
+        view = gentle-view s m nothing (inv .good) gentle-nothing (inv .view);
+        number = refl;
+        sets = λ j. ap (λ (b : Bool). cond (b && sameKey k j) (some c) (m .writes (t .number) j)) (eq-eqb (t .number) (t .number) refl)
+            ∙ (ap (cond (sameKey k j) (some c)) (known .sets j)
+            ∙ sym (ap (putIn j) (take-set (t .count) i (withPut c y) (t .entries))
+            ∙ put-in-replaced k j (withPut c y) noEntry i (held t) (well-formed-parts s t (known .formed) .0 .distinct) (x .within) (x .key)
+            (ap (λ (e : Entry). e .key) (sym same) ∙ x .key) refl));
+        memory = λ l. memory-kept s t′ nothing (inv .good) away-nothing
+            (memory-as s t t′ refl (λ j. done-in-open (unitsOf s) t′ ph j ∙ sym (done-in-open (unitsOf s) t ph j)) (known .memory (omega arith)));
+        away = λ j d. away-nothing;
+        others = λ j i d. let e : eqb j (t .number) ≡ false = ne-eqb j (t .number) d in
+            ap (λ (b : Bool). cond (b && sameKey k i) (some c) (m .writes j i)) e;
+      }
+
+  pub put-kept : (t : Transaction) (k : Key) (c : Columns) → Kept (put t k c) returned (putResult t k c s)
+  unfolding putResult conditions modelStep modelCall returns given afterPut heldAt
+  put-kept t k c =
+      unless-by (Kept (put t k c) returned) (conditions (put t k c) s) (kept-refused (put t k c) returned _)
+      (λ z g w a. let c3 = not-first 3 (not (wellFormed s t)) _ (omega arith) z in
+      let c4 = not-first 4 (not (eqb (t .phase) 0)) _ (omega arith) (c3 .1) in
+      let c5 = not-first 5 (not (keyInRange k)) _ (omega arith) (c4 .1) in
+      let c6 = not-first 6 (not (hasLine k (s .lines))) _ (omega arith) (c5 .1) in
+      let c7 = not-first 7 (not (columnsInRange c)) _ (omega arith) (c6 .1) in
+      let c10 = not-first 10 (isNew k t) _ (omega arith) (c7 .1) in
+      let ph : t .phase ≡ 0 = eqb-true (t .phase) 0 (not-false (eqb (t .phase) 0) (c4 .0)) in
+      inv-taken s es m _ t (afterPut t k c) nothing _ inv (a t refl) refl refl g (w (afterPut t k c) refl)
+      (held-by
+      (λ (f : Found). isMissing f ≡ false → Moves s m t nothing (modelPut (t .number) k c m) (byFound f t (λ (i : ℕ). withEntry (t .count) i (withPut c (getD (t .entries) i noEntry)) t)))
+      k (held t) noEntry
+      (λ n q. absurd (missing-none q))
+      (λ i x q. put-moves t k c i (inv .known t (a t refl)) ph x)
+      (c10 .0)))
+
+  -- Read.
+
+  -- one more entry, without a put, in open
+  read-moves : (t : Transaction) (e : Entry) (w : Write) → Remembered s m t → t .phase ≡ 0 → isPut e ≡ false → Gentle s w → ((j : ℕ) → Away s j w) → Moves s m t w (cond (eqb (t .verdict) 0 && eqb (t .verdict) 1) (modelCommit (t .number) m) m) (holding e t)
+  unfolding held
+  read-moves t e w known ph p gentle away =
+      subst (λ (x : Model). Moves s m t w x (holding e t)) (sym (ap (λ (b : Bool). cond b (modelCommit (t .number) m) m) (never-both (t .verdict))))
+      (record {
+        view = gentle-view s m w (inv .good) gentle (inv .view);
+        number = refl;
+        sets = λ k. known .sets k
+            ∙ sym (ap (λ (n : ℕ). putIn k (take n (set (t .entries) (t .count) e))) (add-one (t .count)) ∙ put-in-more k e p (t .count) (t .entries));
+        memory = λ l. memory-kept s (holding e t) w (inv .good) (away (t .number))
+            (memory-as s t (holding e t) refl (λ j. done-in-open (unitsOf s) (holding e t) ph j ∙ sym (done-in-open (unitsOf s) t ph j)) (known .memory (omega arith)));
+        away = λ j d. away j;
+        others = λ j i d. refl;
+      })
+
+  pub read-kept : (t : Transaction) (k : Key) (now : ℕ) → Kept (read t k now) readAnswered (readResult t k now s)
+  unfolding readResult conditions readNew modelStep modelCall returns given afterStep
+  read-kept t k now =
+      unless-by (Kept (read t k now) readAnswered) (conditions (read t k now) s) (kept-refused (read t k now) readAnswered _)
+      (λ z. let c3 = not-first 3 (not (wellFormed s t)) _ (omega arith) z in
+      let c4 = not-first 4 (not (eqb (t .phase) 0)) _ (omega arith) (c3 .1) in
+      let ph : t .phase ≡ 0 = eqb-true (t .phase) 0 (not-false (eqb (t .phase) 0) (c4 .0)) in
+      let r = lineOf k (s .lines) in
+      let v = meeting now (s .coordinator) r in
+      let vw : VisitWrites s v r = visit-writes s now r in
+      choose-by (Kept (read t k now) readAnswered) (isNew k t)
+      (λ n. choose-by (Kept (read t k now) readAnswered) (isAgain v)
+      (λ x g w a. inv-taken s es m _ t t (recoveryWrite v r) _ inv (a t refl) refl refl g (w t refl)
+      (plain s m t (inv .good) (inv .view) (inv .known t (a t refl)) (recoveryWrite v r) t (never-both (t .verdict)) (vw .gentle) (λ j d. vw .away j) refl refl
+      (λ l. memory-kept s t (recoveryWrite v r) (inv .good) (vw .away (t .number)) (inv .known t (a t refl) .memory l))))
+      (λ x g w a. let e = entryAs (r .key) (recovered v r .image) in
+      inv-taken s es m _ t (holding e t) (recoveryWrite v r) _ inv (a t refl) refl refl g (w (holding e t) refl)
+      (read-moves t e (recoveryWrite v r) (inv .known t (a t refl)) ph refl (vw .gentle) (vw .away))))
+      (λ n g w a. inv-taken s es m _ t t nothing _ inv (a t refl) refl refl g (w t refl)
+      (stays s m t (inv .good) (inv .view) (inv .known t (a t refl)))))
