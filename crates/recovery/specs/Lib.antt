@@ -8,3 +8,4 @@ pub mod Invariant
 pub mod Stages
 pub mod Advance
 pub mod Calls
+pub mod History
