@@ -9,3 +9,4 @@ pub mod Stages
 pub mod Advance
 pub mod Calls
 pub mod History
+pub mod Pass

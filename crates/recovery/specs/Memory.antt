@@ -146,7 +146,7 @@ unfolding decision withDecision
 own-undecided zero c e = refl
 own-undecided (suc i) c e = set-undecided (c .decisions) i e
 
-abort-undecided : (c : Coordinator) (i j : ℕ) → decision j (withDecision i Aborted c) ≡ Undecided → decision j c ≡ Undecided
+pub abort-undecided : (c : Coordinator) (i j : ℕ) → decision j (withDecision i Aborted c) ≡ Undecided → decision j c ≡ Undecided
 abort-undecided c i j e = go (eqb i j) refl
   where
     go : (b : Bool) → eqb i j ≡ b → decision j c ≡ Undecided
