@@ -144,3 +144,14 @@ line-passes p k (r ∷ rs) h g =
     go : (b : Bool) → (b || listsKey k rs) ≡ true → (listsKey k rs ≡ true → p (lineOf k rs) ≡ true) → p (cond b r (lineOf k rs)) ≡ true
     go true e f = and-fst (p r) (all p rs) h
     go false e f = f e
+
+-- a map that leaves alone each record that is the line of its key leaves a sheet in order alone
+pub map-lines : (f : Record → Record) (rs : List Record) → rising rs ≡ true → ((r : Record) → listsKey (r .key) rs ≡ true → lineOf (r .key) rs ≡ r → f r ≡ r) → map f rs ≡ rs
+unfolding rising any lineOf
+map-lines f [] h g = refl
+map-lines f (r ∷ rs) h g =
+    ap₂ _∷_
+    (g r (or-left (sameKey (r .key) (r .key)) (listsKey (r .key) rs) (same-key-refl (r .key))) (ap (λ (b : Bool). cond b r (lineOf (r .key) rs)) (same-key-refl (r .key))))
+    (map-lines f rs (and-snd (inOrder r rs) (rising rs) h)
+    (λ x l e. g x (or-right (sameKey (r .key) (x .key)) (listsKey (x .key) rs) l)
+    (ap (λ (b : Bool). cond b r (lineOf (x .key) rs)) (apart r rs (x .key) h l) ∙ e)))

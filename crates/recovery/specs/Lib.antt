@@ -10,3 +10,5 @@ pub mod Advance
 pub mod Calls
 pub mod History
 pub mod Pass
+pub mod Theorem
+pub mod Bytes
