@@ -29,7 +29,7 @@ use Rattle.model.specs.WellFormed.{columnsInRange, wellFormed}
 use Rattle.model.specs.Visits.{ownerDecision, ownerExpired, meeting, isAgain, recovered, recoveryWrite}
 use Rattle.model.specs.Results.{Call, begin, read, put, advance, abort, visit, Result, refused, made, writeOf}
 use Rattle.model.specs.Transactions.{withdrawPhase, isPut, held, noEntry, heldAt, entryAs, withPut, moved, withEntry}
-use Rattle.model.specs.Conditions.{isNew, cannotAdvance, conditions}
+use Rattle.model.specs.Conditions.{isNew, cannotAdvance, cannotAbort, conditions}
 use Rattle.model.specs.Steps.{unitsOf, step}
 use Rattle.model.specs.Calls.{
   newTransaction,
@@ -45,7 +45,7 @@ use Rattle.model.specs.Calls.{
 }
 use Rattle.model.specs.Histories.{Event, Answer, returned, visited, answerOf, readAnswered, given, returns, takenBy, Available}
 use Rattle.model.specs.SequentialModel.{Model, modelBegin, modelPut, modelCommit, modelCall, modelStep}
-use Rattle.call_laws.specs.Choices.{unless-by, not-first, by-meeting}
+use Rattle.call_laws.specs.Choices.{by-phase-of, unless-by, not-first, by-meeting}
 use Rattle.call_laws.specs.Lines.{listsKey}
 use Rattle.call_laws.specs.Sheets.{GoodSheets}
 use Rattle.call_laws.specs.Transactions.{well-formed-parts}
@@ -65,7 +65,7 @@ use Rattle.recovery.specs.Memory.{putIn, preparedColumns, Memory, other-
 use Rattle.recovery.specs.Advance.{never-both, afterStep, plain, withdraws, stays, step-moves}
 use Rattle.recovery.specs.Puts.{put-in-more, put-in-replaced, take-set}
 use Rattle.recovery.specs.Stages.{memory-as, done-in-open}
-use Rattle.recovery.specs.Invariant.{Remembered, Inv, Moves, inv-taken, inv-free, inv-begun}
+use Rattle.recovery.specs.Invariant.{Remembered, quiet, Inv, Moves, inv-taken, inv-free, inv-begun}
 
 -- What a visit of a line writes is gentle, and away from every number.
 pub record VisitWrites (s : Sheets) (v : Recovery) (r : Record) : Type 0 where
@@ -106,6 +106,21 @@ above-undecided c h (suc n) l =
     let d : all isUndecided (drop (c .issued) (c .decisions)) ≡ true = search tests in
     undecided-from (c .decisions) (c .issued) n (omega arith) d
 
+-- abort is for open, prepare, validate and decide
+early-abort : (t : Transaction) → cannotAbort t ≡ false → t .phase ≤ 4
+unfolding cannotAbort
+early-abort t =
+    by-phase-of (λ (x : Bool). x ≡ false → t .phase ≤ 4) (t .phase)
+    (λ e h. omega arith)
+    (λ e h. omega arith)
+    (λ e h. omega arith)
+    (λ e h. omega arith)
+    (λ e h. omega arith)
+    (λ e h. absurd (true≢false h))
+    (λ e h. absurd (true≢false h))
+    (λ e h. absurd (true≢false h))
+    (λ h. absurd (true≢false h))
+
 missing-none : isMissing Nothing ≡ false → ⊥
 unfolding isMissing
 missing-none q = true≢false q
@@ -144,11 +159,12 @@ module _ (s : Sheets) (es : List Event) (m : Model) (inv : Inv s es m) where
       (step-moves s m t (inv .good) (inv .view) (inv .known t (a t refl)) now ok))
 
   pub abort-kept : (t : Transaction) → Kept (abort t) returned (abortResult t s)
-  unfolding abortResult modelStep modelCall returns given afterStep
+  unfolding abortResult conditions modelStep modelCall returns given afterStep
   abort-kept t =
       unless-by (Kept (abort t) returned) (conditions (abort t) s) (kept-refused (abort t) returned _)
       (λ z g w a. inv-taken s es m _ t (moved withdrawPhase 0 (t .verdict) t) nothing _ inv (a t refl) refl refl g (w (moved withdrawPhase 0 (t .verdict) t) refl)
-      (withdraws s m t (inv .good) (inv .view) (inv .known t (a t refl))))
+      (withdraws s m t (inv .good) (inv .view) (inv .known t (a t refl))
+      (early-abort t (not-first 4 (cannotAbort t) [] (omega arith) (not-first 3 (not (wellFormed s t)) _ (omega arith) z .1) .0))))
 
   -- Begin.
 
@@ -208,6 +224,7 @@ module _ (s : Sheets) (es : List Event) (m : Model) (inv : Inv s es m) where
         away = λ j d. away-nothing;
         others = λ j i d. let e : eqb j (t .number) ≡ false = ne-eqb j (t .number) d in
             ap (λ (b : Bool). cond (b && sameKey k i) (some c) (m .writes j i)) e;
+        effect = quiet gentle-nothing refl (λ l. absurd (omega (arith, l, ph)));
       }
 
   pub put-kept : (t : Transaction) (k : Key) (c : Columns) → Kept (put t k c) returned (putResult t k c s)
@@ -245,6 +262,7 @@ module _ (s : Sheets) (es : List Event) (m : Model) (inv : Inv s es m) where
             (memory-as s t (holding e t) refl (λ j. done-in-open (unitsOf s) (holding e t) ph j ∙ sym (done-in-open (unitsOf s) t ph j)) (known .memory (omega arith)));
         away = λ j d. away j;
         others = λ j i d. refl;
+        effect = quiet gentle refl (λ l. absurd (omega (arith, l, ph)));
       })
 
   pub read-kept : (t : Transaction) (k : Key) (now : ℕ) → Kept (read t k now) readAnswered (readResult t k now s)
@@ -260,7 +278,7 @@ module _ (s : Sheets) (es : List Event) (m : Model) (inv : Inv s es m) where
       choose-by (Kept (read t k now) readAnswered) (isNew k t)
       (λ n. choose-by (Kept (read t k now) readAnswered) (isAgain v)
       (λ x g w a. inv-taken s es m _ t t (recoveryWrite v r) _ inv (a t refl) refl refl g (w t refl)
-      (plain s m t (inv .good) (inv .view) (inv .known t (a t refl)) (recoveryWrite v r) t (never-both (t .verdict)) (vw .gentle) (λ j d. vw .away j) refl refl
+      (plain s m t (inv .good) (inv .view) (inv .known t (a t refl)) (recoveryWrite v r) t (never-both (t .verdict)) (vw .gentle) (λ j d. vw .away j) refl refl (λ l. l)
       (λ l. memory-kept s t (recoveryWrite v r) (inv .good) (vw .away (t .number)) (inv .known t (a t refl) .memory l))))
       (λ x g w a. let e = entryAs (r .key) (recovered v r .image) in
       inv-taken s es m _ t (holding e t) (recoveryWrite v r) _ inv (a t refl) refl refl g (w (holding e t) refl)

@@ -7,17 +7,20 @@ use mathlib.Core.List.{List, [], _∷_}
 use mathlib.Core.Option.{Option, none, some, Option·none-ne-some, Option·some-injective}
 use mathlib.Core.Bool.{Bool, true, false}
 use native.Mathlib.Omega.{arith}
+use Rattle.types.specs.declared.Decision.the-variants.{Committed}
 use Rattle.types.specs.declared.Key.{Key}
+use Rattle.types.specs.declared.Entry.{Entry}
 use Rattle.types.specs.declared.Transaction.{Transaction}
 use Rattle.model.specs.Transactions.{held}
-use Rattle.model.specs.Writes.{Sheets, Write, nothing, apply}
+use Rattle.model.specs.Writes.{Sheets, Write, nothing, decide, commit, apply}
 use Rattle.model.specs.WellFormed.{wellFormed}
 use Rattle.model.specs.Results.{Call}
 use Rattle.model.specs.Histories.{Event, Answer, returns, taken, Available}
-use Rattle.model.specs.SequentialModel.{Model}
+use Rattle.model.specs.SequentialModel.{Model, modelCommit}
 use Rattle.call_laws.specs.Sheets.{GoodSheets}
 use Rattle.call_laws.specs.Transactions.{well-formed-parts}
 use Rattle.call_laws.specs.Closure.{formed-after}
+use Rattle.recovery.specs.Settling.{Gentle}
 use Rattle.recovery.specs.View.{View}
 use Rattle.recovery.specs.Memory.{putIn, Memory, Away, memory-kept}
 
@@ -35,6 +38,17 @@ pub record Inv (s : Sheets) (es : List Event) (m : Model) : Type 0 where
   pub known : (t : Transaction) → Available t es → Remembered s m t
   pub unique : (t u : Transaction) → Available t es → Available u es → t .number ≡ u .number → t ≡ u
 
+-- Why a transaction that commits in the model does: by the decision, by its one-phase write, or without a write since it has put nothing.
+pub data Why (m : Model) (n : ℕ) : Write → Type 0 where
+  by-decision : Why m n (decide n Committed)
+  by-one-phase : (es : List Entry) → Why m n (commit n es)
+  by-nothing : ((k : Key) → m .writes n k ≡ none) → Why m n nothing
+
+-- What a call does to the model's committed numbers: nothing, by a gentle write; or its own transaction commits. One that has its verdict puts nothing more.
+pub data Effect (s : Sheets) (m : Model) (t : Transaction) (w : Write) (m′ : Model) (t′ : Transaction) : Type 0 where
+  quiet : Gentle s w → m′ .committed ≡ m .committed → (5 ≤ t .phase → (5 ≤ t′ .phase) × ((k : Key) → m′ .writes (t .number) k ≡ m .writes (t .number) k)) → Effect s m t w m′ t′
+  commits : m′ ≡ modelCommit (t .number) m → 5 ≤ t′ .phase → Why m (t .number) w → Effect s m t w m′ t′
+
 -- A call that takes the state t and returns the state t′.
 pub record Moves (s : Sheets) (m : Model) (t : Transaction) (w : Write) (m′ : Model) (t′ : Transaction) : Type 0 where
   pub view : View (apply w s) m′
@@ -44,6 +58,7 @@ pub record Moves (s : Sheets) (m : Model) (t : Transaction) (w : Write) (m′ : 
   -- others
   pub away : (j : ℕ) → (j ≡ t .number → ⊥) → Away s j w
   pub others : (j : ℕ) (k : Key) → (j ≡ t .number → ⊥) → m′ .writes j k ≡ m .writes j k
+  pub effect : Effect s m t w m′ t′
 
 -- the state of another number
 other-kept : (s : Sheets) (w : Write) (m m′ : Model) (u : Transaction) → GoodSheets s → Away s (u .number) w → ((k : Key) → m′ .writes (u .number) k ≡ m .writes (u .number) k) → Remembered s m u → Remembered (apply w s) m′ u
