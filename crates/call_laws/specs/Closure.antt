@@ -85,7 +85,7 @@ use Rattle.call_laws.specs.Entries.{found-held, HeldAt, held-by, getD-fi
 
 -- What a write leaves of a transaction's rules.
 
-issued-grows : (w : Write) (c : Coordinator) → c .issued ≤ decisionsAfter w c .issued
+pub issued-grows : (w : Write) (c : Coordinator) → c .issued ≤ decisionsAfter w c .issued
 unfolding decisionsAfter withIssued
 issued-grows nothing c = omega arith
 issued-grows issue c = omega arith

@@ -104,7 +104,8 @@ use Rattle.recovery.specs.Memory.{
 use Rattle.recovery.specs.Puts.{put-in-empty}
 use Rattle.recovery.specs.OwnWrites.{doneTo, all-done, prepare-columns, one-phase-view, empty-view, decide-view}
 use Rattle.recovery.specs.Stages.{memory-as, done-in-open, done-in-prepare, done-in-validate, done-in-decide}
-use Rattle.recovery.specs.Invariant.{Remembered, Why, by-decision, by-one-phase, by-nothing, quiet, commits as commits-by, Moves}
+use Rattle.recovery.specs.Counted.{Why, by-decision, by-one-phase, by-nothing, quiet, commits as commits-by}
+use Rattle.recovery.specs.Invariant.{Remembered, Moves}
 
 -- finish and undo are refused unless the own line says so
 only-committed : (d : Decision) → byDecision d true false true ≡ false → d ≡ Committed

@@ -65,7 +65,8 @@ use Rattle.recovery.specs.Memory.{putIn, preparedColumns, Memory, other-
 use Rattle.recovery.specs.Advance.{never-both, afterStep, plain, withdraws, stays, step-moves}
 use Rattle.recovery.specs.Puts.{put-in-more, put-in-replaced, take-set}
 use Rattle.recovery.specs.Stages.{memory-as, done-in-open}
-use Rattle.recovery.specs.Invariant.{Remembered, quiet, Inv, Moves, inv-taken, inv-free, inv-begun}
+use Rattle.recovery.specs.Counted.{oneAfter, quiet}
+use Rattle.recovery.specs.Invariant.{Remembered, Inv, Moves, inv-taken, inv-free, inv-begun}
 
 -- What a visit of a line writes is gentle, and away from every number.
 pub record VisitWrites (s : Sheets) (v : Recovery) (r : Record) : Type 0 where
@@ -125,7 +126,7 @@ missing-none : isMissing Nothing ≡ false → ⊥
 unfolding isMissing
 missing-none q = true≢false q
 
-module _ (s : Sheets) (es : List Event) (m : Model) (inv : Inv s es m) where
+module _ {base : ℕ} {one : ℕ → Bool} (s : Sheets) (es : List Event) (m : Model) (inv : Inv base one s es m) where
   abbrev eventOf : {A : Type 0} → Call → (A → Answer) → Result A → Event
   eventOf c f r = record { call = c; answer = answerOf f r }
 
@@ -135,12 +136,12 @@ module _ (s : Sheets) (es : List Event) (m : Model) (inv : Inv s es m) where
       GoodSheets (apply (writeOf r) s)
       → ((u : Transaction) → returns (answerOf f r) ≡ some u → wellFormed (apply (writeOf r) s) u ≡ true)
       → ((u : Transaction) → takenBy c (answerOf f r) ≡ some u → Available u es)
-      → Inv (apply (writeOf r) s) (eventOf c f r ∷ es) (modelStep (eventOf c f r) m)
+      → Inv base (oneAfter (writeOf r) one) (apply (writeOf r) s) (eventOf c f r ∷ es) (modelStep (eventOf c f r) m)
 
   pub kept-refused : {A : Type 0} (c : Call) (f : A → Answer) (n : ℕ) → Kept c f (refused n)
   unfolding modelStep returns
   kept-refused c f n g w a =
-      inv-free s es m nothing _ inv refl g (gentle-view s m nothing (inv .good) gentle-nothing (inv .view)) (λ j. away-nothing)
+      inv-free s es m nothing _ inv refl g gentle-nothing (λ j. away-nothing)
 
   pub visit-kept : (k : Key) (now : ℕ) → Kept (visit k now) visited (visitResult k now s)
   unfolding visitResult modelStep returns
@@ -148,7 +149,7 @@ module _ (s : Sheets) (es : List Event) (m : Model) (inv : Inv s es m) where
       unless-by (Kept (visit k now) visited) (conditions (visit k now) s) (kept-refused (visit k now) visited _)
       (λ z g w a. let v : VisitWrites s (meeting now (s .coordinator) (lineOf k (s .lines))) (lineOf k (s .lines)) = visit-writes s now (lineOf k (s .lines)) in
       inv-free s es m (recoveryWrite (meeting now (s .coordinator) (lineOf k (s .lines))) (lineOf k (s .lines))) _ inv refl g
-      (gentle-view s m _ (inv .good) (v .gentle) (inv .view)) (v .away))
+      (v .gentle) (v .away))
 
   pub advance-kept : (t : Transaction) (now : ℕ) → Kept (advance t now) returned (advanceResult t now s)
   unfolding advanceResult conditions modelStep modelCall returns given afterStep
@@ -193,10 +194,11 @@ module _ (s : Sheets) (es : List Event) (m : Model) (inv : Inv s es m) where
   unfolding beginResult modelStep modelCall modelBegin returns
   begin-kept b =
       unless-by (Kept (begin b) returned) (conditions (begin b) s) (kept-refused (begin b) returned _)
-      (λ z g w a. inv-begun s es m (modelBegin (s .coordinator .issued + 1) m) (newTransaction (s .coordinator .issued + 1) b) issue _ inv (omega arith) refl g
+      (λ z g w a. inv-begun s es m (modelBegin (s .coordinator .issued + 1) m) (newTransaction (s .coordinator .issued + 1) b) issue _ inv (omega arith) refl g gentle-issue
       (gentle-view s m issue (inv .good) gentle-issue (inv .view)) (λ j. away-issue)
       (λ j k d. let e : eqb j (s .coordinator .issued + 1) ≡ false = ne-eqb j (s .coordinator .issued + 1) d in
       ap (λ (x : Bool). cond x (λ (i : Key). none) (m .writes j) k) e)
+      refl
       (record {
         formed = w (newTransaction (s .coordinator .issued + 1) b) refl;
         sets = begin-sets b;

@@ -1,10 +1,11 @@
 -- A legal history keeps the invariant from its first sheets on.
+use Prim.Native.Nat.{ℕ}
 use mathlib.Core.Path.{_≡_, refl, sym, ap, _∙_}
-use mathlib.Core.Bool.{Bool, true, false, not}
+use mathlib.Core.Bool.{Bool, true, false, not, true≢false}
 use mathlib.Core.List.{List, [], _∷_}
 use mathlib.Core.Option.{some}
 use borrow.Author.Tests.{not-true}
-use Rattle.lists.specs.Each.{all}
+use Rattle.lists.specs.Each.{all, any}
 use Rattle.types.specs.declared.Record.{Record}
 use Rattle.types.specs.declared.Transaction.{Transaction}
 use Rattle.model.specs.Images.{isPrepared}
@@ -16,31 +17,40 @@ use Rattle.model.specs.SequentialModel.{Model, firstModel, modelStep, modelAfte
 use Rattle.call_laws.specs.Lines.{line-passes}
 use Rattle.call_laws.specs.Sheets.{GoodSheets, good-parts, parts-good}
 use Rattle.call_laws.specs.Closure.{sheets-stay-good, returned-well-formed}
-use Rattle.recovery.specs.Settling.{settled-plain}
+use Rattle.recovery.specs.Settling.{settled-plain, undecided-committed}
+use Rattle.recovery.specs.Counted.{oneAfter}
 use Rattle.recovery.specs.Invariant.{Inv}
-use Rattle.recovery.specs.Calls.{begin-kept, read-kept, put-kept, advance-kept, abort-kept, visit-kept}
+use Rattle.recovery.specs.Calls.{above-undecided, begin-kept, read-kept, put-kept, advance-kept, abort-kept, visit-kept}
 
 -- no line is PREPARED
 abbrev pub nonePrepared : List Record → Bool
 nonePrepared rs = all (λ (r : Record). not (isPrepared r)) rs
 
-pub first-inv : (s : Sheets) → sheetsGood s ≡ true → nonePrepared (s .lines) ≡ true → Inv s [] (firstModel (s .lines))
-unfolding firstModel
+pub first-inv : (s : Sheets) → sheetsGood s ≡ true → nonePrepared (s .lines) ≡ true → Inv (s .coordinator .issued) (λ (n : ℕ). false) s [] (firstModel (s .lines))
+unfolding firstModel any
 first-inv s g n =
     record {
       good = good-parts s g;
       view = λ k h. settled-plain (s .coordinator) _ (not-true _ (line-passes (λ (r : Record). not (isPrepared r)) k (s .lines) n h));
       known = λ t a. absurd a;
       unique = λ t u a b e. absurd a;
+      counted =
+          record {
+            bound = λ n h. absurd (true≢false (sym h));
+            late = λ t a h. absurd a;
+            why = λ n h. absurd (true≢false (sym h));
+            decided = λ n b d. absurd (undecided-committed (sym (above-undecided (s .coordinator) (good-parts s g .decisions) n b) ∙ d));
+            one-phased = λ n h. absurd (true≢false (sym h));
+          };
     }
 
-good-after : {es : List Event} {m : Model} (c : Call) (s : Sheets) → Inv s es m → Permitted c (answer c s) es → GoodSheets (after c s)
+good-after : {base : ℕ} {one : ℕ → Bool} {es : List Event} {m : Model} (c : Call) (s : Sheets) → Inv base one s es m → Permitted c (answer c s) es → GoodSheets (after c s)
 good-after c s inv p = good-parts (after c s) (sheets-stay-good c s (p .clock) (parts-good s (inv .good)))
 
-formed-after-call : {es : List Event} {m : Model} (c : Call) (s : Sheets) → Inv s es m → Permitted c (answer c s) es → (u : Transaction) → returns (answer c s) ≡ some u → wellFormed (after c s) u ≡ true
+formed-after-call : {base : ℕ} {one : ℕ → Bool} {es : List Event} {m : Model} (c : Call) (s : Sheets) → Inv base one s es m → Permitted c (answer c s) es → (u : Transaction) → returns (answer c s) ≡ some u → wellFormed (after c s) u ≡ true
 formed-after-call c s inv p u e = returned-well-formed c s u (p .clock) (parts-good s (inv .good)) e
 
-pub call-kept : (c : Call) (s : Sheets) (es : List Event) (m : Model) → Inv s es m → Permitted c (answer c s) es → Inv (after c s) (event answer after c s ∷ es) (modelStep (event answer after c s) m)
+pub call-kept : {base : ℕ} {one : ℕ → Bool} (c : Call) (s : Sheets) (es : List Event) (m : Model) → Inv base one s es m → Permitted c (answer c s) es → Inv base (oneAfter (written c s) one) (after c s) (event answer after c s ∷ es) (modelStep (event answer after c s) m)
 unfolding answer after written
 call-kept (begin b) s es m inv p =
     begin-kept s es m inv b (good-after (begin b) s inv p) (λ u e. formed-after-call (begin b) s inv p u e) (p .state)
@@ -55,8 +65,13 @@ call-kept (abort t) s es m inv p =
 call-kept (visit k now) s es m inv p =
     visit-kept s es m inv k now (good-after (visit k now) s inv p) (λ u e. formed-after-call (visit k now) s inv p u e) (p .state)
 
-pub history-kept : (cs : List Call) (s : Sheets) (es : List Event) (m : Model) → Inv s es (modelAfter es m) → Legal answer after cs s es → Inv (leftBy answer after cs s) (eventsAfter answer after cs s es) (modelAfter (eventsAfter answer after cs s es) m)
-unfolding leftBy eventsAfter modelAfter
+-- the numbers whose one-phase write is made in a history
+unfoldable pub onesAfter : List Call → Sheets → (ℕ → Bool) → ℕ → Bool
+onesAfter [] s one = one
+onesAfter (c ∷ cs) s one = onesAfter cs (after c s) (oneAfter (written c s) one)
+
+pub history-kept : {base : ℕ} {one : ℕ → Bool} (cs : List Call) (s : Sheets) (es : List Event) (m : Model) → Inv base one s es (modelAfter es m) → Legal answer after cs s es → Inv base (onesAfter cs s one) (leftBy answer after cs s) (eventsAfter answer after cs s es) (modelAfter (eventsAfter answer after cs s es) m)
+unfolding leftBy eventsAfter modelAfter onesAfter
 history-kept [] s es m inv l = inv
 history-kept (c ∷ cs) s es m inv l =
     history-kept cs (after c s) (event answer after c s ∷ es) m (call-kept c s es (modelAfter es m) inv (l .0)) (l .1)

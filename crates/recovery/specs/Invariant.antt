@@ -7,6 +7,7 @@ use mathlib.Core.List.{List, [], _∷_}
 use mathlib.Core.Option.{Option, none, some, Option·none-ne-some, Option·some-injective}
 use mathlib.Core.Bool.{Bool, true, false}
 use native.Mathlib.Omega.{arith}
+use lib.ListN.{length}
 use Rattle.types.specs.declared.Decision.the-variants.{Committed}
 use Rattle.types.specs.declared.Key.{Key}
 use Rattle.types.specs.declared.Entry.{Entry}
@@ -20,8 +21,10 @@ use Rattle.model.specs.SequentialModel.{Model, modelCommit}
 use Rattle.call_laws.specs.Sheets.{GoodSheets}
 use Rattle.call_laws.specs.Transactions.{well-formed-parts}
 use Rattle.call_laws.specs.Closure.{formed-after}
+use Rattle.sheet_laws.specs.Coordinator.{bounds}
 use Rattle.recovery.specs.Settling.{Gentle}
-use Rattle.recovery.specs.View.{View}
+use Rattle.recovery.specs.View.{View, gentle-view}
+use Rattle.recovery.specs.Counted.{oneAfter, Effect, Counted, counted-taken, counted-free, counted-begun}
 use Rattle.recovery.specs.Memory.{putIn, Memory, Away, memory-kept}
 
 -- what is remembered of a state that may be handed on
@@ -32,22 +35,12 @@ pub record Remembered (s : Sheets) (m : Model) (t : Transaction) : Type 0 where
   -- up to decide
   pub memory : t .phase ≤ 3 → Memory s t
 
-pub record Inv (s : Sheets) (es : List Event) (m : Model) : Type 0 where
+pub record Inv (base : ℕ) (one : ℕ → Bool) (s : Sheets) (es : List Event) (m : Model) : Type 0 where
   pub good : GoodSheets s
   pub view : View s m
   pub known : (t : Transaction) → Available t es → Remembered s m t
   pub unique : (t u : Transaction) → Available t es → Available u es → t .number ≡ u .number → t ≡ u
-
--- Why a transaction that commits in the model does: by the decision, by its one-phase write, or without a write since it has put nothing.
-pub data Why (m : Model) (n : ℕ) : Write → Type 0 where
-  by-decision : Why m n (decide n Committed)
-  by-one-phase : (es : List Entry) → Why m n (commit n es)
-  by-nothing : ((k : Key) → m .writes n k ≡ none) → Why m n nothing
-
--- What a call does to the model's committed numbers: nothing, by a gentle write; or its own transaction commits. One that has its verdict puts nothing more.
-pub data Effect (s : Sheets) (m : Model) (t : Transaction) (w : Write) (m′ : Model) (t′ : Transaction) : Type 0 where
-  quiet : Gentle s w → m′ .committed ≡ m .committed → (5 ≤ t .phase → (5 ≤ t′ .phase) × ((k : Key) → m′ .writes (t .number) k ≡ m .writes (t .number) k)) → Effect s m t w m′ t′
-  commits : m′ ≡ modelCommit (t .number) m → 5 ≤ t′ .phase → Why m (t .number) w → Effect s m t w m′ t′
+  pub counted : Counted base one s es m
 
 -- A call that takes the state t and returns the state t′.
 pub record Moves (s : Sheets) (m : Model) (t : Transaction) (w : Write) (m′ : Model) (t′ : Transaction) : Type 0 where
@@ -60,6 +53,12 @@ pub record Moves (s : Sheets) (m : Model) (t : Transaction) (w : Write) (m′ : 
   pub others : (j : ℕ) (k : Key) → (j ≡ t .number → ⊥) → m′ .writes j k ≡ m .writes j k
   pub effect : Effect s m t w m′ t′
 
+-- the number of a state has a line
+number-fits : (s : Sheets) → GoodSheets s → (t : Transaction) → wellFormed s t ≡ true → (1 ≤ t .number) × (t .number ≤ s .coordinator .issued) × (s .coordinator .issued ≤ length (s .coordinator .decisions))
+number-fits s g t f =
+    let b = well-formed-parts s t f .0 in
+    (b .number, b .known, bounds (s .coordinator) (g .decisions) .issued)
+
 -- the state of another number
 other-kept : (s : Sheets) (w : Write) (m m′ : Model) (u : Transaction) → GoodSheets s → Away s (u .number) w → ((k : Key) → m′ .writes (u .number) k ≡ m .writes (u .number) k) → Remembered s m u → Remembered (apply w s) m′ u
 other-kept s w m m′ u g a e r =
@@ -70,9 +69,15 @@ other-kept s w m m′ u g a e r =
       memory = λ l. memory-kept s u w g a (r .memory l);
     }
 
-pub inv-taken : (s : Sheets) (es : List Event) (m m′ : Model) (t t′ : Transaction) (w : Write) (e : Event) → Inv s es m → Available t es → taken e ≡ some t → returns (e .answer) ≡ some t′ → GoodSheets (apply w s) → wellFormed (apply w s) t′ ≡ true → Moves s m t w m′ t′ → Inv (apply w s) (e ∷ es) m′
+pub inv-taken : {base : ℕ} {one : ℕ → Bool} (s : Sheets) (es : List Event) (m m′ : Model) (t t′ : Transaction) (w : Write) (e : Event) → Inv base one s es m → Available t es → taken e ≡ some t → returns (e .answer) ≡ some t′ → GoodSheets (apply w s) → wellFormed (apply w s) t′ ≡ true → Moves s m t w m′ t′ → Inv base (oneAfter w one) (apply w s) (e ∷ es) m′
 inv-taken s es m m′ t t′ w e inv a tk rt g f mv =
-    record { good = g; view = mv .view; known = known; unique = unique }
+    record {
+      good = g;
+      view = mv .view;
+      known = known;
+      unique = unique;
+      counted = counted-taken s es m m′ t t′ w e (inv .counted) a rt apart (number-fits s (inv .good) t (inv .known t a .formed)) (mv .others) (mv .number) (mv .effect);
+    }
   where
     own : Remembered (apply w s) m′ t′
     own = record { formed = f; sets = λ k. ap (λ (n : ℕ). m′ .writes n k) (mv .number) ∙ mv .sets k; memory = mv .memory }
@@ -98,9 +103,15 @@ inv-taken s es m m′ t t′ w e inv a tk rt g f mv =
     unique u v (inr b) (inr c) n = inv .unique u v (b .1) (c .1) n
 
 -- A call that neither takes nor returns a state.
-pub inv-free : (s : Sheets) (es : List Event) (m : Model) (w : Write) (e : Event) → Inv s es m → returns (e .answer) ≡ none → GoodSheets (apply w s) → View (apply w s) m → ((j : ℕ) → Away s j w) → Inv (apply w s) (e ∷ es) m
+pub inv-free : {base : ℕ} {one : ℕ → Bool} (s : Sheets) (es : List Event) (m : Model) (w : Write) (e : Event) → Inv base one s es m → returns (e .answer) ≡ none → GoodSheets (apply w s) → Gentle s w → ((j : ℕ) → Away s j w) → Inv base (oneAfter w one) (apply w s) (e ∷ es) m
 inv-free s es m w e inv rt g v a =
-    record { good = g; view = v; known = known; unique = unique }
+    record {
+      good = g;
+      view = gentle-view s m w (inv .good) v (inv .view);
+      known = known;
+      unique = unique;
+      counted = counted-free s es m w e (inv .counted) rt v;
+    }
   where
     before : (u : Transaction) → Available u (e ∷ es) → Available u es
     before u (inl q) = absurd (Option·none-ne-some u (sym rt ∙ q))
@@ -113,9 +124,15 @@ inv-free s es m w e inv rt g v a =
     unique u x b c n = inv .unique u x (before u b) (before x c) n
 
 -- A call that returns the state of a new number.
-pub inv-begun : (s : Sheets) (es : List Event) (m m′ : Model) (t′ : Transaction) (w : Write) (e : Event) → Inv s es m → s .coordinator .issued < t′ .number → returns (e .answer) ≡ some t′ → GoodSheets (apply w s) → View (apply w s) m′ → ((j : ℕ) → Away s j w) → ((j : ℕ) (k : Key) → (j ≡ t′ .number → ⊥) → m′ .writes j k ≡ m .writes j k) → Remembered (apply w s) m′ t′ → Inv (apply w s) (e ∷ es) m′
-inv-begun s es m m′ t′ w e inv new rt g v a o own =
-    record { good = g; view = v; known = known; unique = unique }
+pub inv-begun : {base : ℕ} {one : ℕ → Bool} (s : Sheets) (es : List Event) (m m′ : Model) (t′ : Transaction) (w : Write) (e : Event) → Inv base one s es m → s .coordinator .issued < t′ .number → returns (e .answer) ≡ some t′ → GoodSheets (apply w s) → Gentle s w → View (apply w s) m′ → ((j : ℕ) → Away s j w) → ((j : ℕ) (k : Key) → (j ≡ t′ .number → ⊥) → m′ .writes j k ≡ m .writes j k) → m′ .committed ≡ m .committed → Remembered (apply w s) m′ t′ → Inv base (oneAfter w one) (apply w s) (e ∷ es) m′
+inv-begun s es m m′ t′ w e inv new rt g gentle v a o c own =
+    record {
+      good = g;
+      view = v;
+      known = known;
+      unique = unique;
+      counted = counted-begun s es m m′ t′ w e (inv .counted) new rt gentle o c;
+    }
   where
     apart : (u : Transaction) → Available u es → u .number ≡ t′ .number → ⊥
     apart u b q =

@@ -4,6 +4,7 @@ pub mod View
 pub mod Memory
 pub mod Puts
 pub mod OwnWrites
+pub mod Counted
 pub mod Invariant
 pub mod Stages
 pub mod Advance

@@ -1,5 +1,6 @@
 -- Demand 3 over decoded sheets: after any legal history and any recovery pass no line is PREPARED, and each is its line in the sequential model.
 -- The history keeps the invariant, the pass keeps its view and raises every line, and what isn't prepared is settled.
+use Prim.Native.Nat.{ℕ}
 use mathlib.Core.Path.{_≡_, refl, sym, ap, _∙_}
 use mathlib.Core.Bool.{Bool, true, false, not}
 use mathlib.Core.List.{List, [], _∷_, map}
@@ -15,7 +16,7 @@ use Rattle.model.specs.RecoveryPass.{Visit, visitCall, Closing}
 use Rattle.call_laws.specs.Lines.{line-key, all-lines, map-lines}
 use Rattle.call_laws.specs.Sheets.{GoodSheets}
 use Rattle.recovery.specs.Invariant.{Inv}
-use Rattle.recovery.specs.History.{nonePrepared, first-inv, history-kept}
+use Rattle.recovery.specs.History.{nonePrepared, first-inv, onesAfter, history-kept}
 use Rattle.recovery.specs.Pass.{Passed, pass-kept, closed}
 
 -- Keys are fixed.
@@ -43,7 +44,7 @@ recoveredBy vs cs s = leftBy answer after (map visitCall vs) (leftBy answer afte
 pub recovery-theorem : (s : Sheets) → sheetsGood s ≡ true → nonePrepared (s .lines) ≡ true → (cs : List Call) → Legal answer after cs s [] → (vs : List Visit) → Closing (λ (x : Sheets). x) after vs (leftBy answer after cs s) → (nonePrepared (recoveredBy vs cs s .lines) ≡ true) × (recoveredBy vs cs s .lines ≡ map (λ (r : Record). modelOf cs s .line (r .key)) (s .lines))
 unfolding modelAfter
 recovery-theorem s g n cs legal vs c =
-    let inv : Inv (leftBy answer after cs s) (eventsAfter answer after cs s []) (modelOf cs s) =
+    let inv : Inv (s .coordinator .issued) (onesAfter cs s (λ (n : ℕ). false)) (leftBy answer after cs s) (eventsAfter answer after cs s []) (modelOf cs s) =
     history-kept cs s [] (firstModel (s .lines)) (first-inv s g n) legal in
     let p : Passed (modelOf cs s) vs (leftBy answer after cs s) (recoveredBy vs cs s) = pass-kept (modelOf cs s) vs (leftBy answer after cs s) (inv .good) (inv .view) (c .expiring) in
     let keys : keysIn (recoveredBy vs cs s .lines) ≡ keysIn (s .lines) = keys-left (map visitCall vs) (leftBy answer after cs s) ∙ keys-left cs s in (
