@@ -1,7 +1,7 @@
 -- Histories over the bytes of both sheets: the calls as an engine makes them. Demand 3 speaks of these.
 use Prim.Native.Nat.{ℕ}
 use mathlib.Core.List.{List}
-use Rattle.model.specs.Writes.{Sheets}
+use Rattle.model.specs.Writes.{Sheets, Write}
 use Rattle.model.specs.Results.{Call, begin, read, put, advance, abort, visit, Result}
 use Rattle.model.specs.ByteCalls.{
   sheetsOf,
@@ -14,7 +14,7 @@ use Rattle.model.specs.ByteCalls.{
   recordsAfter,
   coordinatorAfter,
 }
-use Rattle.model.specs.Histories.{Answer, returned, visited, answerOf, readAnswered}
+use Rattle.model.specs.Histories.{written, Answer, returned, visited, answerOf, readAnswered}
 
 -- the bytes of both sheets
 pub record Bytes : Type 0 where
@@ -49,3 +49,7 @@ afterOn (put t k c) b = bytesAfter b (putOn t k c (b .records) (b .coordinator))
 afterOn (advance t now) b = bytesAfter b (advanceOn t now (b .records) (b .coordinator))
 afterOn (abort t) b = bytesAfter b (abortOn t (b .records) (b .coordinator))
 afterOn (visit k now) b = bytesAfter b (visitOn k now (b .records) (b .coordinator))
+
+-- what the call writes, made with these bytes
+abbrev pub writtenOn : Call → Bytes → Write
+writtenOn c b = written c (saying b)

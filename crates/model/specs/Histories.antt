@@ -2,12 +2,13 @@
 use Prim.Native.Nat.{ℕ, _^_, _<_}
 use mathlib.Core.Path.{_≡_}
 use mathlib.Core.Logic.{_⊎_}
+use mathlib.Core.Bool.{Bool, false, _||_}
 use mathlib.Core.List.{List, [], _∷_}
 use mathlib.Core.Option.{Option, none, some}
 use Rattle.types.specs.declared.Transaction.{Transaction}
 use Rattle.types.specs.declared.Reading.{Reading}
 use Rattle.types.specs.declared.Recovery.{Recovery}
-use Rattle.model.specs.Writes.{Sheets, Write, apply}
+use Rattle.model.specs.Writes.{Sheets, Write, isOnePhase, apply}
 use Rattle.model.specs.Results.{Call, begin, read, put, advance, abort, visit, Result, refused, made, writeOf}
 use Rattle.model.specs.Calls.{
   ReadAnswer,
@@ -128,3 +129,9 @@ module _ {S : Type 0} (answers : Call → S → Answer) (leaves : Call → S →
   abbrev pub Legal : List Call → S → List Event → Type 0
   Legal [] s es = Unit {0}
   Legal (c ∷ cs) s es = Permitted c (answers c s) es × Legal cs (leaves c s) (event c s ∷ es)
+
+-- the one-phase write of a number is made in a history, by what a call writes with these sheets and how it leaves them
+module _ {S : Type 0} (writes : Call → S → Write) (leaves : Call → S → S) where
+  unfoldable pub onePhaseIn : ℕ → List Call → S → Bool
+  onePhaseIn n [] s = false
+  onePhaseIn n (c ∷ cs) s = isOnePhase n (writes c s) || onePhaseIn n cs (leaves c s)

@@ -5,6 +5,7 @@ use mathlib.Core.Bool.{Bool, false, _&&_, cond}
 use mathlib.Core.List.{List, [], _∷_}
 use mathlib.Core.Option.{Option, none, some}
 use lib.Dec.{eqb}
+use Rattle.lists.specs.Each.{any}
 use Rattle.types.specs.declared.State.the-variants.{Committed}
 use Rattle.types.specs.declared.Key.{Key}
 use Rattle.types.specs.declared.Columns.{Columns}
@@ -114,3 +115,7 @@ modelStep e m = byAnswer (e .answer)
 unfoldable pub modelAfter : List Event → Model → Model
 modelAfter [] m = m
 modelAfter (e ∷ es) m = modelStep e (modelAfter es m)
+
+-- the model has committed the number
+abbrev pub isCommitted : ℕ → Model → Bool
+isCommitted n m = any (eqb n) (m .committed)

@@ -1,8 +1,9 @@
 -- What a call writes, as data: the lines of one group, or the coordinator sheet, or nothing. Only `apply` changes sheets.
 use Prim.Native.Nat.{ℕ, _+_}
-use mathlib.Core.Bool.{Bool, _&&_, cond}
+use mathlib.Core.Bool.{Bool, false, _&&_, cond}
 use mathlib.Core.List.{List, [], _∷_, map}
 use mathlib.Core.Option.{Option, none, some}
+use lib.Dec.{eqb}
 use Rattle.lists.specs.Each.{all, any}
 use Rattle.types.specs.declared.Decision.{Decision}
 use Rattle.types.specs.declared.Key.{Key}
@@ -74,3 +75,13 @@ decisionsAfter (back n ks) c = c
 unfoldable pub apply : Write → Sheets → Sheets
 apply w s =
     record { lines = map (lineAfter w) (s .lines); coordinator = decisionsAfter w (s .coordinator) }
+
+-- the write is the one-phase write of a number
+unfoldable pub isOnePhase : ℕ → Write → Bool
+isOnePhase n nothing = false
+isOnePhase n issue = false
+isOnePhase n (decide i d) = false
+isOnePhase n (commit i es) = eqb n i
+isOnePhase n (prepare i now es) = false
+isOnePhase n (forward i ks) = false
+isOnePhase n (back i ks) = false

@@ -30,9 +30,10 @@ use Rattle.model.specs.Writes.{
   back,
   decisionsAfter,
   apply,
+  isOnePhase,
 }
 use Rattle.model.specs.Histories.{Event, returns, taken, Available}
-use Rattle.model.specs.SequentialModel.{Model, modelCommit}
+use Rattle.model.specs.SequentialModel.{Model, modelCommit, isCommitted}
 use Rattle.call_laws.specs.Closure.{issued-grows}
 use Rattle.recovery.specs.Settling.{
   Gentle,
@@ -49,23 +50,9 @@ use Rattle.recovery.specs.Settling.{
   undecided-committed,
 }
 
--- the write is the one-phase write of the number
-unfoldable pub isOnePhase : ℕ → Write → Bool
-isOnePhase n nothing = false
-isOnePhase n issue = false
-isOnePhase n (decide i d) = false
-isOnePhase n (commit i es) = eqb n i
-isOnePhase n (prepare i now es) = false
-isOnePhase n (forward i ks) = false
-isOnePhase n (back i ks) = false
-
 -- the numbers whose one-phase write has been made, after one more write
 abbrev pub oneAfter : Write → (ℕ → Bool) → ℕ → Bool
 oneAfter w one n = isOnePhase n w || one n
-
--- the model has committed the number
-abbrev pub isCommitted : ℕ → Model → Bool
-isCommitted n m = any (eqb n) (m .committed)
 
 -- Why a transaction that commits in the model does: by the decision, by its one-phase write, or without a write since it has put nothing.
 pub data Why (m : Model) (n : ℕ) : Write → Type 0 where
@@ -89,7 +76,7 @@ pub record Counted (base : ℕ) (one : ℕ → Bool) (s : Sheets) (es : List Eve
 
 -- Gentle writes make no COMMITTED and take none away, and none is a one-phase write.
 
-gentle-before : (s : Sheets) (w : Write) → Gentle s w → (n : ℕ) → decision n (decisionsAfter w (s .coordinator)) ≡ Committed → decision n (s .coordinator) ≡ Committed
+pub gentle-before : (s : Sheets) (w : Write) → Gentle s w → (n : ℕ) → decision n (decisionsAfter w (s .coordinator)) ≡ Committed → decision n (s .coordinator) ≡ Committed
 unfolding decisionsAfter
 gentle-before s w gentle-nothing n e = e
 gentle-before s w gentle-issue n e = sym (issued-decision _ n (s .coordinator)) ∙ e
@@ -98,7 +85,7 @@ gentle-before s w (gentle-forward i ks d) n e = e
 gentle-before s w (gentle-back i ks d) n e = e
 gentle-before s w (gentle-prepare i now es d m) n e = e
 
-gentle-later : (s : Sheets) (w : Write) → Gentle s w → (n : ℕ) → decision n (s .coordinator) ≡ Committed → decision n (decisionsAfter w (s .coordinator)) ≡ Committed
+pub gentle-later : (s : Sheets) (w : Write) → Gentle s w → (n : ℕ) → decision n (s .coordinator) ≡ Committed → decision n (decisionsAfter w (s .coordinator)) ≡ Committed
 unfolding decisionsAfter
 gentle-later s w gentle-nothing n e = e
 gentle-later s w gentle-issue n e = issued-decision _ n (s .coordinator) ∙ e

@@ -13,3 +13,4 @@ pub mod History
 pub mod Pass
 pub mod Theorem
 pub mod Bytes
+pub mod Commits

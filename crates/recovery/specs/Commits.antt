@@ -1,0 +1,89 @@
+-- A transaction with puts is committed in the model exactly when its coordinator line says so or its one-phase write was made: from the count that the
+-- history keeps, which the visits of a recovery pass leave alone.
+use Prim.Native.Nat.{ℕ, _<_}
+use mathlib.Core.Path.{_≡_, refl, sym, ap, ap₂, _∙_, subst}
+use mathlib.Core.Logic.{_⊎_, inl, inr}
+use mathlib.Core.Bool.{Bool, true, false, _||_}
+use mathlib.Core.List.{List, [], _∷_, map}
+use mathlib.Core.Option.{Option, none, some, Option·none-ne-some}
+use Rattle.lists.specs.Chosen.{or-else}
+use Rattle.types.specs.declared.Decision.the-variants.{Committed}
+use Rattle.types.specs.declared.Key.{Key}
+use Rattle.types.specs.declared.Columns.{Columns}
+use Rattle.types.specs.declared.Record.{Record}
+use Rattle.types.specs.declared.Recovery.{Recovery}
+use Rattle.model.specs.Records.{lineOf}
+use Rattle.model.specs.Coordinator.{decision}
+use Rattle.model.specs.Writes.{Sheets, sheetsGood, Write, nothing, isOnePhase, decisionsAfter, apply}
+use Rattle.model.specs.Results.{Call, Result, writeOf}
+use Rattle.model.specs.Conditions.{conditions}
+use Rattle.model.specs.Calls.{visitResult}
+use Rattle.model.specs.Histories.{answer, written, after, eventsAfter, leftBy, Legal, onePhaseIn}
+use Rattle.model.specs.SequentialModel.{Model, firstModel, modelAfter, isCommitted}
+use Rattle.model.specs.RecoveryPass.{Visit, visitCall}
+use Rattle.call_laws.specs.Choices.{unless-by}
+use Rattle.recovery.specs.Settling.{Gentle, gentle-nothing}
+use Rattle.recovery.specs.Counted.{Counted, oneAfter, gentle-before, gentle-later}
+use Rattle.recovery.specs.Invariant.{Inv}
+use Rattle.recovery.specs.Calls.{visit-writes}
+use Rattle.recovery.specs.History.{nonePrepared, first-inv, onesAfter, history-kept}
+use Rattle.recovery.specs.Theorem.{modelOf, recoveredBy}
+
+-- Visits make no COMMITTED and take none away.
+
+visit-gentle : (v : Visit) (s : Sheets) → Gentle s (written (visitCall v) s)
+unfolding written visitResult
+visit-gentle v s =
+    unless-by (λ (x : Result Recovery). Gentle s (writeOf x)) (conditions (visitCall v) s) gentle-nothing
+    (λ z. visit-writes s (v .clock) (lineOf (v .key) (s .lines)) .gentle)
+
+pub visits-before : (vs : List Visit) (s : Sheets) (n : ℕ) → decision n (leftBy answer after (map visitCall vs) s .coordinator) ≡ Committed → decision n (s .coordinator) ≡ Committed
+unfolding leftBy after apply
+visits-before [] s n e = e
+visits-before (v ∷ vs) s n e = gentle-before s (written (visitCall v) s) (visit-gentle v s) n (visits-before vs (after (visitCall v) s) n e)
+
+pub visits-later : (vs : List Visit) (s : Sheets) (n : ℕ) → decision n (s .coordinator) ≡ Committed → decision n (leftBy answer after (map visitCall vs) s .coordinator) ≡ Committed
+unfolding leftBy after apply
+visits-later [] s n e = e
+visits-later (v ∷ vs) s n e = visits-later vs (after (visitCall v) s) n (gentle-later s (written (visitCall v) s) (visit-gentle v s) n e)
+
+-- One-phase writes, as the history has them and as they were counted.
+
+or-shift : (a b c : Bool) → (b || (a || c)) ≡ ((a || b) || c)
+or-shift true true c = refl
+or-shift true false c = refl
+or-shift false b c = refl
+
+ones-are : (cs : List Call) (s : Sheets) (one : ℕ → Bool) (n : ℕ) → onesAfter cs s one n ≡ (onePhaseIn written after n cs s || one n)
+unfolding onesAfter onePhaseIn
+ones-are [] s one n = refl
+ones-are (c ∷ cs) s one n =
+    ones-are cs (after c s) (oneAfter (written c s) one) n
+    ∙ or-shift (isOnePhase n (written c s)) (onePhaseIn written after n cs (after c s)) (one n)
+
+or-none : (a : Bool) → (a || false) ≡ a
+or-none true = refl
+or-none false = refl
+
+-- "A transaction with puts is committed exactly when its coordinator line says so or its one-phase write was made", for a number begun in the history.
+pub record Exactly (n : ℕ) (vs : List Visit) (cs : List Call) (s : Sheets) : Type 0 where
+  pub only-if : isCommitted n (modelOf cs s) ≡ true → (decision n (recoveredBy vs cs s .coordinator) ≡ Committed) ⊎ (onePhaseIn written after n cs s ≡ true)
+  pub decided : decision n (recoveredBy vs cs s .coordinator) ≡ Committed → isCommitted n (modelOf cs s) ≡ true
+  pub one-phased : onePhaseIn written after n cs s ≡ true → isCommitted n (modelOf cs s) ≡ true
+
+pub commits-exactly : (s : Sheets) → sheetsGood s ≡ true → nonePrepared (s .lines) ≡ true → (cs : List Call) → Legal answer after cs s [] → (vs : List Visit) (n : ℕ) → s .coordinator .issued < n → (k : Key) (c : Columns) → modelOf cs s .writes n k ≡ some c → Exactly n vs cs s
+unfolding modelAfter
+commits-exactly s g z cs legal vs n new k c put =
+    record {
+      only-if = λ h. reason (count .why n h);
+      decided = λ d. count .decided n new (visits-before vs (leftBy answer after cs s) n d);
+      one-phased = λ h. count .one-phased n (ones-are cs s (λ (i : ℕ). false) n ∙ ap (λ (b : Bool). b || false) h);
+    }
+  where
+    count : Counted (s .coordinator .issued) (onesAfter cs s (λ (i : ℕ). false)) (leftBy answer after cs s) (eventsAfter answer after cs s []) (modelOf cs s)
+    count = history-kept cs s [] (firstModel (s .lines)) (first-inv s g z) legal .counted
+
+    reason : (decision n (leftBy answer after cs s .coordinator) ≡ Committed) ⊎ ((onesAfter cs s (λ (i : ℕ). false) n ≡ true) ⊎ ((i : Key) → modelOf cs s .writes n i ≡ none)) → (decision n (recoveredBy vs cs s .coordinator) ≡ Committed) ⊎ (onePhaseIn written after n cs s ≡ true)
+    reason (inl d) = inl (visits-later vs (leftBy answer after cs s) n d)
+    reason (inr (inl o)) = inr (sym (ones-are cs s (λ (i : ℕ). false) n ∙ or-none (onePhaseIn written after n cs s)) ∙ o)
+    reason (inr (inr e)) = absurd (Option·none-ne-some c (sym (e k) ∙ put))
