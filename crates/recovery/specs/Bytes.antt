@@ -2,24 +2,32 @@
 -- what the call leaves.
 use Prim.Native.Nat.{ℕ, _^_, _<_}
 use mathlib.Core.Path.{_≡_, refl, sym, ap, ap₂, _∙_, subst}
-use mathlib.Core.Bool.{Bool, true, false, not}
+use mathlib.Core.Bool.{Bool, true, not, _||_}
+use mathlib.Core.Logic.{_⊎_, inl, inr}
+use mathlib.Core.Option.{some}
 use mathlib.Core.List.{List, [], _∷_, map}
 use native.Mathlib.Omega.{arith}
 use borrow.Author.Tests.{not-false}
+use Rattle.types.specs.declared.Decision.{Decision}
+use Rattle.types.specs.declared.Decision.the-variants.{Committed}
+use Rattle.types.specs.declared.Key.{Key}
+use Rattle.types.specs.declared.Columns.{Columns}
 use Rattle.types.specs.declared.Record.{Record}
+use Rattle.model.specs.Coordinator.{coordinatorOf, decision}
 use Rattle.model.specs.Records.{records, recordsText, recordsAccepted}
 use Rattle.model.specs.Refusals.{refusalOf}
 use Rattle.model.specs.SheetCalls.{checkConditions}
-use Rattle.model.specs.Writes.{Sheets}
+use Rattle.model.specs.Writes.{Sheets, isOnePhase}
 use Rattle.model.specs.Results.{Call}
-use Rattle.model.specs.Histories.{Event, Answer, answer, after, Permitted, event, eventsAfter, leftBy, Legal}
-use Rattle.model.specs.ByteHistories.{Bytes, saying, answerOn, afterOn}
-use Rattle.model.specs.SequentialModel.{Model, firstModel, modelAfter}
+use Rattle.model.specs.Histories.{Event, Answer, answer, written, after, Permitted, event, eventsAfter, leftBy, Legal, onePhaseIn}
+use Rattle.model.specs.ByteHistories.{Bytes, saying, answerOn, afterOn, writtenOn}
+use Rattle.model.specs.SequentialModel.{Model, firstModel, modelAfter, isCommitted}
 use Rattle.model.specs.RecoveryPass.{Visit, visitCall, Expiring, Closing}
 use Rattle.sheet_laws.specs.Records.{sheet-written-read}
 use Rattle.call_laws.specs.Choices.{not-first}
 use Rattle.call_laws.specs.Lifting.{Passing, passing-good, same-answer, bytes-stay-passing}
 use Rattle.recovery.specs.History.{nonePrepared}
+use Rattle.recovery.specs.Commits.{Exactly, commits-exactly}
 use Rattle.recovery.specs.Theorem.{recoveredBy, modelOf, recovery-theorem}
 
 -- A history on accepted bytes, and on what they say.
@@ -89,3 +97,40 @@ demand-3 b p n cs legal vs c =
           ∙ (ap (λ (s : Sheets). recordsText (s .lines)) says
           ∙ (ap recordsText (t .1) ∙ ap (λ (m : Model). recordsText (map (λ (r : Record). m .line (r .key)) (records (b .records)))) model)),
     )
+
+-- one-phase writes made in a history on bytes
+ones-lift : (n : ℕ) (cs : List Call) (b : Bytes) (es : List Event) → Passing b → Legal answerOn afterOn cs b es → onePhaseIn writtenOn afterOn n cs b ≡ onePhaseIn written after n cs (saying b)
+unfolding onePhaseIn
+ones-lift n [] b es p l = refl
+ones-lift n (c ∷ cs) b es p l =
+    let q = bytes-stay-passing c b (l .0 .clock) p in
+    ap (λ (x : Bool). isOnePhase n (written c (saying b)) || x)
+    (ones-lift n cs (afterOn c b) (event answerOn afterOn c b ∷ es) (q .1) (l .1) ∙ ap (onePhaseIn written after n cs) (q .0))
+
+-- "A transaction with puts is committed exactly when its coordinator line says so or its one-phase write was made."
+pub record ExactlyOn (n : ℕ) (vs : List Visit) (cs : List Call) (b : Bytes) : Type 0 where
+  pub only-if : isCommitted n (modelOn cs b) ≡ true → (decision n (coordinatorOf (bytesRecovered vs cs b .coordinator)) ≡ Committed) ⊎ (onePhaseIn writtenOn afterOn n cs b ≡ true)
+  pub decided : decision n (coordinatorOf (bytesRecovered vs cs b .coordinator)) ≡ Committed → isCommitted n (modelOn cs b) ≡ true
+  pub one-phased : onePhaseIn writtenOn afterOn n cs b ≡ true → isCommitted n (modelOn cs b) ≡ true
+
+-- DEMAND 3, its last sentence, for every number begun in the history that has put something.
+pub demand-3-committed : (b : Bytes) → Passing b → nonePrepared (records (b .records)) ≡ true → (cs : List Call) → Legal answerOn afterOn cs b [] → (vs : List Visit) → Closing saying afterOn vs (leftBy answerOn afterOn cs b) → (n : ℕ) → coordinatorOf (b .coordinator) .issued < n → (k : Key) (c : Columns) → modelOn cs b .writes n k ≡ some c → ExactlyOn n vs cs b
+demand-3-committed b p z cs legal vs c n new k columns put =
+    let h : Lifted cs b [] = lift cs b [] p legal in
+    let v = visits-lift vs (leftBy answerOn afterOn cs b) (h .passing) (c .expiring) in
+    let says : saying (bytesRecovered vs cs b) ≡ recoveredBy vs cs (saying b) = v .1 .0 ∙ ap (leftBy answer after (map visitCall vs)) (h .says) in
+    let model : modelOn cs b ≡ modelOf cs (saying b) = ap (λ (es : List Event). modelAfter es (firstModel (records (b .records)))) (h .events) in
+    let one : onePhaseIn writtenOn afterOn n cs b ≡ onePhaseIn written after n cs (saying b) = ones-lift n cs b [] p legal in
+    let d : decision n (coordinatorOf (bytesRecovered vs cs b .coordinator)) ≡ decision n (recoveredBy vs cs (saying b) .coordinator) =
+    ap (λ (s : Sheets). decision n (s .coordinator)) says in
+    let e : Exactly n vs cs (saying b) =
+    commits-exactly (saying b) (passing-good b p) z cs (h .legal) vs n new k columns (ap (λ (m : Model). m .writes n k) (sym model) ∙ put) in
+    record {
+      only-if = λ q. either (e .only-if (ap (isCommitted n) (sym model) ∙ q)) d one;
+      decided = λ q. ap (isCommitted n) model ∙ e .decided (sym d ∙ q);
+      one-phased = λ q. ap (isCommitted n) model ∙ e .one-phased (sym one ∙ q);
+    }
+  where
+    either : {x y : Decision} {a b : Bool} → (y ≡ Committed) ⊎ (b ≡ true) → x ≡ y → a ≡ b → (x ≡ Committed) ⊎ (a ≡ true)
+    either (inl q) d o = inl (d ∙ q)
+    either (inr q) d o = inr (o ∙ q)
