@@ -28,6 +28,7 @@ use Rattle.call_laws.specs.Choices.{not-first}
 use Rattle.call_laws.specs.Lifting.{Passing, passing-good, same-answer, bytes-stay-passing}
 use Rattle.recovery.specs.History.{nonePrepared}
 use Rattle.recovery.specs.Commits.{Exactly, commits-exactly}
+use Rattle.recovery.specs.PassExists.{recoveryPass, pass-exists}
 use Rattle.recovery.specs.Theorem.{recoveredBy, modelOf, recovery-theorem}
 
 -- A history on accepted bytes, and on what they say.
@@ -134,3 +135,17 @@ demand-3-committed b p z cs legal vs c n new k columns put =
     either : {x y : Decision} {a b : Bool} → (y ≡ Committed) ⊎ (b ≡ true) → x ≡ y → a ≡ b → (x ≡ Committed) ⊎ (a ≡ true)
     either (inl q) d o = inl (d ∙ q)
     either (inr q) d o = inr (o ∙ q)
+
+-- A recovery pass exists from every accepted sheets, so that the theorem is never empty.
+
+expiring-on : (vs : List Visit) (b : Bytes) → Passing b → Expiring (λ (x : Sheets). x) after vs (saying b) → Expiring saying afterOn vs b
+expiring-on [] b p x = tt
+expiring-on (v ∷ vs) b p x =
+    let q = bytes-stay-passing (visitCall v) b (x .0) p in
+    (x .0, (x .1 .0, expiring-on vs (afterOn (visitCall v) b) (q .1) (subst (Expiring (λ (y : Sheets). y) after vs) (sym (q .0)) (x .1 .1))))
+
+pub recovery-pass-exists : (b : Bytes) → Passing b → nonePrepared (records (b .records)) ≡ true → (cs : List Call) → Legal answerOn afterOn cs b [] → Closing saying afterOn (recoveryPass (saying (leftBy answerOn afterOn cs b))) (leftBy answerOn afterOn cs b)
+recovery-pass-exists b p z cs legal =
+    let h : Passing (leftBy answerOn afterOn cs b) = lift cs b [] p legal .passing in
+    let c = pass-exists (saying (leftBy answerOn afterOn cs b)) (passing-good (leftBy answerOn afterOn cs b) h) in
+    record { twice = c .twice; expiring = expiring-on (recoveryPass (saying (leftBy answerOn afterOn cs b))) (leftBy answerOn afterOn cs b) h (c .expiring) }

@@ -14,3 +14,4 @@ pub mod Pass
 pub mod Theorem
 pub mod Bytes
 pub mod Commits
+pub mod PassExists

@@ -58,7 +58,7 @@ AtLeast (suc zero) s k = isPrepared (lineOf k (s .lines)) ≡ true → ownerDeci
 AtLeast (suc (suc n)) s k = isPrepared (lineOf k (s .lines)) ≡ false
 
 -- The writes of visits.
-data Visiting : Write → Type 0 where
+pub data Visiting : Write → Type 0 where
   visiting-nothing : Visiting nothing
   visiting-abort : (i : ℕ) → Visiting (decide i Aborted)
   visiting-forward : (i : ℕ) (ks : List Key) → Visiting (forward i ks)
@@ -72,13 +72,13 @@ recovery-visiting Back r = visiting-back _ _
 recovery-visiting Again r = visiting-abort _
 recovery-visiting Busy r = visiting-nothing
 
-visit-visiting : (k : Key) (now : ℕ) (s : Sheets) → Visiting (written (visit k now) s)
+pub visit-visiting : (k : Key) (now : ℕ) (s : Sheets) → Visiting (written (visit k now) s)
 unfolding written visitResult
 visit-visiting k now s =
     unless-by (λ (x : Result Recovery). Visiting (writeOf x)) (conditions (visit k now) s) visiting-nothing (λ z. recovery-visiting _ _)
 
 -- a line that is prepared after a visit was prepared before, by the same number
-prepared-before : (w : Write) → Visiting w → (r : Record) → isPrepared (lineAfter w r) ≡ true → lineAfter w r ≡ r
+pub prepared-before : (w : Write) → Visiting w → (r : Record) → isPrepared (lineAfter w r) ≡ true → lineAfter w r ≡ r
 unfolding lineAfter
 prepared-before w visiting-nothing r p = refl
 prepared-before w (visiting-abort i) r p = refl

@@ -21,7 +21,7 @@ use Rattle.recovery.specs.Pass.{Passed, pass-kept, closed}
 
 -- Keys are fixed.
 
-abbrev keysIn : List Record → List Key
+abbrev pub keysIn : List Record → List Key
 keysIn rs = map (λ (r : Record). r .key) rs
 
 keys-mapped : (f : Record → Record) → ((r : Record) → f r .key ≡ r .key) → (rs : List Record) → keysIn (map f rs) ≡ keysIn rs
