@@ -15,3 +15,4 @@ pub mod Theorem
 pub mod Bytes
 pub mod Commits
 pub mod PassExists
+pub mod Corollaries
