@@ -19,7 +19,7 @@ use Rattle.decimal.specs.declared.Scan.the-variants.{Number}
 use Rattle.decimal.specs.Field.{figure, isNumber}
 use Rattle.decimal.specs.Laws.{isNumber-number, figure-scan}
 use Rattle.decimal.specs.Order.{order-bytes}
-use Rattle.places.specs.Order.{wordOf, bytesAt, less-is, part-bytes}
+use Rattle.places.specs.Order.{numberOf, bytesAt, less-is, part-bytes}
 use Rattle.types.specs.declared.Column.{Column}
 use Rattle.model.specs.Layouts.{recordLayout, noColumn}
 use Rattle.model.specs.Lines.{fieldValue, rowOf, lineSet, linesOf, linesSet}
@@ -50,9 +50,9 @@ at-most a b = go (leb a b) refl
 
 -- figures of one width are ordered by their bytes' numbers
 figures-order : (s t : List ℕ) (a b : ℕ) → figure 0 999 s ≡ Number a → figure 0 999 t ≡ Number b → areBytes s ≡ true → areBytes t ≡ true
-    → length s ≡ length t → leb (wordOf s) (wordOf t) ≡ leb a b
+    → length s ≡ length t → leb (numberOf s) (numberOf t) ≡ leb a b
 figures-order s t a b p q f g n =
-    at-most (wordOf s) (wordOf t)
+    at-most (numberOf s) (numberOf t)
     ∙ ap not (sym (less-is t s g f (sym n)) ∙ order-bytes t s b a (figure-scan 0 999 t b q .0) (figure-scan 0 999 s a p .0) (sym n))
     ∙ sym (at-most a b)
 
@@ -75,7 +75,7 @@ named-last rs cs i good l t =
 module _ (rs cs : List ℕ) (good-rs : recordsAccepted rs ≡ true) (good-cs : coordinatorAccepted cs ≡ true) (bytes-rs : Bytes rs) (bytes-cs : Bytes cs) where
   -- the number of the four bytes at o of record i is at most that of the count
   abbrev named : (i o : ℕ) → Bool
-  named i o = leb (wordOf (bytesAt rs 4 (i * 98 + o))) (wordOf (bytesAt cs 4 0))
+  named i o = leb (numberOf (bytesAt rs 4 (i * 98 + o))) (numberOf (bytesAt cs 4 0))
 
   line-at : (i : ℕ) → i < length rs / 98 → lineSet recordLayout (take 98 (drop (i * 98) rs)) ≡ true
   unfolding recordsAccepted linesSet linesOf

@@ -6,12 +6,12 @@ use native.Mathlib.Omega.{arith}
 use lib.Dec.{eqb, ltb}
 use borrow.Author.Tests.{eqb-true, ltb-true}
 use Rattle.decimal.specs.Field.{fieldText, ahead}
-use Rattle.places.specs.Order.{wordOf, wordFrom}
+use Rattle.places.specs.Order.{numberOf, numberFrom}
 use Rattle.sheet_laws.specs.Fields.{allBelow, below}
 
 -- the columns of the number k, the first weighing most
 abbrev pub columns : ℕ → ℕ
-columns k = wordOf (fieldText 4 k)
+columns k = numberOf (fieldText 4 k)
 
 -- what a column gains that takes a carry: a space becomes `1`, a digit the next one
 abbrev pub gained : ℕ → ℕ
@@ -29,7 +29,7 @@ counts : ℕ → Bool
 counts k = eqb (following (columns k)) (columns (suc k))
 
 pub columns-next : (k : ℕ) → k < 999 → following (columns k) ≡ columns (suc k)
-unfolding allBelow following fieldText ahead wordFrom counts
+unfolding allBelow following fieldText ahead numberFrom counts
 columns-next k l = eqb-true (following (columns k)) (columns (suc k)) (below 999 counts refl k l)
 
 -- columns are four bytes
@@ -37,7 +37,7 @@ fits : ℕ → Bool
 fits k = ltb (columns k) (2 ^ 32)
 
 columns-fit : (k : ℕ) → k ≤ 999 → columns k < 2 ^ 32
-unfolding allBelow fieldText ahead wordFrom fits
+unfolding allBelow fieldText ahead numberFrom fits
 columns-fit k l = ltb-true (columns k) (2 ^ 32) (below 1000 fits refl k (omega arith))
 
 -- the same of what the code holds: the columns of k, and those that follow them
