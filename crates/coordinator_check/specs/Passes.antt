@@ -23,21 +23,7 @@ use Rattle.model.specs.Lines.{lineSet, rowOf}
 use Rattle.model.specs.Coordinator.{decisionIn, numbered}
 use Rattle.sheet_laws.specs.Coordinator.{decisionText, decision-written-read, decision-read-written, decision-text-set}
 use Rattle.coordinator_check.specs.Numbers.{columns, following, columns-next}
-use Rattle.coordinator_check.specs.Lines.{
-  Bytes,
-  table,
-  told,
-  backOf,
-  wordFor,
-  lineMade,
-  lfText,
-  lfText-length,
-  lfText-ends,
-  lfText-back,
-  decisionFor,
-  chosen,
-  line-made,
-}
+use Rattle.coordinator_check.specs.Lines.{Bytes, table, told, backOf, wordFor, lineMade, lfText, lfText-length, lfText-ends, lfText-back, decisionFor, chosen, line-made}
 
 -- the n lines after line k pass, where r begins with the LF of line k
 unfoldable pub linesMade : (words : List ℕ) (k n : ℕ) (r : List ℕ) → Bool

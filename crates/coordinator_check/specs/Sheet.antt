@@ -23,7 +23,7 @@ use Rattle.places.specs.Loads.{loaded}
 use Rattle.types.specs.declared.Decision.{Decision}
 use Rattle.types.specs.declared.Decision.the-variants.{Undecided, Committed, Aborted}
 use Rattle.model.specs.Layouts.{headLayout, lineLayout, words}
-use Rattle.model.specs.Lines.{fieldValue, rowOf, lineSet, linesOf}
+use Rattle.model.specs.Lines.{rowOf, lineSet, linesOf}
 use Rattle.model.specs.Coordinator.{decisionNumber, unitOf, isUndecided, coordinatorGood, decisionIn, coordinatorOf, numbered, coordinatorAccepted}
 use Rattle.sheet_laws.specs.Lines.{length-rowOf}
 use Rattle.sheet_laws.specs.Coordinator.{bounds}

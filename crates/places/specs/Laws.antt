@@ -1,7 +1,7 @@
 -- The pass over the tables of a layout says what the layout means. Parts are independent, since the first place of each is a fixed byte and so
 -- ignores the byte on its left. Within a figure two inductions follow the scan: one before the number, after a space, and one in it, after a
 -- digit. The bound on a figure is the blank first column: k columns hold what is below 10 ^ k, and a digit in the first one makes it more.
-use Prim.Native.Nat.{ℕ, zero, suc, _+_, _-_, _*_, _^_, _≤_, _<_, min}
+use Prim.Native.Nat.{ℕ, zero, suc, _+_, _-_, _*_, _^_, _≤_, _<_}
 use mathlib.Core.Path.{_≡_, refl, sym, ap, ap₂, _∙_}
 use mathlib.Core.Bool.{Bool, true, false, not, _&&_, _||_, cond, true≢false, and-true, and-false, or-true, or-false, and-assoc}
 use mathlib.Core.List.{List, [], _∷_, _++_, map}

@@ -1,7 +1,7 @@
 -- The order of two texts by their bytes, and a text as one number. Equal lengths of bytes order as their numbers do, since one byte more takes
 -- both numbers times 256 and adds less than that: what was less stays less, and what was equal is decided by the byte.
-use Prim.Native.Nat.{ℕ, zero, suc, _+_, _-_, _*_, _^_, _<_, _≤_}
-use mathlib.Core.Path.{_≡_, refl, sym, ap, _∙_}
+use Prim.Native.Nat.{ℕ, zero, suc, _+_, _*_, _^_, _<_, _≤_}
+use mathlib.Core.Path.{_≡_, refl, sym, _∙_}
 use mathlib.Core.Bool.{Bool, true, false, _&&_, _||_, cond, and-assoc, and-true, and-false, or-false}
 use mathlib.Core.List.{List, [], _∷_}
 use native.Mathlib.Nat.{pow-suc, pow-le-pow-right}
@@ -14,7 +14,7 @@ use lib.Pow.{areBytes}
 use borrow.Author.Tests.{eqb-true, eqb-false, ltb-true, ltb-false, lt-ltb, le-ltb, eq-eqb}
 use Rattle.lists.specs.Bytes.{eqList}
 use Rattle.lists.specs.Each.{less}
-use Rattle.lists.specs.Order.{regroup, less-append}
+use Rattle.lists.specs.Order.{decided, regroup, less-append}
 use Rattle.lists.specs.Tests.{and-both, same-test, tests}
 
 -- the number whose digits to the base 256 are those of v and then the bytes
@@ -123,10 +123,3 @@ module _ (s t : List ℕ) (of-s : (i : ℕ) → getD s i 0 < 256) (of-t : (i : �
       (less-append (bytesAt s n a) (bytesAt t n b) (bytesAt s m (a + n)) (bytesAt t m (b + n)) l
       ∙ (rw (part-less n a b (omega arith) (omega arith), e)
       (decided (numberOf (bytesAt s n a)) (numberOf (bytesAt t n b)) (less (bytesAt s m (a + n)) (bytesAt t m (b + n))))))
-    where
-      decided : (x y : ℕ) (r : Bool) → (ltb x y || (eqb x y && r)) ≡ cond (eqb x y) r (ltb x y)
-      decided x y r = go (eqb x y) refl
-        where
-          go : (t : Bool) → eqb x y ≡ t → (ltb x y || (eqb x y && r)) ≡ cond (eqb x y) r (ltb x y)
-          go true e = let n : ltb x y ≡ false = le-ltb x y (omega (arith, eqb-true x y e)) in rw (n, e)
-          go false e = rw e (or-false (ltb x y))

@@ -8,11 +8,10 @@ use mathlib.Core.List.{List, map}
 use native.Mathlib.Omega.{arith}
 use lib.ListN.{length, take, drop, getD, length-take, length-drop}
 use lib.Seq.{getD-take, getD-drop}
-use lib.Dec.{eqb, leb}
+use lib.Dec.{eqb}
 use Rattle.lists.specs.Tests.{and-fst, and-same, tests}
 use Rattle.lists.specs.Bytes.{bytes, eqList}
 use Rattle.lists.specs.Each.{all}
-use Rattle.decimal.specs.declared.Scan.the-variants.{Blank, Number}
 use Rattle.decimal.specs.Field.{scanned, stepped}
 use Rattle.types.specs.declared.Kind.the-variants.{StateWord}
 use Rattle.model.specs.Layouts.{recordLayout, words, wordAt, noColumn}
@@ -28,21 +27,7 @@ use Rattle.record_check.specs.Ranges.{opened, lineHeld, set-is-held, sam
 use Rattle.record_check.specs.Figures.{scan-of}
 use Rattle.record_check.specs.Keys.{equal-bytes}
 use Rattle.record_check.specs.Limits.{keeps, limited-line, limited-parts}
-use Rattle.record_check.specs.States.{
-  kindLimits,
-  openLayout,
-  clockLimit,
-  kindParts,
-  kind-says,
-  record-opens,
-  clock-narrow,
-  clock-limited,
-  kindBy,
-  kindFor,
-  rule,
-  rowFollows,
-  kind-rule,
-}
+use Rattle.record_check.specs.States.{kindLimits, openLayout, clockLimit, kindParts, kind-says, record-opens, clock-narrow, clock-limited, kindBy, kindFor, rule, kind-rule}
 use Rattle.record_check.specs.Relations.{clockFits, follows, widest, clock-fits, follows-is}
 
 -- the line can be read, and its record is good alone

@@ -1,5 +1,4 @@
 -- The sum is that of the four bytes, from the law on four bytes; each is below 256.
-use mathlib.Core.Path.{sym, _∙_}
 use native.Mathlib.Omega.{arith}
 use borrow.Author.Needs.{needs}
 use Rattle.places.specs.Loads.{loaded-four}

@@ -1,5 +1,4 @@
 -- By the two tests: another kind, a 9 at the end, or neither.
-use native.Mathlib.Omega.{arith}
 use borrow.Author.Tests.{eq-eqb, ne-eqb}
 use borrow.Author.Needs.{needs}
 use Rattle.record_check.specs.Relations.{follows}
