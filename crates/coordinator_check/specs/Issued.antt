@@ -2,7 +2,7 @@
 -- The loop goes record by record.
 use Prim.Native.Nat.{ℕ, _+_, _*_, _/_, _<_, _≤_}
 use mathlib.Core.Path.{_≡_, refl, sym, ap, ap₂, _∙_}
-use mathlib.Core.Bool.{Bool, true, false, _&&_, not, and-false}
+use mathlib.Core.Bool.{Bool, true, false, _&&_, not}
 use mathlib.Core.List.{List, []}
 use native.Mathlib.Omega.{arith}
 use native.Mathlib.Numerals.{add-one}
@@ -73,7 +73,7 @@ named-last rs cs i l t =
 
 module _ (rs cs : List ℕ) (good-rs : recordsAccepted rs ≡ true) (good-cs : coordinatorAccepted cs ≡ true) (bytes-rs : Bytes rs) (bytes-cs : Bytes cs) where
   -- the number of the four bytes at o of record i is at most that of the count
-  abbrev pub named : (i o : ℕ) → Bool
+  abbrev named : (i o : ℕ) → Bool
   named i o = leb (numberOf (bytesAt rs 4 (i * 98 + o))) (numberOf (bytesAt cs 4 0))
 
   line-at : (i : ℕ) → i < length rs / 98 → lineSet recordLayout (take 98 (drop (i * 98) rs)) ≡ true
@@ -103,21 +103,11 @@ module _ (rs cs : List ℕ) (good-rs : recordsAccepted rs ≡ true) (good-cs : c
       (sym (named-is i 64 (recordIn line .before .txid) l (omega arith) (before-txid-at line (line-at i l))))
 
   -- record i and those after it
-  turn : (i : ℕ) → i < length rs / 98 → NamedTo rs cs i
+  pub named-turn : (i : ℕ) → i < length rs / 98 → NamedTo rs cs i
       → ((named i 36 && named i 64) && all (namesIssued (coordinatorOf cs .issued)) (drop (i + 1) (records rs))) ≡ allIssued rs cs
   unfolding all
-  turn i l t =
+  named-turn i l t =
       let p = namesIssued (coordinatorOf cs .issued) in
       sym (ap (all p) (drop-cons (records rs) i noRecord (omega (arith, length-records rs)))
       ∙ ap₂ _&&_ (record-is i l) (ap (λ (k : ℕ). all p (drop k (records rs))) (sym (add-one i))))
       ∙ t .left
-
-  pub named-next : (i : ℕ) → i < length rs / 98 → NamedTo rs cs i → named i 36 ≡ true → named i 64 ≡ true → NamedTo rs cs (i + 1)
-  named-next i l t f g = record { place = omega arith; left = rw (f, g) at (turn i l t) }
-
-  -- a number that is not issued
-  pub txid-fails : (i : ℕ) → i < length rs / 98 → NamedTo rs cs i → named i 36 ≡ false → false ≡ allIssued rs cs
-  txid-fails i l t f = rw f at (turn i l t)
-
-  pub before-fails : (i : ℕ) → i < length rs / 98 → NamedTo rs cs i → named i 64 ≡ false → false ≡ allIssued rs cs
-  before-fails i l t f = rw (f, and-false) at (turn i l t)

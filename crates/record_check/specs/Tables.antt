@@ -86,12 +86,12 @@ unfolding tables rows
 row-at i l = sym (getD-pieces 97 i 12 tables l) ∙ ap (λ (xs : List (List ℕ)). getD xs i []) (pieces-joined 97 rows long-rows)
 
 -- the three rows of a kind
-pub record Rows (k : ℕ) : Type 0 where
-  pub low : take 97 (drop (k * 291) tables) ≡ lows (body k)
-  pub high : take 97 (drop (k * 291 + 97) tables) ≡ highs (body k)
-  pub also : take 97 (drop (k * 291 + 194) tables) ≡ alsos (body k)
+record Rows (k : ℕ) : Type 0 where
+  low : take 97 (drop (k * 291) tables) ≡ lows (body k)
+  high : take 97 (drop (k * 291 + 97) tables) ≡ highs (body k)
+  also : take 97 (drop (k * 291 + 194) tables) ≡ alsos (body k)
 
-pub rows-of : (k : ℕ) → k < 4 → Rows k
+rows-of : (k : ℕ) → k < 4 → Rows k
 unfolding rows
 rows-of zero l = record { low = row-at 0 (omega arith); high = row-at 1 (omega arith); also = row-at 2 (omega arith) }
 rows-of (suc zero) l = record { low = row-at 3 (omega arith); high = row-at 4 (omega arith); also = row-at 5 (omega arith) }

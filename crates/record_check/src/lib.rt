@@ -31,7 +31,7 @@ const TABLES: [u8; 1164] = *b"\
 \x209 99 99 99999 99999 COMMITTED 99999 999 99999999 99999999     0   0        0        0          0\
 \x209  9  9     0     0 COMMITTED     9   0        0        0     0   0        0        0          0";
 
-// The number of the line's kind. Found by counting and not by tests, so that no branch depends on what the line says.
+// The number of the line's kind, if it is good. It is counted, so that its tables are found without a branch on what the line says.
 fn kind(line: &[u8]) -> usize
     requires { ⌜ length (now line) ≡ 98 ⌝ }
     ensures { λ r. ⌜ r ≡ kindOf (now (line .entry)) ⌝ }

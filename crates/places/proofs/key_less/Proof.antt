@@ -16,7 +16,8 @@ word-requires-2 : tie.Need-word-requires-2
 word-requires-2 c κs = search needs
 
 returns : tie.Need-returns
-returns c = let a = c .before .before .before .before .args in
+returns c =
+    let a = c .before .before .before .before .args in
     let s = a .s .now in
     let w = c .before .word2 .ensures in
     let v = c .before .before .word .ensures in
@@ -34,11 +35,13 @@ twelve-less-requires : tie.Need-twelve-less-requires
 twelve-less-requires c κs = search needs
 
 returns-2 : tie.Need-returns-2
-returns-2 c = let a = c .before .before .before .before .before .args in
+returns-2 c =
+    let a = c .before .before .before .before .before .args in
     let s = a .s .now in
     let of-s : (i : ℕ) → getD s i 0 < 256 = λ i. c .before .before .before .before .shared-slice-known .given i .fits in
     let split = part-split s s of-s of-s 8 12 (a .a) (a .b) (omega arith) (omega arith) in
-    c .twelve-less .ensures ∙ sym (rw (eq-eqb _ _ (sym (c .before .before .before .word .ensures) ∙ (c .before .if1 .left ∙ c .before .before .word2 .ensures))) at split)
+    let same = sym (c .before .before .before .word .ensures) ∙ (c .before .if1 .left ∙ c .before .before .word2 .ensures) in
+    c .twelve-less .ensures ∙ sym (rw (eq-eqb _ _ same) at split)
 
 pub key-less-spec : {M : Type 1} → statement M
 key-less-spec =

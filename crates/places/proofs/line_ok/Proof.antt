@@ -44,7 +44,8 @@ shared-slice-read-stands : tie.Need-shared-slice-read-stands Inv-loop μ-loop
 shared-slice-read-stands c = search needs
 
 stands-requires : tie.Need-stands-requires Inv-loop μ-loop
-stands-requires c κs = let l = c .before .before .loop in
+stands-requires c κs =
+    let l = c .before .before .loop in
     let t = tables (c .before .before .before) in
     omega (arith, c .before .before .before .before .before .before .before .before .before .pre (l .i))
 
@@ -55,7 +56,8 @@ loop-less : tie.Need-loop-less Inv-loop μ-loop
 loop-less c = search needs
 
 loop-again : tie.Need-loop-again Inv-loop μ-loop
-loop-again c = let a = c .before .before .before .before .before .before .before .before .before .before .args in
+loop-again c =
+    let a = c .before .before .before .before .before .before .before .before .before .before .args in
     let l = c .before .before .before .loop in (
       omega arith,
       rest-next
@@ -74,7 +76,8 @@ loop-again c = let a = c .before .before .before .before .before .before .before
 
 returns-2 : tie.Need-returns-2 Inv-loop μ-loop
 unfolding lineOk
-returns-2 c = let a = c .before .before .before .before .before .before .before .before .args in
+returns-2 c =
+    let a = c .before .before .before .before .before .before .before .before .args in
     let l = c .before .loop in
     rw (told (c .before .before))
     (sym (rest-end (l .good) (l .i) (a .low .now) (a .high .now) (a .also .now) (a .line .now) (c .loop-test .left)) ∙ l .inv .1)

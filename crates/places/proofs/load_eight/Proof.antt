@@ -21,7 +21,8 @@ add-result : tie.Need-add-result
 add-result c = search needs
 
 returns : tie.Need-returns
-returns c = let a = c .before .before .before .args in
+returns c =
+    let a = c .before .before .before .args in
     rw (c .load-four2 .ensures .0, c .before .load-four .ensures .0) (loaded-eight (a .s .now) (a .at) (omega arith))
 
 pub load-eight-spec : {M : Type 1} → statement M

@@ -38,7 +38,8 @@ loop-again c = let l = c .before .loop in (
 
 returns : tie.Need-returns Inv-loop μ-loop
 unfolding turned
-returns c = let l = c .before .loop in
+returns c =
+    let l = c .before .loop in
     let e : c .before .before .args .n - l .i ≡ 0 = omega arith in
     (rw e at (l .inv .2), number-fits (l .v) (l .i) (c .before .before .args .n) (l .inv .1) (l .inv .0))
 

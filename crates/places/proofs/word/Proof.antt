@@ -12,7 +12,8 @@ turned-requires : tie.Need-turned-requires
 turned-requires c κs = search needs
 
 returns : tie.Need-returns
-returns c = let a = c .before .before .before .args in
+returns c =
+    let a = c .before .before .before .args in
     rw (c .turned .ensures .0, c .before .load-eight .ensures)
     (turned-is (a .s .now) 8 (a .at) (λ i. c .before .before .shared-slice-known .given i .fits) (omega arith))
 

@@ -22,7 +22,8 @@ cast-result c = search needs
 
 returns : tie.Need-returns
 unfolding kindOf
-returns c = let k = c .before .before .before .before in
+returns c =
+    let k = c .before .before .before .before in
     let n = nothing-is (k .args .line .now) (λ i. c .before .before .before .shared-slice-known .given i .fits) (k .pre) in
     (rw (c .bit .ensures .0, c .before .before .load-six .ensures .0, n), omega arith)
 

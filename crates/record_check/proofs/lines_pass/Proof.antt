@@ -18,7 +18,8 @@ abbrev μ-loop : tie.MeasureT-loop
 μ-loop s n lent highest i₀ i = n - i
 
 loop-holds : tie.Need-loop-holds Inv-loop μ-loop
-loop-holds c = let a = c .before .before .before .args in
+loop-holds c =
+    let a = c .before .before .before .args in
     let e : a .n - 0 ≡ a .n = omega arith in
     (omega arith, rw e)
 
@@ -49,7 +50,8 @@ judged c =
     rw w at (c .line-good .ensures)
 
 returns : tie.Need-returns Inv-loop μ-loop
-returns c = let a = c .before .before .before .before .before .before .before .before .args in
+returns c =
+    let a = c .before .before .before .before .before .before .before .before .args in
     let l = c .before .before .before .before .loop in
     let f = sym (judged (c .before)) ∙ not-true (c .before .line-good .result) (c .if1 .taken) in
     sym (sym (l .inv .1) ∙ (pass-next (l .i) (a .n) (a .s .now) (c .before .before .before .loop-test .taken) ∙ rw f))
@@ -58,7 +60,8 @@ key-rises-requires : tie.Need-key-rises-requires Inv-loop μ-loop
 key-rises-requires c κs = search needs
 
 returns-2 : tie.Need-returns-2 Inv-loop μ-loop
-returns-2 c = let a = c .before .before .before .before .before .before .before .before .before .before .args in
+returns-2 c =
+    let a = c .before .before .before .before .before .before .before .before .before .before .args in
     let l = c .before .before .before .before .before .before .loop in
     let f = sym (c .before .key-rises .ensures) ∙ not-true (c .before .key-rises .result) (c .if2 .taken) in
     sym (sym (l .inv .1) ∙ (pass-next (l .i) (a .n) (a .s .now) (c .before .before .before .before .before .loop-test .taken) ∙ rw (f, and-false)))
@@ -70,7 +73,8 @@ loop-less : tie.Need-loop-less Inv-loop μ-loop
 loop-less c = search needs
 
 loop-again : tie.Need-loop-again Inv-loop μ-loop
-loop-again c = let a = c .before .before .before .before .before .before .before .before .before .before .args in
+loop-again c =
+    let a = c .before .before .before .before .before .before .before .before .before .before .args in
     let l = c .before .before .before .before .before .before .loop in
     let f = sym (judged (c .before .before .before)) ∙ not-false (c .before .before .before .line-good .result) (c .before .before .if1 .left) in
     let g = sym (c .before .key-rises .ensures) ∙ not-false (c .before .key-rises .result) (c .if2 .left) in
@@ -78,7 +82,8 @@ loop-again c = let a = c .before .before .before .before .before .before .before
 
 returns-3 : tie.Need-returns-3 Inv-loop μ-loop
 unfolding linesPass
-returns-3 c = let l = c .before .loop in
+returns-3 c =
+    let l = c .before .loop in
     let e : c .before .before .before .before .before .args .n - l .i ≡ 0 = omega arith in
     rw e at (l .inv .1)
 

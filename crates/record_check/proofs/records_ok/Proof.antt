@@ -27,17 +27,20 @@ mul-if1 c = search needs
 
 returns : tie.Need-returns
 unfolding sheetSized
-returns c = let s = c .before .before .args .records .now in
+returns c =
+    let s = c .before .before .args .records .now in
     rw (accepted-is s, ne-eqb (length s) (length s / 98 * 98) (λ q. c .if1 .taken (sym q)))
 
 returns-2 : tie.Need-returns-2
 unfolding sheetSized
-returns-2 c = let s = c .before .before .before .args .records .now in
+returns-2 c =
+    let s = c .before .before .before .args .records .now in
     rw (accepted-is s, lt-leb 1 (length s / 98) (c .if2 .taken), and-false)
 
 returns-3 : tie.Need-returns-3
 unfolding sheetSized
-returns-3 c = let s = c .before .before .before .before .args .records .now in
+returns-3 c =
+    let s = c .before .before .before .before .args .records .now in
     rw (accepted-is s, lt-leb (length s / 98) 500 (c .if3 .taken), and-false, and-false)
 
 slice-aggregate-lines-pass : tie.Need-slice-aggregate-lines-pass
@@ -52,7 +55,8 @@ lines-pass-requires c κs = (sym (c .before .before .before .before .if1 .left),
 
 returns-4 : tie.Need-returns-4
 unfolding sheetSized
-returns-4 c = let k = c .before .before .before .before .before in
+returns-4 c =
+    let k = c .before .before .before .before .before in
     let s = k .before .before .args .records .now in
     let n = length s / 98 in
     rw (accepted-is s, eq-eqb (length s) (n * 98) (sym (k .if1 .left)), le-leb 1 n (omega arith), le-leb n 500 (omega arith))

@@ -59,7 +59,8 @@ part-line-ok-end-4 : tie.Need-part-line-ok-end-4
 part-line-ok-end-4 c = let l = ap length (c .before .before .before .before .before .pre .1 .0) ∙ tables-length in omega arith
 
 line-ok-requires : tie.Need-line-ok-requires
-line-ok-requires c κs = let k = c .before .before .before .before .before .before in
+line-ok-requires c κs =
+    let k = c .before .before .before .before .before .before in
     let at = k .args .kind * 291 in
     let w : at + 97 - at ≡ 97 = omega arith in
     rw (w, k .pre .1 .0) (tables-room (k .args .kind) (k .pre .1 .1))
@@ -79,7 +80,8 @@ judged c =
     rw (v, w, u, k .pre .1 .0) at (c .line-ok .ensures)
 
 returns : tie.Need-returns
-returns c = let k = c .before .before .before .before .before .before .before .before in
+returns c =
+    let k = c .before .before .before .before .before .before .before .before in
     let f = sym (judged (c .before)) ∙ not-true (c .before .line-ok .result) (c .if1 .taken) in
     rw f at (tables-are (k .args .kind) (k .pre .1 .1) (k .args .line .now) (k .pre .0))
 
@@ -90,7 +92,8 @@ shared-slice-read-result-2 : tie.Need-shared-slice-read-result-2
 shared-slice-read-result-2 c = search needs
 
 returns-2 : tie.Need-returns-2
-returns-2 c = let k = c .before .before .before .before .before .before .before .before .before .before in
+returns-2 c =
+    let k = c .before .before .before .before .before .before .before .before .before .before in
     let f = sym (judged (c .before .before .before)) ∙ not-false (c .before .before .before .line-ok .result) (c .before .before .if1 .left) in
     rw f at (tables-are (k .args .kind) (k .pre .1 .1) (k .args .line .now) (k .pre .0))
 

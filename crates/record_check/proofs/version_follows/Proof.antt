@@ -22,7 +22,9 @@ add-result c = search needs
 
 returns-2 : tie.Need-returns-2
 unfolding follows
-returns-2 c = rw (eq-eqb (c .before .before .before .before .before .before .args .kind) 2 (c .before .before .before .before .if1 .left), eq-eqb _ 57 (c .before .before .if2 .taken), c .figure2 .ensures .0, c .before .figure .ensures .0)
+returns-2 c =
+    let e = eq-eqb (c .before .before .before .before .before .before .args .kind) 2 (c .before .before .before .before .if1 .left) in
+    rw (e, eq-eqb _ 57 (c .before .before .if2 .taken), c .figure2 .ensures .0, c .before .figure .ensures .0)
 
 load-six-requires : tie.Need-load-six-requires
 load-six-requires c κs = search needs
@@ -35,7 +37,9 @@ add-result-2 c = search needs
 
 returns-3 : tie.Need-returns-3
 unfolding follows
-returns-3 c = rw (eq-eqb (c .before .before .before .before .before .before .args .kind) 2 (c .before .before .before .before .if1 .left), ne-eqb _ 57 (c .before .before .if2 .left), c .load-six2 .ensures .0, c .before .load-six .ensures .0)
+returns-3 c =
+    let e = eq-eqb (c .before .before .before .before .before .before .args .kind) 2 (c .before .before .before .before .if1 .left) in
+    rw (e, ne-eqb _ 57 (c .before .before .if2 .left), c .load-six2 .ensures .0, c .before .load-six .ensures .0)
 
 pub version-follows-spec : {M : Type 1} → statement M
 version-follows-spec =
