@@ -1,9 +1,9 @@
 -- No record names a number above the issued count: four columns that hold a figure order as their bytes do, and so as one number.
 -- The loop goes record by record.
-use Prim.Native.Nat.{ℕ, zero, suc, _+_, _*_, _/_, _<_, _≤_}
+use Prim.Native.Nat.{ℕ, _+_, _*_, _/_, _<_, _≤_}
 use mathlib.Core.Path.{_≡_, refl, sym, ap, ap₂, _∙_}
-use mathlib.Core.Bool.{Bool, true, false, _&&_, not, and-assoc, and-true}
-use mathlib.Core.List.{List, [], _∷_}
+use mathlib.Core.Bool.{Bool, true, false, _&&_, not}
+use mathlib.Core.List.{List, []}
 use native.Mathlib.Omega.{arith}
 use native.Mathlib.Numerals.{add-one}
 use lib.ListN.{length, take, drop, getD, length-take, length-drop, drop-of-length-le}
@@ -14,15 +14,14 @@ use borrow.Author.Tests.{leb-true, leb-false, le-ltb, lt-ltb}
 use Rattle.lists.specs.Each.{all, pieces}
 use Rattle.lists.specs.All.{all-at}
 use Rattle.lists.specs.Pieces.{take-drop-take, getD-pieces, length-pieces}
-use Rattle.lists.specs.Tests.{and-fst, and-snd, tests}
+use Rattle.lists.specs.Tests.{tests}
 use Rattle.decimal.specs.declared.Scan.the-variants.{Number}
-use Rattle.decimal.specs.Field.{figure, isNumber}
-use Rattle.decimal.specs.Laws.{isNumber-number, figure-scan}
+use Rattle.decimal.specs.Field.{figure}
+use Rattle.decimal.specs.Laws.{figure-scan}
 use Rattle.decimal.specs.Order.{order-bytes}
-use Rattle.places.specs.Order.{wordOf, bytesAt, less-is, part-bytes}
-use Rattle.types.specs.declared.Column.{Column}
-use Rattle.model.specs.Layouts.{recordLayout, noColumn}
-use Rattle.model.specs.Lines.{fieldValue, rowOf, lineSet, linesOf, linesSet}
+use Rattle.places.specs.Order.{numberOf, bytesAt, less-is, part-bytes}
+use Rattle.model.specs.Layouts.{recordLayout}
+use Rattle.model.specs.Lines.{fieldValue, lineSet, linesOf, linesSet}
 use Rattle.model.specs.Records.{noRecord, recordOf, imageFrom, recordIn, records, recordsAccepted}
 use Rattle.model.specs.Coordinator.{coordinatorOf, coordinatorAccepted, namesIssued}
 use Rattle.model.specs.SheetCalls.{allIssued}
@@ -50,32 +49,32 @@ at-most a b = go (leb a b) refl
 
 -- figures of one width are ordered by their bytes' numbers
 figures-order : (s t : List ℕ) (a b : ℕ) → figure 0 999 s ≡ Number a → figure 0 999 t ≡ Number b → areBytes s ≡ true → areBytes t ≡ true
-    → length s ≡ length t → leb (wordOf s) (wordOf t) ≡ leb a b
+    → length s ≡ length t → leb (numberOf s) (numberOf t) ≡ leb a b
 figures-order s t a b p q f g n =
-    at-most (wordOf s) (wordOf t)
+    at-most (numberOf s) (numberOf t)
     ∙ ap not (sym (less-is t s g f (sym n)) ∙ order-bytes t s b a (figure-scan 0 999 t b q .0) (figure-scan 0 999 s a p .0) (sym n))
     ∙ sym (at-most a b)
 
--- How far the records have been looked at: those before i are good, or one is not.
-pub record NamedTo (rs cs : List ℕ) (i : ℕ) (good : Bool) : Type 0 where
+-- How far the records have been looked at: those before i are good.
+pub record NamedTo (rs cs : List ℕ) (i : ℕ) : Type 0 where
   pub place : i ≤ length rs / 98
-  pub left : (good && all (namesIssued (coordinatorOf cs .issued)) (drop i (records rs))) ≡ allIssued rs cs
+  pub left : all (namesIssued (coordinatorOf cs .issued)) (drop i (records rs)) ≡ allIssued rs cs
 
-pub named-first : (rs cs : List ℕ) → NamedTo rs cs 0 true
+pub named-first : (rs cs : List ℕ) → NamedTo rs cs 0
 unfolding allIssued
 named-first rs cs = record { place = omega arith; left = refl }
 
-pub named-last : (rs cs : List ℕ) (i : ℕ) (good : Bool) → length rs / 98 ≤ i → NamedTo rs cs i good → good ≡ allIssued rs cs
+pub named-last : (rs cs : List ℕ) (i : ℕ) → length rs / 98 ≤ i → NamedTo rs cs i → true ≡ allIssued rs cs
 unfolding all
-named-last rs cs i good l t =
+named-last rs cs i l t =
     let n : length (records rs) ≤ i = omega (arith, length-records rs) in
     let d : drop i (records rs) ≡ [] = drop-of-length-le (records rs) n in
-    sym (and-true good) ∙ (rw d at (t .left))
+    rw d at (t .left)
 
 module _ (rs cs : List ℕ) (good-rs : recordsAccepted rs ≡ true) (good-cs : coordinatorAccepted cs ≡ true) (bytes-rs : Bytes rs) (bytes-cs : Bytes cs) where
   -- the number of the four bytes at o of record i is at most that of the count
   abbrev named : (i o : ℕ) → Bool
-  named i o = leb (wordOf (bytesAt rs 4 (i * 98 + o))) (wordOf (bytesAt cs 4 0))
+  named i o = leb (numberOf (bytesAt rs 4 (i * 98 + o))) (numberOf (bytesAt cs 4 0))
 
   line-at : (i : ℕ) → i < length rs / 98 → lineSet recordLayout (take 98 (drop (i * 98) rs)) ≡ true
   unfolding recordsAccepted linesSet linesOf
@@ -103,16 +102,12 @@ module _ (rs cs : List ℕ) (good-rs : recordsAccepted rs ≡ true) (good-cs : c
       ∙ ap₂ _&&_ (sym (named-is i 36 (recordIn line .image .txid) l (omega arith) (txid-at line (line-at i l))))
       (sym (named-is i 64 (recordIn line .before .txid) l (omega arith) (before-txid-at line (line-at i l))))
 
-  pub named-next : (i : ℕ) (good : Bool) → i < length rs / 98 → NamedTo rs cs i good → NamedTo rs cs (i + 1) (good && named i 36 && named i 64)
+  -- record i and those after it
+  pub named-turn : (i : ℕ) → i < length rs / 98 → NamedTo rs cs i
+      → ((named i 36 && named i 64) && all (namesIssued (coordinatorOf cs .issued)) (drop (i + 1) (records rs))) ≡ allIssued rs cs
   unfolding all
-  named-next i good l t =
+  named-turn i l t =
       let p = namesIssued (coordinatorOf cs .issued) in
-      let e : all p (drop i (records rs)) ≡ ((named i 36 && named i 64) && all p (drop (i + 1) (records rs))) =
-      ap (all p) (drop-cons (records rs) i noRecord (omega (arith, length-records rs)))
-      ∙ ap₂ _&&_ (record-is i l) (ap (λ (k : ℕ). all p (drop k (records rs))) (sym (add-one i))) in
-      record {
-        place = omega arith;
-        left =
-            ap (λ (b : Bool). b && all p (drop (i + 1) (records rs))) (and-assoc good (named i 36) (named i 64))
-            ∙ (and-assoc good (named i 36 && named i 64) (all p (drop (i + 1) (records rs))) ∙ (ap (λ (b : Bool). good && b) (sym e) ∙ t .left));
-      }
+      sym (ap (all p) (drop-cons (records rs) i noRecord (omega (arith, length-records rs)))
+      ∙ ap₂ _&&_ (record-is i l) (ap (λ (k : ℕ). all p (drop k (records rs))) (sym (add-one i))))
+      ∙ t .left

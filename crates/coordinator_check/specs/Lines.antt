@@ -17,7 +17,8 @@ use Rattle.lists.specs.All.{listed-is}
 use Rattle.lists.specs.Tests.{and-fst, and-snd}
 use Rattle.decimal.specs.Field.{fieldText, ahead}
 use Rattle.decimal.specs.Laws.{fieldText-bytes}
-use Rattle.places.specs.Order.{wordOf, wordFrom, equal-is, part-bytes}
+use Rattle.places.specs.Order.{part-bytes}
+use Rattle.places.specs.Loads.{loaded, loaded-equal}
 use Rattle.types.specs.declared.Kind.the-variants.{DecisionWord}
 use Rattle.types.specs.declared.Decision.{Decision}
 use Rattle.types.specs.declared.Decision.the-variants.{Undecided, Committed, Aborted}
@@ -35,15 +36,15 @@ Bytes s = (i : ℕ) → getD s i 0 < 256
 
 -- LF before the line, zeros where the line has its number, and the first three bytes of the word
 abbrev pub frontOf : List ℕ → ℕ
-frontOf w = 10 * 2 ^ 56 + wordOf (take 3 w)
+frontOf w = loaded (take 3 w) * 2 ^ 40 + 10
 
 -- the other seven bytes of the word, and LF
 abbrev pub backOf : List ℕ → ℕ
-backOf w = wordOf (drop 3 w ++ (10 ∷ []))
+backOf w = loaded (drop 3 w ++ (10 ∷ []))
 
 -- the place that the word's fifth byte tells: ` `, `M` and `B` leave 0, 1 and 2 by 4
 abbrev pub told : ℕ → ℕ
-told back = back / 2 ^ 48 % 4
+told back = back / 256 % 4
 
 abbrev pub wordFor : Decision → List ℕ
 wordFor d = wordAt DecisionWord (decisionNumber d)
@@ -64,44 +65,41 @@ table a b c d =
 -- what the code needs of a table: eight numbers, and room for a line's number in each front
 pub record Table (words : List ℕ) : Type 0 where
   pub eight : length words ≡ 8
-  pub room : (i : ℕ) → i < 4 → getD words i 0 ≤ 11 * 2 ^ 56
+  pub room : (i : ℕ) → i < 4 → getD words i 0 ≤ 80 * 2 ^ 56
 
 -- The judgement.
 
 abbrev pub judged : (number front back : ℕ) (words : List ℕ) → Bool
 judged number front back words =
-    eqb front (number * 2 ^ 24 + getD words (told back) 0) && eqb back (getD words (told back + 4) 0)
+    eqb front (number * 256 + getD words (told back) 0) && eqb back (getD words (told back + 4) 0)
 
 -- r begins with an LF, and the line after it has these columns and a word of the table
 unfoldable pub lineMade : (number : ℕ) (words r : List ℕ) → Bool
-lineMade number words r = judged number (wordOf (take 8 r)) (wordOf (take 8 (drop 8 r))) words
+lineMade number words r = judged number (loaded (take 8 r)) (loaded (take 8 (drop 8 r))) words
 
 -- The code's numbers are these.
 
-pub line-is : (number front back start : ℕ) (words s : List ℕ) → front ≡ wordOf (take 8 (drop start s))
-    → back ≡ wordOf (take 8 (drop (start + 8) s)) → judged number front back words ≡ lineMade number words (drop start s)
+pub line-is : (number front back start : ℕ) (words s : List ℕ) → front ≡ loaded (take 8 (drop start s))
+    → back ≡ loaded (take 8 (drop (start + 8) s)) → judged number front back words ≡ lineMade number words (drop start s)
 unfolding lineMade
 line-is number front back start words s p q = rw (p, q, drop-drop 8 start s)
 
--- of four bytes of a word the last is divided away; of eight the first is taken off by its weight
+-- of four bytes of a word the last is taken off by its weight; of eight the first is divided away
 module _ (w : List ℕ) (ten : length w ≡ 10) (each : Bytes w) where
-  pub front-is : 10 * 2 ^ 56 + wordOf (take 4 w) / 256 ≡ frontOf w
-  unfolding wordFrom listed
+  pub front-is : loaded (take 4 w) % 2 ^ 24 * 2 ^ 40 + 10 ≡ frontOf w
+  unfolding loaded listed
   front-is =
+      let a = each 0 in
+      let b = each 1 in
+      let c = each 2 in
       let d = each 3 in
-      subst (λ (t : List ℕ). 10 * 2 ^ 56 + wordOf (take 4 t) / 256 ≡ frontOf t) (listed-is 0 10 w ten) (omega arith)
+      subst (λ (t : List ℕ). loaded (take 4 t) % 2 ^ 24 * 2 ^ 40 + 10 ≡ frontOf t) (listed-is 0 10 w ten) (omega arith)
 
-  pub back-is : wordOf (take 8 (drop 2 w)) % 2 ^ 56 * 256 + 10 ≡ backOf w
-  unfolding wordFrom listed
+  pub back-is : loaded (take 8 (drop 2 w)) / 256 + 10 * 2 ^ 56 ≡ backOf w
+  unfolding loaded listed
   back-is =
-      let d = each 3 in
-      let e = each 4 in
-      let f = each 5 in
-      let g = each 6 in
-      let h = each 7 in
-      let i = each 8 in
-      let j = each 9 in
-      subst (λ (t : List ℕ). wordOf (take 8 (drop 2 t)) % 2 ^ 56 * 256 + 10 ≡ backOf t) (listed-is 0 10 w ten) (omega arith)
+      let c = each 2 in
+      subst (λ (t : List ℕ). loaded (take 8 (drop 2 t)) / 256 + 10 * 2 ^ 56 ≡ backOf t) (listed-is 0 10 w ten) (omega arith)
 
 -- The text of a line with the LF before it.
 
@@ -138,13 +136,13 @@ lfText-ends k Committed = refl
 lfText-ends k Aborted = refl
 
 -- its two numbers
-lfText-front : (k : ℕ) (d : Decision) → wordOf (take 8 (lfText k d)) ≡ columns k * 2 ^ 24 + frontOf (wordFor d)
-unfolding lineText lineLayout fieldBytes fieldText ahead words bytes decisionNumber wordFrom
+lfText-front : (k : ℕ) (d : Decision) → loaded (take 8 (lfText k d)) ≡ columns k * 256 + frontOf (wordFor d)
+unfolding lineText lineLayout fieldBytes fieldText ahead words bytes decisionNumber loaded
 lfText-front k Undecided = omega arith
 lfText-front k Committed = omega arith
 lfText-front k Aborted = omega arith
 
-pub lfText-back : (k : ℕ) (d : Decision) → wordOf (take 8 (drop 8 (lfText k d))) ≡ backOf (wordFor d)
+pub lfText-back : (k : ℕ) (d : Decision) → loaded (take 8 (drop 8 (lfText k d))) ≡ backOf (wordFor d)
 unfolding lineText lineLayout fieldBytes fieldText ahead words bytes decisionNumber
 lfText-back k Undecided = refl
 lfText-back k Committed = refl
@@ -152,17 +150,17 @@ lfText-back k Aborted = refl
 
 -- sixteen bytes are equal if the first eight and the last eight are equal as numbers
 sixteen : (r t : List ℕ) → Bytes r → Bytes t → 16 ≤ length r → 16 ≤ length t
-    → eqList (take 16 r) (take 16 t) ≡ (eqb (wordOf (take 8 r)) (wordOf (take 8 t)) && eqb (wordOf (take 8 (drop 8 r))) (wordOf (take 8 (drop 8 t))))
+    → eqList (take 16 r) (take 16 t) ≡ (eqb (loaded (take 8 r)) (loaded (take 8 t)) && eqb (loaded (take 8 (drop 8 r))) (loaded (take 8 (drop 8 t))))
 sixteen r t f g n m =
     let l : length (take 8 r) ≡ length (take 8 t) = simp length-take (omega arith) in
     let k : length (take 8 (drop 8 r)) ≡ length (take 8 (drop 8 t)) = simp (length-take, length-drop) (omega arith) in
     rw (take-add 8 8 r, take-add 8 8 t)
     (eqList-append (take 8 r) (take 8 t) (take 8 (drop 8 r)) (take 8 (drop 8 t)) l
-    ∙ ap₂ _&&_ (equal-is (take 8 r) (take 8 t) (part-bytes r 8 0 f) (part-bytes t 8 0 g) l)
-    (equal-is (take 8 (drop 8 r)) (take 8 (drop 8 t)) (part-bytes r 8 8 f) (part-bytes t 8 8 g) k))
+    ∙ sym (ap₂ _&&_ (loaded-equal (take 8 r) (take 8 t) (part-bytes r 8 0 f) (part-bytes t 8 0 g) l)
+    (loaded-equal (take 8 (drop 8 r)) (take 8 (drop 8 t)) (part-bytes r 8 8 f) (part-bytes t 8 8 g) k)))
 
-front-room : (d : Decision) → frontOf (wordFor d) ≤ 11 * 2 ^ 56
-unfolding words bytes decisionNumber wordFrom
+front-room : (d : Decision) → frontOf (wordFor d) ≤ 80 * 2 ^ 56
+unfolding words bytes decisionNumber loaded
 front-room Undecided = omega arith
 front-room Committed = omega arith
 front-room Aborted = omega arith
@@ -193,14 +191,14 @@ module _ (a b c d : Decision) where
 
   -- the decision that the line after the LF can say
   abbrev pub chosen : List ℕ → Decision
-  chosen r = decisionFor (told (wordOf (take 8 (drop 8 r))))
+  chosen r = decisionFor (told (loaded (take 8 (drop 8 r))))
 
   -- the judgement is that LF and the line have the bytes of its text
   pub line-made : (k : ℕ) (r : List ℕ) → Bytes r → 16 ≤ length r → lineMade (columns k) (table a b c d) r ≡ eqList (take 16 r) (lfText k (chosen r))
   unfolding lineMade
   line-made k r f n =
       let t = lfText k (chosen r) in
-      let e = entries (told (wordOf (take 8 (drop 8 r)))) (omega arith) in
+      let e = entries (told (loaded (take 8 (drop 8 r)))) (omega arith) in
       let l : length t ≡ 16 = lfText-length k (chosen r) in
       let w : take 16 t ≡ t = take-all 16 t (omega arith) in
       rw (e .0, e .1, ← lfText-front k (chosen r), ← lfText-back k (chosen r))

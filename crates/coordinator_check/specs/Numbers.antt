@@ -6,12 +6,12 @@ use native.Mathlib.Omega.{arith}
 use lib.Dec.{eqb, ltb}
 use borrow.Author.Tests.{eqb-true, ltb-true}
 use Rattle.decimal.specs.Field.{fieldText, ahead}
-use Rattle.places.specs.Order.{wordOf, wordFrom}
+use Rattle.places.specs.Loads.{loaded}
 use Rattle.sheet_laws.specs.Fields.{allBelow, below}
 
--- the columns of the number k, the first weighing most
+-- the columns of the number k, the first weighing least
 abbrev pub columns : ℕ → ℕ
-columns k = wordOf (fieldText 4 k)
+columns k = loaded (fieldText 4 k)
 
 -- what a column gains that takes a carry: a space becomes `1`, a digit the next one
 abbrev pub gained : ℕ → ℕ
@@ -20,16 +20,18 @@ gained column = cond (eqb column 32) 17 1
 -- the columns of the next number
 unfoldable pub following : ℕ → ℕ
 following n =
-    cond (eqb (n % 256) 57)
-    (cond (eqb (n / 256 % 256) 57) (n - 2313 + gained (n / 65536 % 256) * 65536) (n - 9 + gained (n / 256 % 256) * 256))
-    (n + 1)
+    cond (ltb n (57 * 2 ^ 24))
+    (n + 2 ^ 24)
+    (cond (eqb (n / 2 ^ 16 % 256) 57)
+    (n - (9 * 2 ^ 24 + 9 * 2 ^ 16) + gained (n / 256 % 256) * 256)
+    (n - 9 * 2 ^ 24 + gained (n / 2 ^ 16 % 256) * 2 ^ 16))
 
 -- the columns of k + 1 follow those of k
 counts : ℕ → Bool
 counts k = eqb (following (columns k)) (columns (suc k))
 
 pub columns-next : (k : ℕ) → k < 999 → following (columns k) ≡ columns (suc k)
-unfolding allBelow following fieldText ahead wordFrom counts
+unfolding allBelow following fieldText ahead loaded counts
 columns-next k l = eqb-true (following (columns k)) (columns (suc k)) (below 999 counts refl k l)
 
 -- columns are four bytes
@@ -37,7 +39,7 @@ fits : ℕ → Bool
 fits k = ltb (columns k) (2 ^ 32)
 
 columns-fit : (k : ℕ) → k ≤ 999 → columns k < 2 ^ 32
-unfolding allBelow fieldText ahead wordFrom fits
+unfolding allBelow fieldText ahead loaded fits
 columns-fit k l = ltb-true (columns k) (2 ^ 32) (below 1000 fits refl k (omega arith))
 
 -- the same of what the code holds: the columns of k, and those that follow them

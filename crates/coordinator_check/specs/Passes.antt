@@ -15,7 +15,7 @@ use Rattle.lists.specs.Each.{all, pieces}
 use Rattle.lists.specs.All.{all-at}
 use Rattle.lists.specs.Pieces.{take-drop-take}
 use Rattle.lists.specs.Tests.{and-fst, and-snd, and-both}
-use Rattle.places.specs.Order.{wordOf}
+use Rattle.places.specs.Loads.{loaded}
 use Rattle.types.specs.declared.Decision.{Decision}
 use Rattle.types.specs.declared.Decision.the-variants.{Undecided}
 use Rattle.model.specs.Layouts.{lineLayout}
@@ -23,21 +23,7 @@ use Rattle.model.specs.Lines.{lineSet, rowOf}
 use Rattle.model.specs.Coordinator.{decisionIn, numbered}
 use Rattle.sheet_laws.specs.Coordinator.{decisionText, decision-written-read, decision-read-written, decision-text-set}
 use Rattle.coordinator_check.specs.Numbers.{columns, following, columns-next}
-use Rattle.coordinator_check.specs.Lines.{
-  Bytes,
-  table,
-  told,
-  backOf,
-  wordFor,
-  lineMade,
-  lfText,
-  lfText-length,
-  lfText-ends,
-  lfText-back,
-  decisionFor,
-  chosen,
-  line-made,
-}
+use Rattle.coordinator_check.specs.Lines.{Bytes, table, told, backOf, wordFor, lineMade, lfText, lfText-length, lfText-ends, lfText-back, decisionFor, chosen, line-made}
 
 -- the n lines after line k pass, where r begins with the LF of line k
 unfoldable pub linesMade : (words : List ℕ) (k n : ℕ) (r : List ℕ) → Bool
@@ -110,7 +96,7 @@ module _ (a b c d : Decision) (P : Decision → Bool) where
       let t : take 15 (drop 1 r) ≡ decisionText (suc k) e =
       sym (take-drop-take 15 1 16 r (omega arith))
       ∙ (ap (λ (s : List ℕ). take 15 (drop 1 s)) q ∙ take-all 15 (decisionText (suc k) e) (omega (arith, lfText-length (suc k) e))) in
-      let u : P e ≡ true = all-at P (a ∷ b ∷ c ∷ d ∷ []) Undecided (told (wordOf (take 8 (drop 8 r)))) p (omega arith) in
+      let u : P e ≡ true = all-at P (a ∷ b ∷ c ∷ d ∷ []) Undecided (told (loaded (take 8 (drop 8 r)))) p (omega arith) in
       reads-more P (suc k) e (take 15 (drop 1 r)) (pieces 15 n (drop 15 (drop 1 r))) (omega arith) (omega arith) t u
       (rw (line-after r)
       (made-read p (suc k) n (drop 15 r) (bytes-after r f) (simp length-drop (omega arith)) (omega arith) (and-snd o rest h)))
@@ -127,8 +113,8 @@ module _ (a b c d : Decision) (P : Decision → Bool) where
       let t = reads-first P (suc k) (take 15 s) (pieces 15 n (drop 15 s)) h in
       let e = decisionIn (take 15 s) in
       let q : take 16 r ≡ lfText (suc k) e = ap₂ _∷_ z (sym (t .same)) in
-      let v : wordOf (take 8 (drop 8 r)) ≡ backOf (wordFor e) =
-      ap wordOf (sym (take-drop-take 8 8 16 r (omega arith)) ∙ ap (λ (i : List ℕ). take 8 (drop 8 i)) q) ∙ lfText-back (suc k) e in
+      let v : loaded (take 8 (drop 8 r)) ≡ backOf (wordFor e) =
+      ap loaded (sym (take-drop-take 8 8 16 r (omega arith)) ∙ ap (λ (i : List ℕ). take 8 (drop 8 i)) q) ∙ lfText-back (suc k) e in
       let u : chosen a b c d r ≡ e = ap (λ (i : ℕ). decisionFor a b c d (told i)) v ∙ tells e (t .allowed) in
       let made : lineMade (columns (suc k)) (table a b c d) r ≡ true =
       line-made a b c d (suc k) r f (omega arith)

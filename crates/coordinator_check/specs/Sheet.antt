@@ -19,11 +19,11 @@ use Rattle.decimal.specs.declared.Scan.{Scan}
 use Rattle.decimal.specs.declared.Scan.the-variants.{Blank, Number, Wrong}
 use Rattle.decimal.specs.Field.{figure, number, isNumber, fieldText, ahead}
 use Rattle.decimal.specs.Laws.{isNumber-number, written-read}
-use Rattle.places.specs.Order.{wordOf, wordFrom}
+use Rattle.places.specs.Loads.{loaded}
 use Rattle.types.specs.declared.Decision.{Decision}
 use Rattle.types.specs.declared.Decision.the-variants.{Undecided, Committed, Aborted}
 use Rattle.model.specs.Layouts.{headLayout, lineLayout, words}
-use Rattle.model.specs.Lines.{fieldValue, rowOf, lineSet, linesOf}
+use Rattle.model.specs.Lines.{rowOf, lineSet, linesOf}
 use Rattle.model.specs.Coordinator.{decisionNumber, unitOf, isUndecided, coordinatorGood, decisionIn, coordinatorOf, numbered, coordinatorAccepted}
 use Rattle.sheet_laws.specs.Lines.{length-rowOf}
 use Rattle.sheet_laws.specs.Coordinator.{bounds}
@@ -150,13 +150,13 @@ module _ (s : List ℕ) (issued rest : ℕ) (whole : length (drop 15 s) / 15 ≡
 
 -- each decision stands in the tables where its word tells
 tells-any : (d : Decision) → _≡_ {A = Bool} true true → decisionFor Undecided Committed Aborted Undecided (told (backOf (wordFor d))) ≡ d
-unfolding words bytes decisionNumber wordFrom
+unfolding words bytes decisionNumber loaded
 tells-any Undecided p = refl
 tells-any Committed p = refl
 tells-any Aborted p = refl
 
 tells-none : (d : Decision) → isUndecided d ≡ true → decisionFor Undecided Undecided Undecided Undecided (told (backOf (wordFor d))) ≡ d
-unfolding words bytes decisionNumber wordFrom isUndecided
+unfolding words bytes decisionNumber loaded isUndecided
 tells-none Undecided p = refl
 tells-none Committed p = absurd (true≢false (sym p))
 tells-none Aborted p = absurd (true≢false (sym p))
@@ -291,7 +291,7 @@ module _ (s : List ℕ) (each : Bytes s) where
 -- The code's passes: each starts with the columns of the number before its first line.
 
 -- those of `   0`
-pub columns-zero : wordOf (32 ∷ 32 ∷ 32 ∷ 48 ∷ []) ≡ columns 0
+pub columns-zero : loaded (32 ∷ 32 ∷ 32 ∷ 48 ∷ []) ≡ columns 0
 unfolding fieldText ahead
 columns-zero = refl
 
@@ -301,12 +301,12 @@ module _ (s : List ℕ) (issued : ℕ) (whole : wholeLines (length s) ≡ true) 
       let w = whole-parts (length s) whole in
       record { order = omega arith; few = omega arith; long = omega arith; counted = q }
 
-  pub ready-high : (before : ℕ) → figure 0 999 (take 4 s) ≡ Number issued → before ≡ wordOf (take 4 s) → Ready s issued (count s) before
+  pub ready-high : (before : ℕ) → figure 0 999 (take 4 s) ≡ Number issued → before ≡ loaded (take 4 s) → Ready s issued (count s) before
   ready-high before f q =
       let w = whole-parts (length s) whole in
       let n : length (take 4 s) ≡ 4 = simp length-take (omega arith) in
       let t : take 4 s ≡ fieldText 4 issued = written-read 0 999 (take 4 s) issued f .0 ∙ ap (λ (k : ℕ). fieldText k issued) n in
-      record { order = place; few = omega arith; long = omega arith; counted = q ∙ ap wordOf t }
+      record { order = place; few = omega arith; long = omega arith; counted = q ∙ ap loaded t }
 
 -- The code's tests in turn.
 

@@ -45,11 +45,15 @@ pub fn all_issued(records: &[u8], coordinator: &[u8]) -> bool
 {
     let issued = half(coordinator, 0);
     let count = records.len() / 98;
-    let mut good = true;
     for i in 0..count {
         let txid = half(records, i * 98 + 36);
         let before_txid = half(records, i * 98 + 64);
-        good = good & (txid <= issued) & (before_txid <= issued);
+        if txid > issued {
+            return false;
+        }
+        if before_txid > issued {
+            return false;
+        }
     }
-    good
+    true
 }

@@ -1,5 +1,6 @@
 // The lines after the head: their numbers in turn, any decision up to the issued count, and none above it.
-// A line is compared as two numbers of eight bytes: LF before it, its number's four columns and three bytes of its word; the other seven and LF.
+// A line is compared as two numbers of eight bytes, the first byte weighing least: LF before it, its number's four columns and three bytes of its
+// word; the other seven and LF.
 ghost use mathlib.Core.Path.{_≡_};
 ghost use mathlib.Core.Bool.{true};
 ghost use Prim.Native.Nat.{_+_, _-_, _*_, _^_, _<_, _≤_};
@@ -10,8 +11,8 @@ ghost use Rattle.coordinator_check.specs.Numbers.{gained, following};
 ghost use Rattle.coordinator_check.specs.Lines.{frontOf, backOf, Table, lineMade};
 ghost use Rattle.coordinator_check.specs.Passes.{linesMade, Ready};
 ghost use Rattle.coordinator_check.specs.Sheet.{wholeLines, anyDecision, noDecision, decisionsMade};
-use places::half;
-use places::word;
+use places::load_eight;
+use places::load_four;
 
 // What a column gains that takes a carry: a space (32) becomes `1`, a digit the next one.
 fn gain(column: u64) -> u64
@@ -24,20 +25,20 @@ fn gain(column: u64) -> u64
     1
 }
 
-// The columns of the next number, from those of `number` as one number: the last rises by one, or each `9` (57) at the end becomes `0` and
-// the column before takes the carry. Counting them up spares a table of 999 entries.
+// The columns of the next number, from those of `number` as one number: the last, which weighs most, rises by one, or each `9` (57) at the end becomes
+// `0` and the column before takes the carry. Counting them up spares a table of 999 entries.
 fn next(number: u64) -> u64
     requires { ⌜ number < 2 ^ 32 ⌝ }
     ensures { λ r. ⌜ r ≡ following number ⌝ }
 {
-    if number % 256 != 57 {
-        return number + 1;
+    if number < 0x3900_0000 {
+        return number + 0x0100_0000;
     }
-    let tens = number / 256 % 256;
+    let tens = number / 0x0001_0000 % 256;
     if tens != 57 {
-        return number - 9 + gain(tens) * 256;
+        return number - 0x0900_0000 + gain(tens) * 0x0001_0000;
     }
-    number - 2313 + gain(number / 65536 % 256) * 65536
+    number - 0x0909_0000 + gain(number / 256 % 256) * 256
 }
 
 // LF before a line and the first three bytes of its word, with zeros where the columns of its number stand.
@@ -45,7 +46,7 @@ fn front(text: &[u8]) -> u64
     requires { ⌜ length (now text) ≡ 10 ⌝ }
     ensures { λ r. ⌜ r ≡ frontOf (now (text .entry)) ⌝ }
 {
-    0x0a00_0000_0000_0000 + half(text, 0) / 256
+    load_four(text, 0) % 0x0100_0000 * 0x0100_0000_0000 + 10
 }
 
 // The other seven bytes of the word and LF.
@@ -53,7 +54,7 @@ fn back(text: &[u8]) -> u64
     requires { ⌜ length (now text) ≡ 10 ⌝ }
     ensures { λ r. ⌜ r ≡ backOf (now (text .entry)) ⌝ }
 {
-    word(text, 2) % 0x0100_0000_0000_0000 * 256 + 10
+    load_eight(text, 2) / 256 + 0x0a00_0000_0000_0000
 }
 
 // Fronts and then backs, each at the place that the word's fifth byte tells: ` `, `M` and `B` leave 0, 1 and 2 by 4, and no word's leaves 3.
@@ -90,9 +91,9 @@ fn line_ok(sheet: &[u8], start: usize, number: u64, words: &[u64]) -> bool
     requires { ⌜ Table (now words) ⌝ }
     ensures { λ r. ⌜ r ≡ lineMade number (now (words .entry)) (drop start (now (sheet .entry))) ⌝ }
 {
-    let last = word(sheet, start + 8);
-    let i = (last / 0x0001_0000_0000_0000 % 4) as usize;
-    (word(sheet, start) == number * 0x0100_0000 + words[i]) & (last == words[i + 4])
+    let last = load_eight(sheet, start + 8);
+    let i = (last / 256 % 4) as usize;
+    (load_eight(sheet, start) == number * 256 + words[i]) & (last == words[i + 4])
 }
 
 // Whether the lines after number `after` up to number `to` pass, where `before` is the columns of `after`. Without an exit, so that no branch
@@ -123,6 +124,6 @@ pub fn decisions_ok(sheet: &[u8], issued: usize) -> bool
     }
     let any = any_decision();
     let none = no_decision();
-    let low = lines_ok(sheet, 0, issued, half(b"   0", 0), &any);
-    low & lines_ok(sheet, issued, count, half(sheet, 0), &none)
+    let low = lines_ok(sheet, 0, issued, load_four(b"   0", 0), &any);
+    low & lines_ok(sheet, issued, count, load_four(sheet, 0), &none)
 }

@@ -10,15 +10,19 @@ use borrow.Author.Tests.{eqb-true, eqb-false, eq-eqb, ne-eqb, ltb-true, ltb-fals
 use Rattle.lists.specs.Bytes.{eqList}
 use Rattle.lists.specs.Each.{less}
 
--- the first numbers decide, unless they are equal
-pub less-cons : (a b : ℕ) (s t : List ℕ) → less (a ∷ s) (b ∷ t) ≡ cond (eqb a b) (less s t) (ltb a b)
-unfolding less
-less-cons a b s t = go (eqb a b) refl (ltb a b) refl
+-- two numbers decide, unless they are equal
+pub decided : (a b : ℕ) (r : Bool) → (ltb a b || eqb a b && r) ≡ cond (eqb a b) r (ltb a b)
+decided a b r = go (eqb a b) refl (ltb a b) refl
   where
-    go : (e : Bool) → eqb a b ≡ e → (l : Bool) → ltb a b ≡ l → (ltb a b || eqb a b && less s t) ≡ cond (eqb a b) (less s t) (ltb a b)
+    go : (e : Bool) → eqb a b ≡ e → (l : Bool) → ltb a b ≡ l → (ltb a b || eqb a b && r) ≡ cond (eqb a b) r (ltb a b)
     go true p l q = let n : ltb a b ≡ false = le-ltb a b (omega (arith, eqb-true a b p)) in rw (n, p)
     go false p true q = rw (q, p)
     go false p false q = rw (q, p)
+
+-- of two lists the first numbers do
+pub less-cons : (a b : ℕ) (s t : List ℕ) → less (a ∷ s) (b ∷ t) ≡ cond (eqb a b) (less s t) (ltb a b)
+unfolding less
+less-cons a b s t = decided a b (less s t)
 
 -- a comparison in three steps, grouped from the right or from the left
 pub regroup : (l e m f r : Bool) → (l || e && (m || f && r)) ≡ ((l || e && m) || (e && f) && r)

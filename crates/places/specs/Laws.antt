@@ -1,21 +1,23 @@
 -- The pass over the tables of a layout says what the layout means. Parts are independent, since the first place of each is a fixed byte and so
 -- ignores the byte on its left. Within a figure two inductions follow the scan: one before the number, after a space, and one in it, after a
 -- digit. The bound on a figure is the blank first column: k columns hold what is below 10 ^ k, and a digit in the first one makes it more.
-use Prim.Native.Nat.{ℕ, zero, suc, _+_, _-_, _*_, _^_, _≤_, _<_, min}
+use Prim.Native.Nat.{ℕ, zero, suc, _+_, _-_, _*_, _^_, _≤_, _<_}
 use mathlib.Core.Path.{_≡_, refl, sym, ap, ap₂, _∙_}
-use mathlib.Core.Bool.{Bool, true, false, not, _&&_, _||_, cond, true≢false, and-true, and-false, or-false, and-assoc}
+use mathlib.Core.Bool.{Bool, true, false, not, _&&_, _||_, cond, true≢false, and-true, and-false, or-true, or-false, and-assoc}
 use mathlib.Core.List.{List, [], _∷_, _++_, map}
-use native.Mathlib.Nat.{mul-le-mul-right, pow-suc, pow-le-pow-right}
+use native.Mathlib.Nat.{add-zero, mul-le-mul-right, pow-suc, pow-le-pow-right}
 use native.Mathlib.Omega.{arith}
-use lib.ListN.{length, take, drop, length-take, length-drop, length-append, length-map}
-use lib.Dec.{eqb, leb}
-use borrow.Author.Tests.{eqb-true, eqb-false, eq-eqb, ne-eqb, le-leb, lt-leb}
-use Rattle.lists.specs.Bytes.{eqList, eqList-true}
-use Rattle.lists.specs.Tests.{and-both, tests, same-test}
+use lib.ListN.{length, getD, take, drop, length-take, length-drop, length-append, length-map, drop-of-length-le}
+use lib.Seq.{drop-cons}
+use lib.Dec.{eqb, leb, ltb}
+use borrow.Author.Tests.{eqb-true, eqb-false, eq-eqb, ne-eqb, leb-true, le-leb, lt-leb, ltb-true, ltb-false, lt-ltb, le-ltb}
+use Rattle.lists.specs.Bytes.{eqList}
+use Rattle.lists.specs.Each.{all}
+use Rattle.lists.specs.Tests.{and-fst, and-snd, and-both, tests, same-test, choose-by}
 use Rattle.decimal.specs.Field.{isDigit, stepped, scanned, within, figure, isNumber}
 use Rattle.decimal.specs.declared.Scan.the-variants.{Blank, Number, Wrong}
 use Rattle.places.specs.Parts.{Part, text, number, width, partOk, partsOk}
-use Rattle.places.specs.Places.{judged, placed, lineOk, Place, fixed, columns, partPlaces, places, lows, highs, barreds, alsos, partSetWell, setWell, total}
+use Rattle.places.specs.Places.{Room, higher, lower, judged, placed, lineOk, Place, fixed, columns, partPlaces, places, lows, highs, alsos, partSetWell, setWell, total}
 
 -- the pass over a row of places
 abbrev pass : ℕ → List Place → List ℕ → Bool
@@ -24,7 +26,6 @@ pass p qs s =
     p
     (map (λ (x : Place). x .low) qs)
     (map (λ (x : Place). x .high) qs)
-    (map (λ (x : Place). x .barred) qs)
     (map (λ (x : Place). x .also) qs)
     s
 
@@ -40,12 +41,40 @@ unfolding placed ended
 pass-append p [] rs s = refl
 pass-append p (q ∷ qs) rs [] = refl
 pass-append p (q ∷ qs) rs (b ∷ s) =
-    ap (λ (x : Bool). judged p b (q .low) (q .high) (q .barred) (q .also) && x) (pass-append b qs rs s)
-    ∙ sym (and-assoc (judged p b (q .low) (q .high) (q .barred) (q .also)) _ _)
+    ap (λ (x : Bool). judged p b (q .low) (q .high) (q .also) && x) (pass-append b qs rs s)
+    ∙ sym (and-assoc (judged p b (q .low) (q .high) (q .also)) _ _)
 
--- right of anything but a space only the range counts
-closed : (p b low high barred also : ℕ) → eqb p 32 ≡ false → judged p b low high barred also ≡ (leb low b && leb b high)
-closed p b low high barred also e = rw e (or-false _ ∙ and-true _)
+-- a byte that drawing into a range leaves as it is lies in the range
+drawn : (b from high : ℕ) → from ≤ high → eqb (lower (higher b from) high) b ≡ (leb from b && leb b high)
+drawn b from high l = go (ltb b from) refl (ltb high b) refl
+  where
+    go : (t : Bool) → ltb b from ≡ t → (u : Bool) → ltb high b ≡ u → eqb (lower (higher b from) high) b ≡ (leb from b && leb b high)
+    go true e u f =
+        let n : b < from = ltb-true b from e in
+        rw (e, le-ltb high from l, lt-leb from b n) (ne-eqb from b (omega arith))
+    go false e true f =
+        let n : high < b = ltb-true high b f in
+        rw (e, f, lt-leb b high n, and-false) (ne-eqb high b (omega arith))
+    go false e false f =
+        rw (e, f, le-leb from b (ltb-false b from e), le-leb b high (ltb-false high b f)) (eq-eqb b b refl)
+
+-- right of anything but a space a figure's column is a digit
+closed : (p b also : ℕ) → eqb p 32 ≡ false → judged p b 48 57 also ≡ isDigit b
+closed p b also e = rw e (or-false _ ∙ drawn b 48 57 (omega arith))
+
+-- right of a space it is a digit but 0, or `also`
+after-space : (b also : ℕ) → judged 32 b 48 57 also ≡ (isDigit b && not (eqb b 48) || eqb b also)
+after-space b also = ap (λ (x : Bool). x || eqb b also) (drawn b 49 57 (omega arith) ∙ go (eqb b 48) refl)
+  where
+    go : (t : Bool) → eqb b 48 ≡ t → (leb 49 b && leb b 57) ≡ (isDigit b && not (eqb b 48))
+    go true e =
+        let q : b ≡ 48 = eqb-true b 48 e in
+        rw (e, lt-leb 49 b (omega arith), and-false)
+    go false e =
+        let n : (b ≡ 48 → ⊥) = eqb-false b 48 e in
+        rw (e, and-true)
+        (ap (λ (x : Bool). x && leb b 57)
+        (same-test (leb 49 b) (leb 48 b) (λ h. le-leb 48 b (omega (arith, leb-true 49 b h))) (λ h. le-leb 49 b (omega (arith, leb-true 48 b h)))))
 
 -- a range of one byte is that byte
 between : (x b : ℕ) → (leb x b && leb b x) ≡ eqb b x
@@ -57,15 +86,23 @@ between x b =
     (λ e. let q : b ≡ x = eqb-true b x e in and-both (le-leb x b (omega arith)) (le-leb b x (omega arith)))
 
 -- a fixed byte is itself, whatever is left of it
-fixed-is : (p b x : ℕ) → judged p b x x (suc x) x ≡ eqb b x
-fixed-is p b x = rw between (go (eqb b x) refl)
+fixed-is : (p b x : ℕ) → judged p b x x x ≡ eqb b x
+fixed-is p b x = go (eqb p 32) refl
   where
-    go : (t : Bool) → eqb b x ≡ t → ((eqb b x && not (eqb p 32 && eqb b (suc x))) || (eqb p 32 && eqb b x)) ≡ eqb b x
-    go true e =
-        let q : b ≡ x = eqb-true b x e in
-        let n : eqb b (suc x) ≡ false = ne-eqb b (suc x) (omega arith) in
-        simp (e, n, and-false)
-    go false e = simp (e, and-false)
+    -- above the range the highest byte is what drawing leaves
+    above : (h : ℕ) → x < h → lower h x ≡ x
+    above h l = rw (lt-ltb x h l)
+
+    high : x < higher b (x + 1)
+    high = choose-by (λ (h : ℕ). x < h) (ltb b (x + 1)) (λ e. omega arith) (λ e. omega (arith, ltb-false b (x + 1) e))
+
+    twice : (t : Bool) → eqb b x ≡ t → (eqb x b || eqb b x) ≡ eqb b x
+    twice true e = rw e (or-true (eqb x b))
+    twice false e = let n : (b ≡ x → ⊥) = eqb-false b x e in rw (e, ne-eqb x b (λ q. n (sym q)))
+
+    go : (t : Bool) → eqb p 32 ≡ t → judged p b x x x ≡ eqb b x
+    go true e = rw (e, above (higher b (x + 1)) high) (twice (eqb b x) refl)
+    go false e = rw (e, add-zero x) (or-false _ ∙ (drawn b x x (omega arith) ∙ between x b))
 
 -- what a byte is to a figure
 data Kind (b : ℕ) : Type 0 where
@@ -111,12 +148,12 @@ scale-back : (a b k : ℕ) → b * 10 ≤ a → b * 10 ^ suc k ≤ a * 10 ^ k
 scale-back a b k h = rw (pow-suc 10 k) (omega (arith, mul-le-mul-right (10 ^ k) h))
 
 -- one column in a number
-digit-step : (p b barred also low high v : ℕ) (rest : Bool) (s : List ℕ) → eqb p 32 ≡ false → 1 ≤ v
+digit-step : (p b also low high v : ℕ) (rest : Bool) (s : List ℕ) → eqb p 32 ≡ false → 1 ≤ v
     → (isDigit b ≡ true → rest ≡ isNumber (within low high (scanned (Number (v * 10 + (b - 48))) s)))
-    → (judged p b 48 57 barred also && rest) ≡ isNumber (within low high (scanned (Number v) (b ∷ s)))
+    → (judged p b 48 57 also && rest) ≡ isNumber (within low high (scanned (Number v) (b ∷ s)))
 unfolding scanned stepped
-digit-step p b barred also low high v rest s e h f =
-    rw (closed p b 48 57 barred also e, ne-eqb v 0 (omega arith)) (go (isDigit b) refl)
+digit-step p b also low high v rest s e h f =
+    rw (closed p b also e, ne-eqb v 0 (omega arith)) (go (isDigit b) refl)
   where
     go : (t : Bool) → isDigit b ≡ t
         → (isDigit b && rest) ≡ isNumber (within low high (scanned (cond (isDigit b) (Number (v * 10 + (b - 48))) Wrong) s))
@@ -130,12 +167,12 @@ in-number : (k least high p v : ℕ) (s : List ℕ)
 unfolding placed columns scanned within isNumber
 in-number k least high p v [] l e h m n = absurd (omega arith)
 in-number zero least high p v (b ∷ []) l e h m n =
-    digit-step p b (cond (eqb least 0) 58 48) 57 least high v true [] e h
+    digit-step p b (cond (eqb least 0) 48 57) least high v true [] e h
     (λ d. let g : b ≤ 57 = search tests in
     rw (le-leb least (v * 10 + (b - 48)) (omega arith), le-leb (v * 10 + (b - 48)) high (omega arith)))
 in-number zero least high p v (b ∷ (c ∷ s)) l e h m n = absurd (omega arith)
 in-number (suc k) least high p v (b ∷ s) l e h m n =
-    digit-step p b 48 32 least high v (pass b (columns k least) s) s e h
+    digit-step p b 32 least high v (pass b (columns k least) s) s e h
     (λ d. let a : 48 ≤ b = search tests in
     let g : b ≤ 57 = search tests in
     let r : (v * 10 + (b - 48) + 1) * 10 ^ suc k ≤ (v + 1) * 10 ^ suc (suc k) =
@@ -161,17 +198,28 @@ too-large low high v (b ∷ s) h =
 last-column : (least high b : ℕ) → Kind b → least ≤ 1 → 10 ≤ suc high
     → pass 32 (columns 0 least) (b ∷ []) ≡ isNumber (within least high (scanned Blank (b ∷ [])))
 unfolding placed columns scanned stepped within isNumber
-last-column least high b (blank q) l m = rw q
+last-column least high b (blank q) l m = rw q (go (eqb least 0))
+  where
+    go : (t : Bool) → (eqb 32 (cond t 48 57) && true) ≡ false
+    go true = refl
+    go false = refl
 last-column zero high b (nought q) l m = rw (q, le-leb 0 high (omega arith))
 last-column (suc zero) high b (nought q) l m = rw q
 last-column (suc (suc n)) high b (nought q) l m = absurd (omega arith)
 last-column least high b (digit e d g h) l m =
-    rw (d, e, bar (eqb least 0), le-leb least (b - 48) (omega arith), le-leb (b - 48) high (omega arith))
+    rw (
+      after-space b (cond (eqb least 0) 48 57),
+      d,
+      e,
+      ne-eqb b 48 (omega arith),
+      le-leb least (b - 48) (omega arith),
+      le-leb (b - 48) high (omega arith),
+    )
+last-column least high b (other e d) l m = rw (after-space b (cond (eqb least 0) 48 57), d, e) (go (eqb least 0))
   where
-    bar : (t : Bool) → eqb b (cond t 58 48) ≡ false
-    bar true = ne-eqb b 58 (omega arith)
-    bar false = ne-eqb b 48 (omega arith)
-last-column least high b (other e d) l m = rw (d, e, not-nine b d)
+    go : (t : Bool) → (eqb b (cond t 48 57) && true) ≡ false
+    go true = rw (ne-eqb b 48 (λ q. true≢false (rw q at d)))
+    go false = rw (not-nine b d)
 
 -- the columns before the number
 before : (k least high : ℕ) (s : List ℕ) → least ≤ 1 → 10 ^ suc k ≤ suc high → length s ≡ suc k
@@ -188,8 +236,8 @@ before (suc k) least high (b ∷ s) l m n = go (kind b) (before k least high s l
     go (nought q) f = rw q (sym (after-nought k s least high (omega arith)))
     go (digit e d g h) f =
         let r : (b - 48 + 1) * 10 ^ suc k ≤ 1 * 10 ^ suc (suc k) = scale (b - 48 + 1) 1 (suc k) (omega arith) in
-        rw (d, e, ne-eqb b 48 (omega arith)) (in-number k least high b (b - 48) s l e (omega arith) (omega arith) (omega arith))
-    go (other e d) f = rw (d, e) (sym (wrong s least high))
+        rw (after-space b 32, d, e, ne-eqb b 48 (omega arith)) (in-number k least high b (b - 48) s l e (omega arith) (omega arith) (omega arith))
+    go (other e d) f = rw (after-space b 32, d, e) (sym (wrong s least high))
 
 -- a figure with its first column
 number-is : (k least p : ℕ) (s : List ℕ) → least ≤ 1 → length s ≡ suc (suc k)
@@ -236,13 +284,12 @@ unfolding partSetWell width partPlaces
 part-length (text t) e = length-map t fixed
 part-length (number w least) e = let h : 2 ≤ w = search tests in rw columns-length (omega arith)
 
--- the law: the pass over a layout's tables is the layout's meaning, whatever byte stands left of the line
-pub placed-is : (qs : List Part) (p : ℕ) (s : List ℕ) → setWell qs ≡ true → length s ≡ total qs
-    → placed p (lows qs) (highs qs) (barreds qs) (alsos qs) s ≡ partsOk qs s
-unfolding placed lows highs barreds alsos setWell total places partsOk eqList
-placed-is [] p [] e n = refl
-placed-is [] p (b ∷ s) e n = absurd (omega arith)
-placed-is (q ∷ qs) p s e n =
+-- the pass over a layout's places is the layout's meaning, whatever byte stands left of the line
+parts-pass : (qs : List Part) (p : ℕ) (s : List ℕ) → setWell qs ≡ true → length s ≡ total qs → pass p (places qs) s ≡ partsOk qs s
+unfolding placed setWell total places partsOk eqList
+parts-pass [] p [] e n = refl
+parts-pass [] p (b ∷ s) e n = absurd (omega arith)
+parts-pass (q ∷ qs) p s e n =
     let a : partSetWell q ≡ true = search tests in
     let z : setWell qs ≡ true = search tests in
     let l : length (partPlaces q) ≡ width q = part-length q a in
@@ -251,22 +298,7 @@ placed-is (q ∷ qs) p s e n =
     (ap₂
     _&&_
     (part-is q p (take (width q) s) a (rw length-take (omega arith)))
-    (placed-is qs _ (drop (width q) s) z (rw length-drop (omega arith))))
-
--- a line that is made of the parts is as long as they are
-parts-length : (qs : List Part) (s : List ℕ) → partsOk qs s ≡ true → length s ≡ total qs
-unfolding partsOk partOk width total
-parts-length [] s e = ap length (eqList-true s [] e)
-parts-length (q ∷ qs) s e =
-    let a : partOk q (take (width q) s) ≡ true = search tests in
-    let z : partsOk qs (drop (width q) s) ≡ true = search tests in
-    let h : min (width q) (length s) ≡ width q = sym (length-take (width q) s) ∙ one q (take (width q) s) a in
-    let r : length s - width q ≡ total qs = sym (length-drop (width q) s) ∙ parts-length qs (drop (width q) s) z in
-    omega arith
-  where
-    one : (q : Part) (t : List ℕ) → partOk q t ≡ true → length t ≡ width q
-    one (text x) t e = ap length (eqList-true t x e)
-    one (number w least) t e = search tests
+    (parts-pass qs _ (drop (width q) s) z (rw length-drop (omega arith))))
 
 -- the tables have an entry for each column
 places-length : (qs : List Part) → setWell qs ≡ true → length (places qs) ≡ total qs
@@ -277,20 +309,46 @@ places-length (q ∷ qs) e =
     let z : setWell qs ≡ true = search tests in
     length-append (partPlaces q) (places qs) ∙ ap₂ _+_ (part-length q a) (places-length qs z)
 
--- one test four times over, which what follows needs
-four : (t a b : Bool) → (t ≡ true → a ≡ b) → (b ≡ true → t ≡ true) → (((t && t) && t) && t && a) ≡ b
-four true a b f g = f refl
-four false a true f g = g refl
-four false a false f g = refl
+-- a row of places between two fixed bytes
+between-fixed : (p x y b : ℕ) (ps : List Place) (s : List ℕ) → length s ≡ suc (length ps)
+    → pass p ((fixed x ∷ ps) ++ (fixed y ∷ [])) (b ∷ s) ≡ (eqb b x && pass b ps (take (length ps) s) && eqb (getD s (length ps) 0) y)
+unfolding placed
+between-fixed p x y b ps s n =
+    let k = length ps in
+    let end : drop k s ≡ getD s k 0 ∷ [] =
+    drop-cons s k 0 (omega arith) ∙ ap (λ (t : List ℕ). getD s k 0 ∷ t) (drop-of-length-le s {i = suc k} (omega arith)) in
+    pass-append p (fixed x ∷ ps) (fixed y ∷ []) (b ∷ s)
+    ∙ ap₂ _&&_
+    (ap (λ (t : Bool). t && pass b ps (take k s)) (fixed-is p b x))
+    (rw end (ap (λ (t : Bool). t && true) (fixed-is (ended p (take (suc k) (b ∷ s))) (getD s k 0) y) ∙ and-true (eqb (getD s k 0) y)))
 
--- the same of a line of any length: what the code answers by the tables of a layout
-pub lineOk-is : (qs : List Part) (s : List ℕ) → setWell qs ≡ true → lineOk s (lows qs) (highs qs) (barreds qs) (alsos qs) ≡ partsOk qs s
-unfolding lineOk lows highs barreds alsos
-lineOk-is qs s e =
-    simp (length-map, places-length qs e)
-    (four
-    (eqb (total qs) (length s))
-    (placed 0 (lows qs) (highs qs) (barreds qs) (alsos qs) s)
-    (partsOk qs s)
-    (λ w. placed-is qs 0 s e (sym (eqb-true (total qs) (length s) w)))
-    (λ g. eq-eqb (total qs) (length s) (sym (parts-length qs s g))))
+-- The law. The first place and the last are fixed bytes, which the code compares by themselves: the first has nothing on its left, and the places
+-- between fill whole vectors.
+pub framed-is : (qs : List Part) (ps : List Place) (x y : ℕ) (s : List ℕ)
+    → setWell qs ≡ true → places qs ≡ (fixed x ∷ ps) ++ (fixed y ∷ []) → length s ≡ suc (suc (length ps))
+    → (lineOk (take (suc (length ps)) s) (lows (fixed x ∷ ps)) (highs (fixed x ∷ ps)) (alsos (fixed x ∷ ps))
+    && (eqb (getD s 0 0) x && eqb (getD s (suc (length ps)) 0) y))
+    ≡ partsOk qs s
+unfolding lineOk lows highs alsos
+framed-is qs ps x y [] e f n = absurd (omega arith)
+framed-is qs ps x y (b ∷ s) e f n =
+    let k = length ps in
+    let long : length (take k s) ≡ k = simp length-take (omega arith) in
+    let count : length (places qs) ≡ suc k + 1 = ap length f ∙ length-append (fixed x ∷ ps) (fixed y ∷ []) in
+    let whole : length (b ∷ s) ≡ total qs = omega (arith, count, places-length qs e) in
+    let test : eqb (suc k) (suc k) ≡ true = eq-eqb (suc k) (suc k) refl in
+    simp (length-map, long, test)
+    (shuffled (eqb b x) (pass b ps (take k s)) (eqb (getD s k 0) y)
+    ∙ (sym (between-fixed 0 x y b ps s (omega arith)) ∙ (ap (λ (r : List Place). pass 0 r (b ∷ s)) (sym f) ∙ parts-pass qs 0 (b ∷ s) e whole)))
+  where
+    shuffled : (t u v : Bool) → (u && (t && v)) ≡ (t && u && v)
+    shuffled true u v = refl
+    shuffled false true v = refl
+    shuffled false false v = refl
+
+-- a computed test of the room in a table
+pub room-is : (low : List ℕ) → all (λ (x : ℕ). ltb x 255) low ≡ true → Room low
+unfolding all
+room-is [] h i = omega arith
+room-is (x ∷ low) h zero = ltb-true x 255 (and-fst (ltb x 255) (all (λ (y : ℕ). ltb y 255) low) h)
+room-is (x ∷ low) h (suc i) = room-is low (and-snd (ltb x 255) (all (λ (y : ℕ). ltb y 255) low) h) i

@@ -3,4 +3,5 @@ pub mod Parts
 pub mod Places
 pub mod Laws
 pub mod Order
+pub mod Loads
 pub mod Turns

@@ -1,55 +1,67 @@
 -- The tables by which one pass judges a line: each byte by the place where it stands and by the byte on its left.
-use Prim.Native.Nat.{ℕ, zero, suc, _+_, _-_}
-use mathlib.Core.Bool.{Bool, true, not, _&&_, _||_, cond}
+use Prim.Native.Nat.{ℕ, zero, suc, _+_, _-_, _<_}
+use mathlib.Core.Bool.{Bool, true, _&&_, _||_, cond}
 use mathlib.Core.List.{List, [], _∷_, _++_, map}
 use lib.ListN.{length, getD, drop}
-use lib.Dec.{eqb, leb}
+use lib.Dec.{eqb, leb, ltb}
 use Rattle.places.specs.Parts.{Part, text, number, width}
 
--- b may stand right of p: it lies from low to high, and after a space it is not `barred`; or it is `also`, after a space
-abbrev pub judged : (p b low high barred also : ℕ) → Bool
-judged p b low high barred also =
-    ((leb low b && leb b high) && not (eqb p 32 && eqb b barred)) || (eqb p 32 && eqb b also)
+abbrev pub bit : Bool → ℕ
+bit t = cond t 1 0
+
+abbrev pub higher : ℕ → ℕ → ℕ
+higher a b = cond (ltb a b) b a
+
+abbrev pub lower : ℕ → ℕ → ℕ
+lower a b = cond (ltb b a) b a
+
+-- b may stand right of p: it lies from low to high, where a space on its left bars low itself; or it is `also`, after a space
+abbrev pub judged : (p b low high also : ℕ) → Bool
+judged p b low high also = eqb (lower (higher b (low + bit (eqb p 32))) high) b || (eqb p 32 && eqb b also)
 
 -- the same of the byte at i of a line and the entries at i of its tables
-abbrev pub judgedAt : (i p : ℕ) (low high barred also line : List ℕ) → Bool
-judgedAt i p low high barred also line =
-    judged p (getD line i 0) (getD low i 0) (getD high i 0) (getD barred i 0) (getD also i 0)
+abbrev pub judgedAt : (i p : ℕ) (low high also line : List ℕ) → Bool
+judgedAt i p low high also line = judged p (getD line i 0) (getD low i 0) (getD high i 0) (getD also i 0)
 
 -- every byte of a line may stand in its place, where p is left of the line
-unfoldable pub placed : (p : ℕ) (low high barred also line : List ℕ) → Bool
-placed p low high barred also [] = true
-placed p low high barred also (b ∷ s) =
-    judged p b (getD low 0 0) (getD high 0 0) (getD barred 0 0) (getD also 0 0)
-    && placed b (drop 1 low) (drop 1 high) (drop 1 barred) (drop 1 also) s
+unfoldable pub placed : (p : ℕ) (low high also line : List ℕ) → Bool
+placed p low high also [] = true
+placed p low high also (b ∷ s) =
+    judged p b (getD low 0 0) (getD high 0 0) (getD also 0 0) && placed b (drop 1 low) (drop 1 high) (drop 1 also) s
 
 -- each table has an entry for each byte of the line
-abbrev pub asLong : (line low high barred also : List ℕ) → Bool
-asLong line low high barred also =
-    eqb (length low) (length line) && eqb (length high) (length line) && eqb (length barred) (length line) && eqb (length also) (length line)
+abbrev pub asLong : (line low high also : List ℕ) → Bool
+asLong line low high also = eqb (length low) (length line) && eqb (length high) (length line) && eqb (length also) (length line)
 
--- the tables are as long as the line, and the line stands in its places
-unfoldable pub lineOk : (line low high barred also : List ℕ) → Bool
-lineOk line low high barred also = asLong line low high barred also && placed 0 low high barred also line
+-- one more than any entry is still a byte
+abbrev pub Room : List ℕ → Type 0
+Room low = (i : ℕ) → getD low i 0 < 255
+
+-- what is left of a pass at byte i of a line, if i is not the first
+abbrev pub rest : (i : ℕ) (low high also line : List ℕ) → Bool
+rest i low high also line = placed (getD line (i - 1) 0) (drop i low) (drop i high) (drop i also) (drop i line)
+
+-- the tables are as long as the line, and every byte after the first stands in its place
+unfoldable pub lineOk : (line low high also : List ℕ) → Bool
+lineOk line low high also = asLong line low high also && rest 1 low high also line
 
 -- what the tables say of one place
 pub record Place : Type 0 where
   pub low : ℕ
   pub high : ℕ
-  pub barred : ℕ
   pub also : ℕ
 
 -- the byte x and no other, whatever is left of it
 abbrev pub fixed : ℕ → Place
-fixed x = record { low = x; high = x; barred = suc x; also = x }
+fixed x = record { low = x; high = x; also = x }
 
 -- a column between a figure's first and its last: a digit that is no leading zero, or a space after a space
 abbrev pub inner : Place
-inner = record { low = 48; high = 57; barred = 48; also = 32 }
+inner = record { low = 48; high = 57; also = 32 }
 
 -- a figure's last column: a digit, and not a lone zero where the figure is at least 1
 abbrev pub ending : (least : ℕ) → Place
-ending least = record { low = 48; high = 57; barred = cond (eqb least 0) 58 48; also = 57 }
+ending least = record { low = 48; high = 57; also = cond (eqb least 0) 48 57 }
 
 -- k inner columns and the last
 unfoldable pub columns : (k least : ℕ) → List Place
@@ -64,18 +76,15 @@ unfoldable pub places : List Part → List Place
 places [] = []
 places (q ∷ qs) = partPlaces q ++ places qs
 
--- the four tables of a layout
-unfoldable pub lows : List Part → List ℕ
-lows qs = map (λ (x : Place). x .low) (places qs)
+-- the three tables of a row of places
+unfoldable pub lows : List Place → List ℕ
+lows ps = map (λ (x : Place). x .low) ps
 
-unfoldable pub highs : List Part → List ℕ
-highs qs = map (λ (x : Place). x .high) (places qs)
+unfoldable pub highs : List Place → List ℕ
+highs ps = map (λ (x : Place). x .high) ps
 
-unfoldable pub barreds : List Part → List ℕ
-barreds qs = map (λ (x : Place). x .barred) (places qs)
-
-unfoldable pub alsos : List Part → List ℕ
-alsos qs = map (λ (x : Place). x .also) (places qs)
+unfoldable pub alsos : List Place → List ℕ
+alsos ps = map (λ (x : Place). x .also) ps
 
 -- a layout that the tables can say: a figure has a first and a last column, and is at least 0 or at least 1
 unfoldable pub partSetWell : Part → Bool

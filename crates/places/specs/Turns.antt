@@ -9,48 +9,40 @@ use native.Mathlib.Omega.{arith}
 use lib.ListN.{length, getD, drop, length-drop}
 use lib.Seq.{drop-cons, drop-drop, getD-drop}
 use Rattle.lists.specs.Tests.{tests}
-use Rattle.places.specs.Places.{judgedAt, placed, asLong}
+use Rattle.places.specs.Places.{judgedAt, placed, rest, asLong}
 
 -- what is left of a pass at byte i, where p is left of it: that byte and the rest
-pub placed-next : (p i : ℕ) (low high barred also line : List ℕ) → i < length line
-    → placed p (drop i low) (drop i high) (drop i barred) (drop i also) (drop i line)
-    ≡ (judgedAt i p low high barred also line
-    && placed (getD line i 0) (drop (i + 1) low) (drop (i + 1) high) (drop (i + 1) barred) (drop (i + 1) also) (drop (i + 1) line))
+placed-next : (p i : ℕ) (low high also line : List ℕ) → i < length line
+    → placed p (drop i low) (drop i high) (drop i also) (drop i line)
+    ≡ (judgedAt i p low high also line && placed (getD line i 0) (drop (i + 1) low) (drop (i + 1) high) (drop (i + 1) also) (drop (i + 1) line))
 unfolding placed
-placed-next p i low high barred also line h = rw (drop-cons line i 0 h) (simp (getD-drop, drop-drop, add-zero, add-one))
-
--- what is left at byte i of a line, if i is not the first
-abbrev pub rest : (i : ℕ) (low high barred also line : List ℕ) → Bool
-rest i low high barred also line =
-    placed (getD line (i - 1) 0) (drop i low) (drop i high) (drop i barred) (drop i also) (drop i line)
+placed-next p i low high also line h = rw (drop-cons line i 0 h) (simp (getD-drop, drop-drop, add-zero, add-one))
 
 -- one turn of the code's loop: what is judged so far and what is left make up the whole
-pub rest-next : (t r whole : Bool) (i : ℕ) (low high barred also line : List ℕ) → i < length line
-    → (t && rest i low high barred also line) ≡ whole
-    → r ≡ judgedAt i (getD line (i - 1) 0) low high barred also line
-    → ((t && r) && rest (i + 1) low high barred also line) ≡ whole
-rest-next t r whole i low high barred also line h e q =
+pub rest-next : (t r whole : Bool) (i : ℕ) (low high also line : List ℕ) → i < length line
+    → (t && rest i low high also line) ≡ whole
+    → r ≡ judgedAt i (getD line (i - 1) 0) low high also line
+    → ((t && r) && rest (i + 1) low high also line) ≡ whole
+rest-next t r whole i low high also line h e q =
     let j : i + 1 - 1 ≡ i = omega arith in
-    let n = placed-next (getD line (i - 1) 0) i low high barred also line h in
+    let n = placed-next (getD line (i - 1) 0) i low high also line h in
     rw (j, and-assoc t r, q, ← n) e
 
 -- at the end nothing is left
-pub placed-end : (t : Bool) (p : ℕ) (low high barred also line : List ℕ) → length line ≡ 0 → (t && placed p low high barred also line) ≡ t
+placed-end : (t : Bool) (p : ℕ) (low high also line : List ℕ) → length line ≡ 0 → (t && placed p low high also line) ≡ t
 unfolding placed
-placed-end t p low high barred also [] n = and-true t
-placed-end t p low high barred also (b ∷ s) n = absurd (omega arith)
+placed-end t p low high also [] n = and-true t
+placed-end t p low high also (b ∷ s) n = absurd (omega arith)
 
-pub rest-end : (t : Bool) (i : ℕ) (low high barred also line : List ℕ) → length line ≤ i → (t && rest i low high barred also line) ≡ t
-rest-end t i low high barred also line h =
-    placed-end t (getD line (i - 1) 0) (drop i low) (drop i high) (drop i barred) (drop i also) (drop i line) (simp length-drop (omega arith))
+pub rest-end : (t : Bool) (i : ℕ) (low high also line : List ℕ) → length line ≤ i → (t && rest i low high also line) ≡ t
+rest-end t i low high also line h =
+    placed-end t (getD line (i - 1) 0) (drop i low) (drop i high) (drop i also) (drop i line) (simp length-drop (omega arith))
 
 -- the tables' lengths, from the test
-pub record Lengths (line low high barred also : List ℕ) : Type 0 where
+pub record Lengths (line low high also : List ℕ) : Type 0 where
   pub of-low : length low ≡ length line
   pub of-high : length high ≡ length line
-  pub of-barred : length barred ≡ length line
   pub of-also : length also ≡ length line
 
-pub lengths : (line low high barred also : List ℕ) → asLong line low high barred also ≡ true → Lengths line low high barred also
-lengths line low high barred also e =
-    record { of-low = search tests; of-high = search tests; of-barred = search tests; of-also = search tests }
+pub lengths : (line low high also : List ℕ) → asLong line low high also ≡ true → Lengths line low high also
+lengths line low high also e = record { of-low = search tests; of-high = search tests; of-also = search tests }

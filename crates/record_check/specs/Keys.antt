@@ -2,7 +2,7 @@
 -- figures have equal bytes.
 use Prim.Native.Nat.{ℕ, zero, suc, _+_}
 use mathlib.Core.Path.{_≡_, refl, ap₂, subst, _∙_}
-use mathlib.Core.Bool.{Bool, true, _&&_, _||_}
+use mathlib.Core.Bool.{true, _&&_, _||_}
 use mathlib.Core.List.{List, [], _∷_}
 use native.Mathlib.Omega.{arith}
 use lib.ListN.{length, take, drop, length-take}
@@ -25,7 +25,7 @@ use Rattle.sheet_laws.specs.Lines.{lineBytes, line-length, offset}
 use Rattle.record_check.specs.Figures.{isFigure, scan-of}
 
 -- two fields of one width that hold figures are equal as the figures are
-equal-bytes : (s t : List ℕ) (x y : ℕ) → scanned Blank s ≡ Number x → scanned Blank t ≡ Number y → length s ≡ length t → eqList s t ≡ eqb x y
+pub equal-bytes : (s t : List ℕ) (x y : ℕ) → scanned Blank s ≡ Number x → scanned Blank t ≡ Number y → length s ≡ length t → eqList s t ≡ eqb x y
 equal-bytes s t x y p q n =
     same-test (eqList s t) (eqb x y)
     (λ e. let z : s ≡ t = eqList-true s t e in let w : x ≡ y = cc in eq-eqb x y w)

@@ -1,58 +1,55 @@
--- A line of the record sheet, as the code judges it: by the state word the parts of that state's line, and for PREPARED the relations. Both this
--- and the plain rule are the line read by the widest ranges, with limits on its numbers.
-use Prim.Native.Nat.{ℕ}
-use mathlib.Core.Path.{_≡_, refl, sym, ap, _∙_}
-use mathlib.Core.Bool.{Bool, true, false, _&&_, and-assoc}
+-- A line of the record sheet, as the code judges it: the parts of its kind, how its versions stand to each other, and the clock. Both this and the
+-- plain rule are the line read by the widest ranges, with limits on its numbers. In a line that can be read, the bytes that tell its kind
+-- are those of its state and its before version.
+use Prim.Native.Nat.{ℕ, _<_, _≤_}
+use mathlib.Core.Path.{_≡_, refl, sym, ap, ap₂, _∙_}
+use mathlib.Core.Bool.{Bool, true, _&&_, cond, and-assoc}
 use mathlib.Core.List.{List, map}
 use native.Mathlib.Omega.{arith}
-use lib.ListN.{take, drop, getD}
-use Rattle.lists.specs.Tests.{and-fst, and-same}
+use lib.ListN.{length, take, drop, getD, length-take, length-drop}
+use lib.Seq.{getD-take, getD-drop}
+use lib.Dec.{eqb}
+use Rattle.lists.specs.Tests.{and-fst, and-same, tests}
 use Rattle.lists.specs.Bytes.{bytes, eqList}
 use Rattle.lists.specs.Each.{all}
-use Rattle.decimal.specs.declared.Scan.the-variants.{Number}
+use Rattle.decimal.specs.Field.{scanned, stepped}
 use Rattle.types.specs.declared.Kind.the-variants.{StateWord}
-use Rattle.model.specs.Layouts.{recordLayout, words}
-use Rattle.model.specs.Lines.{fieldValue, wordFrom, rowOf, lineSet, rowGood}
+use Rattle.model.specs.Layouts.{recordLayout, words, wordAt, noColumn}
+use Rattle.model.specs.Lines.{fieldValue, fieldBytes, wordFrom, inRange, rowOf, lineSet, rowGood}
 use Rattle.model.specs.Records.{recordOf, goodAlone, recordIn}
-use Rattle.sheet_laws.specs.Lines.{line-written-read, offset, fieldAt, field-at}
+use Rattle.sheet_laws.specs.Fields.{columnOk, allBelow, wordOk, isThe, field-written-read}
+use Rattle.sheet_laws.specs.Lines.{lineBytes, line-length, line-written-read, offset, fieldAt, field-at}
 use Rattle.sheet_laws.specs.Records.{record-layout-ok, line-numbers}
 use Rattle.places.specs.Parts.{partsOk}
+use Rattle.places.specs.Order.{part-bytes}
+use Rattle.places.specs.Loads.{loaded, loaded-equal}
 use Rattle.record_check.specs.Ranges.{opened, lineHeld, set-is-held, same-row}
-use Rattle.record_check.specs.Figures.{}
+use Rattle.record_check.specs.Figures.{scan-of}
+use Rattle.record_check.specs.Keys.{equal-bytes}
 use Rattle.record_check.specs.Limits.{keeps, limited-line, limited-parts}
-use Rattle.record_check.specs.States.{
-  absentLimits,
-  committedLimits,
-  preparedLimits,
-  openLayout,
-  clockLimit,
-  absentParts,
-  committedParts,
-  preparedParts,
-  absent-says,
-  committed-says,
-  prepared-says,
-  record-opens,
-  clock-narrow,
-  clock-limited,
-  is-committed,
-  is-absent,
-  is-prepared,
-  rule,
-  absent-rule,
-  committed-rule,
-}
-use Rattle.record_check.specs.Relations.{related, widest, related-is, prepared-rule}
+use Rattle.record_check.specs.States.{kindLimits, openLayout, clockLimit, kindParts, kind-says, record-opens, clock-narrow, clock-limited, kindBy, kindFor, rule, kind-rule}
+use Rattle.record_check.specs.Relations.{clockFits, follows, widest, clock-fits, follows-is}
 
 -- the line can be read, and its record is good alone
 unfoldable pub lineGood : List ℕ → Bool
 lineGood line = lineSet recordLayout line && goodAlone (recordIn line)
 
--- the state word
-abbrev pub stateBytes : List ℕ → List ℕ
-stateBytes line = take 10 (drop 20 line)
+-- before version 0, in its columns
+unfoldable pub nothing : List ℕ
+nothing = bytes "     0"
 
-module _ (line : List ℕ) where
+-- the kind that the line is of, if it is good
+unfoldable pub kindOf : List ℕ → ℕ
+kindOf line = kindBy (getD line 24 0) (eqList (take 6 (drop 58 line)) nothing)
+
+-- before version as one number
+pub nothing-is : (line : List ℕ) → ((i : ℕ) → getD line i 0 < 256) → length line ≡ 98
+    → eqb (loaded (take 6 (drop 58 line))) 52914536063008 ≡ eqList (take 6 (drop 58 line)) nothing
+unfolding nothing bytes loaded
+nothing-is line h n =
+    loaded-equal (take 6 (drop 58 line)) (bytes "     0") (part-bytes line 6 58 h) refl (simp (length-take, length-drop) (omega arith))
+
+module _ (line : List ℕ) (of-bytes : (i : ℕ) → getD line i 0 < 256) where
   row : List ℕ
   row = rowOf widest line
 
@@ -68,48 +65,53 @@ module _ (line : List ℕ) where
           rw (line-numbers line h, line-written-read recordLayout line record-layout-ok h .1)
           (unfold recordIn recordOf in ap rule (sym (same-row recordLayout line record-opens h)))
 
-  state-reads : lineSet widest line ≡ true → wordFrom 10 (words StateWord) 0 (stateBytes line) ≡ Number (getD row 5 0)
-  unfolding row fieldAt offset fieldValue opened recordLayout
-  state-reads h = field-at 5 widest line (omega arith) h
+  -- the state word of a line that can be read
+  state-word : lineSet widest line ≡ true → (take 10 (drop 20 line) ≡ wordAt StateWord (getD row 5 0)) × (getD row 5 0 ≤ 2)
+  unfolding row fieldAt offset fieldBytes inRange opened recordLayout lineBytes columnOk words allBelow wordOk isThe fieldValue wordFrom bytes eqList
+  state-word h =
+      let whole : length line ≡ 98 = line-length widest line h in
+      let long : length (take 10 (drop 20 line)) ≡ 10 = simp (length-take, length-drop) (omega arith) in
+      let r = field-written-read (getD widest 5 noColumn) (take 10 (drop 20 line)) (getD row 5 0) refl long (field-at 5 widest line (omega arith) h) in
+      let few : getD row 5 0 ≤ 2 = search (tests, r .1) in
+      (r .0, few)
 
-  -- the first half of a line that is held
-  set-of : lineHeld recordLayout line ≡ true → lineSet widest line ≡ true
-  set-of g = and-fst (lineSet widest line) (rowGood recordLayout (rowOf widest line)) g
+  before-nothing : lineSet widest line ≡ true → eqList (take 6 (drop 58 line)) nothing ≡ eqb (getD row 10 0) 0
+  unfolding row nothing bytes scanned stepped fieldAt offset opened recordLayout lineBytes
+  before-nothing h =
+      let t = take 6 (drop 58 line) in
+      let v = getD row 10 0 in
+      let whole : length line ≡ 98 = line-length widest line h in
+      equal-bytes t (bytes "     0") v 0
+      (scan-of (getD widest 10 noColumn) t v refl (field-at 10 widest line (omega arith) h)) refl
+      (simp (length-take, length-drop) (omega arith))
 
-  pub committed-line : eqList (stateBytes line) (bytes " COMMITTED") ≡ true → lineGood line ≡ partsOk committedParts line
-  unfolding committedParts row
-  committed-line e =
-      good-held
-      ∙ (and-same (lineHeld recordLayout line) (rule row) (all (keeps row) committedLimits)
-      (λ g. committed-rule row (is-committed (stateBytes line) (getD row 5 0) (state-reads (set-of g)) e))
-      ∙ sym (limited-parts committedLimits recordLayout line committed-says))
+  kind-is : lineSet widest line ≡ true → kindOf line ≡ kindFor (getD row 5 0) (getD row 10 0)
+  unfolding kindOf
+  kind-is h =
+      let byte : getD line 24 0 ≡ getD (wordAt StateWord (getD row 5 0)) 4 0 =
+      sym (getD-take 10 (drop 20 line) 4 0 (omega arith) ∙ getD-drop 20 line 4 0) ∙ ap (λ (t : List ℕ). getD t 4 0) (state-word h .0) in
+      ap₂ kindBy byte (before-nothing h)
 
-  pub absent-line : eqList (stateBytes line) (bytes "    ABSENT") ≡ true → lineGood line ≡ partsOk absentParts line
-  unfolding absentParts row
-  absent-line e =
-      good-held
-      ∙ (and-same (lineHeld recordLayout line) (rule row) (all (keeps row) absentLimits)
-      (λ g. absent-rule row (is-absent (stateBytes line) (getD row 5 0) (state-reads (set-of g)) e))
-      ∙ sym (limited-parts absentLimits recordLayout line absent-says))
-
-  pub prepared-line : eqList (stateBytes line) (bytes " COMMITTED") ≡ false
-      → eqList (stateBytes line) (bytes "    ABSENT") ≡ false
-      → lineGood line ≡ (partsOk preparedParts line && related line)
-  unfolding preparedParts row
-  prepared-line c a =
+  -- the law: a line is good where it stands in the parts of its kind, and the relations hold
+  pub line-is : lineGood line
+      ≡ (partsOk (kindParts (kindOf line)) line && (cond (eqb (kindOf line) 2) (follows line) true && clockFits line))
+  unfolding kindParts row
+  line-is =
       good-held
       ∙ (ap (λ (x : Bool). x && rule row) bounded
       ∙ (and-assoc held (all (keeps row) clockLimit) (rule row)
-      ∙ (and-same held (all (keeps row) clockLimit && rule row) (all (keeps row) preparedLimits && related line)
+      ∙ (and-same held (all (keeps row) clockLimit && rule row) (all (keeps row) (kindLimits (kindOf line)) && related)
       (λ g. let h = and-fst (lineSet widest line) (rowGood openLayout row) g in
-      prepared-rule row (is-prepared (stateBytes line) (getD row 5 0) (state-reads h) c a)
-      ∙ ap (λ (x : Bool). all (keeps row) preparedLimits && x) (sym (related-is line h)))
-      ∙ (sym (and-assoc held (all (keeps row) preparedLimits) (related line))
-      ∙ ap (λ (x : Bool). x && related line) (sym said)))))
+      rw (kind-is h, follows-is line of-bytes h, clock-fits line h) (kind-rule row (state-word h .1)))
+      ∙ (sym (and-assoc held (all (keeps row) (kindLimits (kindOf line))) related)
+      ∙ ap (λ (x : Bool). x && related) (sym said)))))
     where
       -- the line with the clock up to the widest figure
       held : Bool
       held = lineSet widest line && rowGood openLayout row
+
+      related : Bool
+      related = cond (eqb (kindOf line) 2) (follows line) true && clockFits line
 
       same-widest : map opened openLayout ≡ widest
       same-widest = unfold openLayout opened recordLayout in refl
@@ -117,5 +119,5 @@ module _ (line : List ℕ) where
       bounded : lineHeld recordLayout line ≡ (held && all (keeps row) clockLimit)
       bounded = rw (clock-limited, same-widest) at (limited-line clockLimit openLayout line clock-narrow)
 
-      said : partsOk preparedParts line ≡ (held && all (keeps row) preparedLimits)
-      said = rw same-widest at (limited-parts preparedLimits openLayout line prepared-says)
+      said : partsOk (kindParts (kindOf line)) line ≡ (held && all (keeps row) (kindLimits (kindOf line)))
+      said = rw same-widest at (limited-parts (kindLimits (kindOf line)) openLayout line (kind-says (kindOf line)))

@@ -1,33 +1,34 @@
--- How the numbers of a PREPARED line stand to each other, by the digits of its fields, and the clock's bound, which no width says. In a line that
--- can be read the digits of a field make its number, and the end of the line orders as the clock does.
-use Prim.Native.Nat.{ℕ, zero, suc, _+_}
-use mathlib.Core.Path.{_≡_, refl, sym, _∙_}
-use mathlib.Core.Bool.{Bool, true, false, not, _&&_, _||_, and-true, and-false, or-false}
+-- How the versions of a PREPARED line stand to each other, by their bytes, and the clock's bound, which no width says. Where the last digit of a
+-- figure is no 9, the next figure has the same bytes but the last, which is one more; else the digits of a field make its number. The end of
+-- the line orders as the clock does.
+use Prim.Native.Nat.{ℕ, suc, _+_, _/_, _%_, _^_, _<_}
+use mathlib.Core.Path.{_≡_, refl, sym, ap, _∙_}
+use mathlib.Core.Bool.{Bool, true, false, not, cond, and-false, or-false}
 use mathlib.Core.List.{List, [], _∷_, _++_, map}
+use native.Mathlib.Nat.{pow-suc}
 use native.Mathlib.Omega.{arith}
-use lib.ListN.{length, take, drop, getD, length-take, length-drop}
-use lib.Seq.{take-add, drop-drop}
-use lib.Dec.{eqb, leb, ltb, leb·suc-suc, leb·zero}
-use borrow.Author.Tests.{le-leb, lt-leb, ltb-true, ltb-false}
+use lib.ListN.{length, take, drop, getD, length-take, length-drop, length-append}
+use lib.Seq.{take-add, take-length, drop-drop, getD-take, getD-drop, getD-append-seam}
+use lib.Dec.{eqb, leb, ltb}
+use lib.Pow.{areBytes}
+use borrow.Author.Tests.{eqb-false, le-leb, lt-leb, ltb-true, ltb-false}
 use Rattle.lists.specs.Bytes.{bytes, eqList}
-use Rattle.lists.specs.Each.{all, less}
-use Rattle.decimal.specs.declared.Scan.the-variants.{Blank, Number}
+use Rattle.lists.specs.Each.{less}
 use Rattle.lists.specs.Order.{less-append}
-use Rattle.decimal.specs.Field.{scanned, stepped}
+use Rattle.lists.specs.Tests.{choose-by}
+use Rattle.decimal.specs.declared.Scan.the-variants.{Blank, Number}
+use Rattle.decimal.specs.Field.{scanned, stepped, ahead, fieldText}
+use Rattle.decimal.specs.Laws.{scan-written, scan-text, length-fieldText, fieldText-bytes}
 use Rattle.decimal.specs.Order.{order-bytes}
 use Rattle.types.specs.declared.Column.{Column}
 use Rattle.model.specs.Layouts.{recordLayout, noColumn}
 use Rattle.model.specs.Lines.{rowOf, lineSet}
-use Rattle.model.specs.Records.{stateOf, imageFrom, recordOf, isZero, preparedRule}
 use Rattle.sheet_laws.specs.Lines.{lineBytes, line-length, offset, fieldAt, field-at}
+use Rattle.places.specs.Order.{part-bytes}
+use Rattle.places.specs.Loads.{loaded, loaded-append, loaded-equal}
 use Rattle.record_check.specs.Ranges.{opened}
 use Rattle.record_check.specs.Figures.{scan-of, figureAt, digits-at, line-end}
-use Rattle.record_check.specs.Limits.{keeps}
-use Rattle.record_check.specs.States.{preparedLimits, clockLimit, rule}
-
--- before TxID and before columns are 0
-unfoldable pub nothingBefore : List ℕ → Bool
-nothingBefore line = eqb (figureAt 64 4 line) 0 && eqb (figureAt 68 9 line) 0 && eqb (figureAt 77 9 line) 0
+use Rattle.record_check.specs.Keys.{equal-bytes}
 
 -- the highest clock as it ends a line
 unfoldable pub highestClock : List ℕ
@@ -37,12 +38,13 @@ highestClock = bytes " 4294967295\n"
 unfoldable pub clockFits : List ℕ → Bool
 clockFits line = not (less highestClock (take 12 (drop 86 line)))
 
--- "version = before version + 1; if before version is 0, the other before fields are 0", and the clock is in its range
-unfoldable pub related : List ℕ → Bool
-related line =
-    eqb (figureAt 30 6 line) (figureAt 58 6 line + 1)
-    && (leb 1 (figureAt 58 6 line) || nothingBefore line)
-    && clockFits line
+-- "version = before version + 1": the bytes of before version with one more in the last, or, behind a 9, by their digits
+unfoldable pub follows : List ℕ → Bool
+follows line =
+    cond
+    (eqb (getD line 63 0) 57)
+    (eqb (figureAt 30 6 line) (figureAt 58 6 line + 1))
+    (eqb (loaded (take 6 (drop 30 line))) (loaded (take 6 (drop 58 line)) + 2 ^ 40))
 
 -- the columns of a record line with the widest ranges
 abbrev pub widest : List Column
@@ -60,7 +62,7 @@ ended-order s t x y p q n =
     go true e = sym (lt-leb y x (ltb-true x y e))
     go false e = sym (le-leb y x (ltb-false x y e))
 
-clock-fits : (line : List ℕ) → lineSet widest line ≡ true → clockFits line ≡ leb (getD (rowOf widest line) 14 0) 4294967295
+pub clock-fits : (line : List ℕ) → lineSet widest line ≡ true → clockFits line ≡ leb (getD (rowOf widest line) 14 0) 4294967295
 unfolding clockFits highestClock bytes scanned stepped offset fieldAt opened recordLayout lineBytes
 clock-fits line h =
     let clock : List ℕ = take 11 (drop 86 line) in
@@ -72,36 +74,47 @@ clock-fits line h =
     let ends : take 12 (drop 86 line) ≡ clock ++ (10 ∷ []) = take-add 11 1 (drop 86 line) ∙ rw (drop-drop 11 86 line, lf) in
     rw ends (ended-order (bytes " 4294967295") clock 4294967295 (getD (rowOf widest line) 14 0) refl reads (sym long))
 
--- the same of a row of numbers
-abbrev pub rowRelated : List ℕ → Bool
-rowRelated v =
-    eqb (getD v 6 0) (getD v 10 0 + 1)
-    && (leb 1 (getD v 10 0) || eqb (getD v 11 0) 0 && eqb (getD v 12 0) 0 && eqb (getD v 13 0) 0)
-    && leb (getD v 14 0) 4294967295
+-- a figure that does not end in 9, and one that is to be the next
+next-is : (w : ℕ) (s t : List ℕ) (x y : ℕ)
+    → scanned Blank s ≡ Number x → scanned Blank t ≡ Number y → length s ≡ suc w → length t ≡ suc w
+    → areBytes s ≡ true → eqb (getD t w 0) 57 ≡ false
+    → eqb (loaded s) (loaded t + 256 ^ w) ≡ eqb x (y + 1)
+unfolding fieldText loaded
+next-is w s t x y p q n m g h =
+    let u = fieldText (suc w) (y + 1) in
+    let a = ahead w (y / 10) in
+    let written = scan-written t y q in
+    let text : t ≡ a ++ ((48 + y % 10) ∷ []) = rw m at (written .0) in
+    let room : y < 10 ^ suc w = rw m at (written .1) in
+    let long : length a ≡ w = omega (arith, length-fieldText (suc w) y, length-append a ((48 + y % 10) ∷ [])) in
+    let end : getD t w 0 ≡ 48 + y % 10 =
+    ap (λ (r : List ℕ). getD r w 0) text ∙ rw long at (getD-append-seam a (48 + y % 10) [] 0) in
+    let nine : (getD t w 0 ≡ 57 → ⊥) = eqb-false (getD t w 0) 57 h in
+    let tens : (y + 1) / 10 ≡ y / 10 = omega arith in
+    let ones : (y + 1) % 10 ≡ y % 10 + 1 = omega arith in
+    let next : u ≡ a ++ ((48 + (y % 10 + 1)) ∷ []) = rw (tens, ones) in
+    let sum : loaded t + 256 ^ w ≡ loaded u =
+    rw (text, next, loaded-append a ((48 + y % 10) ∷ []), loaded-append a ((48 + (y % 10 + 1)) ∷ []), long) (omega arith) in
+    let fits : y + 1 < 10 ^ suc w = rw (pow-suc 10 w) (omega (arith, rw (pow-suc 10 w) at room)) in
+    let same : length s ≡ length u = n ∙ sym (length-fieldText (suc w) (y + 1)) in
+    let all : areBytes u ≡ true = rw take-length at (part-bytes u (length u) 0 (fieldText-bytes (suc w) (y + 1))) in
+    rw sum
+    (loaded-equal s u g all same ∙ equal-bytes s u x (y + 1) p (scan-text (suc w) (y + 1) (omega arith) fits) same)
 
-pub related-is : (line : List ℕ) → lineSet widest line ≡ true → related line ≡ rowRelated (rowOf widest line)
-unfolding related nothingBefore offset fieldAt opened recordLayout
-related-is line h =
-    let d6 : figureAt 30 6 line ≡ getD (rowOf widest line) 6 0 = digits-at 6 widest line (omega arith) refl h in
-    let d10 : figureAt 58 6 line ≡ getD (rowOf widest line) 10 0 = digits-at 10 widest line (omega arith) refl h in
-    let d11 : figureAt 64 4 line ≡ getD (rowOf widest line) 11 0 = digits-at 11 widest line (omega arith) refl h in
-    let d12 : figureAt 68 9 line ≡ getD (rowOf widest line) 12 0 = digits-at 12 widest line (omega arith) refl h in
-    let d13 : figureAt 77 9 line ≡ getD (rowOf widest line) 13 0 = digits-at 13 widest line (omega arith) refl h in
-    rw (d6, d10, d11, d12, d13, clock-fits line h)
-
-pub prepared-rule : (v : List ℕ) → getD v 5 0 ≡ 2 → (all (keeps v) clockLimit && rule v) ≡ (all (keeps v) preparedLimits && rowRelated v)
-unfolding stateOf recordOf imageFrom isZero preparedRule all keeps preparedLimits clockLimit
-prepared-rule v e =
-    rw (e, before (getD v 10 0) (eqb (getD v 11 0) 0) (eqb (getD v 12 0) 0) (eqb (getD v 13 0) 0))
-    (reordered (leb (getD v 14 0) 4294967295) (leb 1 (getD v 7 0)) (eqb (getD v 6 0) (getD v 10 0 + 1)) _)
-  where
-    -- the first of the before fields is 0 where it is not at least 1
-    before : (x : ℕ) (r s t : Bool) → (leb 1 x || eqb x 0 && r && s && t) ≡ (leb 1 x || r && s && t)
-    before zero r s t = refl
-    before (suc x) r s t = rw (leb·suc-suc 0 x, leb·zero x)
-
-    reordered : (l t e z : Bool) → ((l && true) && (t && e && z)) ≡ ((t && true) && (e && z && l))
-    reordered true true e z = sym (and-true (e && z))
-    reordered true false e z = refl
-    reordered false true e z = sym (and-false (e && z))
-    reordered false false e z = refl
+pub follows-is : (line : List ℕ) → ((i : ℕ) → getD line i 0 < 256) → lineSet widest line ≡ true
+    → follows line ≡ eqb (getD (rowOf widest line) 6 0) (getD (rowOf widest line) 10 0 + 1)
+unfolding follows offset fieldAt opened recordLayout lineBytes
+follows-is line h g =
+    let x = getD (rowOf widest line) 6 0 in
+    let y = getD (rowOf widest line) 10 0 in
+    let s = take 6 (drop 30 line) in
+    let t = take 6 (drop 58 line) in
+    let d6 : figureAt 30 6 line ≡ x = digits-at 6 widest line (omega arith) refl g in
+    let d10 : figureAt 58 6 line ≡ y = digits-at 10 widest line (omega arith) refl g in
+    let p : scanned Blank s ≡ Number x = scan-of (getD widest 6 noColumn) s x refl (field-at 6 widest line (omega arith) g) in
+    let q : scanned Blank t ≡ Number y = scan-of (getD widest 10 noColumn) t y refl (field-at 10 widest line (omega arith) g) in
+    let whole : length line ≡ 98 = line-length widest line g in
+    let end : getD t 5 0 ≡ getD line 63 0 = getD-take 6 (drop 58 line) 5 0 (omega arith) ∙ getD-drop 58 line 5 0 in
+    choose-by (λ (r : Bool). r ≡ eqb x (y + 1)) (eqb (getD line 63 0) 57)
+    (λ e. rw (d6, d10))
+    (λ e. next-is 5 s t x y p q (simp (length-take, length-drop) (omega arith)) (simp (length-take, length-drop) (omega arith)) (part-bytes line 6 30 h) (rw end e))

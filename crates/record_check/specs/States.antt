@@ -1,23 +1,25 @@
--- The line of each state: the rule of the state as limits on the fields of `recordLayout`, so that a line's parts say word, zeros and bounds at
--- once. That the limits are the rule is computed once the state is known, and the state is known by its word.
-use Prim.Native.Nat.{ℕ, zero, suc}
-use mathlib.Core.Path.{_≡_, refl, sym, _∙_}
-use mathlib.Core.Bool.{Bool, true, false, and-assoc, and-true}
+-- The kinds of line: the rule of a state as limits on the fields of `recordLayout`, so that a line's parts say word, zeros and bounds at once. A
+-- PREPARED line over nothing is a kind of its own, since most of it is fixed. That the limits are the rule is computed, once the numbers of state
+-- and before version are known.
+use Prim.Native.Nat.{ℕ, zero, suc, _+_, _/_, _%_, _≤_}
+use mathlib.Core.Path.{_≡_, refl, sym, ap, _∙_}
+use mathlib.Core.Bool.{Bool, true, false, not, _&&_, cond, and-assoc, and-true, and-false}
 use mathlib.Core.List.{List, [], _∷_}
 use native.Mathlib.Omega.{arith}
-use lib.ListN.{getD, set}
+use lib.ListN.{getD, set, drop}
 use lib.Dec.{eqb, leb, eqb·suc-zero, leb·suc-zero}
-use Rattle.lists.specs.Bytes.{bytes, eqList, eqList-true}
+use borrow.Author.Tests.{eqb-true, eq-eqb, le-leb}
+use Rattle.lists.specs.Bytes.{bytes, eqList}
 use Rattle.lists.specs.Each.{all}
-use Rattle.decimal.specs.declared.Scan.{Scan}
-use Rattle.decimal.specs.declared.Scan.the-variants.{Number, Wrong}
+use Rattle.lists.specs.Tests.{and-both, same-test, tests}
 use Rattle.types.specs.declared.Kind.the-variants.{StateWord}
 use Rattle.types.specs.declared.Column.{Column}
-use Rattle.model.specs.Layouts.{recordLayout, words, noColumn}
+use Rattle.model.specs.Layouts.{recordLayout, words, wordAt, noColumn}
 use Rattle.model.specs.Lines.{fieldValue, fieldBytes, wordFrom, inRange}
 use Rattle.model.specs.Records.{stateOf, byState, imageFrom, recordOf, isZero, absentRule, committedRule, preparedRule}
 use Rattle.sheet_laws.specs.Fields.{columnOk, allBelow, isThe, wordOk}
 use Rattle.places.specs.Parts.{Part}
+use Rattle.places.specs.Places.{bit}
 use Rattle.record_check.specs.Ranges.{opened, opens}
 use Rattle.record_check.specs.LayoutParts.{sayable, layoutParts}
 use Rattle.record_check.specs.Limits.{Limit, atLeast, atMost, keeps, narrowed, limited, narrows, allNarrow, says}
@@ -50,9 +52,29 @@ committedLimits =
     ∷ atMost 14 0
     ∷ []
 
--- "PREPARED: TxID at least 1"
+-- "PREPARED: TxID at least 1, version = before version + 1; if before version is 0, the other before fields are 0"
+unfoldable pub firstLimits : List Limit
+firstLimits =
+    atLeast 5 2
+    ∷ atLeast 7 1
+    ∷ atLeast 6 1
+    ∷ atMost 6 1
+    ∷ atMost 10 0
+    ∷ atMost 11 0
+    ∷ atMost 12 0
+    ∷ atMost 13 0
+    ∷ []
+
+-- the same over a before version of at least 1, without how the versions stand to each other
 unfoldable pub preparedLimits : List Limit
 preparedLimits = atLeast 5 2 ∷ atLeast 7 1 ∷ []
+
+-- by the number of the kind
+unfoldable pub kindLimits : ℕ → List Limit
+kindLimits zero = absentLimits
+kindLimits (suc zero) = firstLimits
+kindLimits (suc (suc zero)) = preparedLimits
+kindLimits (suc (suc (suc k))) = committedLimits
 
 -- the record layout with the clock up to the widest figure, and the clock's bound
 unfoldable pub openLayout : List Column
@@ -61,28 +83,17 @@ openLayout = set recordLayout 14 (opened (getD recordLayout 14 noColumn))
 unfoldable pub clockLimit : List Limit
 clockLimit = atMost 14 4294967295 ∷ []
 
-unfoldable pub absentParts : List Part
-absentParts = layoutParts (limited absentLimits recordLayout)
-
-unfoldable pub committedParts : List Part
-committedParts = layoutParts (limited committedLimits recordLayout)
-
-unfoldable pub preparedParts : List Part
-preparedParts = layoutParts (limited preparedLimits openLayout)
+unfoldable pub kindParts : ℕ → List Part
+kindParts k = layoutParts (limited (kindLimits k) openLayout)
 
 -- What is computed of them.
 
-pub absent-says : says absentLimits recordLayout ≡ true
-unfolding says all sayable allNarrow narrows limited narrowed absentLimits opened recordLayout inRange columnOk words allBelow wordOk isThe fieldValue fieldBytes wordFrom bytes eqList
-absent-says = refl
-
-pub committed-says : says committedLimits recordLayout ≡ true
-unfolding says all sayable allNarrow narrows limited narrowed committedLimits opened recordLayout inRange columnOk words allBelow wordOk isThe fieldValue fieldBytes wordFrom bytes eqList
-committed-says = refl
-
-pub prepared-says : says preparedLimits openLayout ≡ true
-unfolding says all sayable allNarrow narrows limited narrowed preparedLimits openLayout opened recordLayout inRange columnOk words allBelow wordOk isThe fieldValue fieldBytes wordFrom bytes eqList
-prepared-says = refl
+pub kind-says : (k : ℕ) → says (kindLimits k) openLayout ≡ true
+unfolding says all sayable allNarrow narrows limited narrowed kindLimits absentLimits firstLimits preparedLimits committedLimits openLayout opened recordLayout inRange columnOk words allBelow wordOk isThe fieldValue fieldBytes wordFrom bytes eqList
+kind-says zero = refl
+kind-says (suc zero) = refl
+kind-says (suc (suc zero)) = refl
+kind-says (suc (suc (suc k))) = refl
 
 pub record-opens : all opens recordLayout ≡ true
 unfolding all opens opened recordLayout columnOk words allBelow wordOk isThe fieldValue fieldBytes wordFrom bytes eqList
@@ -96,46 +107,71 @@ pub clock-limited : limited clockLimit openLayout ≡ recordLayout
 unfolding limited narrowed clockLimit openLayout opened recordLayout
 clock-limited = refl
 
--- The state by its word.
+-- The kind by the numbers of a line.
 
-module _ (t : List ℕ) (n : ℕ) (reads : wordFrom 10 (words StateWord) 0 t ≡ Number n) where
-  pub is-committed : eqList t (bytes " COMMITTED") ≡ true → n ≡ 1
-  unfolding wordFrom words bytes eqList
-  is-committed e =
-      let f : wordFrom 10 (words StateWord) 0 (bytes " COMMITTED") ≡ Number n = rw (eqList-true t (bytes " COMMITTED") e) at reads in
-      let z : 1 ≡ n = cc in
-      sym z
+-- the kind that a state word's fifth byte tells, `A`, `E` or `M`, with 1 more over a version: the words leave 0, 1 and 3 by 4
+abbrev pub kindBy : (byte : ℕ) (nothing : Bool) → ℕ
+kindBy byte nothing = (byte / 4 + bit (not nothing)) % 4
 
-  pub is-absent : eqList t (bytes "    ABSENT") ≡ true → n ≡ 0
-  unfolding wordFrom words bytes eqList
-  is-absent e =
-      let f : wordFrom 10 (words StateWord) 0 (bytes "    ABSENT") ≡ Number n = rw (eqList-true t (bytes "    ABSENT") e) at reads in
-      let z : 0 ≡ n = cc in
-      sym z
-
-  pub is-prepared : eqList t (bytes " COMMITTED") ≡ false → eqList t (bytes "    ABSENT") ≡ false → n ≡ 2
-  unfolding wordFrom words
-  is-prepared c a = go (eqList t (bytes "  PREPARED")) refl
-    where
-      go : (b : Bool) → eqList t (bytes "  PREPARED") ≡ b → n ≡ 2
-      go true e = let f : _≡_ {A = Scan} (Number 2) (Number n) = rw (a, c, e) at reads in let z : 2 ≡ n = cc in sym z
-      go false e = let f : _≡_ {A = Scan} Wrong (Number n) = rw (a, c, e) at reads in let z : _≡_ {A = ℕ} 0 1 = cc in absurd (omega arith)
-
--- The rule of each state as limits.
+abbrev pub kindFor : (state before : ℕ) → ℕ
+kindFor state before = kindBy (getD (wordAt StateWord state) 4 0) (eqb before 0)
 
 -- the rule that a row of numbers keeps by its state
 abbrev pub rule : List ℕ → Bool
 rule v =
     byState (stateOf (getD v 5 0)) (absentRule (recordOf v)) (committedRule (recordOf v)) (preparedRule (recordOf v))
 
+-- how the versions stand to each other, where the limits do not say it
+abbrev pub rowFollows : ℕ → List ℕ → Bool
+rowFollows k v = cond (eqb k 2) (eqb (getD v 6 0) (getD v 10 0 + 1)) true
+
 none : (x : ℕ) → eqb x 0 ≡ leb x 0
 none zero = refl
 none (suc x) = eqb·suc-zero x ∙ sym (leb·suc-zero x)
 
-pub absent-rule : (v : List ℕ) → getD v 5 0 ≡ 0 → rule v ≡ all (keeps v) absentLimits
-unfolding stateOf recordOf imageFrom isZero absentRule all keeps absentLimits
-absent-rule v e = rw e (simp (none, and-assoc, and-true))
+one : (x : ℕ) → eqb x 1 ≡ (leb 1 x && leb x 1)
+one x =
+    same-test (eqb x 1) (leb 1 x && leb x 1)
+    (λ e. let q : x ≡ 1 = eqb-true x 1 e in and-both (le-leb 1 x (omega arith)) (le-leb x 1 (omega arith)))
+    (λ e. let l : 1 ≤ x = search tests in let g : x ≤ 1 = search tests in eq-eqb x 1 (omega arith))
 
-pub committed-rule : (v : List ℕ) → getD v 5 0 ≡ 1 → rule v ≡ all (keeps v) committedLimits
-unfolding stateOf recordOf imageFrom isZero committedRule all keeps committedLimits
-committed-rule v e = rw e (simp (none, and-assoc, and-true))
+-- the first of several limits is not kept
+fails : (p : Limit → Bool) (l : Limit) (ls : List Limit) → p l ≡ false → all p (l ∷ ls) ≡ false
+unfolding all
+fails p l ls e = rw e
+
+-- the rule of each state as the limits of the line's kind
+module _ (v : List ℕ) where
+  Ruled : (state before : ℕ) → Type 0
+  Ruled s b = rule v ≡ (all (keeps v) (kindLimits (kindFor s b)) && rowFollows (kindFor s b) v)
+
+  by-numbers : (s b : ℕ) → getD v 5 0 ≡ s → getD v 10 0 ≡ b → s ≤ 2 → Ruled s b
+  unfolding stateOf recordOf imageFrom isZero absentRule committedRule preparedRule all keeps kindLimits absentLimits firstLimits preparedLimits committedLimits words bytes Ruled
+  by-numbers zero zero e f l = rw (e, f) (simp (none, and-assoc, and-true))
+  by-numbers zero (suc b) e f l =
+      let left : rule v ≡ false = rw (e, f) (simp (eqb·suc-zero, and-false)) in
+      let right : all (keeps v) firstLimits ≡ false = fails (keeps v) (atLeast 5 2) (drop 1 firstLimits) (ap (leb 2) e) in
+      rw (eqb·suc-zero b) (left ∙ sym (ap (λ (x : Bool). x && true) right))
+  by-numbers (suc zero) zero e f l = rw (e, f) (simp (none, and-assoc, and-true))
+  by-numbers (suc zero) (suc b) e f l =
+      let left : rule v ≡ false = rw (e, f) (simp (eqb·suc-zero, and-false)) in
+      let right : all (keeps v) absentLimits ≡ false = fails (keeps v) (atMost 5 0) (drop 1 absentLimits) (ap (λ (x : ℕ). leb x 0) e) in
+      rw (eqb·suc-zero b) (left ∙ sym (ap (λ (x : Bool). x && true) right))
+  by-numbers (suc (suc zero)) zero e f l = rw (e, f) (simp (one, none, and-assoc, and-true))
+  by-numbers (suc (suc zero)) (suc b) e f l =
+      rw (f, eqb·suc-zero b, e, le-leb 1 (suc b) (omega arith)) (simp (and-assoc, and-true))
+  by-numbers (suc (suc (suc s))) b e f l = absurd (omega arith)
+
+  -- with the clock's bound
+  pub kind-rule : getD v 5 0 ≤ 2
+      → let k = kindFor (getD v 5 0) (getD v 10 0) in
+      (all (keeps v) clockLimit && rule v) ≡ (all (keeps v) (kindLimits k) && (rowFollows k v && leb (getD v 14 0) 4294967295))
+  unfolding all keeps clockLimit Ruled
+  kind-rule l =
+      let k = kindFor (getD v 5 0) (getD v 10 0) in
+      ap (λ (x : Bool). (leb (getD v 14 0) 4294967295 && true) && x) (by-numbers (getD v 5 0) (getD v 10 0) refl refl l)
+      ∙ last (leb (getD v 14 0) 4294967295) (all (keeps v) (kindLimits k)) (rowFollows k v)
+    where
+      last : (c a f : Bool) → ((c && true) && (a && f)) ≡ (a && (f && c))
+      last true a f = ap (λ (x : Bool). a && x) (sym (and-true f))
+      last false a f = sym (ap (λ (x : Bool). a && x) (and-false f) ∙ and-false a)

@@ -1,123 +1,117 @@
--- The tables of a state's line as the code holds them, the four rows one after another. A row is taken out again by its length, and then the law of
--- the pass over tables applies; that the parts are such that it does is computed.
-use Prim.Native.Nat.{ℕ, _+_, _≤_}
+-- The tables of the kinds of line as the code holds them, three rows for each kind one after another. A row is taken out again by its place, and
+-- then the law of the pass over tables applies; that the parts are such that it does is computed.
+use Prim.Native.Nat.{ℕ, zero, suc, _+_, _*_, _<_}
 use mathlib.Core.Path.{_≡_, refl, sym, ap, _∙_}
-use mathlib.Core.Bool.{Bool, true, false, _&&_}
-use mathlib.Core.List.{List, _++_, map}
+use mathlib.Core.Bool.{true, _&&_}
+use mathlib.Core.List.{List, [], _∷_, _++_, map}
 use native.Mathlib.Omega.{arith}
-use lib.ListN.{length, take, drop, length-map, length-append}
-use lib.Seq.{take-at, drop-at, take-all, drop-drop}
-use Rattle.lists.specs.Bytes.{bytes, eqList}
+use lib.ListN.{length, take, drop, getD, length-map}
+use lib.Dec.{eqb, ltb}
+use Rattle.lists.specs.Bytes.{bytes}
+use Rattle.lists.specs.Each.{all, joined}
+use Rattle.lists.specs.Pieces.{AllOf, getD-pieces, pieces-joined, length-joined}
 use Rattle.model.specs.Layouts.{recordLayout, words}
 use Rattle.model.specs.Lines.{fieldBytes}
 use Rattle.decimal.specs.Field.{fieldText, ahead}
-use Rattle.places.specs.Parts.{Part, partsOk}
-use Rattle.places.specs.Places.{Place, lineOk, columns, partPlaces, places, lows, highs, barreds, alsos, partSetWell, setWell}
-use Rattle.places.specs.Laws.{lineOk-is}
+use Rattle.places.specs.Parts.{partsOk}
+use Rattle.places.specs.Places.{Room, Place, lineOk, fixed, columns, partPlaces, places, lows, highs, alsos, partSetWell, setWell}
+use Rattle.places.specs.Laws.{framed-is, room-is}
 use Rattle.record_check.specs.Ranges.{opened}
 use Rattle.record_check.specs.LayoutParts.{columnPart, layoutParts}
 use Rattle.record_check.specs.Limits.{narrowed, limited}
-use Rattle.record_check.specs.States.{absentLimits, committedLimits, preparedLimits, openLayout, absentParts, committedParts, preparedParts}
-use Rattle.record_check.specs.Relations.{highestClock, related}
-use Rattle.record_check.specs.Line.{lineGood, stateBytes, committed-line, absent-line, prepared-line}
+use Rattle.record_check.specs.States.{absentLimits, firstLimits, preparedLimits, committedLimits, kindLimits, openLayout, kindParts}
 
--- the four tables of a row of parts
-unfoldable pub tables : List Part → List ℕ
-tables qs = lows qs ++ (highs qs ++ (barreds qs ++ alsos qs))
+-- the places of a kind between the first, a space, and the last, LF
+unfoldable pub middle : ℕ → List Place
+middle k = take 96 (drop 1 (places (kindParts k)))
 
--- the line stands in the places of four tables of 98 bytes each
-unfoldable pub tablesOk : (line tables : List ℕ) → Bool
-tablesOk line t = lineOk line (take 98 t) (take 98 (drop 98 t)) (take 98 (drop 196 t)) (take 98 (drop 294 t))
+-- the places of a kind that the tables say
+unfoldable pub body : ℕ → List Place
+body k = fixed 32 ∷ middle k
 
--- what stands behind the first row of several
-behind : (n : ℕ) (a t : List ℕ) → length a ≡ 98 → drop (98 + n) (a ++ t) ≡ drop n t
-behind n a t l = sym (drop-drop n 98 (a ++ t)) ∙ ap (drop n) (drop-at a t 98 l)
+unfoldable pub rows : List (List ℕ)
+rows =
+    lows (body 0)
+    ∷ highs (body 0)
+    ∷ alsos (body 0)
+    ∷ lows (body 1)
+    ∷ highs (body 1)
+    ∷ alsos (body 1)
+    ∷ lows (body 2)
+    ∷ highs (body 2)
+    ∷ alsos (body 2)
+    ∷ lows (body 3)
+    ∷ highs (body 3)
+    ∷ alsos (body 3)
+    ∷ []
 
--- parts that tables can say, of 98 columns
-pub record Tabled (qs : List Part) : Type 0 where
-  pub well : setWell qs ≡ true
-  pub long : length (places qs) ≡ 98
+-- the tables, as they are lent
+unfoldable pub tables : List ℕ
+tables = joined rows
 
-module _ (qs : List Part) (o : Tabled qs) where
-  row : (f : Place → ℕ) → length (map f (places qs)) ≡ 98
-  row f = length-map (places qs) f ∙ o .long
+-- what is computed of a kind: its tables say its parts, and have room
+record Framed (k : ℕ) : Type 0 where
+  well : setWell (kindParts k) ≡ true
+  frame : places (kindParts k) ≡ (fixed 32 ∷ middle k) ++ (fixed 10 ∷ [])
+  long : length (middle k) ≡ 96
+  roomy : all (λ (x : ℕ). ltb x 255) (lows (body k)) ≡ true
 
-  pub tables-length : length (tables qs) ≡ 392
-  unfolding tables lows highs barreds alsos
-  tables-length = simp (length-append, row)
+framed : (k : ℕ) → k < 4 → Framed k
+unfolding all setWell partSetWell middle body lows kindParts kindLimits layoutParts columnPart limited narrowed absentLimits firstLimits preparedLimits committedLimits openLayout opened recordLayout fieldBytes fieldText ahead words bytes places partPlaces columns
+framed zero l = record { well = refl; frame = refl; long = refl; roomy = refl }
+framed (suc zero) l = record { well = refl; frame = refl; long = refl; roomy = refl }
+framed (suc (suc zero)) l = record { well = refl; frame = refl; long = refl; roomy = refl }
+framed (suc (suc (suc zero))) l = record { well = refl; frame = refl; long = refl; roomy = refl }
+framed (suc (suc (suc (suc k)))) l = absurd (omega arith)
 
-  pub tables-are : (line : List ℕ) → tablesOk line (tables qs) ≡ partsOk qs line
-  unfolding tablesOk tables lows highs barreds alsos
-  tables-are line =
-      let a = lows qs in
-      let b = highs qs in
-      let c = barreds qs in
-      let d = alsos qs in
-      let l : length d ≤ 98 = omega (arith, row (λ x. x .also)) in
-      let e2 : take 98 (drop 98 (a ++ (b ++ (c ++ d)))) ≡ b = ap (take 98) (drop-at a (b ++ (c ++ d)) 98 (row _)) ∙ take-at b (c ++ d) 98 (row _) in
-      let e3 : take 98 (drop 196 (a ++ (b ++ (c ++ d)))) ≡ c =
-      ap (take 98) (behind 98 a (b ++ (c ++ d)) (row _) ∙ drop-at b (c ++ d) 98 (row _)) ∙ take-at c d 98 (row _) in
-      let e4 : take 98 (drop 294 (a ++ (b ++ (c ++ d)))) ≡ d =
-      ap (take 98) (behind 196 a (b ++ (c ++ d)) (row _) ∙ behind 98 b (c ++ d) (row _) ∙ drop-at c d 98 (row _)) ∙ take-all 98 d l in
-      rw (take-at a (b ++ (c ++ d)) 98 (row _), e2, e3, e4) (lineOk-is qs line (o .well))
+-- each row has an entry for each place but LF
+long-rows : AllOf 97 rows
+unfolding rows body lows highs alsos
+long-rows =
+    let a = row-length 0 (omega arith) in
+    let b = row-length 1 (omega arith) in
+    let c = row-length 2 (omega arith) in
+    let d = row-length 3 (omega arith) in
+    (a _, (a _, (a _, (b _, (b _, (b _, (c _, (c _, (c _, (d _, (d _, (d _, tt))))))))))))
+  where
+    row-length : (k : ℕ) → k < 4 → (f : Place → ℕ) → length (map f (fixed 32 ∷ middle k)) ≡ 97
+    row-length k l f = length-map (fixed 32 ∷ middle k) f ∙ ap suc (framed k l .long)
 
-pub committed-tabled : Tabled committedParts
-unfolding setWell partSetWell committedParts layoutParts columnPart limited narrowed committedLimits recordLayout fieldBytes fieldText ahead words bytes places partPlaces columns
-committed-tabled = record { well = refl; long = refl }
+pub tables-length : length tables ≡ 1164
+unfolding tables rows
+tables-length = length-joined 97 rows long-rows
 
-pub absent-tabled : Tabled absentParts
-unfolding setWell partSetWell absentParts layoutParts columnPart limited narrowed absentLimits recordLayout fieldBytes fieldText ahead words bytes places partPlaces columns
-absent-tabled = record { well = refl; long = refl }
+row-at : (i : ℕ) → i < 12 → take 97 (drop (i * 97) tables) ≡ getD rows i []
+unfolding tables rows
+row-at i l = sym (getD-pieces 97 i 12 tables l) ∙ ap (λ (xs : List (List ℕ)). getD xs i []) (pieces-joined 97 rows long-rows)
 
-pub prepared-tabled : Tabled preparedParts
-unfolding setWell partSetWell preparedParts layoutParts columnPart limited narrowed preparedLimits openLayout opened recordLayout fieldBytes fieldText ahead words bytes places partPlaces columns
-prepared-tabled = record { well = refl; long = refl }
+-- the three rows of a kind
+record Rows (k : ℕ) : Type 0 where
+  low : take 97 (drop (k * 291) tables) ≡ lows (body k)
+  high : take 97 (drop (k * 291 + 97) tables) ≡ highs (body k)
+  also : take 97 (drop (k * 291 + 194) tables) ≡ alsos (body k)
 
--- what the check is lent: the two state words that it compares, the tables of each state, and the highest clock
-pub record Lent (committed absent ctables atables ptables highest : List ℕ) : Type 0 where
-  pub committed-word : committed ≡ bytes " COMMITTED"
-  pub absent-word : absent ≡ bytes "    ABSENT"
-  pub committed-rows : ctables ≡ tables committedParts
-  pub absent-rows : atables ≡ tables absentParts
-  pub prepared-rows : ptables ≡ tables preparedParts
-  pub highest-clock : highest ≡ highestClock
+rows-of : (k : ℕ) → k < 4 → Rows k
+unfolding rows
+rows-of zero l = record { low = row-at 0 (omega arith); high = row-at 1 (omega arith); also = row-at 2 (omega arith) }
+rows-of (suc zero) l = record { low = row-at 3 (omega arith); high = row-at 4 (omega arith); also = row-at 5 (omega arith) }
+rows-of (suc (suc zero)) l = record { low = row-at 6 (omega arith); high = row-at 7 (omega arith); also = row-at 8 (omega arith) }
+rows-of (suc (suc (suc zero))) l = record { low = row-at 9 (omega arith); high = row-at 10 (omega arith); also = row-at 11 (omega arith) }
+rows-of (suc (suc (suc (suc k)))) l = absurd (omega arith)
 
--- The line by what is lent.
-module _ {committed absent ctables atables ptables highest : List ℕ}
-    (line : List ℕ) (lent : Lent committed absent ctables atables ptables highest) where
-  pub if-committed : eqList (stateBytes line) committed ≡ true → tablesOk line ctables ≡ lineGood line
-  if-committed h =
-      rw (lent .committed-rows, tables-are committedParts committed-tabled line)
-      (sym (committed-line line (rw (lent .committed-word) at h)))
+module _ (k : ℕ) (l : k < 4) where
+  pub tables-room : Room (take 97 (drop (k * 291) tables))
+  tables-room i = rw (rows-of k l .low) (room-is (lows (body k)) (framed k l .roomy) i)
 
-  pub if-absent : eqList (stateBytes line) absent ≡ true → tablesOk line atables ≡ lineGood line
-  if-absent h =
-      rw (lent .absent-rows, tables-are absentParts absent-tabled line)
-      (sym (absent-line line (rw (lent .absent-word) at h)))
-
-  pub if-prepared : eqList (stateBytes line) committed ≡ false
-      → eqList (stateBytes line) absent ≡ false
-      → (tablesOk line ptables && related line) ≡ lineGood line
-  if-prepared h g =
-      rw (lent .prepared-rows, tables-are preparedParts prepared-tabled line)
-      (sym (prepared-line line (rw (lent .committed-word) at h) (rw (lent .absent-word) at g)))
-
--- the lengths of what is lent
-pub record Sizes (committed absent ctables atables ptables : List ℕ) : Type 0 where
-  pub committed-size : length committed ≡ 10
-  pub absent-size : length absent ≡ 10
-  pub ctables-size : length ctables ≡ 392
-  pub atables-size : length atables ≡ 392
-  pub ptables-size : length ptables ≡ 392
-
-pub sizes : {committed absent ctables atables ptables highest : List ℕ}
-    → Lent committed absent ctables atables ptables highest → Sizes committed absent ctables atables ptables
-unfolding bytes
-sizes lent =
-    record {
-      committed-size = ap length (lent .committed-word);
-      absent-size = ap length (lent .absent-word);
-      ctables-size = ap length (lent .committed-rows) ∙ tables-length committedParts committed-tabled;
-      atables-size = ap length (lent .absent-rows) ∙ tables-length absentParts absent-tabled;
-      ptables-size = ap length (lent .prepared-rows) ∙ tables-length preparedParts prepared-tabled;
-    }
+  -- the line stands in the parts of a kind as the code judges it
+  pub tables-are : (line : List ℕ) → length line ≡ 98
+      → (lineOk (take 97 line) (take 97 (drop (k * 291) tables)) (take 97 (drop (k * 291 + 97) tables)) (take 97 (drop (k * 291 + 194) tables))
+      && (eqb (getD line 0 0) 32 && eqb (getD line 97 0) 10))
+      ≡ partsOk (kindParts k) line
+  unfolding body
+  tables-are line n =
+      let r = rows-of k l in
+      let f = framed k l in
+      let m = f .long in
+      rw (r .low, r .high, r .also)
+      (rw m at (framed-is (kindParts k) (middle k) 32 10 line (f .well) (f .frame) (rw m n)))

@@ -1,17 +1,26 @@
--- The loop's invariant: the records before i are good, or one is not, and the others decide with them.
-use Prim.Native.Nat.{_-_}
+-- The loop's invariant: the records before i are good, so that those from i on decide as all do. A number that is not issued ends it.
+use Prim.Native.Nat.{_+_, _-_}
+use mathlib.Core.Path.{_≡_}
+use mathlib.Core.Bool.{_&&_, and-false}
+use lib.ListN.{drop}
+use lib.Dec.{leb}
 use native.Mathlib.Omega.{arith}
+use borrow.Author.Tests.{le-leb, lt-leb}
 use borrow.Author.Needs.{needs}
+use Rattle.lists.specs.Each.{all}
+use Rattle.model.specs.Records.{records}
+use Rattle.model.specs.Coordinator.{coordinatorOf, namesIssued}
+use Rattle.model.specs.SheetCalls.{allIssued}
 use Rattle.sheet_laws.specs.Decisions.{accepted-length}
-use Rattle.coordinator_check.specs.Issued.{NamedTo, named-first, named-next, named-last}
+use Rattle.coordinator_check.specs.Issued.{NamedTo, named-first, named-turn, named-last}
 use Rattle.coordinator_check.proofs.all_issued.Statement.{statement}
 use Rattle.coordinator_check.proofs.all_issued.Tie as tie
 
 abbrev Inv-loop : tie.InvT-loop
-Inv-loop records coordinator issued count good₀ i₀ good i = NamedTo records coordinator i good
+Inv-loop records coordinator issued count i₀ i = NamedTo records coordinator i
 
 abbrev μ-loop : tie.MeasureT-loop
-μ-loop records coordinator issued count good₀ i₀ good i = count - i
+μ-loop records coordinator issued count i₀ i = count - i
 
 half-requires : tie.Need-half-requires Inv-loop μ-loop
 half-requires c κs =
@@ -39,6 +48,34 @@ add-half-2 c = search needs
 half-requires-3 : tie.Need-half-requires-3 Inv-loop μ-loop
 half-requires-3 c κs = search needs
 
+-- what the two numbers of record i and the records after it make up
+whole : (c : tie.After-half3 Inv-loop μ-loop)
+    → let a = c .before .before .before .before .before .before .before .args in
+    let issued = c .before .before .before .before .half .result in
+    ((leb (c .before .half2 .result) issued && leb (c .half3 .result) issued)
+    && all (namesIssued (coordinatorOf (a .coordinator .now) .issued)) (drop (c .before .before .before .loop .i + 1) (records (a .records .now))))
+    ≡ allIssued (a .records .now) (a .coordinator .now)
+whole c =
+    let p = c .before .before .before .before .before .before .before in
+    let l = c .before .before .before .loop in
+    rw (c .half3 .ensures .0, c .before .half2 .ensures .0, c .before .before .before .before .half .ensures .0)
+    (named-turn (p .args .records .now) (p .args .coordinator .now) (p .pre .0) (p .pre .1)
+    (λ i. c .before .before .before .before .before .before .shared-slice-known .given i .fits)
+    (λ i. c .before .before .before .before .before .shared-slice-known2 .given i .fits)
+    (l .i) (c .before .before .loop-test .taken) (l .inv))
+
+returns : tie.Need-returns Inv-loop μ-loop
+returns c =
+    let issued = c .before .before .before .before .before .half in
+    let txid = c .before .before .half2 in
+    rw (lt-leb (txid .result) (issued .result) (c .if1 .taken)) at (whole (c .before))
+
+returns-2 : tie.Need-returns-2 Inv-loop μ-loop
+returns-2 c =
+    let issued = c .before .before .before .before .before .before .half in
+    let before = c .before .before .half3 in
+    rw (lt-leb (before .result) (issued .result) (c .if2 .taken), and-false) at (whole (c .before .before))
+
 add-i : tie.Need-add-i Inv-loop μ-loop
 add-i c = search needs
 
@@ -47,17 +84,18 @@ loop-less c = search needs
 
 loop-again : tie.Need-loop-again Inv-loop μ-loop
 loop-again c =
-    let l = c .before .before .before in
-    let k = l .before .before in
-    let p = k .before .before in
-    rw (l .before .half .ensures .0, c .before .half2 .ensures .0, c .half3 .ensures .0)
-    (named-next (p .args .records .now) (p .args .coordinator .now) (p .pre .0) (p .pre .1)
-    (λ i. k .before .shared-slice-known .given i .fits)
-    (λ i. k .shared-slice-known2 .given i .fits)
-    (l .loop .i) (l .loop .good) (c .before .before .loop-test .taken) (l .loop .inv))
+    let issued = c .before .before .before .before .before .before .half in
+    let txid = c .before .before .before .half2 in
+    let before = c .before .before .half3 in
+    record {
+      place = omega arith;
+      left =
+          rw (le-leb (txid .result) (issued .result) (c .before .if1 .left), le-leb (before .result) (issued .result) (c .if2 .left)) at
+          (whole (c .before .before));
+    }
 
-returns : tie.Need-returns Inv-loop μ-loop
-returns c = named-last _ _ _ _ (c .loop-test .left) (c .before .loop .inv)
+returns-3 : tie.Need-returns-3 Inv-loop μ-loop
+returns-3 c = named-last _ _ _ (c .loop-test .left) (c .before .loop .inv)
 
 pub all-issued-spec : {M : Type 1} → statement M
 all-issued-spec =
@@ -73,7 +111,9 @@ all-issued-spec =
     mul-half-2
     add-half-2
     half-requires-3
+    returns
+    returns-2
     add-i
     loop-less
     loop-again
-    returns)
+    returns-3)

@@ -1,8 +1,11 @@
--- The order of 20 bytes is that of three numbers, from the law on keys.
-use mathlib.Core.Path.{sym}
+-- The law on two parts, by the test that the first parts are equal.
+use Prim.Native.Nat.{ℕ, _<_}
+use lib.ListN.{getD}
+use mathlib.Core.Path.{sym, _∙_}
 use native.Mathlib.Omega.{arith}
+use borrow.Author.Tests.{eq-eqb, ne-eqb}
 use borrow.Author.Needs.{needs}
-use Rattle.places.specs.Order.{key-is}
+use Rattle.places.specs.Order.{part-split}
 use Rattle.places.proofs.key_less.Statement.{statement}
 use Rattle.places.proofs.key_less.Tie as tie
 
@@ -12,43 +15,33 @@ word-requires c κs = search needs
 word-requires-2 : tie.Need-word-requires-2
 word-requires-2 c κs = search needs
 
-add-word : tie.Need-add-word
-add-word c = search needs
-
-word-requires-3 : tie.Need-word-requires-3
-word-requires-3 c κs = search needs
-
-add-word-2 : tie.Need-add-word-2
-add-word-2 c = search needs
-
-word-requires-4 : tie.Need-word-requires-4
-word-requires-4 c κs = search needs
-
-add-half : tie.Need-add-half
-add-half c = search needs
-
-half-requires : tie.Need-half-requires
-half-requires c κs = search needs
-
-add-half-2 : tie.Need-add-half-2
-add-half-2 c = search needs
-
-half-requires-2 : tie.Need-half-requires-2
-half-requires-2 c κs = search needs
-
 returns : tie.Need-returns
 returns c =
-    let k = c .before .before .before .before .before .before in
-    let a = k .before .args in
-    rw (
-      c .half2 .ensures .0,
-      c .before .half .ensures .0,
-      c .before .before .word4 .ensures,
-      c .before .before .before .word3 .ensures,
-      c .before .before .before .before .word2 .ensures,
-      c .before .before .before .before .before .word .ensures,
-    )
-    (sym (key-is (a .s .now) (λ i. k .shared-slice-known .given i .fits) (a .a) (a .b) (omega arith) (omega arith)))
+    let a = c .before .before .before .before .args in
+    let s = a .s .now in
+    let w = c .before .word2 .ensures in
+    let v = c .before .before .word .ensures in
+    let of-s : (i : ℕ) → getD s i 0 < 256 = λ i. c .before .before .before .shared-slice-known .given i .fits in
+    let split = part-split s s of-s of-s 8 12 (a .a) (a .b) (omega arith) (omega arith) in
+    rw (v, w) (sym (rw (ne-eqb _ _ (rw (v, w) at (c .if1 .taken))) at split))
+
+add-twelve-less : tie.Need-add-twelve-less
+add-twelve-less c = search needs
+
+add-twelve-less-2 : tie.Need-add-twelve-less-2
+add-twelve-less-2 c = search needs
+
+twelve-less-requires : tie.Need-twelve-less-requires
+twelve-less-requires c κs = search needs
+
+returns-2 : tie.Need-returns-2
+returns-2 c =
+    let a = c .before .before .before .before .before .args in
+    let s = a .s .now in
+    let of-s : (i : ℕ) → getD s i 0 < 256 = λ i. c .before .before .before .before .shared-slice-known .given i .fits in
+    let split = part-split s s of-s of-s 8 12 (a .a) (a .b) (omega arith) (omega arith) in
+    let same = sym (c .before .before .before .word .ensures) ∙ (c .before .if1 .left ∙ c .before .before .word2 .ensures) in
+    c .twelve-less .ensures ∙ sym (rw (eq-eqb _ _ same) at split)
 
 pub key-less-spec : {M : Type 1} → statement M
 key-less-spec =
@@ -56,12 +49,8 @@ key-less-spec =
     (tie.spec
     word-requires
     word-requires-2
-    add-word
-    word-requires-3
-    add-word-2
-    word-requires-4
-    add-half
-    half-requires
-    add-half-2
-    half-requires-2
-    returns)
+    returns
+    add-twelve-less
+    add-twelve-less-2
+    twelve-less-requires
+    returns-2)

@@ -51,7 +51,7 @@ loop-again c =
     let b = c .wide .result in (
       omega arith,
       digits-room (l .v) (l .i) b (l .inv .1),
-      sym (digits-next (l .v) (a .at) (a .n) (l .i) b (a .line .now) (c .wide .ensures) (c .before .before .loop-test .taken) (omega arith))
+      sym (digits-next (l .v) (a .at) (a .n) (l .i) b (a .line .now) (c .wide .ensures .0) (c .before .before .loop-test .taken) (omega arith))
           ∙ l .inv .2,
     )
 

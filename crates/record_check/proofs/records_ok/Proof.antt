@@ -7,24 +7,17 @@ use lib.ListN.{length}
 use borrow.Author.Tests.{le-leb, lt-leb, eq-eqb, ne-eqb}
 use borrow.Author.Needs.{needs}
 use Rattle.lists.specs.Bytes.{bytes}
+use Rattle.lists.specs.Each.{joined}
 use Rattle.decimal.specs.Field.{fieldText, ahead}
 use Rattle.model.specs.Layouts.{recordLayout, words}
 use Rattle.model.specs.Lines.{fieldBytes}
-use Rattle.places.specs.Places.{columns, partPlaces, places, lows, highs, barreds, alsos}
+use Rattle.places.specs.Places.{columns, partPlaces, places, lows, highs, alsos}
 use Rattle.record_check.specs.Ranges.{opened}
 use Rattle.record_check.specs.LayoutParts.{columnPart, layoutParts}
 use Rattle.record_check.specs.Limits.{narrowed, limited}
-use Rattle.record_check.specs.States.{
-  absentLimits,
-  committedLimits,
-  preparedLimits,
-  openLayout,
-  absentParts,
-  committedParts,
-  preparedParts,
-}
+use Rattle.record_check.specs.States.{absentLimits, firstLimits, preparedLimits, committedLimits, kindLimits, openLayout, kindParts}
 use Rattle.record_check.specs.Relations.{highestClock}
-use Rattle.record_check.specs.Tables.{tables}
+use Rattle.record_check.specs.Tables.{middle, body, rows, tables}
 use Rattle.record_check.specs.Sheet.{sheetSized, accepted-is}
 use Rattle.record_check.proofs.records_ok.Statement.{statement}
 use Rattle.record_check.proofs.records_ok.Tie as tie
@@ -56,36 +49,14 @@ slice-aggregate-lines-pass c = search needs
 slice-aggregate-lines-pass-2 : tie.Need-slice-aggregate-lines-pass-2
 slice-aggregate-lines-pass-2 c = search needs
 
-slice-aggregate-lines-pass-3 : tie.Need-slice-aggregate-lines-pass-3
-slice-aggregate-lines-pass-3 c = search needs
-
-slice-aggregate-lines-pass-4 : tie.Need-slice-aggregate-lines-pass-4
-slice-aggregate-lines-pass-4 c = search needs
-
-slice-aggregate-lines-pass-5 : tie.Need-slice-aggregate-lines-pass-5
-slice-aggregate-lines-pass-5 c = search needs
-
-slice-aggregate-lines-pass-6 : tie.Need-slice-aggregate-lines-pass-6
-slice-aggregate-lines-pass-6 c = search needs
-
 lines-pass-requires : tie.Need-lines-pass-requires
-unfolding tables lows highs barreds alsos places partPlaces columns layoutParts columnPart limited narrowed committedParts absentParts preparedParts committedLimits absentLimits preparedLimits openLayout opened recordLayout fieldBytes fieldText ahead words bytes highestClock
-lines-pass-requires c κs = (
-  sym (c .before .before .before .before .before .before .before .before .if1 .left),
-  record {
-    committed-word = refl;
-    absent-word = refl;
-    committed-rows = refl;
-    absent-rows = refl;
-    prepared-rows = refl;
-    highest-clock = refl;
-  },
-)
+unfolding tables rows joined lows highs alsos middle body places partPlaces columns kindParts kindLimits layoutParts columnPart limited narrowed absentLimits firstLimits preparedLimits committedLimits openLayout opened recordLayout fieldBytes fieldText ahead words bytes highestClock
+lines-pass-requires c κs = (sym (c .before .before .before .before .if1 .left), (refl, refl))
 
 returns-4 : tie.Need-returns-4
 unfolding sheetSized
 returns-4 c =
-    let k = c .before .before .before .before .before .before .before .before .before in
+    let k = c .before .before .before .before .before in
     let s = k .before .before .args .records .now in
     let n = length s / 98 in
     rw (accepted-is s, eq-eqb (length s) (n * 98) (sym (k .if1 .left)), le-leb 1 n (omega arith), le-leb n 500 (omega arith))
@@ -101,9 +72,5 @@ records-ok-spec =
     returns-3
     slice-aggregate-lines-pass
     slice-aggregate-lines-pass-2
-    slice-aggregate-lines-pass-3
-    slice-aggregate-lines-pass-4
-    slice-aggregate-lines-pass-5
-    slice-aggregate-lines-pass-6
     lines-pass-requires
     returns-4)

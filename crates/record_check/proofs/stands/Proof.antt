@@ -1,8 +1,26 @@
--- Each table is a part of the tables lent, at its place.
+-- Each table is a row of the tables lent, at its place, and the law on the tables of a kind says the rest.
+use Prim.Native.Nat.{_+_, _-_, _*_}
+use mathlib.Core.Path.{_≡_, sym, ap, _∙_}
+use lib.ListN.{length, take, drop}
+use native.Mathlib.Omega.{arith}
+use borrow.Author.Tests.{not-true, not-false}
 use borrow.Author.Needs.{needs}
-use Rattle.record_check.specs.Tables.{tablesOk}
+use Rattle.places.specs.Places.{lineOk}
+use Rattle.record_check.specs.Tables.{tables, tables-length, tables-room, tables-are}
 use Rattle.record_check.proofs.stands.Statement.{statement}
 use Rattle.record_check.proofs.stands.Tie as tie
+
+mul-low : tie.Need-mul-low
+mul-low c = search needs
+
+add-high : tie.Need-add-high
+add-high c = search needs
+
+add-also : tie.Need-add-also
+add-also c = search needs
+
+add-end : tie.Need-add-end
+add-end c = search needs
 
 sub-line-ok : tie.Need-sub-line-ok
 sub-line-ok c = search needs
@@ -20,7 +38,7 @@ part-line-ok-start-2 : tie.Need-part-line-ok-start-2
 part-line-ok-start-2 c = search needs
 
 part-line-ok-end-2 : tie.Need-part-line-ok-end-2
-part-line-ok-end-2 c = search needs
+part-line-ok-end-2 c = let l = ap length (c .before .before .before .pre .1 .0) ∙ tables-length in omega arith
 
 sub-line-ok-3 : tie.Need-sub-line-ok-3
 sub-line-ok-3 c = search needs
@@ -29,7 +47,7 @@ part-line-ok-start-3 : tie.Need-part-line-ok-start-3
 part-line-ok-start-3 c = search needs
 
 part-line-ok-end-3 : tie.Need-part-line-ok-end-3
-part-line-ok-end-3 c = search needs
+part-line-ok-end-3 c = let l = ap length (c .before .before .before .before .pre .1 .0) ∙ tables-length in omega arith
 
 sub-line-ok-4 : tie.Need-sub-line-ok-4
 sub-line-ok-4 c = search needs
@@ -38,19 +56,55 @@ part-line-ok-start-4 : tie.Need-part-line-ok-start-4
 part-line-ok-start-4 c = search needs
 
 part-line-ok-end-4 : tie.Need-part-line-ok-end-4
-part-line-ok-end-4 c = search needs
+part-line-ok-end-4 c = let l = ap length (c .before .before .before .before .before .pre .1 .0) ∙ tables-length in omega arith
 
 line-ok-requires : tie.Need-line-ok-requires
-line-ok-requires c κs = search needs
+line-ok-requires c κs =
+    let k = c .before .before .before .before .before .before in
+    let at = k .args .kind * 291 in
+    let w : at + 97 - at ≡ 97 = omega arith in
+    rw (w, k .pre .1 .0) (tables-room (k .args .kind) (k .pre .1 .1))
+
+-- the answer of the pass is that by the rows of the kind
+judged : (c : tie.After-line-ok)
+    → let a = c .before .before .before .before .before .before .before .args in
+    let at = a .kind * 291 in
+    c .line-ok .result
+    ≡ lineOk (take 97 (a .line .now)) (take 97 (drop at tables)) (take 97 (drop (at + 97) tables)) (take 97 (drop (at + 194) tables))
+judged c =
+    let k = c .before .before .before .before .before .before .before in
+    let at = k .args .kind * 291 in
+    let v : at + 97 - at ≡ 97 = omega arith in
+    let w : at + 194 - (at + 97) ≡ 97 = omega arith in
+    let u : at + 291 - (at + 194) ≡ 97 = omega arith in
+    rw (v, w, u, k .pre .1 .0) at (c .line-ok .ensures)
 
 returns : tie.Need-returns
-unfolding tablesOk
-returns c = search needs
+returns c =
+    let k = c .before .before .before .before .before .before .before .before in
+    let f = sym (judged (c .before)) ∙ not-true (c .before .line-ok .result) (c .if1 .taken) in
+    rw f at (tables-are (k .args .kind) (k .pre .1 .1) (k .args .line .now) (k .pre .0))
+
+shared-slice-read-result : tie.Need-shared-slice-read-result
+shared-slice-read-result c = search needs
+
+shared-slice-read-result-2 : tie.Need-shared-slice-read-result-2
+shared-slice-read-result-2 c = search needs
+
+returns-2 : tie.Need-returns-2
+returns-2 c =
+    let k = c .before .before .before .before .before .before .before .before .before .before in
+    let f = sym (judged (c .before .before .before)) ∙ not-false (c .before .before .before .line-ok .result) (c .before .before .if1 .left) in
+    rw f at (tables-are (k .args .kind) (k .pre .1 .1) (k .args .line .now) (k .pre .0))
 
 pub stands-spec : {M : Type 1} → statement M
 stands-spec =
     tie.close
     (tie.spec
+    mul-low
+    add-high
+    add-also
+    add-end
     sub-line-ok
     part-line-ok-start
     part-line-ok-end
@@ -64,4 +118,7 @@ stands-spec =
     part-line-ok-start-4
     part-line-ok-end-4
     line-ok-requires
-    returns)
+    returns
+    shared-slice-read-result
+    shared-slice-read-result-2
+    returns-2)

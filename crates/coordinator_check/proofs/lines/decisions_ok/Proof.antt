@@ -18,11 +18,11 @@ any-decision-requires c κs = search needs
 no-decision-requires : tie.Need-no-decision-requires
 no-decision-requires c κs = search needs
 
-slice-aggregate-half : tie.Need-slice-aggregate-half
-slice-aggregate-half c = search needs
+slice-aggregate-load-four : tie.Need-slice-aggregate-load-four
+slice-aggregate-load-four c = search needs
 
-half-requires : tie.Need-half-requires
-half-requires c κs = search needs
+load-four-requires : tie.Need-load-four-requires
+load-four-requires c κs = search needs
 
 slice-aggregate-lines-ok : tie.Need-slice-aggregate-lines-ok
 slice-aggregate-lines-ok c = search needs
@@ -30,10 +30,10 @@ slice-aggregate-lines-ok c = search needs
 lines-ok-requires : tie.Need-lines-ok-requires
 lines-ok-requires c κs =
     let d = c .before .before .before .before in
-    (ready-low _ _ (d .before .before .before .pre .0) (d .before .if1 .left) _ (c .before .half .ensures .0 ∙ columns-zero), search needs)
+    (ready-low _ _ (d .before .before .before .pre .0) (d .before .if1 .left) _ (c .before .load-four .ensures .0 ∙ columns-zero), search needs)
 
-half-requires-2 : tie.Need-half-requires-2
-half-requires-2 c κs =
+load-four-requires-2 : tie.Need-load-four-requires-2
+load-four-requires-2 c κs =
     let w = whole-parts _ (c .before .before .before .before .before .before .before .before .pre .0) in
     omega arith
 
@@ -44,7 +44,7 @@ lines-ok-requires-2 : tie.Need-lines-ok-requires-2
 lines-ok-requires-2 c κs =
     let d = c .before .before .before .before .before .before in
     let p = d .before .before .before .before .pre in
-    (ready-high _ _ (p .0) (d .before .before .if1 .left) _ (p .1) (c .before .half2 .ensures .0), search needs)
+    (ready-high _ _ (p .0) (d .before .before .if1 .left) _ (p .1) (c .before .load-four2 .ensures .0), search needs)
 
 returns-2 : tie.Need-returns-2
 returns-2 c =
@@ -60,11 +60,11 @@ decisions-ok-spec =
     returns
     any-decision-requires
     no-decision-requires
-    slice-aggregate-half
-    half-requires
+    slice-aggregate-load-four
+    load-four-requires
     slice-aggregate-lines-ok
     lines-ok-requires
-    half-requires-2
+    load-four-requires-2
     slice-aggregate-lines-ok-2
     lines-ok-requires-2
     returns-2)

@@ -5,14 +5,14 @@ use Rattle.coordinator_check.specs.Lines.{told, line-is}
 use Rattle.coordinator_check.proofs.lines.line_ok.Statement.{statement}
 use Rattle.coordinator_check.proofs.lines.line_ok.Tie as tie
 
-add-word : tie.Need-add-word
-add-word c = search needs
+add-load-eight : tie.Need-add-load-eight
+add-load-eight c = search needs
 
-word-requires : tie.Need-word-requires
-word-requires c κs = search needs
+load-eight-requires : tie.Need-load-eight-requires
+load-eight-requires c κs = search needs
 
-word-requires-2 : tie.Need-word-requires-2
-word-requires-2 c κs = search needs
+load-eight-requires-2 : tie.Need-load-eight-requires-2
+load-eight-requires-2 c κs = search needs
 
 mul-result : tie.Need-mul-result
 mul-result c = search needs
@@ -25,7 +25,7 @@ shared-slice-read-result c = let n = c .before .before .before .before .before .
 
 add-result : tie.Need-add-result
 add-result c =
-    let i = told (c .before .before .word .result) in
+    let i = told (c .before .before .load-eight .result) in
     omega (arith, c .before .before .before .before .before .pre .1 .1 .room i (omega arith))
 
 add-result-2 : tie.Need-add-result-2
@@ -40,17 +40,17 @@ shared-slice-read-result-2 c = let n = c .before .before .before .before .before
 returns : tie.Need-returns
 returns c =
     let a = c .before .before .before .before .before .before .args in
-    let front = c .before .before .word2 in
-    let back = c .before .before .before .word in
+    let front = c .before .before .load-eight2 in
+    let back = c .before .before .before .load-eight in
     line-is (a .number) (front .result) (back .result) (a .start) (a .words .now) (a .sheet .now) (front .ensures) (back .ensures)
 
 pub line-ok-spec : {M : Type 1} → statement M
 line-ok-spec =
     tie.close
     (tie.spec
-    add-word
-    word-requires
-    word-requires-2
+    add-load-eight
+    load-eight-requires
+    load-eight-requires-2
     mul-result
     mul-result-2
     shared-slice-read-result

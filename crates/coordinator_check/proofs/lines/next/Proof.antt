@@ -1,6 +1,6 @@
 -- Each return is one case of `following`.
-use Prim.Native.Nat.{_/_, _%_}
-use borrow.Author.Tests.{eq-eqb, ne-eqb}
+use Prim.Native.Nat.{_*_, _/_, _%_, _^_}
+use borrow.Author.Tests.{lt-ltb, le-ltb, eq-eqb, ne-eqb}
 use borrow.Author.Needs.{needs}
 use Rattle.coordinator_check.specs.Numbers.{following}
 use Rattle.coordinator_check.proofs.lines.next.Statement.{statement}
@@ -11,7 +11,7 @@ add-result c = search needs
 
 returns : tie.Need-returns
 unfolding following
-returns c = rw (ne-eqb (c .before .args .number % 256) 57 (c .if1 .taken))
+returns c = rw (lt-ltb (c .before .args .number) (57 * 2 ^ 24) (c .if1 .taken))
 
 sub-result : tie.Need-sub-result
 sub-result c = search needs
@@ -29,7 +29,7 @@ returns-2 : tie.Need-returns-2
 unfolding following
 returns-2 c =
     let n = c .before .before .before .args .number in
-    rw (c .gain .ensures .0, eq-eqb (n % 256) 57 (c .before .before .if1 .left), ne-eqb (n / 256 % 256) 57 (c .before .if2 .taken))
+    rw (c .gain .ensures .0, le-ltb n (57 * 2 ^ 24) (c .before .before .if1 .left), ne-eqb (n / 2 ^ 16 % 256) 57 (c .before .if2 .taken))
 
 sub-result-2 : tie.Need-sub-result-2
 sub-result-2 c = search needs
@@ -47,7 +47,7 @@ returns-3 : tie.Need-returns-3
 unfolding following
 returns-3 c =
     let n = c .before .before .before .args .number in
-    rw (c .gain2 .ensures .0, eq-eqb (n % 256) 57 (c .before .before .if1 .left), eq-eqb (n / 256 % 256) 57 (c .before .if2 .left))
+    rw (c .gain2 .ensures .0, le-ltb n (57 * 2 ^ 24) (c .before .before .if1 .left), eq-eqb (n / 2 ^ 16 % 256) 57 (c .before .if2 .left))
 
 pub next-spec : {M : Type 1} → statement M
 next-spec =

@@ -1,0 +1,13 @@
+-- The test decides which of the two is answered.
+use borrow.Author.Tests.{lt-ltb, le-ltb}
+use Rattle.places.proofs.higher.Statement.{statement}
+use Rattle.places.proofs.higher.Tie as tie
+
+returns : tie.Need-returns
+returns c = rw (lt-ltb (c .before .args .a) (c .before .args .b) (c .if1 .taken))
+
+returns-2 : tie.Need-returns-2
+returns-2 c = rw (le-ltb (c .before .args .a) (c .before .args .b) (c .if1 .left))
+
+pub higher-spec : {M : Type 1} → statement M
+higher-spec = tie.close (tie.spec returns returns-2)

@@ -1,0 +1,105 @@
+-- Bytes as one number of which the first weighs least, as a load takes them, and the turn to the number of which it weighs most: the lowest byte
+-- of the one is taken off as the other takes it in.
+use Prim.Native.Nat.{ℕ, zero, suc, _+_, _-_, _*_, _/_, _%_, _^_, _<_, _≤_}
+use mathlib.Core.Path.{_≡_, refl, _∙_}
+use mathlib.Core.Bool.{true, _&&_}
+use mathlib.Core.List.{List, [], _∷_, _++_}
+use native.Mathlib.Nat.{add-assoc, pow-suc}
+use native.Mathlib.Numerals.{add-one}
+use native.Mathlib.Omega.{arith}
+use lib.ListN.{length, getD, drop, length-take, length-drop}
+use lib.Seq.{drop-cons, drop-drop, take-add}
+use lib.Dec.{eqb}
+use lib.Pow.{areBytes}
+use borrow.Author.Tests.{eqb-true, eq-eqb}
+use Rattle.lists.specs.Bytes.{eqList}
+use Rattle.lists.specs.Tests.{and-both, same-test, tests}
+use Rattle.places.specs.Order.{numberFrom, numberOf, bytesAt, part-bytes}
+
+unfoldable pub loaded : List ℕ → ℕ
+loaded [] = 0
+loaded (b ∷ s) = b + loaded s * 256
+
+-- the lowest n bytes of a number, behind the digits to the base 256 of v
+unfoldable pub turned : (v n number : ℕ) → ℕ
+turned v zero number = v
+turned v (suc n) number = turned (v * 256 + number % 256) n (number / 256)
+
+turned-from : (n v : ℕ) (s : List ℕ) → length s ≡ n → areBytes s ≡ true → turned v n (loaded s) ≡ numberFrom v s
+unfolding loaded turned numberFrom
+turned-from zero v [] l h = refl
+turned-from zero v (b ∷ s) l h = absurd (omega arith)
+turned-from (suc n) v [] l h = absurd (omega arith)
+turned-from (suc n) v (b ∷ s) l h =
+    let f : b < 256 = search tests in
+    let p : areBytes s ≡ true = search tests in
+    let low : (b + loaded s * 256) % 256 ≡ b = omega arith in
+    let high : (b + loaded s * 256) / 256 ≡ loaded s = omega arith in
+    rw (low, high) (turned-from n (v * 256 + b) s (omega arith) p)
+
+-- the n bytes at `at`, loaded and turned
+pub turned-is : (s : List ℕ) (n at : ℕ) → ((i : ℕ) → getD s i 0 < 256) → at + n ≤ length s
+    → turned 0 n (loaded (bytesAt s n at)) ≡ numberOf (bytesAt s n at)
+turned-is s n at h g = turned-from n 0 (bytesAt s n at) (simp (length-take, length-drop) (omega arith)) (part-bytes s n at h)
+
+-- one turn of the code's loop
+pub turned-next : (v i n number : ℕ) → i < n → turned v (n - i) number ≡ turned (v * 256 + number % 256) (n - (i + 1)) (number / 256)
+unfolding turned
+turned-next v i n number l = let e : n - i ≡ suc (n - (i + 1)) = omega arith in rw e
+
+-- the byte at `at` and the n after it
+loaded-next : (s : List ℕ) (n at : ℕ) → at < length s → loaded (bytesAt s (suc n) at) ≡ getD s at 0 + loaded (bytesAt s n (at + 1)) * 256
+unfolding loaded
+loaded-next s n at h = rw (drop-cons s at 0 h, add-one at)
+
+pub loaded-four : (s : List ℕ) (at : ℕ) → at + 4 ≤ length s
+    → getD s at 0 + getD s (at + 1) 0 * 256 + getD s (at + 2) 0 * 65536 + getD s (at + 3) 0 * 16777216 ≡ loaded (bytesAt s 4 at)
+unfolding loaded
+loaded-four s at h =
+    let e0 = loaded-next s 3 at (omega arith) in
+    let e1 = rw (add-assoc at 1 1) at (loaded-next s 2 (at + 1) (omega arith)) in
+    let e2 = rw (add-assoc at 2 1) at (loaded-next s 1 (at + 2) (omega arith)) in
+    let e3 = loaded-next s 0 (at + 3) (omega arith) in
+    omega (arith, e0, e1, e2, e3)
+
+pub loaded-append : (s t : List ℕ) → loaded (s ++ t) ≡ loaded s + loaded t * 256 ^ length s
+unfolding loaded
+loaded-append [] t = omega arith
+loaded-append (b ∷ s) t = rw (loaded-append s t, pow-suc 256 (length s)) (omega arith)
+
+-- eight bytes as twice four
+pub loaded-eight : (s : List ℕ) (at : ℕ) → at + 8 ≤ length s
+    → loaded (bytesAt s 4 at) + loaded (bytesAt s 4 (at + 4)) * 2 ^ 32 ≡ loaded (bytesAt s 8 at)
+loaded-eight s at h =
+    let l : length (bytesAt s 4 at) ≡ 4 = simp (length-take, length-drop) (omega arith) in
+    rw (take-add 4 4 (drop at s), drop-drop 4 at s, loaded-append (bytesAt s 4 at) (bytesAt s 4 (at + 4)), l)
+
+-- eight bytes without the first two
+pub loaded-six : (s : List ℕ) (at : ℕ) → ((i : ℕ) → getD s i 0 < 256) → 2 ≤ at → at + 6 ≤ length s
+    → loaded (bytesAt s 8 (at - 2)) / 65536 ≡ loaded (bytesAt s 6 at)
+loaded-six s at h l g =
+    let j : at - 2 + 1 + 1 ≡ at = omega arith in
+    let e0 = loaded-next s 7 (at - 2) (omega arith) in
+    let e1 = rw j at (loaded-next s 6 (at - 2 + 1) (omega arith)) in
+    omega (arith, e0, e1, h (at - 2), h (at - 2 + 1))
+
+-- bytes are equal as their numbers are
+pub loaded-equal : (s t : List ℕ) → areBytes s ≡ true → areBytes t ≡ true → length s ≡ length t → eqb (loaded s) (loaded t) ≡ eqList s t
+unfolding loaded eqList
+loaded-equal [] [] g h n = refl
+loaded-equal [] (b ∷ t) g h n = absurd (omega arith)
+loaded-equal (a ∷ s) [] g h n = absurd (omega arith)
+loaded-equal (a ∷ s) (b ∷ t) g h n =
+    let x : a < 256 = search tests in
+    let y : b < 256 = search tests in
+    let p : areBytes s ≡ true = search tests in
+    let q : areBytes t ≡ true = search tests in
+    let r = loaded-equal s t p q (omega arith) in
+    same-test (eqb (a + loaded s * 256) (b + loaded t * 256)) (eqb a b && eqList s t)
+    (λ e. let w : a + loaded s * 256 ≡ b + loaded t * 256 = eqb-true (a + loaded s * 256) (b + loaded t * 256) e in
+    let z : loaded s ≡ loaded t = omega arith in
+    and-both (eq-eqb a b (omega arith)) (rw r at (eq-eqb (loaded s) (loaded t) z)))
+    (λ e. let z : a ≡ b = search tests in
+    let k : eqList s t ≡ true = search tests in
+    let w : loaded s ≡ loaded t = eqb-true (loaded s) (loaded t) (r ∙ k) in
+    eq-eqb (a + loaded s * 256) (b + loaded t * 256) (omega arith))
