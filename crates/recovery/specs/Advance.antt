@@ -319,7 +319,7 @@ module _ (s : Sheets) (m : Model) (t : Transaction) (good : GoodSheets s) (view 
   unfolding withdrawStep held
   withdraw-moves =
       by-decision-of StepMoves (decision (t .number) (s .coordinator))
-      (λ u. plain (decide (t .number) Aborted) (withdrawn t) aborted-verdict (gentle-abort (t .number) u) (λ j d. away-abort (t .number)) refl refl (λ l. late-undo) (λ l. absurd (omega (arith, l, late-undo))))
+      (λ u. plain (decide (t .number) Aborted) (withdrawn t) aborted-verdict (gentle-abort (t .number) u) (λ j d. away-abort (t .number) (λ e. absurd (d (sym e)))) refl refl (λ l. late-undo) (λ l. absurd (omega (arith, l, late-undo))))
       (λ u. stays)
       (λ u. plain nothing (withdrawn t) aborted-verdict gentle-nothing (λ j d. away-nothing) refl refl (λ l. late-undo) (λ l. absurd (omega (arith, l, late-undo))))
 

@@ -11,7 +11,7 @@ use lib.ListN.{length, take, drop, getD, set}
 use lib.Dec.{eqb, leb}
 use borrow.Author.Tests.{not-false, eqb-true, eqb-false, eq-eqb, ne-eqb}
 use Rattle.lists.specs.Each.{all}
-use Rattle.lists.specs.Tests.{and-fst, and-snd, choose-by, tests}
+use Rattle.lists.specs.Tests.{and-snd, and-both, choose-by, tests}
 use Rattle.types.specs.declared.Decision.{Decision}
 use Rattle.types.specs.declared.Decision.the-variants.{Undecided, Committed, Aborted}
 use Rattle.types.specs.declared.Key.{Key}
@@ -24,6 +24,7 @@ use Rattle.types.specs.declared.Found.the-variants.{Nothing}
 use Rattle.types.specs.declared.Recovery.{Recovery}
 use Rattle.model.specs.Records.{sameKey, lineOf, hasLine, keyInRange, isMissing, byFound}
 use Rattle.model.specs.Coordinator.{Coordinator, decision, isUndecided, coordinatorGood}
+use Rattle.model.specs.Images.{preparedBy}
 use Rattle.model.specs.Writes.{Sheets, Write, nothing, issue, lineAfter, decisionsAfter, apply}
 use Rattle.model.specs.WellFormed.{columnsInRange, wellFormed}
 use Rattle.model.specs.Visits.{ownerDecision, ownerExpired, meeting, isAgain, recovered, recoveryWrite}
@@ -46,7 +47,7 @@ use Rattle.model.specs.Calls.{
 use Rattle.model.specs.Histories.{Event, Answer, returned, visited, answerOf, readAnswered, given, returns, takenBy, Available}
 use Rattle.model.specs.SequentialModel.{Model, modelBegin, modelPut, modelCommit, modelCall, modelStep}
 use Rattle.call_laws.specs.Choices.{by-phase-of, unless-by, not-first, by-meeting}
-use Rattle.call_laws.specs.Lines.{listsKey}
+use Rattle.call_laws.specs.Lines.{listsKey, has-line}
 use Rattle.call_laws.specs.Sheets.{GoodSheets}
 use Rattle.call_laws.specs.Transactions.{well-formed-parts}
 use Rattle.call_laws.specs.Entries.{HeldAt, held-by, getD-first}
@@ -68,26 +69,30 @@ use Rattle.recovery.specs.Stages.{memory-as, done-in-open}
 use Rattle.recovery.specs.Counted.{oneAfter, quiet}
 use Rattle.recovery.specs.Invariant.{Remembered, Inv, Moves, inv-taken, inv-free, inv-begun}
 
--- What a visit of a line writes is gentle, and away from every number.
-pub record VisitWrites (s : Sheets) (v : Recovery) (r : Record) : Type 0 where
-  pub gentle : Gentle s (recoveryWrite v r)
-  pub away : (j : ℕ) → Away s j (recoveryWrite v r)
+-- What a visit of a line writes is gentle, and away from every number: it aborts only the owner of the line.
 
-pub visit-writes : (s : Sheets) (now : ℕ) (r : Record) → VisitWrites s (meeting now (s .coordinator) r) r
+pub visit-gentle : (s : Sheets) (now : ℕ) (r : Record) → Gentle s (recoveryWrite (meeting now (s .coordinator) r) r)
 unfolding meeting recoveryWrite
-visit-writes s now r =
-    by-meeting (λ (v : Recovery). VisitWrites s v r) r (ownerDecision r (s .coordinator)) (ownerExpired now r)
-    (λ p. record { gentle = gentle-nothing; away = λ j. away-nothing })
-    (λ p d. record {
-      gentle = gentle-forward (r .image .txid) (r .key ∷ []) d;
-      away = λ j. away-forward (r .image .txid) (r .key ∷ []) (λ e. ap (λ (x : ℕ). decision x (s .coordinator)) (sym e) ∙ d);
-    })
-    (λ p d. record {
-      gentle = gentle-back (r .image .txid) (r .key ∷ []) d;
-      away = λ j. away-back (r .image .txid) (r .key ∷ []) (λ e. ap (λ (x : ℕ). decision x (s .coordinator)) (sym e) ∙ d);
-    })
-    (λ p d x. record { gentle = gentle-abort (r .image .txid) d; away = λ j. away-abort (r .image .txid) })
-    (λ p d x. record { gentle = gentle-nothing; away = λ j. away-nothing })
+visit-gentle s now r =
+    by-meeting (λ (v : Recovery). Gentle s (recoveryWrite v r)) r (ownerDecision r (s .coordinator)) (ownerExpired now r)
+    (λ p. gentle-nothing)
+    (λ p d. gentle-forward (r .image .txid) (r .key ∷ []) d)
+    (λ p d. gentle-back (r .image .txid) (r .key ∷ []) d)
+    (λ p d x. gentle-abort (r .image .txid) d)
+    (λ p d x. gentle-nothing)
+
+pub visit-away : (s : Sheets) (now : ℕ) (k : Key) → listsKey k (s .lines) ≡ true → (j : ℕ) → Away s j (recoveryWrite (meeting now (s .coordinator) (lineOf k (s .lines))) (lineOf k (s .lines)))
+unfolding meeting recoveryWrite preparedBy
+visit-away s now k h j =
+    by-meeting (λ (v : Recovery). Away s j (recoveryWrite v r)) r (ownerDecision r (s .coordinator)) (ownerExpired now r)
+    (λ p. away-nothing)
+    (λ p d. away-forward (r .image .txid) (r .key ∷ []) (λ e. ap (λ (x : ℕ). decision x (s .coordinator)) (sym e) ∙ d))
+    (λ p d. away-back (r .image .txid) (r .key ∷ []) (λ e. ap (λ (x : ℕ). decision x (s .coordinator)) (sym e) ∙ d))
+    (λ p d x. away-abort (r .image .txid) (λ e. record { key = k; listed = h; by = and-both p (eq-eqb (r .image .txid) j e) }))
+    (λ p d x. away-nothing)
+  where
+    r : Record
+    r = lineOf k (s .lines)
 
 -- lines above the issued count are undecided
 undecided-from : (ds : List Decision) (n i : ℕ) → n ≤ i → all isUndecided (drop n ds) ≡ true → getD ds i Undecided ≡ Undecided
@@ -144,12 +149,14 @@ module _ {base : ℕ} {one : ℕ → Bool} (s : Sheets) (es : List Event) (m : M
       inv-free s es m nothing _ inv refl g gentle-nothing (λ j. away-nothing)
 
   pub visit-kept : (k : Key) (now : ℕ) → Kept (visit k now) visited (visitResult k now s)
-  unfolding visitResult modelStep returns
+  unfolding visitResult conditions modelStep returns
   visit-kept k now =
       unless-by (Kept (visit k now) visited) (conditions (visit k now) s) (kept-refused (visit k now) visited _)
-      (λ z g w a. let v : VisitWrites s (meeting now (s .coordinator) (lineOf k (s .lines))) (lineOf k (s .lines)) = visit-writes s now (lineOf k (s .lines)) in
+      (λ z g w a. let c5 = not-first 5 (not (keyInRange k)) _ (omega arith) z in
+      let c6 = not-first 6 (not (hasLine k (s .lines))) _ (omega arith) (c5 .1) in
+      let h : listsKey k (s .lines) ≡ true = sym (has-line k (s .lines)) ∙ not-false (hasLine k (s .lines)) (c6 .0) in
       inv-free s es m (recoveryWrite (meeting now (s .coordinator) (lineOf k (s .lines))) (lineOf k (s .lines))) _ inv refl g
-      (v .gentle) (v .away))
+      (visit-gentle s now (lineOf k (s .lines))) (visit-away s now k h))
 
   pub advance-kept : (t : Transaction) (now : ℕ) → Kept (advance t now) returned (advanceResult t now s)
   unfolding advanceResult conditions modelStep modelCall returns given afterStep
@@ -276,14 +283,18 @@ module _ {base : ℕ} {one : ℕ → Bool} (s : Sheets) (es : List Event) (m : M
       let ph : t .phase ≡ 0 = eqb-true (t .phase) 0 (not-false (eqb (t .phase) 0) (c4 .0)) in
       let r = lineOf k (s .lines) in
       let v = meeting now (s .coordinator) r in
-      let vw : VisitWrites s v r = visit-writes s now r in
+      let c5 = not-first 5 (not (keyInRange k)) _ (omega arith) (c4 .1) in
+      let c6 = not-first 6 (not (hasLine k (s .lines))) _ (omega arith) (c5 .1) in
+      let h : listsKey k (s .lines) ≡ true = sym (has-line k (s .lines)) ∙ not-false (hasLine k (s .lines)) (c6 .0) in
+      let gentle : Gentle s (recoveryWrite v r) = visit-gentle s now r in
+      let away : (j : ℕ) → Away s j (recoveryWrite v r) = visit-away s now k h in
       choose-by (Kept (read t k now) readAnswered) (isNew k t)
       (λ n. choose-by (Kept (read t k now) readAnswered) (isAgain v)
       (λ x g w a. inv-taken s es m _ t t (recoveryWrite v r) _ inv (a t refl) refl refl g (w t refl)
-      (plain s m t (inv .good) (inv .view) (inv .known t (a t refl)) (recoveryWrite v r) t (never-both (t .verdict)) (vw .gentle) (λ j d. vw .away j) refl refl (λ l. l)
-      (λ l. memory-kept s t (recoveryWrite v r) (inv .good) (vw .away (t .number)) (inv .known t (a t refl) .memory l))))
+      (plain s m t (inv .good) (inv .view) (inv .known t (a t refl)) (recoveryWrite v r) t (never-both (t .verdict)) gentle (λ j d. away j) refl refl (λ l. l)
+      (λ l. memory-kept s t (recoveryWrite v r) (inv .good) (away (t .number)) (inv .known t (a t refl) .memory l))))
       (λ x g w a. let e = entryAs (r .key) (recovered v r .image) in
       inv-taken s es m _ t (holding e t) (recoveryWrite v r) _ inv (a t refl) refl refl g (w (holding e t) refl)
-      (read-moves t e (recoveryWrite v r) (inv .known t (a t refl)) ph refl (vw .gentle) (vw .away))))
+      (read-moves t e (recoveryWrite v r) (inv .known t (a t refl)) ph refl gentle away)))
       (λ n g w a. inv-taken s es m _ t t nothing _ inv (a t refl) refl refl g (w t refl)
       (stays s m t (inv .good) (inv .view) (inv .known t (a t refl)))))

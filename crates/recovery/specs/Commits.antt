@@ -25,27 +25,27 @@ use Rattle.call_laws.specs.Choices.{unless-by}
 use Rattle.recovery.specs.Settling.{Gentle, gentle-nothing}
 use Rattle.recovery.specs.Counted.{Counted, oneAfter, gentle-before, gentle-later}
 use Rattle.recovery.specs.Invariant.{Inv}
-use Rattle.recovery.specs.Calls.{visit-writes}
+use Rattle.recovery.specs.Calls.{visit-gentle}
 use Rattle.recovery.specs.History.{nonePrepared, first-inv, onesAfter, history-kept}
 use Rattle.recovery.specs.Theorem.{modelOf, recoveredBy}
 
 -- Visits make no COMMITTED and take none away.
 
-visit-gentle : (v : Visit) (s : Sheets) → Gentle s (written (visitCall v) s)
+call-gentle : (v : Visit) (s : Sheets) → Gentle s (written (visitCall v) s)
 unfolding written visitResult
-visit-gentle v s =
+call-gentle v s =
     unless-by (λ (x : Result Recovery). Gentle s (writeOf x)) (conditions (visitCall v) s) gentle-nothing
-    (λ z. visit-writes s (v .clock) (lineOf (v .key) (s .lines)) .gentle)
+    (λ z. visit-gentle s (v .clock) (lineOf (v .key) (s .lines)))
 
 pub visits-before : (vs : List Visit) (s : Sheets) (n : ℕ) → decision n (leftBy answer after (map visitCall vs) s .coordinator) ≡ Committed → decision n (s .coordinator) ≡ Committed
 unfolding leftBy after apply
 visits-before [] s n e = e
-visits-before (v ∷ vs) s n e = gentle-before s (written (visitCall v) s) (visit-gentle v s) n (visits-before vs (after (visitCall v) s) n e)
+visits-before (v ∷ vs) s n e = gentle-before s (written (visitCall v) s) (call-gentle v s) n (visits-before vs (after (visitCall v) s) n e)
 
 pub visits-later : (vs : List Visit) (s : Sheets) (n : ℕ) → decision n (s .coordinator) ≡ Committed → decision n (leftBy answer after (map visitCall vs) s .coordinator) ≡ Committed
 unfolding leftBy after apply
 visits-later [] s n e = e
-visits-later (v ∷ vs) s n e = visits-later vs (after (visitCall v) s) n (gentle-later s (written (visitCall v) s) (visit-gentle v s) n e)
+visits-later (v ∷ vs) s n e = visits-later vs (after (visitCall v) s) n (gentle-later s (written (visitCall v) s) (call-gentle v s) n e)
 
 -- One-phase writes, as the history has them and as they were counted.
 

@@ -4,7 +4,7 @@ use Prim.Native.Nat.{ℕ, zero, suc, _≤_, _<_}
 use mathlib.Core.Path.{_≡_, refl, sym, ap, ap₂, _∙_, subst}
 use mathlib.Core.Bool.{Bool, true, false, _&&_, cond, true≢false}
 use mathlib.Core.List.{List, [], _∷_}
-use mathlib.Core.Option.{Option, none, some}
+use mathlib.Core.Option.{Option, none, some, Option·none-ne-some}
 use native.Mathlib.Omega.{arith}
 use lib.ListN.{getD, set}
 use lib.Dec.{eqb, leb, ltb}
@@ -81,11 +81,18 @@ pub record Memory (s : Sheets) (t : Transaction) : Type 0 where
   pub undone : decision (t .number) (s .coordinator) ≡ Committed → ⊥
   pub columns : decision (t .number) (s .coordinator) ≡ Undecided → (k : Key) → listsKey k (s .lines) ≡ true → preparedColumns (t .number) (lineOf k (s .lines)) ≡ doneAt (unitsOf s) t k
 
+-- a line that a number has prepared
+pub record PreparedLine (s : Sheets) (j : ℕ) : Type 0 where
+  pub key : Key
+  pub listed : listsKey key (s .lines) ≡ true
+  pub by : preparedBy j (lineOf key (s .lines)) ≡ true
+
 -- The writes that keep the memory of number j: those of other numbers, and rolling its own lines once it is decided.
 pub data Away (s : Sheets) (j : ℕ) : Write → Type 0 where
   away-nothing : Away s j nothing
   away-issue : Away s j issue
-  away-abort : (i : ℕ) → Away s j (decide i Aborted)
+  -- others abort only the owner of a line
+  away-abort : (i : ℕ) → (i ≡ j → PreparedLine s j) → Away s j (decide i Aborted)
   away-decide : (i : ℕ) (d : Decision) → (i ≡ j → ⊥) → Away s j (decide i d)
   away-commit : (i : ℕ) (es : List Entry) → MayPutAll s i es → Away s j (commit i es)
   away-prepare : (i now : ℕ) (es : List Entry) → (i ≡ j → ⊥) → MayPutAll s i es → Away s j (prepare i now es)
@@ -123,7 +130,7 @@ module _ (s : Sheets) (j : ℕ) (u : decision j (s .coordinator) ≡ Undecided) 
   unfolding lineAfter committed prepared
   away-columns w away-nothing = refl
   away-columns w away-issue = refl
-  away-columns w (away-abort i) = refl
+  away-columns w (away-abort i x) = refl
   away-columns w (away-decide i d n) = refl
   away-columns w (away-commit i es m) =
       put-away i es (λ (e : Entry). committed i e r) m (λ e. not-prepared j (committed i e r) refl)
@@ -158,7 +165,7 @@ away-undecided : (s : Sheets) (j : ℕ) (w : Write) → Away s j w → decision 
 unfolding decisionsAfter
 away-undecided s j w away-nothing e = e
 away-undecided s j w away-issue e = sym (issued-decision _ j (s .coordinator)) ∙ e
-away-undecided s j w (away-abort i) e = abort-undecided (s .coordinator) i j e
+away-undecided s j w (away-abort i x) e = abort-undecided (s .coordinator) i j e
 away-undecided s j w (away-decide i d n) e = sym (decided-other i j d (s .coordinator) n) ∙ e
 away-undecided s j w (away-commit i es m) e = e
 away-undecided s j w (away-prepare i now es n m) e = e
@@ -169,7 +176,7 @@ away-committed : (s : Sheets) (j : ℕ) (w : Write) → Away s j w → decision 
 unfolding decisionsAfter
 away-committed s j w away-nothing e = e
 away-committed s j w away-issue e = sym (issued-decision _ j (s .coordinator)) ∙ e
-away-committed s j w (away-abort i) e = abort-commits-none (s .coordinator) i j e
+away-committed s j w (away-abort i x) e = abort-commits-none (s .coordinator) i j e
 away-committed s j w (away-decide i d n) e = sym (decided-other i j d (s .coordinator) n) ∙ e
 away-committed s j w (away-commit i es m) e = e
 away-committed s j w (away-prepare i now es n m) e = e
@@ -189,3 +196,27 @@ memory-kept s t w g a m =
           ∙ (away-columns s (t .number) u (lineOf k (s .lines)) (x .listed) (x .own) w a
           ∙ (m .columns u k l ∙ ap (λ (us : List AtomicityUnit). doneAt us t k) (sym (units-kept w (s .coordinator)))));
     }
+
+owns-none : (s : Sheets) (j : ℕ) → ((k : Key) → listsKey k (s .lines) ≡ true → preparedColumns j (lineOf k (s .lines)) ≡ none) → PreparedLine s j → ⊥
+unfolding preparedColumns
+owns-none s j n x =
+    Option·none-ne-some _ (sym (n (x .key) (x .listed)) ∙ ap (λ (b : Bool). cond b (some (record { column1 = lineOf (x .key) (s .lines) .image .column1; column2 = lineOf (x .key) (s .lines) .image .column2 })) none) (x .by))
+
+-- Undecided as long as no line is prepared: nobody aborts a number that owns no line.
+pub undecided-kept : (s : Sheets) (j : ℕ) (w : Write) → Away s j w → ((k : Key) → listsKey k (s .lines) ≡ true → preparedColumns j (lineOf k (s .lines)) ≡ none) → decision j (s .coordinator) ≡ Undecided → decision j (decisionsAfter w (s .coordinator)) ≡ Undecided
+unfolding decisionsAfter
+undecided-kept s j w away-nothing n u = u
+undecided-kept s j w away-issue n u = issued-decision _ j (s .coordinator) ∙ u
+undecided-kept s j w (away-abort i x) n u = decided-other i j Aborted (s .coordinator) (λ e. owns-none s j n (x e)) ∙ u
+undecided-kept s j w (away-decide i d e) n u = decided-other i j d (s .coordinator) e ∙ u
+undecided-kept s j w (away-commit i es m) n u = u
+undecided-kept s j w (away-prepare i now es e m) n u = u
+undecided-kept s j w (away-forward i ks h) n u = u
+undecided-kept s j w (away-back i ks h) n u = u
+
+-- and none is prepared by the writes of others
+pub none-prepared-kept : (s : Sheets) (j : ℕ) (w : Write) → GoodSheets s → Away s j w → ((k : Key) → listsKey k (s .lines) ≡ true → preparedColumns j (lineOf k (s .lines)) ≡ none) → decision j (s .coordinator) ≡ Undecided → (k : Key) → listsKey k (apply w s .lines) ≡ true → preparedColumns j (lineOf k (apply w s .lines)) ≡ none
+none-prepared-kept s j w g a n u k h =
+    let l : listsKey k (s .lines) ≡ true = listed-before s w k h in
+    let x : LineAt s k = line-at s g k l in
+    ap (preparedColumns j) (line-after s w k l) ∙ (away-columns s j u (lineOf k (s .lines)) (x .listed) (x .own) w a ∙ n k l)

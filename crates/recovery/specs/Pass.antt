@@ -49,7 +49,7 @@ use Rattle.call_laws.specs.Closure.{sheets-stay-good}
 use Rattle.recovery.specs.Settling.{settle, settled-plain, gentle-nothing, forward-plain, back-plain, own-line, decided-own, undecided-aborted}
 use Rattle.recovery.specs.View.{View, LineAt, line-at, line-after, gentle-view}
 use Rattle.recovery.specs.Memory.{abort-undecided}
-use Rattle.recovery.specs.Calls.{visit-writes}
+use Rattle.recovery.specs.Calls.{visit-gentle}
 
 -- a line is undecided, decided or not prepared any more
 abbrev pub AtLeast : ℕ → Sheets → Key → Type 0
@@ -232,7 +232,7 @@ module _ (m : Model) (v : Visit) (fits : v .clock < 2 ^ 32) (s : Sheets) (good :
   visit-view w =
       unless-by (λ (x : Result Recovery). View (apply (writeOf x) s) m) (conditions (visitCall v) s)
       (gentle-view s m nothing good gentle-nothing w)
-      (λ z. gentle-view s m _ good (visit-writes s (v .clock) (lineOf (v .key) (s .lines)) .gentle) w)
+      (λ z. gentle-view s m _ good (visit-gentle s (v .clock) (lineOf (v .key) (s .lines))) w)
 
 pub call-lists : (c : Call) (s : Sheets) (k : Key) → listsKey k (after c s .lines) ≡ listsKey k (s .lines)
 unfolding after apply
