@@ -2,7 +2,7 @@
 -- decision and the count of numbers issued.
 use Prim.Native.Nat.{ℕ, zero, suc, _+_, _*_, _/_, _≤_, _<_}
 use mathlib.Core.Path.{_≡_, refl, sym, ap, ap₂, _∙_, subst}
-use mathlib.Core.Bool.{Bool, true, false, _&&_, _||_, cond, true≢false}
+use mathlib.Core.Bool.{Bool, true, false, _||_, cond, true≢false}
 use mathlib.Core.List.{List, [], _∷_, map}
 use native.Mathlib.Omega.{arith}
 use lib.ListN.{length, drop, getD, set}
@@ -34,7 +34,7 @@ use Rattle.model.specs.Records.{
 use Rattle.model.specs.Coordinator.{coordinatorOf, coordinatorText, coordinatorAccepted, withDecision, withIssued}
 use Rattle.sheet_laws.specs.Records.{sheet-written-read, good-ranged}
 use Rattle.sheet_laws.specs.Places.{length-records, records-over, accepted-over}
-use Rattle.sheet_laws.specs.Coordinator.{decisionText, coordinator-written-read, Bounds, bounds}
+use Rattle.sheet_laws.specs.Coordinator.{decisionText, coordinator-written-read, bounds}
 use Rattle.sheet_laws.specs.Decisions.{
   Accepted,
   accepted-parts,

@@ -1,22 +1,18 @@
 -- An advance moves the settled lines as the model does, and what is remembered of its transaction stays true: phase by phase, a walk of the step table.
-use Prim.Native.Nat.{ℕ, zero, suc, _+_, _≤_, _<_}
-use mathlib.Core.Path.{_≡_, refl, sym, ap, ap₂, _∙_, subst}
+use Prim.Native.Nat.{ℕ, _+_, _≤_, _<_}
+use mathlib.Core.Path.{_≡_, refl, sym, ap, _∙_, subst}
 use mathlib.Core.Bool.{Bool, true, false, _&&_, not, cond, true≢false}
-use mathlib.Core.List.{List, [], _∷_}
-use mathlib.Core.Option.{Option, none, some}
+use mathlib.Core.Option.{none}
 use native.Mathlib.Omega.{arith}
 use lib.ListN.{length, getD}
 use lib.Dec.{eqb, ltb}
-use borrow.Author.Tests.{eqb-true, eqb-false, eq-eqb, ne-eqb, ltb-true, ltb-false, le-ltb}
+use borrow.Author.Tests.{eqb-true, ne-eqb, ltb-true, ltb-false, le-ltb}
 use Rattle.lists.specs.Each.{all}
 use Rattle.lists.specs.Chosen.{and-false}
-use Rattle.lists.specs.Tests.{and-fst, and-snd, choose-by}
-use Rattle.types.specs.declared.AtomicityUnit.{AtomicityUnit}
+use Rattle.lists.specs.Tests.{and-fst, choose-by}
 use Rattle.types.specs.declared.Decision.{Decision}
 use Rattle.types.specs.declared.Decision.the-variants.{Undecided, Committed, Aborted}
 use Rattle.types.specs.declared.Key.{Key}
-use Rattle.types.specs.declared.Columns.{Columns}
-use Rattle.types.specs.declared.Entry.{Entry}
 use Rattle.types.specs.declared.Transaction.{Transaction}
 use Rattle.model.specs.Records.{lineOf}
 use Rattle.model.specs.Coordinator.{decision}
@@ -41,35 +37,10 @@ use Rattle.model.specs.Transactions.{
 }
 use Rattle.model.specs.Groups.{groupCount, groupPlace}
 use Rattle.model.specs.Images.{byDecision}
-use Rattle.model.specs.Writes.{Sheets, Write, nothing, decide, commit, prepare, forward, back, lineAfter, decisionsAfter, apply}
+use Rattle.model.specs.Writes.{Sheets, Write, nothing, decide, commit, prepare, forward, back, decisionsAfter, apply, isOnePhase}
 use Rattle.model.specs.WellFormed.{placeFormed, verdictFormed}
 use Rattle.model.specs.Conditions.{cannotAdvance}
-use Rattle.model.specs.Steps.{
-  Step,
-  holds,
-  unitsOf,
-  groupsOf,
-  groupAt,
-  keysOf,
-  to,
-  noStep,
-  commits,
-  onePhaseAllowed,
-  openWithoutPuts,
-  onePhase,
-  openStep,
-  afterPrepare,
-  nextGroup,
-  prepareStep,
-  nextEntry,
-  validateStep,
-  decideStep,
-  withdrawn,
-  withdrawStep,
-  finishStep,
-  undoStep,
-  step,
-}
+use Rattle.model.specs.Steps.{Step, holds, unitsOf, groupsOf, groupAt, keysOf, to, noStep, commits, onePhaseAllowed, openWithoutPuts, onePhase, openStep, nextGroup, prepareStep, nextEntry, validateStep, decideStep, withdrawn, withdrawStep, finishStep, undoStep, step}
 use Rattle.model.specs.SequentialModel.{Model, modelCommit}
 use Rattle.call_laws.specs.Choices.{by-phase-of, by-decision-of}
 use Rattle.call_laws.specs.Lines.{listsKey}
@@ -105,7 +76,7 @@ use Rattle.recovery.specs.Puts.{put-in-empty}
 use Rattle.recovery.specs.OwnWrites.{doneTo, all-done, prepare-columns, one-phase-view, empty-view, decide-view}
 use Rattle.recovery.specs.Stages.{memory-as, done-in-open, done-in-prepare, done-in-validate, done-in-decide}
 use Rattle.recovery.specs.Counted.{Why, by-decision, by-one-phase, by-nothing, quiet, commits as commits-by}
-use Rattle.recovery.specs.Invariant.{Remembered, Moves}
+use Rattle.recovery.specs.Invariant.{Remembered, open-unprepared, Moves}
 
 -- finish and undo are refused unless the own line says so
 only-committed : (d : Decision) → byDecision d true false true ≡ false → d ≡ Committed
@@ -141,46 +112,48 @@ module _ (s : Sheets) (m : Model) (t : Transaction) (good : GoodSheets s) (view 
   stage = well-formed-parts s t (known .formed) .1
 
   -- A step that commits nothing in the model.
-  pub plain : (w : Write) (t′ : Transaction) → (eqb (t .verdict) 0 && eqb (t′ .verdict) 1) ≡ false → Gentle s w → ((j : ℕ) → (j ≡ t .number → ⊥) → Away s j w) → t′ .number ≡ t .number → held t′ ≡ held t → (5 ≤ t .phase → 5 ≤ t′ .phase) → (t′ .phase ≤ 3 → Memory (apply w s) t′) → Moves s m t w (afterStep t′) t′
+  pub plain : (w : Write) (t′ : Transaction) → (eqb (t .verdict) 0 && eqb (t′ .verdict) 1) ≡ false → Gentle s w → ((j : ℕ) → (j ≡ t .number → ⊥) → Away s j w) → t′ .number ≡ t .number → held t′ ≡ held t → (5 ≤ t .phase → 5 ≤ t′ .phase) → (t′ .phase ≡ 0 → decision (t′ .number) (decisionsAfter w (s .coordinator)) ≡ Undecided) → (t′ .phase ≤ 3 → Memory (apply w s) t′) → Moves s m t w (afterStep t′) t′
   unfolding afterStep
-  plain w t′ c g a n h late mem =
+  plain w t′ c g a n h late shut mem =
       subst (λ (x : Model). Moves s m t w x t′) (sym (ap (λ (b : Bool). cond b (modelCommit (t .number) m) m) c))
       (record {
         view = gentle-view s m w good g view;
         number = n;
         sets = λ k. known .sets k ∙ ap (putIn k) (sym h);
         memory = mem;
+        open-undecided = shut;
         away = a;
         others = λ j k d. refl;
         effect = quiet g refl (λ l. (late l, λ k. refl));
       })
 
   -- A step that commits.
-  commits-it : (w : Write) (t′ : Transaction) → (eqb (t .verdict) 0 && eqb (t′ .verdict) 1) ≡ true → View (apply w s) (modelCommit (t .number) m) → ((j : ℕ) → (j ≡ t .number → ⊥) → Away s j w) → t′ .number ≡ t .number → held t′ ≡ held t → 5 ≤ t′ .phase → Why m (t .number) w → Moves s m t w (afterStep t′) t′
+  commits-it : (w : Write) (t′ : Transaction) → (eqb (t .verdict) 0 && eqb (t′ .verdict) 1) ≡ true → View (apply w s) (modelCommit (t .number) m) → ((j : ℕ) → (j ≡ t .number → ⊥) → Away s j w) → t′ .number ≡ t .number → held t′ ≡ held t → 5 ≤ t′ .phase → (isOnePhase (t .number) w ≡ true → t′ .phase ≡ 7) → Why s m (t .number) w → Moves s m t w (afterStep t′) t′
   unfolding afterStep modelCommit
-  commits-it w t′ c v a n h late why =
+  commits-it w t′ c v a n h late seven why =
       subst (λ (x : Model). Moves s m t w x t′) (sym (ap (λ (b : Bool). cond b (modelCommit (t .number) m) m) c))
       (record {
         view = v;
         number = n;
         sets = λ k. known .sets k ∙ ap (putIn k) (sym h);
         memory = λ l. absurd (omega (arith, l, late));
+        open-undecided = λ l. absurd (omega (arith, l, late));
         away = a;
         others = λ j k d. refl;
-        effect = commits-by refl late why;
+        effect = commits-by refl late seven why;
       })
 
   -- a move to another stage with nothing written, and nothing committed
-  pub moves : (phase place verdict : ℕ) → (eqb (t .verdict) 0 && eqb verdict 1) ≡ false → t .phase ≤ 4 → (phase ≤ 3 → Memory (apply nothing s) (moved phase place verdict t)) → StepMoves (record { transaction = moved phase place verdict t; write = nothing })
+  pub moves : (phase place verdict : ℕ) → (eqb (t .verdict) 0 && eqb verdict 1) ≡ false → t .phase ≤ 4 → (phase ≡ 0 → ⊥) → (phase ≤ 3 → Memory (apply nothing s) (moved phase place verdict t)) → StepMoves (record { transaction = moved phase place verdict t; write = nothing })
   unfolding held
-  moves phase place verdict c early mem =
-      plain nothing (moved phase place verdict t) c gentle-nothing (λ j d. away-nothing) refl refl (λ l. absurd (omega (arith, l, early))) mem
+  moves phase place verdict c early shut mem =
+      plain nothing (moved phase place verdict t) c gentle-nothing (λ j d. away-nothing) refl refl (λ l. absurd (omega (arith, l, early))) (λ q. absurd (shut q)) mem
 
   aborted-verdict : (eqb (t .verdict) 0 && eqb abortedVerdict 1) ≡ false
   aborted-verdict = and-false (eqb (t .verdict) 0)
 
   pub withdraws : t .phase ≤ 4 → StepMoves (to withdrawPhase t)
-  withdraws early = moves withdrawPhase 0 (t .verdict) (never-both (t .verdict)) early (λ l. absurd (omega arith))
+  withdraws early = moves withdrawPhase 0 (t .verdict) (never-both (t .verdict)) early (λ q. omega (arith, q)) (λ l. absurd (omega arith))
 
   -- the memory of a stage with the same columns done, and nothing written
   memory-at : (phase place verdict : ℕ) → t .phase ≤ 3 → ((k : Key) → doneAt (unitsOf s) (moved phase place verdict t) k ≡ doneAt (unitsOf s) t k) → Memory (apply nothing s) (moved phase place verdict t)
@@ -195,7 +168,7 @@ module _ (s : Sheets) (m : Model) (t : Transaction) (good : GoodSheets s) (view 
       commits-it nothing (commits t) (ap (λ (x : ℕ). eqb x 0 && true) v)
       (gentle-view s (modelCommit (t .number) m) nothing good gentle-nothing
       (empty-view s good t m (λ k. known .sets k ∙ put-in-empty k (held t) e) view))
-      (λ j d. away-nothing) refl refl (omega arith) (by-nothing (λ k. known .sets k ∙ put-in-empty k (held t) e))
+      (λ j d. away-nothing) refl refl (omega arith) (λ q. refl) (by-nothing (λ k. known .sets k ∙ put-in-empty k (held t) e))
 
   -- Open.
   open-moves : t .phase ≡ 0 → StepMoves (openStep t s)
@@ -207,7 +180,7 @@ module _ (s : Sheets) (m : Model) (t : Transaction) (good : GoodSheets s) (view 
       choose-by StepMoves (isEmpty (puts t))
       (λ e. choose-by StepMoves (isEmpty (toValidate t))
       (λ f. commits-nothing v e)
-      (λ f. moves validatePhase 0 (t .verdict) (never-both (t .verdict)) (omega arith)
+      (λ f. moves validatePhase 0 (t .verdict) (never-both (t .verdict)) (omega arith) (λ q. omega (arith, q))
       (λ l. memory-at validatePhase 0 (t .verdict) early
       (λ k. done-in-validate (unitsOf s) (moved validatePhase 0 (t .verdict) t) refl k
       ∙ (put-in-empty k (held t) e ∙ sym (done-in-open (unitsOf s) t ph k))))))
@@ -216,9 +189,9 @@ module _ (s : Sheets) (m : Model) (t : Transaction) (good : GoodSheets s) (view 
       (λ h. let may : MayPutAll s (t .number) (groupAt t s) = may-put s good t body h in
       commits-it (commit (t .number) (groupAt t s)) (commits t) (ap (λ (x : ℕ). eqb x 0 && true) v)
       (one-phase-view s good t m (known .sets) may z (eqb-true (groupsOf t s) 1 (and-fst (eqb (groupsOf t s) 1) (not (isSerializable t)) f)) view)
-      (λ j d. away-commit (t .number) (groupAt t s) may) refl refl (omega arith) (by-one-phase (groupAt t s)))
+      (λ j d. away-commit (t .number) (groupAt t s) may) refl refl (omega arith) (λ q. refl) (by-one-phase (groupAt t s) (away-commit (t .number) (groupAt t s) may) (record { undecided = known .open-undecided ph; unprepared = open-unprepared s m t known ph })))
       (λ h. withdraws (omega arith)))
-      (λ f. moves preparePhase 0 (t .verdict) (never-both (t .verdict)) (omega arith)
+      (λ f. moves preparePhase 0 (t .verdict) (never-both (t .verdict)) (omega arith) (λ q. omega (arith, q))
       (λ l. memory-at preparePhase 0 (t .verdict) early
       (λ k. done-in-prepare (unitsOf s) (moved preparePhase 0 (t .verdict) t) refl k
       ∙ (done-none k ∙ sym (done-in-open (unitsOf s) t ph k))))))
@@ -253,17 +226,17 @@ module _ (s : Sheets) (m : Model) (t : Transaction) (good : GoodSheets s) (view 
       let gentle : Gentle s w = gentle-prepare (t .number) now (groupAt t s) (mem .undone) may in
       choose-by (λ (u : Transaction). StepMoves (record { transaction = u; write = w })) (ltb (t .place + 1) (groupsOf t s))
       (λ l. plain w (moved (t .phase) (t .place + 1) (t .verdict) t) (never-both (t .verdict)) gentle
-      (λ j d. away-prepare (t .number) now (groupAt t s) (λ e. d (sym e)) may) refl refl (λ q. absurd (omega (arith, q, ph)))
+      (λ j d. away-prepare (t .number) now (groupAt t s) (λ e. d (sym e)) may) refl refl (λ q. absurd (omega (arith, q, ph))) (λ q. absurd (omega (arith, q, ph)))
       (λ q. prepared-memory now ph (moved (t .phase) (t .place + 1) (t .verdict) t) refl
       (λ k. done-in-prepare (unitsOf s) (moved (t .phase) (t .place + 1) (t .verdict) t) ph k)))
       (λ l. let last : groupCount (unitsOf s) (puts t) ≡ t .place + 1 = let x : groupsOf t s ≤ t .place + 1 = ltb-false (t .place + 1) (groupsOf t s) l in omega arith in
       choose-by (λ (p : ℕ). StepMoves (record { transaction = moved p 0 (t .verdict) t; write = w })) (isEmpty (toValidate t))
       (λ e. plain w (moved decidePhase 0 (t .verdict) t) (never-both (t .verdict)) gentle
-      (λ j d. away-prepare (t .number) now (groupAt t s) (λ q. d (sym q)) may) refl refl (λ q. absurd (omega (arith, q, ph)))
+      (λ j d. away-prepare (t .number) now (groupAt t s) (λ q. d (sym q)) may) refl refl (λ q. absurd (omega (arith, q, ph))) (λ q. absurd (omega (arith, q)))
       (λ q. prepared-memory now ph (moved decidePhase 0 (t .verdict) t) refl
       (λ k. done-in-decide (unitsOf s) (moved decidePhase 0 (t .verdict) t) refl k ∙ all-to last k)))
       (λ e. plain w (moved validatePhase 0 (t .verdict) t) (never-both (t .verdict)) gentle
-      (λ j d. away-prepare (t .number) now (groupAt t s) (λ q. d (sym q)) may) refl refl (λ q. absurd (omega (arith, q, ph)))
+      (λ j d. away-prepare (t .number) now (groupAt t s) (λ q. d (sym q)) may) refl refl (λ q. absurd (omega (arith, q, ph))) (λ q. absurd (omega (arith, q)))
       (λ q. prepared-memory now ph (moved validatePhase 0 (t .verdict) t) refl
       (λ k. done-in-validate (unitsOf s) (moved validatePhase 0 (t .verdict) t) refl k ∙ all-to last k)))))
       (λ h. withdraws (omega arith))
@@ -279,25 +252,26 @@ module _ (s : Sheets) (m : Model) (t : Transaction) (good : GoodSheets s) (view 
       let early : t .phase ≤ 3 = omega arith in
       choose-by StepMoves (holds (s .lines) (getD (toValidate t) (t .place) noEntry))
       (λ h. choose-by (λ (u : Transaction). StepMoves (record { transaction = u; write = nothing })) (ltb (t .place + 1) (length (toValidate t)))
-      (λ l. moves validatePhase (t .place + 1) (t .verdict) (never-both (t .verdict)) (omega arith)
+      (λ l. moves validatePhase (t .place + 1) (t .verdict) (never-both (t .verdict)) (omega arith) (λ q. omega (arith, q))
       (λ q. memory-at validatePhase (t .place + 1) (t .verdict) early
       (λ k. done-in-validate (unitsOf s) (moved validatePhase (t .place + 1) (t .verdict) t) refl k ∙ sym (done-in-validate (unitsOf s) t ph k))))
       (λ l. choose-by (λ (u : Transaction). StepMoves (record { transaction = u; write = nothing })) (isEmpty (puts t))
       (λ e. commits-nothing v e)
-      (λ e. moves decidePhase 0 (t .verdict) (never-both (t .verdict)) (omega arith)
+      (λ e. moves decidePhase 0 (t .verdict) (never-both (t .verdict)) (omega arith) (λ q. omega (arith, q))
       (λ q. memory-at decidePhase 0 (t .verdict) early
       (λ k. done-in-decide (unitsOf s) (moved decidePhase 0 (t .verdict) t) refl k ∙ sym (done-in-validate (unitsOf s) t ph k))))))
       (λ h. withdraws (omega arith))
 
   -- the transaction as it is
   pub stays : StepMoves (noStep t)
+  unfolding decisionsAfter
   stays =
-      plain nothing t (never-both (t .verdict)) gentle-nothing (λ j d. away-nothing) refl refl (λ l. l)
+      plain nothing t (never-both (t .verdict)) gentle-nothing (λ j d. away-nothing) refl refl (λ l. l) (known .open-undecided)
       (λ l. memory-kept s t nothing good away-nothing (known .memory l))
 
   -- Decide.
   decide-moves : t .phase ≡ 3 → StepMoves (decideStep t s)
-  unfolding decideStep verdictFormed held
+  unfolding decideStep verdictFormed held isOnePhase
   decide-moves ph =
       let v : t .verdict ≡ noVerdict = eqb-true (t .verdict) 0 (verdict-at (unitsOf s) t stage 3 ph) in
       let mem : Memory s t = known .memory (omega arith) in
@@ -307,9 +281,9 @@ module _ (s : Sheets) (m : Model) (t : Transaction) (good : GoodSheets s) (view 
       (λ u. commits-it (decide (t .number) Committed) (moved finishPhase 0 committedVerdict t) (ap (λ (x : ℕ). eqb x 0 && true) v)
       (decide-view s good t m (known .sets) (body .number) (omega arith) u
       (λ k l. mem .columns u k l ∙ done-in-decide (unitsOf s) t ph k) view)
-      (λ j d. away-decide (t .number) Committed (λ e. d (sym e))) refl refl (omega arith) by-decision)
+      (λ j d. away-decide (t .number) Committed (λ e. d (sym e))) refl refl (omega arith) (λ q. absurd (true≢false (sym q))) by-decision)
       (λ u. stays)
-      (λ u. moves undoPhase 0 abortedVerdict aborted-verdict (omega arith) (λ l. absurd (omega arith)))
+      (λ u. moves undoPhase 0 abortedVerdict aborted-verdict (omega arith) (λ q. omega (arith, q)) (λ l. absurd (omega arith)))
 
   -- Withdraw.
   late-undo : 5 ≤ withdrawn t .phase
@@ -319,17 +293,17 @@ module _ (s : Sheets) (m : Model) (t : Transaction) (good : GoodSheets s) (view 
   unfolding withdrawStep held
   withdraw-moves =
       by-decision-of StepMoves (decision (t .number) (s .coordinator))
-      (λ u. plain (decide (t .number) Aborted) (withdrawn t) aborted-verdict (gentle-abort (t .number) u) (λ j d. away-abort (t .number) (λ e. absurd (d (sym e)))) refl refl (λ l. late-undo) (λ l. absurd (omega (arith, l, late-undo))))
+      (λ u. plain (decide (t .number) Aborted) (withdrawn t) aborted-verdict (gentle-abort (t .number) u) (λ j d. away-abort (t .number) (λ e. absurd (d (sym e)))) refl refl (λ l. late-undo) (λ l. absurd (omega (arith, l, late-undo))) (λ l. absurd (omega (arith, l, late-undo))))
       (λ u. stays)
-      (λ u. plain nothing (withdrawn t) aborted-verdict gentle-nothing (λ j d. away-nothing) refl refl (λ l. late-undo) (λ l. absurd (omega (arith, l, late-undo))))
+      (λ u. plain nothing (withdrawn t) aborted-verdict gentle-nothing (λ j d. away-nothing) refl refl (λ l. late-undo) (λ l. absurd (omega (arith, l, late-undo))) (λ l. absurd (omega (arith, l, late-undo))))
 
   -- Finish and undo: a group rolled by a decided number.
   rolls : (p : ℕ) (w : Write) → 5 ≤ p → t .phase ≡ p → eqb (t .verdict) 0 ≡ false → Gentle s w → ((j : ℕ) → (j ≡ t .number → ⊥) → Away s j w) → StepMoves (record { transaction = nextGroup donePhase t s; write = w })
   unfolding nextGroup held
   rolls p w late ph v g a =
       choose-by (λ (u : Transaction). StepMoves (record { transaction = u; write = w })) (ltb (t .place + 1) (groupsOf t s))
-      (λ l. plain w (moved (t .phase) (t .place + 1) (t .verdict) t) (ap (λ (b : Bool). b && eqb (t .verdict) 1) v) g a refl refl (λ q. q) (λ q. absurd (omega arith)))
-      (λ l. plain w (moved donePhase 0 (t .verdict) t) (ap (λ (b : Bool). b && eqb (t .verdict) 1) v) g a refl refl (λ q. omega arith) (λ q. absurd (omega arith)))
+      (λ l. plain w (moved (t .phase) (t .place + 1) (t .verdict) t) (ap (λ (b : Bool). b && eqb (t .verdict) 1) v) g a refl refl (λ q. q) (λ q. absurd (omega arith)) (λ q. absurd (omega arith)))
+      (λ l. plain w (moved donePhase 0 (t .verdict) t) (ap (λ (b : Bool). b && eqb (t .verdict) 1) v) g a refl refl (λ q. omega arith) (λ q. absurd (omega arith)) (λ q. absurd (omega arith)))
 
   finish-moves : t .phase ≡ 5 → decision (t .number) (s .coordinator) ≡ Committed → StepMoves (finishStep t s)
   unfolding finishStep verdictFormed
@@ -370,3 +344,18 @@ module _ (s : Sheets) (m : Model) (t : Transaction) (good : GoodSheets s) (view 
 
       own-aborted : t .phase ≡ 6 → decision (t .number) (s .coordinator) ≡ Aborted
       own-aborted e = only-aborted (decision (t .number) (s .coordinator)) (at 6 e)
+
+-- a step that is not refused is of no transaction that is done
+pub advance-live : (t : Transaction) (s : Sheets) → cannotAdvance t s ≡ false → t .phase ≤ 6
+unfolding cannotAdvance
+advance-live t s =
+    by-phase-of (λ (x : Bool). x ≡ false → t .phase ≤ 6) (t .phase)
+    (λ e h. omega arith)
+    (λ e h. omega arith)
+    (λ e h. omega arith)
+    (λ e h. omega arith)
+    (λ e h. omega arith)
+    (λ e h. omega arith)
+    (λ e h. omega arith)
+    (λ e h. absurd (true≢false h))
+    (λ h. absurd (true≢false h))

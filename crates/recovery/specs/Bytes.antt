@@ -1,6 +1,6 @@
 -- Demand 3 over bytes. A legal history of calls on bytes is a legal history on what the bytes say, call by call, since accepted bytes stay accepted and say
 -- what the call leaves.
-use Prim.Native.Nat.{ℕ, _^_, _<_}
+use Prim.Native.Nat.{ℕ, _<_}
 use mathlib.Core.Path.{_≡_, refl, sym, ap, ap₂, _∙_, subst}
 use mathlib.Core.Bool.{Bool, true, not, _||_}
 use mathlib.Core.Logic.{_⊎_, inl, inr}
@@ -15,7 +15,6 @@ use Rattle.types.specs.declared.Columns.{Columns}
 use Rattle.types.specs.declared.Record.{Record}
 use Rattle.model.specs.Coordinator.{coordinatorOf, decision}
 use Rattle.model.specs.Records.{records, recordsText, recordsAccepted}
-use Rattle.model.specs.Refusals.{refusalOf}
 use Rattle.model.specs.SheetCalls.{checkConditions}
 use Rattle.model.specs.Writes.{Sheets, isOnePhase}
 use Rattle.model.specs.Results.{Call}

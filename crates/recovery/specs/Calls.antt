@@ -1,15 +1,15 @@
 -- Every call keeps the invariant of a history. A refused call changes nothing; a visit makes a gentle write; begin adds a state of a new number; read, put,
 -- abort and advance replace the state that they take.
 use Prim.Native.Nat.{ℕ, zero, suc, _+_, _≤_, _<_}
-use mathlib.Core.Path.{_≡_, refl, sym, ap, ap₂, _∙_, subst}
+use mathlib.Core.Path.{_≡_, refl, sym, ap, _∙_, subst}
 use mathlib.Core.Bool.{Bool, true, false, _&&_, not, cond, true≢false}
 use mathlib.Core.List.{List, [], _∷_}
-use mathlib.Core.Option.{Option, none, some}
+use mathlib.Core.Option.{none, some}
 use native.Mathlib.Omega.{arith}
 use native.Mathlib.Numerals.{add-one}
-use lib.ListN.{length, take, drop, getD, set}
-use lib.Dec.{eqb, leb}
-use borrow.Author.Tests.{not-false, eqb-true, eqb-false, eq-eqb, ne-eqb}
+use lib.ListN.{take, drop, getD, set}
+use lib.Dec.{eqb}
+use borrow.Author.Tests.{not-false, eqb-true, eq-eqb, ne-eqb}
 use Rattle.lists.specs.Each.{all}
 use Rattle.lists.specs.Tests.{and-snd, and-both, choose-by, tests}
 use Rattle.types.specs.declared.Decision.{Decision}
@@ -28,7 +28,7 @@ use Rattle.model.specs.Images.{preparedBy}
 use Rattle.model.specs.Writes.{Sheets, Write, nothing, issue, lineAfter, decisionsAfter, apply}
 use Rattle.model.specs.WellFormed.{columnsInRange, wellFormed}
 use Rattle.model.specs.Visits.{ownerDecision, ownerExpired, meeting, isAgain, recovered, recoveryWrite}
-use Rattle.model.specs.Results.{Call, begin, read, put, advance, abort, visit, Result, refused, made, writeOf}
+use Rattle.model.specs.Results.{Call, begin, read, put, advance, abort, visit, Result, refused, writeOf}
 use Rattle.model.specs.Transactions.{withdrawPhase, isPut, held, noEntry, heldAt, entryAs, withPut, moved, withEntry}
 use Rattle.model.specs.Conditions.{isNew, cannotAdvance, cannotAbort, conditions}
 use Rattle.model.specs.Steps.{unitsOf, step}
@@ -61,13 +61,13 @@ use Rattle.recovery.specs.Settling.{
   issued-decision,
   undecided-committed,
 }
-use Rattle.recovery.specs.View.{View, line-at, listed-before, line-after, gentle-view}
-use Rattle.recovery.specs.Memory.{putIn, preparedColumns, Memory, other-owner, memory-kept, Away, away-nothing, away-issue, away-abort, away-forward, away-back}
-use Rattle.recovery.specs.Advance.{never-both, afterStep, plain, withdraws, stays, step-moves}
+use Rattle.recovery.specs.View.{line-at, listed-before, line-after, gentle-view}
+use Rattle.recovery.specs.Memory.{putIn, preparedColumns, Memory, other-owner, memory-kept, undecided-kept, Away, away-nothing, away-issue, away-abort, away-forward, away-back}
+use Rattle.recovery.specs.Advance.{never-both, afterStep, plain, withdraws, stays, step-moves, advance-live}
 use Rattle.recovery.specs.Puts.{put-in-more, put-in-replaced, take-set}
 use Rattle.recovery.specs.Stages.{memory-as, done-in-open}
 use Rattle.recovery.specs.Counted.{oneAfter, quiet}
-use Rattle.recovery.specs.Invariant.{Remembered, Inv, Moves, inv-taken, inv-free, inv-begun}
+use Rattle.recovery.specs.Invariant.{Remembered, open-unprepared, Inv, Moves, inv-taken, inv-free, inv-begun}
 
 -- What a visit of a line writes is gentle, and away from every number: it aborts only the owner of the line.
 
@@ -163,21 +163,25 @@ module _ {base : ℕ} {one : ℕ → Bool} (s : Sheets) (es : List Event) (m : M
   advance-kept t now =
       unless-by (Kept (advance t now) returned) (conditions (advance t now) s) (kept-refused (advance t now) returned _)
       (λ z g w a. let ok : cannotAdvance t s ≡ false = not-first 4 (cannotAdvance t s) [] (omega arith) (not-first 3 (not (wellFormed s t)) _ (omega arith) z .1) .0 in
-      inv-taken s es m _ t (step t now s .transaction) (step t now s .write) _ inv (a t refl) refl refl g (w (step t now s .transaction) refl)
+      inv-taken s es m _ t (step t now s .transaction) (step t now s .write) _ inv (a t refl) refl refl (advance-live t s ok) g (w (step t now s .transaction) refl)
       (step-moves s m t (inv .good) (inv .view) (inv .known t (a t refl)) now ok))
 
   pub abort-kept : (t : Transaction) → Kept (abort t) returned (abortResult t s)
   unfolding abortResult conditions modelStep modelCall returns given afterStep
   abort-kept t =
       unless-by (Kept (abort t) returned) (conditions (abort t) s) (kept-refused (abort t) returned _)
-      (λ z g w a. inv-taken s es m _ t (moved withdrawPhase 0 (t .verdict) t) nothing _ inv (a t refl) refl refl g (w (moved withdrawPhase 0 (t .verdict) t) refl)
-      (withdraws s m t (inv .good) (inv .view) (inv .known t (a t refl))
-      (early-abort t (not-first 4 (cannotAbort t) [] (omega arith) (not-first 3 (not (wellFormed s t)) _ (omega arith) z .1) .0))))
+      (λ z g w a. let early : t .phase ≤ 4 = early-abort t (not-first 4 (cannotAbort t) [] (omega arith) (not-first 3 (not (wellFormed s t)) _ (omega arith) z .1) .0) in
+      inv-taken s es m _ t (moved withdrawPhase 0 (t .verdict) t) nothing _ inv (a t refl) refl refl (omega arith) g (w (moved withdrawPhase 0 (t .verdict) t) refl)
+      (withdraws s m t (inv .good) (inv .view) (inv .known t (a t refl)) early))
 
   -- Begin.
 
   new-undecided : decision (s .coordinator .issued + 1) (s .coordinator) ≡ Undecided
   new-undecided = above-undecided (s .coordinator) (inv .good .decisions) (s .coordinator .issued + 1) (omega arith)
+
+  begin-undecided : decision (s .coordinator .issued + 1) (apply issue s .coordinator) ≡ Undecided
+  unfolding apply decisionsAfter
+  begin-undecided = issued-decision (s .coordinator .issued + 1) (s .coordinator .issued + 1) (s .coordinator) ∙ new-undecided
 
   -- nobody has prepared a line under a new number
   begin-memory : (b : Bool) → Memory (apply issue s) (newTransaction (s .coordinator .issued + 1) b)
@@ -210,12 +214,13 @@ module _ {base : ℕ} {one : ℕ → Bool} (s : Sheets) (es : List Event) (m : M
         formed = w (newTransaction (s .coordinator .issued + 1) b) refl;
         sets = begin-sets b;
         memory = λ l. begin-memory b;
+        open-undecided = λ e. begin-undecided;
       }))
 
   -- Put.
 
   put-moves : (t : Transaction) (k : Key) (c : Columns) (i : ℕ) → Remembered s m t → t .phase ≡ 0 → HeldAt k (held t) noEntry i → Moves s m t nothing (modelPut (t .number) k c m) (withEntry (t .count) i (withPut c (getD (t .entries) i noEntry)) t)
-  unfolding modelPut held
+  unfolding modelPut held decisionsAfter
   put-moves t k c i known ph x =
       let y = getD (t .entries) i noEntry in
       let same : getD (held t) i noEntry ≡ y = getD-first (t .count) (t .entries) i noEntry (x .within) in
@@ -230,6 +235,7 @@ module _ {base : ℕ} {one : ℕ → Bool} (s : Sheets) (es : List Event) (m : M
             (ap (λ (e : Entry). e .key) (sym same) ∙ x .key) refl));
         memory = λ l. memory-kept s t′ nothing (inv .good) away-nothing
             (memory-as s t t′ refl (λ j. done-in-open (unitsOf s) t′ ph j ∙ sym (done-in-open (unitsOf s) t ph j)) (known .memory (omega arith)));
+        open-undecided = λ e. known .open-undecided ph;
         away = λ j d. away-nothing;
         others = λ j i d. let e : eqb j (t .number) ≡ false = ne-eqb j (t .number) d in
             ap (λ (b : Bool). cond (b && sameKey k i) (some c) (m .writes j i)) e;
@@ -247,7 +253,7 @@ module _ {base : ℕ} {one : ℕ → Bool} (s : Sheets) (es : List Event) (m : M
       let c7 = not-first 7 (not (columnsInRange c)) _ (omega arith) (c6 .1) in
       let c10 = not-first 10 (isNew k t) _ (omega arith) (c7 .1) in
       let ph : t .phase ≡ 0 = eqb-true (t .phase) 0 (not-false (eqb (t .phase) 0) (c4 .0)) in
-      inv-taken s es m _ t (afterPut t k c) nothing _ inv (a t refl) refl refl g (w (afterPut t k c) refl)
+      inv-taken s es m _ t (afterPut t k c) nothing _ inv (a t refl) refl refl (omega arith) g (w (afterPut t k c) refl)
       (held-by
       (λ (f : Found). isMissing f ≡ false → Moves s m t nothing (modelPut (t .number) k c m) (byFound f t (λ (i : ℕ). withEntry (t .count) i (withPut c (getD (t .entries) i noEntry)) t)))
       k (held t) noEntry
@@ -269,6 +275,7 @@ module _ {base : ℕ} {one : ℕ → Bool} (s : Sheets) (es : List Event) (m : M
             ∙ sym (ap (λ (n : ℕ). putIn k (take n (set (t .entries) (t .count) e))) (add-one (t .count)) ∙ put-in-more k e p (t .count) (t .entries));
         memory = λ l. memory-kept s (holding e t) w (inv .good) (away (t .number))
             (memory-as s t (holding e t) refl (λ j. done-in-open (unitsOf s) (holding e t) ph j ∙ sym (done-in-open (unitsOf s) t ph j)) (known .memory (omega arith)));
+        open-undecided = λ q. undecided-kept s (t .number) w (away (t .number)) (open-unprepared s m t known ph) (known .open-undecided ph);
         away = λ j d. away j;
         others = λ j i d. refl;
         effect = quiet gentle refl (λ l. absurd (omega (arith, l, ph)));
@@ -290,11 +297,12 @@ module _ {base : ℕ} {one : ℕ → Bool} (s : Sheets) (es : List Event) (m : M
       let away : (j : ℕ) → Away s j (recoveryWrite v r) = visit-away s now k h in
       choose-by (Kept (read t k now) readAnswered) (isNew k t)
       (λ n. choose-by (Kept (read t k now) readAnswered) (isAgain v)
-      (λ x g w a. inv-taken s es m _ t t (recoveryWrite v r) _ inv (a t refl) refl refl g (w t refl)
+      (λ x g w a. inv-taken s es m _ t t (recoveryWrite v r) _ inv (a t refl) refl refl (omega arith) g (w t refl)
       (plain s m t (inv .good) (inv .view) (inv .known t (a t refl)) (recoveryWrite v r) t (never-both (t .verdict)) gentle (λ j d. away j) refl refl (λ l. l)
+      (λ l. undecided-kept s (t .number) (recoveryWrite v r) (away (t .number)) (open-unprepared s m t (inv .known t (a t refl)) ph) (inv .known t (a t refl) .open-undecided ph))
       (λ l. memory-kept s t (recoveryWrite v r) (inv .good) (away (t .number)) (inv .known t (a t refl) .memory l))))
       (λ x g w a. let e = entryAs (r .key) (recovered v r .image) in
-      inv-taken s es m _ t (holding e t) (recoveryWrite v r) _ inv (a t refl) refl refl g (w (holding e t) refl)
+      inv-taken s es m _ t (holding e t) (recoveryWrite v r) _ inv (a t refl) refl refl (omega arith) g (w (holding e t) refl)
       (read-moves t e (recoveryWrite v r) (inv .known t (a t refl)) ph refl gentle away)))
-      (λ n g w a. inv-taken s es m _ t t nothing _ inv (a t refl) refl refl g (w t refl)
+      (λ n g w a. inv-taken s es m _ t t nothing _ inv (a t refl) refl refl (omega arith) g (w t refl)
       (stays s m t (inv .good) (inv .view) (inv .known t (a t refl)))))

@@ -1,30 +1,27 @@
 -- A transaction with puts is committed in the model exactly when its coordinator line says so or its one-phase write was made: from the count that the
 -- history keeps, which the visits of a recovery pass leave alone.
 use Prim.Native.Nat.{ℕ, _<_}
-use mathlib.Core.Path.{_≡_, refl, sym, ap, ap₂, _∙_, subst}
+use mathlib.Core.Path.{_≡_, refl, sym, ap, _∙_}
 use mathlib.Core.Logic.{_⊎_, inl, inr}
 use mathlib.Core.Bool.{Bool, true, false, _||_}
 use mathlib.Core.List.{List, [], _∷_, map}
-use mathlib.Core.Option.{Option, none, some, Option·none-ne-some}
-use Rattle.lists.specs.Chosen.{or-else}
+use mathlib.Core.Option.{none, some, Option·none-ne-some}
 use Rattle.types.specs.declared.Decision.the-variants.{Committed}
 use Rattle.types.specs.declared.Key.{Key}
 use Rattle.types.specs.declared.Columns.{Columns}
-use Rattle.types.specs.declared.Record.{Record}
 use Rattle.types.specs.declared.Recovery.{Recovery}
 use Rattle.model.specs.Records.{lineOf}
 use Rattle.model.specs.Coordinator.{decision}
-use Rattle.model.specs.Writes.{Sheets, sheetsGood, Write, nothing, isOnePhase, decisionsAfter, apply}
+use Rattle.model.specs.Writes.{Sheets, sheetsGood, isOnePhase, apply}
 use Rattle.model.specs.Results.{Call, Result, writeOf}
 use Rattle.model.specs.Conditions.{conditions}
 use Rattle.model.specs.Calls.{visitResult}
 use Rattle.model.specs.Histories.{answer, written, after, eventsAfter, leftBy, Legal, onePhaseIn}
-use Rattle.model.specs.SequentialModel.{Model, firstModel, modelAfter, isCommitted}
+use Rattle.model.specs.SequentialModel.{firstModel, modelAfter, isCommitted}
 use Rattle.model.specs.RecoveryPass.{Visit, visitCall}
 use Rattle.call_laws.specs.Choices.{unless-by}
 use Rattle.recovery.specs.Settling.{Gentle, gentle-nothing}
 use Rattle.recovery.specs.Counted.{Counted, oneAfter, gentle-before, gentle-later}
-use Rattle.recovery.specs.Invariant.{Inv}
 use Rattle.recovery.specs.Calls.{visit-gentle}
 use Rattle.recovery.specs.History.{nonePrepared, first-inv, onesAfter, history-kept}
 use Rattle.recovery.specs.Theorem.{modelOf, recoveredBy}
@@ -54,7 +51,7 @@ or-shift true true c = refl
 or-shift true false c = refl
 or-shift false b c = refl
 
-ones-are : (cs : List Call) (s : Sheets) (one : ℕ → Bool) (n : ℕ) → onesAfter cs s one n ≡ (onePhaseIn written after n cs s || one n)
+pub ones-are : (cs : List Call) (s : Sheets) (one : ℕ → Bool) (n : ℕ) → onesAfter cs s one n ≡ (onePhaseIn written after n cs s || one n)
 unfolding onesAfter onePhaseIn
 ones-are [] s one n = refl
 ones-are (c ∷ cs) s one n =

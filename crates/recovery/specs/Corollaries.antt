@@ -1,25 +1,53 @@
 -- What learners doubt, as corollaries of the invariant.
 use Prim.Native.Nat.{ℕ, _<_}
-use mathlib.Core.Path.{_≡_, sym, _∙_}
-use mathlib.Core.Bool.{Bool, true, false}
-use mathlib.Core.List.{List, []}
-use Rattle.types.specs.declared.Decision.the-variants.{Committed}
+use mathlib.Core.Path.{_≡_, sym, ap, _∙_}
+use mathlib.Core.Bool.{Bool, true, false, not, _||_}
+use mathlib.Core.List.{List, [], _∷_, map}
+use native.Mathlib.Omega.{arith}
+use borrow.Author.Tests.{not-false}
+use Rattle.types.specs.declared.Decision.the-variants.{Undecided, Committed}
 use Rattle.types.specs.declared.Key.{Key}
-use Rattle.model.specs.Records.{lineOf}
+use Rattle.model.specs.Records.{lineOf, hasLine, keyInRange}
 use Rattle.model.specs.Coordinator.{decision}
 use Rattle.model.specs.Images.{isPrepared, rolledBack}
 use Rattle.model.specs.Writes.{Sheets, sheetsGood}
 use Rattle.model.specs.Visits.{ownerDecision}
-use Rattle.model.specs.Results.{Call}
-use Rattle.model.specs.Histories.{answer, after, eventsAfter, leftBy, Legal}
+use Rattle.model.specs.Results.{Call, Result, writeOf}
+use Rattle.model.specs.Conditions.{conditions}
+use Rattle.model.specs.Calls.{visitResult}
+use Rattle.model.specs.Histories.{answer, written, after, eventsAfter, leftBy, Legal, onePhaseIn}
 use Rattle.model.specs.SequentialModel.{firstModel, modelAfter, isCommitted}
-use Rattle.model.specs.RecoveryPass.{Visit}
-use Rattle.call_laws.specs.Lines.{listsKey}
+use Rattle.model.specs.RecoveryPass.{Visit, visitCall, Expiring}
+use Rattle.types.specs.declared.Recovery.{Recovery}
+use Rattle.call_laws.specs.Choices.{unless-by, not-first}
+use Rattle.call_laws.specs.Lines.{listsKey, has-line}
+use Rattle.call_laws.specs.Sheets.{GoodSheets, good-parts, parts-good}
+use Rattle.call_laws.specs.Closure.{sheets-stay-good}
 use Rattle.recovery.specs.Settling.{settled-back}
+use Rattle.recovery.specs.Memory.{Away, away-nothing}
+use Rattle.recovery.specs.Counted.{Silent, silent-kept}
+use Rattle.recovery.specs.Calls.{visit-away}
 use Rattle.recovery.specs.Invariant.{Inv}
 use Rattle.recovery.specs.History.{nonePrepared, first-inv, onesAfter, history-kept}
 use Rattle.recovery.specs.Theorem.{modelOf, recoveredBy}
-use Rattle.recovery.specs.Commits.{visits-later}
+use Rattle.recovery.specs.Commits.{visits-later, ones-are}
+
+-- a visit keeps a number silent
+visit-silent : (n : ℕ) (v : Visit) (s : Sheets) → GoodSheets s → Silent n s → Silent n (after (visitCall v) s)
+unfolding after written visitResult conditions
+visit-silent n v s g x =
+    silent-kept n s (written (visitCall v) s) g
+    (unless-by (λ (r : Result Recovery). Away s n (writeOf r)) (conditions (visitCall v) s) away-nothing
+    (λ z. let c5 = not-first 5 (not (keyInRange (v .key))) _ (omega arith) z in
+    let c6 = not-first 6 (not (hasLine (v .key) (s .lines))) _ (omega arith) (c5 .1) in
+    visit-away s (v .clock) (v .key) (sym (has-line (v .key) (s .lines)) ∙ not-false (hasLine (v .key) (s .lines)) (c6 .0)) n))
+    x
+
+visits-silent : (n : ℕ) (vs : List Visit) (s : Sheets) → sheetsGood s ≡ true → Expiring (λ (y : Sheets). y) after vs s → Silent n s → Silent n (leftBy answer after (map visitCall vs) s)
+unfolding leftBy
+visits-silent n [] s g e x = x
+visits-silent n (v ∷ vs) s g e x =
+    visits-silent n vs (after (visitCall v) s) (sheets-stay-good (visitCall v) s (e .0) g) (e .1 .1) (visit-silent n v s (good-parts s g) x)
 
 module _ (s : Sheets) (good : sheetsGood s ≡ true) (none : nonePrepared (s .lines) ≡ true) (cs : List Call) (legal : Legal answer after cs s []) where
   invariant : Inv (s .coordinator .issued) (onesAfter cs s (λ (n : ℕ). false)) (leftBy answer after cs s) (eventsAfter answer after cs s []) (modelOf cs s)
@@ -37,3 +65,9 @@ module _ (s : Sheets) (good : sheetsGood s ≡ true) (none : nonePrepared (s .li
   pub committed-completes : (n : ℕ) → s .coordinator .issued < n → decision n (leftBy answer after cs s .coordinator) ≡ Committed → (vs : List Visit) → (isCommitted n (modelOf cs s) ≡ true) × (decision n (recoveredBy vs cs s .coordinator) ≡ Committed)
   committed-completes n new d vs =
       (invariant .counted .decided n new d, visits-later vs (leftBy answer after cs s) n d)
+
+  -- "They look for a COMMITTED row after a one-phase commit, and there is none": the coordinator line is `-`, after the history and after every recovery pass.
+  pub one-phase-leaves-undecided : (n : ℕ) → onePhaseIn written after n cs s ≡ true → (vs : List Visit) → Expiring (λ (y : Sheets). y) after vs (leftBy answer after cs s) → decision n (recoveredBy vs cs s .coordinator) ≡ Undecided
+  one-phase-leaves-undecided n h vs e =
+      let o : onesAfter cs s (λ (i : ℕ). false) n ≡ true = ones-are cs s (λ (i : ℕ). false) n ∙ ap (λ (b : Bool). b || false) h in
+      visits-silent n vs (leftBy answer after cs s) (parts-good (leftBy answer after cs s) (invariant .good)) e (invariant .finished n o .silent) .undecided

@@ -1,40 +1,30 @@
 -- Which numbers the model has committed, and why: by their decision, by their one-phase write, or having put nothing. Beside the invariant of the lines, over
 -- the same histories.
 use Prim.Native.Nat.{ℕ, _≤_, _<_}
-use mathlib.Core.Path.{_≡_, refl, sym, ap, ap₂, _∙_, subst}
+use mathlib.Core.Path.{_≡_, refl, sym, ap, _∙_, subst}
 use mathlib.Core.Logic.{_⊎_, inl, inr}
-use mathlib.Core.List.{List, [], _∷_}
-use mathlib.Core.Option.{Option, none, some, Option·none-ne-some, Option·some-injective}
+use mathlib.Core.List.{List, _∷_}
+use mathlib.Core.Option.{none, some, Option·none-ne-some, Option·some-injective}
 use mathlib.Core.Bool.{Bool, true, false, _||_, true≢false}
 use native.Mathlib.Omega.{arith}
 use lib.ListN.{length}
 use lib.Dec.{eqb}
-use borrow.Author.Tests.{eqb-true, eqb-false, eq-eqb, ne-eqb}
+use borrow.Author.Tests.{eqb-true, eqb-false, eq-eqb}
 use Rattle.lists.specs.Each.{any}
 use Rattle.lists.specs.Chosen.{or-else, or-left, or-right}
-use Rattle.types.specs.declared.Decision.{Decision}
 use Rattle.types.specs.declared.Decision.the-variants.{Undecided, Committed, Aborted}
 use Rattle.types.specs.declared.Key.{Key}
 use Rattle.types.specs.declared.Entry.{Entry}
 use Rattle.types.specs.declared.Transaction.{Transaction}
-use Rattle.model.specs.Coordinator.{Coordinator, decision, withDecision}
-use Rattle.model.specs.Writes.{
-  Sheets,
-  Write,
-  nothing,
-  issue,
-  decide,
-  commit,
-  prepare,
-  forward,
-  back,
-  decisionsAfter,
-  apply,
-  isOnePhase,
-}
+use Rattle.model.specs.Coordinator.{decision}
+use Rattle.model.specs.Writes.{Sheets, Write, nothing, decide, commit, decisionsAfter, apply, isOnePhase}
 use Rattle.model.specs.Histories.{Event, returns, taken, Available}
 use Rattle.model.specs.SequentialModel.{Model, modelCommit, isCommitted}
 use Rattle.call_laws.specs.Closure.{issued-grows}
+use Rattle.model.specs.Records.{lineOf}
+use Rattle.call_laws.specs.Lines.{listsKey}
+use Rattle.call_laws.specs.Sheets.{GoodSheets}
+use Rattle.recovery.specs.Memory.{preparedColumns, Away, undecided-kept, none-prepared-kept}
 use Rattle.recovery.specs.Settling.{
   Gentle,
   gentle-nothing,
@@ -54,16 +44,31 @@ use Rattle.recovery.specs.Settling.{
 abbrev pub oneAfter : Write → (ℕ → Bool) → ℕ → Bool
 oneAfter w one n = isOnePhase n w || one n
 
+-- a number that is undecided and has prepared no line
+pub record Silent (n : ℕ) (s : Sheets) : Type 0 where
+  pub undecided : decision n (s .coordinator) ≡ Undecided
+  pub unprepared : (k : Key) → listsKey k (s .lines) ≡ true → preparedColumns n (lineOf k (s .lines)) ≡ none
+
+-- it stays so under the writes of others
+pub silent-kept : (n : ℕ) (s : Sheets) (w : Write) → GoodSheets s → Away s n w → Silent n s → Silent n (apply w s)
+unfolding apply
+silent-kept n s w g a x =
+    record {
+      undecided = undecided-kept s n w a (x .unprepared) (x .undecided);
+      unprepared = none-prepared-kept s n w g a (x .unprepared) (x .undecided);
+    }
+
 -- Why a transaction that commits in the model does: by the decision, by its one-phase write, or without a write since it has put nothing.
-pub data Why (m : Model) (n : ℕ) : Write → Type 0 where
-  by-decision : Why m n (decide n Committed)
-  by-one-phase : (es : List Entry) → Why m n (commit n es)
-  by-nothing : ((k : Key) → m .writes n k ≡ none) → Why m n nothing
+pub data Why (s : Sheets) (m : Model) (n : ℕ) : Write → Type 0 where
+  by-decision : Why s m n (decide n Committed)
+  -- in one phase, from a state that has prepared nothing and is undecided
+  by-one-phase : (es : List Entry) → Away s n (commit n es) → Silent n s → Why s m n (commit n es)
+  by-nothing : ((k : Key) → m .writes n k ≡ none) → Why s m n nothing
 
 -- What a call does to the model's committed numbers: nothing, by a gentle write; or its own transaction commits. One that has its verdict puts nothing more.
 pub data Effect (s : Sheets) (m : Model) (t : Transaction) (w : Write) (m′ : Model) (t′ : Transaction) : Type 0 where
   quiet : Gentle s w → m′ .committed ≡ m .committed → (5 ≤ t .phase → (5 ≤ t′ .phase) × ((k : Key) → m′ .writes (t .number) k ≡ m .writes (t .number) k)) → Effect s m t w m′ t′
-  commits : m′ ≡ modelCommit (t .number) m → 5 ≤ t′ .phase → Why m (t .number) w → Effect s m t w m′ t′
+  commits : m′ ≡ modelCommit (t .number) m → 5 ≤ t′ .phase → (isOnePhase (t .number) w ≡ true → t′ .phase ≡ 7) → Why s m (t .number) w → Effect s m t w m′ t′
 
 -- The numbers above `base` were begun in the history; `one` tells of one-phase writes.
 pub record Counted (base : ℕ) (one : ℕ → Bool) (s : Sheets) (es : List Event) (m : Model) : Type 0 where
@@ -95,7 +100,7 @@ gentle-later s w (gentle-forward i ks d) n e = e
 gentle-later s w (gentle-back i ks d) n e = e
 gentle-later s w (gentle-prepare i now es d m) n e = e
 
-gentle-one : (s : Sheets) (w : Write) → Gentle s w → (n : ℕ) → isOnePhase n w ≡ false
+pub gentle-one : (s : Sheets) (w : Write) → Gentle s w → (n : ℕ) → isOnePhase n w ≡ false
 unfolding isOnePhase
 gentle-one s w gentle-nothing n = refl
 gentle-one s w gentle-issue n = refl
@@ -171,25 +176,25 @@ module _ {base : ℕ} {one : ℕ → Bool} (s : Sheets) (es : List Event) (m m�
       l u (inr b) h = c .late u (b .1) h
 
   -- the decisions after a commit
-  commit-before : (w′ : Write) → Why m (t .number) w′ → (n : ℕ) → (n ≡ t .number → ⊥) → decision n (decisionsAfter w′ (s .coordinator)) ≡ decision n (s .coordinator)
+  commit-before : (w′ : Write) → Why s m (t .number) w′ → (n : ℕ) → (n ≡ t .number → ⊥) → decision n (decisionsAfter w′ (s .coordinator)) ≡ decision n (s .coordinator)
   unfolding decisionsAfter
   commit-before w′ by-decision n d = decided-other (t .number) n Committed (s .coordinator) (λ q. d (sym q))
-  commit-before w′ (by-one-phase es) n d = refl
+  commit-before w′ (by-one-phase es a x) n d = refl
   commit-before w′ (by-nothing z) n d = refl
 
-  commit-one : (w′ : Write) → Why m (t .number) w′ → (n : ℕ) → isOnePhase n w′ ≡ true → n ≡ t .number
+  commit-one : (w′ : Write) → Why s m (t .number) w′ → (n : ℕ) → isOnePhase n w′ ≡ true → n ≡ t .number
   unfolding isOnePhase
   commit-one w′ by-decision n h = absurd (true≢false (sym h))
-  commit-one w′ (by-one-phase es) n h = eqb-true n (t .number) h
+  commit-one w′ (by-one-phase es a x) n h = eqb-true n (t .number) h
   commit-one w′ (by-nothing z) n h = absurd (true≢false (sym h))
 
-  commit-reason : (w′ : Write) → Why m (t .number) w′ → (decision (t .number) (decisionsAfter w′ (s .coordinator)) ≡ Committed) ⊎ ((oneAfter w′ one (t .number) ≡ true) ⊎ ((k : Key) → m .writes (t .number) k ≡ none))
+  commit-reason : (w′ : Write) → Why s m (t .number) w′ → (decision (t .number) (decisionsAfter w′ (s .coordinator)) ≡ Committed) ⊎ ((oneAfter w′ one (t .number) ≡ true) ⊎ ((k : Key) → m .writes (t .number) k ≡ none))
   unfolding decisionsAfter isOnePhase
   commit-reason w′ by-decision = inl (decided-own (t .number) Committed (s .coordinator) (fits .0) (let x : t .number ≤ s .coordinator .issued = fits .1 in let y : s .coordinator .issued ≤ length (s .coordinator .decisions) = fits .2 in omega arith))
-  commit-reason w′ (by-one-phase es) = inr (inl (or-left (eqb (t .number) (t .number)) (one (t .number)) (eq-eqb (t .number) (t .number) refl)))
+  commit-reason w′ (by-one-phase es a x) = inr (inl (or-left (eqb (t .number) (t .number)) (one (t .number)) (eq-eqb (t .number) (t .number) refl)))
   commit-reason w′ (by-nothing z) = inr (inr z)
 
-  commit-taken : m′ ≡ modelCommit (t .number) m → 5 ≤ t′ .phase → Why m (t .number) w → Counted base (oneAfter w one) (apply w s) (e ∷ es) m′
+  commit-taken : m′ ≡ modelCommit (t .number) m → 5 ≤ t′ .phase → Why s m (t .number) w → Counted base (oneAfter w one) (apply w s) (e ∷ es) m′
   unfolding apply modelCommit any
   commit-taken q late why =
       subst (λ (x : Model). Counted base (oneAfter w one) (apply w s) (e ∷ es) x) (sym q)
@@ -242,4 +247,4 @@ module _ {base : ℕ} {one : ℕ → Bool} (s : Sheets) (es : List Event) (m m�
 
   pub counted-taken : Effect s m t w m′ t′ → Counted base (oneAfter w one) (apply w s) (e ∷ es) m′
   counted-taken (quiet g same x) = quiet-taken g same x
-  counted-taken (commits q late why) = commit-taken q late why
+  counted-taken (commits q late one why) = commit-taken q late why

@@ -1,6 +1,6 @@
 -- A legal history keeps the invariant from its first sheets on.
 use Prim.Native.Nat.{ℕ}
-use mathlib.Core.Path.{_≡_, refl, sym, ap, _∙_}
+use mathlib.Core.Path.{_≡_, sym, _∙_}
 use mathlib.Core.Bool.{Bool, true, false, not, true≢false}
 use mathlib.Core.List.{List, [], _∷_}
 use mathlib.Core.Option.{some}
@@ -9,10 +9,10 @@ use Rattle.lists.specs.Each.{all, any}
 use Rattle.types.specs.declared.Record.{Record}
 use Rattle.types.specs.declared.Transaction.{Transaction}
 use Rattle.model.specs.Images.{isPrepared}
-use Rattle.model.specs.Writes.{Sheets, sheetsGood, apply}
+use Rattle.model.specs.Writes.{Sheets, sheetsGood}
 use Rattle.model.specs.WellFormed.{wellFormed}
 use Rattle.model.specs.Results.{Call, begin, read, put, advance, abort, visit}
-use Rattle.model.specs.Histories.{Event, answer, returns, written, after, Available, ClockFits, Permitted, event, eventsAfter, leftBy, Legal}
+use Rattle.model.specs.Histories.{Event, answer, returns, written, after, Permitted, event, eventsAfter, leftBy, Legal}
 use Rattle.model.specs.SequentialModel.{Model, firstModel, modelStep, modelAfter}
 use Rattle.call_laws.specs.Lines.{line-passes}
 use Rattle.call_laws.specs.Sheets.{GoodSheets, good-parts, parts-good}
@@ -42,6 +42,7 @@ first-inv s g n =
             decided = λ n b d. absurd (undecided-committed (sym (above-undecided (s .coordinator) (good-parts s g .decisions) n b) ∙ d));
             one-phased = λ n h. absurd (true≢false (sym h));
           };
+      finished = λ n h. absurd (true≢false (sym h));
     }
 
 good-after : {base : ℕ} {one : ℕ → Bool} {es : List Event} {m : Model} (c : Call) (s : Sheets) → Inv base one s es m → Permitted c (answer c s) es → GoodSheets (after c s)

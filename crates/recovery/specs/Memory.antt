@@ -1,17 +1,15 @@
 -- What is remembered of a transaction that may still commit: its decision is not COMMITTED, and while it is undecided the columns that it has prepared are
 -- those put in the groups done so far. Writes of others keep it.
-use Prim.Native.Nat.{ℕ, zero, suc, _≤_, _<_}
-use mathlib.Core.Path.{_≡_, refl, sym, ap, ap₂, _∙_, subst}
-use mathlib.Core.Bool.{Bool, true, false, _&&_, cond, true≢false}
+use Prim.Native.Nat.{ℕ, zero, suc}
+use mathlib.Core.Path.{_≡_, refl, sym, ap, _∙_}
+use mathlib.Core.Bool.{Bool, true, false, _&&_, cond}
 use mathlib.Core.List.{List, [], _∷_}
 use mathlib.Core.Option.{Option, none, some, Option·none-ne-some}
-use native.Mathlib.Omega.{arith}
 use lib.ListN.{getD, set}
-use lib.Dec.{eqb, leb, ltb}
+use lib.Dec.{eqb, ltb}
 use borrow.Author.Tests.{eqb-true, eqb-false, ne-eqb}
-use Rattle.lists.specs.Each.{filter}
 use Rattle.lists.specs.Chosen.{and-false}
-use Rattle.lists.specs.Tests.{choose-by, tests}
+use Rattle.lists.specs.Tests.{choose-by}
 use Rattle.types.specs.declared.AtomicityUnit.{AtomicityUnit}
 use Rattle.types.specs.declared.Decision.{Decision}
 use Rattle.types.specs.declared.Decision.the-variants.{Undecided, Committed, Aborted}
@@ -21,7 +19,7 @@ use Rattle.types.specs.declared.Entry.{Entry}
 use Rattle.types.specs.declared.Record.{Record}
 use Rattle.types.specs.declared.Transaction.{Transaction}
 use Rattle.model.specs.Records.{lineOf, sameKey}
-use Rattle.model.specs.Coordinator.{Coordinator, decision, withDecision, withIssued}
+use Rattle.model.specs.Coordinator.{Coordinator, decision, withDecision}
 use Rattle.model.specs.Transactions.{byPhase, isPut, held, puts}
 use Rattle.model.specs.Groups.{groupCount, groupPlace}
 use Rattle.model.specs.Images.{isPrepared, preparedBy, prepared, committed, rolledForward, rolledBack}

@@ -1,20 +1,18 @@
 -- A transaction's own writes: preparing a group adds its columns to what is remembered; the one-phase write and the decision COMMITTED move the settled
 -- lines exactly as the model's commit does.
-use Prim.Native.Nat.{ℕ, zero, suc, _+_, _≤_, _<_}
-use mathlib.Core.Path.{_≡_, refl, sym, ap, ap₂, _∙_, subst}
-use mathlib.Core.Bool.{Bool, true, false, _&&_, not, cond, true≢false}
-use mathlib.Core.List.{List, [], _∷_}
-use mathlib.Core.Option.{Option, none, some, Option·none-ne-some}
+use Prim.Native.Nat.{ℕ, _+_, _≤_, _<_}
+use mathlib.Core.Path.{_≡_, refl, sym, ap, ap₂, _∙_}
+use mathlib.Core.Bool.{Bool, true, false, _&&_, cond}
+use mathlib.Core.List.{List}
+use mathlib.Core.Option.{Option, none, some}
 use native.Mathlib.Omega.{arith}
 use lib.ListN.{length}
 use lib.Dec.{eqb, ltb}
-use borrow.Author.Tests.{eqb-true, eqb-false, eq-eqb, ne-eqb, ltb-true, ltb-false, lt-ltb, le-ltb}
-use Rattle.lists.specs.Each.{all}
-use Rattle.lists.specs.Tests.{and-fst, and-snd, tests, choose-by}
+use borrow.Author.Tests.{eqb-true, eqb-false, eq-eqb, ltb-true, ltb-false, lt-ltb, le-ltb}
+use Rattle.lists.specs.Tests.{tests, choose-by}
 use Rattle.types.specs.declared.State.the-variants as State
 use Rattle.types.specs.declared.AtomicityUnit.{AtomicityUnit}
-use Rattle.types.specs.declared.Decision.{Decision}
-use Rattle.types.specs.declared.Decision.the-variants.{Undecided, Committed, Aborted}
+use Rattle.types.specs.declared.Decision.the-variants.{Undecided, Committed}
 use Rattle.types.specs.declared.Key.{Key}
 use Rattle.types.specs.declared.Columns.{Columns}
 use Rattle.types.specs.declared.Entry.{Entry}
@@ -22,31 +20,19 @@ use Rattle.types.specs.declared.Record.{Record}
 use Rattle.types.specs.declared.Transaction.{Transaction}
 use Rattle.model.specs.Records.{lineOf, preparedRule, noImage}
 use Rattle.model.specs.Coordinator.{Coordinator, decision, withDecision}
-use Rattle.model.specs.Transactions.{held, puts, isPut}
-use Rattle.model.specs.Groups.{groupCount, groupPlace, group}
+use Rattle.model.specs.Transactions.{held, puts}
+use Rattle.model.specs.Groups.{groupCount, groupPlace}
 use Rattle.model.specs.Images.{isPrepared, preparedBy, prepared, committed, rolledForward, rolledBack}
-use Rattle.model.specs.Writes.{
-  Sheets,
-  Write,
-  decide,
-  commit,
-  prepare,
-  entryFor,
-  byEntry,
-  lineAfter,
-  decisionsAfter,
-  apply,
-}
+use Rattle.model.specs.Writes.{Sheets, decide, commit, prepare, entryFor, byEntry, lineAfter, decisionsAfter, apply}
 use Rattle.model.specs.Steps.{unitsOf, groupAt}
 use Rattle.model.specs.SequentialModel.{Model, modelCommit, overwritten}
-use Rattle.call_laws.specs.Ranges.{GoodParts}
-use Rattle.call_laws.specs.Images.{MayPut, when-prepared}
+use Rattle.call_laws.specs.Images.{when-prepared}
 use Rattle.call_laws.specs.Groups.{place-below}
 use Rattle.call_laws.specs.Lines.{listsKey}
 use Rattle.call_laws.specs.Sheets.{GoodSheets, MayPutAll}
 use Rattle.recovery.specs.Settling.{settle, settled-plain, settled-by, settled-back, decided-own, decided-other, undecided-committed}
 use Rattle.recovery.specs.View.{View, LineAt, line-at, listed-before, line-after}
-use Rattle.recovery.specs.Memory.{putIn, preparedColumns, doneAt, Memory, not-prepared}
+use Rattle.recovery.specs.Memory.{putIn, preparedColumns}
 use Rattle.recovery.specs.Puts.{putOf, put-in-puts, entry-in-group, found-has-key}
 
 -- the columns of a key that is in one of the first p groups

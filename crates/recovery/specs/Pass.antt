@@ -2,16 +2,16 @@
 -- prepared, and then every line is its settled line.
 use Prim.Native.Nat.{ℕ, zero, suc, _+_, _^_, _≤_, _<_}
 use mathlib.Core.Path.{_≡_, refl, sym, ap, ap₂, _∙_, subst}
-use mathlib.Core.Bool.{Bool, true, false, _&&_, not, cond, true≢false}
+use mathlib.Core.Bool.{Bool, true, false, _&&_, cond, true≢false}
 use mathlib.Core.List.{List, [], _∷_, map}
 use native.Mathlib.Omega.{arith}
 use lib.ListN.{length}
 use lib.Dec.{eqb}
 use borrow.Author.Tests.{eq-eqb}
-use Rattle.lists.specs.Each.{all, any, count}
-use Rattle.lists.specs.Tests.{and-fst, and-snd, choose-by, tests}
+use Rattle.lists.specs.Each.{any, count}
+use Rattle.lists.specs.Tests.{choose-by, tests}
 use Rattle.types.specs.declared.Decision.{Decision}
-use Rattle.types.specs.declared.Decision.the-variants.{Undecided, Committed, Aborted}
+use Rattle.types.specs.declared.Decision.the-variants.{Undecided, Aborted}
 use Rattle.types.specs.declared.Key.{Key}
 use Rattle.types.specs.declared.Record.{Record}
 use Rattle.types.specs.declared.Recovery.{Recovery}
@@ -33,20 +33,20 @@ use Rattle.model.specs.Writes.{
 }
 use Rattle.model.specs.Visits.{ownerDecision, ownerExpired, meeting, isBusy, recoveryWrite}
 use Rattle.model.specs.Refusals.{refusalOf}
-use Rattle.model.specs.Results.{Call, visit, Result, refused, made, writeOf}
+use Rattle.model.specs.Results.{Call, visit, Result, writeOf}
 use Rattle.model.specs.Conditions.{conditions}
 use Rattle.model.specs.Calls.{visitResult}
 use Rattle.model.specs.Histories.{answer, written, after, leftBy}
 use Rattle.model.specs.RecoveryPass.{Visit, visitCall, lineUndecided, timesVisited, Expiring, Closing}
 use Rattle.model.specs.SequentialModel.{Model}
-use Rattle.call_laws.specs.Choices.{unless-by, not-first, by-meeting}
+use Rattle.call_laws.specs.Choices.{unless-by, by-meeting}
 use Rattle.sheet_laws.specs.Coordinator.{bounds}
 use Rattle.call_laws.specs.Keys.{same-key, same-key-refl}
 use Rattle.call_laws.specs.Images.{when-prepared}
 use Rattle.call_laws.specs.Lines.{listsKey, has-line, line-key, lists-kept}
 use Rattle.call_laws.specs.Sheets.{GoodSheets, good-parts, parts-good}
 use Rattle.call_laws.specs.Closure.{sheets-stay-good}
-use Rattle.recovery.specs.Settling.{settle, settled-plain, gentle-nothing, forward-plain, back-plain, own-line, decided-own, undecided-aborted}
+use Rattle.recovery.specs.Settling.{settle, settled-plain, gentle-nothing, forward-plain, back-plain, decided-own, undecided-aborted}
 use Rattle.recovery.specs.View.{View, LineAt, line-at, line-after, gentle-view}
 use Rattle.recovery.specs.Memory.{abort-undecided}
 use Rattle.recovery.specs.Calls.{visit-gentle}

@@ -1,21 +1,19 @@
 -- A recovery pass exists after every history: each line visited twice, at a reading 15000 ticks after its prepare clock. A line that is still prepared during
 -- the pass is the line that stood there at first, so that the reading fits it.
-use Prim.Native.Nat.{ℕ, zero, suc, _+_, _-_, _%_, _^_, _≤_, _<_}
-use mathlib.Core.Path.{_≡_, refl, sym, ap, ap₂, _∙_, subst}
-use mathlib.Core.Bool.{Bool, true, false, _&&_, _||_, cond, true≢false}
+use Prim.Native.Nat.{ℕ, suc, _+_, _-_, _%_, _^_, _≤_}
+use mathlib.Core.Path.{_≡_, refl, sym, ap, _∙_}
+use mathlib.Core.Bool.{Bool, true, false, _||_, cond, true≢false}
 use mathlib.Core.List.{List, [], _∷_, _++_, map}
 use native.Mathlib.Omega.{arith}
-use lib.Dec.{leb}
-use borrow.Author.Tests.{le-leb}
 use Rattle.lists.specs.Each.{any, count}
-use Rattle.lists.specs.Chosen.{or-fst, or-snd, or-else}
-use Rattle.lists.specs.Tests.{and-fst, and-both}
+use Rattle.lists.specs.Chosen.{or-fst, or-snd}
+use Rattle.lists.specs.Tests.{and-fst}
 use Rattle.types.specs.declared.Key.{Key}
 use Rattle.types.specs.declared.Record.{Record}
-use Rattle.model.specs.Records.{sameKey, lineOf, hasLine, absentAt}
+use Rattle.model.specs.Records.{sameKey, lineOf, absentAt}
 use Rattle.model.specs.Coordinator.{isUndecided}
 use Rattle.model.specs.Images.{isPrepared, elapsed, lineExpired}
-use Rattle.model.specs.Writes.{Sheets, sheetsGood, apply}
+use Rattle.model.specs.Writes.{Sheets, sheetsGood}
 use Rattle.model.specs.Visits.{ownerDecision, ownerExpired}
 use Rattle.model.specs.Histories.{written, after}
 use Rattle.model.specs.RecoveryPass.{Visit, visitCall, lineUndecided, timesVisited, Expiring, Closing}

@@ -9,7 +9,7 @@ use lib.ListN.{length, take, getD, set}
 use lib.Dec.{eqb}
 use borrow.Author.Tests.{not-true}
 use Rattle.lists.specs.Each.{any, filter}
-use Rattle.lists.specs.Chosen.{or-left, or-right, or-fst, and-false}
+use Rattle.lists.specs.Chosen.{or-left, or-right}
 use Rattle.lists.specs.Tests.{and-fst, and-snd, choose-by}
 use Rattle.types.specs.declared.AtomicityUnit.{AtomicityUnit}
 use Rattle.types.specs.declared.Key.{Key}
@@ -20,7 +20,7 @@ use Rattle.model.specs.Transactions.{isPut, isEmpty}
 use Rattle.model.specs.Groups.{groupPlace, group}
 use Rattle.model.specs.Writes.{entryFor}
 use Rattle.model.specs.WellFormed.{distinctKeys}
-use Rattle.call_laws.specs.Keys.{same-key, same-key-refl, same-key-flip, other-key, hasKey}
+use Rattle.call_laws.specs.Keys.{same-key, same-key-refl, other-key, hasKey}
 use Rattle.recovery.specs.Memory.{putIn}
 
 abbrev pub putOf : Option Entry → Option Columns

@@ -1,8 +1,8 @@
 -- The settled view: what each line would be once its owner is finished with. A prepared line whose owner is COMMITTED counts as rolled forward, any
 -- other prepared line as rolled back; other lines count as they are. All writes but a commit leave the settled lines alone.
-use Prim.Native.Nat.{ℕ, zero, suc, _+_, _≤_, _<_}
-use mathlib.Core.Path.{_≡_, refl, sym, ap, ap₂, _∙_, subst}
-use mathlib.Core.Bool.{Bool, true, false, _&&_, cond, true≢false}
+use Prim.Native.Nat.{ℕ, zero, suc, _+_, _≤_}
+use mathlib.Core.Path.{_≡_, refl, sym, ap, ap₂, _∙_}
+use mathlib.Core.Bool.{Bool, true, false, cond}
 use mathlib.Core.List.{List, [], _∷_}
 use mathlib.Core.Option.{Option, none, some}
 use native.Mathlib.Omega.{arith}
@@ -10,7 +10,7 @@ use lib.ListN.{length, getD, set}
 use lib.Dec.{eqb}
 use lib.Seq.{getD-set-same, getD-set-other}
 use borrow.Author.Tests.{eqb-true, eqb-false}
-use Rattle.lists.specs.Tests.{and-fst, and-snd, choose-by, tests}
+use Rattle.lists.specs.Tests.{choose-by, tests}
 use Rattle.types.specs.declared.Decision.{Decision}
 use Rattle.types.specs.declared.Decision.the-variants.{Undecided, Committed, Aborted}
 use Rattle.types.specs.declared.Key.{Key}
@@ -19,27 +19,11 @@ use Rattle.types.specs.declared.Record.{Record}
 use Rattle.model.specs.Records.{byState, lineOf}
 use Rattle.model.specs.Coordinator.{Coordinator, decisionNumber, decision, withDecision, withIssued}
 use Rattle.model.specs.Images.{isPrepared, preparedBy, prepared, rolledForward, rolledBack, byDecision}
-use Rattle.model.specs.Writes.{
-  Sheets,
-  Write,
-  nothing,
-  issue,
-  decide,
-  prepare,
-  forward,
-  back,
-  entryFor,
-  byEntry,
-  isOf,
-  lineAfter,
-  decisionsAfter,
-  apply,
-}
+use Rattle.model.specs.Writes.{Sheets, Write, nothing, issue, decide, prepare, forward, back, entryFor, byEntry, isOf, lineAfter, decisionsAfter}
 use Rattle.model.specs.Visits.{ownerDecision}
-use Rattle.call_laws.specs.Choices.{by-decision-of}
 use Rattle.call_laws.specs.Ranges.{GoodParts}
-use Rattle.call_laws.specs.Images.{MayPut, back-is-before}
-use Rattle.call_laws.specs.Lines.{listsKey, line-key, lists-kept, line-mapped, line-of-key}
+use Rattle.call_laws.specs.Images.{back-is-before}
+use Rattle.call_laws.specs.Lines.{listsKey}
 use Rattle.call_laws.specs.Sheets.{MayPutAll}
 
 unfoldable pub settle : Coordinator → Record → Record

@@ -1,16 +1,13 @@
 -- What is remembered as a transaction goes from phase to phase without a write, or after preparing a group.
-use Prim.Native.Nat.{ℕ, zero, suc, _+_, _≤_, _<_}
-use mathlib.Core.Path.{_≡_, refl, sym, ap, ap₂, _∙_, subst}
-use mathlib.Core.Bool.{Bool, true, false, cond}
+use Prim.Native.Nat.{ℕ}
+use mathlib.Core.Path.{_≡_, sym, ap, _∙_}
+use mathlib.Core.Bool.{Bool, cond}
 use mathlib.Core.List.{List}
-use mathlib.Core.Option.{Option, none, some}
+use mathlib.Core.Option.{none}
 use native.Mathlib.Omega.{arith}
-use lib.Dec.{ltb}
 use borrow.Author.Tests.{le-ltb}
 use Rattle.types.specs.declared.AtomicityUnit.{AtomicityUnit}
-use Rattle.types.specs.declared.Decision.the-variants.{Undecided, Committed}
 use Rattle.types.specs.declared.Key.{Key}
-use Rattle.types.specs.declared.Columns.{Columns}
 use Rattle.types.specs.declared.Transaction.{Transaction}
 use Rattle.model.specs.Records.{lineOf}
 use Rattle.model.specs.Coordinator.{decision}
@@ -18,7 +15,6 @@ use Rattle.model.specs.Transactions.{held, puts, moved}
 use Rattle.model.specs.Groups.{groupCount, groupPlace}
 use Rattle.model.specs.Writes.{Sheets}
 use Rattle.model.specs.Steps.{unitsOf}
-use Rattle.call_laws.specs.Lines.{listsKey}
 use Rattle.recovery.specs.Memory.{putIn, preparedColumns, groupsDone, doneAt, Memory}
 use Rattle.recovery.specs.OwnWrites.{doneTo, all-done}
 

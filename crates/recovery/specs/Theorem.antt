@@ -2,7 +2,7 @@
 -- The history keeps the invariant, the pass keeps its view and raises every line, and what isn't prepared is settled.
 use Prim.Native.Nat.{ℕ}
 use mathlib.Core.Path.{_≡_, refl, sym, ap, _∙_}
-use mathlib.Core.Bool.{Bool, true, false, not}
+use mathlib.Core.Bool.{true, false, not}
 use mathlib.Core.List.{List, [], _∷_, map}
 use Rattle.lists.specs.All.{map-map}
 use Rattle.types.specs.declared.Key.{Key}
@@ -14,7 +14,6 @@ use Rattle.model.specs.Histories.{answer, written, after, eventsAfter, leftBy, 
 use Rattle.model.specs.SequentialModel.{Model, firstModel, modelAfter}
 use Rattle.model.specs.RecoveryPass.{Visit, visitCall, Closing}
 use Rattle.call_laws.specs.Lines.{line-key, all-lines, map-lines}
-use Rattle.call_laws.specs.Sheets.{GoodSheets}
 use Rattle.recovery.specs.Invariant.{Inv}
 use Rattle.recovery.specs.History.{nonePrepared, first-inv, onesAfter, history-kept}
 use Rattle.recovery.specs.Pass.{Passed, pass-kept, closed}
