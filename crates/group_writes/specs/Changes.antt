@@ -1,8 +1,8 @@
 -- A group written entry by entry: each change is of the line of one key, and since no two entries have a key in common, one after another they make the map
 -- that the model applies. The new line is written over the old one at its place.
 use Prim.Native.Nat.{ℕ, _+_, _*_, _/_, _≤_, _<_, _^_}
-use mathlib.Core.Path.{_≡_, refl, sym, ap, ap₂, _∙_, subst}
-use mathlib.Core.Bool.{Bool, true, false, _&&_, _||_, not, cond, true≢false}
+use mathlib.Core.Path.{_≡_, refl, sym, ap, ap₂, _∙_}
+use mathlib.Core.Bool.{Bool, true, false, _&&_, _||_, cond}
 use mathlib.Core.List.{List, [], _∷_, map}
 use mathlib.Core.Option.{Option, none, some}
 use native.Mathlib.Omega.{arith}
@@ -43,7 +43,7 @@ use Rattle.sheet_laws.specs.Places.{length-records, records-over}
 use Rattle.call_laws.specs.Keys.{same-key, same-key-refl, same-key-flip, hasKey, no-entry}
 use Rattle.call_laws.specs.Lines.{listsKey, has-line}
 use Rattle.call_laws.specs.Places.{FoundAt, atKey, map-elsewhere, set-at-key, whole-lines, line-replaced}
-use Rattle.call_laws.specs.Ranges.{GoodParts, fine-parts}
+use Rattle.call_laws.specs.Ranges.{fine-parts}
 use Rattle.group_writes.specs.declared.changes.Change.{Change}
 use Rattle.group_writes.specs.declared.changes.Change.the-variants.{Commit, Prepare, Forward, Back}
 use Rattle.group_writes.specs.Lookup.{found-at, has-no-line}

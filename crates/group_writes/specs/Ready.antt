@@ -1,10 +1,10 @@
 -- What the writes of a step ask for follows from accepted bytes and a well-formed transaction: puts whose conditions hold may be written over their lines, and
 -- what a number has prepared may be rolled.
 use Prim.Native.Nat.{ℕ, _≤_}
-use mathlib.Core.Path.{_≡_, refl, sym, ap, _∙_}
-use mathlib.Core.Bool.{Bool, true, _&&_, cond}
+use mathlib.Core.Path.{_≡_, sym, ap, _∙_}
+use mathlib.Core.Bool.{Bool, true, _&&_}
 use mathlib.Core.List.{List}
-use Rattle.lists.specs.Each.{all, filter}
+use Rattle.lists.specs.Each.{all}
 use Rattle.lists.specs.All.{all-and, all-weaken}
 use Rattle.lists.specs.Chosen.{all-filter}
 use Rattle.lists.specs.Tests.{and-fst, and-snd, choose-by, tests}

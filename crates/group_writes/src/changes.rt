@@ -2,7 +2,6 @@
 ghost use mathlib.Core.Path.{_≡_};
 ghost use mathlib.Core.Bool.{true};
 ghost use mathlib.Core.List.{map};
-ghost use Prim.Native.Nat.{_≤_, _<_};
 ghost use Rattle.lists.specs.Each.{all};
 ghost use Rattle.model.specs.Records.{goodAlone, recordsText};
 ghost use Rattle.model.specs.Records as sheet;
