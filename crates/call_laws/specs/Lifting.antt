@@ -31,18 +31,24 @@ use Rattle.call_laws.specs.Closure.{sheets-stay-good}
 abbrev pub Passing : Bytes → Type 0
 Passing b = refusalOf (checkConditions (b .records) (b .coordinator)) ≡ 0
 
+pub passing-parts : (b : Bytes) → Passing b → (recordsAccepted (b .records) ≡ true) × ((coordinatorAccepted (b .coordinator) ≡ true) × (allIssued (b .records) (b .coordinator) ≡ true))
+unfolding checkConditions
+passing-parts b h =
+    let c = coordinatorAccepted (b .coordinator) in
+    let n = allIssued (b .records) (b .coordinator) in
+    let p = not-first 1 (not (recordsAccepted (b .records))) _ (omega arith) h in
+    let q = not-first 2 (not (c && n)) [] (omega arith) (p .1) in
+    let e : (c && n) ≡ true = not-false (c && n) (q .0) in
+    (not-false (recordsAccepted (b .records)) (p .0), (and-fst c n e, and-snd c n e))
+
 -- accepted bytes say good sheets
 pub passing-good : (b : Bytes) → Passing b → sheetsGood (saying b) ≡ true
-unfolding checkConditions sheetsGood recordsAccepted allIssued
+unfolding sheetsGood recordsAccepted allIssued
 passing-good b h =
-    let p = not-first 1 (not (recordsAccepted (b .records))) _ (omega arith) h in
-    let q = not-first 2 (not (coordinatorAccepted (b .coordinator) && allIssued (b .records) (b .coordinator))) [] (omega arith) (p .1) in
-    let r : recordsAccepted (b .records) ≡ true = not-false (recordsAccepted (b .records)) (p .0) in
-    let c : (coordinatorAccepted (b .coordinator) && allIssued (b .records) (b .coordinator)) ≡ true = not-false _ (q .0) in
+    let p = passing-parts b h in
     and-both
-    (and-both (and-snd (linesSet recordLayout 98 (b .records)) (recordsGood (records (b .records))) r)
-    (accepted-parts (b .coordinator) (and-fst (coordinatorAccepted (b .coordinator)) (allIssued (b .records) (b .coordinator)) c) .good))
-    (and-snd (coordinatorAccepted (b .coordinator)) (allIssued (b .records) (b .coordinator)) c)
+    (and-both (and-snd (linesSet recordLayout 98 (b .records)) (recordsGood (records (b .records))) (p .0)) (accepted-parts (b .coordinator) (p .1 .0) .good))
+    (p .1 .1)
 
 -- the bytes for two sheets
 abbrev pub encoded : Sheets → Bytes
@@ -76,17 +82,15 @@ same-answer (visit k now) b h = ap (answerOf visited) (on-passing b (visitResult
 
 -- the bytes after a result on accepted bytes are the sheets after it, encoded
 bytes-of-result : {A : Type 0} (b : Bytes) (r : Result A) → Passing b → bytesAfter b r ≡ encoded (apply (writeOf r) (saying b))
-unfolding recordsAfter coordinatorAfter checkConditions apply lineAfter decisionsAfter
+unfolding recordsAfter coordinatorAfter apply lineAfter decisionsAfter
 bytes-of-result b (made a w) h = refl
 bytes-of-result b (refused n) h =
-    let p = not-first 1 (not (recordsAccepted (b .records))) _ (omega arith) h in
-    let q = not-first 2 (not (coordinatorAccepted (b .coordinator) && allIssued (b .records) (b .coordinator))) [] (omega arith) (p .1) in
-    let c = and-fst (coordinatorAccepted (b .coordinator)) (allIssued (b .records) (b .coordinator)) (not-false _ (q .0)) in
-    let r = sheet-written-read (b .records) (not-false (recordsAccepted (b .records)) (p .0)) in
+    let p = passing-parts b h in
+    let r = sheet-written-read (b .records) (p .0) in
     let m : map (lineAfter nothing) (records (b .records)) ≡ records (b .records) = map-unmoved (lineAfter nothing) (λ x. refl) (records (b .records)) in
     λ i. record {
       records = sym (ap recordsText m ∙ r) i;
-      coordinator = sym (coordinator-written-read (b .coordinator) c) i;
+      coordinator = sym (coordinator-written-read (b .coordinator) (p .1 .0)) i;
     }
 
 pub same-bytes : (c : Call) (b : Bytes) → Passing b → afterOn c b ≡ encoded (after c (saying b))

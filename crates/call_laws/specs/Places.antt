@@ -93,7 +93,7 @@ abbrev pub atKey : Key → (Record → Record) → Record → Record
 atKey k f r = cond (sameKey (r .key) k) (f r) r
 
 -- lines of other keys stay
-map-elsewhere : (k : Key) (f : Record → Record) (rs : List Record) → listsKey k rs ≡ false → map (atKey k f) rs ≡ rs
+pub map-elsewhere : (k : Key) (f : Record → Record) (rs : List Record) → listsKey k rs ≡ false → map (atKey k f) rs ≡ rs
 unfolding any
 map-elsewhere k f [] h = refl
 map-elsewhere k f (r ∷ rs) h =
@@ -139,7 +139,8 @@ set-at-key k f (r ∷ rs) (suc i) h x =
 
 -- The bytes.
 
-whole-lines : (s : List ℕ) → recordsAccepted s ≡ true → length s ≡ length s / 98 * 98
+-- an accepted sheet has whole lines only
+pub whole-lines : (s : List ℕ) → recordsAccepted s ≡ true → length s ≡ length s / 98 * 98
 unfolding recordsAccepted linesSet linesOf
 whole-lines s a = search tests
 

@@ -44,6 +44,7 @@ use Rattle.model.specs.Steps.{Step, holds, unitsOf, groupsOf, groupAt, keysOf, 
 use Rattle.sheet_laws.specs.Coordinator.{bounds}
 use Rattle.call_laws.specs.Choices.{by-phase-of, by-decision}
 use Rattle.call_laws.specs.Keys.{entry-has-key, entry-passes}
+use Rattle.call_laws.specs.Images.{MayPut}
 use Rattle.call_laws.specs.Sheets.{
   GoodSheets,
   MayPutAll,
@@ -99,24 +100,20 @@ pub record Closed (s : Sheets) (x : Step) : Type 0 where
 
 module _ (s : Sheets) (good : GoodSheets s) (t : Transaction) (b : Body s t) where
   -- an entry of a group is well formed and has a put
-  group-formed : all (λ (e : Entry). entryFormed (s .coordinator .issued) e && isPut e) (groupAt t s) ≡ true
+  pub group-formed : all (λ (e : Entry). entryFormed (s .coordinator .issued) e && isPut e) (groupAt t s) ≡ true
   unfolding puts group
   group-formed =
       all-filter _ (λ (e : Entry). entryFormed (s .coordinator .issued) e && isPut e) (puts t)
       (all-and (entryFormed (s .coordinator .issued)) isPut (puts t)
       (all-filter isPut (entryFormed (s .coordinator .issued)) (held t) (b .entries)) (filter-passes isPut (held t)))
 
-  -- the puts of a group whose conditions hold may be written
-  pub may-put : all (holds (s .lines)) (groupAt t s) ≡ true → MayPutAll s (t .number) (groupAt t s)
+  -- an entry whose condition holds, well formed and with a put, may be written over the line of its key
+  pub may-put-over : (e : Entry) → holds (s .lines) e ≡ true → (entryFormed (s .coordinator .issued) e && isPut e) ≡ true → MayPut (s .coordinator .issued) (t .number) e (lineOf (e .key) (s .lines))
   unfolding holds unchanged
-  may-put h r listed same e found =
+  may-put-over e c f =
       let i = s .coordinator .issued in
-      let k : e .key ≡ r .key = entry-has-key (r .key) (groupAt t s) e found in
-      let c : holds (s .lines) e ≡ true = entry-passes (holds (s .lines)) (r .key) (groupAt t s) e h found in
-      let l : lineOf (e .key) (s .lines) ≡ r = ap (λ (x : Key). lineOf x (s .lines)) k ∙ same in
-      let u : unchanged e r ≡ true = ap (unchanged e) (sym l) ∙ and-snd (hasLine (e .key) (s .lines)) (unchanged e (lineOf (e .key) (s .lines))) c in
-      let f : (entryFormed i e && isPut e) ≡ true =
-      entry-passes (λ (x : Entry). entryFormed i x && isPut x) (r .key) (groupAt t s) e group-formed found in
+      let r = lineOf (e .key) (s .lines) in
+      let u : unchanged e r ≡ true = and-snd (hasLine (e .key) (s .lines)) (unchanged e r) c in
       let w : (leb (e .seen .version) 99998 && columnsInRange (e .put)) ≡ true =
       put-fits i e (and-fst (entryFormed i e) (isPut e) f) (and-snd (entryFormed i e) (isPut e) f) in
       let v : r .image .version ≡ e .seen .version = search (tests, u) in
@@ -130,6 +127,16 @@ module _ (s : Sheets) (good : GoodSheets s) (t : Transaction) (b : Body s t) whe
         columns = search (tests, w);
         free = not-true (isPrepared r) n;
       }
+
+  -- the puts of a group whose conditions hold may be written
+  pub may-put : all (holds (s .lines)) (groupAt t s) ≡ true → MayPutAll s (t .number) (groupAt t s)
+  may-put h r listed same e found =
+      let i = s .coordinator .issued in
+      let k : e .key ≡ r .key = entry-has-key (r .key) (groupAt t s) e found in
+      let l : lineOf (e .key) (s .lines) ≡ r = ap (λ (x : Key). lineOf x (s .lines)) k ∙ same in
+      subst (MayPut i (t .number) e) l
+      (may-put-over e (entry-passes (holds (s .lines)) (r .key) (groupAt t s) e h found)
+      (entry-passes (λ (x : Entry). entryFormed i x && isPut x) (r .key) (groupAt t s) e group-formed found))
 
   -- a move to another phase that writes nothing
   moves : (phase place verdict : ℕ) → Stage (unitsOf s) (moved phase place verdict t) → Closed s (record { transaction = moved phase place verdict t; write = nothing })

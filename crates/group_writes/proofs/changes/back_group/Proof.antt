@@ -1,0 +1,19 @@
+-- The change of a whole group is the model's write.
+use borrow.Author.Needs.{needs}
+use Rattle.group_writes.specs.Changes.{written}
+use Rattle.group_writes.specs.Ready.{may-back}
+use Rattle.group_writes.proofs.changes.back_group.Statement.{statement}
+use Rattle.group_writes.proofs.changes.back_group.Tie as tie
+
+change-group-requires : tie.Need-change-group-requires
+change-group-requires c κs = may-back _ _ _ (c .before .before .before .pre)
+
+same-length : tie.Need-same-length
+same-length c = search needs
+
+returns : tie.Need-returns
+unfolding written
+returns c = c .before .before .change-group .ensures
+
+pub back-group-spec : {M : Type 1} → statement M
+back-group-spec = tie.close (tie.spec change-group-requires same-length returns)

@@ -1,0 +1,72 @@
+-- The changes that are left make of the lines as they are what all of them make of the lines as they were.
+use Prim.Native.Nat.{_-_}
+use mathlib.Core.Path.{_≡_, refl, sym, ap, _∙_}
+use mathlib.Core.List.{List, map}
+use native.Mathlib.Omega.{arith}
+use lib.ListN.{length}
+use borrow.Author.Needs.{needs}
+use Rattle.types.specs.declared.Entry.{Entry}
+use Rattle.model.specs.Records as sheet
+use Rattle.model.specs.Records.{recordsText}
+use Rattle.model.specs.Transactions.{held}
+use Rattle.model.specs.Writes.{lineAfter}
+use Rattle.group_writes.specs.Groups.{group-in}
+use Rattle.group_writes.specs.Changes.{written}
+use Rattle.group_writes.specs.Turns.{leaves, Underway, underway-first, underway-next, underway-last, turn-fits}
+use Rattle.group_writes.proofs.changes.change_group.Statement.{statement}
+use Rattle.group_writes.proofs.changes.change_group.Tie as tie
+
+abbrev Inv-loop : tie.InvT-loop
+Inv-loop c t records₀ coordinator n i₀ records i = (length records ≡ length records₀) × Underway c coordinator t (leaves c coordinator t records₀ (held t)) records i
+
+abbrev μ-loop : tie.MeasureT-loop
+μ-loop c t records₀ coordinator n i₀ records i = n - i
+
+cast-n : tie.Need-cast-n Inv-loop μ-loop
+cast-n c = search needs
+
+loop-holds : tie.Need-loop-holds Inv-loop μ-loop
+loop-holds c = (refl, underway-first _ _ _ _ (c .before .before .before .good .1 .0) (c .before .before .before .pre))
+
+change-entry-requires : tie.Need-change-entry-requires Inv-loop μ-loop
+change-entry-requires c κs =
+    record {
+      accepted = c .before .before .loop .inv .1 .accepted;
+      units = c .before .before .before .before .before .before .pre .units;
+      few = c .before .before .before .before .before .before .pre .few;
+      within = omega (arith, c .before .before .before .before .before .before .pre .few);
+      fit = turn-fits _ _ _ _ _ _ (c .before .before .loop .inv .1) (c .before .loop-test .taken);
+    }
+
+add-i : tie.Need-add-i Inv-loop μ-loop
+add-i c = search needs
+
+loop-less : tie.Need-loop-less Inv-loop μ-loop
+loop-less c = search needs
+
+loop-again : tie.Need-loop-again Inv-loop μ-loop
+loop-again c = (omega arith, underway-next _ _ _ _ _ _ (c .before .before .before .before .before .loop .inv .1) (c .before .before .before .before .loop-test .taken) _ (c .before .before .change-entry .ensures))
+
+same-length : tie.Need-same-length Inv-loop μ-loop
+same-length c = c .before .loop .inv .0
+
+returns : tie.Need-returns Inv-loop μ-loop
+returns c =
+    underway-last _ _ _ _ _ _ (c .before .loop .inv .1) (c .loop-test .left)
+    ∙ ap (λ (es : List Entry). recordsText (map (lineAfter (written (c .before .before .before .before .before .args .c) (c .before .before .before .before .before .args .t .number) es)) (sheet.records (c .before .before .before .before .before .args .records .now))))
+    (sym (group-in (c .before .before .before .before .before .args .records .now) (c .before .before .before .before .before .args .coordinator .now) (c .before .before .before .before .before .args .t)))
+
+pub change-group-spec : {M : Type 1} → statement M
+change-group-spec =
+    tie.close
+    (tie.spec
+    Inv-loop
+    μ-loop
+    cast-n
+    loop-holds
+    change-entry-requires
+    add-i
+    loop-less
+    loop-again
+    same-length
+    returns)

@@ -1,0 +1,26 @@
+-- By the two cases of whether the entry is of the group.
+use mathlib.Core.Path.{sym, _∙_}
+use borrow.Author.Tests.{not-true, not-false}
+use borrow.Author.Needs.{needs}
+use Rattle.group_writes.specs.Groups.{other-group, own-group}
+use Rattle.group_writes.proofs.groups.entry_holds.Statement.{statement}
+use Rattle.group_writes.proofs.groups.entry_holds.Tie as tie
+
+entry-at-requires : tie.Need-entry-at-requires
+entry-at-requires c κs = search needs
+
+in-group-requires : tie.Need-in-group-requires
+in-group-requires c κs = search needs
+
+returns : tie.Need-returns
+returns c = other-group _ _ (rw (c .before .before .entry-at .ensures) at (sym (c .before .in-group .ensures) ∙ not-true _ (c .if1 .taken)))
+
+holds-requires : tie.Need-holds-requires
+holds-requires c κs = search needs
+
+returns-2 : tie.Need-returns-2
+returns-2 c = rw (c .before .before .before .entry-at .ensures) at (c .holds .ensures ∙ own-group _ _ (sym (c .before .before .in-group .ensures) ∙ not-false _ (c .before .if1 .left)))
+
+pub entry-holds-spec : {M : Type 1} → statement M
+entry-holds-spec =
+    tie.close (tie.spec entry-at-requires in-group-requires returns holds-requires returns-2)

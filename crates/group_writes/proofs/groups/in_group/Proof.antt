@@ -1,0 +1,33 @@
+-- The nine letters lie within the head, and say the units of the sheet.
+use mathlib.Core.Path.{ap, _∙_}
+use mathlib.Core.List.{List}
+use native.Mathlib.Omega.{arith}
+use borrow.Author.Needs.{needs}
+use Rattle.types.specs.declared.AtomicityUnit.{AtomicityUnit}
+use Rattle.sheet_laws.specs.Decisions.{accepted-length}
+use Rattle.protocol.specs.Units.{units-said}
+use Rattle.protocol.specs.Groups.{inGroup}
+use Rattle.group_writes.proofs.groups.in_group.Statement.{statement}
+use Rattle.group_writes.proofs.groups.in_group.Tie as tie
+
+sub-in-group : tie.Need-sub-in-group
+sub-in-group c = search needs
+
+part-in-group-start : tie.Need-part-in-group-start
+part-in-group-start c = search needs
+
+part-in-group-end : tie.Need-part-in-group-end
+part-in-group-end c = omega (arith, accepted-length _ (c .before .pre .0))
+
+in-group-requires : tie.Need-in-group-requires
+in-group-requires c κs = search needs
+
+returns : tie.Need-returns
+returns c =
+    c .in-group .ensures
+    ∙ ap (λ (us : List AtomicityUnit). inGroup us (c .before .before .before .args .t) (c .before .before .before .args .t .place) (c .before .before .before .args .e)) (units-said (c .before .before .before .args .coordinator .now) (c .before .before .before .pre .0))
+
+pub in-group-spec : {M : Type 1} → statement M
+in-group-spec =
+    tie.close
+    (tie.spec sub-in-group part-in-group-start part-in-group-end in-group-requires returns)

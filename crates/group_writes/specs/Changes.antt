@@ -1,0 +1,218 @@
+-- A group written entry by entry: each change is of the line of one key, and since no two entries have a key in common, one after another they make the map
+-- that the model applies. The new line is written over the old one at its place.
+use Prim.Native.Nat.{ℕ, _+_, _*_, _/_, _≤_, _<_, _^_}
+use mathlib.Core.Path.{_≡_, refl, sym, ap, ap₂, _∙_}
+use mathlib.Core.Bool.{Bool, true, false, _&&_, _||_, cond}
+use mathlib.Core.List.{List, [], _∷_, map}
+use mathlib.Core.Option.{Option, none, some}
+use native.Mathlib.Omega.{arith}
+use lib.ListN.{length, getD, set}
+use lib.Dec.{ltb}
+use borrow.Author.Tests.{le-leb, lt-ltb}
+use Rattle.lists.specs.Each.{all, any}
+use Rattle.lists.specs.All.{map-unmoved, map-map, map-equal, all-always}
+use Rattle.lists.specs.Chosen.{or-fst, or-snd}
+use Rattle.lists.specs.Pieces.{over}
+use Rattle.lists.specs.Tests.{and-both, choose-by, tests}
+use Rattle.types.specs.declared.Entry.{Entry}
+use Rattle.types.specs.declared.Found.the-variants.{At, Nothing}
+use Rattle.types.specs.declared.Key.{Key}
+use Rattle.types.specs.declared.Record.{Record}
+use Rattle.model.specs.Layouts.{recordLayout, imageLayout}
+use Rattle.model.specs.Lines.{rowGood, inRange}
+use Rattle.model.specs.Records.{
+  noRecord,
+  imageNumbers,
+  recordText,
+  records,
+  recordsGood,
+  recordsAccepted,
+  goodAlone,
+  rising,
+  sameKey,
+  found,
+  lineOf,
+}
+use Rattle.model.specs.Coordinator.{namesIssued}
+use Rattle.model.specs.Images.{preparedBy, prepared, committed, rolledForward, rolledBack}
+use Rattle.model.specs.Writes.{Write, commit, prepare, forward, back, entryFor, byEntry, isOf, lineAfter}
+use Rattle.model.specs.WellFormed.{imageInRange}
+use Rattle.model.specs.Steps.{keysOf}
+use Rattle.sheet_laws.specs.Records.{good-ranged}
+use Rattle.sheet_laws.specs.Places.{length-records, records-over}
+use Rattle.call_laws.specs.Keys.{same-key, same-key-refl, same-key-flip, hasKey, no-entry}
+use Rattle.call_laws.specs.Lines.{listsKey, has-line}
+use Rattle.call_laws.specs.Places.{FoundAt, atKey, map-elsewhere, set-at-key, whole-lines, line-replaced}
+use Rattle.call_laws.specs.Ranges.{fine-parts}
+use Rattle.group_writes.specs.declared.changes.Change.{Change}
+use Rattle.group_writes.specs.declared.changes.Change.the-variants.{Commit, Prepare, Forward, Back}
+use Rattle.group_writes.specs.Lookup.{found-at, has-no-line}
+
+-- the record changed for an entry under a number
+unfoldable pub changed : Change → ℕ → Entry → Record → Record
+changed Commit n e r = committed n e r
+changed (Prepare now) n e r = prepared n now e r
+changed Forward n e r = cond (preparedBy n r) (rolledForward r) r
+changed Back n e r = cond (preparedBy n r) (rolledBack r) r
+
+-- the changes for a group's entries, as the model's write
+unfoldable pub written : Change → ℕ → List Entry → Write
+written Commit n es = commit n es
+written (Prepare now) n es = prepare n now es
+written Forward n es = forward n (keysOf es)
+written Back n es = back n (keysOf es)
+
+-- a change keeps the key
+pub changed-key : (c : Change) (n : ℕ) (e : Entry) (r : Record) → changed c n e r .key ≡ r .key
+unfolding changed committed prepared rolledForward rolledBack
+changed-key Commit n e r = refl
+changed-key (Prepare now) n e r = refl
+changed-key Forward n e r = choose-by (λ (x : Record). x .key ≡ r .key) (preparedBy n r) (λ h. refl) (λ h. refl)
+changed-key Back n e r = choose-by (λ (x : Record). x .key ≡ r .key) (preparedBy n r) (λ h. refl) (λ h. refl)
+
+-- Each line by the entry of its key.
+
+-- a line that is rolled if an entry has its key
+rolled-by-entry : (b : Bool) (x r : Record) (k : Key) (es : List Entry) → cond (b && any (λ (j : Key). sameKey j k) (keysOf es)) x r ≡ byEntry (entryFor k es) r (λ (e : Entry). cond b x r)
+unfolding any entryFor
+rolled-by-entry true x r k [] = refl
+rolled-by-entry false x r k [] = refl
+rolled-by-entry b x r k (e ∷ es) = go (sameKey (e .key) k) b (rolled-by-entry b x r k es)
+  where
+    go : (h c : Bool) → cond (c && any (λ (j : Key). sameKey j k) (keysOf es)) x r ≡ byEntry (entryFor k es) r (λ (e : Entry). cond c x r) → cond (c && (h || any (λ (j : Key). sameKey j k) (keysOf es))) x r ≡ byEntry (cond h (some e) (entryFor k es)) r (λ (e : Entry). cond c x r)
+    go true true i = refl
+    go true false i = refl
+    go false c i = i
+
+module _ (c : Change) (n : ℕ) where
+  -- what the changes for these entries make of a record
+  abbrev byKey : List Entry → Record → Record
+  byKey es r = byEntry (entryFor (r .key) es) r (λ (e : Entry). changed c n e r)
+
+  -- one more entry, of a key that no other has: its change first
+  one-first : (e : Entry) (es : List Entry) (r : Record) → hasKey (e .key) es ≡ false → byKey (e ∷ es) r ≡ byKey es (atKey (e .key) (changed c n e) r)
+  unfolding entryFor
+  one-first e es r free = go (sameKey (r .key) (e .key)) refl
+    where
+      go : (b : Bool) → sameKey (r .key) (e .key) ≡ b → byKey (e ∷ es) r ≡ byKey es (atKey (e .key) (changed c n e) r)
+      go true h =
+          let k : r .key ≡ e .key = same-key (r .key) (e .key) h in
+          let a : sameKey (e .key) (r .key) ≡ true = ap (sameKey (e .key)) k ∙ same-key-refl (e .key) in
+          let o : entryFor (changed c n e r .key) es ≡ none = ap (λ (j : Key). entryFor j es) (changed-key c n e r ∙ k) ∙ no-entry (e .key) es free in
+          ap (λ (b : Bool). byEntry (cond b (some e) (entryFor (r .key) es)) r (λ (x : Entry). changed c n x r)) a
+          ∙ sym
+          (ap (λ (b : Bool). byKey es (cond b (changed c n e r) r)) h
+          ∙ ap (λ (p : Option Entry). byEntry p (changed c n e r) (λ (x : Entry). changed c n x (changed c n e r))) o)
+      go false h =
+          let a : sameKey (e .key) (r .key) ≡ false = same-key-flip (r .key) (e .key) h in
+          ap (λ (b : Bool). byEntry (cond b (some e) (entryFor (r .key) es)) r (λ (x : Entry). changed c n x r)) a
+          ∙ sym (ap (λ (b : Bool). byKey es (cond b (changed c n e r) r)) h)
+
+by-key : (c : Change) (n : ℕ) (es : List Entry) (r : Record) → lineAfter (written c n es) r ≡ byKey c n es r
+unfolding lineAfter written changed isOf
+by-key Commit n es r = refl
+by-key (Prepare now) n es r = refl
+by-key Forward n es r = rolled-by-entry (preparedBy n r) (rolledForward r) r (r .key) es
+by-key Back n es r = rolled-by-entry (preparedBy n r) (rolledBack r) r (r .key) es
+
+-- Lines under the changes for a group's entries.
+module _ (c : Change) (n : ℕ) where
+  pub lines-none : (rs : List Record) → map (lineAfter (written c n [])) rs ≡ rs
+  unfolding entryFor
+  lines-none rs = map-unmoved (lineAfter (written c n [])) (λ r. by-key c n [] r) rs
+
+  pub lines-first : (e : Entry) (es : List Entry) (rs : List Record) → hasKey (e .key) es ≡ false → map (lineAfter (written c n (e ∷ es))) rs ≡ map (lineAfter (written c n es)) (map (atKey (e .key) (changed c n e)) rs)
+  lines-first e es rs free =
+      map-equal (λ (r : Record). true) (lineAfter (written c n (e ∷ es))) (λ (r : Record). lineAfter (written c n es) (atKey (e .key) (changed c n e) r))
+      (λ r h. by-key c n (e ∷ es) r ∙ (one-first c n e es r free ∙ sym (by-key c n es (atKey (e .key) (changed c n e) r))))
+      rs (all-always rs)
+      ∙ sym (map-map (lineAfter (written c n es)) (atKey (e .key) (changed c n e)) rs)
+
+  -- the new line of the entry's key keeps the rules
+  abbrev pub fits : List Record → Entry → Bool
+  fits rs e = goodAlone (changed c n e (lineOf (e .key) rs))
+
+-- The line of another key.
+module _ (k : Key) (f : Record → Record) (kept : (r : Record) → f r .key ≡ r .key) where
+  at-key-kept : (r : Record) → atKey k f r .key ≡ r .key
+  at-key-kept r = choose-by (λ (x : Record). x .key ≡ r .key) (sameKey (r .key) k) (λ h. kept r) (λ h. refl)
+
+  line-elsewhere : (j : Key) (rs : List Record) → sameKey j k ≡ false → lineOf j (map (atKey k f) rs) ≡ lineOf j rs
+  unfolding lineOf
+  line-elsewhere j [] d = refl
+  line-elsewhere j (r ∷ rs) d =
+      ap (λ (i : Key). cond (sameKey i j) (atKey k f r) (lineOf j (map (atKey k f) rs))) (at-key-kept r) ∙ go (sameKey (r .key) j) refl (line-elsewhere j rs d)
+    where
+      go : (b : Bool) → sameKey (r .key) j ≡ b → lineOf j (map (atKey k f) rs) ≡ lineOf j rs → cond b (atKey k f r) (lineOf j (map (atKey k f) rs)) ≡ cond b r (lineOf j rs)
+      go true h i = ap (λ (x : Bool). cond x (f r) r) (ap (λ (x : Key). sameKey x k) (same-key (r .key) j h) ∙ d)
+      go false h i = i
+
+-- what fits the lines fits them when the line of another key has changed
+pub fits-elsewhere : (c : Change) (n : ℕ) (e : Entry) (rs : List Record) (es : List Entry) → hasKey (e .key) es ≡ false → all (fits c n (map (atKey (e .key) (changed c n e)) rs)) es ≡ all (fits c n rs) es
+unfolding all any
+fits-elsewhere c n e rs [] h = refl
+fits-elsewhere c n e rs (x ∷ es) h =
+    ap₂ _&&_
+    (ap (λ (r : Record). goodAlone (changed c n x r))
+    (line-elsewhere (e .key) (changed c n e) (changed-key c n e) (x .key) rs (or-fst (sameKey (x .key) (e .key)) (hasKey (e .key) es) h)))
+    (fits-elsewhere c n e rs es (or-snd (sameKey (x .key) (e .key)) (hasKey (e .key) es) h))
+
+-- One line.
+
+good-version : (r : Record) → goodAlone r ≡ true → r .image .version ≤ 99999
+unfolding namesIssued imageInRange imageNumbers imageLayout recordLayout rowGood inRange
+good-version r g =
+    let a = r .image .txid in
+    let b = r .before .txid in
+    let h : imageInRange (r .image) ≡ true = fine-parts (a + b) r (and-both g (and-both (le-leb a (a + b) (omega arith)) (le-leb b (a + b) (omega arith)))) .image in
+    search tests
+
+-- there is room for one more version where the changed record keeps the rules
+pub commit-room : (n : ℕ) (e : Entry) (r : Record) → goodAlone (committed n e r) ≡ true → r .image .version + 1 < 2 ^ 32
+unfolding committed
+commit-room n e r g = let v : r .image .version + 1 ≤ 99999 = good-version (committed n e r) g in omega arith
+
+pub prepare-room : (n now : ℕ) (e : Entry) (r : Record) → goodAlone (prepared n now e r) ≡ true → r .image .version + 1 < 2 ^ 32
+unfolding prepared
+prepare-room n now e r g = let v : r .image .version + 1 ≤ 99999 = good-version (prepared n now e r) g in omega arith
+
+-- the sheet is accepted, and the new line of the entry's key keeps the rules
+pub record Due (c : Change) (n : ℕ) (e : Entry) (rs : List ℕ) : Type 0 where
+  pub accepted : recordsAccepted rs ≡ true
+  pub fit : fits c n (records rs) e ≡ true
+
+-- the sheet after a change of the line of the entry's key
+pub record Wrote (c : Change) (n : ℕ) (e : Entry) (rs rs′ : List ℕ) : Type 0 where
+  pub accepted : recordsAccepted rs′ ≡ true
+  pub lines : records rs′ ≡ map (atKey (e .key) (changed c n e)) (records rs)
+
+accepted-order : (s : List ℕ) → recordsAccepted s ≡ true → rising (records s) ≡ true
+unfolding recordsAccepted recordsGood
+accepted-order s a = search tests
+
+module _ (c : Change) (n : ℕ) (e : Entry) (rs : List ℕ) (due : Due c n e rs) where
+  -- the record at the place found is the line of the key
+  pub due-at : (i : ℕ) → found (e .key) (records rs) ≡ At i → goodAlone (changed c n e (getD (records rs) i noRecord)) ≡ true
+  due-at i h = ap (λ (r : Record). goodAlone (changed c n e r)) (found-at (e .key) (records rs) i h .line) ∙ due .fit
+
+  pub wrote-nothing : found (e .key) (records rs) ≡ Nothing → Wrote c n e rs rs
+  wrote-nothing h =
+      let l : listsKey (e .key) (records rs) ≡ false = sym (has-line (e .key) (records rs)) ∙ sym (has-no-line (e .key) (records rs) h) in
+      record { accepted = due .accepted; lines = sym (map-elsewhere (e .key) (changed c n e) (records rs) l) }
+
+  pub wrote-line : (i : ℕ) (r : Record) (rs′ : List ℕ) → found (e .key) (records rs) ≡ At i → r ≡ changed c n e (getD (records rs) i noRecord) → rs′ ≡ cond (ltb i (length rs / 98)) (over rs (i * 98) (recordText r)) rs → Wrote c n e rs rs′
+  wrote-line i r rs′ h q w =
+      let x : FoundAt (e .key) (records rs) i = found-at (e .key) (records rs) i h in
+      let l : i < length (records rs) = x .within in
+      let m : i < length rs / 98 = omega (arith, length-records rs) in
+      let g : goodAlone r ≡ true = ap goodAlone q ∙ due-at i h in
+      let k : r .key ≡ getD (records rs) i noRecord .key = ap (λ (y : Record). y .key) q ∙ changed-key c n e (getD (records rs) i noRecord) in
+      let o : rs′ ≡ over rs (i * 98) (recordText r) = w ∙ ap (λ (b : Bool). cond b (over rs (i * 98) (recordText r)) rs) (lt-ltb i (length rs / 98) m) in
+      let p : r ≡ changed c n e (lineOf (e .key) (records rs)) = q ∙ ap (changed c n e) (x .line) in
+      record {
+        accepted = ap recordsAccepted o ∙ line-replaced rs i r (due .accepted) l g k .1;
+        lines =
+            ap records o
+            ∙ (records-over rs i r m (good-ranged r g) (whole-lines rs (due .accepted))
+            ∙ (ap (set (records rs) i) p ∙ set-at-key (e .key) (changed c n e) (records rs) i (accepted-order rs (due .accepted)) x));
+      }

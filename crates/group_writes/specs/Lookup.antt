@@ -1,0 +1,61 @@
+-- What a look-up by key tells, by the two cases of what is found: a key out of range is found nowhere, and a found place is that of the key's line.
+use Prim.Native.Nat.{ℕ}
+use mathlib.Core.Path.{_≡_, refl, sym, ap, _∙_, subst}
+use mathlib.Core.Bool.{true, false, true≢false}
+use mathlib.Core.List.{List}
+use native.Mathlib.Omega.{arith}
+use lib.ListN.{getD}
+use Rattle.lists.specs.Each.{all}
+use Rattle.lists.specs.Tests.{tests}
+use Rattle.types.specs.declared.Entry.{Entry}
+use Rattle.types.specs.declared.Found.{Found}
+use Rattle.types.specs.declared.Found.the-variants.{At, Nothing}
+use Rattle.types.specs.declared.Key.{Key}
+use Rattle.types.specs.declared.Record.{Record}
+use Rattle.model.specs.Records.{noRecord, records, recordsGood, recordsAccepted, goodAlone, keyInRange, found, isMissing, hasLine, lineOf}
+use Rattle.model.specs.Images.{unchanged}
+use Rattle.model.specs.Steps.{holds}
+use Rattle.sheet_laws.specs.Records.{good-ranged}
+use Rattle.sheet_laws.specs.Keys.{key-ranged}
+use Rattle.call_laws.specs.Lines.{listsKey, line-of-key, line-passes}
+use Rattle.call_laws.specs.Places.{FoundAt, found-by}
+
+-- every line of an accepted sheet is good alone
+pub accepted-good : (s : List ℕ) → recordsAccepted s ≡ true → all goodAlone (records s) ≡ true
+unfolding recordsAccepted recordsGood
+accepted-good s a = search tests
+
+line-in-range : (s : List ℕ) (k : Key) → recordsAccepted s ≡ true → listsKey k (records s) ≡ true → keyInRange k ≡ true
+line-in-range s k a l =
+    let r = lineOf k (records s) in
+    let g : goodAlone r ≡ true = line-passes goodAlone k (records s) (accepted-good s a) l in
+    ap keyInRange (sym (line-of-key k (records s))) ∙ key-ranged r (good-ranged r g)
+
+pub found-in-range : (s : List ℕ) (k : Key) → recordsAccepted s ≡ true → keyInRange k ≡ false → Nothing ≡ found k (records s)
+found-in-range s k a h =
+    found-by (λ (f : Found). Nothing ≡ f) k (records s) (λ l. refl)
+    (λ i x. absurd (true≢false (sym (line-in-range s k a (x .listed)) ∙ h)))
+
+-- A place that was found, and what its line tells.
+module _ (k : Key) (rs : List Record) where
+  pub found-at : (i : ℕ) → found k rs ≡ At i → FoundAt k rs i
+  found-at i =
+      found-by (λ (f : Found). f ≡ At i → FoundAt k rs i) k rs (λ l e. let z : _≡_ {A = ℕ} 0 1 = cc in absurd (omega arith))
+      (λ j x e. let m : j ≡ i = cc in subst (FoundAt k rs) m x)
+
+  pub has-line-at : (i : ℕ) → found k rs ≡ At i → true ≡ hasLine k rs
+  unfolding isMissing
+  has-line-at i e = rw e
+
+  pub has-no-line : found k rs ≡ Nothing → false ≡ hasLine k rs
+  unfolding isMissing
+  has-no-line e = rw e
+
+module _ (rs : List Record) (e : Entry) where
+  pub holds-at : (i : ℕ) → found (e .key) rs ≡ At i → unchanged e (getD rs i noRecord) ≡ holds rs e
+  unfolding holds isMissing
+  holds-at i h = rw h (ap (unchanged e) (found-at (e .key) rs i h .line))
+
+  pub holds-nowhere : found (e .key) rs ≡ Nothing → false ≡ holds rs e
+  unfolding holds isMissing
+  holds-nowhere h = rw h

@@ -1,0 +1,135 @@
+-- What the writes of a step ask for follows from accepted bytes and a well-formed transaction: puts whose conditions hold may be written over their lines, and
+-- what a number has prepared may be rolled.
+use Prim.Native.Nat.{ℕ, _≤_}
+use mathlib.Core.Path.{_≡_, sym, ap, _∙_}
+use mathlib.Core.Bool.{Bool, true, _&&_}
+use mathlib.Core.List.{List}
+use Rattle.lists.specs.Each.{all}
+use Rattle.lists.specs.All.{all-and, all-weaken}
+use Rattle.lists.specs.Chosen.{all-filter}
+use Rattle.lists.specs.Tests.{and-fst, and-snd, choose-by, tests}
+use Rattle.types.specs.declared.Entry.{Entry}
+use Rattle.types.specs.declared.Record.{Record}
+use Rattle.types.specs.declared.Transaction.{Transaction}
+use Rattle.model.specs.Records.{records, goodAlone, hasLine, lineOf}
+use Rattle.model.specs.Coordinator.{namesIssued}
+use Rattle.model.specs.Transactions.{isPut, held}
+use Rattle.model.specs.Images.{isPrepared, preparedBy, rolledForward, rolledBack, prepared, committed, unchanged}
+use Rattle.model.specs.Writes.{Sheets}
+use Rattle.model.specs.WellFormed.{entryFormed, linesHeld}
+use Rattle.model.specs.Steps.{holds, groupAt}
+use Rattle.model.specs.ByteCalls.{sheetsOf}
+use Rattle.call_laws.specs.Ranges.{GoodParts, fine, fine-parts, parts-fine}
+use Rattle.call_laws.specs.Images.{committed-fine, prepared-fine, forward-fine, back-fine}
+use Rattle.call_laws.specs.Lines.{has-line, line-passes}
+use Rattle.call_laws.specs.Sheets.{GoodSheets, good-parts}
+use Rattle.call_laws.specs.Transactions.{Body}
+use Rattle.call_laws.specs.Steps.{group-formed, may-put-over}
+use Rattle.call_laws.specs.Lifting.{Passing, passing-parts, passing-good}
+use Rattle.group_writes.specs.declared.changes.Change.{Change}
+use Rattle.group_writes.specs.declared.changes.Change.the-variants.{Commit, Prepare, Forward, Back}
+use Rattle.group_writes.specs.Groups.{ofGroup, group-in}
+use Rattle.group_writes.specs.Changes.{changed, fits}
+use Rattle.group_writes.specs.Turns.{MayChange}
+
+-- accepted bytes, and a transaction whose body is well formed
+pub record Ready (rs cs : List ℕ) (t : Transaction) : Type 0 where
+  pub passing : Passing (record { records = rs; coordinator = cs })
+  pub body : Body (sheetsOf rs cs) t
+
+module _ (rs cs : List ℕ) (t : Transaction) (ready : Ready rs cs t) where
+  abbrev issued : ℕ
+  issued = sheetsOf rs cs .coordinator .issued
+
+  good : GoodSheets (sheetsOf rs cs)
+  good = good-parts (sheetsOf rs cs) (passing-good (record { records = rs; coordinator = cs }) (ready .passing))
+
+  line-good : (e : Entry) → hasLine (e .key) (records rs) ≡ true → GoodParts issued (lineOf (e .key) (records rs))
+  line-good e h =
+      fine-parts issued (lineOf (e .key) (records rs))
+      (line-passes (fine issued) (e .key) (records rs) (good .fine-lines) (sym (has-line (e .key) (records rs)) ∙ h))
+
+  fine-good : (r : Record) → GoodParts issued r → goodAlone r ≡ true
+  fine-good r g = and-fst (goodAlone r) (namesIssued issued r) (parts-fine issued r g)
+
+  may-change : (c : Change) → all (fits c (t .number) (records rs)) (groupAt t (sheetsOf rs cs)) ≡ true → MayChange c rs cs t
+  may-change c f =
+      let p = passing-parts (record { records = rs; coordinator = cs }) (ready .passing) in
+      record {
+        accepted = p .0;
+        units = p .1 .0;
+        few = ready .body .few;
+        distinct = ready .body .distinct;
+        fit = f;
+      }
+
+  -- Puts.
+
+  -- an entry of the group whose condition holds
+  abbrev putOver : Entry → Bool
+  putOver e = holds (records rs) e && (entryFormed issued e && isPut e)
+
+  put-over : all (holds (records rs)) (groupAt t (sheetsOf rs cs)) ≡ true → all putOver (groupAt t (sheetsOf rs cs)) ≡ true
+  put-over h = all-and (holds (records rs)) (λ (e : Entry). entryFormed issued e && isPut e) (groupAt t (sheetsOf rs cs)) h (group-formed (sheetsOf rs cs) good t (ready .body))
+
+  has-its-line : (e : Entry) → holds (records rs) e ≡ true → hasLine (e .key) (records rs) ≡ true
+  unfolding holds
+  has-its-line e h = and-fst (hasLine (e .key) (records rs)) (unchanged e (lineOf (e .key) (records rs))) h
+
+  pub may-commit : all (holds (records rs)) (groupAt t (sheetsOf rs cs)) ≡ true → MayChange Commit rs cs t
+  unfolding changed
+  may-commit h =
+      may-change Commit
+      (all-weaken putOver (fits Commit (t .number) (records rs))
+      (λ e g. let c = and-fst (holds (records rs) e) (entryFormed issued e && isPut e) g in
+      let r = lineOf (e .key) (records rs) in
+      fine-good (committed (t .number) e r)
+      (committed-fine issued (t .number) e r (line-good e (has-its-line e c))
+      (may-put-over (sheetsOf rs cs) good t (ready .body) e c (and-snd (holds (records rs) e) (entryFormed issued e && isPut e) g))))
+      (groupAt t (sheetsOf rs cs)) (put-over h))
+
+  pub may-prepare : (now : ℕ) → now ≤ 4294967295 → all (holds (records rs)) (groupAt t (sheetsOf rs cs)) ≡ true → MayChange (Prepare now) rs cs t
+  unfolding changed
+  may-prepare now l h =
+      may-change (Prepare now)
+      (all-weaken putOver (fits (Prepare now) (t .number) (records rs))
+      (λ e g. let c = and-fst (holds (records rs) e) (entryFormed issued e && isPut e) g in
+      let r = lineOf (e .key) (records rs) in
+      fine-good (prepared (t .number) now e r)
+      (prepared-fine issued (t .number) e r (line-good e (has-its-line e c))
+      (may-put-over (sheetsOf rs cs) good t (ready .body) e c (and-snd (holds (records rs) e) (entryFormed issued e && isPut e) g)) now l))
+      (groupAt t (sheetsOf rs cs)) (put-over h))
+
+  -- Prepared lines rolled.
+
+  group-lines : all (λ (e : Entry). hasLine (e .key) (records rs)) (groupAt t (sheetsOf rs cs)) ≡ true
+  unfolding linesHeld
+  group-lines =
+      ap (all (λ (e : Entry). hasLine (e .key) (records rs))) (group-in rs cs t)
+      ∙ all-filter (ofGroup cs t) (λ (e : Entry). hasLine (e .key) (records rs)) (held t) (ready .body .lines)
+
+  pending : (n : ℕ) (r : Record) → preparedBy n r ≡ true → isPrepared r ≡ true
+  unfolding preparedBy
+  pending n r h = search tests
+
+  pub may-forward : MayChange Forward rs cs t
+  unfolding changed
+  may-forward =
+      may-change Forward
+      (all-weaken (λ (e : Entry). hasLine (e .key) (records rs)) (fits Forward (t .number) (records rs))
+      (λ e h. let r = lineOf (e .key) (records rs) in
+      let g = line-good e h in
+      choose-by (λ (x : Record). goodAlone x ≡ true) (preparedBy (t .number) r)
+      (λ p. fine-good (rolledForward r) (forward-fine issued r g (pending (t .number) r p))) (λ p. fine-good r g))
+      (groupAt t (sheetsOf rs cs)) group-lines)
+
+  pub may-back : MayChange Back rs cs t
+  unfolding changed
+  may-back =
+      may-change Back
+      (all-weaken (λ (e : Entry). hasLine (e .key) (records rs)) (fits Back (t .number) (records rs))
+      (λ e h. let r = lineOf (e .key) (records rs) in
+      let g = line-good e h in
+      choose-by (λ (x : Record). goodAlone x ≡ true) (preparedBy (t .number) r)
+      (λ p. fine-good (rolledBack r) (back-fine issued r g (pending (t .number) r p))) (λ p. fine-good r g))
+      (groupAt t (sheetsOf rs cs)) group-lines)

@@ -1,0 +1,178 @@
+-- The loop over a transaction's entries that changes the lines of its group: what is left to be done makes, on the sheet as it is now, what all of it makes
+-- on the sheet as it was. A turn changes the line of one key, which no later entry has.
+use Prim.Native.Nat.{ℕ, _+_, _≤_, _<_}
+use mathlib.Core.Path.{_≡_, refl, sym, ap, ap₂, _∙_}
+use mathlib.Core.Bool.{Bool, true, false, _&&_, not, cond, true≢false}
+use mathlib.Core.List.{List, _∷_, map}
+use borrow.Author.Tests.{not-true}
+use mir.Val.{Val}
+use denote.Laws.{Is}
+use denote.Struct.Declared.{row}
+use Rattle.lists.specs.Each.{all, any, filter}
+use Rattle.lists.specs.Chosen.{any-filter, any-weaken}
+use Rattle.lists.specs.Tests.{and-fst, and-snd, and-both}
+use Rattle.types.proofs.Transaction.{the-type}
+use Rattle.types.specs.declared.Entry.{Entry}
+use Rattle.types.specs.declared.Key.{Key}
+use Rattle.types.specs.declared.Record.{Record}
+use Rattle.types.specs.declared.Transaction.{Transaction}
+use Rattle.model.specs.Records.{records, recordsText, recordsAccepted, sameKey}
+use Rattle.model.specs.Coordinator.{coordinatorAccepted}
+use Rattle.model.specs.Transactions.{held}
+use Rattle.model.specs.Writes.{lineAfter}
+use Rattle.model.specs.WellFormed.{distinctKeys}
+use Rattle.model.specs.Steps.{groupAt}
+use Rattle.model.specs.ByteCalls.{sheetsOf}
+use Rattle.sheet_laws.specs.Records.{sheet-written-read}
+use Rattle.call_laws.specs.Keys.{hasKey}
+use Rattle.call_laws.specs.Places.{atKey}
+use Rattle.protocol.specs.Held.{PassedTo, entryAt, after, pass-first, pass-here, pass-next, pass-last}
+use Rattle.group_writes.specs.declared.changes.Change.{Change}
+use Rattle.group_writes.specs.Groups.{ofGroup, groupIn, group-in}
+use Rattle.group_writes.specs.Changes.{changed, written, lines-none, lines-first, fits, fits-elsewhere, Wrote}
+
+-- what a change of a whole group asks for
+pub record MayChange (c : Change) (rs cs : List ℕ) (t : Transaction) : Type 0 where
+  pub accepted : recordsAccepted rs ≡ true
+  pub units : coordinatorAccepted cs ≡ true
+  pub few : t .count ≤ 8
+  pub distinct : distinctKeys (held t) ≡ true
+  pub fit : all (fits c (t .number) (records rs)) (groupAt t (sheetsOf rs cs)) ≡ true
+
+-- what a turn for entry i asks for
+pub record Turn (c : Change) (t : Transaction) (i : ℕ) (rs cs : List ℕ) : Type 0 where
+  pub accepted : recordsAccepted rs ≡ true
+  pub units : coordinatorAccepted cs ≡ true
+  pub few : t .count ≤ 8
+  pub within : i < 8
+  pub fit : ofGroup cs t (entryAt t i) ≡ true → fits c (t .number) (records rs) (entryAt t i) ≡ true
+
+-- the sheet after a turn: the line of the entry's key changed, if the entry is of the group
+pub record Turned (c : Change) (cs : List ℕ) (t : Transaction) (e : Entry) (rs rs′ : List ℕ) : Type 0 where
+  pub accepted : recordsAccepted rs′ ≡ true
+  pub lines : records rs′ ≡ cond (ofGroup cs t e) (map (atKey (e .key) (changed c (t .number) e)) (records rs)) (records rs)
+
+pub turned-not : (c : Change) (cs : List ℕ) (t : Transaction) (e : Entry) (rs : List ℕ) → recordsAccepted rs ≡ true → ofGroup cs t e ≡ false → Turned c cs t e rs rs
+turned-not c cs t e rs a h =
+    record { accepted = a; lines = sym (ap (λ (b : Bool). cond b (map (atKey (e .key) (changed c (t .number) e)) (records rs)) (records rs)) h) }
+
+pub turned-own : (c : Change) (cs : List ℕ) (t : Transaction) (e : Entry) (rs rs′ : List ℕ) → ofGroup cs t e ≡ true → Wrote c (t .number) e rs rs′ → Turned c cs t e rs rs′
+turned-own c cs t e rs rs′ h w =
+    record {
+      accepted = w .accepted;
+      lines = w .lines ∙ sym (ap (λ (b : Bool). cond b (map (atKey (e .key) (changed c (t .number) e)) (records rs)) (records rs)) h);
+    }
+
+-- a key that no entry has is none of those kept
+free-kept : (q : Entry → Bool) (k : Key) (es : List Entry) → hasKey k es ≡ false → hasKey k (filter q es) ≡ false
+free-kept q k es h = go (hasKey k (filter q es)) refl
+  where
+    go : (b : Bool) → hasKey k (filter q es) ≡ b → b ≡ false
+    go false e = refl
+    go true e =
+        let f : any (λ (x : Entry). q x && sameKey (x .key) k) es ≡ true = sym (any-filter q (λ (x : Entry). sameKey (x .key) k) es) ∙ e in
+        let g : hasKey k es ≡ true =
+        any-weaken (λ (x : Entry). q x && sameKey (x .key) k) (λ (x : Entry). sameKey (x .key) k) (λ x g. and-snd (q x) (sameKey (x .key) k) g) es f in
+        absurd (true≢false (sym g ∙ h))
+
+module _ (c : Change) (cs : List ℕ) (t : Transaction) where
+  -- the lines that the changes for the group among these entries leave
+  abbrev pub leaves : List ℕ → List Entry → List Record
+  leaves rs es = map (lineAfter (written c (t .number) (groupIn cs t es))) (records rs)
+
+  -- these entries may be turned one by one
+  abbrev mayTurn : List ℕ → List Entry → Bool
+  mayTurn rs es = distinctKeys es && all (fits c (t .number) (records rs)) (groupIn cs t es)
+
+  -- i entries are done, and what is left makes the lines w
+  pub record Underway (w : List Record) (rs : List ℕ) (i : ℕ) : Type 0 where
+    pub accepted : recordsAccepted rs ≡ true
+    pub lines : PassedTo t (leaves rs) w i
+    pub ahead : PassedTo t (mayTurn rs) true i
+
+  pub underway-first : (rs : List ℕ) {vs : List Val} → Is (row the-type) t vs → MayChange c rs cs t → Underway (leaves rs (held t)) rs 0
+  underway-first rs p m =
+      let f : all (fits c (t .number) (records rs)) (groupIn cs t (held t)) ≡ true = ap (all (fits c (t .number) (records rs))) (sym (group-in rs cs t)) ∙ m .fit in
+      let a = pass-first t (mayTurn rs) p (m .few) in
+      record {
+        accepted = m .accepted;
+        lines = pass-first t (leaves rs) p (m .few);
+        ahead = record { place = a .place; room = a .room; rest = and-both (m .distinct) f };
+      }
+
+  module _ (w : List Record) (rs : List ℕ) (i : ℕ) (u : Underway w rs i) where
+    pub underway-last : t .count ≤ i → rs ≡ recordsText w
+    unfolding filter
+    underway-last l =
+        sym (sheet-written-read rs (u .accepted))
+        ∙ ap recordsText (sym (lines-none c (t .number) (records rs)) ∙ pass-last t (leaves rs) w i l (u .lines))
+
+    module _ (l : i < t .count) where
+      abbrev e : Entry
+      e = entryAt t i
+
+      abbrev es : List Entry
+      es = after t i
+
+      here : mayTurn rs (e ∷ es) ≡ true
+      here = pass-here t (mayTurn rs) true i l (u .ahead)
+
+      here-distinct : distinctKeys (e ∷ es) ≡ true
+      here-distinct = and-fst (distinctKeys (e ∷ es)) (all (fits c (t .number) (records rs)) (groupIn cs t (e ∷ es))) here
+
+      here-fits : all (fits c (t .number) (records rs)) (groupIn cs t (e ∷ es)) ≡ true
+      here-fits = and-snd (distinctKeys (e ∷ es)) (all (fits c (t .number) (records rs)) (groupIn cs t (e ∷ es))) here
+
+      own : ofGroup cs t e ≡ true → groupIn cs t (e ∷ es) ≡ e ∷ groupIn cs t es
+      unfolding filter
+      own h = ap (λ (b : Bool). cond b (e ∷ groupIn cs t es) (groupIn cs t es)) h
+
+      other : ofGroup cs t e ≡ false → groupIn cs t (e ∷ es) ≡ groupIn cs t es
+      unfolding filter
+      other h = ap (λ (b : Bool). cond b (e ∷ groupIn cs t es) (groupIn cs t es)) h
+
+      own-fits : ofGroup cs t e ≡ true → all (fits c (t .number) (records rs)) (e ∷ groupIn cs t es) ≡ true
+      own-fits h = ap (all (fits c (t .number) (records rs))) (sym (own h)) ∙ here-fits
+
+      -- no later entry of the group has the key
+      free : hasKey (e .key) (groupIn cs t es) ≡ false
+      unfolding distinctKeys
+      free = free-kept (ofGroup cs t) (e .key) es (not-true (hasKey (e .key) es) (and-fst (not (hasKey (e .key) es)) (distinctKeys es) here-distinct))
+
+      later-distinct : distinctKeys es ≡ true
+      unfolding distinctKeys
+      later-distinct = and-snd (not (hasKey (e .key) es)) (distinctKeys es) here-distinct
+
+      pub turn-fits : ofGroup cs t e ≡ true → fits c (t .number) (records rs) e ≡ true
+      unfolding all
+      turn-fits h = and-fst (fits c (t .number) (records rs) e) (all (fits c (t .number) (records rs)) (groupIn cs t es)) (own-fits h)
+
+      pub underway-next : (rs′ : List ℕ) → Turned c cs t e rs rs′ → Underway w rs′ (i + 1)
+      unfolding all
+      underway-next rs′ x = go (ofGroup cs t e) refl
+        where
+          next : leaves rs (e ∷ es) ≡ leaves rs′ es → all (fits c (t .number) (records rs′)) (groupIn cs t es) ≡ true → Underway w rs′ (i + 1)
+          next f g =
+              record {
+                accepted = x .accepted;
+                lines = pass-next t (leaves rs) (leaves rs′) w i l (u .lines) f;
+                ahead = pass-next t (mayTurn rs) (mayTurn rs′) true i l (u .ahead) (here ∙ sym (and-both later-distinct g));
+              }
+
+          go : (b : Bool) → ofGroup cs t e ≡ b → Underway w rs′ (i + 1)
+          go true h =
+              let m : records rs′ ≡ map (atKey (e .key) (changed c (t .number) e)) (records rs) =
+              x .lines ∙ ap (λ (b : Bool). cond b (map (atKey (e .key) (changed c (t .number) e)) (records rs)) (records rs)) h in
+              next
+              (ap (λ (y : List Entry). map (lineAfter (written c (t .number) y)) (records rs)) (own h)
+              ∙ (lines-first c (t .number) e (groupIn cs t es) (records rs) free
+              ∙ ap (map (lineAfter (written c (t .number) (groupIn cs t es)))) (sym m)))
+              (ap (λ (y : List Record). all (fits c (t .number) y) (groupIn cs t es)) m
+              ∙ (fits-elsewhere c (t .number) e (records rs) (groupIn cs t es) free
+              ∙ and-snd (fits c (t .number) (records rs) e) (all (fits c (t .number) (records rs)) (groupIn cs t es)) (own-fits h)))
+          go false h =
+              let m : records rs′ ≡ records rs =
+              x .lines ∙ ap (λ (b : Bool). cond b (map (atKey (e .key) (changed c (t .number) e)) (records rs)) (records rs)) h in
+              next
+              (ap₂ (λ (y : List Entry) (z : List Record). map (lineAfter (written c (t .number) y)) z) (other h) (sym m))
+              (ap₂ (λ (z : List Record) (y : List Entry). all (fits c (t .number) z) y) m (sym (other h)) ∙ here-fits)

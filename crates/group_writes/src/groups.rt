@@ -1,0 +1,51 @@
+// The group at a transaction's place, among its entries.
+ghost use mathlib.Core.Path.{_≡_};
+ghost use mathlib.Core.Bool.{true};
+ghost use Prim.Native.Nat.{_≤_, _<_};
+ghost use Rattle.lists.specs.Each.{all};
+ghost use Rattle.model.specs.Records.{recordsAccepted};
+ghost use Rattle.model.specs.Records as sheet;
+ghost use Rattle.model.specs.Coordinator.{coordinatorAccepted};
+ghost use Rattle.model.specs.Steps.{holds, groupAt};
+ghost use Rattle.model.specs.ByteCalls.{sheetsOf};
+ghost use Rattle.protocol.specs.Held.{entryAt};
+ghost use Rattle.group_writes.specs.Groups.{ofGroup, holdsInGroup};
+use crate::lines;
+use protocol::groups;
+use protocol::transactions;
+use types::Entry;
+use types::Transaction;
+
+// The entry is a put of the group. The unit letters are bytes 5 to 13 of the coordinator sheet.
+pub fn in_group(coordinator: &[u8], t: Transaction, e: Entry) -> bool
+    requires { ⌜ (coordinatorAccepted (now coordinator) ≡ true) × (t .count ≤ 8) ⌝ }
+    ensures { λ r. ⌜ r ≡ ofGroup (now (coordinator .entry)) t e ⌝ }
+{
+    groups::in_group(&coordinator[5..14], t, e, t.place)
+}
+
+// The condition of entry i holds, unless it is of another group.
+fn entry_holds(records: &[u8], coordinator: &[u8], t: Transaction, i: usize) -> bool
+    requires { ⌜ (recordsAccepted (now records) ≡ true) × ((coordinatorAccepted (now coordinator) ≡ true) × ((t .count ≤ 8) × (i < 8))) ⌝ }
+    ensures { λ r. ⌜ r ≡ holdsInGroup (now (records .entry)) (now (coordinator .entry)) t (entryAt t i) ⌝ }
+{
+    let e = transactions::entry_at(t, i);
+    if !in_group(coordinator, t, e) {
+        return true;
+    }
+    lines::holds(records, e)
+}
+
+// The conditions of all the group's entries hold.
+pub fn group_holds(records: &[u8], coordinator: &[u8], t: Transaction) -> bool
+    requires { ⌜ (recordsAccepted (now records) ≡ true) × ((coordinatorAccepted (now coordinator) ≡ true) × (t .count ≤ 8)) ⌝ }
+    ensures { λ r. ⌜ r ≡ all (holds (sheet.records (now (records .entry)))) (groupAt t (sheetsOf (now (records .entry)) (now (coordinator .entry)))) ⌝ }
+{
+    let n = t.count as usize;
+    for i in 0..n {
+        if !entry_holds(records, coordinator, t, i) {
+            return false;
+        }
+    }
+    true
+}
