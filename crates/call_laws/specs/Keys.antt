@@ -53,15 +53,18 @@ key-passes q k (e ∷ es) h =
     (λ g. ap q (sym (same-key (e .key) k (and-snd (q (e .key)) (sameKey (e .key) k) g))) ∙ and-fst (q (e .key)) (sameKey (e .key) k) g)
     (λ g n. key-passes q k es n)
 
+-- a key among the entries that a filter keeps is one of all
+pub kept-key : (q : Entry → Bool) (k : Key) (es : List Entry) → hasKey k (filter q es) ≡ true → hasKey k es ≡ true
+kept-key q k es h =
+    any-weaken (λ (e : Entry). q e && sameKey (e .key) k) (λ (e : Entry). sameKey (e .key) k) (λ e g. and-snd (q e) (sameKey (e .key) k) g) es
+    (sym (any-filter q (λ (e : Entry). sameKey (e .key) k) es) ∙ h)
+
 -- the keys of those entries whose keys pass a test
 pub chosen-key : (q : Key → Bool) (k : Key) (es : List Entry) → hasKey k (filter (λ (e : Entry). q (e .key)) es) ≡ true → (hasKey k es ≡ true) × (q k ≡ true)
-chosen-key q k es h =
-    let b : any (λ (e : Entry). q (e .key) && sameKey (e .key) k) es ≡ true =
-    sym (any-filter (λ (e : Entry). q (e .key)) (λ (e : Entry). sameKey (e .key) k) es) ∙ h in (
-      any-weaken (λ (e : Entry). q (e .key) && sameKey (e .key) k) (λ (e : Entry). sameKey (e .key) k)
-          (λ e g. and-snd (q (e .key)) (sameKey (e .key) k) g) es b,
-      key-passes q k es b,
-    )
+chosen-key q k es h = (
+  kept-key (λ (e : Entry). q (e .key)) k es h,
+  key-passes q k es (sym (any-filter (λ (e : Entry). q (e .key)) (λ (e : Entry). sameKey (e .key) k) es) ∙ h),
+)
 
 -- The entry of a key.
 

@@ -159,6 +159,7 @@ fits-elsewhere c n e rs (x ∷ es) h =
 
 -- One line.
 
+-- a record names no number above the sum of those that it names, so that its parts can be had without a coordinator sheet
 good-version : (r : Record) → goodAlone r ≡ true → r .image .version ≤ 99999
 unfolding namesIssued imageInRange imageNumbers imageLayout recordLayout rowGood inRange
 good-version r g =

@@ -14,13 +14,12 @@ use Rattle.types.specs.declared.Transaction.{Transaction}
 use Rattle.model.specs.Records.{records, goodAlone, hasLine, lineOf}
 use Rattle.model.specs.Coordinator.{namesIssued}
 use Rattle.model.specs.Transactions.{isPut, held}
-use Rattle.model.specs.Images.{isPrepared, preparedBy, rolledForward, rolledBack, prepared, committed, unchanged}
-use Rattle.model.specs.Writes.{Sheets}
+use Rattle.model.specs.Images.{isPrepared, preparedBy, unchanged}
 use Rattle.model.specs.WellFormed.{entryFormed, linesHeld}
 use Rattle.model.specs.Steps.{holds, groupAt}
 use Rattle.model.specs.ByteCalls.{sheetsOf}
 use Rattle.call_laws.specs.Ranges.{GoodParts, fine, fine-parts, parts-fine}
-use Rattle.call_laws.specs.Images.{committed-fine, prepared-fine, forward-fine, back-fine}
+use Rattle.call_laws.specs.Images.{MayPut, committed-fine, prepared-fine, forward-fine, back-fine}
 use Rattle.call_laws.specs.Lines.{has-line, line-passes}
 use Rattle.call_laws.specs.Sheets.{GoodSheets, good-parts}
 use Rattle.call_laws.specs.Transactions.{Body}
@@ -76,29 +75,25 @@ module _ (rs cs : List ℕ) (t : Transaction) (ready : Ready rs cs t) where
   unfolding holds
   has-its-line e h = and-fst (hasLine (e .key) (records rs)) (unchanged e (lineOf (e .key) (records rs))) h
 
+  -- the puts of a group whose conditions hold, where a put over its line keeps the rules
+  may-put : (c : Change) → ((e : Entry) (r : Record) → GoodParts issued r → MayPut issued (t .number) e r → GoodParts issued (changed c (t .number) e r)) → all (holds (records rs)) (groupAt t (sheetsOf rs cs)) ≡ true → MayChange c rs cs t
+  may-put c keeps h =
+      may-change c
+      (all-weaken putOver (fits c (t .number) (records rs))
+      (λ e g. let held = and-fst (holds (records rs) e) (entryFormed issued e && isPut e) g in
+      let r = lineOf (e .key) (records rs) in
+      fine-good (changed c (t .number) e r)
+      (keeps e r (line-good e (has-its-line e held))
+      (may-put-over (sheetsOf rs cs) good t (ready .body) e held (and-snd (holds (records rs) e) (entryFormed issued e && isPut e) g))))
+      (groupAt t (sheetsOf rs cs)) (put-over h))
+
   pub may-commit : all (holds (records rs)) (groupAt t (sheetsOf rs cs)) ≡ true → MayChange Commit rs cs t
   unfolding changed
-  may-commit h =
-      may-change Commit
-      (all-weaken putOver (fits Commit (t .number) (records rs))
-      (λ e g. let c = and-fst (holds (records rs) e) (entryFormed issued e && isPut e) g in
-      let r = lineOf (e .key) (records rs) in
-      fine-good (committed (t .number) e r)
-      (committed-fine issued (t .number) e r (line-good e (has-its-line e c))
-      (may-put-over (sheetsOf rs cs) good t (ready .body) e c (and-snd (holds (records rs) e) (entryFormed issued e && isPut e) g))))
-      (groupAt t (sheetsOf rs cs)) (put-over h))
+  may-commit = may-put Commit (λ e r g m. committed-fine issued (t .number) e r g m)
 
   pub may-prepare : (now : ℕ) → now ≤ 4294967295 → all (holds (records rs)) (groupAt t (sheetsOf rs cs)) ≡ true → MayChange (Prepare now) rs cs t
   unfolding changed
-  may-prepare now l h =
-      may-change (Prepare now)
-      (all-weaken putOver (fits (Prepare now) (t .number) (records rs))
-      (λ e g. let c = and-fst (holds (records rs) e) (entryFormed issued e && isPut e) g in
-      let r = lineOf (e .key) (records rs) in
-      fine-good (prepared (t .number) now e r)
-      (prepared-fine issued (t .number) e r (line-good e (has-its-line e c))
-      (may-put-over (sheetsOf rs cs) good t (ready .body) e c (and-snd (holds (records rs) e) (entryFormed issued e && isPut e) g)) now l))
-      (groupAt t (sheetsOf rs cs)) (put-over h))
+  may-prepare now l = may-put (Prepare now) (λ e r g m. prepared-fine issued (t .number) e r g m now l)
 
   -- Prepared lines rolled.
 
@@ -108,28 +103,26 @@ module _ (rs cs : List ℕ) (t : Transaction) (ready : Ready rs cs t) where
       ap (all (λ (e : Entry). hasLine (e .key) (records rs))) (group-in rs cs t)
       ∙ all-filter (ofGroup cs t) (λ (e : Entry). hasLine (e .key) (records rs)) (held t) (ready .body .lines)
 
-  pending : (n : ℕ) (r : Record) → preparedBy n r ≡ true → isPrepared r ≡ true
+  -- the lines of the group, where a rolled line keeps the rules
+  may-roll : (c : Change) → ((e : Entry) (r : Record) → GoodParts issued r → GoodParts issued (changed c (t .number) e r)) → MayChange c rs cs t
+  may-roll c keeps =
+      may-change c
+      (all-weaken (λ (e : Entry). hasLine (e .key) (records rs)) (fits c (t .number) (records rs))
+      (λ e h. let r = lineOf (e .key) (records rs) in fine-good (changed c (t .number) e r) (keeps e r (line-good e h)))
+      (groupAt t (sheetsOf rs cs)) group-lines)
+
+  pending : (r : Record) → preparedBy (t .number) r ≡ true → isPrepared r ≡ true
   unfolding preparedBy
-  pending n r h = search tests
+  pending r h = search tests
 
   pub may-forward : MayChange Forward rs cs t
   unfolding changed
   may-forward =
-      may-change Forward
-      (all-weaken (λ (e : Entry). hasLine (e .key) (records rs)) (fits Forward (t .number) (records rs))
-      (λ e h. let r = lineOf (e .key) (records rs) in
-      let g = line-good e h in
-      choose-by (λ (x : Record). goodAlone x ≡ true) (preparedBy (t .number) r)
-      (λ p. fine-good (rolledForward r) (forward-fine issued r g (pending (t .number) r p))) (λ p. fine-good r g))
-      (groupAt t (sheetsOf rs cs)) group-lines)
+      may-roll Forward
+      (λ e r g. choose-by (GoodParts issued) (preparedBy (t .number) r) (λ p. forward-fine issued r g (pending r p)) (λ p. g))
 
   pub may-back : MayChange Back rs cs t
   unfolding changed
   may-back =
-      may-change Back
-      (all-weaken (λ (e : Entry). hasLine (e .key) (records rs)) (fits Back (t .number) (records rs))
-      (λ e h. let r = lineOf (e .key) (records rs) in
-      let g = line-good e h in
-      choose-by (λ (x : Record). goodAlone x ≡ true) (preparedBy (t .number) r)
-      (λ p. fine-good (rolledBack r) (back-fine issued r g (pending (t .number) r p))) (λ p. fine-good r g))
-      (groupAt t (sheetsOf rs cs)) group-lines)
+      may-roll Back
+      (λ e r g. choose-by (GoodParts issued) (preparedBy (t .number) r) (λ p. back-fine issued r g (pending r p)) (λ p. g))

@@ -8,15 +8,14 @@ use borrow.Author.Tests.{not-true}
 use mir.Val.{Val}
 use denote.Laws.{Is}
 use denote.Struct.Declared.{row}
-use Rattle.lists.specs.Each.{all, any, filter}
-use Rattle.lists.specs.Chosen.{any-filter, any-weaken}
+use Rattle.lists.specs.Each.{all, filter}
 use Rattle.lists.specs.Tests.{and-fst, and-snd, and-both}
 use Rattle.types.proofs.Transaction.{the-type}
 use Rattle.types.specs.declared.Entry.{Entry}
 use Rattle.types.specs.declared.Key.{Key}
 use Rattle.types.specs.declared.Record.{Record}
 use Rattle.types.specs.declared.Transaction.{Transaction}
-use Rattle.model.specs.Records.{records, recordsText, recordsAccepted, sameKey}
+use Rattle.model.specs.Records.{records, recordsText, recordsAccepted}
 use Rattle.model.specs.Coordinator.{coordinatorAccepted}
 use Rattle.model.specs.Transactions.{held}
 use Rattle.model.specs.Writes.{lineAfter}
@@ -24,7 +23,7 @@ use Rattle.model.specs.WellFormed.{distinctKeys}
 use Rattle.model.specs.Steps.{groupAt}
 use Rattle.model.specs.ByteCalls.{sheetsOf}
 use Rattle.sheet_laws.specs.Records.{sheet-written-read}
-use Rattle.call_laws.specs.Keys.{hasKey}
+use Rattle.call_laws.specs.Keys.{hasKey, kept-key}
 use Rattle.call_laws.specs.Places.{atKey}
 use Rattle.protocol.specs.Held.{PassedTo, entryAt, after, pass-first, pass-here, pass-next, pass-last}
 use Rattle.group_writes.specs.declared.changes.Change.{Change}
@@ -69,11 +68,7 @@ free-kept q k es h = go (hasKey k (filter q es)) refl
   where
     go : (b : Bool) → hasKey k (filter q es) ≡ b → b ≡ false
     go false e = refl
-    go true e =
-        let f : any (λ (x : Entry). q x && sameKey (x .key) k) es ≡ true = sym (any-filter q (λ (x : Entry). sameKey (x .key) k) es) ∙ e in
-        let g : hasKey k es ≡ true =
-        any-weaken (λ (x : Entry). q x && sameKey (x .key) k) (λ (x : Entry). sameKey (x .key) k) (λ x g. and-snd (q x) (sameKey (x .key) k) g) es f in
-        absurd (true≢false (sym g ∙ h))
+    go true e = absurd (true≢false (sym (kept-key q k es e) ∙ h))
 
 module _ (c : Change) (cs : List ℕ) (t : Transaction) where
   -- the lines that the changes for the group among these entries leave
