@@ -1,10 +1,15 @@
 # The commands of the README. `make test` is the whole gate.
-.PHONY: test bench differ archive
+.PHONY: test wrong bench differ archive
 
 test:
 	rt fmt --check
 	cd reference && cargo test --release --quiet
+	python3 tests/wrong_definitions/run.py
 	rt ci
+
+# wrong definitions that the theorems must refuse
+wrong:
+	python3 tests/wrong_definitions/run.py
 
 # the engine as an archive for C and Rust
 archive:

@@ -1,0 +1,86 @@
+#!/usr/bin/env python3
+"""Wrong definitions that the theorems must refuse.
+
+A must-fail edit of a crate re-proves that crate alone, and the definitions stand in another crate than the theorems about them. So each edit here is
+applied to a copy of the crates that the recovery theorem stands on, proofs adapted as one would who believed in it, and the copy must be refused
+where the edit says. The cases that the definitions' own crate shows by computation are left out of the copy: they would refuse most edits first.
+
+An edit: comments with `#`; `refused: CRATE NAME`, the first theorem that must be refused; then `file:`, and `old:` and `new:` lines, one line each. `old:` occurs
+once; `every:` instead of `old:` replaces all occurrences.
+"""
+import pathlib
+import re
+import shutil
+import subprocess
+import sys
+
+HERE = pathlib.Path(__file__).resolve().parent
+ROOT = HERE.parent.parent
+TREE = ROOT / "target" / "wrong_definitions"
+CRATES = ["lists", "decimal", "types", "model", "sheet_laws", "call_laws", "recovery"]
+SHOWN_BY_COMPUTATION = ["Cases", "Learners"]
+
+
+def lay_out():
+    """A fresh copy of the crates, without what the build left in an earlier one."""
+    shutil.rmtree(TREE / "crates", ignore_errors=True)
+    for crate in CRATES:
+        shutil.copytree(ROOT / "crates" / crate, TREE / "crates" / crate, ignore=shutil.ignore_patterns("must-fail"))
+    lines = (ROOT / "crates.txt").read_text().splitlines()
+    (TREE / "crates.txt").write_text("\n".join(line for line in lines if line.split(":")[0] in CRATES) + "\n")
+    model = TREE / "crates" / "model" / "specs"
+    lib = (model / "Lib.antt").read_text()
+    for name in SHOWN_BY_COMPUTATION:
+        (model / f"{name}.antt").unlink()
+        lib = lib.replace(f"pub mod {name}\n", "")
+    (model / "Lib.antt").write_text(lib)
+
+
+def apply(edit):
+    """Applies an edit to the copy and returns the crate and the theorem that must refuse it."""
+    refused, path, old, every = None, None, None, False
+    for line in edit.read_text().splitlines():
+        key, _, value = line.partition(": ")
+        if key == "refused":
+            refused = value.split()
+        elif key == "file":
+            path = TREE / "crates" / value
+        elif key in ("old", "every"):
+            old, every = value, key == "every"
+        elif key == "new":
+            text = path.read_text()
+            count = text.count(old)
+            if count == 0 or (count > 1 and not every):
+                sys.exit(f"{edit.name}: `{old}` stands {count} times in {path.name}")
+            path.write_text(text.replace(old, value))
+    return refused
+
+
+def prove():
+    done = subprocess.run(["rt", "check", "recovery"], cwd=TREE, capture_output=True, text=True)
+    return done.returncode, done.stdout + done.stderr
+
+
+def refusals(log):
+    """The theorems that have an error of their own, in order."""
+    return re.findall(r"/crates/(\w+)/\S+: error: `([^`]+)`(?!: `[^`]+` was not admitted)", log)
+
+
+def main():
+    lay_out()
+    status, log = prove()
+    if status != 0:
+        sys.exit("the definitions as they are must be proved:\n" + log[-2000:])
+    for edit in sorted(HERE.glob("*.edit")):
+        lay_out()
+        crate, name = apply(edit)
+        status, log = prove()
+        found = refusals(log)
+        if status == 0 or not found:
+            sys.exit(f"wrong definition {edit.stem}: NOT REFUSED")
+        if (crate, name) != found[0]:
+            sys.exit(f"wrong definition {edit.stem}: refused by {found[0]}, not by {crate} {name}")
+        print(f"wrong definition {edit.stem}: refused by {crate} `{name}`")
+
+
+main()
