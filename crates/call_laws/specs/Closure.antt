@@ -1,19 +1,18 @@
 -- T4: after an accepted call the sheets are good and the transaction that it returns is well formed; after a refused one nothing has changed.
 use Prim.Native.Nat.{ℕ, suc, _+_, _^_, _≤_, _<_}
-use mathlib.Core.Path.{_≡_, refl, sym, ap, _∙_, subst}
+use mathlib.Core.Path.{_≡_, refl, sym, ap, _∙_}
 use mathlib.Core.Bool.{Bool, true, false, _&&_, _||_, not, true≢false}
-use mathlib.Core.List.{List, [], _∷_, map}
-use mathlib.Core.Option.{some, Option·none-ne-some, Option·some-injective}
+use mathlib.Core.List.{List, []}
+use mathlib.Core.Option.{some, Option·none-ne-some}
 use native.Mathlib.Omega.{arith}
 use native.Mathlib.Numerals.{add-one}
 use lib.ListN.{length, take, getD, set}
 use lib.Dec.{eqb, leb}
-use borrow.Author.Tests.{not-true, not-false, eqb-true, eqb-false, le-leb, leb-true, leb-false}
+use borrow.Author.Tests.{not-false, eqb-true, le-leb, leb-false}
 use Rattle.lists.specs.Each.{all}
-use Rattle.lists.specs.All.{all-weaken, all-at}
+use Rattle.lists.specs.All.{all-at}
 use Rattle.lists.specs.Tests.{and-both, tests, choose-by}
 use Rattle.types.specs.declared.AtomicityUnit.{AtomicityUnit}
-use Rattle.types.specs.declared.State.{State}
 use Rattle.types.specs.declared.Key.{Key}
 use Rattle.types.specs.declared.Columns.{Columns}
 use Rattle.types.specs.declared.Entry.{Entry}
@@ -22,26 +21,11 @@ use Rattle.types.specs.declared.Transaction.{Transaction}
 use Rattle.types.specs.declared.Found.{Found}
 use Rattle.types.specs.declared.Recovery.{Recovery}
 use Rattle.types.specs.declared.Recovery.the-variants.{Stays, Forward, Back, Again, Busy}
-use Rattle.model.specs.Records.{byState, isZero, hasLine, lineOf, keyInRange, byFound}
-use Rattle.model.specs.Coordinator.{Coordinator, withIssued}
-use Rattle.model.specs.Refusals.{Condition, refuse, refusalOf}
+use Rattle.model.specs.Records.{isZero, hasLine, lineOf, keyInRange, byFound}
+use Rattle.model.specs.Coordinator.{withIssued}
 use Rattle.model.specs.Transactions.{withdrawPhase, noVerdict, held, noEntry, heldAt, entryAs, withPut, moved, withEntry}
-use Rattle.model.specs.Images.{isPrepared, rolledForward, rolledBack}
-use Rattle.model.specs.Writes.{
-  Sheets,
-  sheetsGood,
-  Write,
-  nothing,
-  issue,
-  decide,
-  commit,
-  prepare,
-  forward,
-  back,
-  lineAfter,
-  decisionsAfter,
-  apply,
-}
+use Rattle.model.specs.Images.{isPrepared, rolledForward}
+use Rattle.model.specs.Writes.{Sheets, sheetsGood, nothing, issue, decisionsAfter, apply}
 use Rattle.model.specs.WellFormed.{
   columnsInRange,
   imageInRange,
@@ -54,139 +38,22 @@ use Rattle.model.specs.WellFormed.{
   wellFormed,
 }
 use Rattle.model.specs.Visits.{meeting, isAgain, isBusy, recovered, recoveryWrite}
-use Rattle.model.specs.Results.{Call, begin, read, put, advance, abort, visit, Result, refused, made, writeOf}
+use Rattle.model.specs.Results.{Call, begin, read, put, advance, abort, visit}
 use Rattle.model.specs.Conditions.{isNew, heldEntry, busy, cannotAbort, conditions}
 use Rattle.model.specs.Steps.{unitsOf, step}
 use Rattle.model.specs.Calls.{newTransaction, readNew, holding, afterPut, beginResult, readResult, putResult, advanceResult, abortResult, visitResult}
-use Rattle.model.specs.Histories.{Answer, returned, visited, answerOf, readAnswered, answer, written, after, returns, ClockFits}
+use Rattle.model.specs.Histories.{returned, visited, readAnswered, answer, written, after, returns, ClockFits}
 use Rattle.sheet_laws.specs.Coordinator.{bounds}
 use Rattle.call_laws.specs.Choices.{by-phase-of, unless-by, not-first, by-meeting}
 use Rattle.call_laws.specs.Keys.{hasKey}
-use Rattle.call_laws.specs.Ranges.{GoodParts, fine, fine-parts}
-use Rattle.call_laws.specs.Images.{when-settled, forward-fine, back-fine}
-use Rattle.call_laws.specs.Lines.{has-line, line-key, has-line-kept, line-of-key, line-passes}
-use Rattle.call_laws.specs.Sheets.{
-  GoodSheets,
-  good-parts,
-  parts-good,
-  Fit,
-  fit-nothing,
-  fit-issue,
-  fit-decide,
-  fit-forward,
-  fit-back,
-  write-closed,
-  decided-issued,
-  decided-units,
-}
-use Rattle.call_laws.specs.Transactions.{Body, Stage, well-formed-parts, parts-well-formed, body-moved, place-at, verdict-at, to-withdraw, stage-open}
+use Rattle.call_laws.specs.Ranges.{GoodParts}
+use Rattle.call_laws.specs.Images.{back-plain, when-settled, forward-fine, back-fine}
+use Rattle.call_laws.specs.Lines.{line-of-key}
+use Rattle.call_laws.specs.Sheets.{GoodSheets, good-parts, parts-good, Fit, fit-nothing, fit-issue, fit-decide, fit-forward, fit-back, write-closed}
+use Rattle.call_laws.specs.Transactions.{Body, Stage, parts-well-formed, body-moved, verdict-at, to-withdraw}
 use Rattle.call_laws.specs.Steps.{Closed, step-closed}
-use Rattle.call_laws.specs.Entries.{found-held, HeldAt, held-by, getD-first, all-more, all-replaced, distinct-more, distinct-replaced}
-
--- What a write leaves of a transaction's rules.
-
-pub issued-grows : (w : Write) (c : Coordinator) → c .issued ≤ decisionsAfter w c .issued
-unfolding decisionsAfter withIssued
-issued-grows nothing c = omega arith
-issued-grows issue c = omega arith
-issued-grows (decide n d) c = omega (arith, decided-issued n d c)
-issued-grows (commit n es) c = omega arith
-issued-grows (prepare n now es) c = omega arith
-issued-grows (forward n ks) c = omega arith
-issued-grows (back n ks) c = omega arith
-
--- units are fixed
-pub units-kept : (w : Write) (c : Coordinator) → decisionsAfter w c .units ≡ c .units
-unfolding decisionsAfter withIssued
-units-kept nothing c = refl
-units-kept issue c = refl
-units-kept (decide n d) c = decided-units n d c
-units-kept (commit n es) c = refl
-units-kept (prepare n now es) c = refl
-units-kept (forward n ks) c = refl
-units-kept (back n ks) c = refl
-
-entry-later : (i j : ℕ) → i ≤ j → (e : Entry) → entryFormed i e ≡ true → entryFormed j e ≡ true
-unfolding entryFormed
-entry-later i j l e h =
-    let a : leb (e .seen .txid) i ≡ true = search tests in
-    let b : e .seen .txid ≤ i = leb-true (e .seen .txid) i a in
-    let c : leb (e .seen .txid) j ≡ true = le-leb (e .seen .txid) j (omega arith) in
-    rw c (rw a at h)
-
-body-after : (s : Sheets) (w : Write) (t : Transaction) → Body s t → Body (apply w s) t
-unfolding apply linesHeld
-body-after s w t b =
-    let g : s .coordinator .issued ≤ decisionsAfter w (s .coordinator) .issued = issued-grows w (s .coordinator) in
-    let k : t .number ≤ s .coordinator .issued = b .known in
-    record {
-      number = b .number;
-      known = omega arith;
-      flag = b .flag;
-      few = b .few;
-      entries =
-          all-weaken (entryFormed (s .coordinator .issued)) (entryFormed (decisionsAfter w (s .coordinator) .issued))
-          (entry-later (s .coordinator .issued) (decisionsAfter w (s .coordinator) .issued) g) (held t) (b .entries);
-      distinct = b .distinct;
-      lines =
-          all-weaken (λ (e : Entry). hasLine (e .key) (s .lines)) (λ (e : Entry). hasLine (e .key) (map (lineAfter w) (s .lines)))
-          (λ e h. has-line-kept (lineAfter w) (line-key w) (e .key) (s .lines) ∙ h) (held t) (b .lines);
-    }
-
-pub formed-after : (s : Sheets) (w : Write) (t : Transaction) → Body s t → Stage (unitsOf s) t → wellFormed (apply w s) t ≡ true
-unfolding apply
-formed-after s w t b g =
-    parts-well-formed (apply w s) t (body-after s w t b)
-    (subst (λ (us : List AtomicityUnit). Stage us t) (sym (units-kept w (s .coordinator))) g)
-
--- What is asked of a call's result.
-pub record Keeps {A : Type 0} (s : Sheets) (f : A → Answer) (r : Result A) : Type 0 where
-  pub fits : Fit s (writeOf r)
-  pub formed : (t : Transaction) → returns (answerOf f r) ≡ some t → wellFormed (apply (writeOf r) s) t ≡ true
-
-keeps-refused : {A : Type 0} (s : Sheets) (f : A → Answer) (n : ℕ) → Keeps s f (refused n)
-unfolding returns
-keeps-refused s f n = record { fits = fit-nothing; formed = λ t e. absurd (Option·none-ne-some t e) }
-
-keeps-made : {A : Type 0} (s : Sheets) (f : A → Answer) (a : A) (w : Write) (t : Transaction) → returns (f a) ≡ some t → Fit s w → wellFormed (apply w s) t ≡ true → Keeps s f (made a w)
-keeps-made s f a w t e g h =
-    record {
-      fits = g;
-      formed = λ u q. ap (wellFormed (apply w s)) (Option·some-injective u t (sym q ∙ e)) ∙ h;
-    }
-
-pub strictly : (m n : ℕ) → m ≤ n → eqb m n ≡ false → m < n
-strictly m n l h = omega (arith, eqb-false m n h)
-
--- an accepted call that takes a transaction takes a well-formed one
-pub taken-parts : (s : Sheets) (t : Transaction) (cs : List Condition) → refusalOf (refuse 3 (not (wellFormed s t)) ∷ cs) ≡ 0 → Body s t × Stage (unitsOf s) t
-taken-parts s t cs z =
-    well-formed-parts s t (not-false (wellFormed s t) (not-first 3 (not (wellFormed s t)) cs (omega arith) z .0))
-
--- the line of a key is a good one
-pub line-good : (s : Sheets) → GoodSheets s → (k : Key) → hasLine k (s .lines) ≡ true → GoodParts (s .coordinator .issued) (lineOf k (s .lines))
-line-good s good k h =
-    fine-parts (s .coordinator .issued) (lineOf k (s .lines))
-    (line-passes (fine (s .coordinator .issued)) k (s .lines) (good .fine-lines) (sym (has-line k (s .lines)) ∙ h))
-
-back-settled : (r : Record) → isPrepared (rolledBack r) ≡ false
-unfolding rolledBack
-back-settled r =
-    choose-by (λ (x : State). byState x false false true ≡ false) (eqb (r .before .version) 0) (λ e. refl) (λ e. refl)
-
-less-than-eight : (n : ℕ) → leb 8 n ≡ false → n < 8
-less-than-eight n h = leb-false 8 n h
-
--- a new key is held by no entry
-pub not-held : (k : Key) (t : Transaction) → isNew k t ≡ true → hasKey k (held t) ≡ false
-unfolding heldAt
-not-held k t n = not-true (hasKey k (held t)) (sym (found-held 0 k (held t)) ∙ n)
-
--- an open transaction stays open with another entry
-open-again : (us : List AtomicityUnit) (t : Transaction) → Stage us t → t .phase ≡ 0 → (n i : ℕ) (e : Entry) → Stage us (withEntry n i e t)
-unfolding placeFormed verdictFormed
-open-again us t g ph n i e =
-    stage-open us (withEntry n i e t) ph (eqb-true (t .place) 0 (place-at us t g 0 ph)) (eqb-true (t .verdict) 0 (verdict-at us t g 0 ph))
+use Rattle.call_laws.specs.Entries.{HeldAt, held-by, getD-first, all-more, all-replaced, distinct-more, distinct-replaced}
+use Rattle.call_laws.specs.Keeping.{Keeps, formed-after, keeps-refused, keeps-made, strictly, taken-parts, line-good, less-than-eight, not-held, open-again}
 
 module _ (s : Sheets) (good : GoodSheets s) where
   -- Begin.
@@ -291,7 +158,7 @@ module _ (s : Sheets) (good : GoodSheets s) where
       (lineOf k (s .lines)) _ _
       (λ p a b. (line-good s good k h, p))
       (λ p d a b. (forward-fine (s .coordinator .issued) (lineOf k (s .lines)) (line-good s good k h) p, refl))
-      (λ p d a b. (back-fine (s .coordinator .issued) (lineOf k (s .lines)) (line-good s good k h) p, back-settled (lineOf k (s .lines))))
+      (λ p d a b. (back-fine (s .coordinator .issued) (lineOf k (s .lines)) (line-good s good k h) p, back-plain (lineOf k (s .lines))))
       (λ p d x a b. absurd (true≢false a))
       (λ p d x a b. absurd (true≢false b))
 

@@ -6,7 +6,7 @@ use mathlib.Core.Bool.{Bool, true, false, _||_, cond, true≢false}
 use native.Mathlib.Omega.{arith}
 use lib.Dec.{eqb, leb}
 use borrow.Author.Tests.{eqb-true, eqb-false, eq-eqb, ne-eqb, le-leb, leb-true}
-use Rattle.lists.specs.Tests.{and-both, tests}
+use Rattle.lists.specs.Tests.{choose-by, and-both, tests}
 use Rattle.lists.specs.Chosen.{or-else, or-right}
 use Rattle.types.specs.declared.State.{State}
 use Rattle.types.specs.declared.State.the-variants.{Absent, Committed, Prepared}
@@ -187,3 +187,13 @@ unfolding rolledBack prepared
 back-is-before n now e r p h =
     let s : Settled r = settled r p h in
     λ i. record { key = r .key; state = s .state i; image = r .image; before = sym (s .before) i; clock = sym (s .clock) i }
+
+-- a rolled record isn't prepared
+pub forward-plain : (r : Record) → isPrepared (rolledForward r) ≡ false
+unfolding rolledForward
+forward-plain r = refl
+
+pub back-plain : (r : Record) → isPrepared (rolledBack r) ≡ false
+unfolding rolledBack
+back-plain r =
+    choose-by (λ (x : State). byState x false false true ≡ false) (eqb (r .before .version) 0) (λ e. refl) (λ e. refl)

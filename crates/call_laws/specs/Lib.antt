@@ -12,5 +12,6 @@ pub mod Sheets
 pub mod Transactions
 pub mod Steps
 pub mod Entries
+pub mod Keeping
 pub mod Closure
 pub mod Lifting

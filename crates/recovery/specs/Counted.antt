@@ -20,7 +20,7 @@ use Rattle.model.specs.Coordinator.{decision}
 use Rattle.model.specs.Writes.{Sheets, Write, nothing, decide, commit, decisionsAfter, apply, isOnePhase}
 use Rattle.model.specs.Histories.{Event, returns, taken, Available}
 use Rattle.model.specs.SequentialModel.{Model, modelCommit, isCommitted}
-use Rattle.call_laws.specs.Closure.{issued-grows}
+use Rattle.call_laws.specs.Keeping.{issued-grows}
 use Rattle.model.specs.Records.{lineOf}
 use Rattle.call_laws.specs.Lines.{listsKey}
 use Rattle.call_laws.specs.Sheets.{GoodSheets}

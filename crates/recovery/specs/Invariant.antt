@@ -23,7 +23,7 @@ use Rattle.model.specs.SequentialModel.{Model}
 use Rattle.call_laws.specs.Lines.{listsKey}
 use Rattle.call_laws.specs.Sheets.{GoodSheets}
 use Rattle.call_laws.specs.Transactions.{well-formed-parts}
-use Rattle.call_laws.specs.Closure.{formed-after}
+use Rattle.call_laws.specs.Keeping.{formed-after}
 use Rattle.sheet_laws.specs.Coordinator.{bounds}
 use Rattle.recovery.specs.Settling.{Gentle}
 use Rattle.recovery.specs.View.{View, gentle-view}

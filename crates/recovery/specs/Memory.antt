@@ -41,16 +41,15 @@ use Rattle.model.specs.Writes.{
   apply,
 }
 use Rattle.model.specs.Steps.{unitsOf}
+use Rattle.call_laws.specs.Images.{forward-plain, back-plain}
 use Rattle.call_laws.specs.Lines.{listsKey}
 use Rattle.call_laws.specs.Sheets.{GoodSheets, MayPutAll}
-use Rattle.call_laws.specs.Closure.{units-kept}
+use Rattle.call_laws.specs.Keeping.{units-kept}
 use Rattle.recovery.specs.Settling.{
   decided-other,
   issued-decision,
   abort-commits-none,
   own-line,
-  forward-plain,
-  back-plain,
   undecided-committed,
   undecided-aborted,
 }

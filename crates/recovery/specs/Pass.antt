@@ -42,11 +42,11 @@ use Rattle.model.specs.SequentialModel.{Model}
 use Rattle.call_laws.specs.Choices.{unless-by, by-meeting}
 use Rattle.sheet_laws.specs.Coordinator.{bounds}
 use Rattle.call_laws.specs.Keys.{same-key, same-key-refl}
-use Rattle.call_laws.specs.Images.{when-prepared}
+use Rattle.call_laws.specs.Images.{forward-plain, back-plain, when-prepared}
 use Rattle.call_laws.specs.Lines.{listsKey, has-line, line-key, lists-kept}
 use Rattle.call_laws.specs.Sheets.{GoodSheets, good-parts, parts-good}
 use Rattle.call_laws.specs.Closure.{sheets-stay-good}
-use Rattle.recovery.specs.Settling.{settle, settled-plain, gentle-nothing, forward-plain, back-plain, decided-own, undecided-aborted}
+use Rattle.recovery.specs.Settling.{settle, settled-plain, gentle-nothing, decided-own, undecided-aborted}
 use Rattle.recovery.specs.View.{View, LineAt, line-at, line-after, gentle-view}
 use Rattle.recovery.specs.Memory.{abort-undecided}
 use Rattle.recovery.specs.Calls.{visit-gentle}

@@ -16,13 +16,13 @@ use Rattle.types.specs.declared.Decision.the-variants.{Undecided, Committed, Ab
 use Rattle.types.specs.declared.Key.{Key}
 use Rattle.types.specs.declared.Entry.{Entry}
 use Rattle.types.specs.declared.Record.{Record}
-use Rattle.model.specs.Records.{byState, lineOf}
+use Rattle.model.specs.Records.{lineOf}
 use Rattle.model.specs.Coordinator.{Coordinator, decisionNumber, decision, withDecision, withIssued}
 use Rattle.model.specs.Images.{isPrepared, preparedBy, prepared, rolledForward, rolledBack, byDecision}
 use Rattle.model.specs.Writes.{Sheets, Write, nothing, issue, decide, prepare, forward, back, entryFor, byEntry, isOf, lineAfter, decisionsAfter}
 use Rattle.model.specs.Visits.{ownerDecision}
 use Rattle.call_laws.specs.Ranges.{GoodParts}
-use Rattle.call_laws.specs.Images.{back-is-before}
+use Rattle.call_laws.specs.Images.{forward-plain, back-plain, back-is-before}
 use Rattle.call_laws.specs.Lines.{listsKey}
 use Rattle.call_laws.specs.Sheets.{MayPutAll}
 
@@ -53,15 +53,6 @@ pub settled-by : (c : Coordinator) (r : Record) (d : Decision) → isPrepared r 
 unfolding settle
 settled-by c r d p e =
     ap₂ (λ (b : Bool) (x : Decision). cond b (byDecision x (rolledBack r) (rolledForward r) (rolledBack r)) r) p e
-
-pub forward-plain : (r : Record) → isPrepared (rolledForward r) ≡ false
-unfolding rolledForward
-forward-plain r = refl
-
-pub back-plain : (r : Record) → isPrepared (rolledBack r) ≡ false
-unfolding rolledBack
-back-plain r =
-    choose-by (λ x. byState x false false true ≡ false) (eqb (r .before .version) 0) (λ e. refl) (λ e. refl)
 
 -- The writes that leave every settled line alone.
 pub data Gentle (s : Sheets) : Write → Type 0 where

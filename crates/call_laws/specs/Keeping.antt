@@ -1,0 +1,132 @@
+-- What a call must keep, and what a write leaves: units, keys, more numbers issued, and with them a transaction's rules.
+use Prim.Native.Nat.{ℕ, _≤_, _<_}
+use mathlib.Core.Path.{_≡_, refl, sym, ap, _∙_, subst}
+use mathlib.Core.Bool.{true, false, not}
+use mathlib.Core.List.{List, _∷_, map}
+use mathlib.Core.Option.{some, Option·none-ne-some, Option·some-injective}
+use native.Mathlib.Omega.{arith}
+use lib.Dec.{eqb, leb}
+use borrow.Author.Tests.{not-true, not-false, eqb-true, eqb-false, le-leb, leb-true, leb-false}
+use Rattle.lists.specs.All.{all-weaken}
+use Rattle.lists.specs.Tests.{tests}
+use Rattle.types.specs.declared.AtomicityUnit.{AtomicityUnit}
+use Rattle.types.specs.declared.Key.{Key}
+use Rattle.types.specs.declared.Entry.{Entry}
+use Rattle.types.specs.declared.Transaction.{Transaction}
+use Rattle.model.specs.Records.{hasLine, lineOf}
+use Rattle.model.specs.Coordinator.{Coordinator, withIssued}
+use Rattle.model.specs.Refusals.{Condition, refuse, refusalOf}
+use Rattle.model.specs.Transactions.{held, heldAt, withEntry}
+use Rattle.model.specs.Writes.{Sheets, Write, nothing, issue, decide, commit, prepare, forward, back, lineAfter, decisionsAfter, apply}
+use Rattle.model.specs.WellFormed.{entryFormed, placeFormed, verdictFormed, linesHeld, wellFormed}
+use Rattle.model.specs.Results.{Result, refused, made, writeOf}
+use Rattle.model.specs.Conditions.{isNew}
+use Rattle.model.specs.Steps.{unitsOf}
+use Rattle.model.specs.Histories.{Answer, answerOf, returns}
+use Rattle.call_laws.specs.Choices.{not-first}
+use Rattle.call_laws.specs.Keys.{hasKey}
+use Rattle.call_laws.specs.Ranges.{GoodParts, fine, fine-parts}
+use Rattle.call_laws.specs.Lines.{has-line, line-key, has-line-kept, line-passes}
+use Rattle.call_laws.specs.Sheets.{GoodSheets, Fit, fit-nothing, decided-issued, decided-units}
+use Rattle.call_laws.specs.Transactions.{Body, Stage, well-formed-parts, parts-well-formed, place-at, verdict-at, stage-open}
+use Rattle.call_laws.specs.Entries.{found-held}
+
+-- What a write leaves of a transaction's rules.
+
+pub issued-grows : (w : Write) (c : Coordinator) → c .issued ≤ decisionsAfter w c .issued
+unfolding decisionsAfter withIssued
+issued-grows nothing c = omega arith
+issued-grows issue c = omega arith
+issued-grows (decide n d) c = omega (arith, decided-issued n d c)
+issued-grows (commit n es) c = omega arith
+issued-grows (prepare n now es) c = omega arith
+issued-grows (forward n ks) c = omega arith
+issued-grows (back n ks) c = omega arith
+
+-- units are fixed
+pub units-kept : (w : Write) (c : Coordinator) → decisionsAfter w c .units ≡ c .units
+unfolding decisionsAfter withIssued
+units-kept nothing c = refl
+units-kept issue c = refl
+units-kept (decide n d) c = decided-units n d c
+units-kept (commit n es) c = refl
+units-kept (prepare n now es) c = refl
+units-kept (forward n ks) c = refl
+units-kept (back n ks) c = refl
+
+entry-later : (i j : ℕ) → i ≤ j → (e : Entry) → entryFormed i e ≡ true → entryFormed j e ≡ true
+unfolding entryFormed
+entry-later i j l e h =
+    let a : leb (e .seen .txid) i ≡ true = search tests in
+    let b : e .seen .txid ≤ i = leb-true (e .seen .txid) i a in
+    let c : leb (e .seen .txid) j ≡ true = le-leb (e .seen .txid) j (omega arith) in
+    rw c (rw a at h)
+
+body-after : (s : Sheets) (w : Write) (t : Transaction) → Body s t → Body (apply w s) t
+unfolding apply linesHeld
+body-after s w t b =
+    let g : s .coordinator .issued ≤ decisionsAfter w (s .coordinator) .issued = issued-grows w (s .coordinator) in
+    let k : t .number ≤ s .coordinator .issued = b .known in
+    record {
+      number = b .number;
+      known = omega arith;
+      flag = b .flag;
+      few = b .few;
+      entries =
+          all-weaken (entryFormed (s .coordinator .issued)) (entryFormed (decisionsAfter w (s .coordinator) .issued))
+          (entry-later (s .coordinator .issued) (decisionsAfter w (s .coordinator) .issued) g) (held t) (b .entries);
+      distinct = b .distinct;
+      lines =
+          all-weaken (λ (e : Entry). hasLine (e .key) (s .lines)) (λ (e : Entry). hasLine (e .key) (map (lineAfter w) (s .lines)))
+          (λ e h. has-line-kept (lineAfter w) (line-key w) (e .key) (s .lines) ∙ h) (held t) (b .lines);
+    }
+
+pub formed-after : (s : Sheets) (w : Write) (t : Transaction) → Body s t → Stage (unitsOf s) t → wellFormed (apply w s) t ≡ true
+unfolding apply
+formed-after s w t b g =
+    parts-well-formed (apply w s) t (body-after s w t b)
+    (subst (λ (us : List AtomicityUnit). Stage us t) (sym (units-kept w (s .coordinator))) g)
+
+-- What is asked of a call's result.
+pub record Keeps {A : Type 0} (s : Sheets) (f : A → Answer) (r : Result A) : Type 0 where
+  pub fits : Fit s (writeOf r)
+  pub formed : (t : Transaction) → returns (answerOf f r) ≡ some t → wellFormed (apply (writeOf r) s) t ≡ true
+
+pub keeps-refused : {A : Type 0} (s : Sheets) (f : A → Answer) (n : ℕ) → Keeps s f (refused n)
+unfolding returns
+keeps-refused s f n = record { fits = fit-nothing; formed = λ t e. absurd (Option·none-ne-some t e) }
+
+pub keeps-made : {A : Type 0} (s : Sheets) (f : A → Answer) (a : A) (w : Write) (t : Transaction) → returns (f a) ≡ some t → Fit s w → wellFormed (apply w s) t ≡ true → Keeps s f (made a w)
+keeps-made s f a w t e g h =
+    record {
+      fits = g;
+      formed = λ u q. ap (wellFormed (apply w s)) (Option·some-injective u t (sym q ∙ e)) ∙ h;
+    }
+
+pub strictly : (m n : ℕ) → m ≤ n → eqb m n ≡ false → m < n
+strictly m n l h = omega (arith, eqb-false m n h)
+
+-- an accepted call that takes a transaction takes a well-formed one
+pub taken-parts : (s : Sheets) (t : Transaction) (cs : List Condition) → refusalOf (refuse 3 (not (wellFormed s t)) ∷ cs) ≡ 0 → Body s t × Stage (unitsOf s) t
+taken-parts s t cs z =
+    well-formed-parts s t (not-false (wellFormed s t) (not-first 3 (not (wellFormed s t)) cs (omega arith) z .0))
+
+-- the line of a key is a good one
+pub line-good : (s : Sheets) → GoodSheets s → (k : Key) → hasLine k (s .lines) ≡ true → GoodParts (s .coordinator .issued) (lineOf k (s .lines))
+line-good s good k h =
+    fine-parts (s .coordinator .issued) (lineOf k (s .lines))
+    (line-passes (fine (s .coordinator .issued)) k (s .lines) (good .fine-lines) (sym (has-line k (s .lines)) ∙ h))
+
+pub less-than-eight : (n : ℕ) → leb 8 n ≡ false → n < 8
+less-than-eight n h = leb-false 8 n h
+
+-- a new key is held by no entry
+pub not-held : (k : Key) (t : Transaction) → isNew k t ≡ true → hasKey k (held t) ≡ false
+unfolding heldAt
+not-held k t n = not-true (hasKey k (held t)) (sym (found-held 0 k (held t)) ∙ n)
+
+-- an open transaction stays open with another entry
+pub open-again : (us : List AtomicityUnit) (t : Transaction) → Stage us t → t .phase ≡ 0 → (n i : ℕ) (e : Entry) → Stage us (withEntry n i e t)
+unfolding placeFormed verdictFormed
+open-again us t g ph n i e =
+    stage-open us (withEntry n i e t) ph (eqb-true (t .place) 0 (place-at us t g 0 ph)) (eqb-true (t .verdict) 0 (verdict-at us t g 0 ph))
