@@ -4,7 +4,7 @@ ghost use mathlib.Core.Bool.{not, cond};
 ghost use Prim.Native.Nat.{_+_, _≤_, _<_};
 ghost use lib.ListN.{length, getD};
 ghost use Rattle.model.specs.Transactions as model;
-ghost use Rattle.model.specs.Transactions.{isEmpty, puts, toValidate, mustValidate, noEntry, heldAt};
+ghost use Rattle.model.specs.Transactions.{isEmpty, puts, toValidate, mustValidate, noEntry, heldAt, withEntry};
 ghost use Rattle.model.specs.Calls.{newTransaction};
 ghost use Rattle.protocol.specs.Held.{entryAt};
 use crate::keys;
@@ -185,4 +185,15 @@ pub fn to_validate(t: Transaction, place: u32) -> Entry
         }
     }
     NO_ENTRY
+}
+
+// The transaction with the first n entries in use, and e at place i.
+pub fn with_entry(n: u32, i: usize, e: Entry, t: Transaction) -> Transaction
+    requires { ⌜ i < 8 ⌝ }
+    ensures { λ r. ⌜ r ≡ withEntry n i e t ⌝ }
+{
+    let mut u = t;
+    u.count = n;
+    u.entries[i] = e;
+    u
 }

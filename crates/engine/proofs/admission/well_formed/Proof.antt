@@ -1,0 +1,46 @@
+-- The letters of the head are the units of the decoded sheet.
+use mathlib.Core.Path.{sym, _∙_}
+use native.Mathlib.Omega.{arith}
+use borrow.Author.Tests.{not-true, not-false}
+use borrow.Author.Needs.{needs}
+use Rattle.sheet_laws.specs.Decisions.{accepted-length}
+use Rattle.engine.specs.Admission.{well-formed-few, well-formed-not, well-formed-lines}
+use Rattle.engine.proofs.admission.well_formed.Statement.{statement}
+use Rattle.engine.proofs.admission.well_formed.Tie as tie
+
+issued-requires : tie.Need-issued-requires
+issued-requires c κs = search needs
+
+sub-formed : tie.Need-sub-formed
+sub-formed c = search needs
+
+part-formed-start : tie.Need-part-formed-start
+part-formed-start c = search needs
+
+part-formed-end : tie.Need-part-formed-end
+part-formed-end c = let l = accepted-length (c .before .before .before .args .coordinator .now) (c .before .before .before .pre .decisions) in omega arith
+
+formed-requires : tie.Need-formed-requires
+formed-requires c κs = search needs
+
+returns : tie.Need-returns
+returns c = well-formed-not (c .before .before .before .before .before .before .args .t) (c .before .before .before .before .before .before .args .records .now) (c .before .before .before .before .before .before .args .coordinator .now) (c .before .before .before .before .before .before .pre) _ (c .before .before .before .issued .ensures) (sym (c .before .formed .ensures) ∙ not-true _ (c .if1 .taken))
+
+lines-held-requires : tie.Need-lines-held-requires
+lines-held-requires c κs = (c .before .before .before .before .before .before .pre .lines, well-formed-few (c .before .before .before .before .before .before .args .t) (c .before .before .before .before .before .before .args .records .now) (c .before .before .before .before .before .before .args .coordinator .now) (c .before .before .before .before .before .before .pre) _ (c .before .before .before .issued .ensures) (sym (c .before .formed .ensures) ∙ not-false _ (c .if1 .left)))
+
+returns-2 : tie.Need-returns-2
+returns-2 c = c .lines-held .ensures ∙ well-formed-lines (c .before .before .before .before .before .before .before .args .t) (c .before .before .before .before .before .before .before .args .records .now) (c .before .before .before .before .before .before .before .args .coordinator .now) (c .before .before .before .before .before .before .before .pre) _ (c .before .before .before .before .issued .ensures) (sym (c .before .before .formed .ensures) ∙ not-false _ (c .before .if1 .left))
+
+pub well-formed-spec : {M : Type 1} → statement M
+well-formed-spec =
+    tie.close
+    (tie.spec
+    issued-requires
+    sub-formed
+    part-formed-start
+    part-formed-end
+    formed-requires
+    returns
+    lines-held-requires
+    returns-2)

@@ -1,0 +1,105 @@
+-- By what the visit came to: nothing written, one line, or one decision.
+use borrow.Author.Needs.{needs}
+use Rattle.model.specs.Visits.{recoveryWrite}
+use Rattle.engine.specs.Recovering.{pending, settle-forward, settle-back, settle-again}
+use Rattle.engine.specs.Outcomes.{written-nothing}
+use Rattle.engine.proofs.recover.settle.Statement.{statement}
+use Rattle.engine.proofs.recover.settle.Tie as tie
+
+record-at-requires : tie.Need-record-at-requires
+record-at-requires c κs = search needs
+
+enum-told : tie.Need-enum-told
+enum-told c = search needs
+
+enum-told-2 : tie.Need-enum-told-2
+enum-told-2 c = search needs
+
+rolled-forward-requires : tie.Need-rolled-forward-requires
+rolled-forward-requires c κs = search needs
+
+set-record-requires : tie.Need-set-record-requires
+set-record-requires c κs = search needs
+
+enum-told-3 : tie.Need-enum-told-3
+enum-told-3 c = search needs
+
+rolled-back-requires : tie.Need-rolled-back-requires
+rolled-back-requires c κs = search needs
+
+set-record-requires-2 : tie.Need-set-record-requires-2
+set-record-requires-2 c κs = search needs
+
+enum-told-4 : tie.Need-enum-told-4
+enum-told-4 c = search needs
+
+set-decision-requires : tie.Need-set-decision-requires
+set-decision-requires c κs = search needs
+
+enum-told-5 : tie.Need-enum-told-5
+enum-told-5 c = search needs
+
+same-length : tie.Need-same-length
+same-length c = search needs
+
+returns : tie.Need-returns
+unfolding recoveryWrite
+returns c = rw (c .enum-told .given .1) (written-nothing (c .before .before .before .before .before .before .args .records .now) (c .before .before .before .before .before .before .args .coordinator .now) (c .before .before .before .before .before .before .pre .0 .accepted))
+
+same-length-2 : tie.Need-same-length-2
+same-length-2 c = search needs
+
+returns-2 : tie.Need-returns-2
+unfolding recoveryWrite pending
+returns-2 c = rw (c .before .before .before .before .before .enum-told2 .given .1) (settle-forward (c .before .before .before .before .before .before .before .before .before .before .before .args .records .now) (c .before .before .before .before .before .before .before .before .before .before .before .args .coordinator .now) (c .before .before .before .before .before .before .before .before .before .before .before .args .i) (c .before .before .before .before .before .before .before .before .before .before .before .pre .0) (rw (c .before .before .before .before .before .enum-told2 .given .1) at (c .before .before .before .before .before .before .before .before .before .before .before .pre .1)) (rw (c .before .before .before .rolled-forward .ensures, c .before .before .before .before .before .before .before .record-at .ensures) at (c .before .before .set-record .ensures)))
+
+same-length-3 : tie.Need-same-length-3
+same-length-3 c = search needs
+
+returns-3 : tie.Need-returns-3
+unfolding recoveryWrite pending
+returns-3 c = rw (c .before .before .before .before .before .enum-told3 .given .1) (settle-back (c .before .before .before .before .before .before .before .before .before .before .before .args .records .now) (c .before .before .before .before .before .before .before .before .before .before .before .args .coordinator .now) (c .before .before .before .before .before .before .before .before .before .before .before .args .i) (c .before .before .before .before .before .before .before .before .before .before .before .pre .0) (rw (c .before .before .before .before .before .enum-told3 .given .1) at (c .before .before .before .before .before .before .before .before .before .before .before .pre .1)) (rw (c .before .before .before .rolled-back .ensures, c .before .before .before .before .before .before .before .record-at .ensures) at (c .before .before .set-record2 .ensures)))
+
+same-length-4 : tie.Need-same-length-4
+same-length-4 c = search needs
+
+same-length-5 : tie.Need-same-length-5
+same-length-5 c = search needs
+
+returns-4 : tie.Need-returns-4
+unfolding recoveryWrite pending
+returns-4 c = rw (c .before .before .before .before .enum-told4 .given .1) (settle-again (c .before .before .before .before .before .before .before .before .before .before .args .records .now) (c .before .before .before .before .before .before .before .before .before .before .args .coordinator .now) (c .before .before .before .before .before .before .before .before .before .before .args .i) (c .before .before .before .before .before .before .before .before .before .before .pre .0) (rw (c .before .before .before .before .enum-told4 .given .1) at (c .before .before .before .before .before .before .before .before .before .before .pre .1)) (rw (c .before .before .before .before .before .before .record-at .ensures) at (c .before .before .set-decision .ensures)))
+
+same-length-6 : tie.Need-same-length-6
+same-length-6 c = search needs
+
+returns-5 : tie.Need-returns-5
+unfolding recoveryWrite
+returns-5 c = rw (c .enum-told5 .given .1) (written-nothing (c .before .before .before .before .before .before .args .records .now) (c .before .before .before .before .before .before .args .coordinator .now) (c .before .before .before .before .before .before .pre .0 .accepted))
+
+pub settle-spec : {M : Type 1} → statement M
+settle-spec =
+    tie.close
+    (tie.spec
+    record-at-requires
+    enum-told
+    enum-told-2
+    rolled-forward-requires
+    set-record-requires
+    enum-told-3
+    rolled-back-requires
+    set-record-requires-2
+    enum-told-4
+    set-decision-requires
+    enum-told-5
+    same-length
+    returns
+    same-length-2
+    returns-2
+    same-length-3
+    returns-3
+    same-length-4
+    same-length-5
+    returns-4
+    same-length-6
+    returns-5)

@@ -1,0 +1,31 @@
+// Giving a transaction up before it is decided.
+ghost use mathlib.Core.Path.{_≡_};
+ghost use Rattle.model.specs.ByteCalls.{abortOn};
+ghost use Rattle.engine.specs.Answers.{stepped};
+use crate::Stepped;
+use crate::admission;
+use protocol::transactions;
+use types::Transaction;
+
+pub fn abort(t: Transaction, records: &[u8], coordinator: &[u8]) -> Stepped
+    ensures { λ r. ⌜ r ≡ stepped t (abortOn t (now (records .entry)) (now (coordinator .entry))) ⌝ }
+{
+    let refused = admission::admission(t, records, coordinator);
+    if refused != 0 {
+        return Stepped {
+            refusal: refused,
+            transaction: t,
+        };
+    }
+    if 3 < t.phase {
+        return Stepped {
+            refusal: 4,
+            transaction: t,
+        };
+    }
+    let withdrawn = transactions::moved(4, 0, t.verdict, t);
+    Stepped {
+        refusal: 0,
+        transaction: withdrawn,
+    }
+}

@@ -1,0 +1,53 @@
+// Meeting a line: what a visit of it comes to, and what it writes.
+ghost use mathlib.Core.Path.{_≡_};
+ghost use mathlib.Core.Bool.{true};
+ghost use Rattle.model.specs.Coordinator.{coordinatorOf};
+ghost use Rattle.model.specs.Visits.{meeting, recoveryWrite};
+ghost use Rattle.engine.specs.Outcomes.{Written};
+ghost use Rattle.engine.specs.Recovering.{lineAt, Standing, Pending, Recovered};
+use types::Decision;
+use types::Record;
+use types::Recovery;
+
+// What a visit of the line at place i comes to.
+fn meet(i: usize, clock: u32, records: &[u8], coordinator: &[u8]) -> Recovery
+    ensures { λ v. ⌜ v ≡ meeting clock (coordinatorOf (now (coordinator .entry))) (lineAt (now (records .entry)) i) ⌝ }
+{
+    let r = codec::records::record_at(records, i);
+    let owner = codec::coordinator::decision_at(coordinator, r.image.txid);
+    protocol::images::recovery(r, owner, protocol::images::line_expired(clock, r))
+}
+
+// What the visit writes: that line alone, or the decision of its owner.
+fn settle(v: Recovery, i: usize, records: &mut [u8], coordinator: &mut [u8])
+    requires { ⌜ Standing (now records) (now coordinator) i ⌝ }
+    requires { ⌜ Pending v (lineAt (now records) i) ⌝ }
+    ensures { λ u. ⌜ Written (recoveryWrite v (lineAt (now (records .entry)) i)) (now (records .entry)) (now (coordinator .entry)) (now (records .exit)) (now (coordinator .exit)) ⌝ }
+{
+    let r = codec::records::record_at(records, i);
+    match v {
+        Recovery::Stays => {}
+        Recovery::Forward => codec::records::set_record(
+            records,
+            i,
+            protocol::images::rolled_forward(r),
+        ),
+        Recovery::Back => codec::records::set_record(records, i, protocol::images::rolled_back(r)),
+        Recovery::Again => codec::coordinator::set_decision(
+            coordinator,
+            r.image.txid,
+            Decision::Aborted,
+        ),
+        Recovery::Busy => {}
+    }
+}
+
+// Visits the line at place i; one that is busy stays as it is.
+pub fn recover(i: usize, clock: u32, records: &mut [u8], coordinator: &mut [u8]) -> Recovery
+    requires { ⌜ Standing (now records) (now coordinator) i ⌝ }
+    ensures { λ v. ⌜ Recovered clock i (now (records .entry)) (now (coordinator .entry)) v (now (records .exit)) (now (coordinator .exit)) ⌝ }
+{
+    let v = meet(i, clock, records, coordinator);
+    settle(v, i, records, coordinator);
+    v
+}
