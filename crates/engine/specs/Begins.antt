@@ -22,7 +22,7 @@ use Rattle.model.specs.ByteCalls.{sheetsOf, beginOn, recordsAfter}
 use Rattle.sheet_laws.specs.Coordinator.{bounds}
 use Rattle.sheet_laws.specs.Decisions.{length-decisions, accepted-length}
 use Rattle.call_laws.specs.Choices.{unless-by}
-use Rattle.call_laws.specs.Closure.{strictly}
+use Rattle.call_laws.specs.Keeping.{strictly}
 use Rattle.call_laws.specs.Places.{count-raised}
 use Rattle.engine.specs.Answers.{begun}
 use Rattle.engine.specs.Outcomes.{Written, Accepted, accepted, turned-away, let-pass, lines-kept}

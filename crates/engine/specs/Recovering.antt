@@ -33,7 +33,7 @@ use Rattle.call_laws.specs.Keys.{same-key-refl, same-key-flip}
 use Rattle.call_laws.specs.Ranges.{GoodParts, parts-fine}
 use Rattle.call_laws.specs.Images.{when-prepared, forward-fine, back-fine}
 use Rattle.call_laws.specs.Lines.{has-line, line-key}
-use Rattle.call_laws.specs.Closure.{line-good}
+use Rattle.call_laws.specs.Keeping.{line-good}
 use Rattle.call_laws.specs.Places.{FoundAt, atKey, set-at-key, line-replaced, decision-replaced}
 use Rattle.group_writes.specs.Lookup.{found-at}
 use Rattle.engine.specs.Outcomes.{Written, Outcome, outcome-made, Accepted, lines-kept, decisions-kept, written-nothing}
