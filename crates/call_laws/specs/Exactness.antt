@@ -8,7 +8,7 @@ use native.Mathlib.Omega.{arith}
 use lib.Dec.{eqb, leb}
 use borrow.Author.Tests.{eqb-true, eq-eqb, ne-eqb, le-leb, leb-true}
 use Rattle.lists.specs.Each.{all, any}
-use Rattle.lists.specs.Tests.{and-fst, and-snd, and-both}
+use Rattle.lists.specs.Tests.{and-fst, and-snd, and-both, choose-by}
 use Rattle.types.specs.declared.Record.{Record}
 use Rattle.types.specs.declared.Transaction.{Transaction}
 use Rattle.types.specs.declared.Recovery.{Recovery}
@@ -174,3 +174,27 @@ refused-unchanged (put t k c) b l = unmoved returned (λ a. refl) b _ l
 refused-unchanged (advance t now) b l = unmoved returned (λ a. refl) b _ l
 refused-unchanged (abort t) b l = unmoved returned (λ a. refl) b _ l
 refused-unchanged (visit k now) b l = unmoved visited (λ a. refl) b _ l
+
+-- no number is above 12
+pub small : (cs : List Condition) → all (λ (c : Condition). leb (c .number) 12) cs ≡ true → refusalOf cs ≤ 12
+unfolding all refusalOf
+small [] h = omega arith
+small (c ∷ cs) h =
+    choose-by (λ (n : ℕ). n ≤ 12) (c .holds)
+    (λ e. leb-true (c .number) 12 (and-fst (leb (c .number) 12) _ h))
+    (λ e. small cs (and-snd (leb (c .number) 12) (all (λ (x : Condition). leb (x .number) 12) cs) h))
+
+small-row : (call : Call) (rs cs : List ℕ) → all (λ (c : Condition). leb (c .number) 12) (allConditions call rs cs) ≡ true
+unfolding all allConditions checkConditions conditions
+small-row (begin b) rs cs = refl
+small-row (read t k now) rs cs = refl
+small-row (put t k c) rs cs = refl
+small-row (advance t now) rs cs = refl
+small-row (abort t) rs cs = refl
+small-row (visit k now) rs cs = refl
+
+pub refusal-small : (call : Call) (b : Bytes) → refusalIn (answerOn call b) ≤ 12
+refusal-small call b =
+    let e : refusalIn (answerOn call b) ≡ refusalOf (allConditions call (b .records) (b .coordinator)) = refusal-given call b in
+    let l : refusalOf (allConditions call (b .records) (b .coordinator)) ≤ 12 = small (allConditions call (b .records) (b .coordinator)) (small-row call (b .records) (b .coordinator)) in
+    omega arith

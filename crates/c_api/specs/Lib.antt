@@ -1,0 +1,2 @@
+-- The answers of what is exported for C.
+pub mod Numbers
