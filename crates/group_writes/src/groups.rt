@@ -1,11 +1,13 @@
-// The group at a transaction's place, among its entries.
+// The groups of a transaction's puts: how many, and the one at its place, among its entries.
 ghost use mathlib.Core.Path.{_≡_};
 ghost use mathlib.Core.Bool.{true};
 ghost use Prim.Native.Nat.{_≤_, _<_};
 ghost use Rattle.lists.specs.Each.{all};
 ghost use Rattle.model.specs.Records.{recordsAccepted};
 ghost use Rattle.model.specs.Records as sheet;
-ghost use Rattle.model.specs.Coordinator.{coordinatorAccepted};
+ghost use Rattle.model.specs.Coordinator.{coordinatorOf, coordinatorAccepted};
+ghost use Rattle.model.specs.Transactions.{puts};
+ghost use Rattle.model.specs.Groups.{groupCount};
 ghost use Rattle.model.specs.Steps.{holds, groupAt};
 ghost use Rattle.model.specs.ByteCalls.{sheetsOf};
 ghost use Rattle.protocol.specs.Held.{entryAt};
@@ -22,6 +24,14 @@ pub fn in_group(coordinator: &[u8], t: Transaction, e: Entry) -> bool
     ensures { λ r. ⌜ r ≡ ofGroup (now (coordinator .entry)) t e ⌝ }
 {
     groups::in_group(&coordinator[5..14], t, e, t.place)
+}
+
+// How many groups the puts make.
+pub fn group_count(coordinator: &[u8], t: Transaction) -> u32
+    requires { ⌜ (coordinatorAccepted (now coordinator) ≡ true) × (t .count ≤ 8) ⌝ }
+    ensures { λ r. ⌜ r ≡ groupCount (coordinatorOf (now (coordinator .entry)) .units) (puts t) ⌝ }
+{
+    groups::group_count(&coordinator[5..14], t)
 }
 
 // The condition of entry i holds, unless it is of another group.

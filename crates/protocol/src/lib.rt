@@ -2,5 +2,6 @@
 pub mod groups;
 pub mod images;
 mod keys;
+pub mod stages;
 pub mod transactions;
 pub mod well_formed;

@@ -1,0 +1,61 @@
+// The transaction that a step returns, where no sheet has to be looked at.
+ghost use mathlib.Core.Path.{_≡_};
+ghost use Prim.Native.Nat.{_≤_, _<_};
+ghost use lib.ListN.{length};
+ghost use Rattle.model.specs.Transactions.{toValidate};
+ghost use Rattle.model.specs.Steps as model;
+ghost use Rattle.model.specs.Steps.{to, afterPrepare, nextEntry};
+use crate::transactions;
+use types::Transaction;
+
+// To another phase, with the verdict as it is.
+pub fn to_phase(phase: u32, t: Transaction) -> Transaction
+    ensures { λ r. ⌜ r ≡ to phase t .transaction ⌝ }
+{
+    transactions::moved(phase, 0, t.verdict, t)
+}
+
+// To done, committed.
+pub fn commits(t: Transaction) -> Transaction
+    ensures { λ r. ⌜ r ≡ model.commits t ⌝ }
+{
+    transactions::moved(7, 0, 1, t)
+}
+
+// The phase after the last group is prepared: validate if there is an entry to validate, else decide.
+pub fn after_prepare(t: Transaction) -> u32
+    requires { ⌜ t .count ≤ 8 ⌝ }
+    ensures { λ r. ⌜ r ≡ afterPrepare t ⌝ }
+{
+    if transactions::validates(t) {
+        return 2;
+    }
+    3
+}
+
+// Past a validated entry: to the next, after the last to decide, or to done, committed, without puts.
+pub fn next_entry(t: Transaction) -> Transaction
+    requires { ⌜ (t .count ≤ 8) × (t .place < length (toValidate t)) ⌝ }
+    ensures { λ r. ⌜ r ≡ nextEntry t ⌝ }
+{
+    let count = transactions::validate_count(t);
+    let next = t.place + 1;
+    if next < count {
+        return transactions::moved(2, next, t.verdict, t);
+    }
+    if !transactions::has_puts(t) {
+        return commits(t);
+    }
+    to_phase(3, t)
+}
+
+// To undo, or to done without puts; aborted either way.
+pub fn withdrawn(t: Transaction) -> Transaction
+    requires { ⌜ t .count ≤ 8 ⌝ }
+    ensures { λ r. ⌜ r ≡ model.withdrawn t ⌝ }
+{
+    if !transactions::has_puts(t) {
+        return transactions::moved(7, 0, 2, t);
+    }
+    transactions::moved(6, 0, 2, t)
+}

@@ -1,0 +1,23 @@
+-- The group's lines are written, and the next group comes.
+use borrow.Author.Needs.{needs}
+use Rattle.steps.specs.Ready.{coordinator-accepted, few, may-write, place-undo}
+use Rattle.steps.specs.Stepped.{wrote-back}
+use Rattle.model.specs.Steps.{undoStep}
+use Rattle.steps.proofs.phases.undo.Statement.{statement}
+use Rattle.steps.proofs.phases.undo.Tie as tie
+
+back-group-requires : tie.Need-back-group-requires
+back-group-requires c κs = may-write _ _ _ (c .before .before .before .pre .0)
+
+next-group-requires : tie.Need-next-group-requires
+next-group-requires c κs = (coordinator-accepted _ _ _ (c .before .before .before .before .before .before .pre .0), (few _ _ _ (c .before .before .before .before .before .before .pre .0), place-undo _ _ _ (c .before .before .before .before .before .before .pre .0) (c .before .before .before .before .before .before .pre .1)))
+
+same-length : tie.Need-same-length
+same-length c = search needs
+
+returns : tie.Need-returns
+unfolding undoStep
+returns c = wrote-back _ _ (coordinator-accepted _ _ _ (c .before .before .before .before .before .before .before .pre .0)) _ _ _ (c .next-group .ensures _) _ _ (c .before .before .before .back-group .ensures)
+
+pub undo-spec : {M : Type 1} → statement M
+undo-spec = tie.close (tie.spec back-group-requires next-group-requires same-length returns)

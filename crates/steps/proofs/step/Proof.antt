@@ -1,0 +1,117 @@
+-- By the phase; in done, or in no phase, nothing is done.
+use mathlib.Core.Path.{refl}
+use borrow.Author.Needs.{needs}
+use Rattle.steps.specs.Ready.{records-accepted, coordinator-accepted, few, known, place-validate}
+use Rattle.steps.specs.Stepped.{wrote-nothing}
+use Rattle.steps.specs.Cases.{stepped-as, step-at, step-none}
+use Rattle.steps.proofs.step.Statement.{statement}
+use Rattle.steps.proofs.step.Tie as tie
+
+open-requires : tie.Need-open-requires
+open-requires c κs = c .before .before .before .before .before .pre
+
+prepare-requires : tie.Need-prepare-requires
+prepare-requires c κs = (c .before .before .before .before .before .pre, c .before .before .match .keys2)
+
+validate-requires : tie.Need-validate-requires
+validate-requires c κs = (records-accepted _ _ _ (c .before .before .before .before .pre), (few _ _ _ (c .before .before .before .before .pre), place-validate _ _ _ (c .before .before .before .before .pre) (c .before .match .keys3)))
+
+decide-requires : tie.Need-decide-requires
+decide-requires c κs = known _ _ _ (c .before .before .before .before .pre)
+
+withdraw-requires : tie.Need-withdraw-requires
+withdraw-requires c κs = known _ _ _ (c .before .before .before .before .pre)
+
+finish-requires : tie.Need-finish-requires
+finish-requires c κs = (c .before .before .before .before .before .pre, c .before .before .match .keys6)
+
+undo-requires : tie.Need-undo-requires
+undo-requires c κs = (c .before .before .before .before .before .pre, c .before .before .match .keys7)
+
+same-length : tie.Need-same-length
+same-length c = search needs
+
+same-length-2 : tie.Need-same-length-2
+same-length-2 c = search needs
+
+returns : tie.Need-returns
+returns c = stepped-as (step-at _ _ _ 0 (c .before .before .before .before .before .match .keys1)) (c .before .before .«open» .ensures)
+
+same-length-3 : tie.Need-same-length-3
+same-length-3 c = search needs
+
+same-length-4 : tie.Need-same-length-4
+same-length-4 c = search needs
+
+returns-2 : tie.Need-returns-2
+returns-2 c = stepped-as (step-at _ _ _ 1 (c .before .before .before .before .before .match .keys2)) (c .before .before .prepare .ensures)
+
+same-length-5 : tie.Need-same-length-5
+same-length-5 c = search needs
+
+returns-3 : tie.Need-returns-3
+returns-3 c = stepped-as (step-at _ _ _ 2 (c .before .before .match .keys3)) (c .validate .ensures .beside _ (coordinator-accepted _ _ _ (c .before .before .before .before .before .pre)))
+
+same-length-6 : tie.Need-same-length-6
+same-length-6 c = search needs
+
+returns-4 : tie.Need-returns-4
+returns-4 c = stepped-as (step-at _ _ _ 3 (c .before .before .before .before .match .keys4)) (c .before .before .decide .ensures .beside _ (records-accepted _ _ _ (c .before .before .before .before .before .before .before .pre)))
+
+same-length-7 : tie.Need-same-length-7
+same-length-7 c = search needs
+
+returns-5 : tie.Need-returns-5
+returns-5 c = stepped-as (step-at _ _ _ 4 (c .before .before .before .before .match .keys5)) (c .before .before .withdraw .ensures .beside _ (records-accepted _ _ _ (c .before .before .before .before .before .before .before .pre)))
+
+same-length-8 : tie.Need-same-length-8
+same-length-8 c = search needs
+
+same-length-9 : tie.Need-same-length-9
+same-length-9 c = search needs
+
+returns-6 : tie.Need-returns-6
+returns-6 c = stepped-as (step-at _ _ _ 5 (c .before .before .before .before .before .match .keys6)) (c .before .before .finish .ensures)
+
+same-length-10 : tie.Need-same-length-10
+same-length-10 c = search needs
+
+same-length-11 : tie.Need-same-length-11
+same-length-11 c = search needs
+
+returns-7 : tie.Need-returns-7
+returns-7 c = stepped-as (step-at _ _ _ 6 (c .before .before .before .before .before .match .keys7)) (c .before .before .undo .ensures)
+
+returns-8 : tie.Need-returns-8
+returns-8 c = stepped-as (step-none _ _ _ (c .match .rest)) (wrote-nothing _ _ (records-accepted _ _ _ (c .before .before .before .pre)) (coordinator-accepted _ _ _ (c .before .before .before .pre)) _ _ refl)
+
+pub step-spec : {M : Type 1} → statement M
+step-spec =
+    tie.close
+    (tie.spec
+    open-requires
+    prepare-requires
+    validate-requires
+    decide-requires
+    withdraw-requires
+    finish-requires
+    undo-requires
+    same-length
+    same-length-2
+    returns
+    same-length-3
+    same-length-4
+    returns-2
+    same-length-5
+    returns-3
+    same-length-6
+    returns-4
+    same-length-7
+    returns-5
+    same-length-8
+    same-length-9
+    returns-6
+    same-length-10
+    same-length-11
+    returns-7
+    returns-8)

@@ -1,0 +1,98 @@
+-- What a step leaves: the transaction, and both sheets as its write leaves them. A sheet that the write does not change is the text of what it says.
+use Prim.Native.Nat.{ℕ, zero, suc, _+_, _*_, _/_, _≤_, _<_}
+use mathlib.Core.Path.{_≡_, refl, sym, ap, _∙_}
+use mathlib.Core.Bool.{Bool, true, cond}
+use mathlib.Core.List.{List, map}
+use native.Mathlib.Omega.{arith}
+use lib.ListN.{length, drop}
+use lib.Dec.{leb}
+use borrow.Author.Tests.{le-leb}
+use Rattle.lists.specs.All.{map-unmoved}
+use Rattle.lists.specs.Pieces.{over}
+use Rattle.lists.specs.Tests.{and-both}
+use Rattle.types.specs.declared.Decision.{Decision}
+use Rattle.types.specs.declared.Entry.{Entry}
+use Rattle.types.specs.declared.Key.{Key}
+use Rattle.types.specs.declared.Record.{Record}
+use Rattle.types.specs.declared.Transaction.{Transaction}
+use Rattle.model.specs.Records.{records, recordsText, recordsAccepted}
+use Rattle.model.specs.Coordinator.{coordinatorOf, coordinatorText, coordinatorAccepted, withDecision}
+use Rattle.model.specs.Writes.{Sheets, Write, nothing, decide, commit, prepare, forward, back, lineAfter, decisionsAfter, apply}
+use Rattle.model.specs.Steps.{Step}
+use Rattle.model.specs.ByteCalls.{sheetsOf}
+use Rattle.sheet_laws.specs.Records.{sheet-written-read}
+use Rattle.sheet_laws.specs.Coordinator.{decisionText, coordinator-written-read, bounds}
+use Rattle.sheet_laws.specs.Decisions.{accepted-parts, length-decisions}
+use Rattle.call_laws.specs.Places.{decision-replaced}
+use Rattle.codec.specs.Parts.{hasLine}
+use Rattle.steps.specs.Ready.{Known}
+
+pub record Stepped (s : Sheets) (x : Step) (t : Transaction) (rs cs : List ℕ) : Type 0 where
+  pub transaction : t ≡ x .transaction
+  pub records : rs ≡ recordsText (apply (x .write) s .lines)
+  pub coordinator : cs ≡ coordinatorText (apply (x .write) s .coordinator)
+
+-- a step that looks at the record sheet only and writes nothing, whatever accepted coordinator sheet lies beside it
+pub record ByRecords (f : Sheets → Step) (rs : List ℕ) (t : Transaction) : Type 0 where
+  pub beside : (cs : List ℕ) → coordinatorAccepted cs ≡ true → Stepped (sheetsOf rs cs) (f (sheetsOf rs cs)) t rs cs
+
+-- a step that looks at the coordinator sheet only, whatever accepted record sheet lies beside it
+pub record ByCoordinator (f : Sheets → Step) (cs : List ℕ) (t : Transaction) (cs′ : List ℕ) : Type 0 where
+  pub beside : (rs : List ℕ) → recordsAccepted rs ≡ true → Stepped (sheetsOf rs cs) (f (sheetsOf rs cs)) t rs cs′
+
+-- a write that changes no line
+lines-stay : (w : Write) (rs : List ℕ) → ((r : Record) → lineAfter w r ≡ r) → recordsAccepted rs ≡ true → rs ≡ recordsText (map (lineAfter w) (records rs))
+lines-stay w rs h a =
+    sym (ap recordsText (map-unmoved (lineAfter w) h (records rs)) ∙ sheet-written-read rs a)
+
+module _ (rs cs : List ℕ) where
+  -- nothing is written
+  pub wrote-nothing : recordsAccepted rs ≡ true → coordinatorAccepted cs ≡ true → (t u : Transaction) → u ≡ t → Stepped (sheetsOf rs cs) (record { transaction = t; write = nothing }) u rs cs
+  unfolding apply lineAfter decisionsAfter
+  wrote-nothing a b t u e =
+      record {
+        transaction = e;
+        records = lines-stay nothing rs (λ r. refl) a;
+        coordinator = sym (coordinator-written-read cs b);
+      }
+
+  -- the lines of a group
+  module _ (b : coordinatorAccepted cs ≡ true) (t u : Transaction) (rs′ : List ℕ) (e : u ≡ t) where
+    pub wrote-commit : (n : ℕ) (es : List Entry) → rs′ ≡ recordsText (map (lineAfter (commit n es)) (records rs)) → Stepped (sheetsOf rs cs) (record { transaction = t; write = commit n es }) u rs′ cs
+    unfolding apply decisionsAfter
+    wrote-commit n es r =
+        record { transaction = e; records = r; coordinator = sym (coordinator-written-read cs b) }
+
+    pub wrote-prepare : (n now : ℕ) (es : List Entry) → rs′ ≡ recordsText (map (lineAfter (prepare n now es)) (records rs)) → Stepped (sheetsOf rs cs) (record { transaction = t; write = prepare n now es }) u rs′ cs
+    unfolding apply decisionsAfter
+    wrote-prepare n now es r =
+        record { transaction = e; records = r; coordinator = sym (coordinator-written-read cs b) }
+
+    pub wrote-forward : (n : ℕ) (ks : List Key) → rs′ ≡ recordsText (map (lineAfter (forward n ks)) (records rs)) → Stepped (sheetsOf rs cs) (record { transaction = t; write = forward n ks }) u rs′ cs
+    unfolding apply decisionsAfter
+    wrote-forward n ks r =
+        record { transaction = e; records = r; coordinator = sym (coordinator-written-read cs b) }
+
+    pub wrote-back : (n : ℕ) (ks : List Key) → rs′ ≡ recordsText (map (lineAfter (back n ks)) (records rs)) → Stepped (sheetsOf rs cs) (record { transaction = t; write = back n ks }) u rs′ cs
+    unfolding apply decisionsAfter
+    wrote-back n ks r =
+        record { transaction = e; records = r; coordinator = sym (coordinator-written-read cs b) }
+
+  -- the line of a number that has been issued
+  set-line : (n : ℕ) (d : Decision) → coordinatorAccepted cs ≡ true → 1 ≤ n → n ≤ coordinatorOf cs .issued → cond (hasLine n cs) (over cs (n * 15) (decisionText n d)) cs ≡ coordinatorText (withDecision n d (coordinatorOf cs))
+  set-line zero d a l m = absurd (omega arith)
+  set-line (suc i) d a l m =
+      let b = bounds (coordinatorOf cs) (accepted-parts cs a .good) in
+      let most : coordinatorOf cs .issued ≤ length (coordinatorOf cs .decisions) = b .issued in
+      let count : length (coordinatorOf cs .decisions) ≡ length (drop 15 cs) / 15 = length-decisions cs in
+      let h : hasLine (suc i) cs ≡ true = and-both (le-leb 1 (suc i) (omega arith)) (le-leb (suc i) (length (drop 15 cs) / 15) (omega arith)) in
+      rw h (decision-replaced cs i d a (omega arith) .0)
+
+  pub wrote-decision : (t u v : Transaction) (d : Decision) (cs′ : List ℕ) → recordsAccepted rs ≡ true → Known cs v → u ≡ t → cs′ ≡ cond (hasLine (v .number) cs) (over cs (v .number * 15) (decisionText (v .number) d)) cs → Stepped (sheetsOf rs cs) (record { transaction = t; write = decide (v .number) d }) u rs cs′
+  unfolding apply lineAfter decisionsAfter
+  wrote-decision t u v d cs′ a k e w =
+      record {
+        transaction = e;
+        records = lines-stay (decide (v .number) d) rs (λ r. refl) a;
+        coordinator = w ∙ set-line (v .number) d (k .accepted) (k .number) (k .issued);
+      }

@@ -1,0 +1,146 @@
+// What an advance does in each phase. A phase is lent only the sheets that it looks at.
+ghost use mathlib.Core.Path.{_≡_};
+ghost use mathlib.Core.Bool.{true};
+ghost use mathlib.Core.List.{List};
+ghost use Prim.Native.Nat.{ℕ, _≤_, _<_};
+ghost use lib.ListN.{length};
+ghost use Rattle.model.specs.Records.{recordsAccepted};
+ghost use Rattle.model.specs.Coordinator.{coordinatorOf, coordinatorAccepted};
+ghost use Rattle.model.specs.Transactions.{puts, toValidate};
+ghost use Rattle.model.specs.Groups.{groupCount};
+ghost use Rattle.model.specs.Steps.{onePhaseAllowed, openStep, onePhase, nextGroup, prepareStep, validateStep, decideStep, withdrawStep, finishStep, undoStep};
+ghost use Rattle.model.specs.ByteCalls.{sheetsOf};
+ghost use Rattle.steps.specs.Ready.{Ready, Known};
+ghost use Rattle.steps.specs.Stepped.{Stepped, ByRecords, ByCoordinator};
+use group_writes::changes;
+use group_writes::groups;
+use group_writes::lines;
+use protocol::stages;
+use protocol::transactions;
+use types::Decision;
+use types::Transaction;
+
+// One group, and not serializable.
+fn one_phase_allowed(t: Transaction, coordinator: &[u8]) -> bool
+    requires { ⌜ (coordinatorAccepted (now coordinator) ≡ true) × (t .count ≤ 8) ⌝ }
+    ensures { λ r. ⌜ ((rs : List ℕ) → r ≡ onePhaseAllowed t (sheetsOf rs (now (coordinator .entry)))) ⌝ }
+{
+    (groups::group_count(coordinator, t) == 1) & !(t.serializable == 1)
+}
+
+// The only group committed if its conditions hold.
+fn one_phase(t: Transaction, records: &mut [u8], coordinator: &[u8]) -> Transaction
+    requires { ⌜ Ready (now records) (now coordinator) t ⌝ }
+    ensures { λ r. ⌜ Stepped (sheetsOf (now (records .entry)) (now (coordinator .entry))) (onePhase t (sheetsOf (now (records .entry)) (now (coordinator .entry)))) r (now (records .exit)) (now (coordinator .entry)) ⌝ }
+{
+    if !groups::group_holds(records, coordinator, t) {
+        return stages::to_phase(4, t);
+    }
+    changes::commit_group(t, records, coordinator);
+    stages::commits(t)
+}
+
+// Only one phase writes here.
+pub fn open(t: Transaction, records: &mut [u8], coordinator: &[u8]) -> Transaction
+    requires { ⌜ Ready (now records) (now coordinator) t ⌝ }
+    ensures { λ r. ⌜ Stepped (sheetsOf (now (records .entry)) (now (coordinator .entry))) (openStep t (sheetsOf (now (records .entry)) (now (coordinator .entry)))) r (now (records .exit)) (now (coordinator .entry)) ⌝ }
+{
+    if !transactions::has_puts(t) {
+        if !transactions::validates(t) {
+            return stages::commits(t);
+        }
+        return stages::to_phase(2, t);
+    }
+    if !one_phase_allowed(t, coordinator) {
+        return stages::to_phase(1, t);
+    }
+    one_phase(t, records, coordinator)
+}
+
+// To the next group, or after the last to another phase.
+fn next_group(after: u32, t: Transaction, coordinator: &[u8]) -> Transaction
+    requires { ⌜ (coordinatorAccepted (now coordinator) ≡ true) × ((t .count ≤ 8) × (t .place < groupCount (coordinatorOf (now coordinator) .units) (puts t))) ⌝ }
+    ensures { λ r. ⌜ ((rs : List ℕ) → r ≡ nextGroup after t (sheetsOf rs (now (coordinator .entry)))) ⌝ }
+{
+    let count = groups::group_count(coordinator, t);
+    let next = t.place + 1;
+    if next < count {
+        return transactions::moved(t.phase, next, t.verdict, t);
+    }
+    stages::to_phase(after, t)
+}
+
+// The group prepared if its conditions hold; if one fails, nothing is written.
+pub fn prepare(t: Transaction, clock: u32, records: &mut [u8], coordinator: &[u8]) -> Transaction
+    requires { ⌜ Ready (now records) (now coordinator) t ⌝ }
+    requires { ⌜ t .phase ≡ 1 ⌝ }
+    ensures { λ r. ⌜ Stepped (sheetsOf (now (records .entry)) (now (coordinator .entry))) (prepareStep t clock (sheetsOf (now (records .entry)) (now (coordinator .entry)))) r (now (records .exit)) (now (coordinator .entry)) ⌝ }
+{
+    if !groups::group_holds(records, coordinator, t) {
+        return stages::to_phase(4, t);
+    }
+    changes::prepare_group(t, clock, records, coordinator);
+    next_group(stages::after_prepare(t), t, coordinator)
+}
+
+// One entry without a put.
+pub fn validate(t: Transaction, records: &[u8]) -> Transaction
+    requires { ⌜ (recordsAccepted (now records) ≡ true) × ((t .count ≤ 8) × (t .place < length (toValidate t))) ⌝ }
+    ensures { λ r. ⌜ ByRecords (validateStep t) (now (records .entry)) r ⌝ }
+{
+    let e = transactions::to_validate(t, t.place);
+    if !lines::holds(records, e) {
+        return stages::to_phase(4, t);
+    }
+    stages::next_entry(t)
+}
+
+// The commit point: the transaction's own line, if no one has aborted it.
+pub fn decide(t: Transaction, coordinator: &mut [u8]) -> Transaction
+    requires { ⌜ Known (now coordinator) t ⌝ }
+    ensures { λ r. ⌜ ByCoordinator (decideStep t) (now (coordinator .entry)) r (now (coordinator .exit)) ⌝ }
+{
+    match codec::coordinator::decision_at(coordinator, t.number) {
+        Decision::Undecided => {
+            codec::coordinator::set_decision(coordinator, t.number, Decision::Committed);
+            transactions::moved(5, 0, 1, t)
+        }
+        Decision::Committed => t,
+        Decision::Aborted => transactions::moved(6, 0, 2, t),
+    }
+}
+
+// The transaction aborted on its own line, if it is undecided.
+pub fn withdraw(t: Transaction, coordinator: &mut [u8]) -> Transaction
+    requires { ⌜ Known (now coordinator) t ⌝ }
+    ensures { λ r. ⌜ ByCoordinator (withdrawStep t) (now (coordinator .entry)) r (now (coordinator .exit)) ⌝ }
+{
+    match codec::coordinator::decision_at(coordinator, t.number) {
+        Decision::Undecided => {
+            codec::coordinator::set_decision(coordinator, t.number, Decision::Aborted);
+            stages::withdrawn(t)
+        }
+        Decision::Committed => t,
+        Decision::Aborted => stages::withdrawn(t),
+    }
+}
+
+// What the transaction has prepared in the group rolled forward.
+pub fn finish(t: Transaction, records: &mut [u8], coordinator: &[u8]) -> Transaction
+    requires { ⌜ Ready (now records) (now coordinator) t ⌝ }
+    requires { ⌜ t .phase ≡ 5 ⌝ }
+    ensures { λ r. ⌜ Stepped (sheetsOf (now (records .entry)) (now (coordinator .entry))) (finishStep t (sheetsOf (now (records .entry)) (now (coordinator .entry)))) r (now (records .exit)) (now (coordinator .entry)) ⌝ }
+{
+    changes::forward_group(t, records, coordinator);
+    next_group(7, t, coordinator)
+}
+
+// What the transaction has prepared in the group rolled back.
+pub fn undo(t: Transaction, records: &mut [u8], coordinator: &[u8]) -> Transaction
+    requires { ⌜ Ready (now records) (now coordinator) t ⌝ }
+    requires { ⌜ t .phase ≡ 6 ⌝ }
+    ensures { λ r. ⌜ Stepped (sheetsOf (now (records .entry)) (now (coordinator .entry))) (undoStep t (sheetsOf (now (records .entry)) (now (coordinator .entry)))) r (now (records .exit)) (now (coordinator .entry)) ⌝ }
+{
+    changes::back_group(t, records, coordinator);
+    next_group(7, t, coordinator)
+}
