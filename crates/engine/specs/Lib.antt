@@ -6,5 +6,6 @@ pub mod Begins
 pub mod Visiting
 pub mod Admission
 pub mod Aborting
+pub mod Advancing
 pub mod Putting
 pub mod Fetching

@@ -1,6 +1,7 @@
 // The calls on two lent sheets. A refusal leaves both sheets as they were.
 pub mod abort;
 mod admission;
+pub mod advance;
 pub mod begin;
 pub mod put;
 pub mod read;

@@ -1,0 +1,74 @@
+-- Case by case in the order of the refusals; an accepted call is the step of its phase.
+use Rattle.types.specs.declared.Decision.{Decision}
+use Rattle.engine.specs.Answers.{stepped}
+use Rattle.engine.specs.Outcomes.{outcome-refused}
+use Rattle.engine.specs.Admission.{admitted}
+use Rattle.engine.specs.Advancing.{forbids, advance-away, advance-forbidden, step-ready, step-outcome}
+use Prim.Native.Nat.{_-_}
+use mathlib.Core.Path.{refl, sym, ap, _∙_}
+use borrow.Author.Needs.{needs}
+use Rattle.engine.proofs.advance.advance.Statement.{statement}
+use Rattle.engine.proofs.advance.advance.Tie as tie
+use Rattle.engine.proofs.advance.advance.Reads as reads
+use Rattle.engine.proofs.advance.advance.Lts as lts
+use Rattle.codec.proofs.coordinator.decision_at.Reads as decision-at-reads
+use Rattle.engine.proofs.admission.admission.Reads as admission-reads
+use Rattle.engine.proofs.advance.forbids.Reads as forbids-reads
+use Rattle.steps.proofs.step.Reads as step-reads
+
+admission-requires : tie.Need-admission-requires
+admission-requires c κs = search needs
+
+same-length : tie.Need-same-length
+same-length c = search needs
+
+same-length-2 : tie.Need-same-length-2
+same-length-2 c = search needs
+
+returns : tie.Need-returns
+returns c = let o = outcome-refused (stepped (c .before .before .before .before .before .before .args .t)) (c .before .before .before .before .before .before .args .records .now) (c .before .before .before .before .before .before .args .coordinator .now) _ (advance-away (c .before .before .before .before .before .before .args .t) (c .before .before .before .before .before .before .args .clock) (c .before .before .before .before .before .before .args .records .now) (c .before .before .before .before .before .before .args .coordinator .now) _ (c .before .admission .ensures) (c .if1 .taken)) refl in (o .said, (o .lines, o .decisions))
+
+decision-at-requires : tie.Need-decision-at-requires
+decision-at-requires c κs = search needs
+
+forbids-requires : tie.Need-forbids-requires
+forbids-requires c κs = search needs
+
+same-length-3 : tie.Need-same-length-3
+same-length-3 c = search needs
+
+same-length-4 : tie.Need-same-length-4
+same-length-4 c = search needs
+
+returns-2 : tie.Need-returns-2
+returns-2 c = let o = outcome-refused (stepped (c .before .before .before .before .before .before .before .before .before .before .args .t)) (c .before .before .before .before .before .before .before .before .before .before .args .records .now) (c .before .before .before .before .before .before .before .before .before .before .args .coordinator .now) 4 (advance-forbidden (c .before .before .before .before .before .before .before .before .before .before .args .t) (c .before .before .before .before .before .before .before .before .before .before .args .clock) (c .before .before .before .before .before .before .before .before .before .before .args .records .now) (c .before .before .before .before .before .before .before .before .before .before .args .coordinator .now) (admitted (c .before .before .before .before .before .before .before .before .before .before .args .t) (c .before .before .before .before .before .before .before .before .before .before .args .records .now) (c .before .before .before .before .before .before .before .before .before .before .args .coordinator .now) (sym (c .before .before .before .before .before .admission .ensures) ∙ c .before .before .before .before .if1 .left)) (ap (λ (d : Decision). forbids (c .before .before .before .before .before .before .before .before .before .before .args .t .phase) d) (sym (c .before .before .decision-at .ensures)) ∙ (sym (c .before .forbids .ensures) ∙ c .if2 .taken))) refl in (o .said, (o .lines, o .decisions))
+
+step-requires : tie.Need-step-requires
+step-requires c κs = step-ready (c .before .before .before .before .before .before .before .before .before .before .before .before .args .t) (c .before .before .before .before .before .before .before .before .before .before .before .before .args .clock) (c .before .before .before .before .before .before .before .before .before .before .before .before .args .records .now) (c .before .before .before .before .before .before .before .before .before .before .before .before .args .coordinator .now) (admitted (c .before .before .before .before .before .before .before .before .before .before .before .before .args .t) (c .before .before .before .before .before .before .before .before .before .before .before .before .args .records .now) (c .before .before .before .before .before .before .before .before .before .before .before .before .args .coordinator .now) (sym (c .before .before .before .before .before .before .before .admission .ensures) ∙ c .before .before .before .before .before .before .if1 .left))
+
+same-length-5 : tie.Need-same-length-5
+same-length-5 c = search needs
+
+same-length-6 : tie.Need-same-length-6
+same-length-6 c = search needs
+
+returns-3 : tie.Need-returns-3
+returns-3 c = let o = step-outcome (c .before .before .before .before .before .before .before .before .before .before .before .before .before .before .before .before .before .args .t) (c .before .before .before .before .before .before .before .before .before .before .before .before .before .before .before .before .before .args .clock) (c .before .before .before .before .before .before .before .before .before .before .before .before .before .before .before .before .before .args .records .now) (c .before .before .before .before .before .before .before .before .before .before .before .before .before .before .before .before .before .args .coordinator .now) (admitted (c .before .before .before .before .before .before .before .before .before .before .before .before .before .before .before .before .before .args .t) (c .before .before .before .before .before .before .before .before .before .before .before .before .before .before .before .before .before .args .records .now) (c .before .before .before .before .before .before .before .before .before .before .before .before .before .before .before .before .before .args .coordinator .now) (sym (c .before .before .before .before .before .before .before .before .before .before .before .before .admission .ensures) ∙ c .before .before .before .before .before .before .before .before .before .before .before .if1 .left)) (ap (λ (d : Decision). forbids (c .before .before .before .before .before .before .before .before .before .before .before .before .before .before .before .before .before .args .t .phase) d) (sym (c .before .before .before .before .before .before .before .before .before .decision-at .ensures)) ∙ (sym (c .before .before .before .before .before .before .before .before .forbids .ensures) ∙ c .before .before .before .before .before .before .before .if2 .left)) (c .before .before .before .before .step .ensures) in (o .said, (o .lines, o .decisions))
+
+pub advance-spec : {M : Type 1} → statement M
+advance-spec =
+    tie.close
+    (tie.spec
+    admission-requires
+    same-length
+    same-length-2
+    returns
+    decision-at-requires
+    forbids-requires
+    same-length-3
+    same-length-4
+    returns-2
+    step-requires
+    same-length-5
+    same-length-6
+    returns-3)
