@@ -8,6 +8,25 @@ ghost use Rattle.model.specs.Steps.{to, afterPrepare, nextEntry};
 use crate::transactions;
 use types::Transaction;
 
+// The phases that a step leads to, and the verdicts.
+pub const PREPARE: u32 = 1;
+
+pub const VALIDATE: u32 = 2;
+
+pub const DECIDE: u32 = 3;
+
+pub const WITHDRAW: u32 = 4;
+
+pub const FINISH: u32 = 5;
+
+pub const UNDO: u32 = 6;
+
+pub const DONE: u32 = 7;
+
+pub const COMMITTED: u32 = 1;
+
+pub const ABORTED: u32 = 2;
+
 // To another phase, with the verdict as it is.
 pub fn to_phase(phase: u32, t: Transaction) -> Transaction
     ensures { λ r. ⌜ r ≡ to phase t .transaction ⌝ }
@@ -19,7 +38,7 @@ pub fn to_phase(phase: u32, t: Transaction) -> Transaction
 pub fn commits(t: Transaction) -> Transaction
     ensures { λ r. ⌜ r ≡ model.commits t ⌝ }
 {
-    transactions::moved(7, 0, 1, t)
+    transactions::moved(DONE, 0, COMMITTED, t)
 }
 
 // The phase after the last group is prepared: validate if there is an entry to validate, else decide.
@@ -28,9 +47,9 @@ pub fn after_prepare(t: Transaction) -> u32
     ensures { λ r. ⌜ r ≡ afterPrepare t ⌝ }
 {
     if transactions::validates(t) {
-        return 2;
+        return VALIDATE;
     }
-    3
+    DECIDE
 }
 
 // Past a validated entry: to the next, after the last to decide, or to done, committed, without puts.
@@ -41,12 +60,12 @@ pub fn next_entry(t: Transaction) -> Transaction
     let count = transactions::validate_count(t);
     let next = t.place + 1;
     if next < count {
-        return transactions::moved(2, next, t.verdict, t);
+        return transactions::moved(VALIDATE, next, t.verdict, t);
     }
     if !transactions::has_puts(t) {
         return commits(t);
     }
-    to_phase(3, t)
+    to_phase(DECIDE, t)
 }
 
 // To undo, or to done without puts; aborted either way.
@@ -55,7 +74,7 @@ pub fn withdrawn(t: Transaction) -> Transaction
     ensures { λ r. ⌜ r ≡ model.withdrawn t ⌝ }
 {
     if !transactions::has_puts(t) {
-        return transactions::moved(7, 0, 2, t);
+        return transactions::moved(DONE, 0, ABORTED, t);
     }
-    transactions::moved(6, 0, 2, t)
+    transactions::moved(UNDO, 0, ABORTED, t)
 }

@@ -1,23 +1,23 @@
 -- What the refusals have let pass, in the parts that each phase asks for: accepted bytes, and of a well-formed transaction its body, and its place by its phase.
 use Prim.Native.Nat.{ℕ, _≤_, _<_}
-use mathlib.Core.Path.{_≡_}
+use mathlib.Core.Path.{_≡_, refl, sym, _∙_}
 use mathlib.Core.Bool.{true}
 use mathlib.Core.List.{List}
 use lib.ListN.{length}
+use lib.Dec.{ltb}
 use borrow.Author.Tests.{ltb-true}
 use Rattle.types.specs.declared.Transaction.{Transaction}
 use Rattle.model.specs.Records.{recordsAccepted}
 use Rattle.model.specs.Coordinator.{coordinatorOf, coordinatorAccepted}
-use Rattle.model.specs.Transactions.{toValidate, held, puts}
+use Rattle.model.specs.Transactions.{toValidate, held, puts, moved}
 use Rattle.model.specs.Groups.{groupCount}
 use Rattle.model.specs.WellFormed.{wellFormed, placeFormed}
-use Rattle.model.specs.Steps.{groupsOf}
 use Rattle.model.specs.ByteCalls.{sheetsOf}
 use Rattle.call_laws.specs.Transactions.{Body, Stage, well-formed-parts, place-at}
 use Rattle.call_laws.specs.Lifting.{Passing, passing-parts}
 use Rattle.group_writes.specs.Ready.{Ready as MayWrite}
 
--- refusals 1 to 3
+-- what refusals 1 to 3 let pass
 pub record Ready (rs cs : List ℕ) (t : Transaction) : Type 0 where
   pub passing : Passing (record { records = rs; coordinator = cs })
   pub formed : wellFormed (sheetsOf rs cs) t ≡ true
@@ -57,22 +57,27 @@ module _ (rs cs : List ℕ) (t : Transaction) (ready : Ready rs cs t) where
         few = few;
       }
 
-  -- in prepare, finish and undo there is a group at the place, in validate an entry
-  abbrev InGroups : Type 0
+  -- Where there is a place, it is below a number.
+
+  place-below : (p n : ℕ) → placeFormed (coordinatorOf cs .units) (moved p (t .place) (t .verdict) t) ≡ ltb (t .place) n → t .phase ≡ p → t .place < n
+  place-below p n h e =
+      ltb-true (t .place) n (sym h ∙ place-at (coordinatorOf cs .units) t stage p e)
+
+  abbrev pub InGroups : Type 0
   InGroups = t .place < groupCount (coordinatorOf cs .units) (puts t)
 
   pub place-prepare : t .phase ≡ 1 → InGroups
   unfolding placeFormed puts held
-  place-prepare e = ltb-true (t .place) (groupCount (coordinatorOf cs .units) (puts t)) (place-at (coordinatorOf cs .units) t stage 1 e)
+  place-prepare e = place-below 1 (groupCount (coordinatorOf cs .units) (puts t)) refl e
 
   pub place-validate : t .phase ≡ 2 → t .place < length (toValidate t)
   unfolding placeFormed toValidate held
-  place-validate e = ltb-true (t .place) (length (toValidate t)) (place-at (coordinatorOf cs .units) t stage 2 e)
+  place-validate e = place-below 2 (length (toValidate t)) refl e
 
   pub place-finish : t .phase ≡ 5 → InGroups
   unfolding placeFormed puts held
-  place-finish e = ltb-true (t .place) (groupCount (coordinatorOf cs .units) (puts t)) (place-at (coordinatorOf cs .units) t stage 5 e)
+  place-finish e = place-below 5 (groupCount (coordinatorOf cs .units) (puts t)) refl e
 
   pub place-undo : t .phase ≡ 6 → InGroups
   unfolding placeFormed puts held
-  place-undo e = ltb-true (t .place) (groupCount (coordinatorOf cs .units) (puts t)) (place-at (coordinatorOf cs .units) t stage 6 e)
+  place-undo e = place-below 6 (groupCount (coordinatorOf cs .units) (puts t)) refl e

@@ -1,23 +1,20 @@
 -- What a step leaves: the transaction, and both sheets as its write leaves them. A sheet that the write does not change is the text of what it says.
-use Prim.Native.Nat.{ℕ, zero, suc, _+_, _*_, _/_, _≤_, _<_}
+use Prim.Native.Nat.{ℕ, zero, suc, _*_, _/_, _≤_}
 use mathlib.Core.Path.{_≡_, refl, sym, ap, _∙_}
-use mathlib.Core.Bool.{Bool, true, cond}
+use mathlib.Core.Bool.{true, cond}
 use mathlib.Core.List.{List, map}
 use native.Mathlib.Omega.{arith}
 use lib.ListN.{length, drop}
-use lib.Dec.{leb}
 use borrow.Author.Tests.{le-leb}
 use Rattle.lists.specs.All.{map-unmoved}
 use Rattle.lists.specs.Pieces.{over}
 use Rattle.lists.specs.Tests.{and-both}
 use Rattle.types.specs.declared.Decision.{Decision}
-use Rattle.types.specs.declared.Entry.{Entry}
-use Rattle.types.specs.declared.Key.{Key}
 use Rattle.types.specs.declared.Record.{Record}
 use Rattle.types.specs.declared.Transaction.{Transaction}
 use Rattle.model.specs.Records.{records, recordsText, recordsAccepted}
 use Rattle.model.specs.Coordinator.{coordinatorOf, coordinatorText, coordinatorAccepted, withDecision}
-use Rattle.model.specs.Writes.{Sheets, Write, nothing, decide, commit, prepare, forward, back, lineAfter, decisionsAfter, apply}
+use Rattle.model.specs.Writes.{Sheets, Write, nothing, decide, lineAfter, decisionsAfter, apply}
 use Rattle.model.specs.Steps.{Step}
 use Rattle.model.specs.ByteCalls.{sheetsOf}
 use Rattle.sheet_laws.specs.Records.{sheet-written-read}
@@ -56,27 +53,15 @@ module _ (rs cs : List ℕ) where
         coordinator = sym (coordinator-written-read cs b);
       }
 
-  -- the lines of a group
-  module _ (b : coordinatorAccepted cs ≡ true) (t u : Transaction) (rs′ : List ℕ) (e : u ≡ t) where
-    pub wrote-commit : (n : ℕ) (es : List Entry) → rs′ ≡ recordsText (map (lineAfter (commit n es)) (records rs)) → Stepped (sheetsOf rs cs) (record { transaction = t; write = commit n es }) u rs′ cs
-    unfolding apply decisionsAfter
-    wrote-commit n es r =
-        record { transaction = e; records = r; coordinator = sym (coordinator-written-read cs b) }
-
-    pub wrote-prepare : (n now : ℕ) (es : List Entry) → rs′ ≡ recordsText (map (lineAfter (prepare n now es)) (records rs)) → Stepped (sheetsOf rs cs) (record { transaction = t; write = prepare n now es }) u rs′ cs
-    unfolding apply decisionsAfter
-    wrote-prepare n now es r =
-        record { transaction = e; records = r; coordinator = sym (coordinator-written-read cs b) }
-
-    pub wrote-forward : (n : ℕ) (ks : List Key) → rs′ ≡ recordsText (map (lineAfter (forward n ks)) (records rs)) → Stepped (sheetsOf rs cs) (record { transaction = t; write = forward n ks }) u rs′ cs
-    unfolding apply decisionsAfter
-    wrote-forward n ks r =
-        record { transaction = e; records = r; coordinator = sym (coordinator-written-read cs b) }
-
-    pub wrote-back : (n : ℕ) (ks : List Key) → rs′ ≡ recordsText (map (lineAfter (back n ks)) (records rs)) → Stepped (sheetsOf rs cs) (record { transaction = t; write = back n ks }) u rs′ cs
-    unfolding apply decisionsAfter
-    wrote-back n ks r =
-        record { transaction = e; records = r; coordinator = sym (coordinator-written-read cs b) }
+  -- the lines of a group, by a write that leaves the coordinator alone
+  pub wrote-lines : (w : Write) → decisionsAfter w (coordinatorOf cs) ≡ coordinatorOf cs → coordinatorAccepted cs ≡ true → (t u : Transaction) (rs′ : List ℕ) → u ≡ t → rs′ ≡ recordsText (map (lineAfter w) (records rs)) → Stepped (sheetsOf rs cs) (record { transaction = t; write = w }) u rs′ cs
+  unfolding apply
+  wrote-lines w h a t u rs′ e r =
+      record {
+        transaction = e;
+        records = r;
+        coordinator = sym (ap coordinatorText h ∙ coordinator-written-read cs a);
+      }
 
   -- the line of a number that has been issued
   set-line : (n : ℕ) (d : Decision) → coordinatorAccepted cs ≡ true → 1 ≤ n → n ≤ coordinatorOf cs .issued → cond (hasLine n cs) (over cs (n * 15) (decisionText n d)) cs ≡ coordinatorText (withDecision n d (coordinatorOf cs))

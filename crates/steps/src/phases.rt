@@ -33,14 +33,14 @@ fn one_phase(t: Transaction, records: &mut [u8], coordinator: &[u8]) -> Transact
     requires { ⌜ Ready (now records) (now coordinator) t ⌝ }
     ensures { λ r. ⌜ Stepped (sheetsOf (now (records .entry)) (now (coordinator .entry))) (onePhase t (sheetsOf (now (records .entry)) (now (coordinator .entry)))) r (now (records .exit)) (now (coordinator .entry)) ⌝ }
 {
-    if !groups::group_holds(records, coordinator, t) {
-        return stages::to_phase(4, t);
+    if groups::group_holds(records, coordinator, t) {
+        changes::commit_group(t, records, coordinator);
+        return stages::commits(t);
     }
-    changes::commit_group(t, records, coordinator);
-    stages::commits(t)
+    stages::to_phase(stages::WITHDRAW, t)
 }
 
-// Only one phase writes here.
+// Without puts to validate, or at once to done; one group in one phase, the only way that writes; more by prepare.
 pub fn open(t: Transaction, records: &mut [u8], coordinator: &[u8]) -> Transaction
     requires { ⌜ Ready (now records) (now coordinator) t ⌝ }
     ensures { λ r. ⌜ Stepped (sheetsOf (now (records .entry)) (now (coordinator .entry))) (openStep t (sheetsOf (now (records .entry)) (now (coordinator .entry)))) r (now (records .exit)) (now (coordinator .entry)) ⌝ }
@@ -49,10 +49,10 @@ pub fn open(t: Transaction, records: &mut [u8], coordinator: &[u8]) -> Transacti
         if !transactions::validates(t) {
             return stages::commits(t);
         }
-        return stages::to_phase(2, t);
+        return stages::to_phase(stages::VALIDATE, t);
     }
     if !one_phase_allowed(t, coordinator) {
-        return stages::to_phase(1, t);
+        return stages::to_phase(stages::PREPARE, t);
     }
     one_phase(t, records, coordinator)
 }
@@ -77,7 +77,7 @@ pub fn prepare(t: Transaction, clock: u32, records: &mut [u8], coordinator: &[u8
     ensures { λ r. ⌜ Stepped (sheetsOf (now (records .entry)) (now (coordinator .entry))) (prepareStep t clock (sheetsOf (now (records .entry)) (now (coordinator .entry)))) r (now (records .exit)) (now (coordinator .entry)) ⌝ }
 {
     if !groups::group_holds(records, coordinator, t) {
-        return stages::to_phase(4, t);
+        return stages::to_phase(stages::WITHDRAW, t);
     }
     changes::prepare_group(t, clock, records, coordinator);
     next_group(stages::after_prepare(t), t, coordinator)
@@ -90,12 +90,12 @@ pub fn validate(t: Transaction, records: &[u8]) -> Transaction
 {
     let e = transactions::to_validate(t, t.place);
     if !lines::holds(records, e) {
-        return stages::to_phase(4, t);
+        return stages::to_phase(stages::WITHDRAW, t);
     }
     stages::next_entry(t)
 }
 
-// The commit point: the transaction's own line, if no one has aborted it.
+// The commit point: the transaction's own line, if no visit has aborted it. One that is committed already has been refused.
 pub fn decide(t: Transaction, coordinator: &mut [u8]) -> Transaction
     requires { ⌜ Known (now coordinator) t ⌝ }
     ensures { λ r. ⌜ ByCoordinator (decideStep t) (now (coordinator .entry)) r (now (coordinator .exit)) ⌝ }
@@ -103,14 +103,14 @@ pub fn decide(t: Transaction, coordinator: &mut [u8]) -> Transaction
     match codec::coordinator::decision_at(coordinator, t.number) {
         Decision::Undecided => {
             codec::coordinator::set_decision(coordinator, t.number, Decision::Committed);
-            transactions::moved(5, 0, 1, t)
+            transactions::moved(stages::FINISH, 0, stages::COMMITTED, t)
         }
         Decision::Committed => t,
-        Decision::Aborted => transactions::moved(6, 0, 2, t),
+        Decision::Aborted => transactions::moved(stages::UNDO, 0, stages::ABORTED, t),
     }
 }
 
-// The transaction aborted on its own line, if it is undecided.
+// The transaction aborted on its own line, if that is undecided. One that is committed has been refused.
 pub fn withdraw(t: Transaction, coordinator: &mut [u8]) -> Transaction
     requires { ⌜ Known (now coordinator) t ⌝ }
     ensures { λ r. ⌜ ByCoordinator (withdrawStep t) (now (coordinator .entry)) r (now (coordinator .exit)) ⌝ }
@@ -132,7 +132,7 @@ pub fn finish(t: Transaction, records: &mut [u8], coordinator: &[u8]) -> Transac
     ensures { λ r. ⌜ Stepped (sheetsOf (now (records .entry)) (now (coordinator .entry))) (finishStep t (sheetsOf (now (records .entry)) (now (coordinator .entry)))) r (now (records .exit)) (now (coordinator .entry)) ⌝ }
 {
     changes::forward_group(t, records, coordinator);
-    next_group(7, t, coordinator)
+    next_group(stages::DONE, t, coordinator)
 }
 
 // What the transaction has prepared in the group rolled back.
@@ -142,5 +142,5 @@ pub fn undo(t: Transaction, records: &mut [u8], coordinator: &[u8]) -> Transacti
     ensures { λ r. ⌜ Stepped (sheetsOf (now (records .entry)) (now (coordinator .entry))) (undoStep t (sheetsOf (now (records .entry)) (now (coordinator .entry)))) r (now (records .exit)) (now (coordinator .entry)) ⌝ }
 {
     changes::back_group(t, records, coordinator);
-    next_group(7, t, coordinator)
+    next_group(stages::DONE, t, coordinator)
 }

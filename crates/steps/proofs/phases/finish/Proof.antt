@@ -1,7 +1,9 @@
 -- The group's lines are written, and the next group comes.
+use mathlib.Core.Path.{refl}
 use borrow.Author.Needs.{needs}
 use Rattle.steps.specs.Ready.{coordinator-accepted, few, may-write, place-finish}
-use Rattle.steps.specs.Stepped.{wrote-forward}
+use Rattle.steps.specs.Stepped.{wrote-lines}
+use Rattle.model.specs.Writes.{decisionsAfter}
 use Rattle.model.specs.Steps.{finishStep}
 use Rattle.steps.proofs.phases.finish.Statement.{statement}
 use Rattle.steps.proofs.phases.finish.Tie as tie
@@ -16,8 +18,8 @@ same-length : tie.Need-same-length
 same-length c = search needs
 
 returns : tie.Need-returns
-unfolding finishStep
-returns c = wrote-forward _ _ (coordinator-accepted _ _ _ (c .before .before .before .before .before .before .before .pre .0)) _ _ _ (c .next-group .ensures _) _ _ (c .before .before .before .forward-group .ensures)
+unfolding finishStep decisionsAfter
+returns c = wrote-lines _ _ _ refl (coordinator-accepted _ _ _ (c .before .before .before .before .before .before .before .pre .0)) _ _ _ (c .next-group .ensures _) (c .before .before .before .forward-group .ensures)
 
 pub finish-spec : {M : Type 1} → statement M
 finish-spec = tie.close (tie.spec forward-group-requires next-group-requires same-length returns)

@@ -1,9 +1,9 @@
 -- By whether the conditions hold.
-use mathlib.Core.Path.{sym, _∙_}
-use borrow.Author.Tests.{not-true, not-false}
+use mathlib.Core.Path.{refl, sym, _∙_}
 use borrow.Author.Needs.{needs}
 use Rattle.steps.specs.Ready.{records-accepted, coordinator-accepted, few, may-write}
-use Rattle.steps.specs.Stepped.{wrote-nothing, wrote-commit}
+use Rattle.steps.specs.Stepped.{wrote-nothing, wrote-lines}
+use Rattle.model.specs.Writes.{decisionsAfter}
 use Rattle.steps.specs.Cases.{stepped-as, one-phase-fails, one-phase-commits}
 use Rattle.steps.proofs.phases.one_phase.Statement.{statement}
 use Rattle.steps.proofs.phases.one_phase.Tie as tie
@@ -11,38 +11,39 @@ use Rattle.steps.proofs.phases.one_phase.Tie as tie
 group-holds-requires : tie.Need-group-holds-requires
 group-holds-requires c κs = (records-accepted _ _ _ (c .before .before .before .pre), (coordinator-accepted _ _ _ (c .before .before .before .pre), few _ _ _ (c .before .before .before .pre)))
 
-to-phase-requires : tie.Need-to-phase-requires
-to-phase-requires c κs = search needs
+commit-group-requires : tie.Need-commit-group-requires
+commit-group-requires c κs = (may-write _ _ _ (c .before .before .before .before .before .before .pre), sym (c .before .before .group-holds .ensures) ∙ c .before .if1 .taken)
+
+commits-requires : tie.Need-commits-requires
+commits-requires c κs = search needs
 
 same-length : tie.Need-same-length
 same-length c = search needs
 
 returns : tie.Need-returns
-returns c = stepped-as (one-phase-fails _ _ (sym (c .before .before .group-holds .ensures) ∙ not-true _ (c .before .if1 .taken)))
-    (wrote-nothing _ _ (records-accepted _ _ _ (c .before .before .before .before .before .before .pre)) (coordinator-accepted _ _ _ (c .before .before .before .before .before .before .pre)) _ _ (c .to-phase .ensures))
+unfolding decisionsAfter
+returns c = stepped-as (one-phase-commits _ _ (sym (c .before .before .before .before .before .before .group-holds .ensures) ∙ c .before .before .before .before .before .if1 .taken))
+    (wrote-lines _ _ _ refl (coordinator-accepted _ _ _ (c .before .before .before .before .before .before .before .before .before .before .pre)) _ _ _ (c .commits .ensures) (c .before .before .before .commit-group .ensures))
 
-commit-group-requires : tie.Need-commit-group-requires
-commit-group-requires c κs = (may-write _ _ _ (c .before .before .before .before .before .before .pre), sym (c .before .before .group-holds .ensures) ∙ not-false _ (c .before .if1 .left))
-
-commits-requires : tie.Need-commits-requires
-commits-requires c κs = search needs
+to-phase-requires : tie.Need-to-phase-requires
+to-phase-requires c κs = search needs
 
 same-length-2 : tie.Need-same-length-2
 same-length-2 c = search needs
 
 returns-2 : tie.Need-returns-2
-returns-2 c = stepped-as (one-phase-commits _ _ (sym (c .before .before .before .before .before .before .group-holds .ensures) ∙ not-false _ (c .before .before .before .before .before .if1 .left)))
-    (wrote-commit _ _ (coordinator-accepted _ _ _ (c .before .before .before .before .before .before .before .before .before .before .pre)) _ _ _ (c .commits .ensures) _ _ (c .before .before .before .commit-group .ensures))
+returns-2 c = stepped-as (one-phase-fails _ _ (sym (c .before .before .group-holds .ensures) ∙ c .before .if1 .left))
+    (wrote-nothing _ _ (records-accepted _ _ _ (c .before .before .before .before .before .before .pre)) (coordinator-accepted _ _ _ (c .before .before .before .before .before .before .pre)) _ _ (c .to-phase .ensures))
 
 pub one-phase-spec : {M : Type 1} → statement M
 one-phase-spec =
     tie.close
     (tie.spec
     group-holds-requires
-    to-phase-requires
-    same-length
-    returns
     commit-group-requires
     commits-requires
+    same-length
+    returns
+    to-phase-requires
     same-length-2
     returns-2)

@@ -1,11 +1,13 @@
 -- By whether the conditions hold.
 use Prim.Native.Nat.{ℕ}
-use mathlib.Core.Path.{sym, ap, _∙_}
+use mathlib.Core.Path.{refl, sym, ap, _∙_}
 use borrow.Author.Tests.{not-true, not-false}
 use borrow.Author.Needs.{needs}
 use Rattle.steps.specs.Ready.{records-accepted, coordinator-accepted, few, may-write, place-prepare}
-use Rattle.steps.specs.Stepped.{wrote-nothing, wrote-prepare}
+use Rattle.steps.specs.Stepped.{wrote-nothing, wrote-lines}
+use Rattle.model.specs.Writes.{decisionsAfter}
 use Rattle.steps.specs.Cases.{stepped-as, prepare-fails, prepare-writes}
+use Rattle.steps.specs.Stepped.{wrote-nothing}
 use Rattle.model.specs.Steps.{nextGroup}
 use Rattle.model.specs.ByteCalls.{sheetsOf}
 use Rattle.steps.proofs.phases.prepare.Statement.{statement}
@@ -37,9 +39,10 @@ same-length-2 : tie.Need-same-length-2
 same-length-2 c = search needs
 
 returns-2 : tie.Need-returns-2
+unfolding decisionsAfter
 returns-2 c = stepped-as (prepare-writes _ _ _ (sym (c .before .before .before .before .before .before .before .group-holds .ensures) ∙ not-false _ (c .before .before .before .before .before .before .if1 .left)))
-    (wrote-prepare _ _ (coordinator-accepted _ _ _ (c .before .before .before .before .before .before .before .before .before .before .before .pre .0)) _ _ _
-    (c .next-group .ensures _ ∙ ap (λ (p : ℕ). nextGroup p (c .before .before .before .before .before .before .before .before .before .before .before .args .t) (sheetsOf (c .before .before .before .before .before .before .before .before .before .before .before .args .records .now) (c .before .before .before .before .before .before .before .before .before .before .before .args .coordinator .now))) (c .before .after-prepare .ensures)) _ _ _ (c .before .before .before .before .prepare-group .ensures))
+    (wrote-lines _ _ _ refl (coordinator-accepted _ _ _ (c .before .before .before .before .before .before .before .before .before .before .before .pre .0)) _ _ _
+    (c .next-group .ensures _ ∙ ap (λ (p : ℕ). nextGroup p (c .before .before .before .before .before .before .before .before .before .before .before .args .t) (sheetsOf (c .before .before .before .before .before .before .before .before .before .before .before .args .records .now) (c .before .before .before .before .before .before .before .before .before .before .before .args .coordinator .now))) (c .before .after-prepare .ensures)) (c .before .before .before .before .prepare-group .ensures))
 
 pub prepare-spec : {M : Type 1} → statement M
 prepare-spec =

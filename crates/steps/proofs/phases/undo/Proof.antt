@@ -1,7 +1,9 @@
 -- The group's lines are written, and the next group comes.
+use mathlib.Core.Path.{refl}
 use borrow.Author.Needs.{needs}
 use Rattle.steps.specs.Ready.{coordinator-accepted, few, may-write, place-undo}
-use Rattle.steps.specs.Stepped.{wrote-back}
+use Rattle.steps.specs.Stepped.{wrote-lines}
+use Rattle.model.specs.Writes.{decisionsAfter}
 use Rattle.model.specs.Steps.{undoStep}
 use Rattle.steps.proofs.phases.undo.Statement.{statement}
 use Rattle.steps.proofs.phases.undo.Tie as tie
@@ -16,8 +18,8 @@ same-length : tie.Need-same-length
 same-length c = search needs
 
 returns : tie.Need-returns
-unfolding undoStep
-returns c = wrote-back _ _ (coordinator-accepted _ _ _ (c .before .before .before .before .before .before .before .pre .0)) _ _ _ (c .next-group .ensures _) _ _ (c .before .before .before .back-group .ensures)
+unfolding undoStep decisionsAfter
+returns c = wrote-lines _ _ _ refl (coordinator-accepted _ _ _ (c .before .before .before .before .before .before .before .pre .0)) _ _ _ (c .next-group .ensures _) (c .before .before .before .back-group .ensures)
 
 pub undo-spec : {M : Type 1} → statement M
 undo-spec = tie.close (tie.spec back-group-requires next-group-requires same-length returns)
