@@ -1,10 +1,17 @@
-//! Sheets to try the checks on: accepted, damaged and forged ones, the same for the same seed.
+//! Sheets to try the checks on, accepted, damaged and forged, and histories of calls: the same for the same seed.
 
+pub mod arguments;
+pub mod closing;
 pub mod damage;
 pub mod forge;
+pub mod history;
 pub mod random;
+pub mod requests;
 pub mod sheets;
+pub mod transactions;
 
+use crate::plain::request::{Answer, Request};
+use crate::plain::store::Store;
 use random::Random;
 
 /// What a check is called with.
@@ -28,6 +35,19 @@ pub fn any(random: &mut Random) -> Sheets {
         _ => damage::damage(random, &mut sheets),
     }
     sheets
+}
+
+impl Sheets {
+    /// Makes a call on these sheets.
+    pub fn ask(&mut self, request: Request) -> Result<Answer, u32> {
+        request.make(&mut self.records, &mut self.coordinator)
+    }
+
+    /// The records of accepted sheets.
+    pub fn store(&self) -> Store {
+        let store = Store::read(&self.records, &self.coordinator);
+        store.unwrap_or_else(|refusal| panic!("refusal {refusal}\n{self}"))
+    }
 }
 
 impl std::fmt::Display for Sheets {

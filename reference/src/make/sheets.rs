@@ -9,6 +9,8 @@ use std::collections::BTreeSet;
 pub enum Mix {
     Committed,
     Prepared,
+    /// ABSENT or COMMITTED, half each.
+    Settled,
     /// About a third each of ABSENT, COMMITTED and PREPARED.
     Thirds,
 }
@@ -49,17 +51,28 @@ fn size(random: &mut Random, most: usize) -> usize {
 
 /// Sheets of the size asked for. Beyond 500 or 999 lines they keep every rule but that one.
 pub fn of_size(random: &mut Random, size: Size, mix: Mix) -> Sheets {
+    let keys = keys(random, size.records);
+    with_keys(random, &keys, size, mix)
+}
+
+/// Sheets whose record lines have these keys.
+pub fn with_keys(random: &mut Random, keys: &BTreeSet<[u32; 5]>, size: Size, mix: Mix) -> Sheets {
     Sheets {
-        records: record_sheet(random, size, mix),
+        records: record_sheet(random, keys, size.issued, mix),
         coordinator: coordinator_sheet(random, size),
     }
 }
 
-fn record_sheet(random: &mut Random, size: Size, mix: Mix) -> Vec<u8> {
-    let mut text = String::with_capacity(size.records * 98);
-    for key in keys(random, size.records) {
+fn record_sheet(
+    random: &mut Random,
+    keys: &BTreeSet<[u32; 5]>,
+    issued: usize,
+    mix: Mix,
+) -> Vec<u8> {
+    let mut text = String::with_capacity(keys.len() * 98);
+    for key in keys {
         let [storage, namespace, table, partition, clustering] = key;
-        let rest = after_key(random, size.issued as u32, mix);
+        let rest = after_key(random, issued as u32, mix);
         let key = format!("{storage:>2}{namespace:>3}{table:>3}{partition:>6}{clustering:>6}");
         text += &format!("{key}{rest}\n");
     }
@@ -91,6 +104,7 @@ fn after_key(random: &mut Random, issued: u32, mix: Mix) -> String {
     let state = match mix {
         Mix::Committed => 1,
         Mix::Prepared => 2,
+        Mix::Settled => random.below(2),
         Mix::Thirds => random.below(3),
     };
     match state {

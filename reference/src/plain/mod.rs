@@ -1,12 +1,22 @@
 //! The paper read field by field, without regard to speed.
 
+pub mod calls;
 pub mod coordinator;
 pub mod field;
+pub mod groups;
+pub mod key;
 pub mod numbers;
 pub mod record;
+pub mod request;
+pub mod steps;
+pub mod store;
+pub mod transaction;
+pub mod well_formed;
+pub mod writes;
 
-use coordinator::Coordinator;
-use record::{Key, Record};
+use key::Key;
+use record::Record;
+use store::Store;
 
 /// What every call answers where no refusal applies.
 pub const ACCEPTED: u32 = 0;
@@ -14,38 +24,46 @@ pub const ACCEPTED: u32 = 0;
 pub const BAD_RECORDS: u32 = 1;
 /// The coordinator sheet breaks a rule, or a record names an unissued TxID.
 pub const BAD_COORDINATOR: u32 = 2;
+/// The transaction is not well formed.
+pub const ILL_FORMED: u32 = 3;
+/// The call is not for this phase, or the own line is not as the phase wants it.
+pub const WRONG_PHASE: u32 = 4;
 /// A key field is out of range.
 pub const KEY_OUT_OF_RANGE: u32 = 5;
 /// No line has the key.
 pub const NO_LINE: u32 = 6;
+/// A put column is too large.
+pub const COLUMN_TOO_LARGE: u32 = 7;
+/// Every number of the coordinator sheet is issued.
+pub const NUMBERS_SPENT: u32 = 8;
+/// A new key, and 8 are held.
+pub const TOO_MANY_KEYS: u32 = 9;
+/// A put of a key that is not held.
+pub const KEY_NOT_HELD: u32 = 10;
+/// A put over the greatest version.
+pub const VERSION_SPENT: u32 = 11;
+/// An undecided line has not expired.
+pub const BUSY: u32 = 12;
 
 /// 0 where both sheets are accepted, else the refusal.
 pub fn check(records: &[u8], coordinator: &[u8]) -> u32 {
-    let Some(records) = record::read_sheet(records) else {
-        return BAD_RECORDS;
-    };
-    let Some(coordinator) = coordinator::read_sheet(coordinator) else {
-        return BAD_COORDINATOR;
-    };
-    if records.iter().all(|r| names_issued_only(r, &coordinator)) {
-        ACCEPTED
-    } else {
-        BAD_COORDINATOR
+    match Store::read(records, coordinator) {
+        Ok(_) => ACCEPTED,
+        Err(refusal) => refusal,
     }
-}
-
-/// The before TxID counts too: rolling back would put it in the TxID's place.
-fn names_issued_only(record: &Record, coordinator: &Coordinator) -> bool {
-    record.image.tx_id <= coordinator.issued && record.before.tx_id <= coordinator.issued
 }
 
 /// The place of the key's line in the sheet, from 0, or the refusal.
 pub fn lookup(records: &[u8], key: [u32; 5]) -> Result<usize, u32> {
     let records = record::read_sheet(records).ok_or(BAD_RECORDS)?;
-    let key = Key::from_numbers(key);
+    place_of(&records, &Key::from_numbers(key))
+}
+
+/// The place of the key's line among these records, or the refusal.
+fn place_of(records: &[Record], key: &Key) -> Result<usize, u32> {
     if !key.in_range() {
         return Err(KEY_OUT_OF_RANGE);
     }
-    let place = records.iter().position(|r| r.key == key);
+    let place = records.iter().position(|r| r.key == *key);
     place.ok_or(NO_LINE)
 }

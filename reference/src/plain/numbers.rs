@@ -5,7 +5,8 @@
 //! A refusal leaves the target as it was.
 
 use super::coordinator::{self, Coordinator, Decision, Unit};
-use super::record::{self, Image, Key, Record, STATES};
+use super::key::Key;
+use super::record::{self, Image, Record, STATES};
 use super::{ACCEPTED, BAD_COORDINATOR, BAD_RECORDS};
 
 /// Numbers of one record.
@@ -46,9 +47,7 @@ fn image_from(n: &[u32]) -> Image {
 }
 
 fn write_record_numbers(target: &mut [u32], record: &Record) {
-    let k = record.key;
-    let key = [k.storage, k.namespace, k.table, k.partition, k.clustering];
-    target[0..5].copy_from_slice(&key);
+    target[0..5].copy_from_slice(&record.key.numbers());
     target[5] = number_of(&STATES, record.state);
     target[6..10].copy_from_slice(&image_numbers(&record.image));
     target[10..14].copy_from_slice(&image_numbers(&record.before));
@@ -97,9 +96,7 @@ pub fn numbers_to_records(numbers: &[u32], target: &mut [u8]) -> u32 {
     let Some(records) = records_from(numbers) else {
         return BAD_RECORDS;
     };
-    for (line, record) in target.chunks_mut(record::LINE).zip(&records) {
-        record::write_line(line, record);
-    }
+    record::write_sheet(target, &records);
     ACCEPTED
 }
 

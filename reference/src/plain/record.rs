@@ -1,21 +1,12 @@
 //! The record sheet: its lines, the rules of each state and the order of keys.
 
 use super::field::{is_word, read_figure, write_figure, write_word};
+use super::key::Key;
 
 /// Bytes of a record line, LF counted.
 pub const LINE: usize = 98;
 /// The most lines a record sheet may have.
 pub const MOST_LINES: usize = 500;
-
-/// The five key fields in the order in which they are compared.
-#[derive(Clone, Copy, Debug, PartialEq, Eq, PartialOrd, Ord)]
-pub struct Key {
-    pub storage: u32,
-    pub namespace: u32,
-    pub table: u32,
-    pub partition: u32,
-    pub clustering: u32,
-}
 
 #[derive(Clone, Copy, Debug, PartialEq, Eq)]
 pub enum State {
@@ -50,32 +41,21 @@ pub const NOTHING: Image = Image {
     column_2: 0,
 };
 
-impl Key {
-    pub fn from_numbers(n: [u32; 5]) -> Key {
-        Key {
-            storage: n[0],
-            namespace: n[1],
-            table: n[2],
-            partition: n[3],
-            clustering: n[4],
-        }
-    }
+/// The greatest version.
+pub const MOST_VERSION: u32 = 99_999;
 
-    pub fn in_range(&self) -> bool {
-        (1..=9).contains(&self.storage)
-            && (1..=99).contains(&self.namespace)
-            && (1..=99).contains(&self.table)
-            && self.partition <= 99_999
-            && self.clustering <= 99_999
-    }
+/// Whether both columns are in their range.
+pub fn columns_in_range(columns: [u32; 2]) -> bool {
+    columns.iter().all(|column| *column <= 99_999_999)
 }
 
 impl Image {
-    fn in_range(&self) -> bool {
-        self.version <= 99_999
-            && self.tx_id <= 999
-            && self.column_1 <= 99_999_999
-            && self.column_2 <= 99_999_999
+    pub fn columns(&self) -> [u32; 2] {
+        [self.column_1, self.column_2]
+    }
+
+    pub fn in_range(&self) -> bool {
+        self.version <= MOST_VERSION && self.tx_id <= 999 && columns_in_range(self.columns())
     }
 }
 
@@ -187,11 +167,18 @@ fn write_image(columns: &mut [u8], image: &Image) {
 }
 
 /// Writes a record that keeps the rules as one line of 98 bytes.
-pub fn write_line(line: &mut [u8], record: &Record) {
+fn write_line(line: &mut [u8], record: &Record) {
     write_key(&mut line[0..20], &record.key);
     write_word(&mut line[20..30], state_word(record.state));
     write_image(&mut line[30..58], &record.image);
     write_image(&mut line[58..86], &record.before);
     write_figure(&mut line[86..97], record.prepare_clock);
     line[97] = b'\n';
+}
+
+/// Writes records that keep the rules to a sheet of just that length.
+pub fn write_sheet(sheet: &mut [u8], records: &[Record]) {
+    for (line, record) in sheet.chunks_mut(LINE).zip(records) {
+        write_line(line, record);
+    }
 }

@@ -1,0 +1,96 @@
+//! Arguments of calls: keys, columns and clocks, most often such that something happens.
+
+use super::random::Random;
+use crate::plain::key::Key;
+use crate::plain::record::{Record, State};
+use std::collections::BTreeSet;
+
+/// Elapsed ticks on both sides of every edge of the clock rule.
+const EDGES: [u32; 9] = [
+    0,
+    1,
+    14_999,
+    15_000,
+    15_001,
+    2_147_483_646,
+    2_147_483_647,
+    2_147_483_648,
+    u32::MAX,
+];
+
+/// Keys few and close together, so that they share units of every kind and clients meet.
+pub fn close_keys(random: &mut Random, count: usize) -> BTreeSet<[u32; 5]> {
+    let mut keys = BTreeSet::new();
+    while keys.len() < count {
+        keys.insert(close_key(random));
+    }
+    keys
+}
+
+fn close_key(random: &mut Random) -> [u32; 5] {
+    [
+        random.pick(&[1, 2, 9]),
+        random.pick(&[1, 1, 99]),
+        random.pick(&[1, 1, 99]),
+        random.pick(&[0, 1, 99_999]),
+        random.pick(&[0, 1, 99_999]),
+    ]
+}
+
+/// The key of a line, mostly; else one that may have no line, or with a field out of range.
+pub fn any_key(random: &mut Random, records: &[Record]) -> Key {
+    let mut numbers = random.pick(records).key.numbers();
+    match random.below(16) {
+        0 => numbers = close_key(random),
+        1 => {
+            let beyond = random.pick(&[0, 10, 100, 100_000, u32::MAX]);
+            numbers[random.below(5)] = beyond;
+        }
+        _ => {}
+    }
+    Key::from_numbers(numbers)
+}
+
+/// Two put columns, seldom too large.
+pub fn columns(random: &mut Random) -> [u32; 2] {
+    let mut column = || match random.below(24) {
+        0 => random.pick(&[100_000_000, u32::MAX]),
+        _ => random.figure(0, 99_999_999),
+    };
+    [column(), column()]
+}
+
+/// The PREPARED lines.
+pub fn prepared(records: &[Record]) -> Vec<&Record> {
+    let lines = records.iter();
+    lines.filter(|r| r.state == State::Prepared).collect()
+}
+
+/// Any reading of a clock, most often near an edge of a prepared line's.
+pub fn clock(random: &mut Random, records: &[Record]) -> u32 {
+    let prepared = prepared(records);
+    if prepared.is_empty() || random.once_in(6) {
+        return random.figure(0, u32::MAX);
+    }
+    let record = random.pick(&prepared);
+    reading_after(random, record)
+}
+
+/// A reading at some time after the line was prepared, most often near an edge.
+fn reading_after(random: &mut Random, record: &Record) -> u32 {
+    let elapsed = match random.below(3) {
+        0 => random.figure(0, u32::MAX),
+        _ => random.pick(&EDGES),
+    };
+    record.prepare_clock.wrapping_add(elapsed)
+}
+
+/// A reading at which a line prepared at this clock has expired.
+pub fn expired_clock(random: &mut Random, record: &Record) -> u32 {
+    loop {
+        let now = reading_after(random, record);
+        if record.has_expired(now) {
+            return now;
+        }
+    }
+}

@@ -1,0 +1,140 @@
+//! Random histories: several clients that take turns on the same sheets, stop at any time and send strange requests.
+
+use super::arguments::close_keys;
+use super::random::Random;
+use super::requests::{begin, stray, Client};
+use super::sheets::{with_keys, Mix, Size};
+use super::Sheets;
+use crate::plain::request::{Answer, Request};
+use crate::plain::transaction::{Transaction, DONE, OPEN};
+
+/// Which calls stand in a history.
+#[derive(Clone, Copy, PartialEq, Eq)]
+pub enum Rule {
+    /// From sheets without PREPARED lines, and an accepted call takes a state that may be handed on: demand 3's lists.
+    Legal,
+    /// From any sheets, with any transaction.
+    Free,
+}
+
+/// One call of a history, and the sheets before it.
+pub struct Event {
+    pub request: Request,
+    pub answer: Result<Answer, u32>,
+    pub before: Sheets,
+}
+
+impl Event {
+    /// Makes the call on the sheets.
+    pub fn make(request: Request, sheets: &mut Sheets) -> Event {
+        let before = sheets.clone();
+        Event {
+            request,
+            answer: sheets.ask(request),
+            before,
+        }
+    }
+}
+
+pub struct History {
+    pub sheets: Sheets,
+    rule: Rule,
+    /// None for a client without an order.
+    clients: Vec<Option<Client>>,
+    /// Every state that was returned once.
+    old: Vec<Transaction>,
+}
+
+impl History {
+    pub fn new(random: &mut Random, rule: Rule) -> History {
+        let records = random.pick(&[3, 3, 4, 5, 6, 8, 10, 12, 12]);
+        let issued = random.below(4);
+        let decisions = issued + random.pick(&[1, 10, 60, 60, 60]);
+        let size = Size {
+            records,
+            decisions,
+            issued,
+        };
+        let mix = match rule {
+            Rule::Legal => Mix::Settled,
+            Rule::Free => random.pick(&[Mix::Settled, Mix::Thirds]),
+        };
+        let keys = close_keys(random, records);
+        History {
+            sheets: with_keys(random, &keys, size, mix),
+            rule,
+            clients: vec![None; 2 + random.below(4)],
+            old: Vec::new(),
+        }
+    }
+
+    /// Makes the next call that the rule allows.
+    pub fn step(&mut self, random: &mut Random) -> Event {
+        loop {
+            let request = self.request(random);
+            let mut sheets = self.sheets.clone();
+            let event = Event::make(request, &mut sheets);
+            if let Ok(answer) = event.answer {
+                if !self.allows(&request) {
+                    continue;
+                }
+                self.hand_on(random, &request, &answer);
+            }
+            self.sheets = sheets;
+            return event;
+        }
+    }
+
+    /// Whether the call may stand in the history if it is accepted.
+    fn allows(&self, request: &Request) -> bool {
+        match (self.rule, request.taken()) {
+            (Rule::Legal, Some(taken)) => self.holder(taken).is_some(),
+            _ => true,
+        }
+    }
+
+    /// The client that holds this state.
+    fn holder(&self, transaction: &Transaction) -> Option<usize> {
+        let holds = |c: &Option<Client>| c.is_some_and(|c| c.transaction == *transaction);
+        self.clients.iter().position(holds)
+    }
+
+    /// Gives the state that an accepted call returned to the client that handed in the one before, or to an idle one.
+    fn hand_on(&mut self, random: &mut Random, request: &Request, answer: &Answer) {
+        let Some(returned) = answer.returned() else {
+            return;
+        };
+        self.old.push(*returned);
+        if let Some(place) = request.taken().and_then(|taken| self.holder(taken)) {
+            let client = self.clients[place].as_mut();
+            client.expect("a holder").transaction = *returned;
+        } else if let Some(idle) = self.clients.iter_mut().find(|c| c.is_none()) {
+            *idle = Some(Client::new(random, *returned));
+        }
+    }
+
+    fn request(&mut self, random: &mut Random) -> Request {
+        let records = self.sheets.store().records;
+        let place = random.below(self.clients.len());
+        match self.clients[place] {
+            Some(client) if !random.once_in(6) => {
+                if stops(random, client.transaction.phase) {
+                    self.clients[place] = None;
+                    return begin(random);
+                }
+                client.request(random, &records)
+            }
+            None if random.once_in(2) => begin(random),
+            _ => stray(random, &self.old, &records),
+        }
+    }
+}
+
+/// Whether the client stops for ever, so that nobody hands its state on. Between the writes it matters most.
+fn stops(random: &mut Random, phase: u32) -> bool {
+    random.once_in(match phase {
+        OPEN => 60,
+        DONE => 2,
+        _ => 12,
+    })
+}

@@ -1,0 +1,129 @@
+//! What clients ask for: the next call for an order, or one that comes from nowhere.
+
+use super::arguments::{any_key, clock, columns, prepared};
+use super::random::Random;
+use super::transactions::forged;
+use crate::plain::key::Key;
+use crate::plain::record::Record;
+use crate::plain::request::Request;
+use crate::plain::transaction::{Transaction, OPEN};
+
+/// A client at work on an order.
+#[derive(Clone, Copy)]
+pub struct Client {
+    /// The state of its number that may be handed on.
+    pub transaction: Transaction,
+    /// How many keys it reads before it advances.
+    pub appetite: u32,
+}
+
+impl Client {
+    pub fn new(random: &mut Random, transaction: Transaction) -> Client {
+        Client {
+            transaction,
+            appetite: random.pick(&[0, 1, 1, 2, 2, 3, 3, 4, 9]),
+        }
+    }
+
+    /// The next call for the order, at times one that does not go with its phase.
+    pub fn request(&self, random: &mut Random, records: &[Record]) -> Request {
+        let transaction = self.transaction;
+        let hungry = transaction.phase == OPEN && transaction.count < self.appetite;
+        let held = transaction.held();
+        let kind = match random.below(32) {
+            0 => Kind::Abort,
+            1 => Kind::Put,
+            2 => Kind::Read,
+            3..=18 if hungry => Kind::Read,
+            19..=28 if transaction.phase == OPEN && !held.is_empty() => Kind::Put,
+            _ if hungry => Kind::Read,
+            _ => Kind::Advance,
+        };
+        let key = match kind {
+            Kind::Put if !held.is_empty() && !random.once_in(8) => random.pick(held).key,
+            _ => any_key(random, records),
+        };
+        kind.request(random, transaction, key, records)
+    }
+}
+
+pub fn begin(random: &mut Random) -> Request {
+    Request::Begin {
+        serializable: random.once_in(2),
+    }
+}
+
+/// A visit, or a call with a transaction made of one of these, which nobody may hand on now.
+pub fn stray(random: &mut Random, old: &[Transaction], records: &[Record]) -> Request {
+    if random.once_in(2) {
+        return visit(random, records);
+    }
+    let key = any_key(random, records);
+    let old = match old.len() {
+        0 => Transaction::begun(1, true),
+        // The last ones, since the sheets are still near them.
+        n => old[n - 1 - random.below(n.min(12))],
+    };
+    let transaction = match random.below(4) {
+        0 => old,
+        _ => forged(random, old, records),
+    };
+    let kind = random.pick(&[
+        Kind::Read,
+        Kind::Put,
+        Kind::Advance,
+        Kind::Advance,
+        Kind::Abort,
+    ]);
+    kind.request(random, transaction, key, records)
+}
+
+/// A visit, of a prepared line more often.
+fn visit(random: &mut Random, records: &[Record]) -> Request {
+    let prepared = prepared(records);
+    let key = match prepared.len() {
+        1.. if random.once_in(2) => random.pick(&prepared).key,
+        _ => any_key(random, records),
+    };
+    Request::Visit {
+        key,
+        now: clock(random, records),
+    }
+}
+
+/// The calls that take a transaction.
+#[derive(Clone, Copy)]
+enum Kind {
+    Read,
+    Put,
+    Advance,
+    Abort,
+}
+
+impl Kind {
+    fn request(
+        self,
+        random: &mut Random,
+        transaction: Transaction,
+        key: Key,
+        records: &[Record],
+    ) -> Request {
+        match self {
+            Kind::Read => Request::Read {
+                transaction,
+                key,
+                now: clock(random, records),
+            },
+            Kind::Put => Request::Put {
+                transaction,
+                key,
+                columns: columns(random),
+            },
+            Kind::Advance => Request::Advance {
+                transaction,
+                now: clock(random, records),
+            },
+            Kind::Abort => Request::Abort { transaction },
+        }
+    }
+}

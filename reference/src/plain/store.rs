@@ -1,0 +1,101 @@
+//! Both sheets as records: what the calls look at and change.
+
+use super::coordinator::{self, Coordinator, Decision};
+use super::key::Key;
+use super::record::{self, Record, State};
+use super::{place_of, BAD_COORDINATOR, BAD_RECORDS, BUSY};
+
+#[derive(Clone, Debug, PartialEq, Eq)]
+pub struct Store {
+    pub records: Vec<Record>,
+    pub coordinator: Coordinator,
+}
+
+/// What a visit found and did.
+#[derive(Clone, Copy, Debug, PartialEq, Eq)]
+pub enum Visit {
+    /// The line is not PREPARED.
+    Stays,
+    Forward,
+    Back,
+    /// The owner was undecided and expired, and is aborted now; the line is as it was.
+    Again,
+}
+
+impl Store {
+    /// The records of two accepted sheets, or refusal 1 or 2.
+    pub fn read(records: &[u8], coordinator: &[u8]) -> Result<Store, u32> {
+        let store = Store {
+            records: record::read_sheet(records).ok_or(BAD_RECORDS)?,
+            coordinator: coordinator::read_sheet(coordinator).ok_or(BAD_COORDINATOR)?,
+        };
+        if store.names_issued_only() {
+            Ok(store)
+        } else {
+            Err(BAD_COORDINATOR)
+        }
+    }
+
+    /// The before TxID counts too: rolling back would put it in the TxID's place.
+    fn names_issued_only(&self) -> bool {
+        let issued = self.coordinator.issued;
+        let fits = |r: &Record| r.image.tx_id <= issued && r.before.tx_id <= issued;
+        self.records.iter().all(fits)
+    }
+
+    /// Writes both sheets whole. Accepted sheets have one text, so that nothing but the changes is changed.
+    pub fn write(&self, records: &mut [u8], coordinator: &mut [u8]) {
+        record::write_sheet(records, &self.records);
+        coordinator::write_sheet(coordinator, &self.coordinator);
+    }
+
+    /// The place of the key's line, or refusal 5 or 6.
+    pub fn place_of(&self, key: &Key) -> Result<usize, u32> {
+        place_of(&self.records, key)
+    }
+
+    /// The line of a key that has one.
+    pub fn record(&self, key: &Key) -> &Record {
+        let place = self.place_of(key).expect("the key has a line");
+        &self.records[place]
+    }
+
+    /// Replaces the line that has the record's key.
+    pub fn replace(&mut self, record: Record) {
+        let place = self.place_of(&record.key).expect("the key has a line");
+        self.records[place] = record;
+    }
+
+    /// The decision of an issued number.
+    pub fn decision(&self, number: u32) -> Decision {
+        self.coordinator.decisions[number as usize - 1]
+    }
+
+    pub fn decide(&mut self, number: u32, decision: Decision) {
+        self.coordinator.decisions[number as usize - 1] = decision;
+    }
+
+    /// Lazy recovery of one line: refusal 12, or at most one write.
+    pub fn visit(&mut self, place: usize, now: u32) -> Result<Visit, u32> {
+        let record = self.records[place];
+        if record.state != State::Prepared {
+            return Ok(Visit::Stays);
+        }
+        let owner = record.image.tx_id;
+        match self.decision(owner) {
+            Decision::Committed => {
+                self.records[place] = record.forward();
+                Ok(Visit::Forward)
+            }
+            Decision::Aborted => {
+                self.records[place] = record.back();
+                Ok(Visit::Back)
+            }
+            Decision::Undecided if record.has_expired(now) => {
+                self.decide(owner, Decision::Aborted);
+                Ok(Visit::Again)
+            }
+            Decision::Undecided => Err(BUSY),
+        }
+    }
+}

@@ -1,0 +1,144 @@
+//! The transaction as a caller keeps it: numbers only, so that any memory lent is one, well formed or not.
+
+use super::key::Key;
+use super::record::{Image, NOTHING};
+
+/// The most keys that a transaction holds.
+pub const MOST_ENTRIES: usize = 8;
+
+pub const OPEN: u32 = 0;
+pub const PREPARE: u32 = 1;
+pub const CHECK: u32 = 2;
+pub const DECIDE: u32 = 3;
+pub const WITHDRAW: u32 = 4;
+pub const FINISH: u32 = 5;
+pub const UNDO: u32 = 6;
+pub const DONE: u32 = 7;
+
+pub const NO_VERDICT: u32 = 0;
+pub const COMMITTED: u32 = 1;
+pub const ABORTED: u32 = 2;
+
+#[derive(Clone, Copy, Debug, PartialEq, Eq)]
+pub struct Entry {
+    pub key: Key,
+    /// The line as it was read.
+    pub seen: Image,
+    /// 1 with a put, 0 without; then the put columns mean nothing.
+    pub wrote: u32,
+    pub put_1: u32,
+    pub put_2: u32,
+}
+
+#[derive(Clone, Copy, Debug, PartialEq, Eq)]
+pub struct Transaction {
+    pub number: u32,
+    /// 1 if what was only read is validated too, which the paper calls checked; else 0.
+    pub serializable: u32,
+    pub phase: u32,
+    /// A group, or in check an entry without put.
+    pub place: u32,
+    pub verdict: u32,
+    /// The entries that count; those past it mean nothing.
+    pub count: u32,
+    pub entries: [Entry; MOST_ENTRIES],
+}
+
+/// What a read answers.
+#[derive(Clone, Copy, Debug, PartialEq, Eq)]
+pub enum Reading {
+    Absent,
+    Columns([u32; 2]),
+    /// The line's owner was aborted only now: the key is not held, and to be read again.
+    Again,
+}
+
+impl Entry {
+    /// A key just read.
+    pub fn read(key: Key, seen: Image) -> Entry {
+        Entry {
+            key,
+            seen,
+            wrote: 0,
+            put_1: 0,
+            put_2: 0,
+        }
+    }
+
+    pub fn put(&self) -> [u32; 2] {
+        [self.put_1, self.put_2]
+    }
+
+    /// The entry as last put, else as first read.
+    pub fn reading(&self) -> Reading {
+        if self.wrote == 1 {
+            Reading::Columns(self.put())
+        } else if self.seen.version == 0 {
+            Reading::Absent
+        } else {
+            Reading::Columns(self.seen.columns())
+        }
+    }
+}
+
+impl Transaction {
+    /// A transaction just begun. Entries that mean nothing are all 0.
+    pub fn begun(number: u32, serializable: bool) -> Transaction {
+        Transaction {
+            number,
+            serializable: u32::from(serializable),
+            phase: OPEN,
+            place: 0,
+            verdict: NO_VERDICT,
+            count: 0,
+            entries: [Entry::read(Key::from_numbers([0; 5]), NOTHING); MOST_ENTRIES],
+        }
+    }
+
+    /// The entries that count.
+    pub fn held(&self) -> &[Entry] {
+        &self.entries[..self.count as usize]
+    }
+
+    /// The place of a key among the entries.
+    pub fn place_of(&self, key: &Key) -> Option<usize> {
+        self.held().iter().position(|entry| entry.key == *key)
+    }
+
+    pub fn puts(&self) -> impl Iterator<Item = &Entry> {
+        self.held().iter().filter(|entry| entry.wrote == 1)
+    }
+
+    /// The entries without put, in the order read.
+    pub fn only_read(&self) -> impl Iterator<Item = &Entry> {
+        self.held().iter().filter(|entry| entry.wrote == 0)
+    }
+
+    /// Whether there are entries to be validated that no put validates.
+    pub fn has_to_check(&self) -> bool {
+        self.serializable == 1 && self.only_read().next().is_some()
+    }
+
+    /// A new phase starts at place 0.
+    pub fn entering(self, phase: u32) -> Transaction {
+        Transaction {
+            phase,
+            place: 0,
+            ..self
+        }
+    }
+
+    pub fn with_verdict(self, verdict: u32) -> Transaction {
+        Transaction { verdict, ..self }
+    }
+
+    /// The next place of this phase if it has that many, else what follows the last.
+    pub fn next_of(self, places: usize, after_last: Transaction) -> Transaction {
+        let place = self.place + 1;
+        if (place as usize) < places {
+            Transaction { place, ..self }
+        } else {
+            after_last
+        }
+    }
+}

@@ -1,0 +1,66 @@
+//! What a write makes of a line, and when a prepared line has expired.
+
+use super::record::{Image, Record, State, NOTHING};
+
+/// Ticks after which a prepared line has expired, and the last at which it counts so: beyond, the clock has gone back.
+pub const EXPIRED: std::ops::RangeInclusive<u32> = 15_000..=2_147_483_647;
+
+impl Image {
+    /// What a put of these columns under this number makes of the image.
+    fn after_put(&self, number: u32, columns: [u32; 2]) -> Image {
+        Image {
+            version: self.version + 1,
+            tx_id: number,
+            column_1: columns[0],
+            column_2: columns[1],
+        }
+    }
+}
+
+impl Record {
+    /// The line settled at an image; at version 0 there is no record.
+    fn settled(self, image: Image) -> Record {
+        let state = match image.version {
+            0 => State::Absent,
+            _ => State::Committed,
+        };
+        Record {
+            state,
+            image,
+            before: NOTHING,
+            prepare_clock: 0,
+            ..self
+        }
+    }
+
+    /// The line with a put committed at once.
+    pub fn committed(self, number: u32, columns: [u32; 2]) -> Record {
+        self.settled(self.image.after_put(number, columns))
+    }
+
+    /// The line with a put prepared. What the line holds, and not what was read, becomes the before image.
+    pub fn prepared(self, number: u32, columns: [u32; 2], now: u32) -> Record {
+        Record {
+            state: State::Prepared,
+            image: self.image.after_put(number, columns),
+            before: self.image,
+            prepare_clock: now,
+            ..self
+        }
+    }
+
+    /// A prepared line rolled forward.
+    pub fn forward(self) -> Record {
+        self.settled(self.image)
+    }
+
+    /// A prepared line rolled back.
+    pub fn back(self) -> Record {
+        self.settled(self.before)
+    }
+
+    /// Whether a prepared line has expired at this reading of the clock.
+    pub fn has_expired(&self, now: u32) -> bool {
+        EXPIRED.contains(&now.wrapping_sub(self.prepare_clock))
+    }
+}

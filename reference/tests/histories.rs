@@ -1,0 +1,102 @@
+//! Demand 3 and what holds of every call, on random histories.
+
+use reference::book::Book;
+use reference::make::arguments::prepared;
+use reference::make::closing::close;
+use reference::make::history::{Event, History, Rule};
+use reference::make::random::Random;
+use reference::make::Sheets;
+use reference::plain::coordinator::Decision;
+use reference::plain::groups::share_unit;
+use reference::plain::key::Key;
+use reference::plain::request::Request;
+use reference::plain::store::Store;
+use reference::plain::transaction::{Transaction, OPEN};
+use std::collections::BTreeSet;
+
+const HISTORIES: u64 = 2_000;
+
+/// The keys of the lines that the call wrote.
+fn written(before: &Store, after: &Store) -> Vec<Key> {
+    let pairs = before.records.iter().zip(&after.records);
+    let changed = pairs.filter(|(one, other)| one != other);
+    changed.map(|(one, _)| one.key).collect()
+}
+
+/// What holds of every call: no change by a refusal, else accepted sheets and one unit or the coordinator written.
+fn judge(event: &Event, after: &Sheets) {
+    let request = &event.request;
+    if event.answer.is_err() {
+        return assert_eq!(event.before, *after, "{request:?}");
+    }
+    let (before, after) = (event.before.store(), after.store());
+    let lines = written(&before, &after);
+    let units = &before.coordinator.units;
+    let one_unit = lines.windows(2).all(|k| share_unit(units, &k[0], &k[1]));
+    let coordinator_kept = before.coordinator == after.coordinator;
+    let one_write = one_unit && (lines.is_empty() || coordinator_kept);
+    assert!(one_write, "{request:?}");
+}
+
+/// The transaction whose one-phase write this call was, told by the sheets: a line written by an advance in open.
+fn one_phase<'a>(event: &'a Event, after: &Sheets) -> Option<&'a Transaction> {
+    match &event.request {
+        Request::Advance { transaction, .. }
+            if transaction.phase == OPEN && event.before.records != after.records =>
+        {
+            Some(transaction)
+        }
+        _ => None,
+    }
+}
+
+/// One legal history and its closing visits, held against the book.
+fn demand_3(seed: u64) {
+    let mut random = Random::new(seed);
+    let mut history = History::new(&mut random, Rule::Legal);
+    let mut book = Book::new(&history.sheets.records).expect("the first sheet is accepted");
+    let mut one_phase_numbers = BTreeSet::new();
+    // Some stop early, so that most orders are cut off half-way.
+    for _ in 0..random.pick(&[10, 30, 100, 200]) {
+        let event = history.step(&mut random);
+        judge(&event, &history.sheets);
+        book.note(&event.request, &event.answer);
+        one_phase_numbers.extend(one_phase(&event, &history.sheets).map(|t| t.number));
+    }
+    let mut sheets = history.sheets;
+    for event in close(&mut random, &mut sheets) {
+        assert!(event.answer.is_ok(), "seed {seed}: {:?}", event.request);
+        book.note(&event.request, &event.answer);
+    }
+    let last = sheets.store();
+    assert!(prepared(&last.records).is_empty(), "seed {seed}\n{sheets}");
+    assert_eq!(sheets.records, book.sheet(), "seed {seed}\n{sheets}");
+    for number in book.with_puts() {
+        let committed =
+            last.decision(number) == Decision::Committed || one_phase_numbers.contains(&number);
+        assert_eq!(
+            book.is_committed(number),
+            committed,
+            "seed {seed}: {number}"
+        );
+    }
+}
+
+#[test]
+fn legal_histories_come_to_what_the_book_says() {
+    for seed in 0..HISTORIES {
+        demand_3(seed);
+    }
+}
+
+#[test]
+fn any_transaction_leaves_accepted_sheets() {
+    for seed in 0..HISTORIES {
+        let mut random = Random::new(seed);
+        let mut history = History::new(&mut random, Rule::Free);
+        for _ in 0..100 {
+            let event = history.step(&mut random);
+            judge(&event, &history.sheets);
+        }
+    }
+}
