@@ -22,6 +22,7 @@ pub fn step(t: Transaction, clock: u32, records: &mut [u8], coordinator: &mut [u
         4 => phases::withdraw(t, coordinator),
         5 => phases::finish(t, records, coordinator),
         6 => phases::undo(t, records, coordinator),
+        7 => phases::done(t),
         _ => t,
     }
 }

@@ -28,6 +28,9 @@ finish-requires c κs = (c .before .before .before .before .before .pre, c .befo
 undo-requires : tie.Need-undo-requires
 undo-requires c κs = (c .before .before .before .before .before .pre, c .before .before .match .keys7)
 
+done-requires : tie.Need-done-requires
+done-requires c κs = search needs
+
 same-length : tie.Need-same-length
 same-length c = search needs
 
@@ -83,7 +86,10 @@ returns-7 : tie.Need-returns-7
 returns-7 c = stepped-as (step-at _ _ _ 6 (c .before .before .before .before .before .match .keys7)) (c .before .before .undo .ensures)
 
 returns-8 : tie.Need-returns-8
-returns-8 c = stepped-as (step-none _ _ _ (c .match .rest)) (wrote-nothing _ _ (records-accepted _ _ _ (c .before .before .before .pre)) (coordinator-accepted _ _ _ (c .before .before .before .pre)) _ _ refl)
+returns-8 c = stepped-as (step-at _ _ _ 7 (c .before .match .keys8)) (wrote-nothing _ _ (records-accepted _ _ _ (c .before .before .before .before .pre)) (coordinator-accepted _ _ _ (c .before .before .before .before .pre)) _ _ (c .done .ensures))
+
+returns-9 : tie.Need-returns-9
+returns-9 c = stepped-as (step-none _ _ _ (c .match .rest .0)) (wrote-nothing _ _ (records-accepted _ _ _ (c .before .before .before .pre)) (coordinator-accepted _ _ _ (c .before .before .before .pre)) _ _ refl)
 
 pub step-spec : {M : Type 1} → statement M
 step-spec =
@@ -96,6 +102,7 @@ step-spec =
     withdraw-requires
     finish-requires
     undo-requires
+    done-requires
     same-length
     same-length-2
     returns
@@ -114,4 +121,5 @@ step-spec =
     same-length-10
     same-length-11
     returns-7
-    returns-8)
+    returns-8
+    returns-9)
