@@ -6,7 +6,7 @@ applied to a copy of the crates that the recovery theorem stands on, proofs adap
 where the edit says. The cases that the definitions' own crate shows by computation are left out of the copy: they would refuse most edits first.
 
 An edit: comments with `#`; `refused: CRATE NAME`, the first theorem that must be refused; then `file:`, and `old:` and `new:` lines, one line each. `old:` occurs
-once; `every:` instead of `old:` replaces all occurrences.
+once; `every:` instead of `old:` replaces all occurrences. `\\n` in a `new:` line is a line break.
 """
 import pathlib
 import re
@@ -52,7 +52,7 @@ def apply(edit):
             count = text.count(old)
             if count == 0 or (count > 1 and not every):
                 sys.exit(f"{edit.name}: `{old}` stands {count} times in {path.name}")
-            path.write_text(text.replace(old, value))
+            path.write_text(text.replace(old, value.replace("\\n", "\n")))
     return refused
 
 

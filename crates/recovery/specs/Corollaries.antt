@@ -7,6 +7,7 @@ use native.Mathlib.Omega.{arith}
 use borrow.Author.Tests.{not-false}
 use Rattle.types.specs.declared.Decision.the-variants.{Undecided, Committed}
 use Rattle.types.specs.declared.Key.{Key}
+use Rattle.types.specs.declared.Record.{Record}
 use Rattle.model.specs.Records.{lineOf, hasLine, keyInRange}
 use Rattle.model.specs.Coordinator.{decision}
 use Rattle.model.specs.Images.{isPrepared, rolledBack}
@@ -17,7 +18,7 @@ use Rattle.model.specs.Conditions.{conditions}
 use Rattle.model.specs.Calls.{visitResult}
 use Rattle.model.specs.Histories.{answer, written, after, eventsAfter, leftBy, Legal, onePhaseIn}
 use Rattle.model.specs.SequentialModel.{firstModel, modelAfter, isCommitted}
-use Rattle.model.specs.RecoveryPass.{Visit, visitCall, Expiring}
+use Rattle.model.specs.RecoveryPass.{Visit, visitCall, Expiring, Closing}
 use Rattle.types.specs.declared.Recovery.{Recovery}
 use Rattle.call_laws.specs.Choices.{unless-by, not-first}
 use Rattle.call_laws.specs.Lines.{listsKey, has-line}
@@ -29,7 +30,7 @@ use Rattle.recovery.specs.Counted.{Silent, silent-kept}
 use Rattle.recovery.specs.Calls.{visit-away}
 use Rattle.recovery.specs.Invariant.{Inv}
 use Rattle.recovery.specs.History.{nonePrepared, first-inv, onesAfter, history-kept}
-use Rattle.recovery.specs.Theorem.{modelOf, recoveredBy}
+use Rattle.recovery.specs.Theorem.{modelOf, recoveredBy, recovery-theorem}
 use Rattle.recovery.specs.Commits.{visits-later, ones-are}
 
 -- a visit keeps a number silent
@@ -60,11 +61,11 @@ module _ (s : Sheets) (good : sheetsGood s ≡ true) (none : nonePrepared (s .li
   prepared-is-nothing k h p d =
       sym (invariant .view k h) ∙ settled-back (leftBy answer after cs s .coordinator) (lineOf k (leftBy answer after cs s .lines)) p d
 
-  -- "They think a dead station means a lost order; if COMMITTED was written, the next reader finishes it": the model has committed the number, and so every
-  -- recovery pass leaves its puts (`recovery-theorem`), and the coordinator line stays.
-  pub committed-completes : (n : ℕ) → s .coordinator .issued < n → decision n (leftBy answer after cs s .coordinator) ≡ Committed → (vs : List Visit) → (isCommitted n (modelOf cs s) ≡ true) × (decision n (recoveredBy vs cs s .coordinator) ≡ Committed)
-  committed-completes n new d vs =
-      (invariant .counted .decided n new d, visits-later vs (leftBy answer after cs s) n d)
+  -- "They think a dead station means a lost order; if COMMITTED was written, the next reader finishes it": the model has committed the number, and every
+  -- recovery pass leaves the coordinator line, no line PREPARED and the model's lines.
+  pub committed-completes : (n : ℕ) → s .coordinator .issued < n → decision n (leftBy answer after cs s .coordinator) ≡ Committed → (vs : List Visit) → Closing (λ (y : Sheets). y) after vs (leftBy answer after cs s) → ((isCommitted n (modelOf cs s) ≡ true) × (decision n (recoveredBy vs cs s .coordinator) ≡ Committed)) × ((nonePrepared (recoveredBy vs cs s .lines) ≡ true) × (recoveredBy vs cs s .lines ≡ map (λ (r : Record). modelOf cs s .line (r .key)) (s .lines)))
+  committed-completes n new d vs c =
+      ((invariant .counted .decided n new d, visits-later vs (leftBy answer after cs s) n d), recovery-theorem s good none cs legal vs c)
 
   -- "They look for a COMMITTED row after a one-phase commit, and there is none": the coordinator line is `-`, after the history and after every recovery pass.
   pub one-phase-leaves-undecided : (n : ℕ) → onePhaseIn written after n cs s ≡ true → (vs : List Visit) → Expiring (λ (y : Sheets). y) after vs (leftBy answer after cs s) → decision n (recoveredBy vs cs s .coordinator) ≡ Undecided
