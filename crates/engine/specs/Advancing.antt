@@ -5,6 +5,7 @@ use mathlib.Core.Bool.{Bool, true, false}
 use mathlib.Core.List.{List, [], _∷_}
 use Rattle.types.specs.declared.Decision.{Decision}
 use Rattle.types.specs.declared.Transaction.{Transaction}
+use Rattle.model.specs.Records.{records}
 use Rattle.model.specs.Coordinator.{coordinatorOf, decision}
 use Rattle.model.specs.Refusals.{refuse, refusalOf}
 use Rattle.model.specs.Transactions.{byPhase}
@@ -14,6 +15,7 @@ use Rattle.model.specs.Conditions.{cannotAdvance, conditions}
 use Rattle.model.specs.Steps.{step}
 use Rattle.model.specs.Calls.{advanceResult}
 use Rattle.model.specs.ByteCalls.{sheetsOf, advanceOn}
+use Rattle.group_writes.specs.Placed.{Placed}
 use Rattle.steps.specs.Ready.{Ready}
 use Rattle.steps.specs.Stepped.{Stepped}
 use Rattle.engine.specs.declared.Stepped as Answer
@@ -46,8 +48,8 @@ module _ (t : Transaction) (clock : ℕ) (rs cs : List ℕ) where
   advance-made a f = advance-rest a ∙ rw f
 
   -- what the step asks for
-  pub step-ready : Admitted t rs cs → Ready rs cs t
-  step-ready a = record { passing = a .accepted .passing; formed = a .formed }
+  pub step-ready : Admitted t rs cs → (ps : List ℕ) → Placed (records rs) t ps (t .count) → Ready rs cs t ps
+  step-ready a ps h = record { passing = a .accepted .passing; formed = a .formed; placed = h }
 
   -- and what it gives
   pub step-outcome : {u : Transaction} {rs′ cs′ : List ℕ} → Admitted t rs cs → forbids (t .phase) (decision (t .number) (coordinatorOf cs)) ≡ false → Stepped (sheetsOf rs cs) (step t clock (sheetsOf rs cs)) u rs′ cs′ → Outcome (stepped t) (advanceOn t clock rs cs) rs cs (record { refusal = 0; transaction = u }) rs′ cs′

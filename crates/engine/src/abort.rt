@@ -10,10 +10,10 @@ use types::Transaction;
 pub fn abort(t: Transaction, records: &[u8], coordinator: &[u8]) -> Stepped
     ensures { λ r. ⌜ r ≡ stepped t (abortOn t (now (records .entry)) (now (coordinator .entry))) ⌝ }
 {
-    let refused = admission::admission(t, records, coordinator);
-    if refused != 0 {
+    let admitted = admission::admission(t, records, coordinator);
+    if admitted.refusal != 0 {
         return Stepped {
-            refusal: refused,
+            refusal: admitted.refusal,
             transaction: t,
         };
     }

@@ -1,46 +1,68 @@
 // What is asked before a call looks into a transaction: refusals 1 to 3, and 4 and 5 of read and put.
 ghost use mathlib.Core.Path.{_≡_};
+ghost use mathlib.Core.Bool.{true};
+ghost use Rattle.model.specs.Records as sheet;
 ghost use Rattle.model.specs.Refusals.{refusalOf};
 ghost use Rattle.model.specs.WellFormed.{wellFormed};
 ghost use Rattle.model.specs.ByteCalls.{sheetsOf};
+ghost use Rattle.group_writes.specs.Placed.{Placed};
 ghost use Rattle.engine.specs.Outcomes.{Accepted};
 ghost use Rattle.engine.specs.Admission.{admitting, admittingOpen};
+use group_writes::lines::Located;
 use types::Key;
 use types::Transaction;
 
-// The unit letters are bytes 5 to 13 of an accepted coordinator sheet.
-fn well_formed(t: Transaction, records: &[u8], coordinator: &[u8]) -> bool
+// A refusal or 0, and then where the lines of the transaction's entries are.
+pub struct Admitted {
+    pub refusal: u32,
+    pub places: [usize; 8],
+}
+
+const NO_PLACES: [usize; 8] = [0, 0, 0, 0, 0, 0, 0, 0];
+
+// Whether the transaction is well formed, and where its lines are. The unit letters are bytes 5 to 13 of an accepted coordinator sheet.
+fn well_formed(t: Transaction, records: &[u8], coordinator: &[u8]) -> Located
     requires { ⌜ Accepted (now records) (now coordinator) ⌝ }
-    ensures { λ r. ⌜ r ≡ wellFormed (sheetsOf (now (records .entry)) (now (coordinator .entry))) t ⌝ }
+    ensures formed { λ r. ⌜ r .all ≡ wellFormed (sheetsOf (now (records .entry)) (now (coordinator .entry))) t ⌝ }
+    ensures placed { λ r. ⌜ (r .all ≡ true → Placed (sheet.records (now (records .entry))) t (r .places) (t .count)) ⌝ }
 {
     let issued = codec::coordinator::issued(coordinator);
     if !protocol::well_formed::formed(&coordinator[5..14], issued, t) {
-        return false;
+        return Located {
+            all: false,
+            places: NO_PLACES,
+        };
     }
-    group_writes::lines::lines_held(records, t)
+    group_writes::lines::locate(records, t)
 }
 
-// 0, or the refusal of every call that takes a transaction.
-pub fn admission(t: Transaction, records: &[u8], coordinator: &[u8]) -> u32
-    ensures { λ r. ⌜ r ≡ refusalOf (admitting t (now (records .entry)) (now (coordinator .entry))) ⌝ }
+// The refusal of every call that takes a transaction.
+pub fn admission(t: Transaction, records: &[u8], coordinator: &[u8]) -> Admitted
+    ensures answer { λ r. ⌜ r .refusal ≡ refusalOf (admitting t (now (records .entry)) (now (coordinator .entry))) ⌝ }
+    ensures placed { λ r. ⌜ (r .refusal ≡ 0 → Placed (sheet.records (now (records .entry))) t (r .places) (t .count)) ⌝ }
 {
     let checked = sheets::check::check(records, coordinator);
     if checked != 0 {
-        return checked;
+        return Admitted {
+            refusal: checked,
+            places: NO_PLACES,
+        };
     }
-    if !well_formed(t, records, coordinator) {
-        return 3;
+    let located = well_formed(t, records, coordinator);
+    let places = located.places;
+    if !located.all {
+        return Admitted { refusal: 3, places };
     }
-    0
+    Admitted { refusal: 0, places }
 }
 
 // 0, or the refusal of a call that wants an open transaction and names a key.
 pub fn open_admission(t: Transaction, key: Key, records: &[u8], coordinator: &[u8]) -> u32
     ensures { λ r. ⌜ r ≡ refusalOf (admittingOpen t key (now (records .entry)) (now (coordinator .entry))) ⌝ }
 {
-    let refused = admission(t, records, coordinator);
-    if refused != 0 {
-        return refused;
+    let admitted = admission(t, records, coordinator);
+    if admitted.refusal != 0 {
+        return admitted.refusal;
     }
     if t.phase != 0 {
         return 4;

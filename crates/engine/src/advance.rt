@@ -62,10 +62,10 @@ pub fn advance(t: Transaction, clock: u32, records: &mut [u8], coordinator: &mut
     ensures lines { λ r. ⌜ now (records .exit) ≡ recordsAfter (now (records .entry)) (now (coordinator .entry)) (advanceOn t clock (now (records .entry)) (now (coordinator .entry))) ⌝ }
     ensures decisions { λ r. ⌜ now (coordinator .exit) ≡ coordinatorAfter (now (records .entry)) (now (coordinator .entry)) (advanceOn t clock (now (records .entry)) (now (coordinator .entry))) ⌝ }
 {
-    let refused = admission::admission(t, records, coordinator);
-    if refused != 0 {
+    let admitted = admission::admission(t, records, coordinator);
+    if admitted.refusal != 0 {
         return Stepped {
-            refusal: refused,
+            refusal: admitted.refusal,
             transaction: t,
         };
     }
@@ -76,7 +76,8 @@ pub fn advance(t: Transaction, clock: u32, records: &mut [u8], coordinator: &mut
             transaction: t,
         };
     }
-    let transaction = steps::step(t, clock, records, coordinator);
+    let places = admitted.places;
+    let transaction = steps::step(t, places, clock, records, coordinator);
     Stepped {
         refusal: 0,
         transaction,

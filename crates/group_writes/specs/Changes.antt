@@ -15,7 +15,7 @@ use Rattle.lists.specs.Chosen.{or-fst, or-snd}
 use Rattle.lists.specs.Pieces.{over}
 use Rattle.lists.specs.Tests.{and-both, choose-by, tests}
 use Rattle.types.specs.declared.Entry.{Entry}
-use Rattle.types.specs.declared.Found.the-variants.{At, Nothing}
+use Rattle.types.specs.declared.Found.the-variants.{At}
 use Rattle.types.specs.declared.Key.{Key}
 use Rattle.types.specs.declared.Record.{Record}
 use Rattle.model.specs.Layouts.{recordLayout, imageLayout}
@@ -41,12 +41,11 @@ use Rattle.model.specs.Steps.{keysOf}
 use Rattle.sheet_laws.specs.Records.{good-ranged}
 use Rattle.sheet_laws.specs.Places.{length-records, records-over}
 use Rattle.call_laws.specs.Keys.{same-key, same-key-refl, same-key-flip, hasKey, no-entry}
-use Rattle.call_laws.specs.Lines.{listsKey, has-line}
-use Rattle.call_laws.specs.Places.{FoundAt, atKey, map-elsewhere, set-at-key, whole-lines, line-replaced}
+use Rattle.call_laws.specs.Places.{FoundAt, atKey, set-at-key, whole-lines, line-replaced}
 use Rattle.call_laws.specs.Ranges.{fine-parts}
 use Rattle.group_writes.specs.declared.changes.Change.{Change}
 use Rattle.group_writes.specs.declared.changes.Change.the-variants.{Commit, Prepare, Forward, Back}
-use Rattle.group_writes.specs.Lookup.{found-at, has-no-line}
+use Rattle.group_writes.specs.Lookup.{found-at}
 
 -- the record changed for an entry under a number
 unfoldable pub changed : Change → ℕ → Entry → Record → Record
@@ -134,7 +133,7 @@ module _ (c : Change) (n : ℕ) where
 
 -- The line of another key.
 module _ (k : Key) (f : Record → Record) (kept : (r : Record) → f r .key ≡ r .key) where
-  at-key-kept : (r : Record) → atKey k f r .key ≡ r .key
+  pub at-key-kept : (r : Record) → atKey k f r .key ≡ r .key
   at-key-kept r = choose-by (λ (x : Record). x .key ≡ r .key) (sameKey (r .key) k) (λ h. kept r) (λ h. refl)
 
   line-elsewhere : (j : Key) (rs : List Record) → sameKey j k ≡ false → lineOf j (map (atKey k f) rs) ≡ lineOf j rs
@@ -177,9 +176,10 @@ pub prepare-room : (n now : ℕ) (e : Entry) (r : Record) → goodAlone (prepare
 unfolding prepared
 prepare-room n now e r g = let v : r .image .version + 1 ≤ 99999 = good-version (prepared n now e r) g in omega arith
 
--- the sheet is accepted, and the new line of the entry's key keeps the rules
-pub record Due (c : Change) (n : ℕ) (e : Entry) (rs : List ℕ) : Type 0 where
+-- the sheet is accepted, and the new line of the entry's key, at its place, keeps the rules
+pub record Due (c : Change) (n : ℕ) (e : Entry) (p : ℕ) (rs : List ℕ) : Type 0 where
   pub accepted : recordsAccepted rs ≡ true
+  pub there : found (e .key) (records rs) ≡ At p
   pub fit : fits c n (records rs) e ≡ true
 
 -- the sheet after a change of the line of the entry's key
@@ -191,22 +191,17 @@ accepted-order : (s : List ℕ) → recordsAccepted s ≡ true → rising (recor
 unfolding recordsAccepted recordsGood
 accepted-order s a = search tests
 
-module _ (c : Change) (n : ℕ) (e : Entry) (rs : List ℕ) (due : Due c n e rs) where
-  -- the record at the place found is the line of the key
-  pub due-at : (i : ℕ) → found (e .key) (records rs) ≡ At i → goodAlone (changed c n e (getD (records rs) i noRecord)) ≡ true
-  due-at i h = ap (λ (r : Record). goodAlone (changed c n e r)) (found-at (e .key) (records rs) i h .line) ∙ due .fit
+module _ (c : Change) (n : ℕ) (e : Entry) (i : ℕ) (rs : List ℕ) (due : Due c n e i rs) where
+  -- the record at the place is the line of the key
+  pub due-at : goodAlone (changed c n e (getD (records rs) i noRecord)) ≡ true
+  due-at = ap (λ (r : Record). goodAlone (changed c n e r)) (found-at (e .key) (records rs) i (due .there) .line) ∙ due .fit
 
-  pub wrote-nothing : found (e .key) (records rs) ≡ Nothing → Wrote c n e rs rs
-  wrote-nothing h =
-      let l : listsKey (e .key) (records rs) ≡ false = sym (has-line (e .key) (records rs)) ∙ sym (has-no-line (e .key) (records rs) h) in
-      record { accepted = due .accepted; lines = sym (map-elsewhere (e .key) (changed c n e) (records rs) l) }
-
-  pub wrote-line : (i : ℕ) (r : Record) (rs′ : List ℕ) → found (e .key) (records rs) ≡ At i → r ≡ changed c n e (getD (records rs) i noRecord) → rs′ ≡ cond (ltb i (length rs / 98)) (over rs (i * 98) (recordText r)) rs → Wrote c n e rs rs′
-  wrote-line i r rs′ h q w =
-      let x : FoundAt (e .key) (records rs) i = found-at (e .key) (records rs) i h in
+  pub wrote-line : (r : Record) (rs′ : List ℕ) → r ≡ changed c n e (getD (records rs) i noRecord) → rs′ ≡ cond (ltb i (length rs / 98)) (over rs (i * 98) (recordText r)) rs → Wrote c n e rs rs′
+  wrote-line r rs′ q w =
+      let x : FoundAt (e .key) (records rs) i = found-at (e .key) (records rs) i (due .there) in
       let l : i < length (records rs) = x .within in
       let m : i < length rs / 98 = omega (arith, length-records rs) in
-      let g : goodAlone r ≡ true = ap goodAlone q ∙ due-at i h in
+      let g : goodAlone r ≡ true = ap goodAlone q ∙ due-at in
       let k : r .key ≡ getD (records rs) i noRecord .key = ap (λ (y : Record). y .key) q ∙ changed-key c n e (getD (records rs) i noRecord) in
       let o : rs′ ≡ over rs (i * 98) (recordText r) = w ∙ ap (λ (b : Bool). cond b (over rs (i * 98) (recordText r)) rs) (lt-ltb i (length rs / 98) m) in
       let p : r ≡ changed c n e (lineOf (e .key) (records rs)) = q ∙ ap (changed c n e) (x .line) in

@@ -21,7 +21,7 @@ use Rattle.call_laws.specs.Lines.{listsKey, line-of-key, line-passes}
 use Rattle.call_laws.specs.Places.{FoundAt, found-by}
 
 -- every line of an accepted sheet is good alone
-pub accepted-good : (s : List ℕ) → recordsAccepted s ≡ true → all goodAlone (records s) ≡ true
+accepted-good : (s : List ℕ) → recordsAccepted s ≡ true → all goodAlone (records s) ≡ true
 unfolding recordsAccepted recordsGood
 accepted-good s a = search tests
 
@@ -55,7 +55,3 @@ module _ (rs : List Record) (e : Entry) where
   pub holds-at : (i : ℕ) → found (e .key) rs ≡ At i → unchanged e (getD rs i noRecord) ≡ holds rs e
   unfolding holds isMissing
   holds-at i h = rw h (ap (unchanged e) (found-at (e .key) rs i h .line))
-
-  pub holds-nowhere : found (e .key) rs ≡ Nothing → false ≡ holds rs e
-  unfolding holds isMissing
-  holds-nowhere h = rw h

@@ -29,14 +29,16 @@ use Rattle.group_writes.specs.declared.changes.Change.{Change}
 use Rattle.group_writes.specs.declared.changes.Change.the-variants.{Commit, Prepare, Forward, Back}
 use Rattle.group_writes.specs.Groups.{ofGroup, group-in}
 use Rattle.group_writes.specs.Changes.{changed, fits}
+use Rattle.group_writes.specs.Placed.{Placed}
 use Rattle.group_writes.specs.Turns.{MayChange}
 
--- accepted bytes, and a transaction whose body is well formed
-pub record Ready (rs cs : List ℕ) (t : Transaction) : Type 0 where
+-- accepted bytes, and a transaction whose body is well formed and whose lines are at these places
+pub record Ready (rs cs : List ℕ) (t : Transaction) (ps : List ℕ) : Type 0 where
   pub passing : Passing (record { records = rs; coordinator = cs })
   pub body : Body (sheetsOf rs cs) t
+  pub placed : Placed (records rs) t ps (t .count)
 
-module _ (rs cs : List ℕ) (t : Transaction) (ready : Ready rs cs t) where
+module _ (rs cs : List ℕ) (t : Transaction) (ps : List ℕ) (ready : Ready rs cs t ps) where
   abbrev issued : ℕ
   issued = sheetsOf rs cs .coordinator .issued
 
@@ -51,7 +53,7 @@ module _ (rs cs : List ℕ) (t : Transaction) (ready : Ready rs cs t) where
   fine-good : (r : Record) → GoodParts issued r → goodAlone r ≡ true
   fine-good r g = and-fst (goodAlone r) (namesIssued issued r) (parts-fine issued r g)
 
-  may-change : (c : Change) → all (fits c (t .number) (records rs)) (groupAt t (sheetsOf rs cs)) ≡ true → MayChange c rs cs t
+  may-change : (c : Change) → all (fits c (t .number) (records rs)) (groupAt t (sheetsOf rs cs)) ≡ true → MayChange c rs cs t ps
   may-change c f =
       let p = passing-parts (record { records = rs; coordinator = cs }) (ready .passing) in
       record {
@@ -60,6 +62,7 @@ module _ (rs cs : List ℕ) (t : Transaction) (ready : Ready rs cs t) where
         few = ready .body .few;
         distinct = ready .body .distinct;
         fit = f;
+        placed = ready .placed;
       }
 
   -- Puts.
@@ -76,7 +79,7 @@ module _ (rs cs : List ℕ) (t : Transaction) (ready : Ready rs cs t) where
   has-its-line e h = and-fst (hasLine (e .key) (records rs)) (unchanged e (lineOf (e .key) (records rs))) h
 
   -- the puts of a group whose conditions hold, where a put over its line keeps the rules
-  may-put : (c : Change) → ((e : Entry) (r : Record) → GoodParts issued r → MayPut issued (t .number) e r → GoodParts issued (changed c (t .number) e r)) → all (holds (records rs)) (groupAt t (sheetsOf rs cs)) ≡ true → MayChange c rs cs t
+  may-put : (c : Change) → ((e : Entry) (r : Record) → GoodParts issued r → MayPut issued (t .number) e r → GoodParts issued (changed c (t .number) e r)) → all (holds (records rs)) (groupAt t (sheetsOf rs cs)) ≡ true → MayChange c rs cs t ps
   may-put c keeps h =
       may-change c
       (all-weaken putOver (fits c (t .number) (records rs))
@@ -87,11 +90,11 @@ module _ (rs cs : List ℕ) (t : Transaction) (ready : Ready rs cs t) where
       (may-put-over (sheetsOf rs cs) good t (ready .body) e held (and-snd (holds (records rs) e) (entryFormed issued e && isPut e) g))))
       (groupAt t (sheetsOf rs cs)) (put-over h))
 
-  pub may-commit : all (holds (records rs)) (groupAt t (sheetsOf rs cs)) ≡ true → MayChange Commit rs cs t
+  pub may-commit : all (holds (records rs)) (groupAt t (sheetsOf rs cs)) ≡ true → MayChange Commit rs cs t ps
   unfolding changed
   may-commit = may-put Commit (λ e r g m. committed-fine issued (t .number) e r g m)
 
-  pub may-prepare : (now : ℕ) → now ≤ 4294967295 → all (holds (records rs)) (groupAt t (sheetsOf rs cs)) ≡ true → MayChange (Prepare now) rs cs t
+  pub may-prepare : (now : ℕ) → now ≤ 4294967295 → all (holds (records rs)) (groupAt t (sheetsOf rs cs)) ≡ true → MayChange (Prepare now) rs cs t ps
   unfolding changed
   may-prepare now l = may-put (Prepare now) (λ e r g m. prepared-fine issued (t .number) e r g m now l)
 
@@ -104,7 +107,7 @@ module _ (rs cs : List ℕ) (t : Transaction) (ready : Ready rs cs t) where
       ∙ all-filter (ofGroup cs t) (λ (e : Entry). hasLine (e .key) (records rs)) (held t) (ready .body .lines)
 
   -- the lines of the group, where a rolled line keeps the rules
-  may-roll : (c : Change) → ((e : Entry) (r : Record) → GoodParts issued r → GoodParts issued (changed c (t .number) e r)) → MayChange c rs cs t
+  may-roll : (c : Change) → ((e : Entry) (r : Record) → GoodParts issued r → GoodParts issued (changed c (t .number) e r)) → MayChange c rs cs t ps
   may-roll c keeps =
       may-change c
       (all-weaken (λ (e : Entry). hasLine (e .key) (records rs)) (fits c (t .number) (records rs))
@@ -115,13 +118,13 @@ module _ (rs cs : List ℕ) (t : Transaction) (ready : Ready rs cs t) where
   unfolding preparedBy
   pending r h = search tests
 
-  pub may-forward : MayChange Forward rs cs t
+  pub may-forward : MayChange Forward rs cs t ps
   unfolding changed
   may-forward =
       may-roll Forward
       (λ e r g. choose-by (GoodParts issued) (preparedBy (t .number) r) (λ p. forward-fine issued r g (pending r p)) (λ p. g))
 
-  pub may-back : MayChange Back rs cs t
+  pub may-back : MayChange Back rs cs t ps
   unfolding changed
   may-back =
       may-roll Back

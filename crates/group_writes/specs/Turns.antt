@@ -1,7 +1,7 @@
 -- The loop over a transaction's entries that changes the lines of its group: what is left to be done makes, on the sheet as it is now, what all of it makes
 -- on the sheet as it was. A turn changes the line of one key, which no later entry has.
 use Prim.Native.Nat.{ℕ, _+_, _≤_, _<_}
-use mathlib.Core.Path.{_≡_, refl, sym, ap, ap₂, _∙_}
+use mathlib.Core.Path.{_≡_, refl, sym, ap, ap₂, _∙_, subst}
 use mathlib.Core.Bool.{Bool, true, false, _&&_, not, cond, true≢false}
 use mathlib.Core.List.{List, _∷_, map}
 use borrow.Author.Tests.{not-true}
@@ -12,10 +12,11 @@ use Rattle.lists.specs.Each.{all, filter}
 use Rattle.lists.specs.Tests.{and-fst, and-snd, and-both}
 use Rattle.types.proofs.Transaction.{the-type}
 use Rattle.types.specs.declared.Entry.{Entry}
+use Rattle.types.specs.declared.Found.the-variants.{At}
 use Rattle.types.specs.declared.Key.{Key}
 use Rattle.types.specs.declared.Record.{Record}
 use Rattle.types.specs.declared.Transaction.{Transaction}
-use Rattle.model.specs.Records.{records, recordsText, recordsAccepted}
+use Rattle.model.specs.Records.{records, recordsText, recordsAccepted, found}
 use Rattle.model.specs.Coordinator.{coordinatorAccepted}
 use Rattle.model.specs.Transactions.{held}
 use Rattle.model.specs.Writes.{lineAfter}
@@ -28,23 +29,26 @@ use Rattle.call_laws.specs.Places.{atKey}
 use Rattle.protocol.specs.Held.{PassedTo, entryAt, after, pass-first, pass-here, pass-next, pass-last}
 use Rattle.group_writes.specs.declared.changes.Change.{Change}
 use Rattle.group_writes.specs.Groups.{ofGroup, groupIn, group-in}
-use Rattle.group_writes.specs.Changes.{changed, written, lines-none, lines-first, fits, fits-elsewhere, Wrote}
+use Rattle.group_writes.specs.Changes.{changed, changed-key, written, lines-none, lines-first, at-key-kept, fits, fits-elsewhere, Wrote}
+use Rattle.group_writes.specs.Placed.{Placed, placed-kept}
 
 -- what a change of a whole group asks for
-pub record MayChange (c : Change) (rs cs : List ℕ) (t : Transaction) : Type 0 where
+pub record MayChange (c : Change) (rs cs : List ℕ) (t : Transaction) (ps : List ℕ) : Type 0 where
   pub accepted : recordsAccepted rs ≡ true
   pub units : coordinatorAccepted cs ≡ true
   pub few : t .count ≤ 8
   pub distinct : distinctKeys (held t) ≡ true
   pub fit : all (fits c (t .number) (records rs)) (groupAt t (sheetsOf rs cs)) ≡ true
+  pub placed : Placed (records rs) t ps (t .count)
 
 -- what a turn for entry i asks for
-pub record Turn (c : Change) (t : Transaction) (i : ℕ) (rs cs : List ℕ) : Type 0 where
+pub record Turn (c : Change) (t : Transaction) (i p : ℕ) (rs cs : List ℕ) : Type 0 where
   pub accepted : recordsAccepted rs ≡ true
   pub units : coordinatorAccepted cs ≡ true
   pub few : t .count ≤ 8
   pub within : i < 8
   pub fit : ofGroup cs t (entryAt t i) ≡ true → fits c (t .number) (records rs) (entryAt t i) ≡ true
+  pub there : found (entryAt t i .key) (records rs) ≡ At p
 
 -- the sheet after a turn: the line of the entry's key changed, if the entry is of the group
 pub record Turned (c : Change) (cs : List ℕ) (t : Transaction) (e : Entry) (rs rs′ : List ℕ) : Type 0 where
@@ -80,22 +84,24 @@ module _ (c : Change) (cs : List ℕ) (t : Transaction) where
   mayTurn rs es = distinctKeys es && all (fits c (t .number) (records rs)) (groupIn cs t es)
 
   -- i entries are done, and what is left makes the lines w
-  pub record Underway (w : List Record) (rs : List ℕ) (i : ℕ) : Type 0 where
+  pub record Underway (ps : List ℕ) (w : List Record) (rs : List ℕ) (i : ℕ) : Type 0 where
     pub accepted : recordsAccepted rs ≡ true
     pub lines : PassedTo t (leaves rs) w i
     pub ahead : PassedTo t (mayTurn rs) true i
+    pub placed : Placed (records rs) t ps (t .count)
 
-  pub underway-first : (rs : List ℕ) {vs : List Val} → Is (row the-type) t vs → MayChange c rs cs t → Underway (leaves rs (held t)) rs 0
-  underway-first rs p m =
+  pub underway-first : (ps rs : List ℕ) {vs : List Val} → Is (row the-type) t vs → MayChange c rs cs t ps → Underway ps (leaves rs (held t)) rs 0
+  underway-first ps rs p m =
       let f : all (fits c (t .number) (records rs)) (groupIn cs t (held t)) ≡ true = ap (all (fits c (t .number) (records rs))) (sym (group-in rs cs t)) ∙ m .fit in
       let a = pass-first t (mayTurn rs) p (m .few) in
       record {
         accepted = m .accepted;
         lines = pass-first t (leaves rs) p (m .few);
         ahead = record { place = a .place; room = a .room; rest = and-both (m .distinct) f };
+        placed = m .placed;
       }
 
-  module _ (w : List Record) (rs : List ℕ) (i : ℕ) (u : Underway w rs i) where
+  module _ (ps : List ℕ) (w : List Record) (rs : List ℕ) (i : ℕ) (u : Underway ps w rs i) where
     pub underway-last : t .count ≤ i → rs ≡ recordsText w
     unfolding filter
     underway-last l =
@@ -142,19 +148,20 @@ module _ (c : Change) (cs : List ℕ) (t : Transaction) where
       unfolding all
       turn-fits h = and-fst (fits c (t .number) (records rs) e) (all (fits c (t .number) (records rs)) (groupIn cs t es)) (own-fits h)
 
-      pub underway-next : (rs′ : List ℕ) → Turned c cs t e rs rs′ → Underway w rs′ (i + 1)
+      pub underway-next : (rs′ : List ℕ) → Turned c cs t e rs rs′ → Underway ps w rs′ (i + 1)
       unfolding all
       underway-next rs′ x = go (ofGroup cs t e) refl
         where
-          next : leaves rs (e ∷ es) ≡ leaves rs′ es → all (fits c (t .number) (records rs′)) (groupIn cs t es) ≡ true → Underway w rs′ (i + 1)
-          next f g =
+          next : leaves rs (e ∷ es) ≡ leaves rs′ es → all (fits c (t .number) (records rs′)) (groupIn cs t es) ≡ true → Placed (records rs′) t ps (t .count) → Underway ps w rs′ (i + 1)
+          next f g p =
               record {
                 accepted = x .accepted;
                 lines = pass-next t (leaves rs) (leaves rs′) w i l (u .lines) f;
                 ahead = pass-next t (mayTurn rs) (mayTurn rs′) true i l (u .ahead) (here ∙ sym (and-both later-distinct g));
+                placed = p;
               }
 
-          go : (b : Bool) → ofGroup cs t e ≡ b → Underway w rs′ (i + 1)
+          go : (b : Bool) → ofGroup cs t e ≡ b → Underway ps w rs′ (i + 1)
           go true h =
               let m : records rs′ ≡ map (atKey (e .key) (changed c (t .number) e)) (records rs) =
               x .lines ∙ ap (λ (b : Bool). cond b (map (atKey (e .key) (changed c (t .number) e)) (records rs)) (records rs)) h in
@@ -165,9 +172,12 @@ module _ (c : Change) (cs : List ℕ) (t : Transaction) where
               (ap (λ (y : List Record). all (fits c (t .number) y) (groupIn cs t es)) m
               ∙ (fits-elsewhere c (t .number) e (records rs) (groupIn cs t es) free
               ∙ and-snd (fits c (t .number) (records rs) e) (all (fits c (t .number) (records rs)) (groupIn cs t es)) (own-fits h)))
+              (subst (λ (y : List Record). Placed y t ps (t .count)) (sym m)
+              (placed-kept (atKey (e .key) (changed c (t .number) e)) (at-key-kept (e .key) (changed c (t .number) e) (changed-key c (t .number) e)) (records rs) t ps (t .count) (u .placed)))
           go false h =
               let m : records rs′ ≡ records rs =
               x .lines ∙ ap (λ (b : Bool). cond b (map (atKey (e .key) (changed c (t .number) e)) (records rs)) (records rs)) h in
               next
               (ap₂ (λ (y : List Entry) (z : List Record). map (lineAfter (written c (t .number) y)) z) (other h) (sym m))
               (ap₂ (λ (z : List Record) (y : List Entry). all (fits c (t .number) z) y) m (sym (other h)) ∙ here-fits)
+              (subst (λ (y : List Record). Placed y t ps (t .count)) (sym m) (u .placed))

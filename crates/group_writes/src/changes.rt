@@ -14,11 +14,9 @@ ghost use Rattle.group_writes.specs.Changes.{written, Due, Wrote};
 ghost use Rattle.group_writes.specs.Turns.{MayChange, Turn, Turned};
 ghost use Rattle.group_writes.specs.Ready.{Ready};
 use crate::groups;
-use crate::lines;
 use protocol::images;
 use protocol::transactions;
 use types::Entry;
-use types::Found;
 use types::Record;
 use types::Transaction;
 
@@ -53,71 +51,88 @@ fn changed(c: Change, n: u32, e: Entry, r: Record) -> Record
     }
 }
 
-// The line of the entry's key changed.
-fn change_line(c: Change, n: u32, e: Entry, records: &mut [u8])
-    requires { ⌜ Due c n e (now records) ⌝ }
+// The line of the entry's key changed, at its place.
+fn change_line(c: Change, n: u32, e: Entry, place: usize, records: &mut [u8])
+    requires { ⌜ Due c n e place (now records) ⌝ }
     ensures { λ u. ⌜ Wrote c n e (now (records .entry)) (now (records .exit)) ⌝ }
 {
-    let Found::At(i) = lines::line_of(records, e.key) else {
-        return;
-    };
-    let r = codec::records::record_at(records, i);
-    codec::records::set_record(records, i, changed(c, n, e, r));
+    let r = codec::records::record_at(records, place);
+    codec::records::set_record(records, place, changed(c, n, e, r));
 }
 
 // The line of entry i changed, if the entry is of the group.
-fn change_entry(c: Change, t: Transaction, i: usize, records: &mut [u8], coordinator: &[u8])
-    requires { ⌜ Turn c t i (now records) (now coordinator) ⌝ }
+fn change_entry(
+    c: Change,
+    t: Transaction,
+    i: usize,
+    place: usize,
+    records: &mut [u8],
+    coordinator: &[u8],
+)
+    requires { ⌜ Turn c t i place (now records) (now coordinator) ⌝ }
     ensures { λ u. ⌜ Turned c (now (coordinator .entry)) t (entryAt t i) (now (records .entry)) (now (records .exit)) ⌝ }
 {
     let e = transactions::entry_at(t, i);
     if !groups::in_group(coordinator, t, e) {
         return;
     }
-    change_line(c, t.number, e, records);
+    change_line(c, t.number, e, place, records);
 }
 
 // The lines of the group changed.
-fn change_group(c: Change, t: Transaction, records: &mut [u8], coordinator: &[u8])
-    requires { ⌜ MayChange c (now records) (now coordinator) t ⌝ }
+fn change_group(
+    c: Change,
+    t: Transaction,
+    places: [usize; 8],
+    records: &mut [u8],
+    coordinator: &[u8],
+)
+    requires { ⌜ MayChange c (now records) (now coordinator) t places ⌝ }
     ensures { λ u. ⌜ now (records .exit) ≡ recordsText (map (lineAfter (written c (t .number) (groupAt t (sheetsOf (now (records .entry)) (now (coordinator .entry)))))) (sheet.records (now (records .entry)))) ⌝ }
 {
     let n = t.count as usize;
     for i in 0..n {
-        change_entry(c, t, i, records, coordinator);
+        let place = places[i];
+        change_entry(c, t, i, place, records, coordinator);
     }
 }
 
 // The puts of the group committed in one phase.
-pub fn commit_group(t: Transaction, records: &mut [u8], coordinator: &[u8])
-    requires { ⌜ Ready (now records) (now coordinator) t ⌝ }
+pub fn commit_group(t: Transaction, places: [usize; 8], records: &mut [u8], coordinator: &[u8])
+    requires { ⌜ Ready (now records) (now coordinator) t places ⌝ }
     requires { ⌜ all (holds (sheet.records (now records))) (groupAt t (sheetsOf (now records) (now coordinator))) ≡ true ⌝ }
     ensures { λ u. ⌜ now (records .exit) ≡ recordsText (map (lineAfter (commit (t .number) (groupAt t (sheetsOf (now (records .entry)) (now (coordinator .entry)))))) (sheet.records (now (records .entry)))) ⌝ }
 {
-    change_group(Change::Commit, t, records, coordinator);
+    change_group(Change::Commit, t, places, records, coordinator);
 }
 
 // The puts of the group prepared at a clock reading.
-pub fn prepare_group(t: Transaction, clock: u32, records: &mut [u8], coordinator: &[u8])
-    requires { ⌜ Ready (now records) (now coordinator) t ⌝ }
+pub fn prepare_group(
+    t: Transaction,
+    places: [usize; 8],
+    clock: u32,
+    records: &mut [u8],
+    coordinator: &[u8],
+)
+    requires { ⌜ Ready (now records) (now coordinator) t places ⌝ }
     requires { ⌜ all (holds (sheet.records (now records))) (groupAt t (sheetsOf (now records) (now coordinator))) ≡ true ⌝ }
     ensures { λ u. ⌜ now (records .exit) ≡ recordsText (map (lineAfter (prepare (t .number) clock (groupAt t (sheetsOf (now (records .entry)) (now (coordinator .entry)))))) (sheet.records (now (records .entry)))) ⌝ }
 {
-    change_group(Change::Prepare(clock), t, records, coordinator);
+    change_group(Change::Prepare(clock), t, places, records, coordinator);
 }
 
 // The lines of the group that the transaction has prepared rolled forward.
-pub fn forward_group(t: Transaction, records: &mut [u8], coordinator: &[u8])
-    requires { ⌜ Ready (now records) (now coordinator) t ⌝ }
+pub fn forward_group(t: Transaction, places: [usize; 8], records: &mut [u8], coordinator: &[u8])
+    requires { ⌜ Ready (now records) (now coordinator) t places ⌝ }
     ensures { λ u. ⌜ now (records .exit) ≡ recordsText (map (lineAfter (forward (t .number) (keysOf (groupAt t (sheetsOf (now (records .entry)) (now (coordinator .entry))))))) (sheet.records (now (records .entry)))) ⌝ }
 {
-    change_group(Change::Forward, t, records, coordinator);
+    change_group(Change::Forward, t, places, records, coordinator);
 }
 
 // The lines of the group that the transaction has prepared rolled back.
-pub fn back_group(t: Transaction, records: &mut [u8], coordinator: &[u8])
-    requires { ⌜ Ready (now records) (now coordinator) t ⌝ }
+pub fn back_group(t: Transaction, places: [usize; 8], records: &mut [u8], coordinator: &[u8])
+    requires { ⌜ Ready (now records) (now coordinator) t places ⌝ }
     ensures { λ u. ⌜ now (records .exit) ≡ recordsText (map (lineAfter (back (t .number) (keysOf (groupAt t (sheetsOf (now (records .entry)) (now (coordinator .entry))))))) (sheet.records (now (records .entry)))) ⌝ }
 {
-    change_group(Change::Back, t, records, coordinator);
+    change_group(Change::Back, t, places, records, coordinator);
 }

@@ -3,7 +3,8 @@ ghost use mathlib.Core.Path.{_≡_};
 ghost use mathlib.Core.Bool.{true};
 ghost use Prim.Native.Nat.{_≤_, _<_};
 ghost use Rattle.lists.specs.Each.{all};
-ghost use Rattle.model.specs.Records.{recordsAccepted};
+ghost use Rattle.types.specs.declared.Found.the-variants.{At};
+ghost use Rattle.model.specs.Records.{found};
 ghost use Rattle.model.specs.Records as sheet;
 ghost use Rattle.model.specs.Coordinator.{coordinatorOf, coordinatorAccepted};
 ghost use Rattle.model.specs.Transactions.{puts};
@@ -12,6 +13,7 @@ ghost use Rattle.model.specs.Steps.{holds, groupAt};
 ghost use Rattle.model.specs.ByteCalls.{sheetsOf};
 ghost use Rattle.protocol.specs.Held.{entryAt};
 ghost use Rattle.group_writes.specs.Groups.{ofGroup, holdsInGroup};
+ghost use Rattle.group_writes.specs.Placed.{Placed};
 use crate::lines;
 use protocol::groups;
 use protocol::transactions;
@@ -35,25 +37,28 @@ pub fn group_count(coordinator: &[u8], t: Transaction) -> u32
 }
 
 // The condition of entry i holds, unless it is of another group.
-fn entry_holds(records: &[u8], coordinator: &[u8], t: Transaction, i: usize) -> bool
-    requires { ⌜ (recordsAccepted (now records) ≡ true) × ((coordinatorAccepted (now coordinator) ≡ true) × ((t .count ≤ 8) × (i < 8))) ⌝ }
+fn entry_holds(records: &[u8], coordinator: &[u8], t: Transaction, i: usize, place: usize) -> bool
+    requires { ⌜ (coordinatorAccepted (now coordinator) ≡ true) × ((t .count ≤ 8) × (i < 8)) ⌝ }
+    requires { ⌜ found (entryAt t i .key) (sheet.records (now records)) ≡ At place ⌝ }
     ensures { λ r. ⌜ r ≡ holdsInGroup (now (records .entry)) (now (coordinator .entry)) t (entryAt t i) ⌝ }
 {
     let e = transactions::entry_at(t, i);
     if !in_group(coordinator, t, e) {
         return true;
     }
-    lines::holds(records, e)
+    lines::holds(records, e, place)
 }
 
 // The conditions of all the group's entries hold.
-pub fn group_holds(records: &[u8], coordinator: &[u8], t: Transaction) -> bool
-    requires { ⌜ (recordsAccepted (now records) ≡ true) × ((coordinatorAccepted (now coordinator) ≡ true) × (t .count ≤ 8)) ⌝ }
+pub fn group_holds(records: &[u8], coordinator: &[u8], t: Transaction, places: [usize; 8]) -> bool
+    requires { ⌜ (coordinatorAccepted (now coordinator) ≡ true) × (t .count ≤ 8) ⌝ }
+    requires { ⌜ Placed (sheet.records (now records)) t places (t .count) ⌝ }
     ensures { λ r. ⌜ r ≡ all (holds (sheet.records (now (records .entry)))) (groupAt t (sheetsOf (now (records .entry)) (now (coordinator .entry)))) ⌝ }
 {
     let n = t.count as usize;
     for i in 0..n {
-        if !entry_holds(records, coordinator, t, i) {
+        let place = places[i];
+        if !entry_holds(records, coordinator, t, i, place) {
             return false;
         }
     }

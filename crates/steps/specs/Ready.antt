@@ -1,26 +1,33 @@
 -- What the refusals have let pass, in the parts that each phase asks for: accepted bytes, and of a well-formed transaction its body, and its place by its phase.
-use Prim.Native.Nat.{ℕ, _≤_, _<_}
-use mathlib.Core.Path.{_≡_, refl, sym, _∙_}
-use mathlib.Core.Bool.{true}
-use mathlib.Core.List.{List}
-use lib.ListN.{length}
+use Prim.Native.Nat.{ℕ, zero, suc, _≤_, _<_}
+use mathlib.Core.Path.{_≡_, refl, sym, ap, _∙_}
+use mathlib.Core.Bool.{Bool, true, _||_}
+use mathlib.Core.List.{List, [], _∷_}
+use native.Mathlib.Omega.{arith}
+use lib.ListN.{length, getD}
 use lib.Dec.{ltb}
 use borrow.Author.Tests.{ltb-true}
+use Rattle.lists.specs.Each.{any}
+use Rattle.lists.specs.Chosen.{or-right}
+use Rattle.types.specs.declared.Entry.{Entry}
 use Rattle.types.specs.declared.Transaction.{Transaction}
-use Rattle.model.specs.Records.{recordsAccepted}
+use Rattle.model.specs.Records.{records, recordsAccepted, sameKey}
 use Rattle.model.specs.Coordinator.{coordinatorOf, coordinatorAccepted}
-use Rattle.model.specs.Transactions.{toValidate, held, puts, moved}
+use Rattle.model.specs.Transactions.{toValidate, mustValidate, held, puts, moved, noEntry}
 use Rattle.model.specs.Groups.{groupCount}
 use Rattle.model.specs.WellFormed.{wellFormed, placeFormed}
 use Rattle.model.specs.ByteCalls.{sheetsOf}
+use Rattle.call_laws.specs.Keys.{hasKey, kept-key, same-key-refl}
 use Rattle.call_laws.specs.Transactions.{Body, Stage, well-formed-parts, place-at}
 use Rattle.call_laws.specs.Lifting.{Passing, passing-parts}
+use Rattle.group_writes.specs.Placed.{Placed}
 use Rattle.group_writes.specs.Ready.{Ready as MayWrite}
 
--- what refusals 1 to 3 let pass
-pub record Ready (rs cs : List ℕ) (t : Transaction) : Type 0 where
+-- what refusals 1 to 3 let pass, and where the lines of the entries are
+pub record Ready (rs cs : List ℕ) (t : Transaction) (ps : List ℕ) : Type 0 where
   pub passing : Passing (record { records = rs; coordinator = cs })
   pub formed : wellFormed (sheetsOf rs cs) t ≡ true
+  pub placed : Placed (records rs) t ps (t .count)
 
 -- a transaction whose number is issued, all that a decision asks for
 pub record Known (cs : List ℕ) (t : Transaction) : Type 0 where
@@ -29,7 +36,19 @@ pub record Known (cs : List ℕ) (t : Transaction) : Type 0 where
   pub issued : t .number ≤ coordinatorOf cs .issued
   pub few : t .count ≤ 8
 
-module _ (rs cs : List ℕ) (t : Transaction) (ready : Ready rs cs t) where
+-- an entry at a place of the list has its key in the list
+key-at : (es : List Entry) (i : ℕ) → i < length es → hasKey (getD es i noEntry .key) es ≡ true
+unfolding any
+key-at [] i l = absurd (omega arith)
+key-at (e ∷ es) zero l = ap (λ (b : Bool). b || hasKey (e .key) es) (same-key-refl (e .key))
+key-at (e ∷ es) (suc i) l = or-right (sameKey (e .key) (getD es i noEntry .key)) (hasKey (getD es i noEntry .key) es) (key-at es i (omega arith))
+
+-- the entry to be validated is one that the transaction holds
+pub validate-held : (t : Transaction) → t .place < length (toValidate t) → hasKey (getD (toValidate t) (t .place) noEntry .key) (held t) ≡ true
+unfolding toValidate
+validate-held t l = kept-key (mustValidate t) (getD (toValidate t) (t .place) noEntry .key) (held t) (key-at (toValidate t) (t .place) l)
+
+module _ (rs cs : List ℕ) (t : Transaction) (ps : List ℕ) (ready : Ready rs cs t ps) where
   body : Body (sheetsOf rs cs) t
   body = well-formed-parts (sheetsOf rs cs) t (ready .formed) .0
 
@@ -45,8 +64,8 @@ module _ (rs cs : List ℕ) (t : Transaction) (ready : Ready rs cs t) where
   pub few : t .count ≤ 8
   few = body .few
 
-  pub may-write : MayWrite rs cs t
-  may-write = record { passing = ready .passing; body = body }
+  pub may-write : MayWrite rs cs t ps
+  may-write = record { passing = ready .passing; body = body; placed = ready .placed }
 
   pub known : Known cs t
   known =

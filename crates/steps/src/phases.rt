@@ -5,11 +5,13 @@ ghost use mathlib.Core.List.{List};
 ghost use Prim.Native.Nat.{ℕ, _≤_, _<_};
 ghost use lib.ListN.{length};
 ghost use Rattle.model.specs.Records.{recordsAccepted};
+ghost use Rattle.model.specs.Records as sheet;
 ghost use Rattle.model.specs.Coordinator.{coordinatorOf, coordinatorAccepted};
 ghost use Rattle.model.specs.Transactions.{puts, toValidate};
 ghost use Rattle.model.specs.Groups.{groupCount};
 ghost use Rattle.model.specs.Steps.{onePhaseAllowed, openStep, onePhase, nextGroup, prepareStep, validateStep, decideStep, withdrawStep, finishStep, undoStep};
 ghost use Rattle.model.specs.ByteCalls.{sheetsOf};
+ghost use Rattle.group_writes.specs.Placed.{Placed};
 ghost use Rattle.steps.specs.Ready.{Ready, Known};
 ghost use Rattle.steps.specs.Stepped.{Stepped, ByRecords, ByCoordinator};
 use group_writes::changes;
@@ -29,20 +31,30 @@ fn one_phase_allowed(t: Transaction, coordinator: &[u8]) -> bool
 }
 
 // The only group committed if its conditions hold.
-fn one_phase(t: Transaction, records: &mut [u8], coordinator: &[u8]) -> Transaction
-    requires { ⌜ Ready (now records) (now coordinator) t ⌝ }
+fn one_phase(
+    t: Transaction,
+    places: [usize; 8],
+    records: &mut [u8],
+    coordinator: &[u8],
+) -> Transaction
+    requires { ⌜ Ready (now records) (now coordinator) t places ⌝ }
     ensures { λ r. ⌜ Stepped (sheetsOf (now (records .entry)) (now (coordinator .entry))) (onePhase t (sheetsOf (now (records .entry)) (now (coordinator .entry)))) r (now (records .exit)) (now (coordinator .entry)) ⌝ }
 {
-    if groups::group_holds(records, coordinator, t) {
-        changes::commit_group(t, records, coordinator);
+    if groups::group_holds(records, coordinator, t, places) {
+        changes::commit_group(t, places, records, coordinator);
         return stages::commits(t);
     }
     stages::to_phase(stages::WITHDRAW, t)
 }
 
 // Without puts to validate, or at once to done; one group in one phase, the only way that writes; more by prepare.
-pub fn open(t: Transaction, records: &mut [u8], coordinator: &[u8]) -> Transaction
-    requires { ⌜ Ready (now records) (now coordinator) t ⌝ }
+pub fn open(
+    t: Transaction,
+    places: [usize; 8],
+    records: &mut [u8],
+    coordinator: &[u8],
+) -> Transaction
+    requires { ⌜ Ready (now records) (now coordinator) t places ⌝ }
     ensures { λ r. ⌜ Stepped (sheetsOf (now (records .entry)) (now (coordinator .entry))) (openStep t (sheetsOf (now (records .entry)) (now (coordinator .entry)))) r (now (records .exit)) (now (coordinator .entry)) ⌝ }
 {
     if !transactions::has_puts(t) {
@@ -54,7 +66,7 @@ pub fn open(t: Transaction, records: &mut [u8], coordinator: &[u8]) -> Transacti
     if !one_phase_allowed(t, coordinator) {
         return stages::to_phase(stages::PREPARE, t);
     }
-    one_phase(t, records, coordinator)
+    one_phase(t, places, records, coordinator)
 }
 
 // To the next group, or after the last to another phase.
@@ -71,25 +83,33 @@ fn next_group(after: u32, t: Transaction, coordinator: &[u8]) -> Transaction
 }
 
 // The group prepared if its conditions hold; if one fails, nothing is written.
-pub fn prepare(t: Transaction, clock: u32, records: &mut [u8], coordinator: &[u8]) -> Transaction
-    requires { ⌜ Ready (now records) (now coordinator) t ⌝ }
+pub fn prepare(
+    t: Transaction,
+    places: [usize; 8],
+    clock: u32,
+    records: &mut [u8],
+    coordinator: &[u8],
+) -> Transaction
+    requires { ⌜ Ready (now records) (now coordinator) t places ⌝ }
     requires { ⌜ t .phase ≡ 1 ⌝ }
     ensures { λ r. ⌜ Stepped (sheetsOf (now (records .entry)) (now (coordinator .entry))) (prepareStep t clock (sheetsOf (now (records .entry)) (now (coordinator .entry)))) r (now (records .exit)) (now (coordinator .entry)) ⌝ }
 {
-    if !groups::group_holds(records, coordinator, t) {
+    if !groups::group_holds(records, coordinator, t, places) {
         return stages::to_phase(stages::WITHDRAW, t);
     }
-    changes::prepare_group(t, clock, records, coordinator);
+    changes::prepare_group(t, places, clock, records, coordinator);
     next_group(stages::after_prepare(t), t, coordinator)
 }
 
 // One entry without a put.
-pub fn validate(t: Transaction, records: &[u8]) -> Transaction
+pub fn validate(t: Transaction, places: [usize; 8], records: &[u8]) -> Transaction
     requires { ⌜ (recordsAccepted (now records) ≡ true) × ((t .count ≤ 8) × (t .place < length (toValidate t))) ⌝ }
+    requires { ⌜ Placed (sheet.records (now records)) t places (t .count) ⌝ }
     ensures { λ r. ⌜ ByRecords (validateStep t) (now (records .entry)) r ⌝ }
 {
     let e = transactions::to_validate(t, t.place);
-    if !lines::holds(records, e) {
+    let place = lines::place_of(e.key, t, places);
+    if !lines::holds(records, e, place) {
         return stages::to_phase(stages::WITHDRAW, t);
     }
     stages::next_entry(t)
@@ -126,22 +146,32 @@ pub fn withdraw(t: Transaction, coordinator: &mut [u8]) -> Transaction
 }
 
 // What the transaction has prepared in the group rolled forward.
-pub fn finish(t: Transaction, records: &mut [u8], coordinator: &[u8]) -> Transaction
-    requires { ⌜ Ready (now records) (now coordinator) t ⌝ }
+pub fn finish(
+    t: Transaction,
+    places: [usize; 8],
+    records: &mut [u8],
+    coordinator: &[u8],
+) -> Transaction
+    requires { ⌜ Ready (now records) (now coordinator) t places ⌝ }
     requires { ⌜ t .phase ≡ 5 ⌝ }
     ensures { λ r. ⌜ Stepped (sheetsOf (now (records .entry)) (now (coordinator .entry))) (finishStep t (sheetsOf (now (records .entry)) (now (coordinator .entry)))) r (now (records .exit)) (now (coordinator .entry)) ⌝ }
 {
-    changes::forward_group(t, records, coordinator);
+    changes::forward_group(t, places, records, coordinator);
     next_group(stages::DONE, t, coordinator)
 }
 
 // What the transaction has prepared in the group rolled back.
-pub fn undo(t: Transaction, records: &mut [u8], coordinator: &[u8]) -> Transaction
-    requires { ⌜ Ready (now records) (now coordinator) t ⌝ }
+pub fn undo(
+    t: Transaction,
+    places: [usize; 8],
+    records: &mut [u8],
+    coordinator: &[u8],
+) -> Transaction
+    requires { ⌜ Ready (now records) (now coordinator) t places ⌝ }
     requires { ⌜ t .phase ≡ 6 ⌝ }
     ensures { λ r. ⌜ Stepped (sheetsOf (now (records .entry)) (now (coordinator .entry))) (undoStep t (sheetsOf (now (records .entry)) (now (coordinator .entry)))) r (now (records .exit)) (now (coordinator .entry)) ⌝ }
 {
-    changes::back_group(t, records, coordinator);
+    changes::back_group(t, places, records, coordinator);
     next_group(stages::DONE, t, coordinator)
 }
 

@@ -14,13 +14,16 @@ prepare-requires : tie.Need-prepare-requires
 prepare-requires c κs = (c .before .before .before .before .before .pre, c .before .before .match .keys2)
 
 validate-requires : tie.Need-validate-requires
-validate-requires c κs = (records-accepted _ _ _ (c .before .before .before .before .pre), (few _ _ _ (c .before .before .before .before .pre), place-validate _ _ _ (c .before .before .before .before .pre) (c .before .match .keys3)))
+validate-requires c κs = (
+  (records-accepted _ _ _ _ (c .before .before .before .before .pre), (few _ _ _ _ (c .before .before .before .before .pre), place-validate _ _ _ _ (c .before .before .before .before .pre) (c .before .match .keys3))),
+  c .before .before .before .before .pre .placed,
+)
 
 decide-requires : tie.Need-decide-requires
-decide-requires c κs = known _ _ _ (c .before .before .before .before .pre)
+decide-requires c κs = known _ _ _ _ (c .before .before .before .before .pre)
 
 withdraw-requires : tie.Need-withdraw-requires
-withdraw-requires c κs = known _ _ _ (c .before .before .before .before .pre)
+withdraw-requires c κs = known _ _ _ _ (c .before .before .before .before .pre)
 
 finish-requires : tie.Need-finish-requires
 finish-requires c κs = (c .before .before .before .before .before .pre, c .before .before .match .keys6)
@@ -53,19 +56,19 @@ same-length-5 : tie.Need-same-length-5
 same-length-5 c = search needs
 
 returns-3 : tie.Need-returns-3
-returns-3 c = stepped-as (step-at _ _ _ 2 (c .before .before .match .keys3)) (c .validate .ensures .beside _ (coordinator-accepted _ _ _ (c .before .before .before .before .before .pre)))
+returns-3 c = stepped-as (step-at _ _ _ 2 (c .before .before .match .keys3)) (c .validate .ensures .beside _ (coordinator-accepted _ _ _ _ (c .before .before .before .before .before .pre)))
 
 same-length-6 : tie.Need-same-length-6
 same-length-6 c = search needs
 
 returns-4 : tie.Need-returns-4
-returns-4 c = stepped-as (step-at _ _ _ 3 (c .before .before .before .before .match .keys4)) (c .before .before .decide .ensures .beside _ (records-accepted _ _ _ (c .before .before .before .before .before .before .before .pre)))
+returns-4 c = stepped-as (step-at _ _ _ 3 (c .before .before .before .before .match .keys4)) (c .before .before .decide .ensures .beside _ (records-accepted _ _ _ _ (c .before .before .before .before .before .before .before .pre)))
 
 same-length-7 : tie.Need-same-length-7
 same-length-7 c = search needs
 
 returns-5 : tie.Need-returns-5
-returns-5 c = stepped-as (step-at _ _ _ 4 (c .before .before .before .before .match .keys5)) (c .before .before .withdraw .ensures .beside _ (records-accepted _ _ _ (c .before .before .before .before .before .before .before .pre)))
+returns-5 c = stepped-as (step-at _ _ _ 4 (c .before .before .before .before .match .keys5)) (c .before .before .withdraw .ensures .beside _ (records-accepted _ _ _ _ (c .before .before .before .before .before .before .before .pre)))
 
 same-length-8 : tie.Need-same-length-8
 same-length-8 c = search needs
@@ -86,10 +89,10 @@ returns-7 : tie.Need-returns-7
 returns-7 c = stepped-as (step-at _ _ _ 6 (c .before .before .before .before .before .match .keys7)) (c .before .before .undo .ensures)
 
 returns-8 : tie.Need-returns-8
-returns-8 c = stepped-as (step-at _ _ _ 7 (c .before .match .keys8)) (wrote-nothing _ _ (records-accepted _ _ _ (c .before .before .before .before .pre)) (coordinator-accepted _ _ _ (c .before .before .before .before .pre)) _ _ (c .done .ensures))
+returns-8 c = stepped-as (step-at _ _ _ 7 (c .before .match .keys8)) (wrote-nothing _ _ (records-accepted _ _ _ _ (c .before .before .before .before .pre)) (coordinator-accepted _ _ _ _ (c .before .before .before .before .pre)) _ _ (c .done .ensures))
 
 returns-9 : tie.Need-returns-9
-returns-9 c = stepped-as (step-none _ _ _ (c .match .rest .0)) (wrote-nothing _ _ (records-accepted _ _ _ (c .before .before .before .pre)) (coordinator-accepted _ _ _ (c .before .before .before .pre)) _ _ refl)
+returns-9 c = stepped-as (step-none _ _ _ (c .match .rest .0)) (wrote-nothing _ _ (records-accepted _ _ _ _ (c .before .before .before .pre)) (coordinator-accepted _ _ _ _ (c .before .before .before .pre)) _ _ refl)
 
 pub step-spec : {M : Type 1} → statement M
 step-spec =

@@ -11,19 +11,19 @@ admission-requires : tie.Need-admission-requires
 admission-requires c κs = search needs
 
 returns : tie.Need-returns
-returns c = open-away (c .before .before .before .before .args .t) (c .before .before .before .before .args .key) (c .before .before .before .before .args .records .now) (c .before .before .before .before .args .coordinator .now) _ (c .before .admission .ensures) (c .if1 .taken)
+returns c = open-away (c .before .before .before .before .before .args .t) (c .before .before .before .before .before .args .key) (c .before .before .before .before .before .args .records .now) (c .before .before .before .before .before .args .coordinator .now) _ (c .before .before .admission .ensures .0) (c .if1 .taken)
 
 returns-2 : tie.Need-returns-2
-returns-2 c = open-not (c .before .before .before .before .before .before .args .t) (c .before .before .before .before .before .before .args .key) (c .before .before .before .before .before .before .args .records .now) (c .before .before .before .before .before .before .args .coordinator .now) (admitted (c .before .before .before .before .before .before .args .t) (c .before .before .before .before .before .before .args .records .now) (c .before .before .before .before .before .before .args .coordinator .now) (sym (c .before .before .before .admission .ensures) ∙ c .before .before .if1 .left)) (ap not (ne-eqb (c .before .before .before .before .before .before .args .t .phase) 0 (c .if2 .taken)))
+returns-2 c = open-not (c .before .before .before .before .before .before .before .args .t) (c .before .before .before .before .before .before .before .args .key) (c .before .before .before .before .before .before .before .args .records .now) (c .before .before .before .before .before .before .before .args .coordinator .now) (admitted (c .before .before .before .before .before .before .before .args .t) (c .before .before .before .before .before .before .before .args .records .now) (c .before .before .before .before .before .before .before .args .coordinator .now) (sym (c .before .before .before .before .admission .ensures .0) ∙ c .before .before .if1 .left)) (ap not (ne-eqb (c .before .before .before .before .before .before .before .args .t .phase) 0 (c .if2 .taken)))
 
 key-in-range-requires : tie.Need-key-in-range-requires
 key-in-range-requires c κs = search needs
 
 returns-3 : tie.Need-returns-3
-returns-3 c = open-key (c .before .before .before .before .before .before .before .before .args .t) (c .before .before .before .before .before .before .before .before .args .key) (c .before .before .before .before .before .before .before .before .args .records .now) (c .before .before .before .before .before .before .before .before .args .coordinator .now) (admitted (c .before .before .before .before .before .before .before .before .args .t) (c .before .before .before .before .before .before .before .before .args .records .now) (c .before .before .before .before .before .before .before .before .args .coordinator .now) (sym (c .before .before .before .before .before .admission .ensures) ∙ c .before .before .before .before .if1 .left)) false (ap not (eq-eqb (c .before .before .before .before .before .before .before .before .args .t .phase) 0 (c .before .before .if2 .left))) (sym (c .before .key-in-range .ensures) ∙ not-true _ (c .if3 .taken))
+returns-3 c = open-key (c .before .before .before .before .before .before .before .before .before .args .t) (c .before .before .before .before .before .before .before .before .before .args .key) (c .before .before .before .before .before .before .before .before .before .args .records .now) (c .before .before .before .before .before .before .before .before .before .args .coordinator .now) (admitted (c .before .before .before .before .before .before .before .before .before .args .t) (c .before .before .before .before .before .before .before .before .before .args .records .now) (c .before .before .before .before .before .before .before .before .before .args .coordinator .now) (sym (c .before .before .before .before .before .before .admission .ensures .0) ∙ c .before .before .before .before .if1 .left)) false (ap not (eq-eqb (c .before .before .before .before .before .before .before .before .before .args .t .phase) 0 (c .before .before .if2 .left))) (sym (c .before .key-in-range .ensures) ∙ not-true _ (c .if3 .taken))
 
 returns-4 : tie.Need-returns-4
-returns-4 c = open-key (c .before .before .before .before .before .before .before .before .args .t) (c .before .before .before .before .before .before .before .before .args .key) (c .before .before .before .before .before .before .before .before .args .records .now) (c .before .before .before .before .before .before .before .before .args .coordinator .now) (admitted (c .before .before .before .before .before .before .before .before .args .t) (c .before .before .before .before .before .before .before .before .args .records .now) (c .before .before .before .before .before .before .before .before .args .coordinator .now) (sym (c .before .before .before .before .before .admission .ensures) ∙ c .before .before .before .before .if1 .left)) true (ap not (eq-eqb (c .before .before .before .before .before .before .before .before .args .t .phase) 0 (c .before .before .if2 .left))) (sym (c .before .key-in-range .ensures) ∙ not-false _ (c .if3 .left))
+returns-4 c = open-key (c .before .before .before .before .before .before .before .before .before .args .t) (c .before .before .before .before .before .before .before .before .before .args .key) (c .before .before .before .before .before .before .before .before .before .args .records .now) (c .before .before .before .before .before .before .before .before .before .args .coordinator .now) (admitted (c .before .before .before .before .before .before .before .before .before .args .t) (c .before .before .before .before .before .before .before .before .before .args .records .now) (c .before .before .before .before .before .before .before .before .before .args .coordinator .now) (sym (c .before .before .before .before .before .before .admission .ensures .0) ∙ c .before .before .before .before .if1 .left)) true (ap not (eq-eqb (c .before .before .before .before .before .before .before .before .before .args .t .phase) 0 (c .before .before .if2 .left))) (sym (c .before .key-in-range .ensures) ∙ not-false _ (c .if3 .left))
 
 pub open-admission-spec : {M : Type 1} → statement M
 open-admission-spec =

@@ -1,5 +1,6 @@
 -- The letters of the head are the units of the decoded sheet.
 use mathlib.Core.Path.{sym, _∙_}
+use mathlib.Core.Bool.{true≢false}
 use native.Mathlib.Omega.{arith}
 use borrow.Author.Tests.{not-true, not-false}
 use borrow.Author.Needs.{needs}
@@ -24,13 +25,13 @@ formed-requires : tie.Need-formed-requires
 formed-requires c κs = search needs
 
 returns : tie.Need-returns
-returns c = well-formed-not (c .before .before .before .before .before .before .args .t) (c .before .before .before .before .before .before .args .records .now) (c .before .before .before .before .before .before .args .coordinator .now) (c .before .before .before .before .before .before .pre) _ (c .before .before .before .issued .ensures) (sym (c .before .formed .ensures) ∙ not-true _ (c .if1 .taken))
+returns c = (well-formed-not (c .before .before .before .before .before .before .args .t) (c .before .before .before .before .before .before .args .records .now) (c .before .before .before .before .before .before .args .coordinator .now) (c .before .before .before .before .before .before .pre) _ (c .before .before .before .issued .ensures) (sym (c .before .formed .ensures) ∙ not-true _ (c .if1 .taken)), λ e. absurd (true≢false (sym e)))
 
-lines-held-requires : tie.Need-lines-held-requires
-lines-held-requires c κs = (c .before .before .before .before .before .before .pre .lines, well-formed-few (c .before .before .before .before .before .before .args .t) (c .before .before .before .before .before .before .args .records .now) (c .before .before .before .before .before .before .args .coordinator .now) (c .before .before .before .before .before .before .pre) _ (c .before .before .before .issued .ensures) (sym (c .before .formed .ensures) ∙ not-false _ (c .if1 .left)))
+locate-requires : tie.Need-locate-requires
+locate-requires c κs = (c .before .before .before .before .before .before .pre .lines, well-formed-few (c .before .before .before .before .before .before .args .t) (c .before .before .before .before .before .before .args .records .now) (c .before .before .before .before .before .before .args .coordinator .now) (c .before .before .before .before .before .before .pre) _ (c .before .before .before .issued .ensures) (sym (c .before .formed .ensures) ∙ not-false _ (c .if1 .left)))
 
 returns-2 : tie.Need-returns-2
-returns-2 c = c .lines-held .ensures ∙ well-formed-lines (c .before .before .before .before .before .before .before .args .t) (c .before .before .before .before .before .before .before .args .records .now) (c .before .before .before .before .before .before .before .args .coordinator .now) (c .before .before .before .before .before .before .before .pre) _ (c .before .before .before .before .issued .ensures) (sym (c .before .before .formed .ensures) ∙ not-false _ (c .before .if1 .left))
+returns-2 c = (c .locate .ensures .0 ∙ well-formed-lines (c .before .before .before .before .before .before .before .args .t) (c .before .before .before .before .before .before .before .args .records .now) (c .before .before .before .before .before .before .before .args .coordinator .now) (c .before .before .before .before .before .before .before .pre) _ (c .before .before .before .before .issued .ensures) (sym (c .before .before .formed .ensures) ∙ not-false _ (c .before .if1 .left)), c .locate .ensures .1)
 
 pub well-formed-spec : {M : Type 1} → statement M
 well-formed-spec =
@@ -42,5 +43,5 @@ well-formed-spec =
     part-formed-end
     formed-requires
     returns
-    lines-held-requires
+    locate-requires
     returns-2)

@@ -26,7 +26,7 @@ same-length-2 : tie.Need-same-length-2
 same-length-2 c = search needs
 
 returns : tie.Need-returns
-returns c = let o = outcome-refused (stepped (c .before .before .before .before .before .before .args .t)) (c .before .before .before .before .before .before .args .records .now) (c .before .before .before .before .before .before .args .coordinator .now) _ (advance-away (c .before .before .before .before .before .before .args .t) (c .before .before .before .before .before .before .args .clock) (c .before .before .before .before .before .before .args .records .now) (c .before .before .before .before .before .before .args .coordinator .now) _ (c .before .admission .ensures) (c .if1 .taken)) refl in (o .said, (o .lines, o .decisions))
+returns c = let o = outcome-refused (stepped (c .before .before .before .before .before .before .before .args .t)) (c .before .before .before .before .before .before .before .args .records .now) (c .before .before .before .before .before .before .before .args .coordinator .now) _ (advance-away (c .before .before .before .before .before .before .before .args .t) (c .before .before .before .before .before .before .before .args .clock) (c .before .before .before .before .before .before .before .args .records .now) (c .before .before .before .before .before .before .before .args .coordinator .now) _ (c .before .before .admission .ensures .0) (c .if1 .taken)) refl in (o .said, (o .lines, o .decisions))
 
 decision-at-requires : tie.Need-decision-at-requires
 decision-at-requires c κs = search needs
@@ -41,10 +41,10 @@ same-length-4 : tie.Need-same-length-4
 same-length-4 c = search needs
 
 returns-2 : tie.Need-returns-2
-returns-2 c = let o = outcome-refused (stepped (c .before .before .before .before .before .before .before .before .before .before .args .t)) (c .before .before .before .before .before .before .before .before .before .before .args .records .now) (c .before .before .before .before .before .before .before .before .before .before .args .coordinator .now) 4 (advance-forbidden (c .before .before .before .before .before .before .before .before .before .before .args .t) (c .before .before .before .before .before .before .before .before .before .before .args .clock) (c .before .before .before .before .before .before .before .before .before .before .args .records .now) (c .before .before .before .before .before .before .before .before .before .before .args .coordinator .now) (admitted (c .before .before .before .before .before .before .before .before .before .before .args .t) (c .before .before .before .before .before .before .before .before .before .before .args .records .now) (c .before .before .before .before .before .before .before .before .before .before .args .coordinator .now) (sym (c .before .before .before .before .before .admission .ensures) ∙ c .before .before .before .before .if1 .left)) (ap (λ (d : Decision). forbids (c .before .before .before .before .before .before .before .before .before .before .args .t .phase) d) (sym (c .before .before .decision-at .ensures)) ∙ (sym (c .before .forbids .ensures) ∙ c .if2 .taken))) refl in (o .said, (o .lines, o .decisions))
+returns-2 c = let o = outcome-refused (stepped (c .before .before .before .before .before .before .before .before .before .before .before .args .t)) (c .before .before .before .before .before .before .before .before .before .before .before .args .records .now) (c .before .before .before .before .before .before .before .before .before .before .before .args .coordinator .now) 4 (advance-forbidden (c .before .before .before .before .before .before .before .before .before .before .before .args .t) (c .before .before .before .before .before .before .before .before .before .before .before .args .clock) (c .before .before .before .before .before .before .before .before .before .before .before .args .records .now) (c .before .before .before .before .before .before .before .before .before .before .before .args .coordinator .now) (admitted (c .before .before .before .before .before .before .before .before .before .before .before .args .t) (c .before .before .before .before .before .before .before .before .before .before .before .args .records .now) (c .before .before .before .before .before .before .before .before .before .before .before .args .coordinator .now) (sym (c .before .before .before .before .before .before .admission .ensures .0) ∙ c .before .before .before .before .if1 .left)) (ap (λ (d : Decision). forbids (c .before .before .before .before .before .before .before .before .before .before .before .args .t .phase) d) (sym (c .before .before .decision-at .ensures)) ∙ (sym (c .before .forbids .ensures) ∙ c .if2 .taken))) refl in (o .said, (o .lines, o .decisions))
 
 step-requires : tie.Need-step-requires
-step-requires c κs = step-ready (c .before .before .before .before .before .before .before .before .before .before .before .before .args .t) (c .before .before .before .before .before .before .before .before .before .before .before .before .args .clock) (c .before .before .before .before .before .before .before .before .before .before .before .before .args .records .now) (c .before .before .before .before .before .before .before .before .before .before .before .before .args .coordinator .now) (admitted (c .before .before .before .before .before .before .before .before .before .before .before .before .args .t) (c .before .before .before .before .before .before .before .before .before .before .before .before .args .records .now) (c .before .before .before .before .before .before .before .before .before .before .before .before .args .coordinator .now) (sym (c .before .before .before .before .before .before .before .admission .ensures) ∙ c .before .before .before .before .before .before .if1 .left))
+step-requires c κs = step-ready (c .before .before .before .before .before .before .before .before .before .before .before .before .before .before .args .t) (c .before .before .before .before .before .before .before .before .before .before .before .before .before .before .args .clock) (c .before .before .before .before .before .before .before .before .before .before .before .before .before .before .args .records .now) (c .before .before .before .before .before .before .before .before .before .before .before .before .before .before .args .coordinator .now) (admitted (c .before .before .before .before .before .before .before .before .before .before .before .before .before .before .args .t) (c .before .before .before .before .before .before .before .before .before .before .before .before .before .before .args .records .now) (c .before .before .before .before .before .before .before .before .before .before .before .before .before .before .args .coordinator .now) (sym (c .before .before .before .before .before .before .before .before .before .admission .ensures .0) ∙ c .before .before .before .before .before .before .before .if1 .left)) _ (c .before .before .before .before .before .before .before .before .before .admission .ensures .1 (c .before .before .before .before .before .before .before .if1 .left))
 
 same-length-5 : tie.Need-same-length-5
 same-length-5 c = search needs
@@ -53,7 +53,7 @@ same-length-6 : tie.Need-same-length-6
 same-length-6 c = search needs
 
 returns-3 : tie.Need-returns-3
-returns-3 c = let o = step-outcome (c .before .before .before .before .before .before .before .before .before .before .before .before .before .before .before .before .before .args .t) (c .before .before .before .before .before .before .before .before .before .before .before .before .before .before .before .before .before .args .clock) (c .before .before .before .before .before .before .before .before .before .before .before .before .before .before .before .before .before .args .records .now) (c .before .before .before .before .before .before .before .before .before .before .before .before .before .before .before .before .before .args .coordinator .now) (admitted (c .before .before .before .before .before .before .before .before .before .before .before .before .before .before .before .before .before .args .t) (c .before .before .before .before .before .before .before .before .before .before .before .before .before .before .before .before .before .args .records .now) (c .before .before .before .before .before .before .before .before .before .before .before .before .before .before .before .before .before .args .coordinator .now) (sym (c .before .before .before .before .before .before .before .before .before .before .before .before .admission .ensures) ∙ c .before .before .before .before .before .before .before .before .before .before .before .if1 .left)) (ap (λ (d : Decision). forbids (c .before .before .before .before .before .before .before .before .before .before .before .before .before .before .before .before .before .args .t .phase) d) (sym (c .before .before .before .before .before .before .before .before .before .decision-at .ensures)) ∙ (sym (c .before .before .before .before .before .before .before .before .forbids .ensures) ∙ c .before .before .before .before .before .before .before .if2 .left)) (c .before .before .before .before .step .ensures) in (o .said, (o .lines, o .decisions))
+returns-3 c = let o = step-outcome (c .before .before .before .before .before .before .before .before .before .before .before .before .before .before .before .before .before .before .before .args .t) (c .before .before .before .before .before .before .before .before .before .before .before .before .before .before .before .before .before .before .before .args .clock) (c .before .before .before .before .before .before .before .before .before .before .before .before .before .before .before .before .before .before .before .args .records .now) (c .before .before .before .before .before .before .before .before .before .before .before .before .before .before .before .before .before .before .before .args .coordinator .now) (admitted (c .before .before .before .before .before .before .before .before .before .before .before .before .before .before .before .before .before .before .before .args .t) (c .before .before .before .before .before .before .before .before .before .before .before .before .before .before .before .before .before .before .before .args .records .now) (c .before .before .before .before .before .before .before .before .before .before .before .before .before .before .before .before .before .before .before .args .coordinator .now) (sym (c .before .before .before .before .before .before .before .before .before .before .before .before .before .before .admission .ensures .0) ∙ c .before .before .before .before .before .before .before .before .before .before .before .before .if1 .left)) (ap (λ (d : Decision). forbids (c .before .before .before .before .before .before .before .before .before .before .before .before .before .before .before .before .before .before .before .args .t .phase) d) (sym (c .before .before .before .before .before .before .before .before .before .before .decision-at .ensures)) ∙ (sym (c .before .before .before .before .before .before .before .before .before .forbids .ensures) ∙ c .before .before .before .before .before .before .before .before .if2 .left)) (c .before .before .before .before .step .ensures) in (o .said, (o .lines, o .decisions))
 
 pub advance-spec : {M : Type 1} → statement M
 advance-spec =

@@ -6,7 +6,7 @@ use Rattle.group_writes.proofs.changes.back_group.Statement.{statement}
 use Rattle.group_writes.proofs.changes.back_group.Tie as tie
 
 change-group-requires : tie.Need-change-group-requires
-change-group-requires c κs = may-back _ _ _ (c .before .before .before .pre)
+change-group-requires c κs = may-back _ _ _ _ (c .before .before .before .pre)
 
 same-length : tie.Need-same-length
 same-length c = search needs

@@ -20,6 +20,7 @@ change-line-requires c κs =
     rw (c .before .before .before .entry-at .ensures)
     (record {
       accepted = c .before .before .before .before .before .before .pre .accepted;
+      there = c .before .before .before .before .before .before .pre .there;
       fit = c .before .before .before .before .before .before .pre .fit (rw (c .before .before .before .entry-at .ensures) at (sym (c .before .before .in-group .ensures) ∙ not-false _ (c .before .if1 .left)));
     })
 

@@ -17,16 +17,22 @@ use Rattle.group_writes.proofs.changes.change_group.Statement.{statemen
 use Rattle.group_writes.proofs.changes.change_group.Tie as tie
 
 abbrev Inv-loop : tie.InvT-loop
-Inv-loop c t records₀ coordinator n i₀ records i = (length records ≡ length records₀) × Underway c coordinator t (leaves c coordinator t records₀ (held t)) records i
+Inv-loop c t records₀ coordinator places n i₀ records i = (length records ≡ length records₀) × Underway c coordinator t places (leaves c coordinator t records₀ (held t)) records i
 
 abbrev μ-loop : tie.MeasureT-loop
-μ-loop c t records₀ coordinator n i₀ records i = n - i
+μ-loop c t records₀ coordinator places n i₀ records i = n - i
 
 cast-n : tie.Need-cast-n Inv-loop μ-loop
 cast-n c = search needs
 
 loop-holds : tie.Need-loop-holds Inv-loop μ-loop
-loop-holds c = (refl, underway-first _ _ _ _ (c .before .before .before .good .1 .0) (c .before .before .before .pre))
+loop-holds c = (refl, underway-first _ _ _ _ _ (c .before .before .before .good .1 .0) (c .before .before .before .pre))
+
+mul-place : tie.Need-mul-place Inv-loop μ-loop
+mul-place c = omega (arith, c .loop-test .taken, c .before .before .before .before .before .pre .few)
+
+array-read-place : tie.Need-array-read-place Inv-loop μ-loop
+array-read-place c = omega (arith, c .loop-test .taken, c .before .before .before .before .before .pre .few)
 
 change-entry-requires : tie.Need-change-entry-requires Inv-loop μ-loop
 change-entry-requires c κs =
@@ -35,7 +41,8 @@ change-entry-requires c κs =
       units = c .before .before .before .before .before .before .pre .units;
       few = c .before .before .before .before .before .before .pre .few;
       within = omega (arith, c .before .before .before .before .before .before .pre .few);
-      fit = turn-fits _ _ _ _ _ _ (c .before .before .loop .inv .1) (c .before .loop-test .taken);
+      fit = turn-fits _ _ _ _ _ _ _ (c .before .before .loop .inv .1) (c .before .loop-test .taken);
+      there = c .before .before .loop .inv .1 .placed .at _ (c .before .loop-test .taken);
     }
 
 add-i : tie.Need-add-i Inv-loop μ-loop
@@ -45,14 +52,14 @@ loop-less : tie.Need-loop-less Inv-loop μ-loop
 loop-less c = search needs
 
 loop-again : tie.Need-loop-again Inv-loop μ-loop
-loop-again c = (omega arith, underway-next _ _ _ _ _ _ (c .before .before .before .before .before .loop .inv .1) (c .before .before .before .before .loop-test .taken) _ (c .before .before .change-entry .ensures))
+loop-again c = (omega arith, underway-next _ _ _ _ _ _ _ (c .before .before .before .before .before .loop .inv .1) (c .before .before .before .before .loop-test .taken) _ (c .before .before .change-entry .ensures))
 
 same-length : tie.Need-same-length Inv-loop μ-loop
 same-length c = c .before .loop .inv .0
 
 returns : tie.Need-returns Inv-loop μ-loop
 returns c =
-    underway-last _ _ _ _ _ _ (c .before .loop .inv .1) (c .loop-test .left)
+    underway-last _ _ _ _ _ _ _ (c .before .loop .inv .1) (c .loop-test .left)
     ∙ ap (λ (es : List Entry). recordsText (map (lineAfter (written (c .before .before .before .before .before .args .c) (c .before .before .before .before .before .args .t .number) es)) (sheet.records (c .before .before .before .before .before .args .records .now))))
     (sym (group-in (c .before .before .before .before .before .args .records .now) (c .before .before .before .before .before .args .coordinator .now) (c .before .before .before .before .before .args .t)))
 
@@ -64,6 +71,8 @@ change-group-spec =
     μ-loop
     cast-n
     loop-holds
+    mul-place
+    array-read-place
     change-entry-requires
     add-i
     loop-less

@@ -6,7 +6,7 @@ use Rattle.group_writes.proofs.changes.commit_group.Statement.{statemen
 use Rattle.group_writes.proofs.changes.commit_group.Tie as tie
 
 change-group-requires : tie.Need-change-group-requires
-change-group-requires c κs = may-commit _ _ _ (c .before .before .before .pre .0) (c .before .before .before .pre .1)
+change-group-requires c κs = may-commit _ _ _ _ (c .before .before .before .pre .0) (c .before .before .before .pre .1)
 
 same-length : tie.Need-same-length
 same-length c = search needs

@@ -16,7 +16,7 @@ returns : tie.Need-returns
 returns c = other-group _ _ (rw (c .before .before .entry-at .ensures) at (sym (c .before .in-group .ensures) ∙ not-true _ (c .if1 .taken)))
 
 holds-requires : tie.Need-holds-requires
-holds-requires c κs = search needs
+holds-requires c κs = rw (c .before .before .entry-at .ensures) (c .before .before .before .before .before .pre .1)
 
 returns-2 : tie.Need-returns-2
 returns-2 c = rw (c .before .before .before .entry-at .ensures) at (c .holds .ensures ∙ own-group _ _ (sym (c .before .before .in-group .ensures) ∙ not-false _ (c .before .if1 .left)))

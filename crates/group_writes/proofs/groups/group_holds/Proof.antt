@@ -1,6 +1,7 @@
 -- Every entry before i that is of the group holds.
 use Prim.Native.Nat.{_-_}
 use mathlib.Core.Path.{sym, _∙_}
+use native.Mathlib.Omega.{arith}
 use borrow.Author.Tests.{not-true, not-false}
 use borrow.Author.Needs.{needs}
 use Rattle.lists.specs.Each.{all}
@@ -11,19 +12,28 @@ use Rattle.group_writes.proofs.groups.group_holds.Statement.{statement}
 use Rattle.group_writes.proofs.groups.group_holds.Tie as tie
 
 abbrev Inv-loop : tie.InvT-loop
-Inv-loop records coordinator t n i₀ i = PassedTo t (all (holdsInGroup records coordinator t)) (all (holdsInGroup records coordinator t) (held t)) i
+Inv-loop records coordinator t places n i₀ i = PassedTo t (all (holdsInGroup records coordinator t)) (all (holdsInGroup records coordinator t) (held t)) i
 
 abbrev μ-loop : tie.MeasureT-loop
-μ-loop records coordinator t n i₀ i = n - i
+μ-loop records coordinator t places n i₀ i = n - i
 
 cast-n : tie.Need-cast-n Inv-loop μ-loop
 cast-n c = search needs
 
 loop-holds : tie.Need-loop-holds Inv-loop μ-loop
-loop-holds c = pass-first _ _ (c .before .before .before .good .1 .1 .0) (c .before .before .before .pre .1 .1)
+loop-holds c = pass-first _ _ (c .before .before .before .good .1 .1 .0) (c .before .before .before .pre .0 .1)
+
+mul-place : tie.Need-mul-place Inv-loop μ-loop
+mul-place c = omega (arith, c .loop-test .taken, c .before .before .before .before .before .pre .0 .1)
+
+array-read-place : tie.Need-array-read-place Inv-loop μ-loop
+array-read-place c = omega (arith, c .loop-test .taken, c .before .before .before .before .before .pre .0 .1)
 
 entry-holds-requires : tie.Need-entry-holds-requires Inv-loop μ-loop
-entry-holds-requires c κs = search needs
+entry-holds-requires c κs = (
+  (c .before .before .before .before .before .pre .0 .0, (c .before .before .before .before .before .pre .0 .1, omega (arith, c .loop-test .taken, c .before .before .before .before .before .pre .0 .1))),
+  c .before .before .before .before .before .pre .1 .at _ (c .loop-test .taken),
+)
 
 returns : tie.Need-returns Inv-loop μ-loop
 returns c = all-unmet _ _ _ _ (c .before .before .before .loop .inv) (c .before .before .loop-test .taken) (sym (c .before .entry-holds .ensures) ∙ not-true _ (c .if1 .taken)) ∙ group-all (c .before .before .before .before .before .before .before .args .records .now) (c .before .before .before .before .before .before .before .args .coordinator .now) (c .before .before .before .before .before .before .before .args .t)
@@ -48,6 +58,8 @@ group-holds-spec =
     μ-loop
     cast-n
     loop-holds
+    mul-place
+    array-read-place
     entry-holds-requires
     returns
     add-i

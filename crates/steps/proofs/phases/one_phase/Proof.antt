@@ -9,10 +9,10 @@ use Rattle.steps.proofs.phases.one_phase.Statement.{statement}
 use Rattle.steps.proofs.phases.one_phase.Tie as tie
 
 group-holds-requires : tie.Need-group-holds-requires
-group-holds-requires c κs = (records-accepted _ _ _ (c .before .before .before .pre), (coordinator-accepted _ _ _ (c .before .before .before .pre), few _ _ _ (c .before .before .before .pre)))
+group-holds-requires c κs = ((coordinator-accepted _ _ _ _ (c .before .before .before .pre), few _ _ _ _ (c .before .before .before .pre)), c .before .before .before .pre .placed)
 
 commit-group-requires : tie.Need-commit-group-requires
-commit-group-requires c κs = (may-write _ _ _ (c .before .before .before .before .before .before .pre), sym (c .before .before .group-holds .ensures) ∙ c .before .if1 .taken)
+commit-group-requires c κs = (may-write _ _ _ _ (c .before .before .before .before .before .before .pre), sym (c .before .before .group-holds .ensures) ∙ c .before .if1 .taken)
 
 commits-requires : tie.Need-commits-requires
 commits-requires c κs = search needs
@@ -23,7 +23,7 @@ same-length c = search needs
 returns : tie.Need-returns
 unfolding decisionsAfter
 returns c = stepped-as (one-phase-commits _ _ (sym (c .before .before .before .before .before .before .group-holds .ensures) ∙ c .before .before .before .before .before .if1 .taken))
-    (wrote-lines _ _ _ refl (coordinator-accepted _ _ _ (c .before .before .before .before .before .before .before .before .before .before .pre)) _ _ _ (c .commits .ensures) (c .before .before .before .commit-group .ensures))
+    (wrote-lines _ _ _ refl (coordinator-accepted _ _ _ _ (c .before .before .before .before .before .before .before .before .before .before .pre)) _ _ _ (c .commits .ensures) (c .before .before .before .commit-group .ensures))
 
 to-phase-requires : tie.Need-to-phase-requires
 to-phase-requires c κs = search needs
@@ -33,7 +33,7 @@ same-length-2 c = search needs
 
 returns-2 : tie.Need-returns-2
 returns-2 c = stepped-as (one-phase-fails _ _ (sym (c .before .before .group-holds .ensures) ∙ c .before .if1 .left))
-    (wrote-nothing _ _ (records-accepted _ _ _ (c .before .before .before .before .before .before .pre)) (coordinator-accepted _ _ _ (c .before .before .before .before .before .before .pre)) _ _ (c .to-phase .ensures))
+    (wrote-nothing _ _ (records-accepted _ _ _ _ (c .before .before .before .before .before .before .pre)) (coordinator-accepted _ _ _ _ (c .before .before .before .before .before .before .pre)) _ _ (c .to-phase .ensures))
 
 pub one-phase-spec : {M : Type 1} → statement M
 one-phase-spec =

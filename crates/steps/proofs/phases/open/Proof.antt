@@ -9,34 +9,34 @@ use Rattle.steps.proofs.phases.open.Statement.{statement}
 use Rattle.steps.proofs.phases.open.Tie as tie
 
 has-puts-requires : tie.Need-has-puts-requires
-has-puts-requires c κs = few _ _ _ (c .before .before .pre)
+has-puts-requires c κs = few _ _ _ _ (c .before .before .pre)
 
 validates-requires : tie.Need-validates-requires
-validates-requires c κs = few _ _ _ (c .before .before .before .before .pre)
+validates-requires c κs = few _ _ _ _ (c .before .before .before .before .pre)
 
 commits-requires : tie.Need-commits-requires
 commits-requires c κs = search needs
 
 returns : tie.Need-returns
 returns c = stepped-as (open-done _ _ (not-false _ (sym (c .before .before .before .before .has-puts .ensures) ∙ not-true _ (c .before .before .before .if1 .taken))) (not-false _ (sym (c .before .before .validates .ensures) ∙ not-true _ (c .before .if2 .taken))))
-    (wrote-nothing _ _ (records-accepted _ _ _ (c .before .before .before .before .before .before .before .pre)) (coordinator-accepted _ _ _ (c .before .before .before .before .before .before .before .pre)) _ _ (c .commits .ensures))
+    (wrote-nothing _ _ (records-accepted _ _ _ _ (c .before .before .before .before .before .before .before .pre)) (coordinator-accepted _ _ _ _ (c .before .before .before .before .before .before .before .pre)) _ _ (c .commits .ensures))
 
 to-phase-requires : tie.Need-to-phase-requires
 to-phase-requires c κs = search needs
 
 returns-2 : tie.Need-returns-2
 returns-2 c = stepped-as (open-validates _ _ (not-false _ (sym (c .before .before .before .before .has-puts .ensures) ∙ not-true _ (c .before .before .before .if1 .taken))) (not-true _ (sym (c .before .before .validates .ensures) ∙ not-false _ (c .before .if2 .left))))
-    (wrote-nothing _ _ (records-accepted _ _ _ (c .before .before .before .before .before .before .before .pre)) (coordinator-accepted _ _ _ (c .before .before .before .before .before .before .before .pre)) _ _ (c .to-phase .ensures))
+    (wrote-nothing _ _ (records-accepted _ _ _ _ (c .before .before .before .before .before .before .before .pre)) (coordinator-accepted _ _ _ _ (c .before .before .before .before .before .before .before .pre)) _ _ (c .to-phase .ensures))
 
 one-phase-allowed-requires : tie.Need-one-phase-allowed-requires
-one-phase-allowed-requires c κs = (coordinator-accepted _ _ _ (c .before .before .before .before .pre), few _ _ _ (c .before .before .before .before .pre))
+one-phase-allowed-requires c κs = (coordinator-accepted _ _ _ _ (c .before .before .before .before .pre), few _ _ _ _ (c .before .before .before .before .pre))
 
 to-phase-requires-2 : tie.Need-to-phase-requires-2
 to-phase-requires-2 c κs = search needs
 
 returns-3 : tie.Need-returns-3
 returns-3 c = stepped-as (open-prepares _ _ (not-true _ (sym (c .before .before .before .before .has-puts .ensures) ∙ not-false _ (c .before .before .before .if1 .left))) (sym (c .before .before .one-phase-allowed .ensures _) ∙ not-true _ (c .before .if3 .taken)))
-    (wrote-nothing _ _ (records-accepted _ _ _ (c .before .before .before .before .before .before .before .pre)) (coordinator-accepted _ _ _ (c .before .before .before .before .before .before .before .pre)) _ _ (c .to-phase2 .ensures))
+    (wrote-nothing _ _ (records-accepted _ _ _ _ (c .before .before .before .before .before .before .before .pre)) (coordinator-accepted _ _ _ _ (c .before .before .before .before .before .before .before .pre)) _ _ (c .to-phase2 .ensures))
 
 one-phase-requires : tie.Need-one-phase-requires
 one-phase-requires c κs = c .before .before .before .before .before .before .before .pre

@@ -1,0 +1,94 @@
+-- Every entry before i has a line, at the place kept for it.
+use Prim.Native.Nat.{_-_, _<_}
+use mathlib.Core.Path.{_≡_, refl, sym, ap, _∙_}
+use mathlib.Core.Bool.{true≢false}
+use native.Mathlib.Omega.{arith}
+use lib.ListN.{length, length-set}
+use borrow.Author.Needs.{needs}
+use Rattle.lists.specs.Each.{all}
+use Rattle.types.specs.declared.Entry.{Entry}
+use Rattle.types.specs.declared.Found.the-variants.{At}
+use Rattle.model.specs.Records as sheet
+use Rattle.model.specs.Records.{hasLine, found}
+use Rattle.model.specs.WellFormed.{linesHeld}
+use Rattle.protocol.specs.Held.{PassedTo, entryAt, pass-first, all-unmet, all-next, all-last}
+use Rattle.group_writes.specs.Lookup.{has-line-at, has-no-line}
+use Rattle.group_writes.specs.Placed.{Placed, placed-none, placed-next}
+use Rattle.group_writes.proofs.lines.locate.Statement.{statement}
+use Rattle.group_writes.proofs.lines.locate.Tie as tie
+
+abbrev Inv-loop : tie.InvT-loop
+Inv-loop records t n places₀ i₀ places i =
+    PassedTo t (all (λ (e : Entry). hasLine (e .key) (sheet.records records))) (linesHeld (sheet.records records) t) i
+    × ((length places ≡ 8) × Placed (sheet.records records) t places i)
+
+abbrev μ-loop : tie.MeasureT-loop
+μ-loop records t n places₀ i₀ places i = n - i
+
+cast-n : tie.Need-cast-n Inv-loop μ-loop
+cast-n c = search needs
+
+loop-holds : tie.Need-loop-holds Inv-loop μ-loop
+unfolding linesHeld
+loop-holds c = (pass-first _ _ (c .before .before .good .1 .0) (c .before .before .pre .1), (refl, placed-none _ _ _))
+
+entry-at-requires : tie.Need-entry-at-requires Inv-loop μ-loop
+entry-at-requires c κs = search needs
+
+line-of-requires : tie.Need-line-of-requires Inv-loop μ-loop
+line-of-requires c κs = c .before .before .before .before .before .pre .0
+
+enum-known-place : tie.Need-enum-known-place Inv-loop μ-loop
+enum-known-place c = search needs
+
+enum-told : tie.Need-enum-told Inv-loop μ-loop
+enum-told c = search needs
+
+returns : tie.Need-returns Inv-loop μ-loop
+returns c =
+    let h = all-unmet _ _ _ _ (c .before .before .before .before .before .loop .inv .0) (c .before .before .before .before .loop-test .taken) (sym (has-no-line _ _ (rw (c .before .before .before .entry-at .ensures) at (sym (c .before .before .line-of .ensures) ∙ c .enum-told .given .1)))) in
+    (h, λ e. absurd (true≢false (sym e)))
+
+mul-places : tie.Need-mul-places Inv-loop μ-loop
+mul-places c = search needs
+
+array-write-places : tie.Need-array-write-places Inv-loop μ-loop
+array-write-places c = search needs
+
+add-i : tie.Need-add-i Inv-loop μ-loop
+add-i c = search needs
+
+loop-less : tie.Need-loop-less Inv-loop μ-loop
+loop-less c = search needs
+
+loop-again : tie.Need-loop-again Inv-loop μ-loop
+loop-again c =
+    let f : found (entryAt (c .before .before .before .before .before .before .before .before .before .args .t) (c .before .before .before .before .before .before .loop .i) .key) (sheet.records (c .before .before .before .before .before .before .before .before .before .args .records .now)) ≡ At (c .before .place .given .0 .0) =
+    rw (c .before .before .before .before .entry-at .ensures) at (sym (c .before .before .before .line-of .ensures) ∙ c .before .place .given .1) in
+    let l : c .before .before .before .before .before .before .loop .i < length (c .before .before .before .before .before .before .loop .places) = omega (arith, c .before .before .before .before .before .before .loop .inv .1 .0, c .before .before .before .before .before .loop-test .taken, c .before .before .before .before .before .before .before .before .before .pre .1) in (
+      all-next _ _ _ _ (c .before .before .before .before .before .before .loop .inv .0) (c .before .before .before .before .before .loop-test .taken) (sym (has-line-at _ _ _ f)),
+      (length-set (c .before .before .before .before .before .before .loop .places) (c .before .before .before .before .before .before .loop .i) _ ∙ c .before .before .before .before .before .before .loop .inv .1 .0, placed-next _ _ _ _ _ (c .before .before .before .before .before .before .loop .inv .1 .1) l f),
+    )
+
+returns-2 : tie.Need-returns-2 Inv-loop μ-loop
+returns-2 c = (all-last _ _ _ _ (c .before .loop .inv .0) (c .loop-test .left), λ e. record { at = λ i l. c .before .loop .inv .1 .1 .at i (omega (arith, l, c .loop-test .left)) })
+
+pub locate-spec : {M : Type 1} → statement M
+locate-spec =
+    tie.close
+    (tie.spec
+    Inv-loop
+    μ-loop
+    cast-n
+    loop-holds
+    entry-at-requires
+    line-of-requires
+    enum-known-place
+    enum-told
+    returns
+    mul-places
+    array-write-places
+    add-i
+    loop-less
+    loop-again
+    returns-2)
