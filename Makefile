@@ -1,5 +1,5 @@
 # The commands of the README. `make test` is the whole gate.
-.PHONY: test wrong bench differ archive
+.PHONY: test wrong histories bench differ archive
 
 test:
 	rt fmt --check
@@ -10,6 +10,11 @@ test:
 # wrong definitions that the theorems must refuse
 wrong:
 	python3 tests/wrong_definitions/run.py
+
+# the learners' histories, and what the replay program must print of each
+histories:
+	rt check replay
+	python3 tests/replay/run.py
 
 # the engine as an archive for C and Rust
 archive:

@@ -1,0 +1,80 @@
+// Runs a history of calls from standard input and prints every answer, then both sheets. docs/REPLAY.md has the form of a history.
+ghost use Prim.Native.Nat.{_≤_};
+ghost use lib.ListN.{length};
+
+mod calls;
+mod head;
+mod print;
+mod reply;
+mod scan;
+mod slots;
+
+// A history has at most 500,000 bytes, and one byte more tells a longer one.
+const LONGEST: usize = 500000;
+
+// The answers to the calls after the sheets, in order. The record sheet is input[from..to].
+fn answer_calls(
+    input: &mut [u8],
+    from: usize,
+    to: usize,
+    coordinator: &mut [u8],
+    out: &mut [u8; 4096],
+) -> usize
+    requires { ⌜ (from ≤ to) × (to ≤ length (now input)) ⌝ }
+    ensures { λ r. ⌜ r ≤ 4096 ⌝ }
+{
+    let n = input.len();
+    let mut slots = slots::empty();
+    let mut fill = 0;
+    let mut at = to;
+    while at < n {
+        let end = scan::end_of(input, at, b'\n');
+        let command = scan::parse(&input[at..end]);
+        let turn = slots::run(command, slots, &mut input[from..to], coordinator);
+        slots = turn.slots;
+        fill = print::line(turn.reply, out, fill);
+        at = end + 1;
+    }
+    fill
+}
+
+// A history with input[9..from] its coordinator sheet, which is copied, since two parts of one slice can't be lent for writing at once.
+fn replay(input: &mut [u8], from: usize, to: usize, coordinator: &mut [u8])
+    requires { ⌜ (9 ≤ from) × ((from ≤ to) × (to ≤ length (now input))) ⌝ }
+{
+    decimal::put(coordinator, &input[9..from]);
+    let mut out = [0u8; 4096];
+    let fill = answer_calls(input, from, to, coordinator, &mut out);
+    print::flush(&out, fill);
+    io::write_all(1, b"sheets\n");
+    io::write_all(1, coordinator);
+    io::write_all(1, &input[from..to]);
+}
+
+// A history, whose first line says how long its sheets are.
+fn history(input: &mut [u8]) {
+    let head = head::read(input);
+    if !head.good {
+        io::write_all(1, b"bad input\n");
+        return;
+    }
+    let size = (head.coordinator + 1) * 15;
+    let from = 9 + size;
+    let to = from + head.records * 98;
+    if input.len() < to {
+        io::write_all(1, b"bad input\n");
+        return;
+    }
+    let mut coordinator = [0u8; 150000];
+    replay(input, from, to, &mut coordinator[..size]);
+}
+
+fn main() {
+    let mut input = [0u8; 500001];
+    let n = io::read_full(0, &mut input);
+    if LONGEST < n {
+        io::write_all(1, b"bad input\n");
+        return;
+    }
+    history(&mut input[..n]);
+}

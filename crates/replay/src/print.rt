@@ -1,0 +1,91 @@
+// Text for standard output, gathered in a lent buffer and written when that is full. `fill` is how many bytes of it are taken.
+ghost use Prim.Native.Nat.{_≤_};
+use crate::reply::Form;
+use crate::reply::Reply;
+
+fn byte(b: u8, out: &mut [u8; 4096], fill: usize) -> usize
+    requires { ⌜ fill ≤ 4096 ⌝ }
+    ensures { λ r. ⌜ r ≤ 4096 ⌝ }
+{
+    if fill < 4096 {
+        out[fill] = b;
+        return fill + 1;
+    }
+    io::write_all(1, out);
+    out[0] = b;
+    1
+}
+
+fn text(s: &[u8], out: &mut [u8; 4096], fill: usize) -> usize
+    requires { ⌜ fill ≤ 4096 ⌝ }
+    ensures { λ r. ⌜ r ≤ 4096 ⌝ }
+{
+    let n = s.len();
+    let mut at = fill;
+    for i in 0..n {
+        at = byte(s[i], out, at);
+    }
+    at
+}
+
+// A space and a number.
+fn number(v: u32, out: &mut [u8; 4096], fill: usize) -> usize
+    requires { ⌜ fill ≤ 4096 ⌝ }
+    ensures { λ r. ⌜ r ≤ 4096 ⌝ }
+{
+    let mut digits = [0u8; 20];
+    let k = io::decimal(v as u64, &mut digits);
+    let at = byte(b' ', out, fill);
+    text(&digits[..k], out, at)
+}
+
+fn words(form: Form, out: &mut [u8; 4096], fill: usize) -> usize
+    requires { ⌜ fill ≤ 4096 ⌝ }
+    ensures { λ r. ⌜ r ≤ 4096 ⌝ }
+{
+    match form {
+        Form::BadLine => text(b"bad line", out, fill),
+        Form::Refused => text(b"refused", out, fill),
+        Form::Made => text(b"ok", out, fill),
+        Form::Absent => text(b"ok absent", out, fill),
+        Form::Columns => text(b"ok columns", out, fill),
+        Form::Again => text(b"ok again", out, fill),
+        Form::Stays => text(b"ok stays", out, fill),
+        Form::Forward => text(b"ok forward", out, fill),
+        Form::Back => text(b"ok back", out, fill),
+    }
+}
+
+// The first `count` of the numbers.
+fn numbers(values: [u32; 102], count: usize, out: &mut [u8; 4096], fill: usize) -> usize
+    requires { ⌜ (count ≤ 102) × (fill ≤ 4096) ⌝ }
+    ensures { λ r. ⌜ r ≤ 4096 ⌝ }
+{
+    let mut at = fill;
+    for i in 0..count {
+        at = number(values[i], out, at);
+    }
+    at
+}
+
+// A reply as a line.
+pub fn line(r: Reply, out: &mut [u8; 4096], fill: usize) -> usize
+    requires { ⌜ r .count ≤ 102 ⌝ }
+    requires { ⌜ fill ≤ 4096 ⌝ }
+    ensures { λ r. ⌜ r ≤ 4096 ⌝ }
+{
+    let form = r.form;
+    let count = r.count;
+    let values = r.numbers;
+    let at = words(form, out, fill);
+    let at = numbers(values, count, out, at);
+    byte(b'\n', out, at)
+}
+
+// What the buffer holds is written.
+pub fn flush(out: &[u8; 4096], fill: usize)
+    requires { ⌜ fill ≤ 4096 ⌝ }
+{
+    let text: &[u8] = out;
+    io::write_all(1, &text[..fill]);
+}

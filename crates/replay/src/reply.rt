@@ -1,0 +1,61 @@
+// What is printed for a line of a history: its words, and the numbers after them.
+ghost use Prim.Native.Nat.{_≤_};
+
+// The words that a reply begins with.
+pub enum Form {
+    BadLine,
+    Refused,
+    Made,
+    Absent,
+    Columns,
+    Again,
+    Stays,
+    Forward,
+    Back,
+}
+
+// The first `count` numbers are printed. A transaction has 6 and 12 for each of 8 entries.
+pub struct Reply {
+    pub form: Form,
+    pub count: usize,
+    pub numbers: [u32; 102],
+}
+
+// A reply with up to three numbers.
+pub fn answer(form: Form, count: usize, a: u32, b: u32, c: u32) -> Reply
+    requires { ⌜ count ≤ 3 ⌝ }
+    ensures { λ r. ⌜ r .count ≤ 102 ⌝ }
+{
+    let mut numbers = [0u32; 102];
+    numbers[0] = a;
+    numbers[1] = b;
+    numbers[2] = c;
+    Reply {
+        form,
+        count,
+        numbers,
+    }
+}
+
+pub fn bad_line() -> Reply
+    ensures { λ r. ⌜ r .count ≤ 102 ⌝ }
+{
+    answer(Form::BadLine, 0, 0, 0, 0)
+}
+
+pub fn refused(n: u32) -> Reply
+    ensures { λ r. ⌜ r .count ≤ 102 ⌝ }
+{
+    answer(Form::Refused, 1, n, 0, 0)
+}
+
+// What an accepted call says, or its refusal.
+pub fn unless_refused(refusal: u32, accepted: Reply) -> Reply
+    requires { ⌜ accepted .count ≤ 102 ⌝ }
+    ensures { λ r. ⌜ r .count ≤ 102 ⌝ }
+{
+    if refusal == 0 {
+        return accepted;
+    }
+    refused(refusal)
+}
