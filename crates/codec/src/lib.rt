@@ -1,6 +1,6 @@
 // The bytes of both sheets, read and written by place, so that calls above can speak of records, decisions and counts.
 pub mod coordinator;
-mod fields;
+pub mod fields;
 mod layouts;
 pub mod lines;
 pub mod records;

@@ -1,0 +1,59 @@
+-- The keys from place i on, visited from the sheets as they now are, come to what all keys come to from the first sheets.
+use Prim.Native.Nat.{_-_, _/_, _<_}
+use mathlib.Core.Path.{_≡_, refl}
+use native.Mathlib.Omega.{arith}
+use lib.ListN.{length}
+use borrow.Author.Needs.{needs}
+use Rattle.sweep.specs.Passes.{both, VisitedTo, pass-first, pass-next, pass-last}
+use Rattle.sweep.proofs.passes.pass.Statement.{statement}
+use Rattle.sweep.proofs.passes.pass.Tie as tie
+
+abbrev Inv-loop : tie.InvT-loop
+Inv-loop clock records₀ coordinator₀ n i₀ records coordinator i = (length records ≡ length records₀) × ((length coordinator ≡ length coordinator₀) × VisitedTo clock (both records₀ coordinator₀) (both records coordinator) i)
+
+abbrev μ-loop : tie.MeasureT-loop
+μ-loop clock records₀ coordinator₀ n i₀ records coordinator i = n - i
+
+count-requires : tie.Need-count-requires Inv-loop μ-loop
+count-requires c κs = search needs
+
+loop-holds : tie.Need-loop-holds Inv-loop μ-loop
+loop-holds c = (refl, (refl, pass-first _ _ (c .before .before .before .before .pre)))
+
+visit-place-requires : tie.Need-visit-place-requires Inv-loop μ-loop
+visit-place-requires c κs = search needs
+
+add-i : tie.Need-add-i Inv-loop μ-loop
+add-i c = search needs
+
+loop-less : tie.Need-loop-less Inv-loop μ-loop
+loop-less c = search needs
+
+loop-again : tie.Need-loop-again Inv-loop μ-loop
+loop-again c = let l : c .before .before .before .before .before .before .before .before .loop .i < length (c .before .before .before .before .before .before .before .before .before .before .before .before .before .args .records .now) / 98 = omega (arith, c .before .before .before .before .before .before .before .loop-test .taken, c .before .before .before .before .before .before .before .before .before .count .ensures) in
+    (omega arith, (omega arith, pass-next _ _ (both (c .before .before .before .before .before .before .before .before .loop .records) (c .before .before .before .before .before .before .before .before .loop .coordinator)) _ _ (omega arith) l (c .before .before .before .before .before .before .before .before .loop .inv .1 .1) (c .before .before .before .before .visit-place .ensures)))
+
+same-length : tie.Need-same-length Inv-loop μ-loop
+same-length c = c .before .loop .inv .0
+
+same-length-2 : tie.Need-same-length-2 Inv-loop μ-loop
+same-length-2 c = c .before .loop .inv .1 .0
+
+returns : tie.Need-returns Inv-loop μ-loop
+returns c = pass-last _ _ _ (c .before .loop .i) (omega (arith, c .loop-test .left, c .before .before .count .ensures)) (c .before .loop .inv .1 .1)
+
+pub pass-spec : {M : Type 1} → statement M
+pass-spec =
+    tie.close
+    (tie.spec
+    Inv-loop
+    μ-loop
+    count-requires
+    loop-holds
+    visit-place-requires
+    add-i
+    loop-less
+    loop-again
+    same-length
+    same-length-2
+    returns)

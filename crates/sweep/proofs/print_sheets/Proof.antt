@@ -1,0 +1,98 @@
+-- The sheets are visited in two beginnings, and the record sheet is then put after the coordinator sheet.
+use Prim.Native.Nat.{_-_}
+use mathlib.Core.Path.{sym, ap, subst, _∙_}
+use native.Mathlib.Omega.{arith}
+use lib.ListN.{length, length-take}
+use borrow.Author.Needs.{needs}
+use Rattle.sweep.specs.FirstLine.{Small, placeOfRecords, first-small, accepted-input}
+use Rattle.sweep.specs.Sizes.{parts}
+use Rattle.sweep.specs.Output.{sheets-printed}
+use Rattle.lists.specs.Fill.{front-length}
+use Rattle.sweep.proofs.print_sheets.Statement.{statement}
+use Rattle.sweep.proofs.print_sheets.Tie as tie
+
+numbers-requires : tie.Need-numbers-requires
+numbers-requires c κs = accepted-input (c .before .before .before .args .input .now) (c .before .before .before .pre .accepted) .fits .long
+
+records-from-requires : tie.Need-records-from-requires
+records-from-requires c κs = subst Small (sym (c .numbers .ensures)) (first-small (c .before .before .before .before .args .input .now))
+
+sub-c : tie.Need-sub-c
+sub-c c = search needs
+
+sub-r : tie.Need-sub-r
+sub-r c = let p = parts (c .before .before .before .before .before .args .input .now) (c .records-from .result) (c .records-from .ensures ∙ ap placeOfRecords (c .before .numbers .ensures)) (c .before .before .before .before .before .pre .accepted) in omega arith
+
+slice-relend-prefix-visit-sheets : tie.Need-slice-relend-prefix-visit-sheets
+slice-relend-prefix-visit-sheets c = let p = parts (c .before .before .before .before .before .args .input .now) (c .records-from .result) (c .records-from .ensures ∙ ap placeOfRecords (c .before .numbers .ensures)) (c .before .before .before .before .before .pre .accepted) in omega (arith, c .before .before .before .before .before .pre .work-room, c .before .before .before .before .before .pre .output-room)
+
+slice-aggregate-visit-sheets : tie.Need-slice-aggregate-visit-sheets
+slice-aggregate-visit-sheets c = let p = parts (c .before .before .before .before .before .before .args .input .now) (c .before .records-from .result) (c .before .records-from .ensures ∙ ap placeOfRecords (c .before .before .numbers .ensures)) (c .before .before .before .before .before .before .pre .accepted) in simp length-take (omega (arith, c .before .before .before .before .before .before .pre .work-room, c .before .before .before .before .before .before .pre .output-room))
+
+slice-relend-prefix-visit-sheets-2 : tie.Need-slice-relend-prefix-visit-sheets-2
+slice-relend-prefix-visit-sheets-2 c = let p = parts (c .before .before .before .before .before .before .args .input .now) (c .before .records-from .result) (c .before .records-from .ensures ∙ ap placeOfRecords (c .before .before .numbers .ensures)) (c .before .before .before .before .before .before .pre .accepted) in omega (arith, c .before .before .before .before .before .before .pre .work-room, c .before .before .before .before .before .before .pre .output-room)
+
+slice-aggregate-visit-sheets-2 : tie.Need-slice-aggregate-visit-sheets-2
+slice-aggregate-visit-sheets-2 c = let p = parts (c .before .before .before .before .before .before .before .args .input .now) (c .before .before .records-from .result) (c .before .before .records-from .ensures ∙ ap placeOfRecords (c .before .before .before .numbers .ensures)) (c .before .before .before .before .before .before .before .pre .accepted) in simp length-take (omega (arith, c .before .before .before .before .before .before .before .pre .work-room, c .before .before .before .before .before .before .before .pre .output-room))
+
+visit-sheets-requires : tie.Need-visit-sheets-requires
+visit-sheets-requires c κs = let p = parts (c .before .before .before .before .before .before .before .args .input .now) (c .before .before .records-from .result) (c .before .before .records-from .ensures ∙ ap placeOfRecords (c .before .before .before .numbers .ensures)) (c .before .before .before .before .before .before .before .pre .accepted) in
+    record {
+      accepted = c .before .before .before .before .before .before .before .pre .accepted;
+      lines = simp length-take (omega (arith, c .before .before .before .before .before .before .before .pre .work-room, c .before .before .before .before .before .before .before .pre .output-room));
+      decisions = simp length-take (omega (arith, c .before .before .before .before .before .before .before .pre .work-room, c .before .before .before .before .before .before .before .pre .output-room));
+    }
+
+add-n : tie.Need-add-n
+add-n c = search needs
+
+sub-put : tie.Need-sub-put
+sub-put c = search needs
+
+part-put-start : tie.Need-part-put-start
+part-put-start c = search needs
+
+part-put-end : tie.Need-part-put-end
+part-put-end c = let p = parts (c .before .before .before .before .before .before .before .before .before .before .before .before .args .input .now) (c .before .before .before .before .before .before .before .records-from .result) (c .before .before .before .before .before .before .before .records-from .ensures ∙ ap placeOfRecords (c .before .before .before .before .before .before .before .before .numbers .ensures)) (c .before .before .before .before .before .before .before .before .before .before .before .before .pre .accepted) in let e = front-length (c .before .before .before .before .before .before .before .records-from .result - 20) (c .before .before .before .before .visit-sheets .last .1 .1 .0) (c .before .before .before .before .before .before .before .before .before .before .before .before .args .output .now) (c .before .before .before .before .visit-sheets .kept .1 .1 .0) (omega (arith, c .before .before .before .before .before .before .before .before .before .before .before .before .pre .output-room)) in omega (arith, c .before .before .before .before .before .before .before .before .before .before .before .before .pre .output-room)
+
+slice-reshare-prefix-put : tie.Need-slice-reshare-prefix-put
+slice-reshare-prefix-put c = let p = parts (c .before .before .before .before .before .before .before .before .before .before .before .before .before .args .input .now) (c .before .before .before .before .before .before .before .before .records-from .result) (c .before .before .before .before .before .before .before .before .records-from .ensures ∙ ap placeOfRecords (c .before .before .before .before .before .before .before .before .before .numbers .ensures)) (c .before .before .before .before .before .before .before .before .before .before .before .before .before .pre .accepted) in let e = front-length (length (c .before .before .before .before .before .before .before .before .before .before .before .before .before .args .input .now) - c .before .before .before .before .before .before .before .before .records-from .result) (c .before .before .before .before .before .visit-sheets .last .1 .0) (c .before .before .before .before .before .before .before .before .before .before .before .before .before .args .work .now) (c .before .before .before .before .before .visit-sheets .kept .1 .0) (omega (arith, c .before .before .before .before .before .before .before .before .before .before .before .before .before .pre .work-room)) in omega (arith, c .before .before .before .before .before .before .before .before .before .before .before .before .before .pre .work-room)
+
+slice-aggregate-put : tie.Need-slice-aggregate-put
+slice-aggregate-put c = let p = parts (c .before .before .before .before .before .before .before .before .before .before .before .before .before .before .args .input .now) (c .before .before .before .before .before .before .before .before .before .records-from .result) (c .before .before .before .before .before .before .before .before .before .records-from .ensures ∙ ap placeOfRecords (c .before .before .before .before .before .before .before .before .before .before .numbers .ensures)) (c .before .before .before .before .before .before .before .before .before .before .before .before .before .before .pre .accepted) in let e = front-length (length (c .before .before .before .before .before .before .before .before .before .before .before .before .before .before .args .input .now) - c .before .before .before .before .before .before .before .before .before .records-from .result) (c .before .before .before .before .before .before .visit-sheets .last .1 .0) (c .before .before .before .before .before .before .before .before .before .before .before .before .before .before .args .work .now) (c .before .before .before .before .before .before .visit-sheets .kept .1 .0) (omega (arith, c .before .before .before .before .before .before .before .before .before .before .before .before .before .before .pre .work-room)) in simp length-take (omega (arith, c .before .before .before .before .before .before .before .before .before .before .before .before .before .before .pre .work-room))
+
+put-requires : tie.Need-put-requires
+put-requires c κs = search needs
+
+same-length : tie.Need-same-length
+same-length c = search needs
+
+same-length-2 : tie.Need-same-length-2
+same-length-2 c = search needs
+
+returns : tie.Need-returns
+returns c = let p = parts (c .before .before .before .before .before .before .before .before .before .before .before .before .before .before .before .before .before .args .input .now) (c .before .before .before .before .before .before .before .before .before .before .before .before .records-from .result) (c .before .before .before .before .before .before .before .before .before .before .before .before .records-from .ensures ∙ ap placeOfRecords (c .before .before .before .before .before .before .before .before .before .before .before .before .before .numbers .ensures)) (c .before .before .before .before .before .before .before .before .before .before .before .before .before .before .before .before .before .pre .accepted) in sheets-printed (c .before .before .before .before .before .before .before .before .before .before .before .before .before .before .before .before .before .args .input .now) (c .before .before .before .before .before .before .before .before .before .before .before .before .before .before .before .before .before .args .work .now) (c .before .before .before .before .before .before .before .before .before .before .before .before .before .before .before .before .before .args .output .now) (c .before .before .before .before .before .before .before .before .before .visit-sheets .last .1 .0) (c .before .before .before .before .before .before .before .before .before .visit-sheets .last .1 .1 .0) _ (c .before .before .before .before .before .before .before .before .before .before .before .before .records-from .result) p (c .before .before .before .before .before .before .before .before .before .before .before .before .before .before .before .before .before .pre) (c .before .before .before .before .before .before .before .before .before .visit-sheets .kept .1 .0) (c .before .before .before .before .before .before .before .before .before .visit-sheets .kept .1 .1 .0) (c .before .before .before .before .before .before .before .before .before .visit-sheets .ensures .0) (c .before .before .before .before .before .before .before .before .before .visit-sheets .ensures .1) (c .before .before .put .ensures)
+
+pub print-sheets-spec : {M : Type 1} → statement M
+print-sheets-spec =
+    tie.close
+    (tie.spec
+    numbers-requires
+    records-from-requires
+    sub-c
+    sub-r
+    slice-relend-prefix-visit-sheets
+    slice-aggregate-visit-sheets
+    slice-relend-prefix-visit-sheets-2
+    slice-aggregate-visit-sheets-2
+    visit-sheets-requires
+    add-n
+    sub-put
+    part-put-start
+    part-put-end
+    slice-reshare-prefix-put
+    slice-aggregate-put
+    put-requires
+    same-length
+    same-length-2
+    returns)

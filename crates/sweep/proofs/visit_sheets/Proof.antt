@@ -1,0 +1,76 @@
+-- Both slices hold the input's sheets before the passes, which then leave the definition's.
+use mathlib.Core.Path.{sym, ap, ap₂, subst, _∙_}
+use native.Mathlib.Omega.{arith}
+use borrow.Author.Needs.{needs}
+use Rattle.sweep.specs.declared.FirstLine.{FirstLine}
+use Rattle.model.specs.Visitor.{swept}
+use Rattle.model.specs.ByteHistories.{Bytes}
+use Rattle.call_laws.specs.Lifting.{Passing}
+use Rattle.sweep.specs.FirstLine.{Small, placeOfRecords, first-small, accepted-input}
+use Rattle.sweep.specs.Sizes.{parts}
+use Rattle.sweep.specs.Output.{loaded}
+use Rattle.sweep.proofs.visit_sheets.Statement.{statement}
+use Rattle.sweep.proofs.visit_sheets.Tie as tie
+
+numbers-requires : tie.Need-numbers-requires
+numbers-requires c κs = accepted-input (c .before .before .before .args .input .now) (c .before .before .before .pre .accepted) .fits .long
+
+records-from-requires : tie.Need-records-from-requires
+records-from-requires c κs = subst Small (sym (c .numbers .ensures)) (first-small (c .before .before .before .before .args .input .now))
+
+sub-put : tie.Need-sub-put
+sub-put c = search needs
+
+part-put-start : tie.Need-part-put-start
+part-put-start c = search needs
+
+part-put-end : tie.Need-part-put-end
+part-put-end c = let p = parts (c .before .before .before .before .before .before .args .input .now) (c .before .records-from .result) (c .before .records-from .ensures ∙ ap placeOfRecords (c .before .before .numbers .ensures)) (c .before .before .before .before .before .before .pre .accepted) in omega arith
+
+put-requires : tie.Need-put-requires
+put-requires c κs = search needs
+
+sub-put-2 : tie.Need-sub-put-2
+sub-put-2 c = let p = parts (c .before .before .before .before .before .before .before .before .before .before .before .args .input .now) (c .before .before .before .before .before .before .records-from .result) (c .before .before .before .before .before .before .records-from .ensures ∙ ap placeOfRecords (c .before .before .before .before .before .before .before .numbers .ensures)) (c .before .before .before .before .before .before .before .before .before .before .before .pre .accepted) in omega arith
+
+part-put-start-2 : tie.Need-part-put-start-2
+part-put-start-2 c = let p = parts (c .before .before .before .before .before .before .before .before .before .before .before .args .input .now) (c .before .before .before .before .before .before .records-from .result) (c .before .before .before .before .before .before .records-from .ensures ∙ ap placeOfRecords (c .before .before .before .before .before .before .before .numbers .ensures)) (c .before .before .before .before .before .before .before .before .before .before .before .pre .accepted) in omega arith
+
+part-put-end-2 : tie.Need-part-put-end-2
+part-put-end-2 c = search needs
+
+put-requires-2 : tie.Need-put-requires-2
+put-requires-2 c κs = search needs
+
+sweep-requires : tie.Need-sweep-requires
+sweep-requires c κs = subst Passing (sym (loaded (c .before .before .before .before .before .before .before .before .before .before .before .before .before .before .before .before .before .args .input .now) (c .before .before .before .before .before .before .before .before .before .before .before .before .before .before .before .before .before .args .records .now) (c .before .before .before .before .before .before .before .before .before .before .before .before .before .before .before .before .before .args .coordinator .now) _ _ (c .before .before .before .before .before .before .before .before .before .before .before .before .records-from .result) (c .before .before .before .before .before .before .before .before .before .before .before .before .before .before .before .before .before .pre) (c .before .before .before .before .before .before .before .before .before .before .before .before .records-from .ensures ∙ ap placeOfRecords (c .before .before .before .before .before .before .before .before .before .before .before .before .before .numbers .ensures)) (c .before .before .before .before .put2 .ensures) (c .before .before .before .before .before .before .before .before .before .put .ensures))) (accepted-input (c .before .before .before .before .before .before .before .before .before .before .before .before .before .before .before .before .before .args .input .now) (c .before .before .before .before .before .before .before .before .before .before .before .before .before .before .before .before .before .pre .accepted) .passing)
+
+same-length : tie.Need-same-length
+same-length c = search needs
+
+same-length-2 : tie.Need-same-length-2
+same-length-2 c = search needs
+
+returns : tie.Need-returns
+returns c = let e = loaded (c .before .before .before .before .before .before .before .before .before .before .before .before .before .before .before .before .before .before .before .before .before .before .args .input .now) (c .before .before .before .before .before .before .before .before .before .before .before .before .before .before .before .before .before .before .before .before .before .before .args .records .now) (c .before .before .before .before .before .before .before .before .before .before .before .before .before .before .before .before .before .before .before .before .before .before .args .coordinator .now) _ _ (c .before .before .before .before .before .before .before .before .before .before .before .before .before .before .before .before .before .records-from .result) (c .before .before .before .before .before .before .before .before .before .before .before .before .before .before .before .before .before .before .before .before .before .before .pre) (c .before .before .before .before .before .before .before .before .before .before .before .before .before .before .before .before .before .records-from .ensures ∙ ap placeOfRecords (c .before .before .before .before .before .before .before .before .before .before .before .before .before .before .before .before .before .before .numbers .ensures)) (c .before .before .before .before .before .before .before .before .before .put2 .ensures) (c .before .before .before .before .before .before .before .before .before .before .before .before .before .before .put .ensures) in
+    let v = c .before .before .before .before .sweep .ensures ∙ ap₂ swept (ap (λ (f : FirstLine). f .clock) (c .before .before .before .before .before .before .before .before .before .before .before .before .before .before .before .before .before .before .numbers .ensures)) e in
+    (ap (λ (b : Bytes). b .records) v, ap (λ (b : Bytes). b .coordinator) v)
+
+pub visit-sheets-spec : {M : Type 1} → statement M
+visit-sheets-spec =
+    tie.close
+    (tie.spec
+    numbers-requires
+    records-from-requires
+    sub-put
+    part-put-start
+    part-put-end
+    put-requires
+    sub-put-2
+    part-put-start-2
+    part-put-end-2
+    put-requires-2
+    sweep-requires
+    same-length
+    same-length-2
+    returns)

@@ -1,0 +1,102 @@
+-- The keys of a sheet visited one after another: a visit keeps the keys, so that the key at a place is that of the sheet at first.
+use Prim.Native.Nat.{ℕ, _+_, _/_, _^_, _≤_, _<_}
+use mathlib.Core.Path.{_≡_, refl, sym, ap, ap₂, subst, _∙_}
+use mathlib.Core.List.{List, [], _∷_, _++_, map}
+use native.Mathlib.Omega.{arith}
+use native.Mathlib.Numerals.{add-one}
+use lib.ListN.{length, drop, getD, length-map, drop-of-length-le, List·getD-map}
+use lib.Seq.{drop-cons}
+use Rattle.types.specs.declared.Key.{Key}
+use Rattle.types.specs.declared.Record.{Record}
+use Rattle.model.specs.Records.{records, noRecord}
+use Rattle.model.specs.Writes.{Sheets, Write, lineAfter, apply}
+use Rattle.model.specs.Results.{visit}
+use Rattle.model.specs.Histories.{written, after}
+use Rattle.model.specs.ByteHistories.{Bytes, saying, afterOn}
+use Rattle.model.specs.Visitor.{visitedAll, keysIn, swept}
+use Rattle.sheet_laws.specs.Places.{length-records}
+use Rattle.call_laws.specs.Lines.{line-key}
+use Rattle.call_laws.specs.Lifting.{Passing, bytes-stay-passing}
+
+abbrev pub both : List ℕ → List ℕ → Bytes
+both rs cs = record { records = rs; coordinator = cs }
+
+abbrev pub keyAt : List ℕ → ℕ → Key
+keyAt rs i = getD (records rs) i noRecord .key
+
+-- sheets that pass, and that have these keys
+pub record Kept (ks : List Key) (b : Bytes) : Type 0 where
+  pub passing : Passing b
+  pub keys : keysIn b ≡ ks
+
+keys-kept : (w : Write) (rs : List Record) → map (λ (r : Record). r .key) (map (lineAfter w) rs) ≡ map (λ (r : Record). r .key) rs
+keys-kept w [] = refl
+keys-kept w (r ∷ rs) = ap₂ _∷_ (line-key w r) (keys-kept w rs)
+
+kept-visit : (k : Key) (now : ℕ) (ks : List Key) (b : Bytes) → now < 2 ^ 32 → Kept ks b → Kept ks (afterOn (visit k now) b)
+unfolding after apply
+kept-visit k now ks b l h =
+    let q = bytes-stay-passing (visit k now) b l (h .passing) in
+    record {
+      passing = q .1;
+      keys =
+          ap (λ (s : Sheets). map (λ (r : Record). r .key) (s .lines)) (q .0)
+          ∙ (keys-kept (written (visit k now) (saying b)) (records (b .records)) ∙ h .keys);
+    }
+
+visited-kept : (now : ℕ) (ks ls : List Key) (b : Bytes) → now < 2 ^ 32 → Kept ls b → Kept ls (visitedAll now ks b)
+unfolding visitedAll
+visited-kept now [] ls b l h = h
+visited-kept now (k ∷ ks) ls b l h = visited-kept now ks ls (afterOn (visit k now) b) l (kept-visit k now ls b l h)
+
+visited-append : (now : ℕ) (ks ls : List Key) (b : Bytes) → visitedAll now (ks ++ ls) b ≡ visitedAll now ls (visitedAll now ks b)
+unfolding visitedAll
+visited-append now [] ls b = refl
+visited-append now (k ∷ ks) ls b = visited-append now ks ls (afterOn (visit k now) b)
+
+-- A pass that has visited the keys before place i.
+pub record VisitedTo (now : ℕ) (first b : Bytes) (i : ℕ) : Type 0 where
+  pub place : i ≤ length (keysIn first)
+  pub kept : Kept (keysIn first) b
+  pub rest : visitedAll now (drop i (keysIn first)) b ≡ visitedAll now (keysIn first) first
+
+pub pass-first : (now : ℕ) (first : Bytes) → Passing first → VisitedTo now first first 0
+pass-first now first h = record { place = omega arith; kept = record { passing = h; keys = refl }; rest = refl }
+
+length-keys : (b : Bytes) → length (keysIn b) ≡ length (b .records) / 98
+length-keys b = length-map (records (b .records)) (λ (r : Record). r .key) ∙ length-records (b .records)
+
+pub pass-next : (now : ℕ) (first b c : Bytes) (i : ℕ) → now < 2 ^ 32 → i < length (first .records) / 98 → VisitedTo now first b i → c ≡ afterOn (visit (keyAt (b .records) i) now) b → VisitedTo now first c (i + 1)
+unfolding visitedAll
+pass-next now first b c i l m v e =
+    let n : i < length (keysIn first) = omega (arith, length-keys first) in
+    let k : keyAt (b .records) i ≡ getD (keysIn first) i (noRecord .key) =
+    sym (List·getD-map (λ (r : Record). r .key) (records (b .records)) i noRecord)
+    ∙ ap (λ (ks : List Key). getD ks i (noRecord .key)) (v .kept .keys) in
+    let d : drop i (keysIn first) ≡ keyAt (b .records) i ∷ drop (i + 1) (keysIn first) =
+    drop-cons (keysIn first) i (noRecord .key) n
+    ∙ ap₂ _∷_ (sym k) (ap (λ (j : ℕ). drop j (keysIn first)) (sym (add-one i))) in
+    subst (λ (x : Bytes). VisitedTo now first x (i + 1)) (sym e)
+    (record {
+      place = omega arith;
+      kept = kept-visit (keyAt (b .records) i) now (keysIn first) b l (v .kept);
+      rest = ap (λ (ks : List Key). visitedAll now ks b) (sym d) ∙ v .rest;
+    })
+
+pub pass-last : (now : ℕ) (first b : Bytes) (i : ℕ) → length (first .records) / 98 ≤ i → VisitedTo now first b i → b ≡ visitedAll now (keysIn first) first
+unfolding visitedAll
+pass-last now first b i m v =
+    let n : length (keysIn first) ≤ i = omega (arith, length-keys first) in
+    ap (λ (ks : List Key). visitedAll now ks b) (sym (drop-of-length-le (keysIn first) n)) ∙ v .rest
+
+-- "all lines in order, then all again": the second pass has the keys of the first
+pub second-pass : (now : ℕ) (first b : Bytes) → now < 2 ^ 32 → Passing first → b ≡ visitedAll now (keysIn first) first → Passing b × (visitedAll now (keysIn b) b ≡ swept now first)
+unfolding swept
+second-pass now first b l h e =
+    let ks : List Key = keysIn first in
+    let v : Kept ks (visitedAll now ks first) = visited-kept now ks ks first l (record { passing = h; keys = refl }) in
+    let p : Passing b = subst Passing (sym e) (v .passing) in
+    let k : keysIn b ≡ ks = ap keysIn e ∙ v .keys in (
+      p,
+      ap₂ (visitedAll now) k e ∙ sym (visited-append now ks ks first),
+    )

@@ -1,0 +1,113 @@
+-- How long sheets and inputs are: an accepted sheet keeps its number of lines, so an input longer than the largest that fits is refused by 1,
+-- and reading a byte more than that is enough.
+use Prim.Native.Nat.{ℕ, _+_, _-_, _*_, _/_, _≤_, _<_}
+use mathlib.Core.Path.{_≡_, refl, sym, ap, _∙_}
+use mathlib.Core.Bool.{Bool, true, false, not, cond}
+use mathlib.Core.List.{List}
+use native.Mathlib.Omega.{arith}
+use lib.ListN.{length, take, drop, length-take, length-drop}
+use lib.Seq.{take-all}
+use lib.Dec.{eqb, leb}
+use borrow.Author.Tests.{eqb-true, leb-true, leb-false}
+use Rattle.lists.specs.Each.{all}
+use Rattle.lists.specs.Tests.{and-fst, and-snd, tests}
+use Rattle.model.specs.Layouts.{recordLayout}
+use Rattle.model.specs.Lines.{linesOf, linesSet, lineSet}
+use Rattle.model.specs.Records.{records, recordsGood, recordsAccepted}
+use Rattle.model.specs.Coordinator.{coordinatorOf, coordinatorAccepted}
+use Rattle.model.specs.Refusals.{refusalOf}
+use Rattle.model.specs.SheetCalls.{checkConditions}
+use Rattle.model.specs.Visitor.{firstNumber, coordinatorSize, inputFits, inputSheets, inputConditions, printed, refusedText, swept, visitorOutput}
+use Rattle.sheet_laws.specs.Places.{length-records}
+use Rattle.sheet_laws.specs.Coordinator.{bounds}
+use Rattle.sheet_laws.specs.Decisions.{length-decisions, accepted-parts}
+use Rattle.call_laws.specs.Lifting.{passing-parts}
+use Rattle.sweep.specs.FirstLine.{firstOf, placeOfRecords, first-small, fit, unfit-refused, fit-refused, accepted-input, place-within}
+
+-- 1 to 500 lines of 98 bytes
+records-few : (s : List ℕ) → recordsAccepted s ≡ true → length s ≤ 49000
+unfolding recordsAccepted linesSet recordsGood
+records-few s h =
+    let l : linesSet recordLayout 98 s ≡ true = and-fst (linesSet recordLayout 98 s) (recordsGood (records s)) h in
+    let g : recordsGood (records s) ≡ true = and-snd (linesSet recordLayout 98 s) (recordsGood (records s)) h in
+    let w : length s ≡ length s / 98 * 98 = eqb-true _ _ (and-fst (eqb (length s) (length s / 98 * 98)) (all (lineSet recordLayout) (linesOf 98 s)) l) in
+    let f : length (records s) ≤ 500 = search tests in
+    omega (arith, length-records s)
+
+-- a head and 1 to 999 lines of 15 bytes
+coordinator-few : (s : List ℕ) → coordinatorAccepted s ≡ true → length s ≤ 15000
+coordinator-few s h =
+    let p = accepted-parts s h in
+    let f : length (coordinatorOf s .decisions) ≤ 999 = bounds (coordinatorOf s) (p .good) .few in
+    let w : length (drop 15 s) ≡ length (drop 15 s) / 15 * 15 = p .whole in
+    omega (arith, length-decisions s, length-drop 15 s)
+
+-- The sheets of an accepted input, the record sheet from place n on.
+pub record Parts (s : List ℕ) (n : ℕ) : Type 0 where
+  pub after-first : 20 ≤ n
+  pub within : n ≤ length s
+  pub coordinator-bytes : coordinatorSize s ≡ n - 20
+  pub record-bytes : length (inputSheets s .records) ≡ length s - n
+  pub coordinator-room : n - 20 ≤ 15000
+  pub record-room : length s - n ≤ 49000
+
+pub parts : (s : List ℕ) (n : ℕ) → n ≡ placeOfRecords (firstOf s) → refusalOf (inputConditions s) ≡ 0 → Parts s n
+parts s n e h =
+    let a = accepted-input s h in
+    let w = place-within s n e (a .fits) in
+    let p = passing-parts (inputSheets s) (a .passing) in
+    let r : length (inputSheets s .records) ≤ 49000 = records-few (inputSheets s .records) (p .0) in
+    let c : length (inputSheets s .coordinator) ≤ 15000 = coordinator-few (inputSheets s .coordinator) (p .1 .0) in
+    let k : coordinatorSize s ≡ n - 20 = omega (arith, e) in
+    let l : length (inputSheets s .records) ≡ length s - n = length-drop (20 + coordinatorSize s) s ∙ ap (λ (m : ℕ). length s - m) (sym e) in
+    let m : length (inputSheets s .coordinator) ≡ coordinatorSize s = simp (length-take, length-drop) (omega (arith, e)) in
+    record {
+      after-first = w .0;
+      within = w .1;
+      coordinator-bytes = k;
+      record-bytes = l;
+      coordinator-room = omega arith;
+      record-room = omega arith;
+    }
+
+-- The largest input that 1 need not refuse: the first line, a head and 9,999 coordinator lines, 500 record lines.
+abbrev pub longest : ℕ
+longest = 20 + 15 * 10000 + 98 * 500
+
+-- one condition that holds gives its number
+refused-text : (s : List ℕ) → refusalOf (inputConditions s) ≡ 1 → visitorOutput s ≡ refusedText 1
+unfolding visitorOutput
+refused-text s h =
+    ap (λ (n : ℕ). cond (eqb n 0) (printed (swept (firstNumber 2 s) (inputSheets s))) (refusedText n)) h
+
+many-refused : (rs cs : List ℕ) → 49000 < length rs → refusalOf (checkConditions rs cs) ≡ 1
+unfolding checkConditions refusalOf
+many-refused rs cs l = go (recordsAccepted rs) refl
+  where
+    go : (b : Bool) → recordsAccepted rs ≡ b → refusalOf (checkConditions rs cs) ≡ 1
+    go true e = absurd (omega (arith, records-few rs e))
+    go false e = rw e
+
+pub longer-refused : (s : List ℕ) → longest < length s → visitorOutput s ≡ refusedText 1
+longer-refused s l = go (inputFits s) refl
+  where
+    go : (b : Bool) → inputFits s ≡ b → visitorOutput s ≡ refusedText 1
+    go false e = refused-text s (unfit-refused s e)
+    go true e =
+        let f = fit s e in
+        let w : length s ≡ 20 + coordinatorSize s + firstNumber 0 s * 98 = f .whole in
+        let d : firstNumber 1 s ≤ 9999 = first-small s .decisions in
+        let m : length (inputSheets s .records) ≡ length s - (20 + coordinatorSize s) = length-drop (20 + coordinatorSize s) s in
+        let k : 49000 < length (inputSheets s .records) = omega arith in
+        refused-text s (fit-refused s e ∙ many-refused (inputSheets s .records) (inputSheets s .coordinator) k)
+
+-- an input cut after one byte more than that has the output of the whole
+pub enough-read : (s : List ℕ) → visitorOutput (take (longest + 1) s) ≡ visitorOutput s
+enough-read s = go (leb (length s) longest) refl
+  where
+    go : (b : Bool) → leb (length s) longest ≡ b → visitorOutput (take (longest + 1) s) ≡ visitorOutput s
+    go true e = ap visitorOutput (take-all (longest + 1) s (omega (arith, leb-true (length s) longest e)))
+    go false e =
+        let l : longest < length s = leb-false (length s) longest e in
+        let k : longest < length (take (longest + 1) s) = simp length-take (omega arith) in
+        longer-refused (take (longest + 1) s) k ∙ sym (longer-refused s l)

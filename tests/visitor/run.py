@@ -1,0 +1,98 @@
+#!/usr/bin/env python3
+"""Runs of the visiting program, each held to stored output.
+
+`cases/NAME.in` and `cases/NAME.out` are inputs and outputs, derived from the paper by hand and compared with the separate implementation
+(`cargo run --release --bin visitor` in reference/). Larger inputs are made here; an accepted one has the SHA-256 of that implementation's output.
+Run from the repository's root, after `rt check visitor`.
+"""
+import hashlib
+import pathlib
+import subprocess
+import sys
+
+PROGRAM = pathlib.Path("target/bin/visitor")
+CASES = pathlib.Path(__file__).resolve().parent / "cases"
+FIRST, SECOND = b"REFUSED  1\n", b"REFUSED  2\n"
+
+
+def head(lines, decisions, clock):
+    return b"%4d%4d%11d\n" % (lines, decisions, clock)
+
+
+def coordinator(decisions, issued):
+    """Numbers up to the issued count are COMMITTED, ABORTED and undecided by turns."""
+    words = (b"COMMITTED", b"ABORTED", b"-")
+    lines = [b"%4d SPTNRSPTN\n" % issued]
+    for k in range(1, decisions + 1):
+        word = words[k % 3] if k <= issued else b"-"
+        lines.append(b"%4d%10s\n" % (k, word))
+    return b"".join(lines)
+
+
+def records(lines, issued):
+    """Lines absent, committed, and prepared by every number in turn, over nothing and over a version, at clocks that have and have not expired."""
+    text = []
+    for i in range(lines):
+        txid, version = i % issued + 1, i % 7
+        key = (b"%2d%3d%3d%6d%6d" % (1 + i // 100, 1 + i // 50 % 2, 7, i // 10, i)).ljust(20)
+        clock = 20000 - (14999, 15000, 3)[i % 3]
+        if i % 5 == 0:
+            fields = (b"ABSENT", 0, 0, 0, 0, 0, 0, 0, 0, 0)
+        elif i % 5 == 1:
+            fields = (b"COMMITTED", version + 1, txid, i, 2 * i, 0, 0, 0, 0, 0)
+        elif version == 0:
+            fields = (b"PREPARED", 1, txid, i, 5, 0, 0, 0, 0, clock)
+        else:
+            fields = (b"PREPARED", version + 1, txid, i, 5, version, txid - 1, 99999999, 4, clock)
+        text.append(key + b"%10s%6d%4d%9d%9d%6d%4d%9d%9d%11d\n" % fields)
+    return b"".join(text)
+
+
+def sheets(lines, decisions, issued=None):
+    issued = min(decisions, 999) if issued is None else issued
+    return head(lines, decisions, 20000) + coordinator(decisions, issued) + records(lines, max(issued, 1))
+
+
+# name, input, the whole output or its digest
+LARGE = [
+    ("500 record lines", sheets(500, 30), "229659745043bc58f5522cc5c4d643f0c1233c14d3816d32e716eba296b265c9"),
+    ("501 record lines", sheets(501, 30), FIRST),
+    ("999 coordinator lines", sheets(6, 999), "bc5078f4ad5fb66bf7b05093d180b828d8aef95269328b336faae3f969f67c5d"),
+    ("both at their largest", sheets(500, 999), "c23509be19e0c231349fd3472df82ba0038cc015187776a53bea3710af66510e"),
+    ("1,000 coordinator lines", sheets(6, 1000), SECOND),
+    ("1,500 coordinator lines", sheets(6, 1500), SECOND),
+    ("9,999 coordinator lines and 500 record lines", sheets(500, 9999), SECOND),
+    ("9,999 coordinator lines and 501 record lines", sheets(501, 9999), FIRST),
+    ("9,999 coordinator lines, 500 record lines and a byte", sheets(500, 9999) + b"\n", FIRST),
+    ("9,999 of both", sheets(9999, 9999), FIRST),
+    ("longer than any numbers of lines", b"7" * 2_000_000, FIRST),
+]
+
+
+def stored():
+    for path in sorted(CASES.glob("*.in")):
+        yield path.stem, path.read_bytes(), path.with_suffix(".out").read_bytes()
+
+
+def agrees(output, expected):
+    if isinstance(expected, str):
+        return hashlib.sha256(output).hexdigest() == expected
+    return output == expected
+
+
+def main():
+    if not PROGRAM.exists():
+        sys.exit(f"no {PROGRAM}: build it first with `rt check visitor`, in the repository's root")
+    runs = differences = 0
+    for name, text, expected in [*stored(), *LARGE]:
+        run = subprocess.run([PROGRAM], input=text, capture_output=True)
+        runs += 1
+        if run.returncode != 0 or not agrees(run.stdout, expected):
+            differences += 1
+            print(f"{name}: status {run.returncode}, output begins {run.stdout[:60]!r}")
+    print(f"{runs} runs, {differences} differences")
+    sys.exit(1 if differences else 0)
+
+
+if __name__ == "__main__":
+    main()
