@@ -1,5 +1,5 @@
 # The commands of the README. `make test` is the whole gate.
-.PHONY: test wrong histories bench differ archive
+.PHONY: test wrong histories bench differ archive client client-test install
 
 test:
 	rt fmt --check
@@ -16,8 +16,12 @@ histories:
 	rt check replay
 	python3 tests/replay/run.py
 
-# the engine as an archive for C and Rust
-archive:
+# the engine as an archive for C and Rust, made anew where a crate has changed
+ARCHIVE = target/staticlib/libc_api.a
+
+archive: $(ARCHIVE)
+
+$(ARCHIVE): crates.txt $(shell find crates -name '*.rt' -o -name '*.antt')
 	rt staticlib c_api
 
 bench: archive
@@ -25,3 +29,25 @@ bench: archive
 
 differ: archive
 	cd reference && cargo run --release --quiet --features engine --bin differ
+
+# the client in C of examples/, with its output on standard output
+CFLAGS = -std=c11 -Wall -Wextra -Werror -pedantic
+
+client: archive
+	$(CC) $(CFLAGS) -Iinclude -o target/client examples/client.c $(ARCHIVE)
+	./target/client
+
+# the header, the client and an installed copy of both
+client-test: archive
+	tests/c_client/run.sh
+
+# header, archive and pkg-config file
+PREFIX = /usr/local
+INSTALLED = $(DESTDIR)$(PREFIX)
+
+install: archive
+	install -d $(INSTALLED)/include $(INSTALLED)/lib/pkgconfig
+	install -m 644 include/rapyheo.h $(INSTALLED)/include/rapyheo.h
+	install -m 644 $(ARCHIVE) $(INSTALLED)/lib/librapyheo.a
+	sed 's|@PREFIX@|$(PREFIX)|' include/rapyheo.pc.in > $(INSTALLED)/lib/pkgconfig/rapyheo.pc
+	chmod 644 $(INSTALLED)/lib/pkgconfig/rapyheo.pc

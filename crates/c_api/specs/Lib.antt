@@ -1,2 +1,3 @@
 -- The answers of what is exported for C.
 pub mod Numbers
+pub mod ByPlace

@@ -11,13 +11,13 @@ use Rattle.lists.specs.Tests.{choose-by}
 use Rattle.types.specs.declared.Key.{Key}
 use Rattle.types.specs.declared.Recovery.{Recovery}
 use Rattle.types.specs.declared.Transaction.{Transaction}
-use Rattle.model.specs.Results.{begin, visit, Result, refused, made, unless}
+use Rattle.model.specs.Results.{begin, advance, visit, Result, refused, made, unless}
 use Rattle.model.specs.Refusals.{Condition, refusalOf}
 use Rattle.model.specs.SheetCalls.{checkConditions}
 use Rattle.model.specs.Writes.{Write}
 use Rattle.model.specs.Conditions.{conditions}
-use Rattle.model.specs.Calls.{beginResult, visitResult}
-use Rattle.model.specs.ByteCalls.{sheetsOf, beginOn, visitOn}
+use Rattle.model.specs.Calls.{beginResult, advanceResult, visitResult}
+use Rattle.model.specs.ByteCalls.{sheetsOf, beginOn, advanceOn, visitOn}
 use Rattle.call_laws.specs.Exactness.{small}
 use Rattle.engine.specs.Answers.{begun, visited, replyNumber}
 
@@ -31,8 +31,17 @@ abbrev pub visitNumber : Result Recovery → ℕ
 visitNumber (refused n) = 1000 + n
 visitNumber (made v w) = replyNumber v
 
+-- advance: 0
+abbrev pub advanceNumber : Result Transaction → ℕ
+advanceNumber (refused n) = 1000 + n
+advanceNumber (made t w) = 0
+
+-- the answer where the list of a call by place is over 16 or has no such place
+abbrev pub unlistedNumber : List ℕ → List ℕ → ℕ
+unlistedNumber rs cs = advanceNumber (unless (checkConditions rs cs) (refused 3))
+
 -- A result whose refusal is a number of the table.
-data Sound {A : Type 0} : Result A → Type 0 where
+pub data Sound {A : Type 0} : Result A → Type 0 where
   sound-refused : (n : ℕ) → 1 ≤ n → n ≤ 12 → Sound (refused n)
   sound-made : (a : A) (w : Write) → Sound (made a w)
 
@@ -51,6 +60,10 @@ begin-sound b rs cs = sound-unless (checkConditions rs cs) _ refl (sound-unless 
 visit-sound : (k : Key) (clock : ℕ) (rs cs : List ℕ) → Sound (visitOn k clock rs cs)
 unfolding visitOn visitResult checkConditions conditions all
 visit-sound k clock rs cs = sound-unless (checkConditions rs cs) _ refl (sound-unless (conditions (visit k clock) (sheetsOf rs cs)) _ refl (sound-made _ _))
+
+pub advance-sound : (t : Transaction) (clock : ℕ) (rs cs : List ℕ) → Sound (advanceOn t clock rs cs)
+unfolding advanceOn advanceResult checkConditions conditions all
+advance-sound t clock rs cs = sound-unless (checkConditions rs cs) _ refl (sound-unless (conditions (advance t clock) (sheetsOf rs cs)) _ refl (sound-made _ _))
 
 -- the refusal of an answer is at most 12, and its number is that of the result
 pub begin-numbered : (b : Bool) (rs cs : List ℕ) → (begun (beginOn b rs cs) .refusal ≤ 12) × (cond (eqb (begun (beginOn b rs cs) .refusal) 0) (begun (beginOn b rs cs) .transaction .number) (1000 + begun (beginOn b rs cs) .refusal) ≡ beginNumber (beginOn b rs cs))

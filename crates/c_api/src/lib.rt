@@ -5,9 +5,12 @@ ghost use Prim.Native.Nat.{_+_, _≤_};
 ghost use lib.Dec.{eqb};
 ghost use Rattle.model.specs.Refusals.{refusalOf};
 ghost use Rattle.model.specs.SheetCalls.{checkConditions};
-ghost use Rattle.model.specs.ByteCalls.{beginOn, visitOn, recordsAfter, coordinatorAfter};
-ghost use Rattle.c_api.specs.Numbers.{beginNumber, visitNumber};
+ghost use Rattle.model.specs.ByteCalls.{beginOn, visitOn, advanceOn, recordsAfter, coordinatorAfter};
+ghost use Rattle.model.specs.CallByPlace.{listed, advanceAtOn, listAfter};
+ghost use Rattle.c_api.specs.Numbers.{beginNumber, visitNumber, advanceNumber, unlistedNumber};
+ghost use Rattle.c_api.specs.ByPlace.{advanced};
 use types::Key;
+use types::Transaction;
 
 // 0 where both sheets are accepted, else the refusal: 1 or 2.
 #[no_mangle]
@@ -64,4 +67,66 @@ pub extern "C" fn rapyheo_visit(
     };
     let visited = engine::visit::visit(key, clock, records, coordinator);
     number(visited.refusal, visited.reply)
+}
+
+// Whether a list of this length is not over 16 and has the place.
+fn is_listed(length: usize, place: usize) -> bool
+    ensures { λ r. ⌜ r ≡ listed length place ⌝ }
+{
+    length <= 16 && place < length
+}
+
+// What the call by place answers, and the transaction that stands at the place afterwards.
+struct Advanced {
+    answer: u32,
+    transaction: Transaction,
+}
+
+// The engine's advance, with the parameters in the order of the call by place.
+fn advance_named(t: Transaction, records: &mut [u8], coordinator: &mut [u8], clock: u32) -> Advanced
+    ensures answer { λ r. ⌜ r ≡ advanced t (advanceOn t clock (now (records .entry)) (now (coordinator .entry))) ⌝ }
+    ensures lines { λ r. ⌜ now (records .exit) ≡ recordsAfter (now (records .entry)) (now (coordinator .entry)) (advanceOn t clock (now (records .entry)) (now (coordinator .entry))) ⌝ }
+    ensures decisions { λ r. ⌜ now (coordinator .exit) ≡ coordinatorAfter (now (records .entry)) (now (coordinator .entry)) (advanceOn t clock (now (records .entry)) (now (coordinator .entry))) ⌝ }
+{
+    let stepped = engine::advance::advance(t, clock, records, coordinator);
+    let answer = number(stepped.refusal, 0);
+    let transaction = stepped.transaction;
+    Advanced {
+        answer,
+        transaction,
+    }
+}
+
+// The answer where the list is over 16 or has no such place: the sheets come first. They are lent as the caller has them, and stay.
+fn unlisted(records: &mut [u8], coordinator: &mut [u8]) -> u32
+    ensures answer { λ r. ⌜ r ≡ unlistedNumber (now (records .entry)) (now (coordinator .entry)) ⌝ }
+    ensures lines { λ r. ⌜ now (records .exit) ≡ now (records .entry) ⌝ }
+    ensures decisions { λ r. ⌜ now (coordinator .exit) ≡ now (coordinator .entry) ⌝ }
+{
+    let refused = sheets::check::check(records, coordinator);
+    number(refused, 1003)
+}
+
+// 0 where the transaction at the place is advanced there, or 1000 + the refusal.
+#[no_mangle]
+pub extern "C" fn rapyheo_advance_at(
+    list: &mut [Transaction],
+    place: usize,
+    records: &mut [u8],
+    coordinator: &mut [u8],
+    clock: u32,
+) -> u32
+    ensures answer { λ r. ⌜ r ≡ advanceNumber (advanceAtOn (now (list .entry)) place clock (now (records .entry)) (now (coordinator .entry))) ⌝ }
+    ensures transactions { λ r. ⌜ now (list .exit) ≡ listAfter (now (list .entry)) place (advanceAtOn (now (list .entry)) place clock (now (records .entry)) (now (coordinator .entry))) ⌝ }
+    ensures lines { λ r. ⌜ now (records .exit) ≡ recordsAfter (now (records .entry)) (now (coordinator .entry)) (advanceAtOn (now (list .entry)) place clock (now (records .entry)) (now (coordinator .entry))) ⌝ }
+    ensures decisions { λ r. ⌜ now (coordinator .exit) ≡ coordinatorAfter (now (records .entry)) (now (coordinator .entry)) (advanceAtOn (now (list .entry)) place clock (now (records .entry)) (now (coordinator .entry))) ⌝ }
+{
+    if is_listed(list.len(), place) {
+        let t = list[place];
+        let advanced = advance_named(t, records, coordinator, clock);
+        list[place] = advanced.transaction;
+        advanced.answer
+    } else {
+        unlisted(records, coordinator)
+    }
 }

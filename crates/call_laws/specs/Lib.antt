@@ -15,3 +15,4 @@ pub mod Entries
 pub mod Keeping
 pub mod Closure
 pub mod Lifting
+pub mod ByPlace

@@ -16,6 +16,7 @@ pub mod Conditions
 pub mod Steps
 pub mod Calls
 pub mod ByteCalls
+pub mod CallByPlace
 pub mod Histories
 pub mod SequentialModel
 pub mod RecoveryPass

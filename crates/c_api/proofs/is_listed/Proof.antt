@@ -1,0 +1,19 @@
+-- The second test counts where the first holds.
+use mathlib.Core.Path.{_≡_, refl}
+use mathlib.Core.Bool.{true, false}
+use lib.Dec.{leb}
+use borrow.Author.Tests.{le-leb, lt-leb}
+use Rattle.model.specs.CallByPlace.{listed}
+use Rattle.c_api.proofs.is_listed.Statement.{statement}
+use Rattle.c_api.proofs.is_listed.Tie as tie
+
+returns : tie.Need-returns
+unfolding listed
+returns c = let e : leb (c .before .args .length) 16 ≡ true = le-leb (c .before .args .length) 16 (c .if1 .taken) in rw e refl
+
+returns-2 : tie.Need-returns-2
+unfolding listed
+returns-2 c = let e : leb (c .before .args .length) 16 ≡ false = lt-leb (c .before .args .length) 16 (c .if1 .left) in rw e refl
+
+pub is-listed-spec : {M : Type 1} → statement M
+is-listed-spec = tie.close (tie.spec returns returns-2)

@@ -1,0 +1,92 @@
+-- The call by place, from what the two functions that it calls ensure: where the place is listed, and where it isn't.
+use Prim.Native.Nat.{ℕ, _+_, _≤_}
+use mathlib.Core.Path.{_≡_, refl, sym, ap, _∙_}
+use mathlib.Core.Bool.{Bool, true, false, cond}
+use mathlib.Core.List.{List}
+use native.Mathlib.Omega.{arith}
+use lib.Dec.{eqb}
+use lib.ListN.{length, set}
+use lib.Seq.{set-getD}
+use borrow.Author.Tests.{ne-eqb}
+use Rattle.lists.specs.Each.{all}
+use Rattle.lists.specs.Tests.{choose-by}
+use Rattle.types.specs.declared.Transaction.{Transaction}
+use Rattle.model.specs.Refusals.{refusalOf}
+use Rattle.model.specs.Results.{Result, refused, made, unless}
+use Rattle.model.specs.SheetCalls.{checkConditions}
+use Rattle.model.specs.ByteCalls.{advanceOn, recordsAfter, coordinatorAfter}
+use Rattle.model.specs.CallByPlace.{listed, named, advanceAtOn, listAfter}
+use Rattle.call_laws.specs.ByPlace.{named-advances, unlisted-refused}
+use Rattle.call_laws.specs.Exactness.{small}
+use Rattle.engine.specs.Answers.{stepped}
+use Rattle.c_api.specs.declared.Advanced.{Advanced}
+use Rattle.c_api.specs.Numbers.{Sound, sound-refused, sound-made, advance-sound, advanceNumber, unlistedNumber}
+
+-- what an advance answers as one number, and the transaction, as it came where the call is refused
+abbrev pub advanced : Transaction → Result Transaction → Advanced
+advanced t (refused n) = record { answer = 1000 + n; transaction = t }
+advanced t (made u w) = record { answer = 0; transaction = u }
+
+-- the refusal of an advance is at most 12, and its answer as one number is that of the result
+pub advance-numbered : (t : Transaction) (clock : ℕ) (rs cs : List ℕ) → (stepped t (advanceOn t clock rs cs) .refusal ≤ 12) × (record { answer = cond (eqb (stepped t (advanceOn t clock rs cs) .refusal) 0) 0 (1000 + stepped t (advanceOn t clock rs cs) .refusal); transaction = stepped t (advanceOn t clock rs cs) .transaction } ≡ advanced t (advanceOn t clock rs cs))
+advance-numbered t clock rs cs = go (advanceOn t clock rs cs) (advance-sound t clock rs cs)
+  where
+    go : (r : Result Transaction) → Sound r → (stepped t r .refusal ≤ 12) × (record { answer = cond (eqb (stepped t r .refusal) 0) 0 (1000 + stepped t r .refusal); transaction = stepped t r .transaction } ≡ advanced t r)
+    go r (sound-refused n l m) = let e : eqb n 0 ≡ false = ne-eqb n 0 (λ q. omega (arith, l, q)) in (m, rw e refl)
+    go r (sound-made u w) = (omega arith, refl)
+
+-- the same of the check that an unlisted place comes after
+pub check-numbered : (rs cs : List ℕ) → (refusalOf (checkConditions rs cs) ≤ 12) × (cond (eqb (refusalOf (checkConditions rs cs)) 0) 1003 (1000 + refusalOf (checkConditions rs cs)) ≡ unlistedNumber rs cs)
+unfolding checkConditions all
+check-numbered rs cs = (small (checkConditions rs cs) refl, go (eqb (refusalOf (checkConditions rs cs)) 0))
+  where
+    go : (b : Bool) → cond b 1003 (1000 + refusalOf (checkConditions rs cs)) ≡ advanceNumber (cond b (refused 3) (refused (refusalOf (checkConditions rs cs))))
+    go true = refl
+    go false = refl
+
+module _ (list : List Transaction) (place clock : ℕ) (rs cs : List ℕ) where
+  -- what the call by place ensures: its answer, the list, and both sheets
+  abbrev pub Advances : ℕ → List Transaction → List ℕ → List ℕ → Type 0
+  Advances r list′ rs′ cs′ =
+      (r ≡ advanceNumber (advanceAtOn list place clock rs cs)) × ((list′ ≡ listAfter list place (advanceAtOn list place clock rs cs)) × ((rs′ ≡ recordsAfter rs cs (advanceAtOn list place clock rs cs)) × (cs′ ≡ coordinatorAfter rs cs (advanceAtOn list place clock rs cs))))
+
+  -- the place is listed, and the advance of the one named is put back there
+  pub advances-listed : (out : Advanced) (rs′ cs′ : List ℕ) → listed (length list) place ≡ true → out ≡ advanced (named list place) (advanceOn (named list place) clock rs cs) → rs′ ≡ recordsAfter rs cs (advanceOn (named list place) clock rs cs) → cs′ ≡ coordinatorAfter rs cs (advanceOn (named list place) clock rs cs) → Advances (out .answer) (set list place (out .transaction)) rs′ cs′
+  unfolding listAfter
+  advances-listed out rs′ cs′ is-listed o l d =
+      let same : advanceAtOn list place clock rs cs ≡ advanceOn (named list place) clock rs cs = named-advances list place clock rs cs is-listed in (
+        ap (λ (u : Advanced). u .answer) o ∙ (answered (advanceOn (named list place) clock rs cs) ∙ sym (ap advanceNumber same)),
+        (
+          ap (λ (u : Advanced). set list place (u .transaction)) o ∙ (replaced (advanceOn (named list place) clock rs cs) ∙ sym (ap (listAfter list place) same)),
+          (
+            l ∙ sym (ap (recordsAfter rs cs) same),
+            d ∙ sym (ap (coordinatorAfter rs cs) same),
+          ),
+        ),
+      )
+    where
+      answered : (r : Result Transaction) → advanced (named list place) r .answer ≡ advanceNumber r
+      answered (refused n) = refl
+      answered (made u w) = refl
+
+      replaced : (r : Result Transaction) → set list place (advanced (named list place) r .transaction) ≡ listAfter list place r
+      replaced (refused n) = set-getD list place _
+      replaced (made u w) = refl
+
+  -- it isn't, and nothing is written
+  pub advances-unlisted : (r : ℕ) (rs′ cs′ : List ℕ) → listed (length list) place ≡ false → r ≡ unlistedNumber rs cs → rs′ ≡ rs → cs′ ≡ cs → Advances r list rs′ cs′
+  unfolding listAfter recordsAfter coordinatorAfter
+  advances-unlisted r rs′ cs′ not-listed e l d =
+      let same : advanceAtOn list place clock rs cs ≡ unless (checkConditions rs cs) (refused 3) = unlisted-refused list place clock rs cs not-listed in (
+        e ∙ sym (ap advanceNumber same),
+        (
+          sym (ap (listAfter list place) same ∙ stays (λ (x : Result Transaction). listAfter list place x) (λ n. refl)),
+          (
+            l ∙ sym (ap (recordsAfter rs cs) same ∙ stays (λ (x : Result Transaction). recordsAfter rs cs x) (λ n. refl)),
+            d ∙ sym (ap (coordinatorAfter rs cs) same ∙ stays (λ (x : Result Transaction). coordinatorAfter rs cs x) (λ n. refl)),
+          ),
+        ),
+      )
+    where
+      stays : {A : Type 0} {a : A} (f : Result Transaction → A) → ((n : ℕ) → f (refused n) ≡ a) → f (unless (checkConditions rs cs) (refused 3)) ≡ a
+      stays {a = a} f k = choose-by (λ (x : Result Transaction). f x ≡ a) (eqb (refusalOf (checkConditions rs cs)) 0) (λ b. k 3) (λ b. k (refusalOf (checkConditions rs cs)))

@@ -1,0 +1,85 @@
+-- The call by place is the advance of the one named, wherever the list is not over 16 and has the place; elsewhere it is refused. The test of the
+-- place decides its first condition, and the others are those of the advance.
+use Prim.Native.Nat.{ℕ, _<_}
+use mathlib.Core.Path.{_≡_, refl, ap, _∙_}
+use mathlib.Core.Bool.{Bool, true, false, _&&_}
+use mathlib.Core.List.{List, [], _∷_}
+use native.Mathlib.Omega.{arith}
+use lib.Dec.{leb, ltb}
+use lib.ListN.{length, length-set}
+use lib.Seq.{getD-set-same, getD-set-other}
+use borrow.Author.Tests.{ltb-true}
+use Rattle.lists.specs.Tests.{and-snd}
+use Rattle.types.specs.declared.Transaction.{Transaction}
+use Rattle.model.specs.Refusals.{refusalOf}
+use Rattle.model.specs.SheetCalls.{checkConditions}
+use Rattle.model.specs.Results.{Result, refused, made, unless}
+use Rattle.model.specs.Conditions.{conditions}
+use Rattle.model.specs.Calls.{advanceResult}
+use Rattle.model.specs.ByteCalls.{advanceOn, recordsAfter, coordinatorAfter}
+use Rattle.model.specs.CallByPlace.{listed, named, conditionsAt, allConditionsAt, advanceAtResult, advanceAtOn, listAfter}
+use Rattle.call_laws.specs.Exactness.{lowest, risingFrom, first-is-lowest}
+
+-- the transaction that a result leaves with its client: as it came where the call is refused
+abbrev pub leftWith : Transaction → Result Transaction → Transaction
+leftWith t (refused n) = t
+leftWith t (made u w) = u
+
+pub listed-within : (n place : ℕ) → listed n place ≡ true → place < n
+unfolding listed
+listed-within n place e = ltb-true place n (and-snd (leb n 16) (ltb place n) e)
+
+module _ (list : List Transaction) (place now : ℕ) (rs cs : List ℕ) where
+  pub named-advances : listed (length list) place ≡ true → advanceAtOn list place now rs cs ≡ advanceOn (named list place) now rs cs
+  unfolding advanceAtOn advanceAtResult conditionsAt advanceOn advanceResult refusalOf
+  named-advances e = rw e refl
+
+  -- 1 and 2 come first
+  pub unlisted-refused : listed (length list) place ≡ false → advanceAtOn list place now rs cs ≡ unless (checkConditions rs cs) (refused 3)
+  unfolding advanceAtOn advanceAtResult conditionsAt refusalOf
+  unlisted-refused e = rw e refl
+
+  -- "The lowest number that applies is given"
+  pub place-refusal-is-lowest : lowest (refusalOf (allConditionsAt list place now rs cs)) (allConditionsAt list place now rs cs) ≡ true
+  unfolding allConditionsAt checkConditions conditionsAt conditions risingFrom
+  place-refusal-is-lowest = first-is-lowest 1 (allConditionsAt list place now rs cs) (omega arith) refl
+
+module _ (list : List Transaction) (place : ℕ) where
+  pub list-keeps-length : (r : Result Transaction) → length (listAfter list place r) ≡ length list
+  unfolding listAfter
+  list-keeps-length (refused n) = refl
+  list-keeps-length (made t w) = length-set list place t
+
+  pub others-stay : (j : ℕ) → (j ≡ place → ⊥) → (r : Result Transaction) → named (listAfter list place r) j ≡ named list j
+  unfolding listAfter
+  others-stay j d (refused n) = refl
+  others-stay j d (made t w) = getD-set-other list place j t _ d
+
+  pub named-replaced : place < length list → (r : Result Transaction) → named (listAfter list place r) place ≡ leftWith (named list place) r
+  unfolding listAfter
+  named-replaced l (refused n) = refl
+  named-replaced l (made t w) = getD-set-same list place t _ l
+
+-- What the call by place does, beside what the advance of the one named would do.
+pub record AsNamed (list : List Transaction) (place now : ℕ) (rs cs : List ℕ) (byPlace byName : Result Transaction) : Type 0 where
+  pub answer : byPlace ≡ byName
+  pub lines : recordsAfter rs cs byPlace ≡ recordsAfter rs cs byName
+  pub decisions : coordinatorAfter rs cs byPlace ≡ coordinatorAfter rs cs byName
+  pub one : named (listAfter list place byPlace) place ≡ leftWith (named list place) byName
+  pub others : (j : ℕ) → (j ≡ place → ⊥) → named (listAfter list place byPlace) j ≡ named list j
+  pub size : length (listAfter list place byPlace) ≡ length list
+
+-- "advance (by place too, taking and returning the one named)"
+pub by-place-is-advance : (list : List Transaction) (place now : ℕ) (rs cs : List ℕ) → listed (length list) place ≡ true → AsNamed list place now rs cs (advanceAtOn list place now rs cs) (advanceOn (named list place) now rs cs)
+by-place-is-advance list place now rs cs e =
+    record {
+      answer = same;
+      lines = ap (recordsAfter rs cs) same;
+      decisions = ap (coordinatorAfter rs cs) same;
+      one = named-replaced list place (listed-within (length list) place e) (advanceAtOn list place now rs cs) ∙ ap (leftWith (named list place)) same;
+      others = λ j d. others-stay list place j d (advanceAtOn list place now rs cs);
+      size = list-keeps-length list place (advanceAtOn list place now rs cs);
+    }
+  where
+    same : advanceAtOn list place now rs cs ≡ advanceOn (named list place) now rs cs
+    same = named-advances list place now rs cs e
