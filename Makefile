@@ -1,5 +1,5 @@
 # The commands of the README. `make test` is the whole gate.
-.PHONY: test wrong bench differ archive
+.PHONY: test wrong bench differ soak archive programs
 
 test:
 	rt fmt --check
@@ -18,5 +18,16 @@ archive:
 bench: archive
 	cd reference && cargo run --release --quiet --features engine --bin bench
 
-differ: archive
+# the programs that the comparison runs
+programs:
+	rt check replay
+	rt check visitor
+
+# the engine held against the separate implementation, byte for byte
+differ: archive programs
 	cd reference && cargo run --release --quiet --features engine --bin differ
+
+# the same until 3,000,000 calls or 600 seconds; SEED=n repeats a run
+SEED ?= $(shell date +%s)
+soak: archive programs
+	cd reference && cargo run --release --quiet --features engine --bin differ 3000000 $(SEED) 600
