@@ -3,6 +3,7 @@
 //! - `plain` reads the paper in the most obvious way and is what the engine must agree with.
 //! - `book` is the paper's plain book, which `plain` must come to after any history.
 //! - `replay` runs a history given as text, and `visitor` is the visiting program, both over `plain`.
+//! - `exported` has the calls that the engine exports for C, over `plain` and over `fast`.
 //! - `fast` gives the same answers as `plain` and is what the engine's time is compared with.
 //! - `make` writes accepted, damaged and forged sheets, histories of calls and the scripts of replays.
 //! - `seen` counts which refusals and steps a comparison has met.
@@ -16,6 +17,7 @@
 #![forbid(unsafe_code)]
 
 pub mod book;
+pub mod exported;
 pub mod fast;
 pub mod make;
 pub mod plain;

@@ -4,6 +4,7 @@ pub mod arguments;
 pub mod bad_lines;
 pub mod closing;
 pub mod damage;
+pub mod exported;
 pub mod forge;
 pub mod history;
 pub mod random;
