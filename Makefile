@@ -15,8 +15,9 @@ wrong:
 archive:
 	rt staticlib c_api
 
+# the engine's time beside a baseline in safe Rust, printed and drawn
 bench: archive
-	cd reference && cargo run --release --quiet --features engine --bin bench
+	cd reference && cargo run --release --quiet --features engine --bin bench ../docs/bench.svg
 
 # the programs that the comparison runs
 programs:

@@ -1,6 +1,6 @@
 //! The functions exported for C beside `plain`, in this process: the answer and every byte lent.
 
-use crate::engine;
+use crate::engine::calls::by_engine;
 use reference::exported::{by_plain, Call, Lent};
 use reference::make::exported::next;
 use reference::make::history::{History, Rule};
@@ -20,35 +20,19 @@ pub fn compare(random: &mut Random) -> Result<u64, String> {
 
 /// Answers whether the archive has the call.
 fn compare_call(call: &Call, lent: Lent) -> Result<bool, String> {
-    let mut by_engine = lent.clone();
-    let Some(answer) = make(call, &mut by_engine) else {
+    let mut after = lent.clone();
+    let Some(answer) = by_engine(call, &mut after) else {
         return Ok(false);
     };
     let mut lent = lent;
     let expected = by_plain(call, &mut lent);
-    if (expected, &lent) == (answer, &by_engine) {
+    if (expected, &lent) == (answer, &after) {
         return Ok(true);
     }
-    let lists = lent.list == by_engine.list;
-    let (plain, engine) = (lent.sheets, by_engine.sheets);
+    let lists = lent.list == after.list;
+    let (plain, engine) = (lent.sheets, after.sheets);
     Err(format!(
         "{call:?}\nplain answers {expected}, the engine {answer}; the lists are equal: {lists}\n\
          plain leaves\n{plain}\nthe engine leaves\n{engine}"
     ))
-}
-
-/// Makes the call through the archive, if it has it.
-fn make(call: &Call, lent: &mut Lent) -> Option<u32> {
-    let (records, coordinator) = (&mut lent.sheets.records, &mut lent.sheets.coordinator);
-    Some(match *call {
-        Call::Check => engine::check(records, coordinator),
-        Call::Begin => engine::begin(records, coordinator),
-        Call::Visit { key, now } => engine::visit(records, coordinator, key, now),
-        #[cfg(feature = "advance_at")]
-        Call::AdvanceAt { place, now } => {
-            engine::advance_at(&mut lent.list, place, records, coordinator, now)
-        }
-        #[cfg(not(feature = "advance_at"))]
-        Call::AdvanceAt { .. } => return None,
-    })
 }

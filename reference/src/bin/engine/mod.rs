@@ -3,6 +3,8 @@
 //! A slice is lent as its first element and its length. Answers are 0 or the refusal from the check, and from the
 //! others what an accepted call gives or 1000 and the refusal.
 
+pub mod calls;
+
 use reference::plain::key::Key;
 #[cfg(feature = "advance_at")]
 use reference::plain::transaction::Transaction;
@@ -45,7 +47,7 @@ extern "C" {
     ) -> u32;
 }
 
-pub fn check(records: &[u8], coordinator: &[u8]) -> u32 {
+fn check(records: &[u8], coordinator: &[u8]) -> u32 {
     // SAFETY: both slices live as long as the call, which reads no byte outside them and writes none.
     unsafe {
         rapyheo_check(
@@ -58,7 +60,7 @@ pub fn check(records: &[u8], coordinator: &[u8]) -> u32 {
 }
 
 /// The number given to a transaction that isn't checked.
-pub fn begin(records: &[u8], coordinator: &mut [u8]) -> u32 {
+fn begin(records: &[u8], coordinator: &mut [u8]) -> u32 {
     // SAFETY: both slices live as long as the call, which stays inside them and writes the coordinator only.
     unsafe {
         rapyheo_begin(
@@ -71,7 +73,7 @@ pub fn begin(records: &[u8], coordinator: &mut [u8]) -> u32 {
 }
 
 /// 0 stays, 1 forward, 2 back, 3 again.
-pub fn visit(records: &mut [u8], coordinator: &mut [u8], key: Key, clock: u32) -> u32 {
+fn visit(records: &mut [u8], coordinator: &mut [u8], key: Key, clock: u32) -> u32 {
     // SAFETY: both slices live as long as the call, which stays inside them.
     unsafe {
         rapyheo_visit(
@@ -91,7 +93,7 @@ pub fn visit(records: &mut [u8], coordinator: &mut [u8], key: Key, clock: u32) -
 
 /// 0 where the transaction at this place of the list was advanced.
 #[cfg(feature = "advance_at")]
-pub fn advance_at(
+fn advance_at(
     list: &mut [Transaction],
     place: usize,
     records: &mut [u8],
