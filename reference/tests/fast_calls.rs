@@ -39,7 +39,7 @@ fn shown(call: &Call, answer: u32) -> (&'static str, u32) {
 #[test]
 fn on_histories() {
     let mut seen = BTreeMap::new();
-    for seed in 0..1_500 {
+    for seed in 0..800 {
         let random = &mut Random::new(seed);
         let rule = random.pick(&[Rule::Legal, Rule::Free]);
         let mut history = History::new(random, rule);

@@ -56,7 +56,7 @@ fn report(tally: &Tally, first: u64, end: u64) {
 
 fn main() -> ExitCode {
     let (Some(calls), Some(seed), Some(seconds)) =
-        (argument(1, 120_000), argument(2, 0), argument(3, 600))
+        (argument(1, 150_000), argument(2, 0), argument(3, 600))
     else {
         eprintln!("differ [calls] [seed] [seconds], all numbers");
         return ExitCode::from(2);
