@@ -1,9 +1,11 @@
 # The commands of the README. `make test` is the whole gate.
-.PHONY: test wrong histories bench differ archive client client-test install
+.PHONY: test wrong programs outside histories visits differ soak bench archive client client-test install
 
 test:
 	rt fmt --check
 	cd reference && cargo test --release --quiet
+	rt check
+	$(MAKE) --no-print-directory outside
 	python3 tests/wrong_definitions/run.py
 	rt ci
 
@@ -11,10 +13,20 @@ test:
 wrong:
 	python3 tests/wrong_definitions/run.py
 
+# what is built, held from outside to stored output and to the separate implementation
+outside: histories visits client-test differ
+
+# the programs, proved and built
+programs:
+	rt check replay visitor
+
 # the learners' histories, and what the replay program must print of each
-histories:
-	rt check replay
+histories: programs
 	python3 tests/replay/run.py
+
+# inputs of the visiting program, and what it must print of each
+visits: programs
+	python3 tests/visitor/run.py
 
 # the engine as an archive for C and Rust, made anew where a crate has changed
 ARCHIVE = target/staticlib/libc_api.a
@@ -24,11 +36,18 @@ archive: $(ARCHIVE)
 $(ARCHIVE): crates.txt $(shell find crates -name '*.rt' -o -name '*.antt')
 	rt staticlib c_api
 
-bench: archive
-	cd reference && cargo run --release --quiet --features engine --bin bench
-
-differ: archive
+# the engine held against the separate implementation, byte for byte
+differ: archive programs
 	cd reference && cargo run --release --quiet --features engine --bin differ
+
+# the same until 3,000,000 calls or 600 seconds; SEED=n repeats a run
+SEED ?= $(shell date +%s)
+soak: archive programs
+	cd reference && cargo run --release --quiet --features engine --bin differ 3000000 $(SEED) 600
+
+# the engine's time beside a baseline in safe Rust, printed and drawn
+bench: archive
+	cd reference && cargo run --release --quiet --features engine --bin bench ../docs/bench.svg
 
 # the client in C of examples/, with its output on standard output
 CFLAGS = -std=c11 -Wall -Wextra -Werror -pedantic

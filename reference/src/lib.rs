@@ -2,16 +2,25 @@
 //!
 //! - `plain` reads the paper in the most obvious way and is what the engine must agree with.
 //! - `book` is the paper's plain book, which `plain` must come to after any history.
-//! - `fast` gives the same answers as `plain::check` and is what the engine's time is compared with.
-//! - `make` writes accepted, damaged and forged sheets for both checks, and histories of calls.
+//! - `replay` runs a history given as text, and `visitor` is the visiting program, both over `plain`.
+//! - `exported` has the calls that the engine exports for C, over `plain` and over `fast`.
+//! - `fast` gives the same answers as `plain` and is what the engine's time is compared with.
+//! - `make` writes accepted, damaged and forged sheets, histories of calls and the scripts of replays.
+//! - `seen` counts which refusals and steps a comparison has met.
 //!
 //! `cargo test --release` holds `fast` against `plain`, both against cases of the paper, and histories against the book.
-//! `cargo run --release --bin bench` times them. With `--features engine` it times the engine's check too, and
+//! `cargo run --release --bin bench` times them. With `--features engine` it times the engine too, and
 //! `cargo run --release --features engine --bin differ` holds the engine against `plain`. Both then need the engine's
-//! static archive, `../target/staticlib/libc_api.a` or the one in the folder that `RAPYHEO_ARCHIVE_DIR` names.
+//! static archive, `../target/staticlib/libc_api.a` or the one in the folder that `RAPYHEO_ARCHIVE_DIR` names, and the
+//! comparison needs its programs `replay` and `visitor`, from `../target/bin` or the folder that `RAPYHEO_PROGRAMS_DIR`
+//! names. `replay_plain` under these two names tries the comparison itself.
 #![forbid(unsafe_code)]
 
 pub mod book;
+pub mod exported;
 pub mod fast;
 pub mod make;
 pub mod plain;
+pub mod replay;
+pub mod seen;
+pub mod visitor;

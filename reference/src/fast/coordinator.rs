@@ -1,6 +1,10 @@
 //! The coordinator sheet, held line by line against the text that it would have if nothing were decided.
 
+use crate::plain::coordinator::Decision;
+
 const LINE: usize = 15;
+/// Bytes of a coordinator line.
+pub const COORDINATOR_LINE: usize = LINE;
 const MOST_LINES: usize = 999;
 
 /// The lines 1 to 999, all undecided.
@@ -23,8 +27,35 @@ const fn undecided() -> [[u8; LINE]; MOST_LINES] {
     lines
 }
 
-/// The issued count in its four columns as one number, or nothing if the sheet breaks a rule.
-pub fn issued(sheet: &[u8]) -> Option<u32> {
+/// What the calls need to know of an accepted sheet.
+pub struct Accepted {
+    pub issued: u32,
+    head: [u8; LINE],
+}
+
+impl Accepted {
+    /// The issued count in its four columns as one number.
+    #[inline(always)]
+    pub fn issued_text(&self) -> u32 {
+        let head = &self.head;
+        u32::from_be_bytes([head[0], head[1], head[2], head[3]])
+    }
+
+    /// How many key fields agree within a unit of this storage.
+    #[inline(always)]
+    pub fn fields(&self, storage: u32) -> usize {
+        match self.head[4 + storage as usize] {
+            b'R' => 5,
+            b'P' => 4,
+            b'T' => 3,
+            b'N' => 2,
+            _ => 1,
+        }
+    }
+}
+
+/// The sheet's issued count and units, or nothing if it breaks a rule.
+pub fn accepted(sheet: &[u8]) -> Option<Accepted> {
     let (lines, rest) = sheet.as_chunks::<LINE>();
     let (head, lines) = lines.split_first()?;
     if !rest.is_empty() || lines.is_empty() || lines.len() > MOST_LINES {
@@ -37,7 +68,25 @@ pub fn issued(sheet: &[u8]) -> Option<u32> {
     let (below, above) = lines.split_at(issued);
     let undecided = UNDECIDED[issued..lines.len()].as_flattened();
     let good = units_fit(head) && decisions_fit(below) && above.as_flattened() == undecided;
-    good.then(|| u32::from_be_bytes([head[0], head[1], head[2], head[3]]))
+    good.then_some(Accepted {
+        issued: issued as u32,
+        head: *head,
+    })
+}
+
+/// The decision of an accepted line, told by its word's sixth column: a blank, I or O.
+#[inline(always)]
+pub fn decision(line: &[u8; LINE]) -> Decision {
+    match line[9] {
+        b'I' => Decision::Committed,
+        b'O' => Decision::Aborted,
+        _ => Decision::Undecided,
+    }
+}
+
+#[inline(always)]
+pub fn decide_on(line: &mut [u8; LINE], word: &[u8; 10]) {
+    line[4..14].copy_from_slice(word);
 }
 
 /// The figure in the head's first columns, if it is 0 to 999.

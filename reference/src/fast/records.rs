@@ -17,9 +17,9 @@ pub fn greatest_tx_id(sheet: &[u8]) -> Option<u32> {
         rising: true,
         ..Findings::default()
     };
-    let mut last = Key(0, 0);
+    let mut last = KeyText(0, 0);
     for line in lines {
-        let key = Key::of(line);
+        let key = KeyText::of(line);
         found.add(line);
         found.rising &= last.is_below(key);
         last = key;
@@ -72,19 +72,19 @@ fn half(line: &[u8; LINE], at: usize) -> u32 {
 }
 
 /// The 20 bytes of a key.
-#[derive(Clone, Copy)]
-struct Key(u128, u32);
+#[derive(Clone, Copy, PartialEq, Eq, PartialOrd, Ord)]
+pub struct KeyText(u128, u32);
 
-impl Key {
+impl KeyText {
     #[inline(always)]
-    fn of(line: &[u8; LINE]) -> Key {
+    pub fn of(line: &[u8; LINE]) -> KeyText {
         let first = line[..16].try_into().unwrap();
-        Key(u128::from_be_bytes(first), half(line, 16))
+        KeyText(u128::from_be_bytes(first), half(line, 16))
     }
 
     /// Without a branch. The sum can only wrap for bytes that are bad at their places.
     #[inline(always)]
-    fn is_below(self, other: Key) -> bool {
+    fn is_below(self, other: KeyText) -> bool {
         self.0 < other.0.wrapping_add(u128::from(self.1 < other.1))
     }
 }

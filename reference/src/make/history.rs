@@ -60,8 +60,14 @@ impl History {
             Rule::Free => random.pick(&[Mix::Settled, Mix::Thirds]),
         };
         let keys = close_keys(random, records);
+        let sheets = with_keys(random, &keys, size, mix);
+        History::on(random, rule, sheets)
+    }
+
+    /// A history on accepted sheets, without PREPARED lines if it is to be a legal one.
+    pub fn on(random: &mut Random, rule: Rule, sheets: Sheets) -> History {
         History {
-            sheets: with_keys(random, &keys, size, mix),
+            sheets,
             rule,
             clients: vec![None; 2 + random.below(4)],
             old: Vec::new(),

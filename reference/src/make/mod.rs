@@ -1,12 +1,16 @@
 //! Sheets to try the checks on, accepted, damaged and forged, and histories of calls: the same for the same seed.
 
 pub mod arguments;
+pub mod bad_lines;
 pub mod closing;
 pub mod damage;
+pub mod exported;
 pub mod forge;
 pub mod history;
 pub mod random;
 pub mod requests;
+pub mod script;
+pub mod scripts;
 pub mod sheets;
 pub mod transactions;
 

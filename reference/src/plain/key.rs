@@ -2,6 +2,7 @@
 
 /// The five key fields in the order in which they are compared.
 #[derive(Clone, Copy, Debug, PartialEq, Eq, PartialOrd, Ord)]
+#[repr(C)]
 pub struct Key {
     pub storage: u32,
     pub namespace: u32,

@@ -17,6 +17,7 @@ pub enum State {
 
 /// What a line says of its record at one version; the before fields are a second image.
 #[derive(Clone, Copy, Debug, PartialEq, Eq)]
+#[repr(C)]
 pub struct Image {
     pub version: u32,
     pub tx_id: u32,

@@ -1,10 +1,15 @@
 //! The transaction as a caller keeps it: numbers only, so that any memory lent is one, well formed or not.
+//!
+//! Its fields lie in memory in the order written, as a caller in C has them.
 
 use super::key::Key;
 use super::record::{Image, NOTHING};
 
 /// The most keys that a transaction holds.
 pub const MOST_ENTRIES: usize = 8;
+
+/// The most transactions in a list that a station lends.
+pub const MOST_LISTED: usize = 16;
 
 pub const OPEN: u32 = 0;
 pub const PREPARE: u32 = 1;
@@ -20,6 +25,7 @@ pub const COMMITTED: u32 = 1;
 pub const ABORTED: u32 = 2;
 
 #[derive(Clone, Copy, Debug, PartialEq, Eq)]
+#[repr(C)]
 pub struct Entry {
     pub key: Key,
     /// The line as it was read.
@@ -31,6 +37,7 @@ pub struct Entry {
 }
 
 #[derive(Clone, Copy, Debug, PartialEq, Eq)]
+#[repr(C)]
 pub struct Transaction {
     pub number: u32,
     /// 1 if what was only read is validated too, which the paper calls checked; else 0.
@@ -65,6 +72,40 @@ impl Entry {
         }
     }
 
+    pub fn from_numbers(n: [u32; 12]) -> Entry {
+        Entry {
+            key: Key::from_numbers([n[0], n[1], n[2], n[3], n[4]]),
+            seen: Image {
+                version: n[5],
+                tx_id: n[6],
+                column_1: n[7],
+                column_2: n[8],
+            },
+            wrote: n[9],
+            put_1: n[10],
+            put_2: n[11],
+        }
+    }
+
+    pub fn numbers(&self) -> [u32; 12] {
+        let [storage, namespace, table, partition, clustering] = self.key.numbers();
+        let seen = &self.seen;
+        [
+            storage,
+            namespace,
+            table,
+            partition,
+            clustering,
+            seen.version,
+            seen.tx_id,
+            seen.column_1,
+            seen.column_2,
+            self.wrote,
+            self.put_1,
+            self.put_2,
+        ]
+    }
+
     pub fn put(&self) -> [u32; 2] {
         [self.put_1, self.put_2]
     }
@@ -92,6 +133,32 @@ impl Transaction {
             verdict: NO_VERDICT,
             count: 0,
             entries: [Entry::read(Key::from_numbers([0; 5]), NOTHING); MOST_ENTRIES],
+        }
+    }
+
+    /// The fields before the entries.
+    pub fn fields(&self) -> [u32; 6] {
+        [
+            self.number,
+            self.serializable,
+            self.phase,
+            self.place,
+            self.verdict,
+            self.count,
+        ]
+    }
+
+    /// The same entries under other fields.
+    pub fn with_fields(self, fields: [u32; 6]) -> Transaction {
+        let [number, serializable, phase, place, verdict, count] = fields;
+        Transaction {
+            number,
+            serializable,
+            phase,
+            place,
+            verdict,
+            count,
+            ..self
         }
     }
 

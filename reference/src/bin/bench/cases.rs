@@ -1,0 +1,156 @@
+//! What is timed, and on which sheets.
+
+use reference::exported::{Call, Lent};
+use reference::make::random::Random;
+use reference::make::sheets::{of_size, Mix, Size};
+use reference::plain::coordinator::{Decision, Unit};
+use reference::plain::key::Key;
+use reference::plain::record::{Image, Record, State, NOTHING};
+use reference::plain::store::Store;
+use reference::plain::transaction::*;
+
+/// The numbers of record lines at which each call is timed.
+pub const LINES: [usize; 7] = [10, 50, 100, 200, 300, 400, 500];
+
+const NOW: u32 = 20_000;
+
+/// How one side makes a call; nothing where it doesn't have it.
+pub type Make = fn(&Call, &mut Lent) -> Option<u32>;
+
+#[derive(Clone, Copy, PartialEq, Eq)]
+pub enum Case {
+    Check,
+    /// The check where every line, but for a few, has this state.
+    CheckCommitted,
+    CheckPrepared,
+    Begin,
+    VisitStays,
+    VisitBack,
+    /// One step in prepare, with 8 puts in 8 groups.
+    Prepare,
+    /// From begin to done, with 8 puts in 8 groups: 19 calls.
+    Order,
+}
+
+/// In the order printed.
+pub const CASES: [(Case, &str); 8] = [
+    (Case::Check, "check"),
+    (Case::Begin, "begin"),
+    (Case::VisitStays, "visit, line stays"),
+    (Case::VisitBack, "visit, rolls back"),
+    (Case::Prepare, "advance, 8 puts in 8 groups"),
+    (Case::Order, "whole order, 8 puts, 19 calls"),
+    (Case::CheckCommitted, "check, all COMMITTED"),
+    (Case::CheckPrepared, "check, all PREPARED"),
+];
+
+impl Case {
+    /// Makes the call or calls, and answers as the last one did.
+    pub fn run(self, make: Make, lent: &mut Lent) -> Option<u32> {
+        let key = middle_key(lent);
+        match self {
+            Case::Check | Case::CheckCommitted | Case::CheckPrepared => make(&Call::Check, lent),
+            Case::Begin => make(&Call::Begin, lent),
+            Case::VisitStays | Case::VisitBack => make(&Call::Visit { key, now: NOW }, lent),
+            Case::Prepare => make(&ADVANCE, lent),
+            Case::Order => order(make, lent),
+        }
+    }
+
+    fn mix(self) -> Mix {
+        match self {
+            Case::CheckCommitted => Mix::Committed,
+            Case::CheckPrepared => Mix::Prepared,
+            _ => Mix::Thirds,
+        }
+    }
+
+    /// Whether the case is drawn too.
+    pub fn is_drawn(self) -> bool {
+        matches!(self.mix(), Mix::Thirds)
+    }
+
+    /// Sheets of so many record lines and a list for the call. A third of the lines each is ABSENT, COMMITTED and
+    /// PREPARED unless the case says otherwise, and eight are set up for the call.
+    pub fn lent(self, random: &mut Random, lines: usize) -> Lent {
+        let decisions = (2 * lines).min(999);
+        let size = Size {
+            records: lines,
+            decisions,
+            issued: decisions - 1,
+        };
+        let mut sheets = of_size(random, size, self.mix());
+        let mut store = sheets.store();
+        store.coordinator.units = [Unit::Record; 9];
+        store.coordinator.decisions[0] = Decision::Aborted;
+        for place in places(lines) {
+            store.records[place] = settled(store.records[place].key);
+        }
+        if self == Case::VisitBack {
+            store.records[lines / 2] = prepared(store.records[lines / 2].key);
+        }
+        store.write(&mut sheets.records, &mut sheets.coordinator);
+        let list = vec![in_prepare(&store, size.issued as u32)];
+        Lent { sheets, list }
+    }
+}
+
+const ADVANCE: Call = Call::AdvanceAt { place: 0, now: NOW };
+
+/// Eight lines spread over the sheet, the middle one among them.
+fn places(lines: usize) -> impl Iterator<Item = usize> {
+    (0..MOST_ENTRIES).map(move |i| i * lines / MOST_ENTRIES)
+}
+
+fn settled(key: Key) -> Record {
+    Record {
+        key,
+        state: State::Committed,
+        image: Image {
+            version: 41,
+            tx_id: 0,
+            column_1: 500,
+            column_2: 12_345,
+        },
+        before: NOTHING,
+        prepare_clock: 0,
+    }
+}
+
+/// Prepared by number 1, which is aborted.
+fn prepared(key: Key) -> Record {
+    settled(key).prepared(1, [600, 54_321], NOW)
+}
+
+/// The key of the middle line as the list's fifth entry has it, so that nothing need be read from the sheet.
+fn middle_key(lent: &Lent) -> Key {
+    lent.list[0].entries[MOST_ENTRIES / 2].key
+}
+
+/// A transaction that has read the eight lines and put columns to each, about to prepare the first.
+fn in_prepare(store: &Store, number: u32) -> Transaction {
+    let mut transaction = Transaction::begun(number, false);
+    let entries = transaction.entries.iter_mut();
+    for (entry, place) in entries.zip(places(store.records.len())) {
+        let record = &store.records[place];
+        *entry = Entry::read(record.key, settled(record.key).image);
+        entry.wrote = 1;
+        [entry.put_1, entry.put_2] = [777, 88_888_888];
+    }
+    transaction.count = MOST_ENTRIES as u32;
+    transaction.phase = PREPARE;
+    transaction
+}
+
+/// Begins, fills the new transaction with the entries and advances it until it is done.
+fn order(make: Make, lent: &mut Lent) -> Option<u32> {
+    let number = make(&Call::Begin, lent)?;
+    let transaction = &mut lent.list[0];
+    transaction.number = number;
+    transaction.phase = OPEN;
+    while lent.list[0].phase != DONE {
+        let answer = make(&ADVANCE, lent)?;
+        assert_eq!(answer, 0, "the order goes through");
+    }
+    Some(number)
+}

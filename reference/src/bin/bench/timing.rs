@@ -1,0 +1,90 @@
+//! Times both sides of every case by turns on fresh copies: a busy machine slows all alike, and no copying is timed.
+
+use crate::cases::{Case, Make};
+use reference::exported::Lent;
+use std::hint::black_box;
+use std::time::Instant;
+
+/// Bytes of all copies together, so that they stay in the processor's cache.
+const COPIED: usize = 400_000;
+const MOST_COPIES: usize = 64;
+
+/// A case on sheets of one size, with the nanoseconds of one call in each run so far.
+pub struct Cell {
+    case: Case,
+    first: Lent,
+    copies: Vec<Lent>,
+    engine: Vec<f64>,
+    baseline: Vec<f64>,
+}
+
+/// Nanoseconds of one call by each side, and the middle of their ratios.
+#[derive(Clone, Copy)]
+pub struct Times {
+    pub engine: f64,
+    pub baseline: f64,
+    pub ratio: f64,
+}
+
+impl Cell {
+    /// Nothing where the engine doesn't have the call. Both sides must do the same work.
+    pub fn new(case: Case, first: Lent, engine: Make, baseline: Make) -> Option<Cell> {
+        let (mut one, mut other) = (first.clone(), first.clone());
+        let answer = case.run(engine, &mut one)?;
+        let expected = case.run(baseline, &mut other)?;
+        assert!(answer < 1_000, "refused: {answer}");
+        assert!(answer == expected && one == other, "the sides differ");
+        let bytes = first.sheets.records.len() + first.sheets.coordinator.len();
+        let copies = vec![first.clone(); (COPIED / bytes).clamp(1, MOST_COPIES)];
+        Some(Cell {
+            case,
+            first,
+            copies,
+            engine: Vec::new(),
+            baseline: Vec::new(),
+        })
+    }
+
+    /// Times both sides once.
+    pub fn turn(&mut self, engine: Make, baseline: Make) {
+        let time = self.run(engine);
+        self.engine.push(time);
+        let time = self.run(baseline);
+        self.baseline.push(time);
+    }
+
+    /// Nanoseconds of one call, after one that isn't timed.
+    fn run(&mut self, make: Make) -> f64 {
+        black_box(self.case.run(make, &mut self.copies[0]));
+        for copy in &mut self.copies {
+            restore(copy, &self.first);
+        }
+        let start = Instant::now();
+        for copy in &mut self.copies {
+            black_box(self.case.run(make, black_box(copy)));
+        }
+        start.elapsed().as_secs_f64() * 1e9 / self.copies.len() as f64
+    }
+
+    pub fn times(&self) -> Times {
+        let pairs = self.engine.iter().zip(&self.baseline);
+        Times {
+            engine: median(self.engine.iter().copied()),
+            baseline: median(self.baseline.iter().copied()),
+            ratio: median(pairs.map(|(engine, baseline)| engine / baseline)),
+        }
+    }
+}
+
+fn restore(copy: &mut Lent, first: &Lent) {
+    let (sheets, as_first) = (&mut copy.sheets, &first.sheets);
+    sheets.records.copy_from_slice(&as_first.records);
+    sheets.coordinator.copy_from_slice(&as_first.coordinator);
+    copy.list.copy_from_slice(&first.list);
+}
+
+fn median(values: impl Iterator<Item = f64>) -> f64 {
+    let mut values: Vec<f64> = values.collect();
+    values.sort_by(f64::total_cmp);
+    values[values.len() / 2]
+}

@@ -1,0 +1,78 @@
+//! Holds the engine against `plain`: `differ [calls] [seed] [seconds]`.
+//!
+//! Random histories are given as text to the replay program, sheets to the visiting program, and calls to the functions
+//! for C. Whatever they answer and leave must be what `plain` does, byte for byte. Rounds have rising seeds and go on until
+//! so many calls were made or so many seconds have passed; `differ 1 seed` repeats one. Every refusal of every
+//! call and every step of the step table must have been seen, unless the run asked for less than a hundred thousand calls.
+
+mod difference;
+#[path = "../engine/mod.rs"]
+mod engine;
+mod exports;
+mod programs;
+mod rounds;
+mod visits;
+
+use rounds::Tally;
+use std::process::ExitCode;
+use std::time::{Duration, Instant};
+
+/// From so many calls on, something not seen is a fault.
+const ENOUGH: u64 = 100_000;
+
+/// The number at this place of the command line, `otherwise` where there is none.
+fn argument(place: usize, otherwise: u64) -> Option<u64> {
+    match std::env::args().nth(place) {
+        Some(text) => text.parse().ok(),
+        None => Some(otherwise),
+    }
+}
+
+/// Makes rounds until there are enough calls or the time is over; answers the seed after the last.
+fn rounds(tally: &mut Tally, calls: u64, first: u64, time: Duration) -> Result<u64, String> {
+    let start = Instant::now();
+    let mut seed = first;
+    while tally.calls() < calls && start.elapsed() < time {
+        let found = tally.round(seed);
+        found.map_err(|difference| format!("seed {seed}: {difference}"))?;
+        seed += 1;
+    }
+    Ok(seed)
+}
+
+fn report(tally: &Tally, first: u64, end: u64) {
+    println!("{}\n", tally.seen);
+    println!(
+        "seeds {first} to {}: {} calls, of these {} for C and {} of the visiting program; {} histories, {} bad inputs, {} other lines; 0 differences",
+        end - 1,
+        tally.calls(),
+        tally.exported_calls,
+        tally.visitor_inputs,
+        tally.histories,
+        tally.bad_inputs,
+        tally.seen.other_lines,
+    );
+}
+
+fn main() -> ExitCode {
+    let (Some(calls), Some(seed), Some(seconds)) =
+        (argument(1, 150_000), argument(2, 0), argument(3, 600))
+    else {
+        eprintln!("differ [calls] [seed] [seconds], all numbers");
+        return ExitCode::from(2);
+    };
+    let mut tally = Tally::default();
+    match rounds(&mut tally, calls, seed, Duration::from_secs(seconds)) {
+        Ok(end) => report(&tally, seed, end),
+        Err(difference) => {
+            println!("{difference}");
+            return ExitCode::FAILURE;
+        }
+    }
+    let faults = tally.seen.faults();
+    if calls >= ENOUGH && !faults.is_empty() {
+        println!("not seen, or seen and not of the tables: {faults:?}");
+        return ExitCode::FAILURE;
+    }
+    ExitCode::SUCCESS
+}

@@ -1,0 +1,40 @@
+//! The engine's programs, one process for each input.
+
+use std::env;
+use std::io::Write;
+use std::path::{Path, PathBuf};
+use std::process::{Command, Stdio};
+use std::thread;
+
+/// A folder that has the programs, in place of the repository's own.
+const FOLDER: &str = "RAPYHEO_PROGRAMS_DIR";
+
+/// Where the program of this name lies.
+pub fn path(name: &str) -> PathBuf {
+    let folder = match env::var_os(FOLDER) {
+        Some(folder) => PathBuf::from(folder),
+        None => PathBuf::from(env!("CARGO_MANIFEST_DIR")).join("../target/bin"),
+    };
+    folder.join(name)
+}
+
+/// The whole output for an input, or how the program failed.
+pub fn run(program: &Path, input: &[u8]) -> Result<Vec<u8>, String> {
+    let failed = |error: std::io::Error| format!("{}: {error}", program.display());
+    let mut child = Command::new(program)
+        .stdin(Stdio::piped())
+        .stdout(Stdio::piped())
+        .spawn()
+        .map_err(failed)?;
+    let mut stdin = child.stdin.take().expect("a pipe");
+    let output = thread::scope(|scope| {
+        // A program may leave the rest of an input unread, so that writing fails.
+        scope.spawn(move || stdin.write_all(input));
+        child.wait_with_output()
+    });
+    let output = output.map_err(failed)?;
+    match output.status.success() {
+        true => Ok(output.stdout),
+        false => Err(format!("{}: {}", program.display(), output.status)),
+    }
+}

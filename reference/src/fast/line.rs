@@ -1,0 +1,76 @@
+//! A record line read and written in place: only the columns that change.
+
+use super::tables::LINE;
+use super::text::{add_one, figure, set_figure};
+use crate::plain::transaction::Entry;
+use crate::plain::writes::EXPIRED;
+
+/// The columns from the state word on of a line without a record.
+const ABSENT: &[u8; 77] =
+    b"    ABSENT     0   0        0        0     0   0        0        0          0";
+/// The before fields and the clock of a settled line.
+const SETTLED: &[u8; 39] = b"     0   0        0        0          0";
+
+/// The words' fifth columns are A, M and E.
+#[inline(always)]
+pub fn is_prepared(line: &[u8; LINE]) -> bool {
+    line[24] == b'E'
+}
+
+#[inline(always)]
+pub fn tx_id(line: &[u8; LINE]) -> u32 {
+    figure(&line[36..40])
+}
+
+/// Whether a prepared line has expired at this reading of the clock.
+pub fn has_expired(line: &[u8; LINE], now: u32) -> bool {
+    // Ten digits are enough for a clock, the first column being blank.
+    EXPIRED.contains(&now.wrapping_sub(figure(&line[87..97])))
+}
+
+/// Whether the line is still as the entry has read it.
+#[inline]
+pub fn is_as_read(line: &[u8; LINE], entry: &Entry) -> bool {
+    !is_prepared(line)
+        && tx_id(line) == entry.seen.tx_id
+        && figure(&line[30..36]) == entry.seen.version
+}
+
+/// The put of an entry as the line's image, under this number.
+#[inline]
+fn put(line: &mut [u8; LINE], number: u32, entry: &Entry) {
+    add_one(&mut line[30..36]);
+    set_figure(&mut line[36..40], number);
+    set_figure(&mut line[40..49], entry.put_1);
+    set_figure(&mut line[49..58], entry.put_2);
+}
+
+/// A settled line with a put committed at once.
+pub fn commit(line: &mut [u8; LINE], number: u32, entry: &Entry) {
+    line[20..30].copy_from_slice(b" COMMITTED");
+    put(line, number, entry);
+}
+
+/// A settled line with a put prepared.
+pub fn prepare(line: &mut [u8; LINE], number: u32, entry: &Entry, now: u32) {
+    line[20..30].copy_from_slice(b"  PREPARED");
+    line.copy_within(30..58, 58);
+    put(line, number, entry);
+    set_figure(&mut line[86..97], now);
+}
+
+/// A prepared line rolled forward.
+pub fn forward(line: &mut [u8; LINE]) {
+    line[20..30].copy_from_slice(b" COMMITTED");
+    line[58..97].copy_from_slice(SETTLED);
+}
+
+/// A prepared line rolled back.
+pub fn back(line: &mut [u8; LINE]) {
+    if line[58..64] == *b"     0" {
+        line[20..97].copy_from_slice(ABSENT);
+    } else {
+        line.copy_within(58..86, 30);
+        forward(line);
+    }
+}

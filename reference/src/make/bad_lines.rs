@@ -1,0 +1,79 @@
+//! Lines and inputs of another form than a replay wants. At times the change does none: the parser decides.
+
+use super::damage::TELLING;
+use super::random::Random;
+use crate::replay::{FIRST_LINE, MOST_BYTES};
+
+/// Words that are no number of the range wanted, or only just one.
+const WORDS: [&str; 18] = [
+    "",
+    "00",
+    "01",
+    "+1",
+    "-1",
+    "1.0",
+    "1e3",
+    "0x1",
+    "16",
+    "8",
+    "2",
+    "4294967295",
+    "4294967296",
+    "42949672950",
+    "18446744073709551616",
+    "99999999999999999999999999999999999999999",
+    "begin",
+    "\u{663}",
+];
+
+/// A good line changed in one place.
+pub fn bad_line(random: &mut Random, good: &str) -> Vec<u8> {
+    let mut line = good.as_bytes().to_vec();
+    let place = random.below(line.len());
+    match random.below(9) {
+        0 => line[place] = random.pick(TELLING),
+        1 => line.insert(place, random.pick(TELLING)),
+        2 => drop(line.remove(place)),
+        3 => line.truncate(place),
+        4 => line.push(random.pick(b" \r\t\0,1")),
+        5 => line.insert(0, b' '),
+        6 => line.resize(line.len() + random.pick(&[1, 100, 5_000]), b'7'),
+        _ => return other_word(random, good),
+    }
+    line
+}
+
+fn other_word(random: &mut Random, good: &str) -> Vec<u8> {
+    let mut words: Vec<&str> = good.split(' ').collect();
+    let place = random.below(words.len());
+    match random.below(4) {
+        0 => words.insert(place, random.pick(&WORDS)),
+        1 => drop(words.remove(place)),
+        _ => words[place] = random.pick(&WORDS),
+    }
+    words.join(" ").into_bytes()
+}
+
+/// An input whose first line or length is changed, or any byte.
+pub fn bad_input(random: &mut Random, mut input: Vec<u8>) -> Vec<u8> {
+    let place = random.below(FIRST_LINE);
+    match random.below(8) {
+        0 | 1 => input[place] = random.pick(TELLING),
+        2 => input.insert(place, random.pick(TELLING)),
+        3 => drop(input.remove(place)),
+        4 => input.truncate(random.below(input.len())),
+        5 => input.truncate(random.below(FIRST_LINE + 1)),
+        6 => too_long(random, &mut input),
+        _ => {
+            let place = random.below(input.len());
+            input[place] = random.pick(TELLING);
+        }
+    }
+    input
+}
+
+/// As long as an input may be, or a little longer. An accepted one has a last line of many bytes.
+fn too_long(random: &mut Random, input: &mut Vec<u8>) {
+    let length = MOST_BYTES - 1 + random.below(3);
+    input.resize(length.max(input.len()), b'9');
+}

@@ -1,0 +1,165 @@
+//! Scripts of several kinds: demand 3's lists with their book, lists of any calls, and calls on damaged sheets.
+
+use super::arguments::{any_key, clock};
+use super::bad_lines::bad_line;
+use super::closing::close;
+use super::damage::damage;
+use super::forge::forge;
+use super::history::{History, Rule};
+use super::random::Random;
+use super::requests::{begin, stray};
+use super::script::Script;
+use super::sheets::{accepted, of_size, Mix, Size};
+use crate::book::Book;
+use crate::replay::line::{Line, SLOTS};
+use crate::seen::Seen;
+
+/// How long a history is, and how large its sheets are.
+#[derive(Clone, Copy)]
+pub enum Extent {
+    /// Few keys, so that clients meet; some stop early, so that most orders are cut off half-way.
+    Small,
+    /// Few keys, and so many calls that every number is issued.
+    Long,
+    /// Sheets of nearly full size.
+    Wide,
+}
+
+fn history(random: &mut Random, rule: Rule, extent: Extent) -> (History, usize) {
+    let mix = match rule {
+        Rule::Legal => Mix::Settled,
+        Rule::Free => Mix::Thirds,
+    };
+    match extent {
+        Extent::Small => {
+            let calls = random.pick(&[10, 30, 100, 200, 400]);
+            (History::new(random, rule), calls)
+        }
+        Extent::Long => {
+            let size = sizes(random, 12, 999);
+            let sheets = of_size(random, size, mix);
+            (History::on(random, rule, sheets), 3_000)
+        }
+        Extent::Wide => {
+            let size = sizes(random, 500, 999);
+            let sheets = of_size(random, size, mix);
+            (History::on(random, rule, sheets), 300)
+        }
+    }
+}
+
+/// Nearly as many lines as told.
+fn sizes(random: &mut Random, records: usize, decisions: usize) -> Size {
+    let fewer = random.pick(&[0, 0, 1, 5]);
+    Size {
+        records: records - fewer,
+        decisions: decisions - fewer,
+        issued: random.below(decisions / 2),
+    }
+}
+
+/// A legal history, closed by visits, or what the book says against it.
+pub fn legal(random: &mut Random, seen: &mut Seen, extent: Extent) -> Result<Script, String> {
+    let (mut history, calls) = history(random, Rule::Legal, extent);
+    let mut script = Script::new(&history.sheets);
+    let mut book = Book::new(&history.sheets.records).expect("the first sheet is accepted");
+    for _ in 0..calls {
+        if !script.has_room() {
+            break;
+        }
+        let event = history.step(random);
+        book.note(&event.request, &event.answer);
+        beside(random, seen, &mut script, &history);
+        script.ask(seen, &event.request);
+    }
+    for event in close(random, &mut history.sheets) {
+        book.note(&event.request, &event.answer);
+        script.ask(seen, &event.request);
+    }
+    if script.station.sheets.records != book.sheet() {
+        return Err(format!("not the book's sheet\n{}", script.station.sheets));
+    }
+    script.show_all(seen, random.once_in(3));
+    Ok(script)
+}
+
+/// A history of any calls from any sheets.
+pub fn free(random: &mut Random, seen: &mut Seen, extent: Extent) -> Script {
+    let (mut history, calls) = history(random, Rule::Free, extent);
+    let mut script = Script::new(&history.sheets);
+    for _ in 0..calls {
+        if !script.has_room() {
+            break;
+        }
+        let event = history.step(random);
+        beside(random, seen, &mut script, &history);
+        script.ask(seen, &event.request);
+    }
+    script.show_all(seen, random.once_in(3));
+    script
+}
+
+/// Lines beside the history's own that write no sheet.
+fn beside(random: &mut Random, seen: &mut Seen, script: &mut Script, history: &History) {
+    let slot = random.below(SLOTS);
+    let line = match random.below(40) {
+        0 => Line::Check,
+        1..=3 => Line::Lookup {
+            key: any_key(random, &history.sheets.store().records),
+        },
+        4..=12 => Line::Show { slot },
+        13 => {
+            let good = Line::Advance { slot, now: 0 };
+            return unfit(random, seen, script, &good);
+        }
+        _ => return,
+    };
+    if random.once_in(8) {
+        return unfit(random, seen, script, &line);
+    }
+    script.add(seen, line);
+}
+
+/// A line changed so that it is no call; if it still is one, it is left out, since the history doesn't know of it.
+fn unfit(random: &mut Random, seen: &mut Seen, script: &mut Script, good: &Line) {
+    let line = bad_line(random, &good.to_string());
+    let splits = line.contains(&b'\n');
+    if !splits && Line::parse(&line).is_none() {
+        script.say(seen, &line);
+    }
+}
+
+/// Calls of every kind on sheets that are damaged or forged, and lines of any form.
+pub fn damaged(random: &mut Random, seen: &mut Seen) -> Script {
+    let mut sheets = accepted(random);
+    let records = sheets.store().records;
+    match random.below(4) {
+        0 => forge(random, &mut sheets),
+        _ => damage(random, &mut sheets),
+    }
+    let mut script = Script::new(&sheets);
+    for _ in 0..12 {
+        let slot = random.below(SLOTS);
+        let key = any_key(random, &records);
+        let now = clock(random, &records);
+        match random.below(10) {
+            0 => script.add(seen, Line::Check),
+            1 => script.add(seen, Line::Lookup { key }),
+            2 => script.add(seen, Line::Visit { key, now }),
+            3 => script.ask(seen, &begin(random)),
+            4 => any_line(random, seen, &mut script, &Line::Read { slot, key, now }),
+            5 => any_line(random, seen, &mut script, &Line::Abort { slot }),
+            _ => script.ask(seen, &stray(random, &[], &records)),
+        }
+    }
+    script.show_all(seen, false);
+    script
+}
+
+/// A line changed in any way, good or bad.
+fn any_line(random: &mut Random, seen: &mut Seen, script: &mut Script, good: &Line) {
+    let line = bad_line(random, &good.to_string());
+    for part in line.split(|byte| *byte == b'\n') {
+        script.say(seen, part);
+    }
+}

@@ -1,0 +1,77 @@
+//! `fast` answers as `plain` does, and leaves every byte lent as `plain` does.
+
+use reference::exported::{by_fast, by_plain, Call, Lent};
+use reference::make::exported::next;
+use reference::make::history::{History, Rule};
+use reference::make::random::Random;
+use reference::make::sheets::{of_size, Mix, Size};
+use std::collections::BTreeMap;
+
+/// The answer of both.
+fn agreed(call: &Call, lent: Lent) -> u32 {
+    let mut by_plain_lent = lent.clone();
+    let mut by_fast_lent = lent;
+    let answer = by_plain(call, &mut by_plain_lent);
+    let fast = by_fast(call, &mut by_fast_lent);
+    let sheets = &by_fast_lent.sheets;
+    assert_eq!(fast, answer, "{call:?}\n{sheets}");
+    assert!(by_fast_lent == by_plain_lent, "{call:?}\n{sheets}");
+    answer
+}
+
+fn name(call: &Call) -> &'static str {
+    match call {
+        Call::Check => "check",
+        Call::Begin => "begin",
+        Call::Visit { .. } => "visit",
+        Call::AdvanceAt { .. } => "advance",
+    }
+}
+
+/// What an answer shows: a number given is 0.
+fn shown(call: &Call, answer: u32) -> (&'static str, u32) {
+    match call {
+        Call::Begin if answer < 1_000 => (name(call), 0),
+        _ => (name(call), answer),
+    }
+}
+
+#[test]
+fn on_histories() {
+    let mut seen = BTreeMap::new();
+    for seed in 0..800 {
+        let random = &mut Random::new(seed);
+        let rule = random.pick(&[Rule::Legal, Rule::Free]);
+        let mut history = History::new(random, rule);
+        for _ in 0..100 {
+            let (call, lent) = next(random, &mut history);
+            *seen.entry(shown(&call, agreed(&call, lent))).or_insert(0) += 1;
+        }
+    }
+    let expected: &[(&str, &[u32])] = &[
+        ("advance", &[0, 1_001, 1_002, 1_003, 1_004]),
+        ("begin", &[0, 1_001, 1_002, 1_008]),
+        ("check", &[0, 1, 2]),
+        ("visit", &[0, 1, 2, 3, 1_001, 1_002, 1_005, 1_006, 1_012]),
+    ];
+    let expected = expected.iter();
+    let expected = expected.flat_map(|(name, answers)| answers.iter().map(|n| (*name, *n)));
+    let keys: Vec<(&str, u32)> = seen.keys().copied().collect();
+    assert_eq!(keys, expected.collect::<Vec<_>>(), "{seen:?}");
+}
+
+#[test]
+fn on_sheets_of_full_size() {
+    let random = &mut Random::new(7);
+    let size = Size {
+        records: 500,
+        decisions: 999,
+        issued: 900,
+    };
+    let sheets = of_size(random, size, Mix::Thirds);
+    let mut history = History::on(random, Rule::Free, sheets);
+    for _ in 0..1_000 {
+        let (call, lent) = next(random, &mut history);
+        agreed(&call, lent);
+    }
+}

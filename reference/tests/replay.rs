@@ -1,0 +1,184 @@
+//! The replay and the visiting program as text, and the scripts that the comparison makes.
+
+use reference::make::random::Random;
+use reference::make::script::Script;
+use reference::make::scripts::{damaged, free, legal, Extent};
+use reference::plain::key::Key;
+use reference::replay::line::Line;
+use reference::replay::replay;
+use reference::seen::Seen;
+use reference::visitor::visitor;
+
+const COORDINATOR: &str = "   0 SSSSSSSSS\n   1         -\n   2         -\n";
+const ABSENT: &str = " 1  1  1     1     1    ABSENT     0   0        0        0     0   0        0        0          0\n";
+const COMMITTED: &str = " 1  1  1     1     1 COMMITTED     1   1      500      250     0   0        0        0          0\n";
+
+/// The output for these calls, before the sheets, and both sheets.
+fn replayed(calls: &str) -> (String, String) {
+    let input = format!("   1   2\n{COORDINATOR}{ABSENT}{calls}");
+    let output = String::from_utf8(replay(input.as_bytes())).unwrap();
+    let (answers, sheets) = output.split_once("sheets\n").unwrap();
+    (answers.into(), sheets.into())
+}
+
+#[test]
+fn an_order_is_answered_line_by_line() {
+    let calls = "check\nbegin 3 0\nread 3 1 1 1 1 1 7\nput 3 1 1 1 1 1 500 250\nread 3 1 1 1 1 1 7\nshow 3\n\
+                 advance 3 9\nadvance 3 9\nabort 3\nvisit 1 1 1 1 1 0\nlookup 1 1 1 1 1\nlookup 1 1 1 1 2\n";
+    let answers =
+        "ok\nok 1\nok absent\nok\nok columns 500 250\nok 1 0 0 0 0 1 1 1 1 1 1 0 0 0 0 1 500 250\n\
+                   ok 7 0 1\nrefused 4\nrefused 4\nok stays\nok 0\nrefused 6\n";
+    let sheets = format!("{}{COMMITTED}", COORDINATOR.replacen('0', "1", 1));
+    assert_eq!(replayed(calls), (answers.into(), sheets));
+}
+
+#[test]
+fn transactions_are_forged_field_by_field() {
+    let calls =
+        "begin 0 1\nset 0 1 1 6 0 2 1\nentry 0 0 1 1 1 1 1 0 0 0 0 1 5 6\nshow 0\nadvance 0 0\n\
+                 set 15 4294967295 2 3 4 5 9\nshow 15";
+    let answers = "ok 1\nok\nok\nok 1 1 6 0 2 1 1 1 1 1 1 0 0 0 0 1 5 6\nrefused 4\nok\n";
+    let zeros = " 0".repeat(96);
+    let answers = format!("{answers}ok 4294967295 2 3 4 5 9{zeros}\n");
+    assert_eq!(replayed(calls).0, answers);
+}
+
+#[test]
+fn begin_clears_its_slot_and_a_refused_call_leaves_it() {
+    let calls = "begin 0 1\nset 0 7 1 6 0 2 1\nentry 0 7 1 1 1 1 1 0 0 0 0 1 5 6\nbegin 0 0\nset 0 9 9 9 9 9 8\n\
+                 begin 0 0\nshow 0\n";
+    let zeros = " 0".repeat(96);
+    let answers = format!("ok 1\nok\nok\nok 2\nok\nrefused 8\nok 9 9 9 9 9 8{zeros}\n");
+    assert_eq!(replayed(calls).0, answers);
+}
+
+#[test]
+fn lines_of_another_form_are_bad_lines() {
+    let bad = [
+        "",
+        " ",
+        "check ",
+        " check",
+        "Check",
+        "begin 0",
+        "begin 0 2",
+        "begin 16 0",
+        "begin 00 0",
+        "begin  0 0",
+        "begin 0 0 ",
+        "begin 0 +1",
+        "advance 0 4294967296",
+        "advance 0 99999999999999999999999",
+        "entry 0 8 1 1 1 1 1 0 0 0 0 1 5 6",
+        "entry 0 0 1 1 1 1 1 0 0 0 0 1 5",
+        "set 0 1 1 1 1 1",
+        "visit 1 1 1 1 1",
+        "lookup 1 1 1 1 1 1",
+        "show 0\r",
+    ];
+    for line in bad {
+        assert_eq!(replayed(&format!("{line}\n")).0, "bad line\n", "{line:?}");
+    }
+    assert_eq!(replayed("").0, "");
+    assert_eq!(replayed("\ncheck").0, "bad line\nok\n");
+}
+
+#[test]
+fn inputs_that_are_no_replay() {
+    let good = format!("   1   2\n{COORDINATOR}{ABSENT}");
+    for input in [
+        "",
+        "   1   2",
+        "   1   2\n",
+        "0001   2\n",
+        &good[1..],
+        &good[..good.len() - 1],
+        &good.replacen('2', "3", 1),
+        &good.replacen('\n', " ", 1),
+        &format!("{good}{}", "\n".repeat(500_000)),
+    ] {
+        assert_eq!(replay(input.as_bytes()), b"bad input\n", "{input:.40}");
+    }
+}
+
+#[test]
+fn the_visiting_program() {
+    let coordinator = "   1 SSSSSSSSS\n   1         -\n";
+    let prepared = " 1  1  1     1     1  PREPARED     1   1      500      250     0   0        0        0       5000\n";
+    let visited = |first: &str, coordinator: &str| {
+        let input = format!("{first}\n{coordinator}{prepared}");
+        String::from_utf8(visitor(input.as_bytes())).unwrap()
+    };
+    let aborted = format!("{}{ABSENT}", coordinator.replace("      -", "ABORTED"));
+    assert_eq!(visited("   1   1      20000", coordinator), aborted);
+    // Busy at both visits.
+    let same = format!("{coordinator}{prepared}");
+    assert_eq!(visited("   1   1      19999", coordinator), same);
+    for first in [
+        "   1   1 4294967296",
+        "   1   1     020000",
+        "   1   2      20000",
+        "   1   1      2000",
+    ] {
+        assert_eq!(visited(first, coordinator), "REFUSED  1\n", "{first}");
+    }
+    let refused = visited("   1   1      20000", &coordinator.replacen('1', "0", 1));
+    assert_eq!(refused, "REFUSED  2\n");
+    // A head alone.
+    assert_eq!(
+        visited("   1   0      20000", &coordinator[..15]),
+        "REFUSED  2\n"
+    );
+}
+
+#[test]
+fn scripts_expect_what_a_replay_answers() {
+    let mut seen = Seen::default();
+    let holds = |script: Script| assert_eq!(replay(&script.input), script.expected());
+    for seed in 0..60 {
+        let random = &mut Random::new(seed);
+        holds(legal(random, &mut seen, Extent::Small).unwrap());
+        holds(free(random, &mut seen, Extent::Small));
+        holds(damaged(random, &mut seen));
+    }
+    let random = &mut Random::new(60);
+    holds(legal(random, &mut seen, Extent::Long).unwrap());
+    assert!(seen.calls() > 10_000, "{seen}");
+}
+
+#[test]
+fn a_line_is_read_as_it_is_written() {
+    let key = Key::from_numbers([1, 2, 3, 4, u32::MAX]);
+    let numbers = [0, 1, 2, 3, 4, 5, 6, 7, 8, 9, 10, u32::MAX];
+    let fields = [0, 1, 10, 99, 100, u32::MAX];
+    for line in [
+        Line::Check,
+        Line::Begin {
+            slot: 15,
+            serializable: true,
+        },
+        Line::Read {
+            slot: 0,
+            key,
+            now: 5,
+        },
+        Line::Put {
+            slot: 9,
+            key,
+            columns: [7, 0],
+        },
+        Line::Advance { slot: 10, now: 0 },
+        Line::Abort { slot: 1 },
+        Line::Visit { key, now: 6 },
+        Line::Lookup { key },
+        Line::Show { slot: 2 },
+        Line::Set { slot: 3, fields },
+        Line::Entry {
+            slot: 4,
+            place: 7,
+            numbers,
+        },
+    ] {
+        assert_eq!(Line::parse(line.to_string().as_bytes()), Some(line));
+    }
+}
