@@ -1,5 +1,6 @@
 // Runs a history of calls from standard input and prints every answer, then both sheets. docs/REPLAY.md has the form of a history.
-ghost use Prim.Native.Nat.{_≤_};
+ghost use mathlib.Core.Path.{_≡_};
+ghost use Prim.Native.Nat.{_+_, _≤_};
 ghost use lib.ListN.{length};
 
 mod calls;
@@ -40,7 +41,7 @@ fn answer_calls(
 
 // A history with input[9..from] its coordinator sheet, which is copied, since two parts of one slice can't be lent for writing at once.
 fn replay(input: &mut [u8], from: usize, to: usize, coordinator: &mut [u8])
-    requires { ⌜ (9 ≤ from) × ((from ≤ to) × (to ≤ length (now input))) ⌝ }
+    requires { ⌜ (from ≡ 9 + length (now coordinator)) × ((from ≤ to) × (to ≤ length (now input))) ⌝ }
 {
     decimal::put(coordinator, &input[9..from]);
     let mut out = [0u8; 4096];

@@ -54,7 +54,7 @@ slice-aggregate-replay : tie.Need-slice-aggregate-replay
 slice-aggregate-replay c = simp length-take (omega arith)
 
 replay-requires : tie.Need-replay-requires
-replay-requires c κs = search needs
+replay-requires c κs = simp length-take (omega arith)
 
 same-length-3 : tie.Need-same-length-3
 same-length-3 c = search needs
