@@ -1,5 +1,5 @@
 # The commands of the README. `make test` is the whole gate.
-.PHONY: test wrong bench differ soak archive programs
+.PHONY: test wrong bench differ archive
 
 test:
 	rt fmt --check
@@ -15,20 +15,20 @@ wrong:
 archive:
 	rt staticlib c_api
 
-# the engine's time beside a baseline in safe Rust, printed and drawn
 bench: archive
 	cd reference && cargo run --release --quiet --features engine --bin bench ../docs/bench.svg
+
+.PHONY: soak programs
 
 # the programs that the comparison runs
 programs:
 	rt check replay
 	rt check visitor
 
-# the engine held against the separate implementation, byte for byte
-differ: archive programs
-	cd reference && cargo run --release --quiet --features engine --bin differ
-
-# the same until 3,000,000 calls or 600 seconds; SEED=n repeats a run
+# the comparison until 3,000,000 calls or 600 seconds; SEED=n repeats a run
 SEED ?= $(shell date +%s)
 soak: archive programs
 	cd reference && cargo run --release --quiet --features engine --bin differ 3000000 $(SEED) 600
+
+differ: archive programs
+	cd reference && cargo run --release --quiet --features engine --bin differ

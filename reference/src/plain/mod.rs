@@ -11,6 +11,7 @@ pub mod request;
 pub mod steps;
 pub mod store;
 pub mod transaction;
+pub mod visitor;
 pub mod well_formed;
 pub mod writes;
 
