@@ -2,18 +2,18 @@
 //!
 //! - `plain` reads the paper in the most obvious way and is what the engine must agree with.
 //! - `book` is the paper's plain book, which `plain` must come to after any history.
-//! - `replay` runs a history given as text, and `visitor` is the visiting program, both over `plain`.
+//! - `replay` runs a history given as text over `plain`.
 //! - `exported` has the calls that the engine exports for C, over `plain` and over `fast`.
 //! - `fast` gives the same answers as `plain` and is what the engine's time is compared with.
 //! - `make` writes accepted, damaged and forged sheets, histories of calls and the scripts of replays.
 //! - `seen` counts which refusals and steps a comparison has met.
 //!
 //! `cargo test --release` holds `fast` against `plain`, both against cases of the paper, and histories against the book.
-//! `cargo run --release --bin bench` times them. With `--features engine` it times the engine too, and
-//! `cargo run --release --features engine --bin differ` holds the engine against `plain`. Both then need the engine's
-//! static archive, `../target/staticlib/libc_api.a` or the one in the folder that `RAPYHEO_ARCHIVE_DIR` names, and the
-//! comparison needs its programs `replay` and `visitor`, from `../target/bin` or the folder that `RAPYHEO_PROGRAMS_DIR`
-//! names. `replay_plain` under these two names tries the comparison itself.
+//!
+//! With `--features engine`, `cargo run --release --bin differ` holds the engine against `plain`, and `--bin bench` times it
+//! beside `fast`. Both need the engine's static archive, `../target/staticlib/libc_api.a` or the one in the folder that
+//! `RAPYHEO_ARCHIVE_DIR` names. The comparison needs the programs `replay` and `visitor` too, from `../target/bin` or the
+//! folder that `RAPYHEO_PROGRAMS_DIR` names; with `target/release` there, it is tried against `plain` itself.
 #![forbid(unsafe_code)]
 
 pub mod book;
@@ -23,4 +23,3 @@ pub mod make;
 pub mod plain;
 pub mod replay;
 pub mod seen;
-pub mod visitor;

@@ -4,10 +4,10 @@ use reference::make::random::Random;
 use reference::make::script::Script;
 use reference::make::scripts::{damaged, free, legal, Extent};
 use reference::plain::key::Key;
+use reference::plain::visitor::output;
 use reference::replay::line::Line;
 use reference::replay::replay;
 use reference::seen::Seen;
-use reference::visitor::visitor;
 
 const COORDINATOR: &str = "   0 SSSSSSSSS\n   1         -\n   2         -\n";
 const ABSENT: &str = " 1  1  1     1     1    ABSENT     0   0        0        0     0   0        0        0          0\n";
@@ -107,7 +107,7 @@ fn the_visiting_program() {
     let prepared = " 1  1  1     1     1  PREPARED     1   1      500      250     0   0        0        0       5000\n";
     let visited = |first: &str, coordinator: &str| {
         let input = format!("{first}\n{coordinator}{prepared}");
-        String::from_utf8(visitor(input.as_bytes())).unwrap()
+        String::from_utf8(output(input.as_bytes())).unwrap()
     };
     let aborted = format!("{}{ABSENT}", coordinator.replace("      -", "ABORTED"));
     assert_eq!(visited("   1   1      20000", coordinator), aborted);

@@ -18,11 +18,18 @@ const EDGES: [u32; 9] = [
     u32::MAX,
 ];
 
-/// Keys few and close together, so that they share units of every kind and clients meet.
+/// Keys few and close together, so that they share units of every kind and clients meet. In some sheets all have the
+/// same namespace or table, so that puts of one order often share a unit.
 pub fn close_keys(random: &mut Random, count: usize) -> BTreeSet<[u32; 5]> {
+    let same = match count {
+        ..=6 => random.pick(&[0, 2, 3]),
+        _ => random.pick(&[0, 2]),
+    };
     let mut keys = BTreeSet::new();
     while keys.len() < count {
-        keys.insert(close_key(random));
+        let mut key = close_key(random);
+        key[..same].fill(1);
+        keys.insert(key);
     }
     keys
 }

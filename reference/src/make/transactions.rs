@@ -76,11 +76,19 @@ fn change(random: &mut Random, transaction: &mut Transaction, records: &[Record]
 fn change_entry(random: &mut Random, entry: &mut Entry, records: &[Record]) {
     match random.below(7) {
         0 => entry.key = any_key(random, records),
-        1 => entry.seen.version = random.pick(&[0, 1, 2, 99_998, 99_999, 100_000, u32::MAX]),
+        1 => entry.seen.version = version(random, entry.seen.version),
         2 => entry.seen.tx_id = random.pick(&[0, 1, 2, 20, 999, 1_000, u32::MAX]),
         3 => entry.seen.column_1 = columns(random)[0],
         4 => entry.seen.column_2 = columns(random)[1],
         5 => entry.wrote = random.pick(&[0, 1, 2, u32::MAX]),
         _ => [entry.put_1, entry.put_2] = columns(random),
+    }
+}
+
+/// Another version, near this one or at an end of the range.
+fn version(random: &mut Random, version: u32) -> u32 {
+    match random.below(2) {
+        0 => random.pick(&[version.wrapping_sub(1), version.wrapping_add(1)]),
+        _ => random.pick(&[0, 1, 99_998, 99_999, 100_000, u32::MAX]),
     }
 }

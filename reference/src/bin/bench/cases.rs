@@ -14,8 +14,8 @@ pub const LINES: [usize; 7] = [10, 50, 100, 200, 300, 400, 500];
 
 const NOW: u32 = 20_000;
 
-/// How one side makes a call; nothing where it doesn't have it.
-pub type Make = fn(&Call, &mut Lent) -> Option<u32>;
+/// How one side makes a call.
+pub type Make = fn(&Call, &mut Lent) -> u32;
 
 #[derive(Clone, Copy, PartialEq, Eq)]
 pub enum Case {
@@ -46,7 +46,7 @@ pub const CASES: [(Case, &str); 8] = [
 
 impl Case {
     /// Makes the call or calls, and answers as the last one did.
-    pub fn run(self, make: Make, lent: &mut Lent) -> Option<u32> {
+    pub fn run(self, make: Make, lent: &mut Lent) -> u32 {
         let key = middle_key(lent);
         match self {
             Case::Check | Case::CheckCommitted | Case::CheckPrepared => make(&Call::Check, lent),
@@ -143,14 +143,14 @@ fn in_prepare(store: &Store, number: u32) -> Transaction {
 }
 
 /// Begins, fills the new transaction with the entries and advances it until it is done.
-fn order(make: Make, lent: &mut Lent) -> Option<u32> {
-    let number = make(&Call::Begin, lent)?;
+fn order(make: Make, lent: &mut Lent) -> u32 {
+    let number = make(&Call::Begin, lent);
     let transaction = &mut lent.list[0];
     transaction.number = number;
     transaction.phase = OPEN;
     while lent.list[0].phase != DONE {
-        let answer = make(&ADVANCE, lent)?;
+        let answer = make(&ADVANCE, lent);
         assert_eq!(answer, 0, "the order goes through");
     }
-    Some(number)
+    number
 }

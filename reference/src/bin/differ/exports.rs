@@ -29,10 +29,10 @@ fn compare_history(random: &mut Random) -> Result<u64, String> {
         }
         false => History::new(random, rule),
     };
-    let mut calls = 0;
-    for _ in 0..150 {
+    let calls = 150;
+    for _ in 0..calls {
         let (call, lent) = next(random, &mut history);
-        calls += u64::from(compare_call(&call, lent)?);
+        compare_call(&call, lent)?;
     }
     Ok(calls)
 }
@@ -50,16 +50,12 @@ fn compare_checks(random: &mut Random) -> Result<u64, String> {
     Ok(checks)
 }
 
-/// Answers whether the archive has the call.
-fn compare_call(call: &Call, lent: Lent) -> Result<bool, String> {
+fn compare_call(call: &Call, mut lent: Lent) -> Result<(), String> {
     let mut after = lent.clone();
-    let Some(answer) = by_engine(call, &mut after) else {
-        return Ok(false);
-    };
-    let mut lent = lent;
+    let answer = by_engine(call, &mut after);
     let expected = by_plain(call, &mut lent);
     if (expected, &lent) == (answer, &after) {
-        return Ok(true);
+        return Ok(());
     }
     let lists = lent.list == after.list;
     let (plain, engine) = (lent.sheets, after.sheets);

@@ -7,8 +7,11 @@ use reference::make::damage::TELLING;
 use reference::make::random::Random;
 use reference::make::sheets::{accepted, of_size, Mix, Size};
 use reference::make::{any, Sheets};
+use reference::plain::visitor::output;
 use reference::plain::{coordinator, record};
-use reference::visitor::{first_line, visitor, FIRST_LINE};
+
+/// Bytes of the first line, LF counted.
+const FIRST_LINE: usize = 20;
 
 /// Compares the visiting program on some inputs; answers how many.
 pub fn compare(random: &mut Random, seed: u64) -> Result<u64, String> {
@@ -16,7 +19,7 @@ pub fn compare(random: &mut Random, seed: u64) -> Result<u64, String> {
     let inputs = 10;
     for _ in 0..inputs {
         let input = input(random);
-        compare_whole(&program, seed, &input, &visitor(&input))?;
+        compare_whole(&program, seed, &input, &output(&input))?;
     }
     Ok(inputs)
 }
@@ -45,7 +48,7 @@ fn input(random: &mut Random) -> Vec<u8> {
 fn text(sheets: &Sheets, clock: u64) -> Vec<u8> {
     let records = sheets.records.len() / record::LINE;
     let decisions = (sheets.coordinator.len() / coordinator::LINE).saturating_sub(1);
-    let first = first_line(records, decisions, clock);
+    let first = format!("{records:>4}{decisions:>4}{clock:>11}\n").into_bytes();
     [first, sheets.coordinator.clone(), sheets.records.clone()].concat()
 }
 

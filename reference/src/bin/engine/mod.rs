@@ -6,7 +6,6 @@
 pub mod calls;
 
 use reference::plain::key::Key;
-#[cfg(feature = "advance_at")]
 use reference::plain::transaction::Transaction;
 
 extern "C" {
@@ -34,7 +33,6 @@ extern "C" {
         clustering: u32,
         clock: u32,
     ) -> u32;
-    #[cfg(feature = "advance_at")]
     fn rapyheo_advance_at(
         list: *mut Transaction,
         list_length: usize,
@@ -92,7 +90,6 @@ fn visit(records: &mut [u8], coordinator: &mut [u8], key: Key, clock: u32) -> u3
 }
 
 /// 0 where the transaction at this place of the list was advanced.
-#[cfg(feature = "advance_at")]
 fn advance_at(
     list: &mut [Transaction],
     place: usize,
