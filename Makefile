@@ -1,5 +1,5 @@
 # The commands of the README. `make test` is the whole gate.
-.PHONY: test wrong programs outside histories visits differ soak bench archive client client-test install
+.PHONY: test wrong programs outside histories visits visit differ soak bench archive client client-test install
 
 test:
 	rt fmt --check
@@ -27,6 +27,11 @@ histories: programs
 # inputs of the visiting program, and what it must print of each
 visits: programs
 	python3 tests/visitor/run.py
+
+# the visiting program on an example, before and after side by side
+visit:
+	rt check visitor
+	python3 examples/visit.py
 
 # the engine as an archive for C and Rust, made anew where a crate has changed
 ARCHIVE = target/staticlib/libc_api.a

@@ -3,7 +3,7 @@
 
 `cases/NAME.in` and `cases/NAME.out` are inputs and outputs, derived from the paper by hand and compared with the separate implementation
 (`cargo run --release --bin visitor` in reference/). Larger inputs are made here; an accepted one has the SHA-256 of that implementation's output.
-Run from the repository's root, after `rt check visitor`.
+Run from the repository's root, after `rt check visitor`; `--quiet` prints differences only.
 """
 import hashlib
 import pathlib
@@ -90,7 +90,8 @@ def main():
         if run.returncode != 0 or not agrees(run.stdout, expected):
             differences += 1
             print(f"{name}: status {run.returncode}, output begins {run.stdout[:60]!r}")
-    print(f"{runs} runs, {differences} differences")
+    if differences or "--quiet" not in sys.argv:
+        print(f"{runs} runs, {differences} differences")
     sys.exit(1 if differences else 0)
 
 

@@ -1,5 +1,5 @@
 -- The keys of a sheet visited one after another: a visit keeps the keys, so that the key at a place is that of the sheet at first.
-use Prim.Native.Nat.{ℕ, _+_, _/_, _^_, _≤_, _<_}
+use Prim.Native.Nat.{ℕ, zero, suc, _+_, _/_, _^_, _≤_, _<_}
 use mathlib.Core.Path.{_≡_, refl, sym, ap, ap₂, subst, _∙_}
 use mathlib.Core.List.{List, [], _∷_, _++_, map}
 use native.Mathlib.Omega.{arith}
@@ -89,14 +89,36 @@ pass-last now first b i m v =
     let n : length (keysIn first) ≤ i = omega (arith, length-keys first) in
     ap (λ (ks : List Key). visitedAll now ks b) (sym (drop-of-length-le (keysIn first) n)) ∙ v .rest
 
--- "all lines in order, then all again": the second pass has the keys of the first
-pub second-pass : (now : ℕ) (first b : Bytes) → now < 2 ^ 32 → Passing first → b ≡ visitedAll now (keysIn first) first → Passing b × (visitedAll now (keysIn b) b ≡ swept now first)
-unfolding swept
-second-pass now first b l h e =
-    let ks : List Key = keysIn first in
-    let v : Kept ks (visitedAll now ks first) = visited-kept now ks ks first l (record { passing = h; keys = refl }) in
-    let p : Passing b = subst Passing (sym e) (v .passing) in
-    let k : keysIn b ≡ ks = ap keysIn e ∙ v .keys in (
-      p,
-      ap₂ (visitedAll now) k e ∙ sym (visited-append now ks ks first),
-    )
+-- n passes, each over the keys of the sheets at first
+unfoldable pub passed : ℕ → ℕ → Bytes → Bytes
+passed now zero first = first
+passed now (suc n) first = visitedAll now (keysIn first) (passed now n first)
+
+-- A sweep that has made n passes.
+pub record PassedTo (now : ℕ) (first b : Bytes) (n : ℕ) : Type 0 where
+  pub place : n ≤ 2
+  pub kept : Kept (keysIn first) b
+  pub done : b ≡ passed now n first
+
+pub sweep-first : (now : ℕ) (first : Bytes) → Passing first → PassedTo now first first 0
+unfolding passed
+sweep-first now first h = record { place = omega arith; kept = record { passing = h; keys = refl }; done = refl }
+
+pub sweep-next : (now : ℕ) (first b c : Bytes) (n : ℕ) → now < 2 ^ 32 → n < 2 → PassedTo now first b n → c ≡ visitedAll now (keysIn b) b → PassedTo now first c (n + 1)
+unfolding passed
+sweep-next now first b c n l m v e =
+    record {
+      place = omega arith;
+      kept = subst (Kept (keysIn first)) (sym e) (visited-kept now (keysIn b) (keysIn first) b l (v .kept));
+      done =
+          e ∙ (ap₂ (visitedAll now) (v .kept .keys) (v .done) ∙ ap (λ (i : ℕ). passed now i first) (sym (add-one n)));
+    }
+
+-- "all lines in order, then all again"
+pub sweep-last : (now : ℕ) (first b : Bytes) (n : ℕ) → 2 ≤ n → PassedTo now first b n → b ≡ swept now first
+unfolding passed swept
+sweep-last now first b n m v =
+    let p : n ≤ 2 = v .place in
+    let e : n ≡ 2 = omega arith in
+    v .done
+    ∙ (ap (λ (i : ℕ). passed now i first) e ∙ sym (visited-append now (keysIn first) (keysIn first) first))

@@ -32,6 +32,7 @@ pub fn sweep(clock: u32, records: &mut [u8], coordinator: &mut [u8])
     requires { ⌜ Passing (both (now records) (now coordinator)) ⌝ }
     ensures { λ u. ⌜ both (now (records .exit)) (now (coordinator .exit)) ≡ swept clock (both (now (records .entry)) (now (coordinator .entry))) ⌝ }
 {
-    pass(clock, records, coordinator);
-    pass(clock, records, coordinator);
+    for turn in 0..2usize {
+        pass(clock, records, coordinator);
+    }
 }

@@ -1,25 +1,54 @@
--- A pass after a pass, the second over the keys of the first.
-use mathlib.Core.Path.{_∙_}
+-- Each pass is over the keys of the first sheets, which every pass keeps, and two passes are a sweep.
+use Prim.Native.Nat.{_-_}
+use mathlib.Core.Path.{_≡_, refl}
 use native.Mathlib.Omega.{arith}
+use lib.ListN.{length}
 use borrow.Author.Needs.{needs}
-use Rattle.sweep.specs.Passes.{both, second-pass}
+use Rattle.sweep.specs.Passes.{both, PassedTo, sweep-first, sweep-next, sweep-last}
 use Rattle.sweep.proofs.passes.sweep.Statement.{statement}
 use Rattle.sweep.proofs.passes.sweep.Tie as tie
 
-pass-requires : tie.Need-pass-requires
-pass-requires c κs = search needs
+abbrev Inv-loop : tie.InvT-loop
+Inv-loop clock records₀ coordinator₀ turn₀ records coordinator turn = (length records ≡ length records₀) × ((length coordinator ≡ length coordinator₀) × PassedTo clock (both records₀ coordinator₀) (both records coordinator) turn)
 
-pass-requires-2 : tie.Need-pass-requires-2
-pass-requires-2 c κs = second-pass (c .before .before .before .before .before .before .before .before .before .before .before .args .clock) (both (c .before .before .before .before .before .before .before .before .before .before .before .args .records .now) (c .before .before .before .before .before .before .before .before .before .before .before .args .coordinator .now)) _ (omega arith) (c .before .before .before .before .before .before .before .before .before .before .before .pre) (c .before .before .before .before .before .before .pass .ensures) .0
+abbrev μ-loop : tie.MeasureT-loop
+μ-loop clock records₀ coordinator₀ turn₀ records coordinator turn = 2 - turn
 
-same-length : tie.Need-same-length
-same-length c = search needs
+loop-holds : tie.Need-loop-holds Inv-loop μ-loop
+loop-holds c = (refl, (refl, sweep-first _ _ (c .before .before .pre)))
 
-same-length-2 : tie.Need-same-length-2
-same-length-2 c = search needs
+pass-requires : tie.Need-pass-requires Inv-loop μ-loop
+pass-requires c κs = c .before .before .before .loop .inv .1 .1 .kept .passing
 
-returns : tie.Need-returns
-returns c = c .before .before .before .before .pass2 .ensures ∙ second-pass (c .before .before .before .before .before .before .before .before .before .before .before .before .before .before .before .before .args .clock) (both (c .before .before .before .before .before .before .before .before .before .before .before .before .before .before .before .before .args .records .now) (c .before .before .before .before .before .before .before .before .before .before .before .before .before .before .before .before .args .coordinator .now)) _ (omega arith) (c .before .before .before .before .before .before .before .before .before .before .before .before .before .before .before .before .pre) (c .before .before .before .before .before .before .before .before .before .before .before .pass .ensures) .1
+add-turn : tie.Need-add-turn Inv-loop μ-loop
+add-turn c = search needs
+
+loop-less : tie.Need-loop-less Inv-loop μ-loop
+loop-less c = search needs
+
+loop-again : tie.Need-loop-again Inv-loop μ-loop
+loop-again c = (omega arith, (omega arith, sweep-next _ _ (both (c .before .before .before .before .before .before .before .before .loop .records) (c .before .before .before .before .before .before .before .before .loop .coordinator)) _ _ (omega arith) (omega (arith, c .before .before .before .before .before .before .before .loop-test .taken)) (c .before .before .before .before .before .before .before .before .loop .inv .1 .1) (c .before .before .before .before .pass .ensures)))
+
+same-length : tie.Need-same-length Inv-loop μ-loop
+same-length c = c .before .loop .inv .0
+
+same-length-2 : tie.Need-same-length-2 Inv-loop μ-loop
+same-length-2 c = c .before .loop .inv .1 .0
+
+returns : tie.Need-returns Inv-loop μ-loop
+returns c = sweep-last _ _ _ (c .before .loop .turn) (omega (arith, c .loop-test .left)) (c .before .loop .inv .1 .1)
 
 pub sweep-spec : {M : Type 1} → statement M
-sweep-spec = tie.close (tie.spec pass-requires pass-requires-2 same-length same-length-2 returns)
+sweep-spec =
+    tie.close
+    (tie.spec
+    Inv-loop
+    μ-loop
+    loop-holds
+    pass-requires
+    add-turn
+    loop-less
+    loop-again
+    same-length
+    same-length-2
+    returns)
