@@ -62,7 +62,7 @@ client: archive
 	./target/client
 
 # the header, the client and an installed copy of both
-client-test: archive
+client-test:
 	tests/c_client/run.sh
 
 # header, archive and pkg-config file

@@ -131,13 +131,16 @@ static void finished_order(void) {
     visit("note", note, 20013);
 }
 
-/* No such place; a list over 16; a transaction that nobody began. */
+/* No such place; a list over 16; a transaction that nobody began; and no such place beside a record sheet one byte short, which comes first. */
 static void refused_calls(void) {
     rapyheo_transaction list[OVER];
     memset(list, 0, sizeof list);
     advance(list, PLACES, PLACES, 30000);
     advance(list, OVER, 0, 30000);
     advance(list, PLACES, 2, 30000);
+    printf("advance place %d of %d, record sheet one byte short: ", PLACES, PLACES);
+    say(rapyheo_advance_at(list, PLACES, PLACES, records, records_length - 1, coordinator, coordinator_length, 30000), "");
+    show();
 }
 
 int main(void) {

@@ -1,6 +1,6 @@
 #!/usr/bin/env bash
 # The C side: the header alone in C and C++, the client of examples/ with its stored output, the same under the address and undefined behaviour
-# sanitizers, and once more from an installed copy found by pkg-config. Wants target/staticlib/libc_api.a (`make archive`).
+# sanitizers, and once more from an installed copy found by pkg-config.
 set -euo pipefail
 cd "$(dirname "$0")/../.."
 
@@ -9,6 +9,8 @@ trap 'rm -rf "$work"' EXIT
 strict=(-Wall -Wextra -Werror -pedantic)
 outputs=0
 differences=0
+
+make --no-print-directory archive > "$work/archive.log" 2>&1 || { tail "$work/archive.log"; exit 1; }
 
 compare() {
     outputs=$((outputs + 1))

@@ -9,14 +9,13 @@ use lib.ListN.{length, set}
 use lib.Seq.{set-getD}
 use borrow.Author.Tests.{ne-eqb}
 use Rattle.lists.specs.Each.{all}
-use Rattle.lists.specs.Tests.{choose-by}
 use Rattle.types.specs.declared.Transaction.{Transaction}
 use Rattle.model.specs.Refusals.{refusalOf}
-use Rattle.model.specs.Results.{Result, refused, made, unless}
+use Rattle.model.specs.Results.{Result, refused, made}
 use Rattle.model.specs.SheetCalls.{checkConditions}
 use Rattle.model.specs.ByteCalls.{advanceOn, recordsAfter, coordinatorAfter}
 use Rattle.model.specs.CallByPlace.{listed, named, advanceAtOn, listAfter}
-use Rattle.call_laws.specs.ByPlace.{named-advances, unlisted-refused}
+use Rattle.call_laws.specs.ByPlace.{leftWith, named-advances, unlisted-refused, unlisted-leaves}
 use Rattle.call_laws.specs.Exactness.{small}
 use Rattle.engine.specs.Answers.{stepped}
 use Rattle.c_api.specs.declared.Advanced.{Advanced}
@@ -24,8 +23,7 @@ use Rattle.c_api.specs.Numbers.{Sound, sound-refused, sound-made, advanc
 
 -- what an advance answers as one number, and the transaction, as it came where the call is refused
 abbrev pub advanced : Transaction → Result Transaction → Advanced
-advanced t (refused n) = record { answer = 1000 + n; transaction = t }
-advanced t (made u w) = record { answer = 0; transaction = u }
+advanced t r = record { answer = advanceNumber r; transaction = leftWith t r }
 
 -- the refusal of an advance is at most 12, and its answer as one number is that of the result
 pub advance-numbered : (t : Transaction) (clock : ℕ) (rs cs : List ℕ) → (stepped t (advanceOn t clock rs cs) .refusal ≤ 12) × (record { answer = cond (eqb (stepped t (advanceOn t clock rs cs) .refusal) 0) 0 (1000 + stepped t (advanceOn t clock rs cs) .refusal); transaction = stepped t (advanceOn t clock rs cs) .transaction } ≡ advanced t (advanceOn t clock rs cs))
@@ -55,7 +53,7 @@ module _ (list : List Transaction) (place clock : ℕ) (rs cs : List ℕ) where
   unfolding listAfter
   advances-listed out rs′ cs′ is-listed o l d =
       let same : advanceAtOn list place clock rs cs ≡ advanceOn (named list place) clock rs cs = named-advances list place clock rs cs is-listed in (
-        ap (λ (u : Advanced). u .answer) o ∙ (answered (advanceOn (named list place) clock rs cs) ∙ sym (ap advanceNumber same)),
+        ap (λ (u : Advanced). u .answer) o ∙ sym (ap advanceNumber same),
         (
           ap (λ (u : Advanced). set list place (u .transaction)) o ∙ (replaced (advanceOn (named list place) clock rs cs) ∙ sym (ap (listAfter list place) same)),
           (
@@ -65,28 +63,16 @@ module _ (list : List Transaction) (place clock : ℕ) (rs cs : List ℕ) where
         ),
       )
     where
-      answered : (r : Result Transaction) → advanced (named list place) r .answer ≡ advanceNumber r
-      answered (refused n) = refl
-      answered (made u w) = refl
-
-      replaced : (r : Result Transaction) → set list place (advanced (named list place) r .transaction) ≡ listAfter list place r
+      replaced : (r : Result Transaction) → set list place (leftWith (named list place) r) ≡ listAfter list place r
       replaced (refused n) = set-getD list place _
       replaced (made u w) = refl
 
   -- it isn't, and nothing is written
   pub advances-unlisted : (r : ℕ) (rs′ cs′ : List ℕ) → listed (length list) place ≡ false → r ≡ unlistedNumber rs cs → rs′ ≡ rs → cs′ ≡ cs → Advances r list rs′ cs′
-  unfolding listAfter recordsAfter coordinatorAfter
-  advances-unlisted r rs′ cs′ not-listed e l d =
-      let same : advanceAtOn list place clock rs cs ≡ unless (checkConditions rs cs) (refused 3) = unlisted-refused list place clock rs cs not-listed in (
-        e ∙ sym (ap advanceNumber same),
-        (
-          sym (ap (listAfter list place) same ∙ stays (λ (x : Result Transaction). listAfter list place x) (λ n. refl)),
-          (
-            l ∙ sym (ap (recordsAfter rs cs) same ∙ stays (λ (x : Result Transaction). recordsAfter rs cs x) (λ n. refl)),
-            d ∙ sym (ap (coordinatorAfter rs cs) same ∙ stays (λ (x : Result Transaction). coordinatorAfter rs cs x) (λ n. refl)),
-          ),
-        ),
-      )
+  advances-unlisted r rs′ cs′ not-listed e l d = (
+    e ∙ sym (ap advanceNumber (unlisted-refused list place clock rs cs not-listed)),
+    (sym (left .0), (l ∙ sym (left .1 .0), d ∙ sym (left .1 .1))),
+  )
     where
-      stays : {A : Type 0} {a : A} (f : Result Transaction → A) → ((n : ℕ) → f (refused n) ≡ a) → f (unless (checkConditions rs cs) (refused 3)) ≡ a
-      stays {a = a} f k = choose-by (λ (x : Result Transaction). f x ≡ a) (eqb (refusalOf (checkConditions rs cs)) 0) (λ b. k 3) (λ b. k (refusalOf (checkConditions rs cs)))
+      left : (listAfter list place (advanceAtOn list place clock rs cs) ≡ list) × ((recordsAfter rs cs (advanceAtOn list place clock rs cs) ≡ rs) × (coordinatorAfter rs cs (advanceAtOn list place clock rs cs) ≡ cs))
+      left = unlisted-leaves list place clock rs cs not-listed

@@ -5,11 +5,11 @@ use mathlib.Core.Path.{_≡_, refl, ap, _∙_}
 use mathlib.Core.Bool.{Bool, true, false, _&&_}
 use mathlib.Core.List.{List, [], _∷_}
 use native.Mathlib.Omega.{arith}
-use lib.Dec.{leb, ltb}
+use lib.Dec.{eqb, leb, ltb}
 use lib.ListN.{length, length-set}
 use lib.Seq.{getD-set-same, getD-set-other}
 use borrow.Author.Tests.{ltb-true}
-use Rattle.lists.specs.Tests.{and-snd}
+use Rattle.lists.specs.Tests.{and-snd, choose-by}
 use Rattle.types.specs.declared.Transaction.{Transaction}
 use Rattle.model.specs.Refusals.{refusalOf}
 use Rattle.model.specs.SheetCalls.{checkConditions}
@@ -18,7 +18,8 @@ use Rattle.model.specs.Conditions.{conditions}
 use Rattle.model.specs.Calls.{advanceResult}
 use Rattle.model.specs.ByteCalls.{advanceOn, recordsAfter, coordinatorAfter}
 use Rattle.model.specs.CallByPlace.{listed, named, conditionsAt, allConditionsAt, advanceAtResult, advanceAtOn, listAfter}
-use Rattle.call_laws.specs.Exactness.{lowest, risingFrom, first-is-lowest}
+use Rattle.model.specs.Histories.{returned, answerOf}
+use Rattle.call_laws.specs.Exactness.{lowest, risingFrom, first-is-lowest, refusalIn, refusal-by-rows}
 
 -- the transaction that a result leaves with its client: as it came where the call is refused
 abbrev pub leftWith : Transaction → Result Transaction → Transaction
@@ -38,6 +39,21 @@ module _ (list : List Transaction) (place now : ℕ) (rs cs : List ℕ) where
   pub unlisted-refused : listed (length list) place ≡ false → advanceAtOn list place now rs cs ≡ unless (checkConditions rs cs) (refused 3)
   unfolding advanceAtOn advanceAtResult conditionsAt refusalOf
   unlisted-refused e = rw e refl
+
+  -- and the list and both sheets are as they were
+  pub unlisted-leaves : listed (length list) place ≡ false → (listAfter list place (advanceAtOn list place now rs cs) ≡ list) × ((recordsAfter rs cs (advanceAtOn list place now rs cs) ≡ rs) × (coordinatorAfter rs cs (advanceAtOn list place now rs cs) ≡ cs))
+  unfolding listAfter recordsAfter coordinatorAfter
+  unlisted-leaves e = (leaves (λ (r : Result Transaction). listAfter list place r) (λ n. refl), (leaves (λ (r : Result Transaction). recordsAfter rs cs r) (λ n. refl), leaves (λ (r : Result Transaction). coordinatorAfter rs cs r) (λ n. refl)))
+    where
+      leaves : {A : Type 0} {a : A} (f : Result Transaction → A) → ((n : ℕ) → f (refused n) ≡ a) → f (advanceAtOn list place now rs cs) ≡ a
+      leaves {a = a} f k =
+          ap f (unlisted-refused e)
+          ∙ choose-by (λ (r : Result Transaction). f r ≡ a) (eqb (refusalOf (checkConditions rs cs)) 0) (λ b. k 3) (λ b. k (refusalOf (checkConditions rs cs)))
+
+  -- an answer's refusal is that of its conditions
+  pub place-refusal-given : refusalIn (answerOf returned (advanceAtOn list place now rs cs)) ≡ refusalOf (allConditionsAt list place now rs cs)
+  unfolding advanceAtOn advanceAtResult allConditionsAt checkConditions
+  place-refusal-given = refusal-by-rows returned _ _ (conditionsAt list place now _) _ refl
 
   -- "The lowest number that applies is given"
   pub place-refusal-is-lowest : lowest (refusalOf (allConditionsAt list place now rs cs)) (allConditionsAt list place now rs cs) ≡ true
@@ -61,7 +77,7 @@ module _ (list : List Transaction) (place : ℕ) where
   named-replaced l (made t w) = getD-set-same list place t _ l
 
 -- What the call by place does, beside what the advance of the one named would do.
-pub record AsNamed (list : List Transaction) (place now : ℕ) (rs cs : List ℕ) (byPlace byName : Result Transaction) : Type 0 where
+pub record AsNamed (list : List Transaction) (place : ℕ) (rs cs : List ℕ) (byPlace byName : Result Transaction) : Type 0 where
   pub answer : byPlace ≡ byName
   pub lines : recordsAfter rs cs byPlace ≡ recordsAfter rs cs byName
   pub decisions : coordinatorAfter rs cs byPlace ≡ coordinatorAfter rs cs byName
@@ -70,7 +86,7 @@ pub record AsNamed (list : List Transaction) (place now : ℕ) (rs cs : List ℕ
   pub size : length (listAfter list place byPlace) ≡ length list
 
 -- "advance (by place too, taking and returning the one named)"
-pub by-place-is-advance : (list : List Transaction) (place now : ℕ) (rs cs : List ℕ) → listed (length list) place ≡ true → AsNamed list place now rs cs (advanceAtOn list place now rs cs) (advanceOn (named list place) now rs cs)
+pub by-place-is-advance : (list : List Transaction) (place now : ℕ) (rs cs : List ℕ) → listed (length list) place ≡ true → AsNamed list place rs cs (advanceAtOn list place now rs cs) (advanceOn (named list place) now rs cs)
 by-place-is-advance list place now rs cs e =
     record {
       answer = same;

@@ -138,7 +138,7 @@ read-new-accepts t Back r = refl
 read-new-accepts t Again r = refl
 read-new-accepts t Busy r = refl
 
-refusal-by-rows : {A : Type 0} (f : A → Answer) (x y : Bool) (cs : List Condition) (r : Result A) → Accepts f r → refusalIn (answerOf f (unless (refuse 1 x ∷ refuse 2 y ∷ []) (unless cs r))) ≡ refusalOf (refuse 1 x ∷ refuse 2 y ∷ cs)
+pub refusal-by-rows : {A : Type 0} (f : A → Answer) (x y : Bool) (cs : List Condition) (r : Result A) → Accepts f r → refusalIn (answerOf f (unless (refuse 1 x ∷ refuse 2 y ∷ []) (unless cs r))) ≡ refusalOf (refuse 1 x ∷ refuse 2 y ∷ cs)
 unfolding refusalOf
 refusal-by-rows f true y cs r h = refl
 refusal-by-rows f false true cs r h = refl
