@@ -1,8 +1,9 @@
 #!/usr/bin/env python3
 """Runs of the visiting program, each held to stored output.
 
-`cases/NAME.in` and `cases/NAME.out` are inputs and outputs, derived from the paper by hand and compared with the separate implementation
-(`cargo run --release --bin visitor` in reference/). Larger inputs are made here; an accepted one has the SHA-256 of that implementation's output.
+`cases/NAME.in` and `cases/NAME.out` are inputs and outputs. The outputs come from the separate implementation (`cargo run --release --bin visitor` in
+reference/) and were read against the paper. Larger inputs are made here: the refusals beside them are written from the paper, and an accepted one has the SHA-256
+of that implementation's output.
 Run from the repository's root, after `rt check visitor`; `--quiet` prints differences only.
 """
 import hashlib

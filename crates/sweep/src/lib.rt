@@ -1,9 +1,8 @@
 // The work of the visiting program, from its whole input to its whole output.
 ghost use mathlib.Core.Path.{_≡_};
-ghost use Prim.Native.Nat.{_+_, _≤_};
+ghost use Prim.Native.Nat.{_≤_};
 ghost use lib.ListN.{length};
-ghost use Rattle.model.specs.Refusals.{refusalOf};
-ghost use Rattle.model.specs.Visitor.{firstNumber, inputConditions, inputSheets, swept, refusedText};
+ghost use Rattle.model.specs.Visitor.{refusedText};
 ghost use Rattle.model.specs.Visitor as model;
 ghost use Rattle.sweep.specs.Output.{onto, visitedSheets, answered, outputAfter, workAfter, Loaded, Target};
 

@@ -1,7 +1,5 @@
 // All lines of a record sheet visited, twice.
 ghost use mathlib.Core.Path.{_≡_};
-ghost use lib.ListN.{getD};
-ghost use Rattle.model.specs.Records.{records, noRecord};
 ghost use Rattle.model.specs.Results.{visit};
 ghost use Rattle.model.specs.ByteHistories.{afterOn};
 ghost use Rattle.model.specs.Visitor.{visitedAll, keysIn, swept};

@@ -28,7 +28,11 @@ fn parts(input: &[u8]) -> Option<(Vec<u8>, Vec<u8>, u32)> {
 }
 
 /// All lines visited in order, then all again, passing over 12.
-fn visited_twice(mut coordinator: Vec<u8>, mut records: Vec<u8>, clock: u32) -> Result<Vec<u8>, u32> {
+fn visited_twice(
+    mut coordinator: Vec<u8>,
+    mut records: Vec<u8>,
+    clock: u32,
+) -> Result<Vec<u8>, u32> {
     match check(&records, &coordinator) {
         ACCEPTED => {}
         refusal => return Err(refusal),
