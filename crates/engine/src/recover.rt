@@ -9,22 +9,20 @@ use types::Decision;
 use types::Record;
 use types::Recovery;
 
-// What a visit of the line at place i comes to.
-fn meet(i: usize, clock: u32, records: &[u8], coordinator: &[u8]) -> Recovery
-    ensures { λ v. ⌜ v ≡ meeting clock (coordinatorOf (now (coordinator .entry))) (lineAt (now (records .entry)) i) ⌝ }
+// What a visit of a line comes to.
+fn meet(r: Record, clock: u32, coordinator: &[u8]) -> Recovery
+    ensures { λ v. ⌜ v ≡ meeting clock (coordinatorOf (now (coordinator .entry))) r ⌝ }
 {
-    let r = codec::records::record_at(records, i);
     let owner = codec::coordinator::decision_at(coordinator, r.image.txid);
     protocol::images::recovery(r, owner, protocol::images::line_expired(clock, r))
 }
 
 // What the visit writes: that line alone, or the decision of its owner.
-fn settle(v: Recovery, i: usize, records: &mut [u8], coordinator: &mut [u8])
+fn settle(v: Recovery, r: Record, i: usize, records: &mut [u8], coordinator: &mut [u8])
     requires { ⌜ Standing (now records) (now coordinator) i ⌝ }
-    requires { ⌜ Pending v (lineAt (now records) i) ⌝ }
+    requires { ⌜ (r ≡ lineAt (now records) i) × Pending v (lineAt (now records) i) ⌝ }
     ensures { λ u. ⌜ Written (recoveryWrite v (lineAt (now (records .entry)) i)) (now (records .entry)) (now (coordinator .entry)) (now (records .exit)) (now (coordinator .exit)) ⌝ }
 {
-    let r = codec::records::record_at(records, i);
     match v {
         Recovery::Stays => {}
         Recovery::Forward => codec::records::set_record(
@@ -47,7 +45,8 @@ pub fn recover(i: usize, clock: u32, records: &mut [u8], coordinator: &mut [u8])
     requires { ⌜ Standing (now records) (now coordinator) i ⌝ }
     ensures { λ v. ⌜ Recovered clock i (now (records .entry)) (now (coordinator .entry)) v (now (records .exit)) (now (coordinator .exit)) ⌝ }
 {
-    let v = meet(i, clock, records, coordinator);
-    settle(v, i, records, coordinator);
+    let r = codec::records::record_at(records, i);
+    let v = meet(r, clock, coordinator);
+    settle(v, r, i, records, coordinator);
     v
 }

@@ -1,12 +1,13 @@
 -- Scopes compared by the fields of their keys, and groups counted one by one: a group counts at the last put of its scope.
 use Prim.Native.Nat.{ℕ, suc, _-_}
 use mathlib.Core.Path.{_≡_, refl, sym, ap, _∙_}
-use mathlib.Core.Bool.{Bool, true, false, _&&_, _||_, not, cond, or-false}
+use mathlib.Core.Bool.{Bool, true, false, _&&_, _||_, not, cond, or-false, and-true}
 use mathlib.Core.List.{List, [], _∷_}
 use lib.ListN.{length, take}
 use lib.Dec.{eqb, ltb}
 use borrow.Author.Tests.{eqb-true}
 use Rattle.lists.specs.Bytes.{eqList, eqList-true}
+use Rattle.lists.specs.Chosen.{and-false}
 use Rattle.lists.specs.Each.{any, filter, count, less}
 use Rattle.types.specs.declared.AtomicityUnit.{AtomicityUnit}
 use Rattle.types.specs.declared.AtomicityUnit.the-variants.{Record as RecordUnit, Partition, Table, Namespace, Storage}
@@ -91,6 +92,13 @@ module _ (us : List AtomicityUnit) where
   -- the last put of its scope, whose scope passes a test
   abbrev pub countsAs : (List ℕ → Bool) → Entry → List Entry → Bool
   countsAs p e es = lastOfScope us e es && p (scope us (e .key))
+
+  -- the test of the scope, asked first
+  pub counts-not : (p : List ℕ → Bool) (e : Entry) (es : List Entry) → p (scope us (e .key)) ≡ false → false ≡ countsAs p e es
+  counts-not p e es h = sym (ap (λ (b : Bool). lastOfScope us e es && b) h ∙ and-false (lastOfScope us e es))
+
+  pub counts-if : (p : List ℕ → Bool) (e : Entry) (es : List Entry) → p (scope us (e .key)) ≡ true → lastOfScope us e es ≡ countsAs p e es
+  counts-if p e es h = sym (ap (λ (b : Bool). lastOfScope us e es && b) h ∙ and-true (lastOfScope us e es))
 
   count-more : (p : List ℕ → Bool) (b a : Bool) (n : ℕ) (e : Entry) (es : List Entry) → any (eqList (scope us (e .key))) (scopes us es) ≡ a → n ≡ count p (scopes us es) → cond (b && not a && p (scope us (e .key))) (suc n) n ≡ count p (scopes us (cond b (e ∷ es) es))
   unfolding scopes addScope count

@@ -1,13 +1,14 @@
 // Atomicity units and the groups of a transaction's puts. The units are the nine letters of the coordinator's head.
 ghost use mathlib.Core.Path.{_≡_};
-ghost use Prim.Native.Nat.{_≤_, _<_};
+ghost use mathlib.Core.List.{List};
+ghost use Prim.Native.Nat.{ℕ, _≤_, _<_};
 ghost use Rattle.lists.specs.Bytes.{eqList};
 ghost use Rattle.lists.specs.Each.{any, less};
 ghost use Rattle.model.specs.Transactions.{puts};
 ghost use Rattle.model.specs.Groups.{unitFields, unitFor, scope, groupCount, groupPlace};
 ghost use Rattle.protocol.specs.Held.{entryAt, after};
 ghost use Rattle.protocol.specs.Units.{unitIn, unitsIn};
-ghost use Rattle.protocol.specs.Groups.{sameScope, lastOfScope, inGroup};
+ghost use Rattle.protocol.specs.Groups.{sameScope, lastOfScope, countsAs, inGroup};
 use crate::keys;
 use crate::transactions;
 use types::Entry;
@@ -93,6 +94,18 @@ pub fn group_count(letters: &[u8], t: Transaction) -> u32
     found
 }
 
+// Entry i is the last put of its scope, which comes before that of a key. The scopes are compared first: most entries need no more.
+fn counts_before(letters: &[u8], t: Transaction, i: usize, k: Key) -> bool
+    requires { ⌜ (t .count ≤ 8) × (i < t .count) ⌝ }
+    ensures { λ r. ⌜ r ≡ countsAs (unitsIn (now (letters .entry))) (λ (s : List ℕ). less s (scope (unitsIn (now (letters .entry))) k)) (entryAt t i) (after t i) ⌝ }
+{
+    let e = transactions::entry_at(t, i);
+    if !scope_less(letters, e.key, k) {
+        return false;
+    }
+    last_of_scope(letters, t, i)
+}
+
 // The place of a key's group: how many groups come before it.
 pub fn group_place(letters: &[u8], t: Transaction, k: Key) -> u32
     requires { ⌜ t .count ≤ 8 ⌝ }
@@ -101,9 +114,7 @@ pub fn group_place(letters: &[u8], t: Transaction, k: Key) -> u32
     let n = t.count as usize;
     let mut found = 0;
     for i in 0..n {
-        let e = transactions::entry_at(t, i);
-        let counts = last_of_scope(letters, t, i) & scope_less(letters, e.key, k);
-        found = transactions::tally(found, counts);
+        found = transactions::tally(found, counts_before(letters, t, i, k));
     }
     found
 }

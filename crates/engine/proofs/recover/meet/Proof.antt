@@ -1,11 +1,8 @@
--- The definition's parts in turn: the line, its owner's decision, whether it has expired.
+-- The definition's parts in turn: the owner's decision, whether the line has expired.
 use borrow.Author.Needs.{needs}
 use Rattle.model.specs.Visits.{meeting}
 use Rattle.engine.proofs.recover.meet.Statement.{statement}
 use Rattle.engine.proofs.recover.meet.Tie as tie
-
-record-at-requires : tie.Need-record-at-requires
-record-at-requires c κs = search needs
 
 decision-at-requires : tie.Need-decision-at-requires
 decision-at-requires c κs = search needs
@@ -18,13 +15,12 @@ recovery-requires c κs = search needs
 
 returns : tie.Need-returns
 unfolding meeting
-returns c = rw (c .recovery .ensures, c .before .line-expired .ensures, c .before .before .decision-at .ensures, c .before .before .before .record-at .ensures)
+returns c = rw (c .recovery .ensures, c .before .line-expired .ensures, c .before .before .decision-at .ensures)
 
 pub meet-spec : {M : Type 1} → statement M
 meet-spec =
     tie.close
     (tie.spec
-    record-at-requires
     decision-at-requires
     line-expired-requires
     recovery-requires

@@ -6,9 +6,6 @@ use Rattle.engine.specs.Outcomes.{written-nothing}
 use Rattle.engine.proofs.recover.settle.Statement.{statement}
 use Rattle.engine.proofs.recover.settle.Tie as tie
 
-record-at-requires : tie.Need-record-at-requires
-record-at-requires c κs = search needs
-
 enum-told : tie.Need-enum-told
 enum-told c = search needs
 
@@ -44,44 +41,34 @@ same-length c = search needs
 
 returns : tie.Need-returns
 unfolding recoveryWrite
-returns c = rw (c .enum-told .given .1) (written-nothing (c .before .before .before .before .before .before .args .records .now) (c .before .before .before .before .before .before .args .coordinator .now) (c .before .before .before .before .before .before .pre .0 .accepted))
+returns c = rw (c .enum-told .given .1) (written-nothing (c .before .before .before .before .args .records .now) (c .before .before .before .before .args .coordinator .now) (c .before .before .before .before .pre .0 .accepted))
 
 same-length-2 : tie.Need-same-length-2
 same-length-2 c = search needs
 
 returns-2 : tie.Need-returns-2
 unfolding recoveryWrite pending
-returns-2 c = rw (c .before .before .before .before .before .enum-told2 .given .1) (settle-forward (c .before .before .before .before .before .before .before .before .before .before .before .args .records .now) (c .before .before .before .before .before .before .before .before .before .before .before .args .coordinator .now) (c .before .before .before .before .before .before .before .before .before .before .before .args .i) (c .before .before .before .before .before .before .before .before .before .before .before .pre .0) (rw (c .before .before .before .before .before .enum-told2 .given .1) at (c .before .before .before .before .before .before .before .before .before .before .before .pre .1)) (rw (c .before .before .before .rolled-forward .ensures, c .before .before .before .before .before .before .before .record-at .ensures) at (c .before .before .set-record .ensures)))
+returns-2 c = rw (c .before .before .before .before .before .enum-told2 .given .1) (settle-forward (c .before .before .before .before .before .before .before .before .before .args .records .now) (c .before .before .before .before .before .before .before .before .before .args .coordinator .now) (c .before .before .before .before .before .before .before .before .before .args .i) (c .before .before .before .before .before .before .before .before .before .pre .0) (rw (c .before .before .before .before .before .enum-told2 .given .1) at (c .before .before .before .before .before .before .before .before .before .pre .1 .1)) (rw (c .before .before .before .rolled-forward .ensures, c .before .before .before .before .before .before .before .before .before .pre .1 .0) at (c .before .before .set-record .ensures)))
 
 same-length-3 : tie.Need-same-length-3
 same-length-3 c = search needs
 
 returns-3 : tie.Need-returns-3
 unfolding recoveryWrite pending
-returns-3 c = rw (c .before .before .before .before .before .enum-told3 .given .1) (settle-back (c .before .before .before .before .before .before .before .before .before .before .before .args .records .now) (c .before .before .before .before .before .before .before .before .before .before .before .args .coordinator .now) (c .before .before .before .before .before .before .before .before .before .before .before .args .i) (c .before .before .before .before .before .before .before .before .before .before .before .pre .0) (rw (c .before .before .before .before .before .enum-told3 .given .1) at (c .before .before .before .before .before .before .before .before .before .before .before .pre .1)) (rw (c .before .before .before .rolled-back .ensures, c .before .before .before .before .before .before .before .record-at .ensures) at (c .before .before .set-record2 .ensures)))
-
-same-length-4 : tie.Need-same-length-4
-same-length-4 c = search needs
-
-same-length-5 : tie.Need-same-length-5
-same-length-5 c = search needs
+returns-3 c = rw (c .before .before .before .before .before .enum-told3 .given .1) (settle-back (c .before .before .before .before .before .before .before .before .before .args .records .now) (c .before .before .before .before .before .before .before .before .before .args .coordinator .now) (c .before .before .before .before .before .before .before .before .before .args .i) (c .before .before .before .before .before .before .before .before .before .pre .0) (rw (c .before .before .before .before .before .enum-told3 .given .1) at (c .before .before .before .before .before .before .before .before .before .pre .1 .1)) (rw (c .before .before .before .rolled-back .ensures, c .before .before .before .before .before .before .before .before .before .pre .1 .0) at (c .before .before .set-record2 .ensures)))
 
 returns-4 : tie.Need-returns-4
 unfolding recoveryWrite pending
-returns-4 c = rw (c .before .before .before .before .enum-told4 .given .1) (settle-again (c .before .before .before .before .before .before .before .before .before .before .args .records .now) (c .before .before .before .before .before .before .before .before .before .before .args .coordinator .now) (c .before .before .before .before .before .before .before .before .before .before .args .i) (c .before .before .before .before .before .before .before .before .before .before .pre .0) (rw (c .before .before .before .before .enum-told4 .given .1) at (c .before .before .before .before .before .before .before .before .before .before .pre .1)) (rw (c .before .before .before .before .before .before .record-at .ensures) at (c .before .before .set-decision .ensures)))
-
-same-length-6 : tie.Need-same-length-6
-same-length-6 c = search needs
+returns-4 c = rw (c .before .before .before .before .enum-told4 .given .1) (settle-again (c .before .before .before .before .before .before .before .before .args .records .now) (c .before .before .before .before .before .before .before .before .args .coordinator .now) (c .before .before .before .before .before .before .before .before .args .i) (c .before .before .before .before .before .before .before .before .pre .0) (rw (c .before .before .before .before .enum-told4 .given .1) at (c .before .before .before .before .before .before .before .before .pre .1 .1)) (rw (c .before .before .before .before .before .before .before .before .pre .1 .0) at (c .before .before .set-decision .ensures)))
 
 returns-5 : tie.Need-returns-5
 unfolding recoveryWrite
-returns-5 c = rw (c .enum-told5 .given .1) (written-nothing (c .before .before .before .before .before .before .args .records .now) (c .before .before .before .before .before .before .args .coordinator .now) (c .before .before .before .before .before .before .pre .0 .accepted))
+returns-5 c = rw (c .enum-told5 .given .1) (written-nothing (c .before .before .before .before .args .records .now) (c .before .before .before .before .args .coordinator .now) (c .before .before .before .before .pre .0 .accepted))
 
 pub settle-spec : {M : Type 1} → statement M
 settle-spec =
     tie.close
     (tie.spec
-    record-at-requires
     enum-told
     enum-told-2
     rolled-forward-requires
@@ -92,14 +79,11 @@ settle-spec =
     enum-told-4
     set-decision-requires
     enum-told-5
-    same-length
     returns
-    same-length-2
+    same-length
     returns-2
-    same-length-3
+    same-length-2
     returns-3
-    same-length-4
-    same-length-5
+    same-length-3
     returns-4
-    same-length-6
     returns-5)

@@ -24,14 +24,8 @@ cast-n c = search needs
 loop-holds : tie.Need-loop-holds Inv-loop μ-loop
 loop-holds c = tally-first _ _ (c .before .before .good .1 .0) (c .before .before .pre)
 
-entry-at-requires : tie.Need-entry-at-requires Inv-loop μ-loop
-entry-at-requires c κs = search needs
-
-last-of-scope-requires : tie.Need-last-of-scope-requires Inv-loop μ-loop
-last-of-scope-requires c κs = search needs
-
-scope-less-requires : tie.Need-scope-less-requires Inv-loop μ-loop
-scope-less-requires c κs = search needs
+counts-before-requires : tie.Need-counts-before-requires Inv-loop μ-loop
+counts-before-requires c κs = search needs
 
 tally-requires : tie.Need-tally-requires Inv-loop μ-loop
 tally-requires c κs = search needs
@@ -43,7 +37,7 @@ loop-less : tie.Need-loop-less Inv-loop μ-loop
 loop-less c = search needs
 
 loop-again : tie.Need-loop-again Inv-loop μ-loop
-loop-again c = tally-next _ _ _ _ _ _ (c .before .before .before .before .before .loop .inv) (c .before .before .before .before .loop-test .taken) (rw (c .before .before .last-of-scope .ensures, c .before .scope-less .ensures, c .before .before .before .entry-at .ensures) at (c .tally .ensures))
+loop-again c = tally-next _ _ _ _ _ _ (c .before .before .before .loop .inv) (c .before .before .loop-test .taken) (rw (c .before .counts-before .ensures) at (c .tally .ensures))
 
 returns : tie.Need-returns Inv-loop μ-loop
 unfolding groupPlace puts
@@ -57,9 +51,7 @@ group-place-spec =
     μ-loop
     cast-n
     loop-holds
-    entry-at-requires
-    last-of-scope-requires
-    scope-less-requires
+    counts-before-requires
     tally-requires
     add-i
     loop-less
