@@ -2,14 +2,14 @@
 
 use super::arguments::{any_key, columns};
 use super::random::Random;
-use crate::plain::record::Record;
+use crate::plain::record::{Image, Record, MOST_VERSION};
 use crate::plain::transaction::*;
 
 /// Another transaction with some fields changed, or made to fit a phase that it may never have reached.
 pub fn forged(random: &mut Random, mut base: Transaction, records: &[Record]) -> Transaction {
-    match random.below(4) {
+    match random.below(6) {
         0 => unreached(random, base),
-        1 => {
+        1..=3 => {
             fill(random, &mut base, records);
             unreached(random, base)
         }
@@ -42,16 +42,30 @@ fn unreached(random: &mut Random, base: Transaction) -> Transaction {
     }
 }
 
-/// Entries for as many lines of the sheet as there is room for, as if they had just been read.
+/// Entries for some lines of the sheet, as if they had just been read, that keep the rules.
 fn fill(random: &mut Random, transaction: &mut Transaction, records: &[Record]) {
     let first = random.below(records.len());
-    let lines = records.iter().cycle().skip(first).take(records.len());
-    transaction.count = 0;
+    let count = records.len().min(1 + random.below(MOST_ENTRIES));
+    let lines = records.iter().cycle().skip(first).take(count);
     for (entry, line) in transaction.entries.iter_mut().zip(lines) {
         *entry = Entry::read(line.key, line.image);
-        entry.wrote = random.below(2) as u32;
-        [entry.put_1, entry.put_2] = columns(random);
-        transaction.count += 1;
+        if random.once_in(4) {
+            date_back(random, &mut entry.seen);
+        }
+        if entry.seen.version < MOST_VERSION {
+            entry.wrote = random.below(2) as u32;
+        }
+        entry.put_1 = random.figure(0, 99_999_999);
+        entry.put_2 = random.figure(0, 99_999_999);
+    }
+    transaction.count = count as u32;
+}
+
+/// As if the line had been written since: one part of the condition fails and no other does.
+fn date_back(random: &mut Random, seen: &mut Image) {
+    match random.below(2) {
+        0 if seen.version > 1 => seen.version -= 1,
+        _ => seen.tx_id = seen.tx_id.saturating_sub(1),
     }
 }
 

@@ -75,7 +75,7 @@ fn panel(name: &str, times: &[Times]) -> String {
     );
     svg += &text(LEFT - 8.0, TOP - 16.0, "end", "µs");
     // The lines rise from the left, so that this corner is free.
-    let ratio = format!("{ratio:.2} times at 500");
+    let ratio = format!("{ratio:.2} times the baseline at 500");
     svg += &text(LEFT + 8.0, TOP + 18.0, "start", &ratio);
     svg += &scale.line(times.iter().map(|t| t.baseline), BASELINE);
     svg + &scale.line(times.iter().map(|t| t.engine), ENGINE)

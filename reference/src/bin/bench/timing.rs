@@ -18,7 +18,8 @@ pub struct Cell {
     baseline: Vec<f64>,
 }
 
-/// Nanoseconds of one call by each side, and the middle of their ratios.
+/// Nanoseconds of one call by each side, and the middle of their ratios. A tenth of the runs were faster than the time
+/// told: the rest shows what else the machine did.
 #[derive(Clone, Copy)]
 pub struct Times {
     pub engine: f64,
@@ -70,9 +71,9 @@ impl Cell {
     pub fn times(&self) -> Times {
         let pairs = self.engine.iter().zip(&self.baseline);
         Times {
-            engine: median(self.engine.iter().copied()),
-            baseline: median(self.baseline.iter().copied()),
-            ratio: median(pairs.map(|(engine, baseline)| engine / baseline)),
+            engine: at_part(10, self.engine.iter().copied()),
+            baseline: at_part(10, self.baseline.iter().copied()),
+            ratio: at_part(2, pairs.map(|(engine, baseline)| engine / baseline)),
         }
     }
 }
@@ -84,8 +85,9 @@ fn restore(copy: &mut Lent, first: &Lent) {
     copy.list.copy_from_slice(&first.list);
 }
 
-fn median(values: impl Iterator<Item = f64>) -> f64 {
+/// The value that one part of so many lies below.
+fn at_part(parts: usize, values: impl Iterator<Item = f64>) -> f64 {
     let mut values: Vec<f64> = values.collect();
     values.sort_by(f64::total_cmp);
-    values[values.len() / 2]
+    values[values.len() / parts]
 }

@@ -41,13 +41,15 @@ fn rounds(tally: &mut Tally, calls: u64, first: u64, time: Duration) -> Result<u
 }
 
 fn report(tally: &Tally, first: u64, end: u64) {
+    let [visited, refused_1, refused_2] = tally.visited;
     println!("{}\n", tally.seen);
+    println!("visiting program: {visited} visited, {refused_1} refused 1, {refused_2} refused 2");
     println!(
         "seeds {first} to {}: {} calls, of these {} for C and {} of the visiting program; {} histories, {} bad inputs, {} other lines; 0 differences",
         end - 1,
         tally.calls(),
         tally.exported_calls,
-        tally.visitor_inputs,
+        tally.visitor_inputs(),
         tally.histories,
         tally.bad_inputs,
         tally.seen.other_lines,
@@ -69,7 +71,7 @@ fn main() -> ExitCode {
             return ExitCode::FAILURE;
         }
     }
-    let faults = tally.seen.faults();
+    let faults = tally.faults();
     if calls >= ENOUGH && !faults.is_empty() {
         println!("not seen, or seen and not of the tables: {faults:?}");
         return ExitCode::FAILURE;

@@ -18,14 +18,26 @@ pub struct Tally {
     pub seen: Seen,
     pub histories: u64,
     pub bad_inputs: u64,
-    pub visitor_inputs: u64,
+    pub visited: visits::Answers,
     pub exported_calls: u64,
 }
 
 impl Tally {
     /// Calls of every kind.
     pub fn calls(&self) -> u64 {
-        self.seen.calls() + self.visitor_inputs + self.exported_calls
+        self.seen.calls() + self.visitor_inputs() + self.exported_calls
+    }
+
+    pub fn visitor_inputs(&self) -> u64 {
+        self.visited.iter().sum()
+    }
+
+    /// What should have been seen and wasn't, or was seen and shouldn't have been.
+    pub fn faults(&self) -> Vec<String> {
+        let mut faults = self.seen.faults();
+        let unseen = (0..self.visited.len()).filter(|answer| self.visited[*answer] == 0);
+        faults.extend(unseen.map(|answer| format!("visiting program: answer {answer}")));
+        faults
     }
 
     /// One round, or the difference that it found.
@@ -91,8 +103,7 @@ impl Tally {
     }
 
     fn visits(&mut self, random: &mut Random, seed: u64) -> Result<(), String> {
-        self.visitor_inputs += visits::compare(random, seed)?;
-        Ok(())
+        visits::compare(random, seed, &mut self.visited)
     }
 }
 

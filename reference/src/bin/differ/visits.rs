@@ -13,15 +13,27 @@ use reference::plain::{coordinator, record};
 /// Bytes of the first line, LF counted.
 const FIRST_LINE: usize = 20;
 
-/// Compares the visiting program on some inputs; answers how many.
-pub fn compare(random: &mut Random, seed: u64) -> Result<u64, String> {
+/// How many inputs were visited, refused with 1 and refused with 2.
+pub type Answers = [u64; 3];
+
+/// Compares the visiting program on some inputs.
+pub fn compare(random: &mut Random, seed: u64, answers: &mut Answers) -> Result<(), String> {
     let program = programs::path("visitor");
-    let inputs = 10;
-    for _ in 0..inputs {
+    for _ in 0..10 {
         let input = input(random);
-        compare_whole(&program, seed, &input, &output(&input))?;
+        let expected = output(&input);
+        compare_whole(&program, seed, &input, &expected)?;
+        answers[answer(&expected)] += 1;
     }
-    Ok(inputs)
+    Ok(())
+}
+
+fn answer(output: &[u8]) -> usize {
+    match output {
+        b"REFUSED  1\n" => 1,
+        b"REFUSED  2\n" => 2,
+        _ => 0,
+    }
 }
 
 fn input(random: &mut Random) -> Vec<u8> {
