@@ -106,3 +106,7 @@ module _ (kind : Kind) (w i : ℕ) (s : List ℕ) (whole : Scan) (h : wordFrom w
   pub word-none : i ≡ length (words kind) → Wrong ≡ whole
   unfolding wordFrom
   word-none e = let d : drop i (words kind) ≡ [] = rw e (drop-length (words kind)) in rw d at h
+
+-- a number from n on that is not n is above it
+pub above : (n i : ℕ) → n ≤ i → (i ≡ n → ⊥) → suc n ≤ i
+above n i l d = omega (arith, d)

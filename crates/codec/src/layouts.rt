@@ -1,7 +1,7 @@
 // The layouts as code: the columns of each kind of line, and the words of each kind.
 ghost use mathlib.Core.Path.{_≡_};
 ghost use lib.ListN.{getD, length};
-ghost use Rattle.model.specs.Layouts.{layout, words, wordAt, noColumn};
+ghost use Rattle.model.specs.Layouts.{recordLayout, keyLayout, headLayout, lineLayout, layout, words, wordAt, noColumn};
 use types::Column;
 use types::Kind;
 use types::Layout;
@@ -105,68 +105,79 @@ const DECISION: Column = Column {
     high: 2,
 };
 
-const RECORD_LINE: [Column; 15] = [
-    STORAGE,
-    NAMESPACE,
-    NAMESPACE,
-    PARTITION,
-    PARTITION,
-    STATE,
-    VERSION,
-    TXID,
-    AMOUNT,
-    AMOUNT,
-    VERSION,
-    TXID,
-    AMOUNT,
-    AMOUNT,
-    CLOCK,
-];
+// Column i of a record line. A match, and no table: a table would be laid out anew for each column that is asked for.
+fn record_column(i: usize) -> Column
+    ensures { λ r. ⌜ r ≡ getD recordLayout i noColumn ⌝ }
+{
+    match i {
+        0 => STORAGE,
+        1 => NAMESPACE,
+        2 => NAMESPACE,
+        3 => PARTITION,
+        4 => PARTITION,
+        5 => STATE,
+        6 => VERSION,
+        7 => TXID,
+        8 => AMOUNT,
+        9 => AMOUNT,
+        10 => VERSION,
+        11 => TXID,
+        12 => AMOUNT,
+        13 => AMOUNT,
+        14 => CLOCK,
+        _ => NO_COLUMN,
+    }
+}
 
-const COORDINATOR_HEAD: [Column; 10] = [
-    ISSUED,
-    FIRST_UNIT,
-    UNIT,
-    UNIT,
-    UNIT,
-    UNIT,
-    UNIT,
-    UNIT,
-    UNIT,
-    UNIT,
-];
+// Column i of a key line, the first five of a record line.
+fn key_column(i: usize) -> Column
+    ensures { λ r. ⌜ r ≡ getD keyLayout i noColumn ⌝ }
+{
+    if i < 5 {
+        return record_column(i);
+    }
+    NO_COLUMN
+}
 
-const COORDINATOR_LINE: [Column; 2] = [NUMBER, DECISION];
+// Column i of the coordinator's head: the first unit letter has the space before it.
+fn head_column(i: usize) -> Column
+    ensures { λ r. ⌜ r ≡ getD headLayout i noColumn ⌝ }
+{
+    match i {
+        0 => ISSUED,
+        1 => FIRST_UNIT,
+        2 => UNIT,
+        3 => UNIT,
+        4 => UNIT,
+        5 => UNIT,
+        6 => UNIT,
+        7 => UNIT,
+        8 => UNIT,
+        9 => UNIT,
+        _ => NO_COLUMN,
+    }
+}
+
+// Column i of a coordinator line.
+fn line_column(i: usize) -> Column
+    ensures { λ r. ⌜ r ≡ getD lineLayout i noColumn ⌝ }
+{
+    match i {
+        0 => NUMBER,
+        1 => DECISION,
+        _ => NO_COLUMN,
+    }
+}
 
 // Column i of a kind of line.
 pub fn column(l: Layout, i: usize) -> Column
     ensures { λ r. ⌜ r ≡ getD (layout l) i noColumn ⌝ }
 {
     match l {
-        Layout::RecordLine => {
-            if i < 15 {
-                return RECORD_LINE[i];
-            }
-            NO_COLUMN
-        }
-        Layout::KeyLine => {
-            if i < 5 {
-                return RECORD_LINE[i];
-            }
-            NO_COLUMN
-        }
-        Layout::CoordinatorHead => {
-            if i < 10 {
-                return COORDINATOR_HEAD[i];
-            }
-            NO_COLUMN
-        }
-        Layout::CoordinatorLine => {
-            if i < 2 {
-                return COORDINATOR_LINE[i];
-            }
-            NO_COLUMN
-        }
+        Layout::RecordLine => record_column(i),
+        Layout::KeyLine => key_column(i),
+        Layout::CoordinatorHead => head_column(i),
+        Layout::CoordinatorLine => line_column(i),
     }
 }
 

@@ -66,16 +66,23 @@ field-of-text t f = simp zero-add
 parts-compared : (s text : List ℕ) (i f : ℕ) (b : Bool) → f < 5 → eqList (keyField f (i * 98) s) (keyField f 0 text) ≡ b → eqList (take (edge (f + 1) - edge f) (drop (edge f) (lineBytesAt s i))) (take (edge (f + 1) - edge f) (drop (edge f) text)) ≡ b
 parts-compared s text i f b l e = sym (ap₂ eqList (field-of-line s i f l) (field-of-text text f)) ∙ e
 
--- Two texts that agree up to o agree up to p if the parts between do, and differ in their first n if the parts differ.
-module _ (line text : List ℕ) (o p : ℕ) (rising : o ≤ p) where
-  agree-more : take o line ≡ take o text → eqList (take (p - o) (drop o line)) (take (p - o) (drop o text)) ≡ true → take p line ≡ take p text
-  agree-more h e =
-      let n : o + (p - o) ≡ p = omega arith in
-      let q = eqList-true (take (p - o) (drop o line)) (take (p - o) (drop o text)) e in
-      rw (← n) (take-add o (p - o) line ∙ (ap₂ _++_ h q ∙ sym (take-add o (p - o) text)))
+-- Two texts that agree from p up to n agree from o if the parts between do, and differ in their first n if the parts differ.
+module _ (line text : List ℕ) (o p n : ℕ) (rising : o ≤ p) (within : p ≤ n) where
+  from-earlier : (t : List ℕ) → take (n - o) (drop o t) ≡ take (p - o) (drop o t) ++ take (n - p) (drop p t)
+  from-earlier t =
+      let l : p - o + (n - p) ≡ n - o = omega arith in
+      let m : o + (p - o) ≡ p = omega arith in
+      ap (λ (k : ℕ). take k (drop o t)) (sym l)
+      ∙ (take-add (p - o) (n - p) (drop o t)
+      ∙ ap (λ (u : List ℕ). take (p - o) (drop o t) ++ take (n - p) u) (drop-drop (p - o) o t ∙ ap (λ (k : ℕ). drop k t) m))
 
-  agree-not : (n : ℕ) → p ≤ n → eqList (take (p - o) (drop o line)) (take (p - o) (drop o text)) ≡ false → take n line ≡ take n text → ⊥
-  agree-not n l e h =
+  agree-more : take (n - p) (drop p line) ≡ take (n - p) (drop p text) → eqList (take (p - o) (drop o line)) (take (p - o) (drop o text)) ≡ true → take (n - o) (drop o line) ≡ take (n - o) (drop o text)
+  agree-more h e =
+      let q = eqList-true (take (p - o) (drop o line)) (take (p - o) (drop o text)) e in
+      from-earlier line ∙ (ap₂ _++_ q h ∙ sym (from-earlier text))
+
+  agree-not : eqList (take (p - o) (drop o line)) (take (p - o) (drop o text)) ≡ false → take n line ≡ take n text → ⊥
+  agree-not e h =
       let a = take-drop-take (p - o) o n line (omega arith) in
       let b = take-drop-take (p - o) o n text (omega arith) in
       let q : take (p - o) (drop o line) ≡ take (p - o) (drop o text) =
@@ -92,22 +99,23 @@ pub record Passed (s text : List ℕ) (i : ℕ) : Type 0 where
   pub place : i ≤ length s / 98
   pub rest : foundLine i text (drop i (linesOf 98 s)) ≡ foundLine 0 text (linesOf 98 s)
 
--- How far line i agrees with the key's line: up to field f.
+-- How far line i agrees with the key's line: from field f on.
 pub record Agreed (s text : List ℕ) (i f : ℕ) : Type 0 where
   pub place : f ≤ 5
-  pub same : take (edge f) (lineBytesAt s i) ≡ take (edge f) text
+  pub same : take (20 - edge f) (drop (edge f) (lineBytesAt s i)) ≡ take (20 - edge f) (drop (edge f) text)
 
 pub pass-first : (s text : List ℕ) → Passed s text 0
 pass-first s text = record { place = omega arith; rest = refl }
 
-pub agree-first : (s text : List ℕ) (i : ℕ) → Agreed s text i 0
+pub agree-first : (s text : List ℕ) (i : ℕ) → Agreed s text i 5
 unfolding edge
 agree-first s text i = record { place = omega arith; same = refl }
 
-pub agree-next : (s text : List ℕ) (i f : ℕ) → f < 5 → eqList (keyField f (i * 98) s) (keyField f 0 text) ≡ true → Agreed s text i f → Agreed s text i (f + 1)
-agree-next s text i f l e a =
+pub agree-next : (s text : List ℕ) (i g f : ℕ) → g ≡ f + 1 → f < 5 → eqList (keyField f (i * 98) s) (keyField f 0 text) ≡ true → Agreed s text i g → Agreed s text i f
+agree-next s text i g f n l e a =
     let k = edges f l in
-    record { place = omega arith; same = agree-more (lineBytesAt s i) text (edge f) (edge (f + 1)) (k .0) (a .same) (parts-compared s text i f true l e) }
+    let h : take (20 - edge (f + 1)) (drop (edge (f + 1)) (lineBytesAt s i)) ≡ take (20 - edge (f + 1)) (drop (edge (f + 1)) text) = rw n at (a .same) in
+    record { place = omega arith; same = agree-more (lineBytesAt s i) text (edge f) (edge (f + 1)) 20 (k .0) (k .1) h (parts-compared s text i f true l e) }
 
 -- The line at place i, by whether it begins as the text does.
 module _ (s text : List ℕ) (i : ℕ) (here : i < length s / 98) (p : Passed s text i) where
@@ -120,10 +128,10 @@ module _ (s text : List ℕ) (i : ℕ) (here : i < length s / 98) (p : Passed s 
       ∙ ap₂ _∷_ (getD-pieces 98 i (length s / 98) s here) (ap (λ (k : ℕ). drop k (linesOf 98 s)) (sym (add-one i))) in
       sym (rw (d, add-one)) ∙ p .rest
 
-  pub pass-met : (f : ℕ) → 5 ≤ f → Agreed s text i f → At i ≡ foundLine 0 text (linesOf 98 s)
+  pub pass-met : (f : ℕ) → f ≤ 0 → Agreed s text i f → At i ≡ foundLine 0 text (linesOf 98 s)
   unfolding edge
   pass-met f l a =
-      let n : f ≡ 5 = let m = a .place in omega arith in
+      let n : f ≡ 0 = omega arith in
       let k : take 20 (lineBytesAt s i) ≡ take 20 text = rw n at (a .same) in
       let m : eqList (take 20 (lineBytesAt s i)) (take 20 text) ≡ true = rw k (eqList-refl (take 20 text)) in
       rw m at from-here
@@ -132,7 +140,7 @@ module _ (s text : List ℕ) (i : ℕ) (here : i < length s / 98) (p : Passed s 
   pass-next f l d =
       let k = edges f l in
       let x : take 20 (lineBytesAt s i) ≡ take 20 text → ⊥ =
-      agree-not (lineBytesAt s i) text (edge f) (edge (f + 1)) (k .0) 20 (k .1) (parts-compared s text i f false l d) in
+      agree-not (lineBytesAt s i) text (edge f) (edge (f + 1)) 20 (k .0) (k .1) (parts-compared s text i f false l d) in
       let m : eqList (take 20 (lineBytesAt s i)) (take 20 text) ≡ false = ne-eqList (take 20 (lineBytesAt s i)) (take 20 text) x in
       record { place = omega arith; rest = rw m at from-here }
 

@@ -54,7 +54,7 @@ fn same_field(records: &[u8], at: usize, text: &[u8], f: usize) -> bool
     decimal::same(&records[a..e], &text[from..to])
 }
 
-// The place of the first line that begins as a key line does.
+// The place of the first line that begins as a key line does. Fields are compared from the last, in which neighbouring lines differ most often.
 fn find_line(records: &[u8], text: &[u8]) -> Found
     requires { ⌜ 21 ≤ length (now text) ⌝ }
     ensures { λ r. ⌜ r ≡ foundLine 0 (now (text .entry)) (linesOf 98 (now (records .entry))) ⌝ }
@@ -63,13 +63,13 @@ fn find_line(records: &[u8], text: &[u8]) -> Found
     let mut i = 0;
     'lines: while i < n {
         let at = i * 98;
-        let mut f = 0;
-        while f < 5 {
+        let mut f = 5;
+        while 0 < f {
+            f -= 1;
             if !same_field(records, at, text, f) {
                 i += 1;
                 continue 'lines;
             }
-            f += 1;
         }
         break 'lines;
     }

@@ -1,4 +1,4 @@
--- No line before i begins so; line i agrees up to field f. A field that differs passes the line, and five that agree are a match.
+-- No line before i begins so; line i agrees from field f on. A field that differs passes the line, and five that agree are a match.
 use mathlib.Core.Logic.{⊎-elim}
 use Prim.Native.Nat.{_-_, _/_, _≤_, _<_}
 use mathlib.Core.Path.{_≡_, refl, sym, _∙_}
@@ -14,7 +14,7 @@ abbrev Inv-loop : tie.InvT-loop
 Inv-loop records text n i₀ at f₀ i f = (i ≡ i₀) × Agreed records text i₀ f
 
 abbrev μ-loop : tie.MeasureT-loop
-μ-loop records text n i₀ at f₀ i f = 5 - f
+μ-loop records text n i₀ at f₀ i f = f
 
 abbrev Inv-lines : tie.InvT-lines
 Inv-lines records text n i₀ i = (n ≡ length records / 98) × Passed records text i
@@ -31,8 +31,11 @@ mul-at c = search needs
 loop-holds : tie.Need-loop-holds Inv-loop μ-loop Inv-lines μ-lines
 loop-holds c = (refl, agree-first _ _ _)
 
+sub-f : tie.Need-sub-f Inv-loop μ-loop Inv-lines μ-lines
+sub-f c = search needs
+
 same-field-requires : tie.Need-same-field-requires Inv-loop μ-loop Inv-lines μ-lines
-same-field-requires c κs = (omega arith, (omega arith, c .before .before .before .before .before .before .pre))
+same-field-requires c κs = (omega (arith, c .before .loop .inv .1 .place), (omega arith, c .before .before .before .before .before .before .pre))
 
 add-i : tie.Need-add-i Inv-loop μ-loop Inv-lines μ-lines
 add-i c = search needs
@@ -41,16 +44,13 @@ lines-less : tie.Need-lines-less Inv-loop μ-loop Inv-lines μ-lines
 lines-less c = search needs
 
 lines-again : tie.Need-lines-again Inv-loop μ-loop Inv-lines μ-lines
-lines-again c = (c .before .before .before .before .before .lines .inv .0, rw (c .before .before .before .loop .inv .0) (pass-next _ _ _ (omega arith) (c .before .before .before .before .before .lines .inv .1) (c .before .before .before .loop .f) (omega arith) (sym (c .before .same-field .ensures) ∙ not-true _ (c .if1 .taken))))
-
-add-f : tie.Need-add-f Inv-loop μ-loop Inv-lines μ-lines
-add-f c = search needs
+lines-again c = (c .before .before .before .before .before .lines .inv .0, rw (c .before .before .before .loop .inv .0) (pass-next _ _ _ (omega arith) (c .before .before .before .before .before .lines .inv .1) (c .before .before .before .loop .f - 1) (omega (arith, c .before .before .before .loop .inv .1 .place)) (sym (c .before .same-field .ensures) ∙ not-true _ (c .if1 .taken))))
 
 loop-less : tie.Need-loop-less Inv-loop μ-loop Inv-lines μ-lines
 loop-less c = search needs
 
 loop-again : tie.Need-loop-again Inv-loop μ-loop Inv-lines μ-lines
-loop-again c = (c .before .before .before .loop .inv .0, agree-next _ _ _ (c .before .before .before .loop .f) (omega arith) (sym (c .before .same-field .ensures) ∙ not-false _ (c .if1 .left)) (c .before .before .before .loop .inv .1))
+loop-again c = (c .before .before .before .loop .inv .0, agree-next _ _ _ (c .before .before .before .loop .f) (c .before .before .before .loop .f - 1) (omega (arith, c .before .before .loop-test .taken)) (omega (arith, c .before .before .before .loop .inv .1 .place)) (sym (c .before .same-field .ensures) ∙ not-false _ (c .if1 .left)) (c .before .before .before .loop .inv .1))
 
 returns : tie.Need-returns Inv-loop μ-loop Inv-lines μ-lines
 returns c =
@@ -80,11 +80,11 @@ find-line-spec =
     lines-holds
     mul-at
     loop-holds
+    sub-f
     same-field-requires
     add-i
     lines-less
     lines-again
-    add-f
     loop-less
     loop-again
     returns
