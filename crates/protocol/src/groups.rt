@@ -56,16 +56,16 @@ pub fn scope_less(letters: &[u8], a: Key, b: Key) -> bool
     keys::fields_less(scope_fields(letters, a.storage), a, b)
 }
 
-// A put after entry i has its scope.
+// A put after entry i has its scope. Entries are read in place: handing the transaction on for each would copy it whole.
 fn scope_recurs(letters: &[u8], t: Transaction, i: usize) -> bool
     requires { ⌜ (t .count ≤ 8) × (i < t .count) ⌝ }
     ensures { λ r. ⌜ r ≡ any (sameScope (unitsIn (now (letters .entry))) (entryAt t i)) (after t i) ⌝ }
 {
     let n = t.count as usize;
-    let e = transactions::entry_at(t, i);
+    let e = t.entries[i];
     let first = i + 1;
     for j in first..n {
-        let f = transactions::entry_at(t, j);
+        let f = t.entries[j];
         if (f.wrote == 1) & same_scope(letters, e.key, f.key) {
             return true;
         }
@@ -78,7 +78,7 @@ fn last_of_scope(letters: &[u8], t: Transaction, i: usize) -> bool
     requires { ⌜ (t .count ≤ 8) × (i < t .count) ⌝ }
     ensures { λ r. ⌜ r ≡ lastOfScope (unitsIn (now (letters .entry))) (entryAt t i) (after t i) ⌝ }
 {
-    let e = transactions::entry_at(t, i);
+    let e = t.entries[i];
     (e.wrote == 1) & !scope_recurs(letters, t, i)
 }
 

@@ -10,31 +10,37 @@ use Rattle.protocol.proofs.groups.scope_recurs.Statement.{statement}
 use Rattle.protocol.proofs.groups.scope_recurs.Tie as tie
 
 abbrev Inv-loop : tie.InvT-loop
-Inv-loop letters t i n e first j₀ j = PassedTo t (any (sameScope (unitsIn letters) (entryAt t i))) (any (sameScope (unitsIn letters) (entryAt t i)) (after t i)) j
+Inv-loop letters i t n e first j₀ j = PassedTo t (any (sameScope (unitsIn letters) (entryAt t i))) (any (sameScope (unitsIn letters) (entryAt t i)) (after t i)) j
 
 abbrev μ-loop : tie.MeasureT-loop
-μ-loop letters t i n e first j₀ j = n - j
+μ-loop letters i t n e first j₀ j = n - j
 
 cast-n : tie.Need-cast-n Inv-loop μ-loop
 cast-n c = search needs
 
-entry-at-requires : tie.Need-entry-at-requires Inv-loop μ-loop
-entry-at-requires c κs = search needs
+mul-e : tie.Need-mul-e Inv-loop μ-loop
+mul-e c = search needs
+
+element-copy-out-e : tie.Need-element-copy-out-e Inv-loop μ-loop
+element-copy-out-e c = search needs
 
 add-first : tie.Need-add-first Inv-loop μ-loop
 add-first c = search needs
 
 loop-holds : tie.Need-loop-holds Inv-loop μ-loop
-loop-holds c = pass-from _ _ _ (c .before .before .before .good .1 .0) (c .before .before .before .pre .0) (omega arith)
+loop-holds c = pass-from _ _ _ (c .before .before .good .1 .0) (c .before .before .pre .0) (omega arith)
 
-entry-at-requires-2 : tie.Need-entry-at-requires-2 Inv-loop μ-loop
-entry-at-requires-2 c κs = search needs
+mul-f : tie.Need-mul-f Inv-loop μ-loop
+mul-f c = search needs
+
+element-copy-out-f : tie.Need-element-copy-out-f Inv-loop μ-loop
+element-copy-out-f c = search needs
 
 same-scope-requires : tie.Need-same-scope-requires Inv-loop μ-loop
 same-scope-requires c κs = search needs
 
 returns : tie.Need-returns Inv-loop μ-loop
-returns c = any-met _ _ _ _ (c .before .before .before .before .before .loop .inv) (c .before .before .before .before .loop-test .taken) (rw (c .before .same-scope .ensures, c .before .before .before .before .before .before .entry-at .ensures, c .before .before .before .entry-at2 .ensures) at (c .if1 .taken))
+returns c = any-met _ _ _ _ (c .before .before .before .before .before .loop .inv) (c .before .before .before .before .loop-test .taken) (rw (c .before .same-scope .ensures) at (c .if1 .taken))
 
 add-j : tie.Need-add-j Inv-loop μ-loop
 add-j c = search needs
@@ -43,7 +49,7 @@ loop-less : tie.Need-loop-less Inv-loop μ-loop
 loop-less c = search needs
 
 loop-again : tie.Need-loop-again Inv-loop μ-loop
-loop-again c = any-next _ _ _ _ (c .before .before .before .before .before .loop .inv) (c .before .before .before .before .loop-test .taken) (rw (c .before .same-scope .ensures, c .before .before .before .before .before .before .entry-at .ensures, c .before .before .before .entry-at2 .ensures) at (c .if1 .left))
+loop-again c = any-next _ _ _ _ (c .before .before .before .before .before .loop .inv) (c .before .before .before .before .loop-test .taken) (rw (c .before .same-scope .ensures) at (c .if1 .left))
 
 returns-2 : tie.Need-returns-2 Inv-loop μ-loop
 returns-2 c = any-last _ _ _ _ (c .before .loop .inv) (c .loop-test .left)
@@ -55,10 +61,12 @@ scope-recurs-spec =
     Inv-loop
     μ-loop
     cast-n
-    entry-at-requires
+    mul-e
+    element-copy-out-e
     add-first
     loop-holds
-    entry-at-requires-2
+    mul-f
+    element-copy-out-f
     same-scope-requires
     returns
     add-j
