@@ -1,13 +1,16 @@
 # The commands of the README. `make test` is the whole gate.
-.PHONY: test wrong programs outside histories visits visit differ soak bench archive client client-test install
+.PHONY: test wrong reference-tests programs outside histories visits visit differ soak bench archive client client-test install
 
+# `rt ci` proves everything from nothing, after removing what was built: so the programs are built once before it, for what is held from outside.
 test:
 	rt fmt --check
-	cd reference && cargo test --release --quiet
-	rt check
+	$(MAKE) --no-print-directory -j2 -O programs wrong reference-tests
 	$(MAKE) --no-print-directory outside
-	python3 tests/wrong_definitions/run.py
 	rt ci
+
+# the separate implementation's own tests
+reference-tests:
+	cd reference && cargo test --release --quiet
 
 # wrong definitions that the theorems must refuse
 wrong:
