@@ -1,11 +1,12 @@
 -- Reading with a limit: the scan stops as soon as the figure is above the highest that is wanted, so that it never grows past its type. It
 -- finds the same figure, since a figure only grows with each digit more.
-use Prim.Native.Nat.{ℕ, _+_, _-_, _*_, _<_, _≤_}
+use Prim.Native.Nat.{ℕ, suc, _+_, _-_, _*_, _<_, _≤_}
 use native.Mathlib.Omega.{arith}
 use mathlib.Core.Path.{_≡_, refl, _∙_}
-use mathlib.Core.Bool.{_&&_, cond}
+use mathlib.Core.Bool.{Bool, true, false, _&&_, cond}
 use mathlib.Core.List.{List, [], _∷_}
 use lib.Dec.{eqb, leb}
+use lib.ListN.{drop}
 use borrow.Author.Tests.{leb-false}
 use Rattle.lists.specs.Tests.{choose-by, tests}
 use Rattle.decimal.specs.declared.Scan.{Scan}
@@ -27,6 +28,22 @@ steppedTo high st b = capped high (stepped st b)
 unfoldable pub scannedTo : ℕ → Scan → List ℕ → Scan
 scannedTo high st [] = st
 scannedTo high st (b ∷ s) = scannedTo high (steppedTo high st b) s
+
+-- how many spaces a field begins with
+unfoldable pub spaces : List ℕ → ℕ
+spaces [] = 0
+spaces (b ∷ s) = cond (eqb b 32) (suc (spaces s)) 0
+
+-- they may be passed at once
+pub scan-spaces : (high : ℕ) (s : List ℕ) → scannedTo high Blank (drop (spaces s) s) ≡ scannedTo high Blank s
+unfolding spaces scannedTo steppedTo stepped capped
+scan-spaces high [] = refl
+scan-spaces high (b ∷ s) = go (eqb b 32) refl (scan-spaces high s)
+  where
+    go : (t : Bool) → eqb b 32 ≡ t → scannedTo high Blank (drop (spaces s) s) ≡ scannedTo high Blank s
+        → scannedTo high Blank (drop (cond t (suc (spaces s)) 0) (b ∷ s)) ≡ scannedTo high (capped high (cond t Blank (cond (isDigit b) (Number (b - 48)) Wrong))) s
+    go true e h = h
+    go false e h = rw e
 
 -- a figure that is too high stays so
 too-high : (low high v : ℕ) (s : List ℕ) → high < v → within low high (scanned (Number v) s) ≡ Wrong

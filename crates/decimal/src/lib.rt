@@ -5,7 +5,7 @@ ghost use mathlib.Core.Bool.{cond};
 ghost use lib.ListN.{length};
 ghost use Rattle.lists.specs.Bytes.{eqList};
 ghost use Rattle.decimal.specs.Field.{isDigit, within, figure, place, fieldText};
-ghost use Rattle.decimal.specs.Cut.{capped, steppedTo};
+ghost use Rattle.decimal.specs.Cut.{capped, steppedTo, spaces};
 ghost use Rattle.decimal.specs.Word.{putWord};
 
 // How far a field has been read: spaces only, a figure, or something that is no figure.
@@ -72,13 +72,28 @@ fn bounded(st: Scan, low: u32, high: u32) -> Scan
     }
 }
 
-// What the field s holds, where a figure from low to high is wanted: `Number`, or `Wrong`.
+// How many spaces the field s begins with.
+fn spaces(s: &[u8]) -> usize
+    ensures { λ r. ⌜ r ≡ spaces (now (s .entry)) ⌝ }
+{
+    let n = s.len();
+    let mut i = 0;
+    while i < n {
+        if s[i] != 32 {
+            return i;
+        }
+        i += 1;
+    }
+    n
+}
+
+// What the field s holds, where a figure from low to high is wanted: `Number`, or `Wrong`. Most columns are spaces, which are passed first.
 pub fn read(s: &[u8], low: u32, high: u32) -> Scan
     ensures { λ r. ⌜ r ≡ figure low high (now (s .entry)) ⌝ }
 {
     let n = s.len();
     let mut st = Scan::Blank;
-    let mut i = 0;
+    let mut i = spaces(s);
     while i < n {
         st = step(st, s[i], high);
         i += 1;
@@ -114,20 +129,19 @@ pub fn write(s: &mut [u8], v: u32)
     }
 }
 
-// The two hold the same bytes.
+// The two hold the same bytes. Compared from the last, in which figures of one width differ most often.
 pub fn same(s: &[u8], t: &[u8]) -> bool
     ensures { λ r. ⌜ r ≡ eqList (now (s .entry)) (now (t .entry)) ⌝ }
 {
-    let n = s.len();
-    if n != t.len() {
+    let mut i = s.len();
+    if i != t.len() {
         return false;
     }
-    let mut i = 0;
-    while i < n {
+    while i > 0 {
+        i -= 1;
         if s[i] != t[i] {
             return false;
         }
-        i += 1;
     }
     true
 }

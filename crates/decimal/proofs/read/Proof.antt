@@ -1,4 +1,4 @@
--- The loop keeps that the bytes to come, read from the state so far, end where the whole field does. What the limit cuts off changes no figure.
+-- The spaces in front are passed first. The loop keeps that the bytes to come, read from the state so far, end where the whole field does. What the limit cuts off changes no figure.
 use Prim.Native.Nat.{ℕ, _+_, _-_, _≤_, _<_}
 use native.Mathlib.Omega.{arith}
 use native.Mathlib.Numerals.{add-one}
@@ -10,7 +10,7 @@ use borrow.Author.Needs.{needs}
 use Rattle.decimal.specs.declared.Scan.{Scan}
 use Rattle.decimal.specs.declared.Scan.the-variants.{Blank}
 use Rattle.decimal.specs.Field.{within, figure}
-use Rattle.decimal.specs.Cut.{steppedTo, scannedTo, figure-to}
+use Rattle.decimal.specs.Cut.{steppedTo, scannedTo, figure-to, scan-spaces}
 use Rattle.decimal.proofs.read.Statement.{statement}
 use Rattle.decimal.proofs.read.Tie as tie
 
@@ -25,13 +25,18 @@ unfolding scannedTo
 no-byte low high st s i l e = ap (within low high) (rw (drop-of-length-le s l) at e) ∙ figure-to low high s
 
 abbrev Inv-loop : tie.InvT-loop
-Inv-loop s low high n st₀ i₀ st i = (i ≤ length s) × (scannedTo high st (drop i s) ≡ scannedTo high Blank s)
+Inv-loop s low high n st₀ i₀ st i = scannedTo high st (drop i s) ≡ scannedTo high Blank s
 
 abbrev μ-loop : tie.MeasureT-loop
 μ-loop s low high n st₀ i₀ st i = length s - i
 
+spaces-requires : tie.Need-spaces-requires Inv-loop μ-loop
+spaces-requires c κs = search needs
+
 loop-holds : tie.Need-loop-holds Inv-loop μ-loop
-loop-holds c = (omega arith, refl)
+loop-holds c =
+    let a = c .before .before .args in
+    ap (λ (i : ℕ). scannedTo (a .high) Blank (drop i (a .s .now))) (c .spaces .ensures) ∙ scan-spaces (a .high) (a .s .now)
 
 shared-slice-read-step : tie.Need-shared-slice-read-step Inv-loop μ-loop
 shared-slice-read-step c = search needs
@@ -47,19 +52,19 @@ loop-less c = search needs
 
 loop-again : tie.Need-loop-again Inv-loop μ-loop
 loop-again c =
-    let a = c .before .before .before .before .before .args in
+    let a = c .before .before .before .before .before .before .args in
     let l = c .before .before .before .loop in
     let e = next-byte (a .high) (l .st) (a .s .now) (l .i) (c .before .before .loop-test .taken) in
-    (omega arith, rw (c .step .ensures) (e ∙ l .inv .1))
+    rw (c .step .ensures) (e ∙ l .inv)
 
 bounded-requires : tie.Need-bounded-requires Inv-loop μ-loop
 bounded-requires c κs = search needs
 
 returns : tie.Need-returns Inv-loop μ-loop
 returns c =
-    let a = c .before .before .before .before .args in
+    let a = c .before .before .before .before .before .args in
     let l = c .before .before .loop in
-    c .bounded .ensures ∙ no-byte (a .low) (a .high) (l .st) (a .s .now) (l .i) (c .before .loop-test .left) (l .inv .1)
+    c .bounded .ensures ∙ no-byte (a .low) (a .high) (l .st) (a .s .now) (l .i) (c .before .loop-test .left) (l .inv)
 
 pub read-spec : {M : Type 1} → statement M
 read-spec =
@@ -67,6 +72,7 @@ read-spec =
     (tie.spec
     Inv-loop
     μ-loop
+    spaces-requires
     loop-holds
     shared-slice-read-step
     step-requires

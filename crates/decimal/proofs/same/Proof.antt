@@ -1,49 +1,49 @@
--- The loop keeps that the bytes to come are equal where the two lists are.
+-- The loop keeps that the bytes already compared are equal; one pair that differs tells the lists apart.
 use Prim.Native.Nat.{ℕ, _+_, _-_, _≤_, _<_}
 use native.Mathlib.Omega.{arith}
 use native.Mathlib.Numerals.{add-one}
-use mathlib.Core.Path.{_≡_, refl, ap}
-use mathlib.Core.Bool.{Bool, true, false, _&&_}
-use mathlib.Core.List.{List}
+use mathlib.Core.Path.{_≡_, refl, sym, ap, ap₂, subst, _∙_}
+use mathlib.Core.Bool.{true}
+use mathlib.Core.List.{List, _∷_}
 use lib.ListN.{length, getD, drop, drop-of-length-le}
 use lib.Seq.{drop-cons}
-use lib.Dec.{eqb}
-use borrow.Author.Tests.{eq-eqb, ne-eqb}
 use borrow.Author.Needs.{needs}
-use Rattle.lists.specs.Bytes.{eqList, eqList-true}
+use Rattle.lists.specs.Bytes.{eqList, eqList-refl, ne-eqList}
 use Rattle.decimal.proofs.same.Statement.{statement}
 use Rattle.decimal.proofs.same.Tie as tie
 
--- lists of two lengths differ
-two-lengths : (s t : List ℕ) → (length s ≡ length t → ⊥) → false ≡ eqList s t
-two-lengths s t h = go (eqList s t) refl
-  where
-    go : (r : Bool) → eqList s t ≡ r → false ≡ r
-    go true e = absurd (h (ap length (eqList-true s t e)))
-    go false e = refl
+-- none compared yet
+none : (s t : List ℕ) (i : ℕ) → i ≡ length s → i ≡ length t → drop i s ≡ drop i t
+none s t i e f =
+    let l : length s ≤ i = omega arith in
+    let m : length t ≤ i = omega arith in
+    drop-of-length-le s l ∙ sym (drop-of-length-le t m)
+
+-- all compared
+all : (s t : List ℕ) (i : ℕ) → i ≤ 0 → drop i s ≡ drop i t → true ≡ eqList s t
+all s t i l h =
+    let z : i ≡ 0 = omega arith in
+    let e : s ≡ t = rw z at h in
+    sym (subst (λ (u : List ℕ). eqList s u ≡ true) e (eqList-refl s))
 
 -- one byte more of each
-next-byte : (s t : List ℕ) (i : ℕ) → i < length s → i < length t → eqList (drop i s) (drop i t) ≡ eqList s t → (eqb (getD s i 0) (getD t i 0) && eqList (drop (i + 1) s) (drop (i + 1) t)) ≡ eqList s t
-unfolding eqList
-next-byte s t i l m e = rw add-one (rw (drop-cons s i 0 l, drop-cons t i 0 m) at e)
-
--- no byte left
-no-byte : (s t : List ℕ) (i : ℕ) → length s ≤ i → length t ≤ i → eqList (drop i s) (drop i t) ≡ eqList s t → true ≡ eqList s t
-unfolding eqList
-no-byte s t i l m e = rw (drop-of-length-le s l, drop-of-length-le t m) at e
+one-more : (s t : List ℕ) (i : ℕ) → i < length s → i < length t → getD s i 0 ≡ getD t i 0 → drop (i + 1) s ≡ drop (i + 1) t → drop i s ≡ drop i t
+one-more s t i l m e h = drop-cons s i 0 l ∙ (ap₂ _∷_ e (rw add-one at h) ∙ sym (drop-cons t i 0 m))
 
 abbrev Inv-loop : tie.InvT-loop
-Inv-loop s t n i₀ i =
-    (i ≤ length s) × (length s ≡ length t) × (eqList (drop i s) (drop i t) ≡ eqList s t)
+Inv-loop s t i₀ i = (i ≤ length s) × (length s ≡ length t) × (drop i s ≡ drop i t)
 
 abbrev μ-loop : tie.MeasureT-loop
-μ-loop s t n i₀ i = length s - i
+μ-loop s t i₀ i = i
 
 returns : tie.Need-returns Inv-loop μ-loop
-returns c = two-lengths _ _ (c .if1 .taken)
+returns c = sym (ne-eqList _ _ (λ e. c .if1 .taken (ap length e)))
 
 loop-holds : tie.Need-loop-holds Inv-loop μ-loop
-loop-holds c = (omega arith, c .if1 .left, refl)
+loop-holds c = (omega arith, c .if1 .left, none (c .before .args .s .now) (c .before .args .t .now) _ refl (c .if1 .left))
+
+sub-i : tie.Need-sub-i Inv-loop μ-loop
+sub-i c = search needs
 
 shared-slice-read-if2 : tie.Need-shared-slice-read-if2 Inv-loop μ-loop
 shared-slice-read-if2 c = search needs
@@ -54,12 +54,7 @@ shared-slice-read-if2-2 c = search needs
 returns-2 : tie.Need-returns-2 Inv-loop μ-loop
 returns-2 c =
     let a = c .before .before .before .before .before .before .args in
-    let l = c .before .before .before .before .loop in
-    let e = next-byte (a .s .now) (a .t .now) (l .i) (omega arith) (omega arith) (l .inv .2) in
-    rw (ne-eqb (getD (a .s .now) (l .i) 0) (getD (a .t .now) (l .i) 0) (c .if2 .taken)) at e
-
-add-i : tie.Need-add-i Inv-loop μ-loop
-add-i c = search needs
+    sym (ne-eqList (a .s .now) (a .t .now) (λ e. c .if2 .taken (ap (λ (u : List ℕ). getD u (c .before .before .before .before .loop .i - 1) 0) e)))
 
 loop-less : tie.Need-loop-less Inv-loop μ-loop
 loop-less c = search needs
@@ -68,14 +63,15 @@ loop-again : tie.Need-loop-again Inv-loop μ-loop
 loop-again c =
     let a = c .before .before .before .before .before .before .args in
     let l = c .before .before .before .before .loop in
-    let e = next-byte (a .s .now) (a .t .now) (l .i) (omega arith) (omega arith) (l .inv .2) in
-    (omega arith, l .inv .1, rw (eq-eqb (getD (a .s .now) (l .i) 0) (getD (a .t .now) (l .i) 0) (c .if2 .left)) at e)
+    let z : l .i ≡ l .i - 1 + 1 = omega arith in
+    let h : drop (l .i - 1 + 1) (a .s .now) ≡ drop (l .i - 1 + 1) (a .t .now) = rw z at (l .inv .2) in
+    (omega arith, l .inv .1, one-more (a .s .now) (a .t .now) (l .i - 1) (omega arith) (omega arith) (c .if2 .left) h)
 
 returns-3 : tie.Need-returns-3 Inv-loop μ-loop
 returns-3 c =
     let a = c .before .before .before .args in
     let l = c .before .loop in
-    no-byte (a .s .now) (a .t .now) (l .i) (omega arith) (omega arith) (l .inv .2)
+    all (a .s .now) (a .t .now) (l .i) (omega arith) (l .inv .2)
 
 pub same-spec : {M : Type 1} → statement M
 same-spec =
@@ -85,10 +81,10 @@ same-spec =
     μ-loop
     returns
     loop-holds
+    sub-i
     shared-slice-read-if2
     shared-slice-read-if2-2
     returns-2
-    add-i
     loop-less
     loop-again
     returns-3)

@@ -1,0 +1,79 @@
+-- The loop keeps that the spaces passed, and those that the rest begins with, are the field's.
+use Prim.Native.Nat.{ℕ, suc, _+_, _-_, _≤_, _<_}
+use native.Mathlib.Omega.{arith}
+use native.Mathlib.Numerals.{add-one}
+use mathlib.Core.Path.{_≡_, sym, ap, _∙_}
+use mathlib.Core.Bool.{Bool, true, false, cond}
+use mathlib.Core.List.{List}
+use lib.ListN.{length, getD, drop, drop-of-length-le}
+use lib.Seq.{drop-cons}
+use lib.Dec.{eqb}
+use borrow.Author.Tests.{eq-eqb, ne-eqb}
+use borrow.Author.Needs.{needs}
+use Rattle.decimal.specs.Cut.{spaces}
+use Rattle.decimal.proofs.spaces.Statement.{statement}
+use Rattle.decimal.proofs.spaces.Tie as tie
+
+-- by whether a space comes next
+here : (s : List ℕ) (i : ℕ) → i < length s → spaces (drop i s) ≡ cond (eqb (getD s i 0) 32) (suc (spaces (drop (i + 1) s))) 0
+unfolding spaces
+here s i l = rw (add-one, drop-cons s i 0 l)
+
+-- no byte left
+none : (s : List ℕ) (i : ℕ) → length s ≤ i → spaces (drop i s) ≡ 0
+unfolding spaces
+none s i l = rw (drop-of-length-le s l)
+
+abbrev Inv-loop : tie.InvT-loop
+Inv-loop s n i₀ i = (i ≤ length s) × (i + spaces (drop i s) ≡ spaces s)
+
+abbrev μ-loop : tie.MeasureT-loop
+μ-loop s n i₀ i = length s - i
+
+loop-holds : tie.Need-loop-holds Inv-loop μ-loop
+loop-holds c = (omega arith, omega arith)
+
+shared-slice-read-if1 : tie.Need-shared-slice-read-if1 Inv-loop μ-loop
+shared-slice-read-if1 c = search needs
+
+returns : tie.Need-returns Inv-loop μ-loop
+returns c =
+    let a = c .before .before .before .before .args in
+    let l = c .before .before .before .loop in
+    let e = here (a .s .now) (l .i) (c .before .before .loop-test .taken) in
+    let z : spaces (drop (l .i) (a .s .now)) ≡ 0 = rw (ne-eqb (getD (a .s .now) (l .i) 0) 32 (c .if1 .taken)) at e in
+    omega (arith, l .inv .1)
+
+add-i : tie.Need-add-i Inv-loop μ-loop
+add-i c = search needs
+
+loop-less : tie.Need-loop-less Inv-loop μ-loop
+loop-less c = search needs
+
+loop-again : tie.Need-loop-again Inv-loop μ-loop
+loop-again c =
+    let a = c .before .before .before .before .args in
+    let l = c .before .before .before .loop in
+    let e = here (a .s .now) (l .i) (c .before .before .loop-test .taken) in
+    let z : spaces (drop (l .i) (a .s .now)) ≡ suc (spaces (drop (l .i + 1) (a .s .now))) = rw (eq-eqb (getD (a .s .now) (l .i) 0) 32 (c .if1 .left)) at e in
+    (omega arith, omega (arith, l .inv .1))
+
+returns-2 : tie.Need-returns-2 Inv-loop μ-loop
+returns-2 c =
+    let a = c .before .before .args in
+    let l = c .before .loop in
+    omega (arith, l .inv .1, none (a .s .now) (l .i) (c .loop-test .left))
+
+pub spaces-spec : {M : Type 1} → statement M
+spaces-spec =
+    tie.close
+    (tie.spec
+    Inv-loop
+    μ-loop
+    loop-holds
+    shared-slice-read-if1
+    returns
+    add-i
+    loop-less
+    loop-again
+    returns-2)
