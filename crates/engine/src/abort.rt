@@ -12,16 +12,10 @@ pub fn abort(t: Transaction, records: &[u8], coordinator: &[u8]) -> Stepped
 {
     let admitted = admission::admission(t, records, coordinator);
     if admitted.refusal != 0 {
-        return Stepped {
-            refusal: admitted.refusal,
-            transaction: t,
-        };
+        return admission::refusal(admitted.refusal, t);
     }
     if 3 < t.phase {
-        return Stepped {
-            refusal: 4,
-            transaction: t,
-        };
+        return admission::refusal(4, t);
     }
     let withdrawn = transactions::moved(4, 0, t.verdict, t);
     Stepped {

@@ -1,13 +1,16 @@
-// What is asked before a call looks into a transaction: refusals 1 to 3, and 4 and 5 of read and put.
+// What is asked before a call looks into a transaction: refusals 1 to 3, and 4 and 5 of read and put. And what a refused call answers.
 ghost use mathlib.Core.Path.{_≡_};
 ghost use mathlib.Core.Bool.{true};
 ghost use Rattle.model.specs.Records as sheet;
 ghost use Rattle.model.specs.Refusals.{refusalOf};
+ghost use Rattle.model.specs.Results.{refused};
 ghost use Rattle.model.specs.WellFormed.{wellFormed};
 ghost use Rattle.model.specs.ByteCalls.{sheetsOf};
 ghost use Rattle.group_writes.specs.Placed.{Placed};
+ghost use Rattle.engine.specs.Answers.{stepped};
 ghost use Rattle.engine.specs.Outcomes.{Accepted};
 ghost use Rattle.engine.specs.Admission.{admitting, admittingOpen};
+use crate::Stepped;
 use group_writes::lines::Located;
 use types::Key;
 use types::Transaction;
@@ -34,6 +37,16 @@ fn well_formed(t: Transaction, records: &[u8], coordinator: &[u8]) -> Located
         };
     }
     group_writes::lines::locate(records, t)
+}
+
+// A refused call gives its transaction back as it came.
+pub fn refusal(n: u32, t: Transaction) -> Stepped
+    ensures { λ r. ⌜ r ≡ stepped t (refused n) ⌝ }
+{
+    Stepped {
+        refusal: n,
+        transaction: t,
+    }
 }
 
 // The refusal of every call that takes a transaction.

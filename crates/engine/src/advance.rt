@@ -64,17 +64,11 @@ pub fn advance(t: Transaction, clock: u32, records: &mut [u8], coordinator: &mut
 {
     let admitted = admission::admission(t, records, coordinator);
     if admitted.refusal != 0 {
-        return Stepped {
-            refusal: admitted.refusal,
-            transaction: t,
-        };
+        return admission::refusal(admitted.refusal, t);
     }
     let own = codec::coordinator::decision_at(coordinator, t.number);
     if forbids(t.phase, own) {
-        return Stepped {
-            refusal: 4,
-            transaction: t,
-        };
+        return admission::refusal(4, t);
     }
     let places = admitted.places;
     let transaction = steps::step(t, places, clock, records, coordinator);

@@ -3,7 +3,6 @@ ghost use mathlib.Core.Path.{_≡_};
 ghost use Prim.Native.Nat.{_≤_, _<_};
 ghost use Rattle.types.specs.declared.Found.the-variants.{At};
 ghost use Rattle.model.specs.Transactions.{heldAt};
-ghost use Rattle.model.specs.Results.{refused};
 ghost use Rattle.model.specs.ByteCalls.{putOn};
 ghost use Rattle.engine.specs.Answers.{stepped};
 ghost use Rattle.engine.specs.Putting.{putHeld, putAt};
@@ -16,15 +15,6 @@ use types::Found;
 use types::Key;
 use types::Transaction;
 
-fn refusal(n: u32, t: Transaction) -> Stepped
-    ensures { λ r. ⌜ r ≡ stepped t (refused n) ⌝ }
-{
-    Stepped {
-        refusal: n,
-        transaction: t,
-    }
-}
-
 // A put over entry i.
 fn put_at(t: Transaction, i: usize, columns: Columns) -> Stepped
     requires { ⌜ i < 8 ⌝ }
@@ -32,7 +22,7 @@ fn put_at(t: Transaction, i: usize, columns: Columns) -> Stepped
 {
     let e = transactions::entry_at(t, i);
     if 99999 <= e.seen.version {
-        return refusal(11, t);
+        return admission::refusal(11, t);
     }
     let key = e.key;
     let seen = e.seen;
@@ -55,11 +45,11 @@ fn put_held(t: Transaction, key: Key, columns: Columns) -> Stepped
     ensures { λ r. ⌜ r ≡ stepped t (putHeld t key columns) ⌝ }
 {
     if !protocol::well_formed::columns_in_range(columns) {
-        return refusal(7, t);
+        return admission::refusal(7, t);
     }
     match transactions::held_at(key, t) {
         Found::At(i) => put_at(t, i, columns),
-        Found::Nothing => refusal(10, t),
+        Found::Nothing => admission::refusal(10, t),
     }
 }
 
@@ -74,10 +64,10 @@ pub fn put(
 {
     let refused = admission::open_admission(t, key, records, coordinator);
     if refused != 0 {
-        return refusal(refused, t);
+        return admission::refusal(refused, t);
     }
     match sheets::lookup::find(records, key) {
         Found::At(_) => put_held(t, key, columns),
-        Found::Nothing => refusal(6, t),
+        Found::Nothing => admission::refusal(6, t),
     }
 }

@@ -5,7 +5,7 @@ use Rattle.engine.specs.Outcomes.{outcome-refused}
 use Rattle.engine.specs.Admission.{admitted}
 use Rattle.engine.specs.Advancing.{forbids, advance-away, advance-forbidden, step-ready, step-outcome}
 use Prim.Native.Nat.{_-_}
-use mathlib.Core.Path.{refl, sym, ap, _∙_}
+use mathlib.Core.Path.{sym, ap, _∙_}
 use borrow.Author.Needs.{needs}
 use Rattle.engine.proofs.advance.advance.Statement.{statement}
 use Rattle.engine.proofs.advance.advance.Tie as tie
@@ -19,6 +19,9 @@ use Rattle.steps.proofs.step.Reads as step-reads
 admission-requires : tie.Need-admission-requires
 admission-requires c κs = search needs
 
+refusal-requires : tie.Need-refusal-requires
+refusal-requires c κs = search needs
+
 same-length : tie.Need-same-length
 same-length c = search needs
 
@@ -26,13 +29,16 @@ same-length-2 : tie.Need-same-length-2
 same-length-2 c = search needs
 
 returns : tie.Need-returns
-returns c = let o = outcome-refused (stepped (c .before .before .before .before .before .before .before .args .t)) (c .before .before .before .before .before .before .before .args .records .now) (c .before .before .before .before .before .before .before .args .coordinator .now) _ (advance-away (c .before .before .before .before .before .before .before .args .t) (c .before .before .before .before .before .before .before .args .clock) (c .before .before .before .before .before .before .before .args .records .now) (c .before .before .before .before .before .before .before .args .coordinator .now) _ (c .before .before .admission .ensures .0) (c .if1 .taken)) refl in (o .said, (o .lines, o .decisions))
+returns c = let o = outcome-refused (stepped (c .before .before .before .before .before .before .before .before .args .t)) (c .before .before .before .before .before .before .before .before .args .records .now) (c .before .before .before .before .before .before .before .before .args .coordinator .now) _ (advance-away (c .before .before .before .before .before .before .before .before .args .t) (c .before .before .before .before .before .before .before .before .args .clock) (c .before .before .before .before .before .before .before .before .args .records .now) (c .before .before .before .before .before .before .before .before .args .coordinator .now) _ (c .before .before .before .admission .ensures .0) (c .before .if1 .taken)) (c .refusal .ensures) in (o .said, (o .lines, o .decisions))
 
 decision-at-requires : tie.Need-decision-at-requires
 decision-at-requires c κs = search needs
 
 forbids-requires : tie.Need-forbids-requires
 forbids-requires c κs = search needs
+
+refusal-requires-2 : tie.Need-refusal-requires-2
+refusal-requires-2 c κs = search needs
 
 same-length-3 : tie.Need-same-length-3
 same-length-3 c = search needs
@@ -41,7 +47,7 @@ same-length-4 : tie.Need-same-length-4
 same-length-4 c = search needs
 
 returns-2 : tie.Need-returns-2
-returns-2 c = let o = outcome-refused (stepped (c .before .before .before .before .before .before .before .before .before .before .before .args .t)) (c .before .before .before .before .before .before .before .before .before .before .before .args .records .now) (c .before .before .before .before .before .before .before .before .before .before .before .args .coordinator .now) 4 (advance-forbidden (c .before .before .before .before .before .before .before .before .before .before .before .args .t) (c .before .before .before .before .before .before .before .before .before .before .before .args .clock) (c .before .before .before .before .before .before .before .before .before .before .before .args .records .now) (c .before .before .before .before .before .before .before .before .before .before .before .args .coordinator .now) (admitted (c .before .before .before .before .before .before .before .before .before .before .before .args .t) (c .before .before .before .before .before .before .before .before .before .before .before .args .records .now) (c .before .before .before .before .before .before .before .before .before .before .before .args .coordinator .now) (sym (c .before .before .before .before .before .before .admission .ensures .0) ∙ c .before .before .before .before .if1 .left)) (ap (λ (d : Decision). forbids (c .before .before .before .before .before .before .before .before .before .before .before .args .t .phase) d) (sym (c .before .before .decision-at .ensures)) ∙ (sym (c .before .forbids .ensures) ∙ c .if2 .taken))) refl in (o .said, (o .lines, o .decisions))
+returns-2 c = let o = outcome-refused (stepped (c .before .before .before .before .before .before .before .before .before .before .before .before .args .t)) (c .before .before .before .before .before .before .before .before .before .before .before .before .args .records .now) (c .before .before .before .before .before .before .before .before .before .before .before .before .args .coordinator .now) 4 (advance-forbidden (c .before .before .before .before .before .before .before .before .before .before .before .before .args .t) (c .before .before .before .before .before .before .before .before .before .before .before .before .args .clock) (c .before .before .before .before .before .before .before .before .before .before .before .before .args .records .now) (c .before .before .before .before .before .before .before .before .before .before .before .before .args .coordinator .now) (admitted (c .before .before .before .before .before .before .before .before .before .before .before .before .args .t) (c .before .before .before .before .before .before .before .before .before .before .before .before .args .records .now) (c .before .before .before .before .before .before .before .before .before .before .before .before .args .coordinator .now) (sym (c .before .before .before .before .before .before .before .admission .ensures .0) ∙ c .before .before .before .before .before .if1 .left)) (ap (λ (d : Decision). forbids (c .before .before .before .before .before .before .before .before .before .before .before .before .args .t .phase) d) (sym (c .before .before .before .decision-at .ensures)) ∙ (sym (c .before .before .forbids .ensures) ∙ c .before .if2 .taken))) (c .refusal2 .ensures) in (o .said, (o .lines, o .decisions))
 
 step-requires : tie.Need-step-requires
 step-requires c κs = step-ready (c .before .before .before .before .before .before .before .before .before .before .before .before .before .before .args .t) (c .before .before .before .before .before .before .before .before .before .before .before .before .before .before .args .clock) (c .before .before .before .before .before .before .before .before .before .before .before .before .before .before .args .records .now) (c .before .before .before .before .before .before .before .before .before .before .before .before .before .before .args .coordinator .now) (admitted (c .before .before .before .before .before .before .before .before .before .before .before .before .before .before .args .t) (c .before .before .before .before .before .before .before .before .before .before .before .before .before .before .args .records .now) (c .before .before .before .before .before .before .before .before .before .before .before .before .before .before .args .coordinator .now) (sym (c .before .before .before .before .before .before .before .before .before .admission .ensures .0) ∙ c .before .before .before .before .before .before .before .if1 .left)) _ (c .before .before .before .before .before .before .before .before .before .admission .ensures .1 (c .before .before .before .before .before .before .before .if1 .left))
@@ -60,11 +66,13 @@ advance-spec =
     tie.close
     (tie.spec
     admission-requires
+    refusal-requires
     same-length
     same-length-2
     returns
     decision-at-requires
     forbids-requires
+    refusal-requires-2
     same-length-3
     same-length-4
     returns-2
