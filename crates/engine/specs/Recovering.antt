@@ -18,7 +18,7 @@ use Rattle.types.specs.declared.Found.the-variants.{At}
 use Rattle.types.specs.declared.Recovery.{Recovery}
 use Rattle.types.specs.declared.Recovery.the-variants.{Stays, Forward, Back, Again, Busy}
 use Rattle.model.specs.Records.{noRecord, records, recordText, recordsText, goodAlone, sameKey, found, lineOf, preparedRule}
-use Rattle.model.specs.Coordinator.{coordinatorOf, coordinatorText, namesIssued}
+use Rattle.model.specs.Coordinator.{Coordinator, coordinatorOf, coordinatorText, namesIssued}
 use Rattle.model.specs.Images.{isPrepared, preparedBy, rolledForward, rolledBack, byRecovery}
 use Rattle.model.specs.Writes.{Write, nothing, decide, forward, back, isOf, lineAfter, decisionsAfter, apply}
 use Rattle.model.specs.Visits.{ownerDecision, ownerExpired, meeting, isBusy, recoveryWrite}
@@ -117,33 +117,28 @@ module _ (rs cs : List ℕ) (i : ℕ) (s : Standing rs cs i) where
       (set-at-key (here .key) (lineAfter w) (records rs) i (s .accepted .good .order) (s .place)
       ∙ map-alone w (here .key) h (records rs))))
 
-  pub settle-forward : {rs′ : List ℕ} → isPrepared here ≡ true → rs′ ≡ cond (ltb i (length rs / 98)) (over rs (i * 98) (recordText (rolledForward here))) rs → Written (forward (here .image .txid) (here .key ∷ [])) rs cs rs′ cs
-  unfolding lineAfter decisionsAfter
-  settle-forward p e =
-      let w = forward (here .image .txid) (here .key ∷ []) in
+  -- the line rolled, by a write that rolls it alone
+  settle-rolled : (w : Write) (roll : Record → Record) {rs′ : List ℕ} → ((r : Record) → lineAfter w r ≡ cond (isOf (here .image .txid) (here .key ∷ []) r) (roll r) r) → ((c : Coordinator) → decisionsAfter w c ≡ c) → GoodParts (coordinatorOf cs .issued) (roll here) → isPrepared here ≡ true → rs′ ≡ cond (ltb i (length rs / 98)) (over rs (i * 98) (recordText (roll here))) rs → Written w rs cs rs′ cs
+  settle-rolled w roll rolls still g p e =
       record {
         lines =
             e
-            ∙ line-set w (rolledForward here)
-            (λ r h. ap (λ (b : Bool). cond b (rolledForward r) r) (not-of (here .image .txid) (here .key) r h))
-            (ap (λ (b : Bool). cond b (rolledForward here) here) (is-of here p))
-            (forward-fine (coordinatorOf cs .issued) here line-parts p);
-        decisions = decisions-kept rs cs (s .accepted) w (λ c. refl);
+            ∙ line-set w (roll here)
+            (λ r h. rolls r ∙ ap (λ (b : Bool). cond b (roll r) r) (not-of (here .image .txid) (here .key) r h))
+            (rolls here ∙ ap (λ (b : Bool). cond b (roll here) here) (is-of here p))
+            g;
+        decisions = decisions-kept rs cs (s .accepted) w still;
       }
+
+  pub settle-forward : {rs′ : List ℕ} → isPrepared here ≡ true → rs′ ≡ cond (ltb i (length rs / 98)) (over rs (i * 98) (recordText (rolledForward here))) rs → Written (forward (here .image .txid) (here .key ∷ [])) rs cs rs′ cs
+  unfolding lineAfter decisionsAfter
+  settle-forward p =
+      settle-rolled (forward (here .image .txid) (here .key ∷ [])) rolledForward (λ r. refl) (λ c. refl) (forward-fine (coordinatorOf cs .issued) here line-parts p) p
 
   pub settle-back : {rs′ : List ℕ} → isPrepared here ≡ true → rs′ ≡ cond (ltb i (length rs / 98)) (over rs (i * 98) (recordText (rolledBack here))) rs → Written (back (here .image .txid) (here .key ∷ [])) rs cs rs′ cs
   unfolding lineAfter decisionsAfter
-  settle-back p e =
-      let w = back (here .image .txid) (here .key ∷ []) in
-      record {
-        lines =
-            e
-            ∙ line-set w (rolledBack here)
-            (λ r h. ap (λ (b : Bool). cond b (rolledBack r) r) (not-of (here .image .txid) (here .key) r h))
-            (ap (λ (b : Bool). cond b (rolledBack here) here) (is-of here p))
-            (back-fine (coordinatorOf cs .issued) here line-parts p);
-        decisions = decisions-kept rs cs (s .accepted) w (λ c. refl);
-      }
+  settle-back p =
+      settle-rolled (back (here .image .txid) (here .key ∷ [])) rolledBack (λ r. refl) (λ c. refl) (back-fine (coordinatorOf cs .issued) here line-parts p) p
 
   -- the decision of an issued number written
   decision-set : (n : ℕ) → 1 ≤ n → n ≤ coordinatorOf cs .issued → cond (hasLine n cs) (over cs (n * 15) (decisionText n Aborted)) cs ≡ coordinatorText (apply (decide n Aborted) (sheetsOf rs cs) .coordinator)

@@ -157,37 +157,26 @@ abort-undecided c i j e = go (eqb i j) refl
     go true q = own-undecided j c (ap (λ (x : ℕ). decision j (withDecision x Aborted c)) (sym (eqb-true i j q)) ∙ e)
     go false q = sym (decided-other i j Aborted c (eqb-false i j q)) ∙ e
 
--- a number that is undecided afterwards was undecided before, and none becomes COMMITTED
-away-undecided : (s : Sheets) (j : ℕ) (w : Write) → Away s j w → decision j (decisionsAfter w (s .coordinator)) ≡ Undecided → decision j (s .coordinator) ≡ Undecided
+-- a decision that stands afterwards and that no ABORTED could have brought stood before
+away-stood : (d : Decision) (s : Sheets) (j : ℕ) (w : Write) → ((i : ℕ) → decision j (withDecision i Aborted (s .coordinator)) ≡ d → decision j (s .coordinator) ≡ d) → Away s j w → decision j (decisionsAfter w (s .coordinator)) ≡ d → decision j (s .coordinator) ≡ d
 unfolding decisionsAfter
-away-undecided s j w away-nothing e = e
-away-undecided s j w away-issue e = sym (issued-decision _ j (s .coordinator)) ∙ e
-away-undecided s j w (away-abort i x) e = abort-undecided (s .coordinator) i j e
-away-undecided s j w (away-decide i d n) e = sym (decided-other i j d (s .coordinator) n) ∙ e
-away-undecided s j w (away-commit i es m) e = e
-away-undecided s j w (away-prepare i now es n m) e = e
-away-undecided s j w (away-forward i ks h) e = e
-away-undecided s j w (away-back i ks h) e = e
-
-away-committed : (s : Sheets) (j : ℕ) (w : Write) → Away s j w → decision j (decisionsAfter w (s .coordinator)) ≡ Committed → decision j (s .coordinator) ≡ Committed
-unfolding decisionsAfter
-away-committed s j w away-nothing e = e
-away-committed s j w away-issue e = sym (issued-decision _ j (s .coordinator)) ∙ e
-away-committed s j w (away-abort i x) e = abort-commits-none (s .coordinator) i j e
-away-committed s j w (away-decide i d n) e = sym (decided-other i j d (s .coordinator) n) ∙ e
-away-committed s j w (away-commit i es m) e = e
-away-committed s j w (away-prepare i now es n m) e = e
-away-committed s j w (away-forward i ks h) e = e
-away-committed s j w (away-back i ks h) e = e
+away-stood d s j w f away-nothing e = e
+away-stood d s j w f away-issue e = sym (issued-decision _ j (s .coordinator)) ∙ e
+away-stood d s j w f (away-abort i x) e = f i e
+away-stood d s j w f (away-decide i x n) e = sym (decided-other i j x (s .coordinator) n) ∙ e
+away-stood d s j w f (away-commit i es m) e = e
+away-stood d s j w f (away-prepare i now es n m) e = e
+away-stood d s j w f (away-forward i ks h) e = e
+away-stood d s j w f (away-back i ks h) e = e
 
 -- Writes away from a transaction keep what is remembered of it.
 pub memory-kept : (s : Sheets) (t : Transaction) (w : Write) → GoodSheets s → Away s (t .number) w → Memory s t → Memory (apply w s) t
 unfolding apply
 memory-kept s t w g a m =
     record {
-      undone = λ e. m .undone (away-committed s (t .number) w a e);
+      undone = λ e. m .undone (away-stood Committed s (t .number) w (λ i. abort-commits-none (s .coordinator) i (t .number)) a e);
       columns = λ e k h. let l : listsKey k (s .lines) ≡ true = listed-before s w k h in
-          let u : decision (t .number) (s .coordinator) ≡ Undecided = away-undecided s (t .number) w a e in
+          let u : decision (t .number) (s .coordinator) ≡ Undecided = away-stood Undecided s (t .number) w (λ i. abort-undecided (s .coordinator) i (t .number)) a e in
           let x : LineAt s k = line-at s g k l in
           ap (preparedColumns (t .number)) (line-after s w k l)
           ∙ (away-columns s (t .number) u (lineOf k (s .lines)) (x .listed) (x .own) w a

@@ -126,20 +126,13 @@ pub own-line : (n : ℕ) (ks : List Key) (r : Record) → isOf n ks r ≡ true �
 unfolding isOf preparedBy
 own-line n ks r h = (search tests, search tests)
 
-forward-settled : (c : Coordinator) (n : ℕ) (ks : List Key) (r : Record) → decision n c ≡ Committed → settle c (cond (isOf n ks r) (rolledForward r) r) ≡ settle c r
-forward-settled c n ks r d =
-    choose-by (λ (x : Record). settle c x ≡ settle c r) (isOf n ks r)
+-- a line rolled as its owner's decision says counts as it did
+rolled-settled : (d : Decision) (c : Coordinator) (n : ℕ) (ks : List Key) (r x : Record) → isPrepared x ≡ false → x ≡ byDecision d (rolledBack r) (rolledForward r) (rolledBack r) → decision n c ≡ d → settle c (cond (isOf n ks r) x r) ≡ settle c r
+rolled-settled d c n ks r x p q e =
+    choose-by (λ (y : Record). settle c y ≡ settle c r) (isOf n ks r)
     (λ h. let o = own-line n ks r h in
-    settled-plain c (rolledForward r) (forward-plain r)
-    ∙ sym (settled-by c r Committed (o .0) (ap (λ (x : ℕ). decision x c) (o .1) ∙ d)))
-    (λ h. refl)
-
-back-settled : (c : Coordinator) (n : ℕ) (ks : List Key) (r : Record) → decision n c ≡ Aborted → settle c (cond (isOf n ks r) (rolledBack r) r) ≡ settle c r
-back-settled c n ks r d =
-    choose-by (λ (x : Record). settle c x ≡ settle c r) (isOf n ks r)
-    (λ h. let o = own-line n ks r h in
-    settled-plain c (rolledBack r) (back-plain r)
-    ∙ sym (settled-by c r Aborted (o .0) (ap (λ (x : ℕ). decision x c) (o .1) ∙ d)))
+    settled-plain c x p
+    ∙ (q ∙ sym (settled-by c r d (o .0) (ap (λ (m : ℕ). decision m c) (o .1) ∙ e))))
     (λ h. refl)
 
 -- a line that is prepared by a number without COMMITTED still counts as it was
@@ -165,8 +158,8 @@ unfolding decisionsAfter lineAfter
 gentle-settled s w gentle-nothing r k l g = refl
 gentle-settled s w gentle-issue r k l g = issue-settled (s .coordinator .issued + 1) (s .coordinator) r
 gentle-settled s w (gentle-abort i d) r k l g = abort-settled (s .coordinator) i r d
-gentle-settled s w (gentle-forward i ks d) r k l g = forward-settled (s .coordinator) i ks r d
-gentle-settled s w (gentle-back i ks d) r k l g = back-settled (s .coordinator) i ks r d
+gentle-settled s w (gentle-forward i ks d) r k l g = rolled-settled Committed (s .coordinator) i ks r (rolledForward r) (forward-plain r) refl d
+gentle-settled s w (gentle-back i ks d) r k l g = rolled-settled Aborted (s .coordinator) i ks r (rolledBack r) (back-plain r) refl d
 gentle-settled s w (gentle-prepare n now es d m) r k l g = go (entryFor (r .key) es) refl
   where
     go : (o : Option Entry) → entryFor (r .key) es ≡ o → settle (s .coordinator) (byEntry o r (λ (e : Entry). prepared n now e r)) ≡ settle (s .coordinator) r
