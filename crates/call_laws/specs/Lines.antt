@@ -123,16 +123,22 @@ apart r rs k h g =
     other-key (r .key) k
     (λ e. true≢false (sym (key-later r rs k h g) ∙ (ap (keyLess (r .key)) (sym e) ∙ less-irrefl (keyNumbers (r .key)))))
 
--- every line passes a test that each record passes that is the line of its key
-pub all-lines : (p : Record → Bool) (rs : List Record) → rising rs ≡ true → ((r : Record) → listsKey (r .key) rs ≡ true → lineOf (r .key) rs ≡ r → p r ≡ true) → all p rs ≡ true
-unfolding all rising any lineOf
-all-lines p [] h f = refl
-all-lines p (r ∷ rs) h f =
-    and-both
+-- A fact about a sheet in order, built line by line from a fact about each record that is the line of its key.
+each-line : (Q : Record → Type 0) (P : List Record → Type 0) (rs : List Record) → rising rs ≡ true → P [] → ((r : Record) (ls : List Record) → Q r → P ls → P (r ∷ ls)) → ((r : Record) → listsKey (r .key) rs ≡ true → lineOf (r .key) rs ≡ r → Q r) → P rs
+unfolding rising any lineOf
+each-line Q P [] h base more f = base
+each-line Q P (r ∷ rs) h base more f =
+    more r rs
     (f r (or-left (sameKey (r .key) (r .key)) (listsKey (r .key) rs) (same-key-refl (r .key))) (ap (λ (b : Bool). cond b r (lineOf (r .key) rs)) (same-key-refl (r .key))))
-    (all-lines p rs (and-snd (inOrder r rs) (rising rs) h)
+    (each-line Q P rs (and-snd (inOrder r rs) (rising rs) h) base more
     (λ x g e. f x (or-right (sameKey (r .key) (x .key)) (listsKey (x .key) rs) g)
     (ap (λ (b : Bool). cond b r (lineOf (x .key) rs)) (apart r rs (x .key) h g) ∙ e)))
+
+-- every line passes a test that each record passes that is the line of its key
+pub all-lines : (p : Record → Bool) (rs : List Record) → rising rs ≡ true → ((r : Record) → listsKey (r .key) rs ≡ true → lineOf (r .key) rs ≡ r → p r ≡ true) → all p rs ≡ true
+unfolding all
+all-lines p rs h =
+    each-line (λ (r : Record). p r ≡ true) (λ (ls : List Record). all p ls ≡ true) rs h refl (λ r ls e g. and-both e g)
 
 -- what all lines pass, the line of a key passes
 pub line-passes : (p : Record → Bool) (k : Key) (rs : List Record) → all p rs ≡ true → listsKey k rs ≡ true → p (lineOf k rs) ≡ true
@@ -147,11 +153,5 @@ line-passes p k (r ∷ rs) h g =
 
 -- a map that leaves alone each record that is the line of its key leaves a sheet in order alone
 pub map-lines : (f : Record → Record) (rs : List Record) → rising rs ≡ true → ((r : Record) → listsKey (r .key) rs ≡ true → lineOf (r .key) rs ≡ r → f r ≡ r) → map f rs ≡ rs
-unfolding rising any lineOf
-map-lines f [] h g = refl
-map-lines f (r ∷ rs) h g =
-    ap₂ _∷_
-    (g r (or-left (sameKey (r .key) (r .key)) (listsKey (r .key) rs) (same-key-refl (r .key))) (ap (λ (b : Bool). cond b r (lineOf (r .key) rs)) (same-key-refl (r .key))))
-    (map-lines f rs (and-snd (inOrder r rs) (rising rs) h)
-    (λ x l e. g x (or-right (sameKey (r .key) (x .key)) (listsKey (x .key) rs) l)
-    (ap (λ (b : Bool). cond b r (lineOf (x .key) rs)) (apart r rs (x .key) h l) ∙ e)))
+map-lines f rs h =
+    each-line (λ (r : Record). f r ≡ r) (λ (ls : List Record). map f ls ≡ ls) rs h refl (λ r ls e g. ap₂ _∷_ e g)

@@ -11,24 +11,13 @@ use crate::lines;
 use types::Image;
 use types::Key;
 use types::Layout;
+use types::NO_IMAGE;
+use types::NO_KEY;
 use types::Record;
 use types::State;
 
-const NO_IMAGE: Image = Image {
-    version: 0,
-    txid: 0,
-    column1: 0,
-    column2: 0,
-};
-
 const NO_RECORD: Record = Record {
-    key: Key {
-        storage: 0,
-        namespace: 0,
-        table: 0,
-        partition: 0,
-        clustering: 0,
-    },
+    key: NO_KEY,
     state: State::Absent,
     image: NO_IMAGE,
     before: NO_IMAGE,

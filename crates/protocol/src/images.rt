@@ -9,16 +9,10 @@ ghost use Rattle.types.specs.declared.Recovery.the-variants.{Again, Busy};
 use types::Decision;
 use types::Entry;
 use types::Image;
+use types::NO_IMAGE;
 use types::Record;
 use types::Recovery;
 use types::State;
-
-const NO_IMAGE: Image = Image {
-    version: 0,
-    txid: 0,
-    column1: 0,
-    column2: 0,
-};
 
 // Pending: prepared by a transaction, and neither rolled forward nor back.
 fn is_prepared(r: Record) -> bool

@@ -11,25 +11,15 @@ use crate::keys;
 use types::Columns;
 use types::Entry;
 use types::Found;
-use types::Image;
 use types::Key;
+use types::NO_IMAGE;
+use types::NO_KEY;
 use types::Reading;
 use types::Transaction;
 
 const NO_ENTRY: Entry = Entry {
-    key: Key {
-        storage: 0,
-        namespace: 0,
-        table: 0,
-        partition: 0,
-        clustering: 0,
-    },
-    seen: Image {
-        version: 0,
-        txid: 0,
-        column1: 0,
-        column2: 0,
-    },
+    key: NO_KEY,
+    seen: NO_IMAGE,
     wrote: 0,
     put: Columns {
         column1: 0,

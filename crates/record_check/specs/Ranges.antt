@@ -22,28 +22,10 @@ use Rattle.types.specs.declared.Column.{Column}
 use Rattle.model.specs.Layouts.{words}
 use Rattle.model.specs.Lines.{byKind, fieldValue, inRange, rowOf, lineSet, rowGood}
 use Rattle.sheet_laws.specs.Fields.{columnOk, field-written-read}
-use Rattle.sheet_laws.specs.Lines.{lineBytes}
+use Rattle.sheet_laws.specs.Lines.{lineBytes, eachField, field-length, set-fields}
 use Rattle.places.specs.Parts.{width, most}
 
 -- Lines judged field by field.
-
--- every field passes a test, and LF ends the line
-unfoldable pub eachField : (Column → List ℕ → Bool) → List Column → List ℕ → Bool
-eachField p [] s = eqList s (10 ∷ [])
-eachField p (c ∷ cs) s = p c (take (c .width) s) && eachField p cs (drop (c .width) s)
-
-field-length : (p : Column → List ℕ → Bool) (cs : List Column) (s : List ℕ) → eachField p cs s ≡ true → length s ≡ lineBytes cs
-unfolding eachField lineBytes
-field-length p [] s h = ap length (eqList-true s (10 ∷ []) h)
-field-length p (c ∷ cs) s h =
-    let r : length (drop (c .width) s) ≡ lineBytes cs =
-    field-length p cs (drop (c .width) s) (and-snd (p c (take (c .width) s)) _ h) in
-    let l : 1 ≤ lineBytes cs = positive cs in
-    omega (arith, length-drop (c .width) s)
-  where
-    positive : (ds : List Column) → 1 ≤ lineBytes ds
-    positive [] = omega arith
-    positive (d ∷ ds) = omega (arith, positive ds)
 
 -- two tests that agree on fields of full width, in columns that pass a third
 module _ (p q : Column → List ℕ → Bool) (ok : Column → Bool)
@@ -97,11 +79,6 @@ held-fields (c ∷ cs) s =
     (inRange c (number (fieldValue (opened c) t)))
     (rowGood cs (rowOf (map opened cs) r))
     ∙ ap (λ (x : Bool). held c t && x) (held-fields cs r)
-
-set-fields : (cs : List Column) (s : List ℕ) → lineSet cs s ≡ eachField (λ (c : Column) (t : List ℕ). isNumber (fieldValue c t)) cs s
-unfolding eachField lineSet
-set-fields [] s = refl
-set-fields (c ∷ cs) s = ap (λ (x : Bool). isNumber (fieldValue c (take (c .width) s)) && x) (set-fields cs (drop (c .width) s))
 
 -- a figure in a range is one in a wider range that is held to the first
 pub figure-held : (low high top : ℕ) (t : List ℕ) → high ≤ top

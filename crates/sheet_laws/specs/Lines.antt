@@ -31,19 +31,35 @@ unfolding rowOf
 length-rowOf [] s = refl
 length-rowOf (c ∷ cs) s = ap suc (length-rowOf cs (drop (c .width) s))
 
--- a line that can be read has its layout's length; so none of its fields is cut short
-pub line-length : (cs : List Column) (s : List ℕ) → lineSet cs s ≡ true → length s ≡ lineBytes cs
-unfolding lineSet lineBytes
-line-length [] s h = ap length (eqList-true s (10 ∷ []) h)
-line-length (c ∷ cs) s h =
+-- every field passes a test, and LF ends the line
+unfoldable pub eachField : (Column → List ℕ → Bool) → List Column → List ℕ → Bool
+eachField p [] s = eqList s (10 ∷ [])
+eachField p (c ∷ cs) s = p c (take (c .width) s) && eachField p cs (drop (c .width) s)
+
+-- its length is then the layout's
+pub field-length : (p : Column → List ℕ → Bool) (cs : List Column) (s : List ℕ) → eachField p cs s ≡ true → length s ≡ lineBytes cs
+unfolding eachField lineBytes
+field-length p [] s h = ap length (eqList-true s (10 ∷ []) h)
+field-length p (c ∷ cs) s h =
     let r : length (drop (c .width) s) ≡ lineBytes cs =
-    line-length cs (drop (c .width) s) (and-snd (isNumber (fieldValue c (take (c .width) s))) _ h) in
-    let p : 1 ≤ lineBytes cs = positive cs in
+    field-length p cs (drop (c .width) s) (and-snd (p c (take (c .width) s)) _ h) in
+    let l : 1 ≤ lineBytes cs = positive cs in
     omega (arith, length-drop (c .width) s)
   where
     positive : (ds : List Column) → 1 ≤ lineBytes ds
     positive [] = omega arith
     positive (d ∷ ds) = omega (arith, positive ds)
+
+-- a line that can be read, field by field
+pub set-fields : (cs : List Column) (s : List ℕ) → lineSet cs s ≡ eachField (λ (c : Column) (t : List ℕ). isNumber (fieldValue c t)) cs s
+unfolding eachField lineSet
+set-fields [] s = refl
+set-fields (c ∷ cs) s = ap (λ (x : Bool). isNumber (fieldValue c (take (c .width) s)) && x) (set-fields cs (drop (c .width) s))
+
+-- a line that can be read has its layout's length; so none of its fields is cut short
+pub line-length : (cs : List Column) (s : List ℕ) → lineSet cs s ≡ true → length s ≡ lineBytes cs
+line-length cs s h =
+    field-length (λ (c : Column) (t : List ℕ). isNumber (fieldValue c t)) cs s (sym (set-fields cs s) ∙ h)
 
 -- what reads as a row is what would be written for it, and its numbers are in range
 pub line-written-read : (cs : List Column) (s : List ℕ) → layoutOk cs ≡ true → lineSet cs s ≡ true → (lineText cs (rowOf cs s) ≡ s) × (rowGood cs (rowOf cs s) ≡ true)

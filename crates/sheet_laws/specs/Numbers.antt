@@ -74,17 +74,25 @@ row-same x h =
     numbers-of-record x (eqb-true (length x) 15 (and-snd (rowGood recordLayout x) (eqb (length x) 15) h))
     (state-ranged x (and-fst (rowGood recordLayout x) (eqb (length x) 15) h))
 
+-- accepted numbers are whole rows, each in range
+whole-rows : (v : List ℕ) → rowsAccepted v ≡ true → length v ≡ length v / 15 * 15
+unfolding rowsAccepted
+whole-rows v h = search tests
+
+full-rows : (v : List ℕ) → rowsAccepted v ≡ true → all (λ (x : List ℕ). rowGood recordLayout x && eqb (length x) 15) (pieces 15 (length v / 15) v) ≡ true
+unfolding rowsAccepted rows
+full-rows v h =
+    let g : all (rowGood recordLayout) (pieces 15 (length v / 15) v) ≡ true = search tests in
+    all-and (rowGood recordLayout) (λ (x : List ℕ). eqb (length x) 15) (pieces 15 (length v / 15) v) g (pieces-whole 15 (length v / 15) v (whole-rows v h))
+
 -- T3, records as numbers: accepted numbers are those of their records
 pub numbers-written-read : (v : List ℕ) → rowsAccepted v ≡ true → allNumbers (map recordOf (rows v)) ≡ v
 unfolding rowsAccepted allNumbers rows
 numbers-written-read v h =
-    let n : length v ≡ length v / 15 * 15 = search tests in
-    let g : all (rowGood recordLayout) (pieces 15 (length v / 15) v) ≡ true = search tests in
-    let w = pieces-whole 15 (length v / 15) v n in
-    let both = all-and (rowGood recordLayout) (λ (x : List ℕ). eqb (length x) 15) (pieces 15 (length v / 15) v) g w in
+    let n = whole-rows v h in
     ap joined
     (map-map recordNumbers recordOf (pieces 15 (length v / 15) v)
-    ∙ map-same (λ (x : List ℕ). rowGood recordLayout x && eqb (length x) 15) (λ (x : List ℕ). recordNumbers (recordOf x)) row-same _ both)
+    ∙ map-same (λ (x : List ℕ). rowGood recordLayout x && eqb (length x) 15) (λ (x : List ℕ). recordNumbers (recordOf x)) row-same _ (full-rows v h))
     ∙ joined-pieces 15 (length v / 15) v n
 
 -- the rows of an accepted sheet's lines are the numbers of its records
@@ -101,10 +109,6 @@ numbers-of-lines s h =
 pub lines-of-numbers : (v : List ℕ) → rowsAccepted v ≡ true → joined (map (lineText recordLayout) (rows v)) ≡ recordsText (map recordOf (rows v))
 unfolding rowsAccepted recordsText recordText rows
 lines-of-numbers v h =
-    let n : length v ≡ length v / 15 * 15 = search tests in
-    let g : all (rowGood recordLayout) (pieces 15 (length v / 15) v) ≡ true = search tests in
-    let w = pieces-whole 15 (length v / 15) v n in
-    let both = all-and (rowGood recordLayout) (λ (x : List ℕ). eqb (length x) 15) (pieces 15 (length v / 15) v) g w in
     ap joined
-    (map-equal (λ (x : List ℕ). rowGood recordLayout x && eqb (length x) 15) (lineText recordLayout) (λ (x : List ℕ). lineText recordLayout (recordNumbers (recordOf x))) (λ x e. ap (lineText recordLayout) (sym (row-same x e))) (pieces 15 (length v / 15) v) both
+    (map-equal (λ (x : List ℕ). rowGood recordLayout x && eqb (length x) 15) (lineText recordLayout) (λ (x : List ℕ). lineText recordLayout (recordNumbers (recordOf x))) (λ x e. ap (lineText recordLayout) (sym (row-same x e))) (pieces 15 (length v / 15) v) (full-rows v h)
     ∙ sym (map-map (λ (r : Record). lineText recordLayout (recordNumbers r)) recordOf (pieces 15 (length v / 15) v)))

@@ -32,6 +32,14 @@ pub struct Key {
     pub clustering: u32,
 }
 
+pub const NO_KEY: Key = Key {
+    storage: 0,
+    namespace: 0,
+    table: 0,
+    partition: 0,
+    clustering: 0,
+};
+
 // What a record holds: its columns, and the version and number of the transaction that wrote them.
 #[repr(C)]
 pub struct Image {
@@ -40,6 +48,13 @@ pub struct Image {
     pub column1: u32,
     pub column2: u32,
 }
+
+pub const NO_IMAGE: Image = Image {
+    version: 0,
+    txid: 0,
+    column1: 0,
+    column2: 0,
+};
 
 // A line of the record sheet. `before` is document 01's before fields, `clock` its prepare clock.
 pub struct Record {
