@@ -21,7 +21,7 @@ use Rattle.types.specs.declared.Transaction.{Transaction}
 use Rattle.types.specs.declared.Found.{Found}
 use Rattle.types.specs.declared.Recovery.{Recovery}
 use Rattle.types.specs.declared.Recovery.the-variants.{Stays, Forward, Back, Again, Busy}
-use Rattle.model.specs.Records.{isZero, hasLine, lineOf, keyInRange, byFound}
+use Rattle.model.specs.Records.{isZero, sameKey, hasLine, lineOf, keyInRange, byFound}
 use Rattle.model.specs.Coordinator.{withIssued}
 use Rattle.model.specs.Transactions.{withdrawPhase, noVerdict, held, noEntry, heldAt, entryAs, withPut, moved, withEntry}
 use Rattle.model.specs.Images.{isPrepared, rolledForward}
@@ -43,6 +43,7 @@ use Rattle.model.specs.Conditions.{isNew, heldEntry, busy, cannotAbort, conditi
 use Rattle.model.specs.Steps.{unitsOf, step}
 use Rattle.model.specs.Calls.{newTransaction, readNew, holding, afterPut, beginResult, readResult, putResult, advanceResult, abortResult, visitResult}
 use Rattle.model.specs.Histories.{returned, visited, readAnswered, answer, written, after, returns, ClockFits}
+use Rattle.sheet_laws.specs.Search.{first-by}
 use Rattle.sheet_laws.specs.Coordinator.{bounds}
 use Rattle.call_laws.specs.Choices.{by-phase-of, unless-by, not-first, by-meeting}
 use Rattle.call_laws.specs.Keys.{hasKey}
@@ -52,7 +53,7 @@ use Rattle.call_laws.specs.Lines.{line-of-key}
 use Rattle.call_laws.specs.Sheets.{GoodSheets, good-parts, parts-good, Fit, fit-nothing, fit-issue, fit-decide, fit-forward, fit-back, write-closed}
 use Rattle.call_laws.specs.Transactions.{Body, Stage, parts-well-formed, body-moved, verdict-at, to-withdraw}
 use Rattle.call_laws.specs.Steps.{Closed, step-closed}
-use Rattle.call_laws.specs.Entries.{HeldAt, held-by, getD-first, all-more, all-replaced, distinct-more, distinct-replaced}
+use Rattle.call_laws.specs.Entries.{getD-first, all-more, all-replaced, distinct-more, distinct-replaced}
 use Rattle.call_laws.specs.Keeping.{Keeps, formed-after, keeps-refused, keeps-made, strictly, taken-parts, line-good, less-than-eight, not-held, open-again}
 
 module _ (s : Sheets) (good : GoodSheets s) where
@@ -232,15 +233,15 @@ module _ (s : Sheets) (good : GoodSheets s) where
 
   module _ (t : Transaction) (b : Body s t) (c : Columns) where
     -- the entry at a place replaced by one with a put
-    put-body : (k : Key) (m : ℕ) → HeldAt k (held t) noEntry m → columnsInRange c ≡ true → leb 99999 (getD (t .entries) m noEntry .seen .version) ≡ false → Body s (withEntry (t .count) m (withPut c (getD (t .entries) m noEntry)) t)
+    put-body : (m : ℕ) → m < length (held t) → columnsInRange c ≡ true → leb 99999 (getD (t .entries) m noEntry .seen .version) ≡ false → Body s (withEntry (t .count) m (withPut c (getD (t .entries) m noEntry)) t)
     unfolding held linesHeld
-    put-body k m x r v =
+    put-body m l r v =
         let y = getD (t .entries) m noEntry in
-        let same : getD (held t) m noEntry ≡ y = getD-first (t .count) (t .entries) m noEntry (x .within) in
+        let same : getD (held t) m noEntry ≡ y = getD-first (t .count) (t .entries) m noEntry l in
         let f : entryFormed (s .coordinator .issued) y ≡ true =
-        ap (entryFormed (s .coordinator .issued)) (sym same) ∙ all-at (entryFormed (s .coordinator .issued)) (held t) noEntry m (b .entries) (x .within) in
+        ap (entryFormed (s .coordinator .issued)) (sym same) ∙ all-at (entryFormed (s .coordinator .issued)) (held t) noEntry m (b .entries) l in
         let h : hasLine (y .key) (s .lines) ≡ true =
-        ap (λ (e : Entry). hasLine (e .key) (s .lines)) (sym same) ∙ all-at (λ (e : Entry). hasLine (e .key) (s .lines)) (held t) noEntry m (b .lines) (x .within) in
+        ap (λ (e : Entry). hasLine (e .key) (s .lines)) (sym same) ∙ all-at (λ (e : Entry). hasLine (e .key) (s .lines)) (held t) noEntry m (b .lines) l in
         record {
           number = b .number;
           known = b .known;
@@ -255,11 +256,11 @@ module _ (s : Sheets) (good : GoodSheets s) where
     put-formed : (k : Key) → Stage (unitsOf s) t → t .phase ≡ 0 → columnsInRange c ≡ true → leb 99999 (heldEntry k t .seen .version) ≡ false → wellFormed (apply nothing s) (afterPut t k c) ≡ true
     unfolding afterPut heldAt
     put-formed k g ph r =
-        held-by
+        first-by (λ (e : Entry). sameKey (e .key) k)
         (λ (f : Found). leb 99999 (byFound f noEntry (λ (i : ℕ). getD (t .entries) i noEntry) .seen .version) ≡ false → wellFormed (apply nothing s) (byFound f t (λ (i : ℕ). withEntry (t .count) i (withPut c (getD (t .entries) i noEntry)) t)) ≡ true)
-        k (held t) noEntry
+        (held t) noEntry
         (λ n v. formed-after s nothing t b g)
-        (λ m x v. formed-after s nothing (withEntry (t .count) m (withPut c (getD (t .entries) m noEntry)) t) (put-body k m x r v)
+        (λ m x v. formed-after s nothing (withEntry (t .count) m (withPut c (getD (t .entries) m noEntry)) t) (put-body m (x .within) r v)
         (open-again (unitsOf s) t g ph (t .count) m (withPut c (getD (t .entries) m noEntry))))
 
   put-keeps : (t : Transaction) (k : Key) (c : Columns) → Keeps s returned (putResult t k c s)

@@ -1,56 +1,19 @@
--- Entries held by a transaction: found by key, one more held, one replaced. Each goes by induction on the entries.
-use Prim.Native.Nat.{ℕ, zero, suc, _+_, _<_}
-use mathlib.Core.Path.{_≡_, refl, ap, ap₂, _∙_, subst}
-use mathlib.Core.Bool.{Bool, true, false, _&&_, _||_, not, cond}
+-- Entries held by a transaction: one more held, one replaced. Each goes by induction on the entries.
+use Prim.Native.Nat.{ℕ, zero, suc, _<_}
+use mathlib.Core.Path.{_≡_, refl, ap, ap₂}
+use mathlib.Core.Bool.{Bool, true, false, _&&_, _||_, not}
 use mathlib.Core.List.{List, [], _∷_}
 use native.Mathlib.Omega.{arith}
 use lib.ListN.{length, take, getD, set}
 use borrow.Author.Tests.{not-true}
 use Rattle.lists.specs.Each.{all, any}
 use Rattle.lists.specs.Chosen.{or-fst, or-snd}
-use Rattle.lists.specs.Tests.{and-fst, and-snd, and-both, choose-by}
+use Rattle.lists.specs.Tests.{and-fst, and-snd, and-both}
 use Rattle.types.specs.declared.Key.{Key}
 use Rattle.types.specs.declared.Entry.{Entry}
-use Rattle.types.specs.declared.Found.{Found}
-use Rattle.types.specs.declared.Found.the-variants.{At, Nothing}
-use Rattle.model.specs.Records.{sameKey, isMissing}
-use Rattle.model.specs.Transactions.{heldFrom}
+use Rattle.model.specs.Records.{sameKey}
 use Rattle.model.specs.WellFormed.{distinctKeys}
-use Rattle.call_laws.specs.Keys.{same-key, same-key-flip, hasKey}
-
--- An entry with the key is found.
-
-pub found-held : (i : ℕ) (k : Key) (es : List Entry) → isMissing (heldFrom i k es) ≡ not (hasKey k es)
-unfolding heldFrom isMissing any
-found-held i k [] = refl
-found-held i k (e ∷ es) = go (sameKey (e .key) k) (found-held (suc i) k es)
-  where
-    go : (b : Bool) → isMissing (heldFrom (suc i) k es) ≡ not (hasKey k es) → isMissing (cond b (At i) (heldFrom (suc i) k es)) ≡ not (b || hasKey k es)
-    go true e = refl
-    go false e = e
-
--- the entry at the place found
-pub record HeldAt (k : Key) (es : List Entry) (d : Entry) (m : ℕ) : Type 0 where
-  pub within : m < length es
-  pub key : getD es m d .key ≡ k
-
--- a fact about the place found: of none if no entry has the key, else of the place of one that has it
-held-from {κ} : (P : Found → Type κ) (i : ℕ) (k : Key) (es : List Entry) (d : Entry) → (hasKey k es ≡ false → P Nothing) → ((m : ℕ) → HeldAt k es d m → P (At (i + m))) → P (heldFrom i k es)
-unfolding heldFrom any
-held-from P i k [] d f g = f refl
-held-from P i k (e ∷ es) d f g =
-    choose-by P (sameKey (e .key) k)
-    (λ h. let z : i + 0 ≡ i = omega arith in
-    subst (λ (n : ℕ). P (At n)) z (g 0 (record { within = omega arith; key = same-key (e .key) k h })))
-    (λ h. held-from P (suc i) k es d
-    (λ n. f (ap (λ (b : Bool). b || hasKey k es) h ∙ n))
-    (λ m x. let z : i + suc m ≡ suc i + m = omega arith in
-    let l : m < length es = x .within in
-    subst (λ (n : ℕ). P (At n)) z (g (suc m) (record { within = omega arith; key = x .key }))))
-
-pub held-by {κ} : (P : Found → Type κ) (k : Key) (es : List Entry) (d : Entry) → (hasKey k es ≡ false → P Nothing) → ((m : ℕ) → HeldAt k es d m → P (At m)) → P (heldFrom 0 k es)
-held-by P k es d f g =
-    held-from P 0 k es d f (λ m x. let z : m ≡ 0 + m = omega arith in subst (λ (n : ℕ). P (At n)) z (g m x))
+use Rattle.call_laws.specs.Keys.{same-key-flip, hasKey}
 
 -- Within the first n.
 pub getD-first : (n : ℕ) (es : List Entry) (m : ℕ) (d : Entry) → m < length (take n es) → getD (take n es) m d ≡ getD es m d

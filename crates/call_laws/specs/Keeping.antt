@@ -6,14 +6,14 @@ use mathlib.Core.List.{List, _∷_, map}
 use mathlib.Core.Option.{some, Option·none-ne-some, Option·some-injective}
 use native.Mathlib.Omega.{arith}
 use lib.Dec.{eqb, leb}
-use borrow.Author.Tests.{not-true, not-false, eqb-true, eqb-false, le-leb, leb-true, leb-false}
+use borrow.Author.Tests.{not-false, eqb-true, eqb-false, le-leb, leb-true, leb-false}
 use Rattle.lists.specs.All.{all-weaken}
 use Rattle.lists.specs.Tests.{tests}
 use Rattle.types.specs.declared.AtomicityUnit.{AtomicityUnit}
 use Rattle.types.specs.declared.Key.{Key}
 use Rattle.types.specs.declared.Entry.{Entry}
 use Rattle.types.specs.declared.Transaction.{Transaction}
-use Rattle.model.specs.Records.{hasLine, lineOf}
+use Rattle.model.specs.Records.{sameKey, hasLine, lineOf}
 use Rattle.model.specs.Coordinator.{Coordinator, withIssued}
 use Rattle.model.specs.Refusals.{Condition, refuse, refusalOf}
 use Rattle.model.specs.Transactions.{held, heldAt, withEntry}
@@ -23,13 +23,13 @@ use Rattle.model.specs.Results.{Result, refused, made, writeOf}
 use Rattle.model.specs.Conditions.{isNew}
 use Rattle.model.specs.Steps.{unitsOf}
 use Rattle.model.specs.Histories.{Answer, answerOf, returns}
+use Rattle.sheet_laws.specs.Search.{some-found}
 use Rattle.call_laws.specs.Choices.{not-first}
 use Rattle.call_laws.specs.Keys.{hasKey}
 use Rattle.call_laws.specs.Ranges.{GoodParts, fine, fine-parts}
 use Rattle.call_laws.specs.Lines.{has-line, line-key, has-line-kept, line-passes}
 use Rattle.call_laws.specs.Sheets.{GoodSheets, Fit, fit-nothing, decided-issued, decided-units}
 use Rattle.call_laws.specs.Transactions.{Body, Stage, well-formed-parts, parts-well-formed, place-at, verdict-at, stage-open}
-use Rattle.call_laws.specs.Entries.{found-held}
 
 -- What a write leaves of a transaction's rules.
 
@@ -123,7 +123,7 @@ less-than-eight n h = leb-false 8 n h
 -- a new key is held by no entry
 pub not-held : (k : Key) (t : Transaction) → isNew k t ≡ true → hasKey k (held t) ≡ false
 unfolding heldAt
-not-held k t n = not-true (hasKey k (held t)) (sym (found-held 0 k (held t)) ∙ n)
+not-held k t n = sym (some-found (λ (e : Entry). sameKey (e .key) k) 0 (held t)) ∙ ap not n
 
 -- an open transaction stays open with another entry
 pub open-again : (us : List AtomicityUnit) (t : Transaction) → Stage us t → t .phase ≡ 0 → (n i : ℕ) (e : Entry) → Stage us (withEntry n i e t)

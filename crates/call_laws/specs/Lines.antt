@@ -1,7 +1,6 @@
 -- Lines by their keys: a write keeps keys, so that order and look-up stay; on a sheet in order the line of a record's key is that record.
-use Prim.Native.Nat.{ℕ, suc}
 use mathlib.Core.Path.{_≡_, refl, sym, ap, ap₂, _∙_}
-use mathlib.Core.Bool.{Bool, true, false, _&&_, _||_, not, cond, true≢false}
+use mathlib.Core.Bool.{Bool, true, false, _&&_, _||_, cond, true≢false}
 use mathlib.Core.List.{List, [], _∷_, map}
 use mathlib.Core.Option.{Option, none, some}
 use Rattle.lists.specs.Each.{all, any}
@@ -11,8 +10,7 @@ use Rattle.lists.specs.Chosen.{or-else, or-left, or-right}
 use Rattle.types.specs.declared.Key.{Key}
 use Rattle.types.specs.declared.Record.{Record}
 use Rattle.types.specs.declared.Entry.{Entry}
-use Rattle.types.specs.declared.Found.the-variants.{At}
-use Rattle.model.specs.Records.{keyNumbers, keyLess, inOrder, rising, sameKey, foundFrom, found, isMissing, hasLine, lineOf}
+use Rattle.model.specs.Records.{keyNumbers, keyLess, inOrder, rising, sameKey, found, hasLine, lineOf}
 use Rattle.model.specs.Images.{prepared, committed, rolledForward, rolledBack}
 use Rattle.model.specs.Writes.{
   Write,
@@ -28,24 +26,16 @@ use Rattle.model.specs.Writes.{
   isOf,
   lineAfter,
 }
+use Rattle.sheet_laws.specs.Search.{some-found}
 use Rattle.call_laws.specs.Keys.{same-key, same-key-refl, other-key}
 
 -- some line has the key
 abbrev pub listsKey : Key → List Record → Bool
 listsKey k rs = any (λ (r : Record). sameKey (r .key) k) rs
 
-found-listed : (i : ℕ) (k : Key) (rs : List Record) → not (isMissing (foundFrom i k rs)) ≡ listsKey k rs
-unfolding foundFrom isMissing any
-found-listed i k [] = refl
-found-listed i k (r ∷ rs) = go (sameKey (r .key) k) (found-listed (suc i) k rs)
-  where
-    go : (b : Bool) → not (isMissing (foundFrom (suc i) k rs)) ≡ listsKey k rs → not (isMissing (cond b (At i) (foundFrom (suc i) k rs))) ≡ (b || listsKey k rs)
-    go true e = refl
-    go false e = e
-
 pub has-line : (k : Key) (rs : List Record) → hasLine k rs ≡ listsKey k rs
 unfolding found
-has-line k rs = found-listed 0 k rs
+has-line k rs = some-found (λ (r : Record). sameKey (r .key) k) 0 rs
 
 key-trans : (a b c : Key) → keyLess a b ≡ true → keyLess b c ≡ true → keyLess a c ≡ true
 unfolding keyLess

@@ -1,21 +1,20 @@
 -- Writes by place: the line of a key found on a sheet in order, replaced in the bytes, is the line of that key replaced on the decoded sheet; likewise a
 -- decision and the count of numbers issued.
-use Prim.Native.Nat.{ℕ, zero, suc, _+_, _*_, _/_, _≤_, _<_}
-use mathlib.Core.Path.{_≡_, refl, sym, ap, ap₂, _∙_, subst}
-use mathlib.Core.Bool.{Bool, true, false, _||_, cond, true≢false}
+use Prim.Native.Nat.{ℕ, zero, suc, _*_, _/_, _≤_, _<_}
+use mathlib.Core.Path.{_≡_, refl, sym, ap, ap₂, _∙_}
+use mathlib.Core.Bool.{Bool, true, false, cond, true≢false}
 use mathlib.Core.List.{List, [], _∷_, map}
 use native.Mathlib.Omega.{arith}
-use lib.ListN.{length, drop, getD, set}
+use lib.ListN.{length, take, drop, getD, set}
 use Rattle.lists.specs.Each.{any}
 use Rattle.lists.specs.Pieces.{over}
 use Rattle.lists.specs.Chosen.{or-left, or-right, or-fst, or-snd}
-use Rattle.lists.specs.Tests.{and-snd, choose-by, tests}
+use Rattle.lists.specs.Tests.{and-snd, tests}
 use Rattle.decimal.specs.Field.{fieldText}
 use Rattle.types.specs.declared.Decision.{Decision}
 use Rattle.types.specs.declared.Key.{Key}
 use Rattle.types.specs.declared.Record.{Record}
-use Rattle.types.specs.declared.Found.{Found}
-use Rattle.types.specs.declared.Found.the-variants.{At, Nothing}
+use Rattle.types.specs.declared.Found.the-variants.{At}
 use Rattle.model.specs.Lines.{linesOf, linesSet}
 use Rattle.model.specs.Records.{
   noRecord,
@@ -27,13 +26,13 @@ use Rattle.model.specs.Records.{
   inOrder,
   rising,
   sameKey,
-  foundFrom,
   found,
   lineOf,
 }
 use Rattle.model.specs.Coordinator.{coordinatorOf, coordinatorText, coordinatorAccepted, withDecision, withIssued}
 use Rattle.sheet_laws.specs.Records.{sheet-written-read, good-ranged}
 use Rattle.sheet_laws.specs.Places.{length-records, records-over, accepted-over}
+use Rattle.sheet_laws.specs.Search.{first-at}
 use Rattle.sheet_laws.specs.Coordinator.{decisionText, coordinator-written-read, bounds}
 use Rattle.sheet_laws.specs.Decisions.{
   Accepted,
@@ -55,38 +54,33 @@ pub record FoundAt (k : Key) (rs : List Record) (i : ℕ) : Type 0 where
   pub listed : listsKey k rs ≡ true
   pub key : getD rs i noRecord .key ≡ k
 
-found-from {κ} : (P : Found → Type κ) (i : ℕ) (k : Key) (rs : List Record) → (listsKey k rs ≡ false → P Nothing) → ((m : ℕ) → FoundAt k rs m → P (At (i + m))) → P (foundFrom i k rs)
-unfolding foundFrom any lineOf
-found-from P i k [] f g = f refl
-found-from P i k (r ∷ rs) f g =
-    choose-by P (sameKey (r .key) k)
-    (λ h. let z : i + 0 ≡ i = omega arith in
-    subst (λ (n : ℕ). P (At n)) z
-    (g 0
-    (record {
-      within = omega arith;
-      line = sym (ap (λ (b : Bool). cond b r (lineOf k rs)) h);
-      listed = ap (λ (b : Bool). b || listsKey k rs) h;
-      key = same-key (r .key) k h;
-    })))
-    (λ h. found-from P (suc i) k rs
-    (λ n. f (ap (λ (b : Bool). b || listsKey k rs) h ∙ n))
-    (λ m x. let z : i + suc m ≡ suc i + m = omega arith in
-    let l : m < length rs = x .within in
-    subst (λ (n : ℕ). P (At n)) z
-    (g (suc m)
-    (record {
-      within = omega arith;
-      line = x .line ∙ sym (ap (λ (b : Bool). cond b r (lineOf k rs)) h);
-      listed = ap (λ (b : Bool). b || listsKey k rs) h ∙ x .listed;
-      key = x .key;
-    }))))
+lists-at : (k : Key) (rs : List Record) (i : ℕ) → i < length rs → getD rs i noRecord .key ≡ k → listsKey k rs ≡ true
+unfolding any
+lists-at k [] i l e = absurd (omega arith)
+lists-at k (r ∷ rs) zero l e = or-left (sameKey (r .key) k) (listsKey k rs) (ap (λ (j : Key). sameKey j k) e ∙ same-key-refl k)
+lists-at k (r ∷ rs) (suc i) l e = or-right (sameKey (r .key) k) (listsKey k rs) (lists-at k rs i (omega arith) e)
 
--- a fact about the place of a key: of none if no line has it, else of the place of its line
-pub found-by {κ} : (P : Found → Type κ) (k : Key) (rs : List Record) → (listsKey k rs ≡ false → P Nothing) → ((i : ℕ) → FoundAt k rs i → P (At i)) → P (found k rs)
+-- the first line with the key is the line of the key
+first-line : (k : Key) (rs : List Record) (i : ℕ) → i < length rs → sameKey (getD rs i noRecord .key) k ≡ true → listsKey k (take i rs) ≡ false → getD rs i noRecord ≡ lineOf k rs
+unfolding any lineOf
+first-line k [] i l e n = absurd (omega arith)
+first-line k (r ∷ rs) zero l e n = rw e
+first-line k (r ∷ rs) (suc i) l e n =
+    let h : sameKey (r .key) k ≡ false = or-fst (sameKey (r .key) k) (listsKey k (take i rs)) n in
+    rw h (first-line k rs i (omega arith) e (or-snd (sameKey (r .key) k) (listsKey k (take i rs)) n))
+
+-- what a search tells of the place that it found
+pub found-at : (k : Key) (rs : List Record) (i : ℕ) → found k rs ≡ At i → FoundAt k rs i
 unfolding found
-found-by P k rs f g =
-    found-from P 0 k rs f (λ m x. let z : m ≡ 0 + m = omega arith in subst (λ (n : ℕ). P (At n)) z (g m x))
+found-at k rs i e =
+    let x = first-at (λ (r : Record). sameKey (r .key) k) rs noRecord i e in
+    let m : getD rs i noRecord .key ≡ k = same-key (getD rs i noRecord .key) k (x .passes) in
+    record {
+      within = x .within;
+      line = first-line k rs i (x .within) (x .passes) (x .before);
+      listed = lists-at k rs i (x .within) m;
+      key = m;
+    }
 
 -- a map that changes only the line of one key
 abbrev pub atKey : Key → (Record → Record) → Record → Record
@@ -100,12 +94,6 @@ map-elsewhere k f (r ∷ rs) h =
     ap₂ _∷_ (ap (λ (b : Bool). cond b (f r) r) (or-fst (sameKey (r .key) k) (listsKey k rs) h))
     (map-elsewhere k f rs (or-snd (sameKey (r .key) k) (listsKey k rs) h))
 
-lists-at : (k : Key) (rs : List Record) (i : ℕ) → i < length rs → getD rs i noRecord .key ≡ k → listsKey k rs ≡ true
-unfolding any
-lists-at k [] i l e = absurd (omega arith)
-lists-at k (r ∷ rs) zero l e = or-left (sameKey (r .key) k) (listsKey k rs) (ap (λ (j : Key). sameKey j k) e ∙ same-key-refl k)
-lists-at k (r ∷ rs) (suc i) l e = or-right (sameKey (r .key) k) (listsKey k rs) (lists-at k rs i (omega arith) e)
-
 -- the key of the first line is no later line's
 none-later : (k : Key) (r : Record) (rs : List Record) → rising (r ∷ rs) ≡ true → sameKey (r .key) k ≡ true → listsKey k rs ≡ false
 none-later k r rs h e = go (listsKey k rs) refl
@@ -115,27 +103,19 @@ none-later k r rs h e = go (listsKey k rs) refl
     go false m = refl
 
 -- on a sheet in order, changing the line of a key is setting the record at its place
-pub set-at-key : (k : Key) (f : Record → Record) (rs : List Record) (i : ℕ) → rising rs ≡ true → FoundAt k rs i → set rs i (f (lineOf k rs)) ≡ map (atKey k f) rs
-unfolding rising any lineOf
-set-at-key k f [] i h x = absurd (true≢false (sym (x .listed)))
-set-at-key k f (r ∷ rs) zero h x =
-    let e : sameKey (r .key) k ≡ true = ap (λ (j : Key). sameKey j k) (x .key) ∙ same-key-refl k in
+pub set-at-key : (k : Key) (f : Record → Record) (rs : List Record) (i : ℕ) → rising rs ≡ true → i < length rs → getD rs i noRecord .key ≡ k → set rs i (f (lineOf k rs)) ≡ map (atKey k f) rs
+unfolding rising lineOf
+set-at-key k f [] i h l m = absurd (omega arith)
+set-at-key k f (r ∷ rs) zero h l m =
+    let e : sameKey (r .key) k ≡ true = ap (λ (j : Key). sameKey j k) m ∙ same-key-refl k in
     ap₂ _∷_
     (ap (λ (b : Bool). f (cond b r (lineOf k rs))) e ∙ sym (ap (λ (b : Bool). cond b (f r) r) e))
     (sym (map-elsewhere k f rs (none-later k r rs h e)))
-set-at-key k f (r ∷ rs) (suc i) h x =
-    let l : suc i < suc (length rs) = x .within in
-    let m : listsKey k rs ≡ true = lists-at k rs i (omega arith) (x .key) in
-    let e : sameKey (r .key) k ≡ false = apart r rs k h m in
-    let y : FoundAt k rs i = record {
-      within = omega arith;
-      line = x .line ∙ ap (λ (b : Bool). cond b r (lineOf k rs)) e;
-      listed = m;
-      key = x .key;
-    } in
+set-at-key k f (r ∷ rs) (suc i) h l m =
+    let e : sameKey (r .key) k ≡ false = apart r rs k h (lists-at k rs i (omega arith) m) in
     ap₂ _∷_ (sym (ap (λ (b : Bool). cond b (f r) r) e))
     (ap (λ (b : Bool). set rs i (f (cond b r (lineOf k rs)))) e
-    ∙ set-at-key k f rs i (and-snd (inOrder r rs) (rising rs) h) y)
+    ∙ set-at-key k f rs i (and-snd (inOrder r rs) (rising rs) h) (omega arith) m)
 
 -- The bytes.
 

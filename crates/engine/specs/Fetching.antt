@@ -24,7 +24,7 @@ use Rattle.model.specs.Conditions.{isNew, heldEntry, conditions}
 use Rattle.model.specs.Calls.{ReadAnswer, readHeld, holding, readNew, readResult}
 use Rattle.model.specs.ByteCalls.{readOn}
 use Rattle.protocol.specs.Held.{entryAt}
-use Rattle.group_writes.specs.Lookup.{found-at}
+use Rattle.call_laws.specs.Places.{found-at}
 use Rattle.engine.specs.declared.Fetched.{Fetched}
 use Rattle.engine.specs.Answers.{readingNumber, readingColumns, fetched}
 use Rattle.engine.specs.Outcomes.{Outcome, outcome-made, written-nothing}

@@ -34,8 +34,7 @@ use Rattle.call_laws.specs.Ranges.{GoodParts, parts-fine}
 use Rattle.call_laws.specs.Images.{when-prepared, forward-fine, back-fine}
 use Rattle.call_laws.specs.Lines.{has-line, line-key}
 use Rattle.call_laws.specs.Keeping.{line-good}
-use Rattle.call_laws.specs.Places.{FoundAt, atKey, set-at-key, line-replaced, decision-replaced}
-use Rattle.group_writes.specs.Lookup.{found-at}
+use Rattle.call_laws.specs.Places.{FoundAt, found-at, atKey, set-at-key, line-replaced, decision-replaced}
 use Rattle.engine.specs.Outcomes.{Written, Outcome, outcome-made, Accepted, lines-kept, decisions-kept, written-nothing}
 
 abbrev pub lineAt : List ℕ → ℕ → Record
@@ -114,7 +113,7 @@ module _ (rs cs : List ℕ) (i : ℕ) (s : Standing rs cs i) where
       ∙ (line-replaced rs i r (s .accepted .lines) l q k .0
       ∙ (ap (λ (x : Record). recordsText (set (records rs) i x)) f
       ∙ ap recordsText
-      (set-at-key (here .key) (lineAfter w) (records rs) i (s .accepted .good .order) (s .place)
+      (set-at-key (here .key) (lineAfter w) (records rs) i (s .accepted .good .order) l refl
       ∙ map-alone w (here .key) h (records rs))))
 
   -- the line rolled, by a write that rolls it alone

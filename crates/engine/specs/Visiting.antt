@@ -18,7 +18,7 @@ use Rattle.model.specs.Conditions.{conditions}
 use Rattle.model.specs.Calls.{visitResult}
 use Rattle.model.specs.ByteCalls.{visitOn}
 use Rattle.call_laws.specs.Lines.{has-line}
-use Rattle.group_writes.specs.Lookup.{found-at}
+use Rattle.call_laws.specs.Places.{found-at}
 use Rattle.engine.specs.declared.Visited.{Visited}
 use Rattle.engine.specs.Answers.{visited, visitedBy}
 use Rattle.engine.specs.Outcomes.{Outcome, Accepted, turned-away, let-pass}

@@ -41,11 +41,10 @@ use Rattle.model.specs.Steps.{keysOf}
 use Rattle.sheet_laws.specs.Records.{good-ranged}
 use Rattle.sheet_laws.specs.Places.{length-records, records-over}
 use Rattle.call_laws.specs.Keys.{same-key, same-key-refl, same-key-flip, hasKey, no-entry}
-use Rattle.call_laws.specs.Places.{FoundAt, atKey, set-at-key, whole-lines, line-replaced}
+use Rattle.call_laws.specs.Places.{FoundAt, found-at, atKey, set-at-key, whole-lines, line-replaced}
 use Rattle.call_laws.specs.Ranges.{fine-parts}
 use Rattle.group_writes.specs.declared.changes.Change.{Change}
 use Rattle.group_writes.specs.declared.changes.Change.the-variants.{Commit, Prepare, Forward, Back}
-use Rattle.group_writes.specs.Lookup.{found-at}
 
 -- the record changed for an entry under a number
 unfoldable pub changed : Change → ℕ → Entry → Record → Record
@@ -210,5 +209,5 @@ module _ (c : Change) (n : ℕ) (e : Entry) (i : ℕ) (rs : List ℕ) (due : Due
         lines =
             ap records o
             ∙ (records-over rs i r m (good-ranged r g) (whole-lines rs (due .accepted))
-            ∙ (ap (set (records rs) i) p ∙ set-at-key (e .key) (changed c n e) (records rs) i (accepted-order rs (due .accepted)) x));
+            ∙ (ap (set (records rs) i) p ∙ set-at-key (e .key) (changed c n e) (records rs) i (accepted-order rs (due .accepted)) l (x .key)));
       }

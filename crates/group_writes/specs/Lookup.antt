@@ -1,9 +1,8 @@
 -- What a look-up by key tells, by the two cases of what is found: a key out of range is found nowhere, and a found place is that of the key's line.
 use Prim.Native.Nat.{ℕ}
-use mathlib.Core.Path.{_≡_, refl, sym, ap, _∙_, subst}
+use mathlib.Core.Path.{_≡_, refl, sym, ap, _∙_}
 use mathlib.Core.Bool.{true, false, true≢false}
 use mathlib.Core.List.{List}
-use native.Mathlib.Omega.{arith}
 use lib.ListN.{getD}
 use Rattle.lists.specs.Each.{all}
 use Rattle.lists.specs.Tests.{tests}
@@ -18,7 +17,7 @@ use Rattle.model.specs.Steps.{holds}
 use Rattle.sheet_laws.specs.Records.{good-ranged}
 use Rattle.sheet_laws.specs.Keys.{key-ranged}
 use Rattle.call_laws.specs.Lines.{listsKey, line-of-key, line-passes}
-use Rattle.call_laws.specs.Places.{FoundAt, found-by}
+use Rattle.call_laws.specs.Places.{found-at}
 
 -- every line of an accepted sheet is good alone
 accepted-good : (s : List ℕ) → recordsAccepted s ≡ true → all goodAlone (records s) ≡ true
@@ -32,17 +31,14 @@ line-in-range s k a l =
     ap keyInRange (sym (line-of-key k (records s))) ∙ key-ranged r (good-ranged r g)
 
 pub found-in-range : (s : List ℕ) (k : Key) → recordsAccepted s ≡ true → keyInRange k ≡ false → Nothing ≡ found k (records s)
-found-in-range s k a h =
-    found-by (λ (f : Found). Nothing ≡ f) k (records s) (λ l. refl)
-    (λ i x. absurd (true≢false (sym (line-in-range s k a (x .listed)) ∙ h)))
+found-in-range s k a h = go (found k (records s)) refl
+  where
+    go : (f : Found) → found k (records s) ≡ f → Nothing ≡ f
+    go Nothing e = refl
+    go (At i) e = absurd (true≢false (sym (line-in-range s k a (found-at k (records s) i e .listed)) ∙ h))
 
--- A place that was found, and what its line tells.
+-- What the line at a found place tells.
 module _ (k : Key) (rs : List Record) where
-  pub found-at : (i : ℕ) → found k rs ≡ At i → FoundAt k rs i
-  found-at i =
-      found-by (λ (f : Found). f ≡ At i → FoundAt k rs i) k rs (λ l e. let z : _≡_ {A = ℕ} 0 1 = cc in absurd (omega arith))
-      (λ j x e. let m : j ≡ i = cc in subst (FoundAt k rs) m x)
-
   pub has-line-at : (i : ℕ) → found k rs ≡ At i → true ≡ hasLine k rs
   unfolding isMissing
   has-line-at i e = rw e

@@ -1,23 +1,25 @@
 -- The places of the lines of a transaction's entries, found once: no write moves a key, so that they hold after every write too.
-use Prim.Native.Nat.{ℕ, suc, _+_, _<_}
+use Prim.Native.Nat.{ℕ, _+_, _<_}
 use mathlib.Core.Path.{_≡_, refl, sym, ap, _∙_, subst}
-use mathlib.Core.Bool.{Bool, true, false, not, cond, true≢false}
-use mathlib.Core.List.{List, [], _∷_, map}
+use mathlib.Core.Bool.{Bool, true, false, not, true≢false}
+use mathlib.Core.List.{List, map}
 use native.Mathlib.Omega.{arith}
 use lib.ListN.{length, getD, set}
 use lib.Seq.{getD-set-same, getD-set-other}
 use lib.Dec.{eqb}
 use borrow.Author.Tests.{eqb-true, eqb-false}
+use Rattle.lists.specs.All.{all-always}
 use Rattle.types.specs.declared.Found.{Found}
 use Rattle.types.specs.declared.Found.the-variants.{At, Nothing}
 use Rattle.types.specs.declared.Entry.{Entry}
 use Rattle.types.specs.declared.Key.{Key}
 use Rattle.types.specs.declared.Record.{Record}
 use Rattle.types.specs.declared.Transaction.{Transaction}
-use Rattle.model.specs.Records.{sameKey, foundFrom, found, isMissing}
+use Rattle.model.specs.Records.{sameKey, found, isMissing}
 use Rattle.model.specs.Transactions.{held, heldAt, noEntry}
-use Rattle.call_laws.specs.Entries.{held-by, getD-first, found-held}
-use Rattle.call_laws.specs.Keys.{hasKey}
+use Rattle.sheet_laws.specs.Search.{some-found, first-at, first-map}
+use Rattle.call_laws.specs.Entries.{getD-first}
+use Rattle.call_laws.specs.Keys.{same-key, hasKey}
 use Rattle.protocol.specs.Held.{entryAt, held-below}
 
 -- the lines of the first n entries are at these places
@@ -41,26 +43,19 @@ module _ (rs : List Record) (t : Transaction) where
 
 -- Lines whose keys stay are found where they were.
 module _ (f : Record → Record) (kept : (r : Record) → f r .key ≡ r .key) where
-  found-kept : (i : ℕ) (k : Key) (rs : List Record) → foundFrom i k (map f rs) ≡ foundFrom i k rs
-  unfolding foundFrom
-  found-kept i k [] = refl
-  found-kept i k (r ∷ rs) =
-      ap (λ (j : Key). cond (sameKey j k) (At i) (foundFrom (suc i) k (map f rs))) (kept r)
-      ∙ ap (cond (sameKey (r .key) k) (At i)) (found-kept (suc i) k rs)
-
   pub placed-kept : (rs : List Record) (t : Transaction) (ps : List ℕ) (n : ℕ) → Placed rs t ps n → Placed (map f rs) t ps n
   unfolding found
-  placed-kept rs t ps n h = record { at = λ i l. found-kept 0 (entryAt t i .key) rs ∙ h .at i l }
+  placed-kept rs t ps n h =
+      let same : (k : Key) → found k (map f rs) ≡ found k rs = λ k. first-map (λ (r : Record). sameKey (r .key) k) f (λ (r : Record). true) _ (λ r e. ap (λ (j : Key). sameKey j k) (kept r)) 0 rs (all-always rs) in
+      record { at = λ i l. same (entryAt t i .key) ∙ h .at i l }
 
 -- the place of a key that the transaction holds
 module _ (k : Key) (t : Transaction) where
   held-key : (i : ℕ) → heldAt k t ≡ At i → entryAt t i .key ≡ k
   unfolding heldAt held
-  held-key i =
-      held-by (λ (f : Found). f ≡ At i → entryAt t i .key ≡ k) k (held t) noEntry (λ h e. let z : _≡_ {A = ℕ} 0 1 = cc in absurd (omega arith))
-      (λ m x e. let j : m ≡ i = cc in
-      subst (λ (y : ℕ). entryAt t y .key ≡ k) j
-      (ap (λ (y : Entry). y .key) (sym (getD-first (t .count) (t .entries) m noEntry (x .within))) ∙ x .key))
+  held-key i e =
+      let x = first-at (λ (y : Entry). sameKey (y .key) k) (held t) noEntry i e in
+      ap (λ (y : Entry). y .key) (sym (getD-first (t .count) (t .entries) i noEntry (x .within))) ∙ same-key _ k (x .passes)
 
   pub placed-held : (rs : List Record) (ps : List ℕ) (i : ℕ) → heldAt k t ≡ At i → Placed rs t ps (t .count) → found k rs ≡ At (getD ps i 0)
   placed-held rs ps i e h =
@@ -69,4 +64,4 @@ module _ (k : Key) (t : Transaction) where
   pub held-somewhere : heldAt k t ≡ Nothing → hasKey k (held t) ≡ true → ⊥
   unfolding heldAt isMissing
   held-somewhere e h =
-      true≢false (ap isMissing (sym e) ∙ (found-held 0 k (held t) ∙ ap not h))
+      true≢false (sym h ∙ (sym (some-found (λ (y : Entry). sameKey (y .key) k) 0 (held t)) ∙ ap (λ (f : Found). not (isMissing f)) e))

@@ -1,6 +1,7 @@
 -- The specification. Read in this order.
 pub mod Layouts
 pub mod Lines
+pub mod Search
 pub mod Records
 pub mod Coordinator
 pub mod Refusals

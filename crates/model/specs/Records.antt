@@ -15,6 +15,7 @@ use Rattle.types.specs.declared.Found.{Found}
 use Rattle.types.specs.declared.Found.the-variants.{At, Nothing}
 use Rattle.model.specs.Layouts.{recordLayout, keyLayout, recordBytes, recordFields}
 use Rattle.model.specs.Lines.{rowOf, lineText, rowGood, linesOf, linesSet}
+use Rattle.model.specs.Search.{firstFrom}
 
 -- State words by their place among the words.
 
@@ -183,14 +184,9 @@ keyInRange k = rowGood keyLayout (keyNumbers k)
 unfoldable pub sameKey : Key → Key → Bool
 sameKey a b = eqList (keyNumbers a) (keyNumbers b)
 
--- the place of the first record with the key, counted from i
-unfoldable pub foundFrom : ℕ → Key → List Record → Found
-foundFrom i k [] = Nothing
-foundFrom i k (r ∷ rs) = cond (sameKey (r .key) k) (At i) (foundFrom (suc i) k rs)
-
 -- the place of the line that has the key
 unfoldable pub found : Key → List Record → Found
-found k rs = foundFrom 0 k rs
+found k rs = firstFrom (λ (r : Record). sameKey (r .key) k) 0 rs
 
 abbrev pub byFound {ℓ} : {A : Type ℓ} → Found → A → (ℕ → A) → A
 byFound Nothing a f = a

@@ -1,5 +1,5 @@
 -- A transaction as its client keeps it: names for its numbers, and the entries that it holds. Document 01, "Transaction".
-use Prim.Native.Nat.{ℕ, suc}
+use Prim.Native.Nat.{ℕ}
 use mathlib.Core.Bool.{Bool, true, false, _&&_, not, cond}
 use mathlib.Core.List.{List, [], _∷_}
 use lib.ListN.{take, set}
@@ -13,7 +13,7 @@ use Rattle.types.specs.declared.Transaction.{Transaction}
 use Rattle.types.specs.declared.Reading.{Reading}
 use Rattle.types.specs.declared.Reading.the-variants.{Absent, Value}
 use Rattle.types.specs.declared.Found.{Found}
-use Rattle.types.specs.declared.Found.the-variants.{At, Nothing}
+use Rattle.model.specs.Search.{firstFrom}
 use Rattle.model.specs.Records.{noImage, noRecord, sameKey}
 
 -- Phases by number, in the order of the step table. Validate is document 01's check.
@@ -94,14 +94,9 @@ abbrev pub isEmpty {ℓ} : {A : Type ℓ} → List A → Bool
 isEmpty [] = true
 isEmpty (x ∷ xs) = false
 
--- the place of the first entry with the key, counted from i
-unfoldable pub heldFrom : ℕ → Key → List Entry → Found
-heldFrom i k [] = Nothing
-heldFrom i k (e ∷ es) = cond (sameKey (e .key) k) (At i) (heldFrom (suc i) k es)
-
 -- the place of the entry that holds the key
 unfoldable pub heldAt : Key → Transaction → Found
-heldAt k t = heldFrom 0 k (held t)
+heldAt k t = firstFrom (λ (e : Entry). sameKey (e .key) k) 0 (held t)
 
 -- "Read gives a held entry as last put, else as first read"; "Read answers an ABSENT line as absent."
 unfoldable pub reading : Entry → Reading

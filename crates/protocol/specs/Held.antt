@@ -19,8 +19,10 @@ use Rattle.types.specs.declared.Found.{Found}
 use Rattle.types.specs.declared.Found.the-variants.{At, Nothing}
 use Rattle.types.specs.declared.Key.{Key}
 use Rattle.types.specs.declared.Transaction.{Transaction}
+use Rattle.model.specs.Search.{firstFrom}
 use Rattle.model.specs.Records.{sameKey}
-use Rattle.model.specs.Transactions.{held, heldFrom, heldAt, isEmpty, noEntry}
+use Rattle.model.specs.Transactions.{held, heldAt, isEmpty, noEntry}
+use Rattle.sheet_laws.specs.Search.{first-at}
 
 -- a transaction has room for eight entries: what owning one tells of its seventh field
 eight : (t : Transaction) {vs : List Val} → Is (row the-type) t vs → length (t .entries) ≡ 8
@@ -67,39 +69,26 @@ module _ {A : Type 0} (t : Transaction) (f : List Entry → A) where
       let n : length (take (t .count) (t .entries)) ≤ i = simp length-take (omega arith) in
       ap f (sym (drop-of-length-le (held t) n)) ∙ p .rest
 
--- Which entry has the key?
-module _ (t : Transaction) (k : Key) (w : Found) (i : ℕ) (p : PassedTo t (heldFrom i k) w i) where
-  pub held-met : i < t .count → sameKey (entryAt t i .key) k ≡ true → At i ≡ w
-  unfolding heldFrom
-  held-met l e = rw e at (pass-here t (heldFrom i k) w i l p)
+-- Which entry is the first to pass a test?
+module _ (t : Transaction) (q : Entry → Bool) (w : Found) (i : ℕ) (p : PassedTo t (firstFrom q i) w i) where
+  pub first-met : i < t .count → q (entryAt t i) ≡ true → At i ≡ w
+  unfolding firstFrom
+  first-met l e = rw e at (pass-here t (firstFrom q i) w i l p)
 
-  pub held-next : i < t .count → sameKey (entryAt t i .key) k ≡ false → PassedTo t (heldFrom (i + 1) k) w (i + 1)
-  unfolding heldFrom
-  held-next l e = pass-next t (heldFrom i k) (heldFrom (i + 1) k) w i l p (rw (e, add-one))
+  pub first-next : i < t .count → q (entryAt t i) ≡ false → PassedTo t (firstFrom q (i + 1)) w (i + 1)
+  unfolding firstFrom
+  first-next l e = pass-next t (firstFrom q i) (firstFrom q (i + 1)) w i l p (rw (e, add-one))
 
-  pub held-last : t .count ≤ i → Nothing ≡ w
-  unfolding heldFrom
-  held-last l = pass-last t (heldFrom i k) w i l p
-
-held-under : (j : ℕ) (k : Key) (es : List Entry) (i : ℕ) → heldFrom j k es ≡ At i → i < j + length es
-unfolding heldFrom
-held-under j k [] i e = let z : _≡_ {A = ℕ} 0 1 = cc in absurd (omega arith)
-held-under j k (x ∷ es) i e = go (sameKey (x .key) k) refl (held-under (suc j) k es i)
-  where
-    go : (b : Bool) → sameKey (x .key) k ≡ b → (heldFrom (suc j) k es ≡ At i → i < suc j + length es) → i < j + length (x ∷ es)
-    go true h rest =
-        let f : _≡_ {A = Found} (At j) (At i) = rw h at e in
-        let g : j ≡ i = cc in
-        omega arith
-    go false h rest =
-        let f : heldFrom (suc j) k es ≡ At i = rw h at e in
-        let l = rest f in
-        omega arith
+  pub first-last : t .count ≤ i → Nothing ≡ w
+  unfolding firstFrom
+  first-last l = pass-last t (firstFrom q i) w i l p
 
 -- a place that was found is one of the entries in use
 pub held-below : (t : Transaction) (k : Key) (i : ℕ) → heldAt k t ≡ At i → i < t .count
 unfolding heldAt held
-held-below t k i e = omega (arith, held-under 0 k (held t) i e, length-take (t .count) (t .entries))
+held-below t k i e =
+    let x = first-at (λ (y : Entry). sameKey (y .key) k) (held t) noEntry i e in
+    omega (arith, x .within, length-take (t .count) (t .entries))
 
 -- Does some entry pass a test?
 module _ (t : Transaction) (q : Entry → Bool) (w : Bool) (i : ℕ) (p : PassedTo t (any q) w i) where

@@ -46,11 +46,13 @@ use Rattle.model.specs.Calls.{
 }
 use Rattle.model.specs.Histories.{Event, Answer, returned, visited, answerOf, readAnswered, given, returns, takenBy, Available}
 use Rattle.model.specs.SequentialModel.{Model, modelBegin, modelPut, modelCommit, modelCall, modelStep}
+use Rattle.sheet_laws.specs.Search.{FirstAt, first-by}
 use Rattle.call_laws.specs.Choices.{by-phase-of, unless-by, not-first, by-meeting}
+use Rattle.call_laws.specs.Keys.{same-key}
 use Rattle.call_laws.specs.Lines.{listsKey, has-line}
 use Rattle.call_laws.specs.Sheets.{GoodSheets}
 use Rattle.call_laws.specs.Transactions.{well-formed-parts}
-use Rattle.call_laws.specs.Entries.{HeldAt, held-by, getD-first}
+use Rattle.call_laws.specs.Entries.{getD-first}
 use Rattle.recovery.specs.Settling.{
   Gentle,
   gentle-nothing,
@@ -219,11 +221,12 @@ module _ {base : ℕ} {one : ℕ → Bool} (s : Sheets) (es : List Event) (m : M
 
   -- Put.
 
-  put-moves : (t : Transaction) (k : Key) (c : Columns) (i : ℕ) → Remembered s m t → t .phase ≡ 0 → HeldAt k (held t) noEntry i → Moves s m t nothing (modelPut (t .number) k c m) (withEntry (t .count) i (withPut c (getD (t .entries) i noEntry)) t)
+  put-moves : (t : Transaction) (k : Key) (c : Columns) (i : ℕ) → Remembered s m t → t .phase ≡ 0 → FirstAt (λ (e : Entry). sameKey (e .key) k) (held t) noEntry i → Moves s m t nothing (modelPut (t .number) k c m) (withEntry (t .count) i (withPut c (getD (t .entries) i noEntry)) t)
   unfolding modelPut held decisionsAfter
   put-moves t k c i known ph x =
       let y = getD (t .entries) i noEntry in
       let same : getD (held t) i noEntry ≡ y = getD-first (t .count) (t .entries) i noEntry (x .within) in
+      let there : getD (held t) i noEntry .key ≡ k = same-key (getD (held t) i noEntry .key) k (x .passes) in
       let t′ = withEntry (t .count) i (withPut c y) t in
       record {
         view = gentle-view s m nothing (inv .good) gentle-nothing (inv .view);
@@ -231,8 +234,8 @@ module _ {base : ℕ} {one : ℕ → Bool} (s : Sheets) (es : List Event) (m : M
         sets = λ j. ap (λ (b : Bool). cond (b && sameKey k j) (some c) (m .writes (t .number) j)) (eq-eqb (t .number) (t .number) refl)
             ∙ (ap (cond (sameKey k j) (some c)) (known .sets j)
             ∙ sym (ap (putIn j) (take-set (t .count) i (withPut c y) (t .entries))
-            ∙ put-in-replaced k j (withPut c y) noEntry i (held t) (well-formed-parts s t (known .formed) .0 .distinct) (x .within) (x .key)
-            (ap (λ (e : Entry). e .key) (sym same) ∙ x .key) refl));
+            ∙ put-in-replaced k j (withPut c y) noEntry i (held t) (well-formed-parts s t (known .formed) .0 .distinct) (x .within) there
+            (ap (λ (e : Entry). e .key) (sym same) ∙ there) refl));
         memory = λ l. memory-kept s t′ nothing (inv .good) away-nothing
             (memory-as s t t′ refl (λ j. done-in-open (unitsOf s) t′ ph j ∙ sym (done-in-open (unitsOf s) t ph j)) (known .memory (omega arith)));
         open-undecided = λ e. known .open-undecided ph;
@@ -254,9 +257,9 @@ module _ {base : ℕ} {one : ℕ → Bool} (s : Sheets) (es : List Event) (m : M
       let c10 = not-first 10 (isNew k t) _ (omega arith) (c7 .1) in
       let ph : t .phase ≡ 0 = eqb-true (t .phase) 0 (not-false (eqb (t .phase) 0) (c4 .0)) in
       inv-taken s es m _ t (afterPut t k c) nothing _ inv (a t refl) refl refl (omega arith) g (w (afterPut t k c) refl)
-      (held-by
+      (first-by (λ (e : Entry). sameKey (e .key) k)
       (λ (f : Found). isMissing f ≡ false → Moves s m t nothing (modelPut (t .number) k c m) (byFound f t (λ (i : ℕ). withEntry (t .count) i (withPut c (getD (t .entries) i noEntry)) t)))
-      k (held t) noEntry
+      (held t) noEntry
       (λ n q. absurd (missing-none q))
       (λ i x q. put-moves t k c i (inv .known t (a t refl)) ph x)
       (c10 .0)))

@@ -1,8 +1,9 @@
--- Theorems about fields, lines and sheets, for any layout that passes one computed test.
+-- Theorems about fields, lines and sheets, for any layout that passes one computed test; and about what a search finds, for any list and test.
 pub mod Fields
 pub mod Lines
 pub mod Records
 pub mod Places
+pub mod Search
 pub mod Numbers
 pub mod Keys
 pub mod Coordinator

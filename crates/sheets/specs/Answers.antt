@@ -1,27 +1,25 @@
 -- What each call answers, case by case in the order of its conditions.
-use Prim.Native.Nat.{ℕ, zero, suc, _+_, _-_, _*_, _/_, _≤_, _<_}
-use mathlib.Core.Path.{_≡_, refl, sym, ap, _∙_}
-use mathlib.Core.Bool.{Bool, true, false, cond, not}
-use mathlib.Core.List.{List, [], _∷_, map}
+use Prim.Native.Nat.{ℕ, _+_, _*_, _/_, _≤_}
+use mathlib.Core.Path.{_≡_, refl, _∙_}
+use mathlib.Core.Bool.{true, false}
+use mathlib.Core.List.{List, [], map}
 use native.Mathlib.Omega.{arith}
 use lib.ListN.{length, take, drop}
-use lib.Dec.{eqb}
 use borrow.Author.Tests.{eq-eqb, ne-eqb}
 use Rattle.lists.specs.Each.{joined}
-use Rattle.types.specs.declared.Found.{Found}
 use Rattle.types.specs.declared.Found.the-variants.{At, Nothing}
 use Rattle.types.specs.declared.Key.{Key}
 use Rattle.types.specs.declared.Record.{Record}
 use Rattle.model.specs.Layouts.{recordLayout}
 use Rattle.model.specs.Lines.{rowOf, lineText, linesOf}
 use Rattle.model.specs.Records.{
+  noRecord,
   records,
   recordsAccepted,
   rows,
   rowsAccepted,
   keyInRange,
   sameKey,
-  foundFrom,
   found,
   isMissing,
 }
@@ -40,6 +38,7 @@ use Rattle.model.specs.SheetCalls.{
 }
 use Rattle.sheet_laws.specs.Numbers.{numbers-of-lines, lines-of-numbers}
 use Rattle.sheet_laws.specs.Places.{length-records}
+use Rattle.sheet_laws.specs.Search.{first-at}
 
 -- Record sheet to numbers.
 module _ (s t : List ℕ) where
@@ -102,26 +101,11 @@ module _ (s : List ℕ) (k : Key) where
   lookup-met i e g f = rw (e, g, f) (refl, refl)
 
 -- a place that was found is one of the sheet's
-found-below : (j : ℕ) (k : Key) (rs : List Record) (i : ℕ) → foundFrom j k rs ≡ At i → i < j + length rs
-unfolding foundFrom
-found-below j k [] i e = let z : _≡_ {A = ℕ} 0 1 = cc in absurd (omega arith)
-found-below j k (r ∷ rs) i e = go (sameKey (r .key) k) refl (found-below (suc j) k rs i)
-  where
-    go : (b : Bool) → sameKey (r .key) k ≡ b → (foundFrom (suc j) k rs ≡ At i → i < suc j + length rs) → i < j + length (r ∷ rs)
-    go true h rest =
-        let f : _≡_ {A = Found} (At j) (At i) = rw h at e in
-        let g : j ≡ i = cc in
-        omega arith
-    go false h rest =
-        let f : foundFrom (suc j) k rs ≡ At i = rw h at e in
-        let l = rest f in
-        omega arith
-
 pub found-fits : (s : List ℕ) (k : Key) (i : ℕ) → found k (records s) ≡ At i → i * 98 + 98 ≤ length s
 unfolding found
 found-fits s k i e =
-    let l = found-below 0 k (records s) i e in
-    omega (arith, length-records s)
+    let x = first-at (λ (r : Record). sameKey (r .key) k) (records s) noRecord i e in
+    omega (arith, x .within, length-records s)
 
 -- The check of both sheets.
 module _ (rs cs : List ℕ) where

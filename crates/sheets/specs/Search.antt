@@ -1,15 +1,14 @@
 -- The search of a key, line by line and field by field: the first line whose twenty bytes are those of the key's line.
 use Prim.Native.Nat.{ℕ, zero, suc, _+_, _-_, _*_, _/_, _≤_, _<_}
 use mathlib.Core.Path.{_≡_, refl, sym, ap, ap₂, _∙_}
-use mathlib.Core.Bool.{Bool, true, false, _&&_, cond, true≢false}
-use mathlib.Core.List.{List, [], _∷_, _++_, map}
+use mathlib.Core.Bool.{Bool, true, false, cond, true≢false}
+use mathlib.Core.List.{List, [], _∷_, _++_}
 use native.Mathlib.Omega.{arith}
 use native.Mathlib.Nat.{zero-add}
 use native.Mathlib.Numerals.{add-one}
 use lib.ListN.{length, take, drop, getD, drop-of-length-le}
 use lib.Seq.{drop-cons, drop-drop, take-add}
-use lib.Dec.{ltb}
-use Rattle.lists.specs.Tests.{and-fst, and-snd, tests}
+use Rattle.lists.specs.Tests.{tests}
 use Rattle.lists.specs.Bytes.{eqList, eqList-true, eqList-refl, ne-eqList}
 use Rattle.lists.specs.Each.{all, pieces}
 use Rattle.lists.specs.Pieces.{take-drop-take, getD-pieces, length-pieces}
@@ -19,15 +18,17 @@ use Rattle.types.specs.declared.Key.{Key}
 use Rattle.types.specs.declared.Record.{Record}
 use Rattle.model.specs.Layouts.{recordLayout}
 use Rattle.model.specs.Lines.{lineSet, linesOf, linesSet}
+use Rattle.model.specs.Search.{firstFrom}
 use Rattle.model.specs.Records.{
   records,
   recordIn,
   recordsAccepted,
   keyInRange,
-  foundFrom,
+  sameKey,
   found,
 }
-use Rattle.sheet_laws.specs.Keys.{keyLine, keyText, key-line-text, key-same}
+use Rattle.sheet_laws.specs.Search.{first-map}
+use Rattle.sheet_laws.specs.Keys.{keyLine, key-line-text, key-same}
 
 -- where key field f begins
 unfoldable pub edge : ℕ → ℕ
@@ -90,9 +91,8 @@ module _ (line text : List ℕ) (o p n : ℕ) (rising : o ≤ p) (within : p ≤
       true≢false (sym (eqList-refl (take (p - o) (drop o text))) ∙ (ap (λ (t : List ℕ). eqList t (take (p - o) (drop o text))) (sym q) ∙ e))
 
 -- the place of the first line, counted from i, that begins as the text does
-unfoldable pub foundLine : ℕ → List ℕ → List (List ℕ) → Found
-foundLine i text [] = Nothing
-foundLine i text (l ∷ ls) = cond (eqList (take 20 l) (take 20 text)) (At i) (foundLine (suc i) text ls)
+abbrev pub foundLine : ℕ → List ℕ → List (List ℕ) → Found
+foundLine i text ls = firstFrom (λ (l : List ℕ). eqList (take 20 l) (take 20 text)) i ls
 
 -- How far the lines have been passed: none before i begins so.
 pub record Passed (s text : List ℕ) (i : ℕ) : Type 0 where
@@ -120,7 +120,7 @@ agree-next s text i g f n l e a =
 -- The line at place i, by whether it begins as the text does.
 module _ (s text : List ℕ) (i : ℕ) (here : i < length s / 98) (p : Passed s text i) where
   from-here : cond (eqList (take 20 (lineBytesAt s i)) (take 20 text)) (At i) (foundLine (i + 1) text (drop (i + 1) (linesOf 98 s))) ≡ foundLine 0 text (linesOf 98 s)
-  unfolding foundLine linesOf
+  unfolding firstFrom linesOf
   from-here =
       let n : i < length (pieces 98 (length s / 98) s) = omega (arith, length-pieces 98 (length s / 98) s) in
       let d : drop i (linesOf 98 s) ≡ lineBytesAt s i ∷ drop (i + 1) (linesOf 98 s) =
@@ -145,23 +145,17 @@ module _ (s text : List ℕ) (i : ℕ) (here : i < length s / 98) (p : Passed s 
       record { place = omega arith; rest = rw m at from-here }
 
 pub pass-last : (s text : List ℕ) (i : ℕ) → length s / 98 ≤ i → Passed s text i → Nothing ≡ foundLine 0 text (linesOf 98 s)
-unfolding foundLine linesOf
+unfolding firstFrom linesOf
 pass-last s text i l p =
     let n : length (pieces 98 (length s / 98) s) ≤ i = omega (arith, length-pieces 98 (length s / 98) s) in
     let d : drop i (linesOf 98 s) ≡ [] = drop-of-length-le (pieces 98 (length s / 98) s) n in
     rw d at (p .rest)
 
 -- the line that begins as a key line does is the one that has the key
-same-search : (i : ℕ) (k : Key) (ls : List (List ℕ)) → keyInRange k ≡ true → all (lineSet recordLayout) ls ≡ true → foundLine i (keyLine k) ls ≡ foundFrom i k (map recordIn ls)
-unfolding foundLine foundFrom all
-same-search i k [] g h = refl
-same-search i k (l ∷ ls) g h =
-    let o = and-fst (lineSet recordLayout l) (all (lineSet recordLayout) ls) h in
-    let r = same-search (suc i) k ls g (and-snd (lineSet recordLayout l) (all (lineSet recordLayout) ls) h) in
-    ap₂ (λ (b : Bool) (t : Found). cond b (At i) t) (ap (eqList (take 20 l)) (key-line-text k g) ∙ key-same l o k g) r
-
 pub search-is : (s : List ℕ) (k : Key) → recordsAccepted s ≡ true → keyInRange k ≡ true → foundLine 0 (keyLine k) (linesOf 98 s) ≡ found k (records s)
 unfolding recordsAccepted linesSet records found
 search-is s k a g =
     let w : all (lineSet recordLayout) (linesOf 98 s) ≡ true = search tests in
-    same-search 0 k (linesOf 98 s) g w
+    sym
+    (first-map (λ (r : Record). sameKey (r .key) k) recordIn (lineSet recordLayout) _
+    (λ l o. sym (ap (eqList (take 20 l)) (key-line-text k g) ∙ key-same l o k g)) 0 (linesOf 98 s) w)

@@ -2,13 +2,16 @@
 use Prim.Native.Nat.{_-_}
 use mathlib.Core.Path.{sym, _∙_}
 use borrow.Author.Needs.{needs}
-use Rattle.model.specs.Transactions.{heldFrom, heldAt}
-use Rattle.protocol.specs.Held.{PassedTo, pass-first, held-met, held-next, held-last}
+use Rattle.types.specs.declared.Entry.{Entry}
+use Rattle.model.specs.Search.{firstFrom}
+use Rattle.model.specs.Records.{sameKey}
+use Rattle.model.specs.Transactions.{heldAt}
+use Rattle.protocol.specs.Held.{PassedTo, pass-first, first-met, first-next, first-last}
 use Rattle.protocol.proofs.transactions.held_at.Statement.{statement}
 use Rattle.protocol.proofs.transactions.held_at.Tie as tie
 
 abbrev Inv-loop : tie.InvT-loop
-Inv-loop k t n i₀ i = PassedTo t (heldFrom i k) (heldAt k t) i
+Inv-loop k t n i₀ i = PassedTo t (firstFrom (λ (e : Entry). sameKey (e .key) k) i) (heldAt k t) i
 
 abbrev μ-loop : tie.MeasureT-loop
 μ-loop k t n i₀ i = n - i
@@ -27,7 +30,7 @@ same-key-requires : tie.Need-same-key-requires Inv-loop μ-loop
 same-key-requires c κs = search needs
 
 returns : tie.Need-returns Inv-loop μ-loop
-returns c = held-met _ _ _ _ (c .before .before .before .before .loop .inv) (c .before .before .before .loop-test .taken) (rw (c .before .before .entry-at .ensures) at (sym (c .before .same-key .ensures) ∙ c .if1 .taken))
+returns c = first-met _ _ _ _ (c .before .before .before .before .loop .inv) (c .before .before .before .loop-test .taken) (rw (c .before .before .entry-at .ensures) at (sym (c .before .same-key .ensures) ∙ c .if1 .taken))
 
 add-i : tie.Need-add-i Inv-loop μ-loop
 add-i c = search needs
@@ -36,10 +39,10 @@ loop-less : tie.Need-loop-less Inv-loop μ-loop
 loop-less c = search needs
 
 loop-again : tie.Need-loop-again Inv-loop μ-loop
-loop-again c = held-next _ _ _ _ (c .before .before .before .before .loop .inv) (c .before .before .before .loop-test .taken) (rw (c .before .before .entry-at .ensures) at (sym (c .before .same-key .ensures) ∙ c .if1 .left))
+loop-again c = first-next _ _ _ _ (c .before .before .before .before .loop .inv) (c .before .before .before .loop-test .taken) (rw (c .before .before .entry-at .ensures) at (sym (c .before .same-key .ensures) ∙ c .if1 .left))
 
 returns-2 : tie.Need-returns-2 Inv-loop μ-loop
-returns-2 c = held-last _ _ _ _ (c .before .loop .inv) (c .loop-test .left)
+returns-2 c = first-last _ _ _ _ (c .before .loop .inv) (c .loop-test .left)
 
 pub held-at-spec : {M : Type 1} → statement M
 held-at-spec =
