@@ -31,7 +31,7 @@ use Rattle.model.specs.Records.{
 }
 use Rattle.model.specs.Coordinator.{coordinatorOf, coordinatorText, coordinatorAccepted, withDecision, withIssued}
 use Rattle.sheet_laws.specs.Records.{sheet-written-read, good-ranged}
-use Rattle.sheet_laws.specs.Places.{length-records, records-over, accepted-over}
+use Rattle.sheet_laws.specs.Places.{whole-lines, length-records, records-over, accepted-over}
 use Rattle.sheet_laws.specs.Search.{first-at}
 use Rattle.sheet_laws.specs.Coordinator.{decisionText, coordinator-written-read, bounds}
 use Rattle.sheet_laws.specs.Decisions.{
@@ -118,11 +118,6 @@ set-at-key k f (r ∷ rs) (suc i) h l m =
     ∙ set-at-key k f rs i (and-snd (inOrder r rs) (rising rs) h) (omega arith) m)
 
 -- The bytes.
-
--- an accepted sheet has whole lines only
-pub whole-lines : (s : List ℕ) → recordsAccepted s ≡ true → length s ≡ length s / 98 * 98
-unfolding recordsAccepted linesSet linesOf
-whole-lines s a = search tests
 
 -- the line at a place replaced
 pub line-replaced : (s : List ℕ) (i : ℕ) (r : Record) → recordsAccepted s ≡ true → i < length (records s) → goodAlone r ≡ true → r .key ≡ getD (records s) i noRecord .key → (over s (i * 98) (recordText r) ≡ recordsText (set (records s) i r)) × (recordsAccepted (over s (i * 98) (recordText r)) ≡ true)

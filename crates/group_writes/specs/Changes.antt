@@ -39,9 +39,9 @@ use Rattle.model.specs.Writes.{Write, commit, prepare, forward, back, entryFor,
 use Rattle.model.specs.WellFormed.{imageInRange}
 use Rattle.model.specs.Steps.{keysOf}
 use Rattle.sheet_laws.specs.Records.{good-ranged}
-use Rattle.sheet_laws.specs.Places.{length-records, records-over}
+use Rattle.sheet_laws.specs.Places.{whole-lines, length-records, records-over}
 use Rattle.call_laws.specs.Keys.{same-key, same-key-refl, same-key-flip, hasKey, no-entry}
-use Rattle.call_laws.specs.Places.{FoundAt, found-at, atKey, set-at-key, whole-lines, line-replaced}
+use Rattle.call_laws.specs.Places.{FoundAt, found-at, atKey, set-at-key, line-replaced}
 use Rattle.call_laws.specs.Ranges.{fine-parts}
 use Rattle.group_writes.specs.declared.changes.Change.{Change}
 use Rattle.group_writes.specs.declared.changes.Change.the-variants.{Commit, Prepare, Forward, Back}

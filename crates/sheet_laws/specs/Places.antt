@@ -43,6 +43,11 @@ use Rattle.sheet_laws.specs.Records.{
   length-recordText,
 }
 
+-- an accepted sheet has whole lines only
+pub whole-lines : (s : List ℕ) → recordsAccepted s ≡ true → length s ≡ length s / 98 * 98
+unfolding recordsAccepted linesSet
+whole-lines s a = search tests
+
 pub length-records : (s : List ℕ) → length (records s) ≡ length s / 98
 unfolding records linesOf
 length-records s = length-map (pieces 98 (length s / 98) s) recordIn ∙ length-pieces 98 (length s / 98) s

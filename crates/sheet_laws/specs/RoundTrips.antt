@@ -52,7 +52,7 @@ use Rattle.model.specs.SheetCalls.{
 }
 use Rattle.sheet_laws.specs.Records.{ranged, good-ranged, sheet-written-read, records-read-written, lines-of-text}
 use Rattle.sheet_laws.specs.Numbers.{length-rows, numbers-read-written, numbers-written-read, rows-of-numbers}
-use Rattle.sheet_laws.specs.Places.{length-records}
+use Rattle.sheet_laws.specs.Places.{whole-lines, length-records}
 use Rattle.sheet_laws.specs.Coordinator.{Bounds, bounds, coordinator-written-read, coordinator-read-written}
 use Rattle.sheet_laws.specs.Decisions.{Accepted, accepted-parts, accepted-length, length-decisions}
 use Rattle.sheet_laws.specs.CoordinatorNumbers.{coordinator-of-numbers, numbers-of-coordinator}
@@ -75,10 +75,6 @@ all-ranged : (rs : List Record) → recordsGood rs ≡ true → all ranged rs �
 unfolding recordsGood
 all-ranged rs h = let g : all goodAlone rs ≡ true = search tests in all-weaken goodAlone ranged good-ranged rs g
 
-length-accepted : (s : List ℕ) → recordsAccepted s ≡ true → length s ≡ length s / 98 * 98
-unfolding recordsAccepted linesSet
-length-accepted s a = search tests
-
 -- T3, record sheet: read into numbers and written again
 pub records-round-trip : (s t u : List ℕ) → recordsAccepted s ≡ true → length t ≡ length s / 98 * 15 → length u ≡ length s → recordsWritten (numbersRead s t) u ≡ s
 records-round-trip s t u a n m =
@@ -86,7 +82,7 @@ records-round-trip s t u a n m =
     let r = numbers-read-written (records s) g in
     let l : length (allNumbers (records s)) ≡ length (records s) * 15 = rows-of-numbers (records s) (all-ranged (records s) g) .1 in
     let c : length (records s) ≡ length s / 98 = length-records s in
-    let w : length s ≡ length s / 98 * 98 = length-accepted s a in
+    let w : length s ≡ length s / 98 * 98 = whole-lines s a in
     let k : length u ≡ length (allNumbers (records s)) / 15 * 98 = omega arith in
     ap (λ (v : List ℕ). recordsWritten v u) (read-accepted s t a n)
     ∙ (write-accepted (allNumbers (records s)) u (r .1) k ∙ (ap recordsText (r .0) ∙ sheet-written-read s a))

@@ -12,6 +12,7 @@ use lib.Dec.{eqb, leb, leb·zero}
 use borrow.Author.Tests.{eqb-true, leb-true, le-leb, lt-leb, eq-eqb, ne-eqb}
 use Rattle.lists.specs.Tests.{same-test, and-swap}
 use Rattle.lists.specs.Each.{all}
+use Rattle.lists.specs.Chosen.{and-false}
 use Rattle.model.specs.Layouts.{headLayout, decisionColumn}
 use Rattle.model.specs.Lines.{inRange, rowGood}
 use Rattle.model.specs.Coordinator.{
@@ -54,10 +55,6 @@ none (suc zero) = refl
 none (suc (suc d)) =
     let e : leb (suc (suc d)) 0 ≡ false = lt-leb (suc (suc d)) 0 (omega arith) in
     rw e (and-false (inRange decisionColumn (suc (suc d))))
-  where
-    and-false : (b : Bool) → (b && false) ≡ false
-    and-false true = refl
-    and-false false = refl
 
 -- the tests of the rules are the pass
 pub decisions-pass : (k : ℕ) (ds : List ℕ) → (all (inRange decisionColumn) ds && all isUndecided (drop k (map decisionOf ds))) ≡ decisionsPass k ds
