@@ -1,5 +1,5 @@
 // Decimal fields of any width, as document 01 sets them: right-justified, space-filled, without leading zeros, zero as `0`.
-ghost use Prim.Native.Nat.{_+_, _-_, _*_};
+ghost use Prim.Native.Nat.{_+_, _-_, _*_, _/_};
 ghost use mathlib.Core.Path.{_≡_};
 ghost use mathlib.Core.Bool.{cond};
 ghost use lib.ListN.{length};
@@ -101,14 +101,17 @@ pub fn read(s: &[u8], low: u32, high: u32) -> Scan
     bounded(st, low, high)
 }
 
-// The last digit of what is left of a figure, or a space where nothing is left.
-fn column(rest: u32) -> u8
+// The last digit of what is left of a figure, or a space where nothing is left. The digit is made in either case, from the tenth that the next
+// column needs anyway, so that no branch depends on the figure.
+fn column(rest: u32, tenth: u32) -> u8
+    requires { ⌜ tenth ≡ rest / 10 ⌝ }
     ensures { λ r. ⌜ r ≡ place rest ⌝ }
 {
+    let digit = 48 + ((rest - tenth * 10) as u8);
     if rest == 0 {
         return 32;
     }
-    48 + ((rest % 10) as u8)
+    digit
 }
 
 // The figure v over the whole of s, from its last column, which is never blank.
@@ -124,8 +127,9 @@ pub fn write(s: &mut [u8], v: u32)
     let mut rest = v / 10;
     while i > 0 {
         i -= 1;
-        s[i] = column(rest);
-        rest = rest / 10;
+        let tenth = rest / 10;
+        s[i] = column(rest, tenth);
+        rest = tenth;
     }
 }
 

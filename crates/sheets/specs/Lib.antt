@@ -1,8 +1,3 @@
--- What one turn of a loop does to the definition that the loop computes.
+-- What one turn of the search does, and what each call answers.
 pub mod Search
-pub mod Filling
-pub mod RowsPass
 pub mod Answers
-pub mod Decisions
-pub mod DecisionFills
-pub mod DecisionAnswers

@@ -1,0 +1,76 @@
+-- The head comes back as its row, then the rest of the target as the decisions: both make the whole.
+use mathlib.Core.List.{_++_, map, List}
+use mathlib.Core.Path.{ap₂, _≡_, sym, ap, _∙_}
+use Prim.Native.Nat.{ℕ, _/_}
+use native.Mathlib.Omega.{arith}
+use lib.ListN.{length, drop, length-take, length-drop}
+use borrow.Author.Needs.{needs}
+use Rattle.model.specs.Lines.{linesOf}
+use Rattle.numbers.specs.DecisionFills.{decisionField, numbersIn}
+use Rattle.lists.specs.Fill.{front-same, rest-part, front-length, front-rest, front-back}
+use Rattle.model.specs.Layouts.{layout, headLayout}
+use Rattle.sheet_laws.specs.Lines.{lineBytes}
+use Rattle.numbers.proofs.decisions.fill_numbers.Statement.{statement}
+use Rattle.numbers.proofs.decisions.fill_numbers.Tie as tie
+
+slice-aggregate-read-row : tie.Need-slice-aggregate-read-row
+slice-aggregate-read-row c = simp length-take (omega arith)
+
+slice-relend-prefix-read-row : tie.Need-slice-relend-prefix-read-row
+slice-relend-prefix-read-row c = omega arith
+
+slice-aggregate-read-row-2 : tie.Need-slice-aggregate-read-row-2
+slice-aggregate-read-row-2 c = simp length-take (omega arith)
+
+read-row-requires : tie.Need-read-row-requires
+unfolding layout headLayout lineBytes
+read-row-requires c κs = (simp length-take (omega arith), simp length-take (omega arith))
+
+sub-fill-decisions : tie.Need-sub-fill-decisions
+sub-fill-decisions c = search needs
+
+part-fill-decisions-start : tie.Need-part-fill-decisions-start
+part-fill-decisions-start c = search needs
+
+part-fill-decisions-end : tie.Need-part-fill-decisions-end
+part-fill-decisions-end c = search needs
+
+sub-fill-decisions-2 : tie.Need-sub-fill-decisions-2
+sub-fill-decisions-2 c = let e = front-length 10 (c .before .before .before .read-row .last .1 .1 .0) (c .before .before .before .before .before .before .before .before .args .numbers .now) (c .before .before .before .read-row .kept .1 .1 .0) (omega arith) in omega arith
+
+part-fill-decisions-start-2 : tie.Need-part-fill-decisions-start-2
+part-fill-decisions-start-2 c = let e = front-length 10 (c .before .before .before .read-row .last .1 .1 .0) (c .before .before .before .before .before .before .before .before .args .numbers .now) (c .before .before .before .read-row .kept .1 .1 .0) (omega arith) in omega arith
+
+part-fill-decisions-end-2 : tie.Need-part-fill-decisions-end-2
+part-fill-decisions-end-2 c = search needs
+
+fill-decisions-requires : tie.Need-fill-decisions-requires
+fill-decisions-requires c κs = let k : length (drop 10 (c .before .before .before .before .before .before .before .before .before .args .numbers .now)) ≡ length (drop 15 (c .before .before .before .before .before .before .before .before .before .args .coordinator .now)) / 15 = rw length-drop (omega arith) in
+    ap length (front-rest 10 (c .before .before .before .before .read-row .last .1 .1 .0) (c .before .before .before .before .before .before .before .before .before .args .numbers .now) (c .before .before .before .before .read-row .kept .1 .1 .0) (omega arith))
+    ∙ (k ∙ ap (λ (x : List ℕ). length x / 15) (sym (rest-part 15 (c .before .before .before .before .before .before .before .before .before .args .coordinator .now))))
+
+same-length : tie.Need-same-length
+same-length c = front-same 10 (c .before .before .before .before .before .before .before .read-row .last .1 .1 .0) (c .before .before .before .before .before .before .before .before .before .before .before .before .args .numbers .now) (c .before .before .before .before .before .before .before .read-row .kept .1 .1 .0) (omega arith) (c .before .before .fill-decisions .last .1 .0) (c .before .before .fill-decisions .kept .1 .0)
+
+returns : tie.Need-returns
+unfolding layout numbersIn
+returns c = front-back 10 (c .before .before .before .before .before .before .before .read-row .last .1 .1 .0) (c .before .before .before .before .before .before .before .before .before .before .before .before .args .numbers .now) (c .before .before .before .before .before .before .before .read-row .kept .1 .1 .0) (omega arith) (c .before .before .fill-decisions .last .1 .0)
+    ∙ ap₂ _++_ (c .before .before .before .before .before .before .before .read-row .ensures) (c .before .before .fill-decisions .ensures ∙ ap (λ (x : List ℕ). map decisionField (linesOf 15 x)) (rest-part 15 (c .before .before .before .before .before .before .before .before .before .before .before .before .args .coordinator .now)))
+
+pub fill-numbers-spec : {M : Type 1} → statement M
+fill-numbers-spec =
+    tie.close
+    (tie.spec
+    slice-aggregate-read-row
+    slice-relend-prefix-read-row
+    slice-aggregate-read-row-2
+    read-row-requires
+    sub-fill-decisions
+    part-fill-decisions-start
+    part-fill-decisions-end
+    sub-fill-decisions-2
+    part-fill-decisions-start-2
+    part-fill-decisions-end-2
+    fill-decisions-requires
+    same-length
+    returns)

@@ -1,0 +1,76 @@
+-- The head comes back as its line, then the rest of the target as the lines: both make the whole.
+use mathlib.Core.Path.{ap₂, _≡_, sym, ap, _∙_}
+use Prim.Native.Nat.{ℕ, _*_}
+use mathlib.Core.List.{_++_, List}
+use native.Mathlib.Omega.{arith}
+use lib.ListN.{length, drop, length-take, length-drop}
+use borrow.Author.Needs.{needs}
+use Rattle.lists.specs.Each.{joined}
+use Rattle.model.specs.Layouts.{layout, headLayout}
+use Rattle.sheet_laws.specs.Lines.{lineBytes}
+use Rattle.numbers.specs.DecisionFills.{lineTexts, sheetFor}
+use Rattle.lists.specs.Fill.{rest-part, front-length, front-rest, front-back, front-same}
+use Rattle.numbers.proofs.decisions.fill_sheet.Statement.{statement}
+use Rattle.numbers.proofs.decisions.fill_sheet.Tie as tie
+
+slice-aggregate-write-row : tie.Need-slice-aggregate-write-row
+slice-aggregate-write-row c = simp length-take (omega arith)
+
+slice-relend-prefix-write-row : tie.Need-slice-relend-prefix-write-row
+slice-relend-prefix-write-row c = omega arith
+
+slice-aggregate-write-row-2 : tie.Need-slice-aggregate-write-row-2
+slice-aggregate-write-row-2 c = simp length-take (omega arith)
+
+write-row-requires : tie.Need-write-row-requires
+unfolding layout headLayout lineBytes
+write-row-requires c κs = (simp length-take (omega arith), simp length-take (omega arith))
+
+sub-fill-lines : tie.Need-sub-fill-lines
+sub-fill-lines c = search needs
+
+part-fill-lines-start : tie.Need-part-fill-lines-start
+part-fill-lines-start c = search needs
+
+part-fill-lines-end : tie.Need-part-fill-lines-end
+part-fill-lines-end c = search needs
+
+sub-fill-lines-2 : tie.Need-sub-fill-lines-2
+sub-fill-lines-2 c = let e = front-length 15 (c .before .before .before .write-row .last .1 .1 .0) (c .before .before .before .before .before .before .before .before .args .coordinator .now) (c .before .before .before .write-row .kept .1 .1 .0) (omega arith) in omega arith
+
+part-fill-lines-start-2 : tie.Need-part-fill-lines-start-2
+part-fill-lines-start-2 c = let e = front-length 15 (c .before .before .before .write-row .last .1 .1 .0) (c .before .before .before .before .before .before .before .before .args .coordinator .now) (c .before .before .before .write-row .kept .1 .1 .0) (omega arith) in omega arith
+
+part-fill-lines-end-2 : tie.Need-part-fill-lines-end-2
+part-fill-lines-end-2 c = search needs
+
+fill-lines-requires : tie.Need-fill-lines-requires
+fill-lines-requires c κs = let k : length (drop 15 (c .before .before .before .before .before .before .before .before .before .args .coordinator .now)) ≡ length (drop 10 (c .before .before .before .before .before .before .before .before .before .args .numbers .now)) * 15 = rw (length-drop 15 (c .before .before .before .before .before .before .before .before .before .args .coordinator .now)) (omega arith) in
+    let e = ap length (rest-part 10 (c .before .before .before .before .before .before .before .before .before .args .numbers .now)) in
+    (omega arith, ap length (front-rest 15 (c .before .before .before .before .write-row .last .1 .1 .0) (c .before .before .before .before .before .before .before .before .before .args .coordinator .now) (c .before .before .before .before .write-row .kept .1 .1 .0) (omega arith)) ∙ (k ∙ ap (λ (n : ℕ). n * 15) (sym e)))
+
+same-length : tie.Need-same-length
+same-length c = front-same 15 (c .before .before .before .before .before .before .before .write-row .last .1 .1 .0) (c .before .before .before .before .before .before .before .before .before .before .before .before .args .coordinator .now) (c .before .before .before .before .before .before .before .write-row .kept .1 .1 .0) (omega arith) (c .before .before .fill-lines .last .1 .0) (c .before .before .fill-lines .kept .1 .0)
+
+returns : tie.Need-returns
+unfolding layout sheetFor
+returns c = front-back 15 (c .before .before .before .before .before .before .before .write-row .last .1 .1 .0) (c .before .before .before .before .before .before .before .before .before .before .before .before .args .coordinator .now) (c .before .before .before .before .before .before .before .write-row .kept .1 .1 .0) (omega arith) (c .before .before .fill-lines .last .1 .0)
+    ∙ ap₂ _++_ (c .before .before .before .before .before .before .before .write-row .ensures) (c .before .before .fill-lines .ensures ∙ ap (λ (x : List ℕ). joined (lineTexts 1 x)) (rest-part 10 (c .before .before .before .before .before .before .before .before .before .before .before .before .args .numbers .now)))
+
+pub fill-sheet-spec : {M : Type 1} → statement M
+fill-sheet-spec =
+    tie.close
+    (tie.spec
+    slice-aggregate-write-row
+    slice-relend-prefix-write-row
+    slice-aggregate-write-row-2
+    write-row-requires
+    sub-fill-lines
+    part-fill-lines-start
+    part-fill-lines-end
+    sub-fill-lines-2
+    part-fill-lines-start-2
+    part-fill-lines-end-2
+    fill-lines-requires
+    same-length
+    returns)

@@ -1,0 +1,26 @@
+-- A length of 15 + n * 15 is whole lines, and one more than n of them.
+use mathlib.Core.Path.{ap, _∙_}
+use lib.ListN.{length, drop}
+use lib.Dec.{eqb}
+use borrow.Author.Needs.{needs}
+use Rattle.numbers.specs.Decisions.{room-short, room-broken, room-lines}
+use Rattle.numbers.proofs.decisions.has_room.Statement.{statement}
+use Rattle.numbers.proofs.decisions.has_room.Tie as tie
+
+returns : tie.Need-returns
+returns c = room-short _ _ (c .if1 .taken)
+
+returns-2 : tie.Need-returns-2
+returns-2 c = room-broken _ _ (c .if2 .taken)
+
+sub-result : tie.Need-sub-result
+sub-result c = search needs
+
+decision-count-requires : tie.Need-decision-count-requires
+decision-count-requires c κs = search needs
+
+returns-3 : tie.Need-returns-3
+returns-3 c = ap (eqb _) (c .decision-count .ensures) ∙ room-lines (length (c .before .before .before .before .before .args .coordinator .now)) (length (drop 10 (c .before .before .before .before .before .args .numbers .now))) (c .before .before .if1 .left) (c .before .if2 .left)
+
+pub has-room-spec : {M : Type 1} → statement M
+has-room-spec = tie.close (tie.spec returns returns-2 sub-result decision-count-requires returns-3)

@@ -1,0 +1,13 @@
+-- The code is the definition written out for five fields; after the last there is nothing to compare.
+use mathlib.Core.Bool.{and-false, or-false}
+use Rattle.lists.specs.Each.{less}
+use Rattle.model.specs.Records.{keyLess, keyNumbers}
+use Rattle.numbers.proofs.rules.key_less.Statement.{statement}
+use Rattle.numbers.proofs.rules.key_less.Tie as tie
+
+returns : tie.Need-returns
+unfolding keyLess less keyNumbers
+returns c = simp (and-false, or-false)
+
+pub key-less-spec : {M : Type 1} → statement M
+key-less-spec = tie.close (tie.spec returns)

@@ -1,0 +1,54 @@
+-- By the state.
+use mathlib.Core.Path.{sym, ap, _∙_}
+use borrow.Author.Needs.{needs}
+use Rattle.types.specs.declared.State.{State}
+use Rattle.model.specs.Records.{byState, absentRule, committedRule, preparedRule}
+use Rattle.numbers.proofs.rules.state_rule.Statement.{statement}
+use Rattle.numbers.proofs.rules.state_rule.Tie as tie
+
+enum-told : tie.Need-enum-told
+enum-told c = search needs
+
+absent-rule-requires : tie.Need-absent-rule-requires
+absent-rule-requires c κs = search needs
+
+enum-told-2 : tie.Need-enum-told-2
+enum-told-2 c = search needs
+
+committed-rule-requires : tie.Need-committed-rule-requires
+committed-rule-requires c κs = search needs
+
+enum-told-3 : tie.Need-enum-told-3
+enum-told-3 c = search needs
+
+prepared-rule-requires : tie.Need-prepared-rule-requires
+prepared-rule-requires c κs = search needs
+
+returns : tie.Need-returns
+returns c =
+    let r = c .before .before .before .args .r in
+    c .absent-rule .ensures ∙ sym (ap (λ (s : State). byState s (absentRule r) (committedRule r) (preparedRule r)) (c .before .enum-told .given .1))
+
+returns-2 : tie.Need-returns-2
+returns-2 c =
+    let r = c .before .before .before .args .r in
+    c .committed-rule .ensures ∙ sym (ap (λ (s : State). byState s (absentRule r) (committedRule r) (preparedRule r)) (c .before .enum-told2 .given .1))
+
+returns-3 : tie.Need-returns-3
+returns-3 c =
+    let r = c .before .before .before .args .r in
+    c .prepared-rule .ensures ∙ sym (ap (λ (s : State). byState s (absentRule r) (committedRule r) (preparedRule r)) (c .before .enum-told3 .given .1))
+
+pub state-rule-spec : {M : Type 1} → statement M
+state-rule-spec =
+    tie.close
+    (tie.spec
+    enum-told
+    absent-rule-requires
+    enum-told-2
+    committed-rule-requires
+    enum-told-3
+    prepared-rule-requires
+    returns
+    returns-2
+    returns-3)

@@ -1,0 +1,5 @@
+// Sheets to lent lists of numbers and back.
+pub mod decisions;
+pub mod records;
+mod rows;
+pub mod rules;
