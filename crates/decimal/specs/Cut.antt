@@ -2,12 +2,14 @@
 -- finds the same figure, since a figure only grows with each digit more.
 use Prim.Native.Nat.{ℕ, suc, _+_, _-_, _*_, _<_, _≤_}
 use native.Mathlib.Omega.{arith}
+use native.Mathlib.Numerals.{add-one}
 use mathlib.Core.Path.{_≡_, refl, _∙_}
 use mathlib.Core.Bool.{Bool, true, false, _&&_, cond}
 use mathlib.Core.List.{List, [], _∷_}
 use lib.Dec.{eqb, leb}
-use lib.ListN.{drop}
-use borrow.Author.Tests.{leb-false}
+use lib.ListN.{length, getD, drop, drop-of-length-le}
+use lib.Seq.{drop-cons}
+use borrow.Author.Tests.{eq-eqb, ne-eqb, leb-false}
 use Rattle.lists.specs.Tests.{choose-by, tests}
 use Rattle.decimal.specs.declared.Scan.{Scan}
 use Rattle.decimal.specs.declared.Scan.the-variants.{Blank, Number, Wrong}
@@ -29,6 +31,53 @@ unfoldable pub scannedTo : ℕ → Scan → List ℕ → Scan
 scannedTo high st [] = st
 scannedTo high st (b ∷ s) = scannedTo high (steppedTo high st b) s
 
+-- the figure v with one digit more, with the limit
+abbrev pub longer : ℕ → ℕ → ℕ → Scan
+longer high v b = capped high (cond (isDigit b) (Number (v * 10 + (b - 48))) Wrong)
+
+longer-by : (P : Scan → Type 0) (high v b : ℕ) → ((m : ℕ) → P (Number m)) → P Wrong → P (longer high v b)
+unfolding capped
+longer-by P high v b f w =
+    choose-by (λ (st : Scan). P (capped high st)) (isDigit b)
+    (λ e. choose-by P (leb (v * 10 + (b - 48)) high) (λ h. f (v * 10 + (b - 48))) (λ h. w))
+    (λ e. w)
+
+-- it is a figure or none
+pub longer-unblank : (high v b : ℕ) → longer high v b ≡ Blank → ⊥
+longer-unblank high v b =
+    longer-by (λ (st : Scan). st ≡ Blank → ⊥) high v b
+    (λ m e. let z : _≡_ {A = ℕ} 0 1 = cc in omega arith)
+    (λ e. let z : _≡_ {A = ℕ} 0 1 = cc in omega arith)
+
+pub scan-to-wrong : (high : ℕ) (s : List ℕ) → scannedTo high Wrong s ≡ Wrong
+unfolding scannedTo steppedTo stepped capped
+scan-to-wrong high [] = refl
+scan-to-wrong high (b ∷ s) = scan-to-wrong high s
+
+-- The byte at place i, met with spaces alone before it or behind a figure.
+module _ (high : ℕ) (s : List ℕ) (i : ℕ) (within : i < length s) where
+  next-byte : (st : Scan) → scannedTo high st (drop i s) ≡ scannedTo high (steppedTo high st (getD s i 0)) (drop (i + 1) s)
+  unfolding scannedTo
+  next-byte st = rw (add-one, drop-cons s i 0 within)
+
+  pub first-byte : eqb (getD s i 0) 32 ≡ false → scannedTo high Blank (drop i s) ≡ scannedTo high (longer high 0 (getD s i 0)) (drop (i + 1) s)
+  unfolding steppedTo stepped
+  first-byte e =
+      let z : 0 * 10 + (getD s i 0 - 48) ≡ getD s i 0 - 48 = omega arith in
+      next-byte Blank ∙ rw (e, z)
+
+  pub more-byte : (v : ℕ) → (v ≡ 0 → ⊥) → scannedTo high (Number v) (drop i s) ≡ scannedTo high (longer high v (getD s i 0)) (drop (i + 1) s)
+  unfolding steppedTo stepped
+  more-byte v n = next-byte (Number v) ∙ rw (ne-eqb v 0 n)
+
+  pub byte-after-zero : (v : ℕ) → v ≡ 0 → scannedTo high (Number v) (drop i s) ≡ Wrong
+  unfolding steppedTo stepped capped
+  byte-after-zero v e = next-byte (Number v) ∙ rw (eq-eqb v 0 e) (scan-to-wrong high (drop (i + 1) s))
+
+pub no-byte : (high : ℕ) (st : Scan) (s : List ℕ) (i : ℕ) → length s ≤ i → scannedTo high st (drop i s) ≡ st
+unfolding scannedTo
+no-byte high st s i l = rw (drop-of-length-le s l)
+
 -- how many spaces a field begins with
 unfoldable pub spaces : List ℕ → ℕ
 spaces [] = 0
@@ -44,6 +93,13 @@ scan-spaces high (b ∷ s) = go (eqb b 32) refl (scan-spaces high s)
         → scannedTo high Blank (drop (cond t (suc (spaces s)) 0) (b ∷ s)) ≡ scannedTo high (capped high (cond t Blank (cond (isDigit b) (Number (b - 48)) Wrong))) s
     go true e h = h
     go false e h = rw e
+
+-- where a byte follows them, it is no space
+pub behind-spaces : (s : List ℕ) → spaces s < length s → eqb (getD s (spaces s) 0) 32 ≡ false
+unfolding spaces
+behind-spaces [] = λ l. absurd (omega arith)
+behind-spaces (b ∷ s) =
+    choose-by (λ (n : ℕ). n < length (b ∷ s) → eqb (getD (b ∷ s) n 0) 32 ≡ false) (eqb b 32) (λ e l. behind-spaces s (omega arith)) (λ e l. e)
 
 -- a figure that is too high stays so
 too-high : (low high v : ℕ) (s : List ℕ) → high < v → within low high (scanned (Number v) s) ≡ Wrong

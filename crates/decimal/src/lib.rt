@@ -1,11 +1,12 @@
 // Decimal fields of any width, as document 01 sets them: right-justified, space-filled, without leading zeros, zero as `0`.
-ghost use Prim.Native.Nat.{_+_, _-_, _*_, _/_};
+ghost use Prim.Native.Nat.{_+_, _-_, _*_, _<_};
 ghost use mathlib.Core.Path.{_≡_};
-ghost use mathlib.Core.Bool.{cond};
-ghost use lib.ListN.{length};
+ghost use mathlib.Core.Bool.{cond, false};
+ghost use lib.Dec.{eqb};
+ghost use lib.ListN.{length, getD, drop};
 ghost use Rattle.lists.specs.Bytes.{eqList};
 ghost use Rattle.decimal.specs.Field.{isDigit, within, figure, place, fieldText};
-ghost use Rattle.decimal.specs.Cut.{capped, steppedTo, spaces};
+ghost use Rattle.decimal.specs.Cut.{longer, scannedTo, spaces};
 ghost use Rattle.decimal.specs.Word.{putWord};
 
 // How far a field has been read: spaces only, a figure, or something that is no figure.
@@ -17,7 +18,7 @@ pub enum Scan {
 
 // The figure v with one digit more. It is made in 64 bits, which hold it whatever v is.
 fn digit(v: u32, b: u8, high: u32) -> Scan
-    ensures { λ r. ⌜ r ≡ capped high (cond (isDigit b) (Scan.Number (v * 10 + (b - 48))) Scan.Wrong) ⌝ }
+    ensures { λ r. ⌜ r ≡ longer high v b ⌝ }
 {
     if b < 48 {
         return Scan::Wrong;
@@ -30,27 +31,6 @@ fn digit(v: u32, b: u8, high: u32) -> Scan
         return Scan::Wrong;
     }
     Scan::Number(n as u32)
-}
-
-// One byte more: spaces stand before the figure only, and nothing follows a leading `0`.
-fn step(st: Scan, b: u8, high: u32) -> Scan
-    ensures { λ r. ⌜ r ≡ steppedTo high st b ⌝ }
-{
-    match st {
-        Scan::Blank => {
-            if b == 32 {
-                return Scan::Blank;
-            }
-            digit(0, b, high)
-        }
-        Scan::Number(v) => {
-            if v == 0 {
-                return Scan::Wrong;
-            }
-            digit(v, b, high)
-        }
-        Scan::Wrong => Scan::Wrong,
-    }
 }
 
 // A figure from low to high, or `Wrong`.
@@ -87,31 +67,59 @@ fn spaces(s: &[u8]) -> usize
     n
 }
 
+// The digits from place `from` on, behind the figure `first`: nothing follows a leading `0`.
+fn digits(s: &[u8], from: usize, first: u32, high: u32) -> Scan
+    ensures { λ r. ⌜ r ≡ scannedTo high (Scan.Number first) (drop from (now (s .entry))) ⌝ }
+{
+    let n = s.len();
+    let mut v = first;
+    let mut i = from;
+    while i < n {
+        if v == 0 {
+            return Scan::Wrong;
+        }
+        match digit(v, s[i], high) {
+            Scan::Number(more) => v = more,
+            Scan::Blank => return Scan::Wrong,
+            Scan::Wrong => return Scan::Wrong,
+        }
+        i += 1;
+    }
+    Scan::Number(v)
+}
+
+// The figure whose first digit is at place `start`, behind spaces.
+fn behind(s: &[u8], start: usize, high: u32) -> Scan
+    requires { ⌜ start < length (now s) ⌝ }
+    requires { ⌜ eqb (getD (now s) start 0) 32 ≡ false ⌝ }
+    ensures { λ r. ⌜ r ≡ scannedTo high Scan.Blank (drop start (now (s .entry))) ⌝ }
+{
+    match digit(0, s[start], high) {
+        Scan::Number(first) => digits(s, start + 1, first, high),
+        Scan::Blank => Scan::Wrong,
+        Scan::Wrong => Scan::Wrong,
+    }
+}
+
 // What the field s holds, where a figure from low to high is wanted: `Number`, or `Wrong`. Most columns are spaces, which are passed first.
 pub fn read(s: &[u8], low: u32, high: u32) -> Scan
     ensures { λ r. ⌜ r ≡ figure low high (now (s .entry)) ⌝ }
 {
-    let n = s.len();
-    let mut st = Scan::Blank;
-    let mut i = spaces(s);
-    while i < n {
-        st = step(st, s[i], high);
-        i += 1;
+    let start = spaces(s);
+    if s.len() <= start {
+        return Scan::Wrong;
     }
-    bounded(st, low, high)
+    bounded(behind(s, start, high), low, high)
 }
 
-// The last digit of what is left of a figure, or a space where nothing is left. The digit is made in either case, from the tenth that the next
-// column needs anyway, so that no branch depends on the figure.
-fn column(rest: u32, tenth: u32) -> u8
-    requires { ⌜ tenth ≡ rest / 10 ⌝ }
+// The last digit of what is left of a figure, or a space where nothing is left.
+fn column(rest: u32) -> u8
     ensures { λ r. ⌜ r ≡ place rest ⌝ }
 {
-    let digit = 48 + ((rest - tenth * 10) as u8);
     if rest == 0 {
         return 32;
     }
-    digit
+    48 + ((rest % 10) as u8)
 }
 
 // The figure v over the whole of s, from its last column, which is never blank.
@@ -127,9 +135,8 @@ pub fn write(s: &mut [u8], v: u32)
     let mut rest = v / 10;
     while i > 0 {
         i -= 1;
-        let tenth = rest / 10;
-        s[i] = column(rest, tenth);
-        rest = tenth;
+        s[i] = column(rest);
+        rest = rest / 10;
     }
 }
 

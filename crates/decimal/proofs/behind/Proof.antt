@@ -1,0 +1,64 @@
+-- By what the first digit makes: a figure, behind which the others are read, or none.
+use Prim.Native.Nat.{ℕ, _+_}
+use mathlib.Core.Path.{_≡_, sym, ap, _∙_}
+use lib.ListN.{getD, drop}
+use borrow.Author.Needs.{needs}
+use Rattle.decimal.specs.declared.Scan.{Scan}
+use Rattle.decimal.specs.declared.Scan.the-variants.{Wrong}
+use Rattle.decimal.specs.Cut.{longer, scannedTo, longer-unblank, scan-to-wrong, first-byte}
+use Rattle.decimal.proofs.behind.Statement.{statement}
+use Rattle.decimal.proofs.behind.Tie as tie
+
+shared-slice-read-digit : tie.Need-shared-slice-read-digit
+shared-slice-read-digit c = search needs
+
+digit-requires : tie.Need-digit-requires
+digit-requires c κs = search needs
+
+enum-known-first : tie.Need-enum-known-first
+enum-known-first c = search needs
+
+add-digits : tie.Need-add-digits
+add-digits c = search needs
+
+digits-requires : tie.Need-digits-requires
+digits-requires c κs = search needs
+
+enum-told : tie.Need-enum-told
+enum-told c = search needs
+
+enum-told-2 : tie.Need-enum-told-2
+enum-told-2 c = search needs
+
+returns : tie.Need-returns
+returns c =
+    let a = c .before .before .before .before .before .before .before .args in
+    let e = first-byte (a .high) (a .s .now) (a .start) (c .before .before .before .before .before .before .before .pre .0) (c .before .before .before .before .before .before .before .pre .1) in
+    c .digits .ensures ∙ (sym (ap (λ (st : Scan). scannedTo (a .high) st (drop (a .start + 1) (a .s .now))) (sym (c .before .before .before .before .digit .ensures) ∙ c .before .before .first .given .1)) ∙ sym e)
+
+returns-2 : tie.Need-returns-2
+returns-2 c =
+    let a = c .before .before .before .before .before .args in
+    absurd (longer-unblank (a .high) 0 (getD (a .s .now) (a .start) 0) (sym (c .before .before .digit .ensures) ∙ c .enum-told .given .1))
+
+returns-3 : tie.Need-returns-3
+returns-3 c =
+    let a = c .before .before .before .before .before .args in
+    let e = first-byte (a .high) (a .s .now) (a .start) (c .before .before .before .before .before .pre .0) (c .before .before .before .before .before .pre .1) in
+    let w : longer (a .high) 0 (getD (a .s .now) (a .start) 0) ≡ Wrong = sym (c .before .before .digit .ensures) ∙ c .enum-told2 .given .1 in
+    sym (scan-to-wrong (a .high) (drop (a .start + 1) (a .s .now))) ∙ (sym (ap (λ (st : Scan). scannedTo (a .high) st (drop (a .start + 1) (a .s .now))) w) ∙ sym e)
+
+pub behind-spec : {M : Type 1} → statement M
+behind-spec =
+    tie.close
+    (tie.spec
+    shared-slice-read-digit
+    digit-requires
+    enum-known-first
+    add-digits
+    digits-requires
+    enum-told
+    enum-told-2
+    returns
+    returns-2
+    returns-3)
