@@ -4,3 +4,4 @@ pub mod fields;
 mod layouts;
 pub mod lines;
 pub mod records;
+pub mod settling;

@@ -36,7 +36,7 @@ fn state_of(n: u32) -> State
 }
 
 // The number of a state.
-fn state_number(s: State) -> u32
+pub fn state_number(s: State) -> u32
     ensures { λ r. ⌜ r ≡ stateNumber s ⌝ }
 {
     match s {

@@ -5,9 +5,11 @@ ghost use Rattle.model.specs.Coordinator.{coordinatorOf};
 ghost use Rattle.model.specs.Visits.{meeting, recoveryWrite};
 ghost use Rattle.engine.specs.Outcomes.{Written};
 ghost use Rattle.engine.specs.Recovering.{lineAt, Standing, Pending, Recovered};
+use codec::settling;
 use types::Decision;
 use types::Record;
 use types::Recovery;
+use types::State;
 
 // What a visit of a line comes to.
 fn meet(r: Record, clock: u32, coordinator: &[u8]) -> Recovery
@@ -25,12 +27,10 @@ fn settle(v: Recovery, r: Record, i: usize, records: &mut [u8], coordinator: &mu
 {
     match v {
         Recovery::Stays => {}
-        Recovery::Forward => codec::records::set_record(
-            records,
-            i,
-            protocol::images::rolled_forward(r),
-        ),
-        Recovery::Back => codec::records::set_record(records, i, protocol::images::rolled_back(r)),
+        Recovery::Forward => settling::settle(records, i, State::Committed, false),
+        Recovery::Back => {
+            settling::settle(records, i, protocol::images::before_state(r.before), true)
+        }
         Recovery::Again => codec::coordinator::set_decision(
             coordinator,
             r.image.txid,

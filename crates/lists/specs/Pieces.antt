@@ -103,6 +103,23 @@ over-after s t w a =
     let e : drop (w + a + length t) s ≡ drop (a + length t) (drop w s) = rw (add-assoc, drop-drop) in
     rw (take-add, e) (append-assoc (take w s) (take a (drop w s)) _)
 
+-- what is written behind a part is one part with it
+pub over-next {ℓ} : {A : Type ℓ} (s t u : List A) (a b : ℕ) → b ≡ a + length t → a ≤ length s → over (over s a t) b u ≡ over s a (t ++ u)
+unfolding over
+over-next s t u a b e l =
+    let n : length (take a s ++ t) ≡ b = simp (length-append, length-take) (omega arith) in
+    let d = drop (a + length t) s in
+    let z : take a s ++ (t ++ d) ≡ (take a s ++ t) ++ d = sym (append-assoc (take a s) t d) in
+    let x : take b (take a s ++ (t ++ d)) ≡ take a s ++ t = ap (take b) z ∙ take-at (take a s ++ t) d b n in
+    let m : a + length t + length u ≡ a + length (t ++ u) = simp length-append (omega arith) in
+    let y : drop (b + length u) (take a s ++ (t ++ d)) ≡ drop (a + length (t ++ u)) s =
+    sym (drop-drop (length u) b (take a s ++ (t ++ d)))
+    ∙ (ap (drop (length u)) (ap (drop b) z ∙ drop-at (take a s ++ t) d b n)
+    ∙ (drop-drop (length u) (a + length t) s ∙ ap (λ (k : ℕ). drop k s) m)) in
+    ap₂ (λ (p q : List _). p ++ (u ++ q)) x y
+    ∙ (append-assoc (take a s) t (u ++ drop (a + length (t ++ u)) s)
+    ∙ ap (λ (p : List _). take a s ++ p) (sym (append-assoc t u (drop (a + length (t ++ u)) s))))
+
 pub length-over {ℓ} : {A : Type ℓ} (s t : List A) (a : ℕ) → a + length t ≤ length s → length (over s a t) ≡ length s
 unfolding over
 length-over s t a h = simp (length-append, length-take, length-drop) (omega arith)

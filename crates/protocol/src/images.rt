@@ -99,7 +99,7 @@ pub fn rolled_forward(r: Record) -> Record
 }
 
 // The state of a before image: absent if its version is 0.
-fn before_state(m: Image) -> State
+pub fn before_state(m: Image) -> State
     ensures { λ s. ⌜ s ≡ beforeState m ⌝ }
 {
     if m.version == 0 {

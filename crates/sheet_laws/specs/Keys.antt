@@ -38,7 +38,7 @@ fieldsText [] vs = []
 fieldsText (c ∷ cs) vs = fieldBytes c (getD vs 0 0) ++ fieldsText cs (drop 1 vs)
 
 -- a line is its first fields and then the line of the others
-line-split : (cs ds : List Column) (vs : List ℕ) → lineText (cs ++ ds) vs ≡ fieldsText cs vs ++ lineText ds (drop (length cs) vs)
+pub line-split : (cs ds : List Column) (vs : List ℕ) → lineText (cs ++ ds) vs ≡ fieldsText cs vs ++ lineText ds (drop (length cs) vs)
 unfolding lineText fieldsText
 line-split [] ds vs = refl
 line-split (c ∷ cs) ds vs =
@@ -67,16 +67,29 @@ whole-layout : keyLayout ++ drop 5 recordLayout ≡ recordLayout
 unfolding keyLayout
 whole-layout = take-append-drop 5 recordLayout
 
-key-line : (k : Key) → keyLine k ≡ keyText k ++ (10 ∷ [])
+-- the fields of a row and LF are its line
+fields-line : (cs : List Column) (vs : List ℕ) → lineText cs vs ≡ fieldsText cs vs ++ (10 ∷ [])
 unfolding lineText
-key-line k = ap (λ (cs : List Column). lineText cs (keyNumbers k)) (sym (append-nil keyLayout)) ∙ line-split keyLayout [] (keyNumbers k)
+fields-line cs vs = ap (λ (ds : List Column). lineText ds vs) (sym (append-nil cs)) ∙ line-split cs [] vs
+
+length-fieldsText : (cs : List Column) (vs : List ℕ) → layoutOk cs ≡ true → rowGood cs vs ≡ true → length (fieldsText cs vs) + 1 ≡ lineBytes cs
+length-fieldsText cs vs o h =
+    sym (length-append (fieldsText cs vs) (10 ∷ [])) ∙ (ap length (sym (fields-line cs vs)) ∙ length-lineText cs vs o h)
+
+-- the first fields of a line that can be read are its first bytes
+pub fields-read : (cs ds : List Column) (n : ℕ) (s : List ℕ) → layoutOk cs ≡ true → layoutOk (cs ++ ds) ≡ true → n + 1 ≡ lineBytes cs → lineSet (cs ++ ds) s ≡ true → take n s ≡ fieldsText cs (rowOf (cs ++ ds) s)
+fields-read cs ds n s o p e h =
+    let w = line-written-read (cs ++ ds) s p h in
+    let l = length-fieldsText cs (rowOf (cs ++ ds) s) o (row-split cs ds (rowOf (cs ++ ds) s) (w .1)) in
+    ap (take n) (sym (w .0) ∙ line-split cs ds (rowOf (cs ++ ds) s))
+    ∙ take-at (fieldsText cs (rowOf (cs ++ ds) s)) (lineText ds (drop (length cs) (rowOf (cs ++ ds) s))) n (omega arith)
+
+key-line : (k : Key) → keyLine k ≡ keyText k ++ (10 ∷ [])
+key-line k = fields-line keyLayout (keyNumbers k)
 
 length-keyText : (k : Key) → keyInRange k ≡ true → length (keyText k) ≡ 20
 unfolding keyInRange keyLayout recordLayout lineBytes
-length-keyText k h =
-    let n : length (keyLine k) ≡ 21 = length-lineText keyLayout (keyNumbers k) key-layout-ok h in
-    let e : length (keyLine k) ≡ length (keyText k) + 1 = ap length (key-line k) ∙ length-append (keyText k) (10 ∷ []) in
-    omega arith
+length-keyText k h = omega (arith, length-fieldsText keyLayout (keyNumbers k) key-layout-ok h)
 
 pub key-line-text : (k : Key) → keyInRange k ≡ true → take 20 (keyLine k) ≡ keyText k
 key-line-text k h = ap (take 20) (key-line k) ∙ take-at (keyText k) (10 ∷ []) 20 (length-keyText k h)

@@ -6,6 +6,7 @@ pub mod Places
 pub mod Search
 pub mod Numbers
 pub mod Keys
+pub mod Settled
 pub mod Coordinator
 pub mod CoordinatorNumbers
 pub mod Decisions

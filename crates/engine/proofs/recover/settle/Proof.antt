@@ -1,5 +1,6 @@
 -- By what the visit came to: nothing written, one line, or one decision.
 use borrow.Author.Needs.{needs}
+use Rattle.model.specs.Images.{rolledForward, rolledBack}
 use Rattle.model.specs.Visits.{recoveryWrite}
 use Rattle.engine.specs.Recovering.{pending, settle-forward, settle-back, settle-again}
 use Rattle.engine.specs.Outcomes.{written-nothing}
@@ -12,20 +13,17 @@ enum-told c = search needs
 enum-told-2 : tie.Need-enum-told-2
 enum-told-2 c = search needs
 
-rolled-forward-requires : tie.Need-rolled-forward-requires
-rolled-forward-requires c κs = search needs
-
-set-record-requires : tie.Need-set-record-requires
-set-record-requires c κs = search needs
+settle-requires : tie.Need-settle-requires
+settle-requires c κs = c .before .before .before .before .before .pre .0 .accepted .lines
 
 enum-told-3 : tie.Need-enum-told-3
 enum-told-3 c = search needs
 
-rolled-back-requires : tie.Need-rolled-back-requires
-rolled-back-requires c κs = search needs
+before-state-requires : tie.Need-before-state-requires
+before-state-requires c κs = search needs
 
-set-record-requires-2 : tie.Need-set-record-requires-2
-set-record-requires-2 c κs = search needs
+settle-requires-2 : tie.Need-settle-requires-2
+settle-requires-2 c κs = c .before .before .before .before .before .before .pre .0 .accepted .lines
 
 enum-told-4 : tie.Need-enum-told-4
 enum-told-4 c = search needs
@@ -47,15 +45,15 @@ same-length-2 : tie.Need-same-length-2
 same-length-2 c = search needs
 
 returns-2 : tie.Need-returns-2
-unfolding recoveryWrite pending
-returns-2 c = rw (c .before .before .before .before .before .enum-told2 .given .1) (settle-forward (c .before .before .before .before .before .before .before .before .before .args .records .now) (c .before .before .before .before .before .before .before .before .before .args .coordinator .now) (c .before .before .before .before .before .before .before .before .before .args .i) (c .before .before .before .before .before .before .before .before .before .pre .0) (rw (c .before .before .before .before .before .enum-told2 .given .1) at (c .before .before .before .before .before .before .before .before .before .pre .1 .1)) (rw (c .before .before .before .rolled-forward .ensures, c .before .before .before .before .before .before .before .before .before .pre .1 .0) at (c .before .before .set-record .ensures)))
+unfolding recoveryWrite pending rolledForward
+returns-2 c = rw (c .before .before .before .before .enum-told2 .given .1) (settle-forward (c .before .before .before .before .before .before .before .before .args .records .now) (c .before .before .before .before .before .before .before .before .args .coordinator .now) (c .before .before .before .before .before .before .before .before .args .i) (c .before .before .before .before .before .before .before .before .pre .0) (rw (c .before .before .before .before .enum-told2 .given .1) at (c .before .before .before .before .before .before .before .before .pre .1 .1)) (c .before .before .settle .ensures))
 
 same-length-3 : tie.Need-same-length-3
 same-length-3 c = search needs
 
 returns-3 : tie.Need-returns-3
-unfolding recoveryWrite pending
-returns-3 c = rw (c .before .before .before .before .before .enum-told3 .given .1) (settle-back (c .before .before .before .before .before .before .before .before .before .args .records .now) (c .before .before .before .before .before .before .before .before .before .args .coordinator .now) (c .before .before .before .before .before .before .before .before .before .args .i) (c .before .before .before .before .before .before .before .before .before .pre .0) (rw (c .before .before .before .before .before .enum-told3 .given .1) at (c .before .before .before .before .before .before .before .before .before .pre .1 .1)) (rw (c .before .before .before .rolled-back .ensures, c .before .before .before .before .before .before .before .before .before .pre .1 .0) at (c .before .before .set-record2 .ensures)))
+unfolding recoveryWrite pending rolledBack
+returns-3 c = rw (c .before .before .before .before .before .enum-told3 .given .1) (settle-back (c .before .before .before .before .before .before .before .before .before .args .records .now) (c .before .before .before .before .before .before .before .before .before .args .coordinator .now) (c .before .before .before .before .before .before .before .before .before .args .i) (c .before .before .before .before .before .before .before .before .before .pre .0) (rw (c .before .before .before .before .before .enum-told3 .given .1) at (c .before .before .before .before .before .before .before .before .before .pre .1 .1)) (rw (c .before .before .before .before-state .ensures, c .before .before .before .before .before .before .before .before .before .pre .1 .0) at (c .before .before .settle2 .ensures)))
 
 returns-4 : tie.Need-returns-4
 unfolding recoveryWrite pending
@@ -71,11 +69,10 @@ settle-spec =
     (tie.spec
     enum-told
     enum-told-2
-    rolled-forward-requires
-    set-record-requires
+    settle-requires
     enum-told-3
-    rolled-back-requires
-    set-record-requires-2
+    before-state-requires
+    settle-requires-2
     enum-told-4
     set-decision-requires
     enum-told-5

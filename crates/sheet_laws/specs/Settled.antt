@@ -1,0 +1,185 @@
+-- A line settled by moving bytes: a state word, one of the line's two images, nothing before it. In a line that can be read each field's text is its bytes,
+-- so the texts of key and images are found where their columns stand.
+use Prim.Native.Nat.{ℕ, _+_, _-_, _*_, _/_, _<_}
+use mathlib.Core.Path.{_≡_, refl, sym, ap, ap₂, subst, _∙_}
+use mathlib.Core.Bool.{Bool, true, false, _&&_, cond}
+use mathlib.Core.List.{List, [], _∷_, _++_, append-assoc}
+use native.Mathlib.Omega.{arith}
+use lib.ListN.{length, take, drop, getD, length-take, length-drop, length-append}
+use lib.Seq.{drop-drop}
+use Rattle.lists.specs.Tests.{tests}
+use Rattle.lists.specs.Each.{all, pieces}
+use Rattle.lists.specs.All.{all-at}
+use Rattle.lists.specs.Bytes.{bytes, eqList, eqList-true}
+use Rattle.lists.specs.Pieces.{over, over-next, getD-pieces, length-pieces}
+use Rattle.decimal.specs.Field.{ahead, fieldText}
+use Rattle.types.specs.declared.Column.{Column}
+use Rattle.types.specs.declared.Image.{Image}
+use Rattle.types.specs.declared.Kind.the-variants.{StateWord}
+use Rattle.types.specs.declared.Record.{Record}
+use Rattle.types.specs.declared.State.{State}
+use Rattle.types.specs.declared.State.the-variants.{Absent, Committed, Prepared}
+use Rattle.model.specs.Layouts.{recordLayout, keyLayout, imageLayout, words, wordAt, noColumn}
+use Rattle.model.specs.Lines.{fieldBytes, rowOf, lineSet, lineText, linesOf, linesSet}
+use Rattle.model.specs.Records.{
+  noImage,
+  noRecord,
+  stateNumber,
+  keyNumbers,
+  imageNumbers,
+  imageFrom,
+  recordOf,
+  recordNumbers,
+  recordIn,
+  recordText,
+  records,
+  recordsAccepted,
+}
+use Rattle.sheet_laws.specs.Fields.{columnOk}
+use Rattle.sheet_laws.specs.Lines.{layoutOk, lineBytes, line-length}
+use Rattle.sheet_laws.specs.Places.{record-at}
+use Rattle.sheet_laws.specs.Keys.{fieldsText, line-split, fields-read, keyText, line-key-text}
+
+-- the four fields of an image
+abbrev pub imageText : Image → List ℕ
+imageText m = fieldsText imageLayout (imageNumbers m)
+
+-- which image of a record stays, and where it stands in the line: that of before, or its own
+abbrev pub imageOf : Bool → Record → Image
+imageOf before r = cond before (r .before) (r .image)
+
+abbrev pub imagePlace : Bool → ℕ
+imagePlace before = cond before 58 30
+
+-- the bytes of an image of zeros and a clock of 0
+abbrev pub nothingText : List ℕ
+nothingText = bytes "     0   0        0        0          0"
+
+-- the record with a state and an image, and nothing before it
+abbrev pub settledAs : State → Image → Record → Record
+settledAs state m r = record { key = r .key; state = state; image = m; before = noImage; clock = 0 }
+
+-- a line with another state word, one of its images and nothing after it
+unfoldable pub settledBytes : State → Bool → List ℕ → List ℕ
+settledBytes state before line =
+    over (over (over line 20 (wordAt StateWord (stateNumber state))) 30 (take 28 (drop (imagePlace before) line))) 58 nothingText
+
+nothing-text : lineText (drop 10 recordLayout) (0 ∷ 0 ∷ 0 ∷ 0 ∷ 0 ∷ []) ≡ nothingText ++ (10 ∷ [])
+unfolding recordLayout lineText fieldBytes fieldText ahead bytes
+nothing-text = refl
+
+state-text : (state : State) → fieldBytes (getD recordLayout 5 noColumn) (stateNumber state) ≡ wordAt StateWord (stateNumber state)
+unfolding recordLayout fieldBytes stateNumber words bytes
+state-text Absent = refl
+state-text Committed = refl
+state-text Prepared = refl
+
+length-word : (state : State) → length (wordAt StateWord (stateNumber state)) ≡ 10
+unfolding stateNumber words bytes
+length-word Absent = refl
+length-word Committed = refl
+length-word Prepared = refl
+
+length-nothing : length nothingText ≡ 39
+unfolding bytes
+length-nothing = refl
+
+settled-text : (state : State) (m : Image) (r : Record) → recordText (settledAs state m r) ≡ keyText (r .key) ++ (wordAt StateWord (stateNumber state) ++ (imageText m ++ (nothingText ++ (10 ∷ []))))
+unfolding recordText recordLayout keyLayout imageLayout recordNumbers keyNumbers imageNumbers lineText fieldsText
+settled-text state m r =
+    line-split keyLayout (drop 5 recordLayout) (recordNumbers (settledAs state m r))
+    ∙ ap (λ (t : List ℕ). keyText (r .key) ++ t)
+    (ap₂ _++_ (state-text state)
+    (line-split imageLayout (drop 10 recordLayout) (imageNumbers m ++ (0 ∷ 0 ∷ 0 ∷ 0 ∷ 0 ∷ []))
+    ∙ ap (λ (t : List ℕ). imageText m ++ t) nothing-text))
+
+-- an image's fields, whatever stands behind them
+image-read : (ds : List Column) (s : List ℕ) → layoutOk (imageLayout ++ ds) ≡ true → lineSet (imageLayout ++ ds) s ≡ true → take 28 s ≡ fieldsText imageLayout (rowOf (imageLayout ++ ds) s)
+unfolding all columnOk imageLayout recordLayout lineBytes
+image-read ds s o h = fields-read imageLayout ds 28 s refl o refl h
+
+with-before : layoutOk (imageLayout ++ drop 10 recordLayout) ≡ true
+unfolding all columnOk imageLayout recordLayout
+with-before = refl
+
+before-alone : layoutOk (imageLayout ++ drop 14 recordLayout) ≡ true
+unfolding all columnOk imageLayout recordLayout
+before-alone = refl
+
+-- Where the images of a line that can be read stand.
+module _ (line : List ℕ) (set : lineSet recordLayout line ≡ true) where
+  image-place : take 28 (drop 30 line) ≡ imageText (recordIn line .image)
+  unfolding recordIn recordOf imageFrom recordLayout imageLayout imageNumbers rowOf lineSet fieldsText
+  image-place =
+      let s = drop 10 (drop 6 (drop 6 (drop 3 (drop 3 (drop 2 line))))) in
+      let h : lineSet (imageLayout ++ drop 10 recordLayout) s ≡ true = search tests in
+      let e : drop 30 line ≡ s = sym (simp drop-drop) in
+      ap (take 28) e ∙ image-read (drop 10 recordLayout) s with-before h
+
+  before-place : take 28 (drop 58 line) ≡ imageText (recordIn line .before)
+  unfolding recordIn recordOf imageFrom recordLayout imageLayout imageNumbers rowOf lineSet fieldsText
+  before-place =
+      let t = drop 10 (drop 6 (drop 6 (drop 3 (drop 3 (drop 2 line))))) in
+      let s = drop 9 (drop 9 (drop 4 (drop 6 t))) in
+      let g : lineSet (drop 6 recordLayout) t ≡ true = search tests in
+      let h : lineSet (imageLayout ++ drop 14 recordLayout) s ≡ true = search (tests, g) in
+      let e : drop 58 line ≡ s = sym (simp drop-drop) in
+      ap (take 28) e ∙ image-read (drop 14 recordLayout) s before-alone h
+
+  whole : length line ≡ 98
+  unfolding lineBytes recordLayout
+  whole = line-length recordLayout line set
+
+  line-end : drop 97 line ≡ 10 ∷ []
+  unfolding recordLayout lineSet
+  line-end =
+      let t = drop 6 (drop 3 (drop 3 (drop 2 line))) in
+      let u = drop 9 (drop 4 (drop 6 (drop 10 (drop 6 t)))) in
+      let s = drop 11 (drop 9 (drop 9 (drop 4 (drop 6 (drop 9 u))))) in
+      let f : lineSet (drop 4 recordLayout) t ≡ true = search tests in
+      let g : lineSet (drop 9 recordLayout) u ≡ true = search (tests, f) in
+      let h : eqList s (10 ∷ []) ≡ true = search (tests, g) in
+      let e : drop 97 line ≡ s = sym (simp drop-drop) in
+      e ∙ eqList-true s (10 ∷ []) h
+
+  -- The bytes of an image behind a state word, and nothing behind them, over what stands there.
+  module _ (state : State) (m : Image) (image : List ℕ) (is : image ≡ imageText m) (sized : length image ≡ 28) where
+    line-settled : over (over (over line 20 (wordAt StateWord (stateNumber state))) 30 image) 58 nothingText ≡ recordText (settledAs state m (recordIn line))
+    unfolding over
+    line-settled =
+        let w = wordAt StateWord (stateNumber state) in
+        let a = over-next line w image 20 30 (omega (arith, length-word state)) (omega (arith, whole)) in
+        let b = over-next line (w ++ image) nothingText 20 58 (simp length-append (omega (arith, length-word state))) (omega (arith, whole)) in
+        let n : 20 + length ((w ++ image) ++ nothingText) ≡ 97 = simp length-append (omega (arith, length-word state, length-nothing)) in
+        ap (λ (t : List ℕ). over t 58 nothingText) a
+        ∙ (b
+        ∙ (ap₂ (λ (k e : List ℕ). k ++ (((w ++ image) ++ nothingText) ++ e)) (line-key-text line set) (ap (λ (i : ℕ). drop i line) n ∙ line-end)
+        ∙ (ap (λ (t : List ℕ). keyText (recordIn line .key) ++ t)
+        (append-assoc (w ++ image) nothingText (10 ∷ [])
+        ∙ (append-assoc w image (nothingText ++ (10 ∷ []))
+        ∙ ap (λ (t : List ℕ). w ++ (t ++ (nothingText ++ (10 ∷ [])))) is))
+        ∙ sym (settled-text state m (recordIn line)))))
+
+  -- the line's state word and image set, and nothing after them: the text of the settled record
+  pub line-moved : (state : State) (before : Bool) → settledBytes state before line ≡ recordText (settledAs state (imageOf before (recordIn line)) (recordIn line))
+  unfolding settledBytes
+  line-moved state true =
+      line-settled state (recordIn line .before) (take 28 (drop 58 line)) before-place (simp (length-take, length-drop) (omega (arith, whole)))
+  line-moved state false =
+      line-settled state (recordIn line .image) (take 28 (drop 30 line)) image-place (simp (length-take, length-drop) (omega (arith, whole)))
+
+-- each line of an accepted sheet can be read
+line-set : (s : List ℕ) (i : ℕ) → recordsAccepted s ≡ true → i < length s / 98 → lineSet recordLayout (take 98 (drop (i * 98) s)) ≡ true
+unfolding recordsAccepted linesSet linesOf
+line-set s i a l =
+    let w : all (lineSet recordLayout) (pieces 98 (length s / 98) s) ≡ true = search tests in
+    subst (λ (t : List ℕ). lineSet recordLayout t ≡ true) (getD-pieces 98 i (length s / 98) s l)
+    (all-at (lineSet recordLayout) (pieces 98 (length s / 98) s) [] i w (omega (arith, length-pieces 98 (length s / 98) s)))
+
+-- the line at a place of an accepted sheet
+pub line-at-settled : (state : State) (before : Bool) (s : List ℕ) (i : ℕ) → recordsAccepted s ≡ true → i < length s / 98 → settledBytes state before (take (i * 98 + 98 - i * 98) (drop (i * 98) s)) ≡ recordText (settledAs state (imageOf before (getD (records s) i noRecord)) (getD (records s) i noRecord))
+line-at-settled state before s i a l =
+    let k : i * 98 + 98 - i * 98 ≡ 98 = omega arith in
+    ap (λ (n : ℕ). settledBytes state before (take n (drop (i * 98) s))) k
+    ∙ (line-moved (take 98 (drop (i * 98) s)) (line-set s i a l) state before
+    ∙ ap (λ (r : Record). recordText (settledAs state (imageOf before r) r)) (sym (record-at s i l)))
