@@ -9,13 +9,12 @@ use lib.ListN.{length, take, drop, getD, set}
 use Rattle.lists.specs.Each.{any}
 use Rattle.lists.specs.Pieces.{over}
 use Rattle.lists.specs.Chosen.{or-left, or-right, or-fst, or-snd}
-use Rattle.lists.specs.Tests.{and-snd, tests}
+use Rattle.lists.specs.Tests.{and-snd}
 use Rattle.decimal.specs.Field.{fieldText}
 use Rattle.types.specs.declared.Decision.{Decision}
 use Rattle.types.specs.declared.Key.{Key}
 use Rattle.types.specs.declared.Record.{Record}
 use Rattle.types.specs.declared.Found.the-variants.{At}
-use Rattle.model.specs.Lines.{linesOf, linesSet}
 use Rattle.model.specs.Records.{
   noRecord,
   recordText,

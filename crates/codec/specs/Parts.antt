@@ -2,24 +2,22 @@
 use Prim.Native.Nat.{ℕ, zero, suc, _+_, _-_, _*_, _/_, _≤_, _<_}
 use mathlib.Core.Path.{_≡_, refl, sym, ap, _∙_}
 use mathlib.Core.Bool.{Bool, true, false, _&&_, cond, true≢false}
-use mathlib.Core.List.{List, [], _∷_, _++_}
+use mathlib.Core.List.{List, _++_}
 use native.Mathlib.Omega.{arith}
 use lib.ListN.{length, take, drop, getD, length-take, length-drop, List·getD-eq-default}
-use lib.Seq.{take-take, take-all}
+use lib.Seq.{take-all}
 use lib.Dec.{leb}
-use borrow.Author.Tests.{eq-eqb, leb-true, leb-false, le-leb}
+use borrow.Author.Tests.{leb-true, leb-false, le-leb}
 use Rattle.lists.specs.Pieces.{over, over-part, over-zero}
-use Rattle.types.specs.declared.State.{State}
 use Rattle.types.specs.declared.State.the-variants.{Prepared}
-use Rattle.types.specs.declared.Record.{Record}
 use Rattle.types.specs.declared.Decision.the-variants.{Undecided, Aborted}
-use Rattle.lists.specs.Tests.{and-fst, and-snd, tests}
+use Rattle.lists.specs.Tests.{and-snd, tests}
 use Rattle.decimal.specs.Field.{number, figure, fieldText}
 use Rattle.decimal.specs.Laws.{length-fieldText}
-use Rattle.decimal.specs.Word.{putWord}
-use Rattle.model.specs.Layouts.{recordLayout, headLayout, lineLayout}
-use Rattle.model.specs.Lines.{fieldValue, rowOf, lineText}
-use Rattle.model.specs.Records.{stateOf, recordOf, recordIn, recordText, recordNumbers, records, noRecord}
+use Rattle.decimal.specs.Word.{putWord, put-fits}
+use Rattle.model.specs.Layouts.{recordLayout, lineLayout}
+use Rattle.model.specs.Lines.{rowOf}
+use Rattle.model.specs.Records.{stateOf, recordOf, recordIn, records, noRecord}
 use Rattle.model.specs.Coordinator.{decisionOf, decisionIn, decision, coordinatorOf}
 use Rattle.sheet_laws.specs.Places.{record-at}
 use Rattle.sheet_laws.specs.Decisions.{issued-at, decision-at, length-decisions}
@@ -43,22 +41,20 @@ pub room-part : (b : Bool) (w a : ℕ) (s t u : List ℕ) → b ≡ true → len
 room-part b w a s t u h e q = rw h (over-part s t a (a + w) e ∙ ap (over s a) q)
 
 -- a text over a part of its length
-pub word-part : (s t u : List ℕ) (a : ℕ) → a + length t ≤ length s → u ≡ putWord (take (a + length t - a) (drop a s)) t → take a s ++ (u ++ drop (a + length t - a) (drop a s)) ≡ over s a t
-unfolding putWord
-word-part s t u a l h =
+pub text-over : (s t u : List ℕ) (a : ℕ) → a + length t ≤ length s → u ≡ putWord (take (a + length t - a) (drop a s)) t → take a s ++ (u ++ drop (a + length t - a) (drop a s)) ≡ over s a t
+text-over s t u a l h =
     let n : length (take (a + length t - a) (drop a s)) ≡ length t = simp (length-take, length-drop) (omega arith) in
     let k : length t ≡ a + length t - a = omega arith in
-    let e : u ≡ t = h ∙ ap (λ (b : Bool). cond b t (take (a + length t - a) (drop a s))) (eq-eqb _ _ n) in
+    let e : u ≡ t = h ∙ put-fits (take (a + length t - a) (drop a s)) t n in
     ap (λ (x : List ℕ). take a s ++ (x ++ drop (a + length t - a) (drop a s))) e ∙ over-part s t a (a + length t) k
 
 -- the w bytes from p on, copied over as many others
-pub copied-part : (z s u : List ℕ) (w f p : ℕ) → length z ≡ w → f ≡ p → p + w ≤ length s → u ≡ putWord z (take (f + w - f) (drop f s)) → u ≡ take w (drop p s)
-unfolding putWord
-copied-part z s u w f p n e l h =
+pub bytes-copied : (z s u : List ℕ) (w f p : ℕ) → length z ≡ w → f ≡ p → p + w ≤ length s → u ≡ putWord z (take (f + w - f) (drop f s)) → u ≡ take w (drop p s)
+bytes-copied z s u w f p n e l h =
     let k : f + w - f ≡ w = omega arith in
     let m : length z ≡ length (take w (drop p s)) = simp (length-take, length-drop) (omega arith) in
     let q : u ≡ putWord z (take w (drop p s)) = rw (k, e) at h in
-    q ∙ ap (λ (b : Bool). cond b (take w (drop p s)) z) (eq-eqb _ _ m)
+    q ∙ put-fits z (take w (drop p s)) m
 
 -- A number that has a line in a coordinator sheet.
 abbrev pub hasLine : ℕ → List ℕ → Bool

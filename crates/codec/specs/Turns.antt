@@ -1,20 +1,20 @@
 -- One turn of each loop: the definition from place i on, by what stands at i and the definition from i + 1 on.
-use Prim.Native.Nat.{ℕ, zero, suc, _+_, _-_, _≤_, _<_}
+use Prim.Native.Nat.{ℕ, suc, _+_, _-_, _≤_, _<_}
 use mathlib.Core.Path.{_≡_, refl, sym, ap, _∙_}
 use mathlib.Core.Bool.{Bool, true, false, cond, true≢false}
-use mathlib.Core.List.{List, [], _∷_, _++_}
+use mathlib.Core.List.{List, []}
 use native.Mathlib.Omega.{arith}
 use native.Mathlib.Numerals.{add-one}
-use lib.ListN.{length, take, drop, getD, length-drop}
-use lib.Dec.{eqb, leb}
-use borrow.Author.Tests.{leb-true, eq-eqb}
+use lib.ListN.{length, take, drop, length-drop}
+use lib.Dec.{leb}
+use borrow.Author.Tests.{leb-true}
 use lib.Seq.{drop-cons, drop-length, take-all}
 use Rattle.lists.specs.Bytes.{bytes, eqList}
 use Rattle.decimal.specs.declared.Scan.{Scan}
-use Rattle.decimal.specs.declared.Scan.the-variants.{Blank, Number, Wrong}
+use Rattle.decimal.specs.declared.Scan.the-variants.{Number, Wrong}
 use Rattle.decimal.specs.Field.{figure, fieldText}
 use Rattle.decimal.specs.Laws.{length-fieldText}
-use Rattle.decimal.specs.Word.{putWord}
+use Rattle.decimal.specs.Word.{putWord, put-fits}
 use Rattle.types.specs.declared.Column.{Column}
 use Rattle.types.specs.declared.Kind.{Kind}
 use Rattle.types.specs.declared.Kind.the-variants.{Figure, StateWord, DecisionWord, UnitLetter}
@@ -62,7 +62,7 @@ write-figure c v n l e =
     ∙ sym (ap (λ (k : Kind). byKind k (fieldText (c .width) v) (lastBytes (c .width) (wordAt (c .kind) v))) e)
 
 pub write-a-word : (c : Column) (v : ℕ) (s : List ℕ) (k : Kind) → length s ≡ c .width → wideEnough c ≡ true → isWord k ≡ true → c .kind ≡ k → putWord s (lastBytes (length s) (wordAt (c .kind) v)) ≡ fieldBytes c v
-unfolding fieldBytes putWord
+unfolding fieldBytes
 write-a-word c v s k l n w e =
     let f : fieldBytes c v ≡ lastBytes (c .width) (wordAt (c .kind) v) =
     ap (λ (x : Kind). byKind x (fieldText (c .width) v) (lastBytes (c .width) (wordAt (c .kind) v))) e
@@ -70,9 +70,8 @@ write-a-word c v s k l n w e =
     let b : c .width ≤ 10 =
     leb-true (c .width) 10 (sym (ap (λ (x : Kind). byKind x true (leb (c .width) 10)) e ∙ is-word k true (leb (c .width) 10) w) ∙ n) in
     let t : length (wordAt (c .kind) v) ≡ 10 = length-wordAt (c .kind) v in
-    let q : eqb (length s) (length (lastBytes (length s) (wordAt (c .kind) v))) ≡ true =
-    eq-eqb (length s) (length (lastBytes (length s) (wordAt (c .kind) v))) (simp length-drop (omega arith)) in
-    rw q (ap (λ (x : ℕ). lastBytes x (wordAt (c .kind) v)) l ∙ sym f)
+    let q : length s ≡ length (lastBytes (length s) (wordAt (c .kind) v)) = simp length-drop (omega arith) in
+    put-fits s (lastBytes (length s) (wordAt (c .kind) v)) q ∙ (ap (λ (x : ℕ). lastBytes x (wordAt (c .kind) v)) l ∙ sym f)
 
 -- a field's bytes are as many as its columns
 pub length-fieldBytes : (c : Column) (v : ℕ) → wideEnough c ≡ true → length (fieldBytes c v) ≡ c .width

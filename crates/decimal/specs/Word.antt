@@ -1,10 +1,16 @@
 -- A fixed word in a field.
 use Prim.Native.Nat.{ℕ}
+use mathlib.Core.Path.{_≡_}
 use mathlib.Core.Bool.{cond}
 use mathlib.Core.List.{List}
 use lib.Dec.{eqb}
 use lib.ListN.{length}
+use borrow.Author.Tests.{eq-eqb}
 
 -- the word t written over s: only where it has the length of s
 unfoldable pub putWord : List ℕ → List ℕ → List ℕ
 putWord s t = cond (eqb (length s) (length t)) t s
+
+pub put-fits : (s t : List ℕ) → length s ≡ length t → putWord s t ≡ t
+unfolding putWord
+put-fits s t n = rw (eq-eqb (length s) (length t) n)

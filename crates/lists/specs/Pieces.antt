@@ -2,13 +2,12 @@
 -- Each goes by induction on the number of pieces.
 use Prim.Native.Nat.{ℕ, zero, suc, _+_, _-_, _*_, _≤_, _<_}
 use mathlib.Core.Path.{_≡_, refl, sym, ap, ap₂, _∙_}
-use mathlib.Core.Bool.{Bool, true, false, _&&_}
-use mathlib.Core.List.{List, [], _∷_, _++_, map, append-assoc}
+use mathlib.Core.List.{List, [], _∷_, _++_, append-assoc}
 use native.Mathlib.Omega.{arith}
-use native.Mathlib.Nat.{suc-mul, zero-mul, zero-add, add-comm, add-assoc}
-use lib.ListN.{length, take, drop, getD, set, length-take, length-drop, length-append, take-append-drop, drop-of-length-le}
+use native.Mathlib.Nat.{suc-mul, zero-mul, zero-add, add-assoc}
+use lib.ListN.{length, take, drop, getD, set, length-take, length-drop, length-append, take-append-drop}
 use lib.Seq.{take-at, drop-at, drop-drop, take-add, take-take, take-nil}
-use Rattle.lists.specs.Each.{all, joined, pieces}
+use Rattle.lists.specs.Each.{joined, pieces}
 
 -- an empty list where there is nothing
 pub length-zero {ℓ} : {A : Type ℓ} (s : List A) → length s ≡ 0 → s ≡ []

@@ -1,6 +1,6 @@
 -- What the two calls on a coordinator's numbers answer, case by case in the order of their conditions. Where none holds, the head and
 -- the lines say the numbers of the coordinator, part by part.
-use Prim.Native.Nat.{ℕ, suc, _+_, _-_, _*_, _/_, _≤_}
+use Prim.Native.Nat.{ℕ, suc, _+_, _*_, _/_, _≤_}
 use mathlib.Core.Path.{_≡_, refl, sym, ap, ap₂, _∙_}
 use mathlib.Core.Bool.{true, false}
 use mathlib.Core.List.{List, [], _∷_, _++_, map}

@@ -1,12 +1,12 @@
 -- Filling a target line by line: what the code lends for place i, and what it leaves there.
-use Prim.Native.Nat.{ℕ, zero, suc, _+_, _-_, _*_, _/_, _≤_, _<_}
-use mathlib.Core.Path.{_≡_, refl, sym, ap, _∙_}
-use mathlib.Core.List.{List, [], _∷_, _++_, map}
+use Prim.Native.Nat.{ℕ, _+_, _-_, _*_, _≤_, _<_}
+use mathlib.Core.Path.{_≡_, sym, ap, _∙_}
+use mathlib.Core.List.{List, [], _++_, map}
 use native.Mathlib.Omega.{arith}
 use lib.ListN.{length, take, drop, getD, length-map, List·getD-map}
 use Rattle.lists.specs.Each.{joined, pieces}
 use Rattle.lists.specs.All.{getD-any}
-use Rattle.lists.specs.Pieces.{over, over-part, length-pieces, getD-pieces}
+use Rattle.lists.specs.Pieces.{over-part, length-pieces, getD-pieces}
 use Rattle.lists.specs.Fill.{FilledTo, fill-first, fill-next, fill-last}
 
 -- Each piece of w of a list s gives a piece of v in the target, by f.

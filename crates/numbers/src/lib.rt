@@ -2,4 +2,4 @@
 pub mod decisions;
 pub mod records;
 mod rows;
-pub mod rules;
+mod rules;

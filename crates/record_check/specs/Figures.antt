@@ -1,6 +1,6 @@
 -- The field at a place of a line, and a figure as the number that its digits make. Digits are taken from the left as a scan takes them, and a space
 -- counts 0, so what a scan has read so far is what the digits have made so far.
-use Prim.Native.Nat.{ℕ, zero, suc, _+_, _-_, _*_, _%_, _^_, _≤_, _<_}
+use Prim.Native.Nat.{ℕ, suc, _+_, _-_, _*_, _%_, _^_, _≤_, _<_}
 use mathlib.Core.Path.{_≡_, sym, ap, _∙_}
 use mathlib.Core.Bool.{Bool, true, false, true≢false}
 use mathlib.Core.List.{List, [], _∷_}
@@ -8,20 +8,18 @@ use native.Mathlib.Nat.{pow-suc, pow-le-pow-right}
 use native.Mathlib.Numerals.{add-one}
 use native.Mathlib.Omega.{arith}
 use lib.ListN.{length, take, drop, getD}
-use lib.Seq.{drop-drop, drop-cons}
-use Rattle.lists.specs.Tests.{and-fst, and-snd}
-use Rattle.lists.specs.Bytes.{eqList-true}
+use lib.Seq.{drop-cons}
 use Rattle.decimal.specs.declared.Scan.{Scan}
 use Rattle.decimal.specs.declared.Scan.the-variants.{Blank, Number}
-use Rattle.decimal.specs.Field.{scanned, stepped, number, isNumber}
-use Rattle.decimal.specs.Laws.{Step, step-kind, scan-wrong, isNumber-number, figure-scan}
+use Rattle.decimal.specs.Field.{scanned, stepped, number}
+use Rattle.decimal.specs.Laws.{Step, step-kind, scan-wrong, figure-scan}
 use Rattle.decimal.specs.Laws.Step.{space, first, next, wrong}
 use Rattle.types.specs.declared.Kind.{Kind}
 use Rattle.types.specs.declared.Kind.the-variants.{Figure, StateWord, DecisionWord, UnitLetter}
 use Rattle.types.specs.declared.Column.{Column}
 use Rattle.model.specs.Layouts.{noColumn}
 use Rattle.model.specs.Lines.{byKind, fieldValue, rowOf, lineSet}
-use Rattle.sheet_laws.specs.Lines.{offset, fieldAt, field-at}
+use Rattle.sheet_laws.specs.Lines.{fieldAt, field-at}
 use Rattle.record_check.specs.Ranges.{column}
 
 abbrev pub isFigure : Column → Bool
@@ -76,14 +74,6 @@ digits-at i cs s l f h =
     let t = fieldAt i cs s in
     let v = getD (rowOf cs s) i 0 in
     digits-are t v (scan-of (getD cs i noColumn) t v f (field-at i cs s l h))
-
--- LF stands behind the last field
-pub line-end : (cs : List Column) (s : List ℕ) → lineSet cs s ≡ true → drop (offset (length cs) cs) s ≡ 10 ∷ []
-unfolding offset lineSet
-line-end [] s h = eqList-true s (10 ∷ []) h
-line-end (c ∷ cs) s h =
-    let g = isNumber (fieldValue c (take (c .width) s)) in
-    rw drop-drop at (line-end cs (drop (c .width) s) (and-snd g (lineSet cs (drop (c .width) s)) h))
 
 -- The code's loop over n bytes at `at`, turn by turn.
 

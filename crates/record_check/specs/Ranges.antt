@@ -10,7 +10,7 @@ use lib.ListN.{length, take, drop, length-take, length-drop}
 use lib.Dec.{eqb, leb}
 use borrow.Author.Tests.{le-leb, leb-false, lt-leb}
 use Rattle.lists.specs.Tests.{and-fst, and-snd, and-both, tests, same-test, and-swap}
-use Rattle.lists.specs.Bytes.{eqList, eqList-true}
+use Rattle.lists.specs.Bytes.{eqList}
 use Rattle.lists.specs.Each.{all}
 use Rattle.decimal.specs.declared.Scan.{Scan}
 use Rattle.decimal.specs.declared.Scan.the-variants.{Blank, Number, Wrong}

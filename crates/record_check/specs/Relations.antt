@@ -23,11 +23,11 @@ use Rattle.decimal.specs.Order.{order-bytes}
 use Rattle.types.specs.declared.Column.{Column}
 use Rattle.model.specs.Layouts.{recordLayout, noColumn}
 use Rattle.model.specs.Lines.{rowOf, lineSet}
-use Rattle.sheet_laws.specs.Lines.{lineBytes, line-length, offset, fieldAt, field-at}
+use Rattle.sheet_laws.specs.Lines.{lineBytes, line-length, offset, fieldAt, field-at, line-end}
 use Rattle.places.specs.Order.{part-bytes}
 use Rattle.places.specs.Loads.{loaded, loaded-append, loaded-equal}
 use Rattle.record_check.specs.Ranges.{opened}
-use Rattle.record_check.specs.Figures.{scan-of, figureAt, digits-at, line-end}
+use Rattle.record_check.specs.Figures.{scan-of, figureAt, digits-at}
 use Rattle.record_check.specs.Keys.{equal-bytes}
 
 -- the highest clock as it ends a line

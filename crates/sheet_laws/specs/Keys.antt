@@ -1,11 +1,11 @@
 -- A key as text: the first twenty bytes of its line. Two keys in range are the same where their texts are, since a key line
 -- reads as its key.
-use Prim.Native.Nat.{ℕ, zero, suc, _+_, _≤_, _<_}
-use mathlib.Core.Path.{_≡_, refl, sym, ap, ap₂, _∙_}
-use mathlib.Core.Bool.{Bool, true, false, _&&_}
+use Prim.Native.Nat.{ℕ, suc, _+_}
+use mathlib.Core.Path.{_≡_, refl, sym, ap, _∙_}
+use mathlib.Core.Bool.{true}
 use mathlib.Core.List.{List, [], _∷_, _++_, append-assoc, append-nil}
 use native.Mathlib.Omega.{arith}
-use lib.ListN.{length, take, drop, getD, length-append, take-append-drop}
+use lib.ListN.{length, take, drop, getD, length-append}
 use lib.Seq.{take-at, drop-drop}
 use Rattle.lists.specs.Tests.{and-fst, and-snd, and-both, same-test}
 use Rattle.lists.specs.Bytes.{eqList, eqList-true, eqList-refl}
@@ -20,13 +20,14 @@ use Rattle.model.specs.Records.{
   imageNumbers,
   recordNumbers,
   recordIn,
-  recordText,
+  recordOf,
+  keyOf,
   keyInRange,
   sameKey,
 }
 use Rattle.sheet_laws.specs.Fields.{columnOk}
 use Rattle.sheet_laws.specs.Lines.{layoutOk, lineBytes, length-lineText, line-written-read, row-read-written}
-use Rattle.sheet_laws.specs.Records.{ranged, record-layout-ok, record-written-read, line-numbers}
+use Rattle.sheet_laws.specs.Records.{ranged, record-layout-ok, line-numbers}
 
 -- the line of a key alone
 abbrev pub keyLine : Key → List ℕ
@@ -62,10 +63,6 @@ keyText k = fieldsText keyLayout (keyNumbers k)
 key-layout-ok : layoutOk keyLayout ≡ true
 unfolding all columnOk keyLayout recordLayout
 key-layout-ok = refl
-
-whole-layout : keyLayout ++ drop 5 recordLayout ≡ recordLayout
-unfolding keyLayout
-whole-layout = take-append-drop 5 recordLayout
 
 -- the fields of a row and LF are its line
 fields-line : (cs : List Column) (vs : List ℕ) → lineText cs vs ≡ fieldsText cs vs ++ (10 ∷ [])
@@ -111,27 +108,14 @@ pub key-ranged : (r : Record) → ranged r ≡ true → keyInRange (r .key) ≡ 
 unfolding keyInRange recordNumbers keyNumbers imageNumbers keyLayout recordLayout rowGood
 key-ranged r g = row-split (take 5 recordLayout) (drop 5 recordLayout) (recordNumbers r) g
 
--- the key's fields come first
-key-first : (r : Record) → fieldsText keyLayout (recordNumbers r) ≡ keyText (r .key)
-unfolding fieldsText recordNumbers keyNumbers imageNumbers keyLayout recordLayout
-key-first r = refl
-
-pub record-key-text : (r : Record) → ranged r ≡ true → take 20 (recordText r) ≡ keyText (r .key)
-unfolding recordText
-record-key-text r g =
-    let rest = lineText (drop 5 recordLayout) (drop (length keyLayout) (recordNumbers r)) in
-    let e : lineText recordLayout (recordNumbers r) ≡ keyText (r .key) ++ rest =
-    ap (λ (cs : List Column). lineText cs (recordNumbers r)) (sym whole-layout)
-    ∙ (line-split keyLayout (drop 5 recordLayout) (recordNumbers r) ∙ ap (λ (t : List ℕ). t ++ rest) (key-first r)) in
-    ap (take 20) e ∙ take-at (keyText (r .key)) rest 20 (length-keyText (r .key) (key-ranged r g))
-
 -- The key of a line that can be read.
 module _ (line : List ℕ) (set : lineSet recordLayout line ≡ true) where
   pub line-ranged : ranged (recordIn line) ≡ true
   line-ranged = rw (line-numbers line set) (line-written-read recordLayout line record-layout-ok set .1)
 
   pub line-key-text : take 20 line ≡ keyText (recordIn line .key)
-  line-key-text = ap (take 20) (sym (record-written-read line set)) ∙ record-key-text (recordIn line) line-ranged
+  unfolding recordIn recordOf keyOf keyNumbers recordLayout keyLayout lineBytes rowOf fieldsText
+  line-key-text = fields-read keyLayout (drop 5 recordLayout) 20 line key-layout-ok record-layout-ok refl set
 
   -- the line has the key k exactly if it begins with the text of k
   pub key-same : (k : Key) → keyInRange k ≡ true → eqList (take 20 line) (keyText k) ≡ sameKey (recordIn line .key) k

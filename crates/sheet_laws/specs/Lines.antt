@@ -1,16 +1,15 @@
 -- A line, for any layout whose columns pass `columnOk`: both round trips, field by field from the left.
-use Prim.Native.Nat.{ℕ, zero, suc, _+_, _-_, _≤_, _<_}
-use mathlib.Core.Path.{_≡_, refl, sym, ap, ap₂, subst, _∙_}
-use mathlib.Core.Bool.{Bool, true, false, _&&_}
+use Prim.Native.Nat.{ℕ, zero, suc, _+_, _≤_, _<_}
+use mathlib.Core.Path.{_≡_, refl, sym, ap, ap₂, _∙_}
+use mathlib.Core.Bool.{Bool, true, _&&_}
 use mathlib.Core.List.{List, [], _∷_, _++_}
 use native.Mathlib.Omega.{arith}
-use lib.ListN.{length, take, drop, getD, length-take, length-drop, length-append, take-append-drop}
+use lib.ListN.{length, take, drop, getD, length-take, length-drop, take-append-drop}
 use lib.Seq.{take-at, drop-at, getD-drop, drop-drop}
-use Rattle.lists.specs.Tests.{and-fst, and-snd, and-both, tests}
+use Rattle.lists.specs.Tests.{and-fst, and-snd, and-both}
 use Rattle.lists.specs.Bytes.{eqList, eqList-true, eqList-refl}
 use Rattle.lists.specs.Each.{all}
-use Rattle.decimal.specs.declared.Scan.{Scan}
-use Rattle.decimal.specs.declared.Scan.the-variants.{Blank, Number, Wrong}
+use Rattle.decimal.specs.declared.Scan.the-variants.{Number}
 use Rattle.decimal.specs.Field.{number, isNumber}
 use Rattle.decimal.specs.Laws.{isNumber-number}
 use Rattle.types.specs.declared.Column.{Column}
@@ -145,3 +144,26 @@ field-at zero (c ∷ cs) s l h =
 field-at (suc i) (c ∷ cs) s l h =
     let g = isNumber (fieldValue c (take (c .width) s)) in
     rw drop-drop at (field-at i cs (drop (c .width) s) (omega arith) (and-snd g (lineSet cs (drop (c .width) s)) h))
+
+-- the fields from k on are a line of their own
+pub rest-set : (k : ℕ) (cs : List Column) (s : List ℕ) → lineSet cs s ≡ true → k ≤ length cs → lineSet (drop k cs) (drop (offset k cs) s) ≡ true
+unfolding offset lineSet
+rest-set zero cs s h l = h
+rest-set (suc k) [] s h l = absurd (omega arith)
+rest-set (suc k) (c ∷ cs) s h l =
+    let g = isNumber (fieldValue c (take (c .width) s)) in
+    rw drop-drop at (rest-set k cs (drop (c .width) s) (and-snd g (lineSet cs (drop (c .width) s)) h) (omega arith))
+
+pub rest-row : (k : ℕ) (cs : List Column) (s : List ℕ) → k ≤ length cs → rowOf (drop k cs) (drop (offset k cs) s) ≡ drop k (rowOf cs s)
+unfolding offset rowOf
+rest-row zero cs s l = refl
+rest-row (suc k) [] s l = absurd (omega arith)
+rest-row (suc k) (c ∷ cs) s l = rw drop-drop at (rest-row k cs (drop (c .width) s) (omega arith))
+
+-- LF stands behind the last field
+pub line-end : (cs : List Column) (s : List ℕ) → lineSet cs s ≡ true → drop (offset (length cs) cs) s ≡ 10 ∷ []
+unfolding offset lineSet
+line-end [] s h = eqList-true s (10 ∷ []) h
+line-end (c ∷ cs) s h =
+    let g = isNumber (fieldValue c (take (c .width) s)) in
+    rw drop-drop at (line-end cs (drop (c .width) s) (and-snd g (lineSet cs (drop (c .width) s)) h))

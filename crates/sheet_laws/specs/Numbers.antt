@@ -1,16 +1,16 @@
 -- Records as numbers, fifteen to a record: both round trips, record by record.
-use Prim.Native.Nat.{ℕ, zero, suc, _+_, _*_, _/_, _≤_, _<_}
-use mathlib.Core.Path.{_≡_, refl, sym, ap, _∙_}
-use mathlib.Core.Bool.{Bool, true, false, _&&_}
-use mathlib.Core.List.{List, [], _∷_, map}
+use Prim.Native.Nat.{ℕ, _*_, _/_}
+use mathlib.Core.Path.{_≡_, sym, ap, _∙_}
+use mathlib.Core.Bool.{true, _&&_}
+use mathlib.Core.List.{List, map}
 use native.Mathlib.Omega.{arith}
-use lib.ListN.{length, take, drop, getD, length-map}
-use lib.Dec.{eqb, leb}
-use borrow.Author.Tests.{eqb-true, leb-true, eq-eqb}
+use lib.ListN.{length, length-map}
+use lib.Dec.{eqb}
+use borrow.Author.Tests.{eqb-true, eq-eqb}
 use Rattle.lists.specs.Tests.{and-fst, and-snd, and-both, tests}
 use Rattle.lists.specs.Each.{all, joined, pieces}
 use Rattle.lists.specs.All.{all-map, all-and, all-weaken, all-of, pieces-whole, map-map, map-same, map-equal}
-use Rattle.lists.specs.Pieces.{AllOf, length-pieces, joined-pieces, pieces-joined, length-joined}
+use Rattle.lists.specs.Pieces.{length-pieces, joined-pieces, pieces-joined, length-joined}
 use Rattle.types.specs.declared.Record.{Record}
 use Rattle.model.specs.Layouts.{recordLayout}
 use Rattle.model.specs.Lines.{rowOf, lineText, lineSet, linesOf, linesSet, rowGood}

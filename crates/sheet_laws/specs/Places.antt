@@ -1,13 +1,13 @@
 -- A line of an accepted record sheet by its place: what it says, and what replacing it does to the records.
 -- Bytes go by `pieces`; the order of keys stays since a record is replaced by one of the same key.
-use Prim.Native.Nat.{ℕ, zero, suc, _+_, _*_, _/_, _≤_, _<_}
+use Prim.Native.Nat.{ℕ, zero, suc, _*_, _/_, _≤_, _<_}
 use mathlib.Core.Path.{_≡_, refl, sym, ap, ap₂, _∙_}
-use mathlib.Core.Bool.{Bool, true, false, _&&_}
+use mathlib.Core.Bool.{Bool, true, _&&_}
 use mathlib.Core.List.{List, [], _∷_, map}
 use native.Mathlib.Omega.{arith}
 use lib.ListN.{length, take, drop, getD, set, length-map, length-set, List·getD-map, List·getD-eq-default}
 use lib.Dec.{eqb, leb}
-use borrow.Author.Tests.{eqb-true, eq-eqb}
+use borrow.Author.Tests.{eq-eqb}
 use Rattle.lists.specs.Bytes.{bytes, eqList}
 use Rattle.decimal.specs.Field.{number, figure, scanned, within}
 use Rattle.lists.specs.Tests.{and-fst, and-snd, and-both, tests}
@@ -17,7 +17,7 @@ use Rattle.lists.specs.Pieces.{over, length-pieces, pieces-over, getD-pieces, l
 use Rattle.types.specs.declared.Key.{Key}
 use Rattle.types.specs.declared.Record.{Record}
 use Rattle.model.specs.Layouts.{recordLayout, words}
-use Rattle.model.specs.Lines.{fieldValue, wordFrom, rowOf, lineSet, rowGood, linesOf, linesSet}
+use Rattle.model.specs.Lines.{fieldValue, wordFrom, rowOf, lineSet, linesOf, linesSet}
 use Rattle.model.specs.Records.{
   noRecord,
   recordOf,
@@ -31,7 +31,6 @@ use Rattle.model.specs.Records.{
   recordsGood,
   recordIn,
   recordText,
-  recordNumbers,
   records,
   recordsAccepted,
 }

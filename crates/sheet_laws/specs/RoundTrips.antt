@@ -1,20 +1,17 @@
 -- T3 over the calls: a sheet read into numbers and written again is the same sheet, and numbers written and read are the same
 -- numbers, for both sheets, into any targets of the right length. Each call does what its definition says, and the definitions
 -- undo each other.
-use Prim.Native.Nat.{ℕ, _+_, _-_, _*_, _/_, _≤_}
-use mathlib.Core.Path.{_≡_, refl, sym, ap, _∙_}
-use mathlib.Core.Bool.{Bool, true, false, _&&_, cond}
-use mathlib.Core.List.{List, [], _∷_, _++_, map}
+use Prim.Native.Nat.{ℕ, _+_, _*_, _/_, _≤_}
+use mathlib.Core.Path.{_≡_, ap, _∙_}
+use mathlib.Core.Bool.{true}
+use mathlib.Core.List.{List, map}
 use native.Mathlib.Omega.{arith}
-use lib.ListN.{length, take, drop, length-map, length-append, length-drop}
-use lib.Dec.{eqb, leb}
+use lib.ListN.{length, drop, length-map, length-append, length-drop}
 use borrow.Author.Tests.{eq-eqb}
-use Rattle.lists.specs.Tests.{and-fst, and-snd, and-both, tests}
-use Rattle.lists.specs.Each.{all, joined}
+use Rattle.lists.specs.Tests.{tests}
+use Rattle.lists.specs.Each.{all}
 use Rattle.lists.specs.All.{all-weaken}
-use Rattle.lists.specs.Pieces.{length-pieces}
 use Rattle.types.specs.declared.Record.{Record}
-use Rattle.model.specs.Lines.{linesSet}
 use Rattle.model.specs.Records.{
   recordOf,
   goodAlone,
@@ -53,8 +50,8 @@ use Rattle.model.specs.SheetCalls.{
 use Rattle.sheet_laws.specs.Records.{ranged, good-ranged, sheet-written-read, records-read-written, lines-of-text}
 use Rattle.sheet_laws.specs.Numbers.{length-rows, numbers-read-written, numbers-written-read, rows-of-numbers}
 use Rattle.sheet_laws.specs.Places.{whole-lines, length-records}
-use Rattle.sheet_laws.specs.Coordinator.{Bounds, bounds, coordinator-written-read, coordinator-read-written}
-use Rattle.sheet_laws.specs.Decisions.{Accepted, accepted-parts, accepted-length, length-decisions}
+use Rattle.sheet_laws.specs.Coordinator.{bounds, coordinator-written-read, coordinator-read-written}
+use Rattle.sheet_laws.specs.Decisions.{accepted-parts, accepted-length, length-decisions}
 use Rattle.sheet_laws.specs.CoordinatorNumbers.{coordinator-of-numbers, numbers-of-coordinator}
 
 -- What the calls leave where nothing is refused.

@@ -2,18 +2,16 @@
 -- so the texts of key and images are found where their columns stand.
 use Prim.Native.Nat.{ℕ, _+_, _-_, _*_, _/_, _<_}
 use mathlib.Core.Path.{_≡_, refl, sym, ap, ap₂, subst, _∙_}
-use mathlib.Core.Bool.{Bool, true, false, _&&_, cond}
+use mathlib.Core.Bool.{Bool, true, false, cond}
 use mathlib.Core.List.{List, [], _∷_, _++_, append-assoc}
 use native.Mathlib.Omega.{arith}
 use lib.ListN.{length, take, drop, getD, length-take, length-drop, length-append}
-use lib.Seq.{drop-drop}
 use Rattle.lists.specs.Tests.{tests}
 use Rattle.lists.specs.Each.{all, pieces}
 use Rattle.lists.specs.All.{all-at}
-use Rattle.lists.specs.Bytes.{bytes, eqList, eqList-true}
+use Rattle.lists.specs.Bytes.{bytes}
 use Rattle.lists.specs.Pieces.{over, over-next, getD-pieces, length-pieces}
 use Rattle.decimal.specs.Field.{ahead, fieldText}
-use Rattle.types.specs.declared.Column.{Column}
 use Rattle.types.specs.declared.Image.{Image}
 use Rattle.types.specs.declared.Kind.the-variants.{StateWord}
 use Rattle.types.specs.declared.Record.{Record}
@@ -36,7 +34,7 @@ use Rattle.model.specs.Records.{
   recordsAccepted,
 }
 use Rattle.sheet_laws.specs.Fields.{columnOk}
-use Rattle.sheet_laws.specs.Lines.{layoutOk, lineBytes, line-length}
+use Rattle.sheet_laws.specs.Lines.{layoutOk, lineBytes, line-length, offset, rest-set, rest-row, line-end}
 use Rattle.sheet_laws.specs.Places.{record-at}
 use Rattle.sheet_laws.specs.Keys.{fieldsText, line-split, fields-read, keyText, line-key-text}
 
@@ -93,10 +91,9 @@ settled-text state m r =
     (line-split imageLayout (drop 10 recordLayout) (imageNumbers m ++ (0 ∷ 0 ∷ 0 ∷ 0 ∷ 0 ∷ []))
     ∙ ap (λ (t : List ℕ). imageText m ++ t) nothing-text))
 
--- an image's fields, whatever stands behind them
-image-read : (ds : List Column) (s : List ℕ) → layoutOk (imageLayout ++ ds) ≡ true → lineSet (imageLayout ++ ds) s ≡ true → take 28 s ≡ fieldsText imageLayout (rowOf (imageLayout ++ ds) s)
-unfolding all columnOk imageLayout recordLayout lineBytes
-image-read ds s o h = fields-read imageLayout ds 28 s refl o refl h
+image-layout-ok : layoutOk imageLayout ≡ true
+unfolding all columnOk imageLayout recordLayout
+image-layout-ok = refl
 
 with-before : layoutOk (imageLayout ++ drop 10 recordLayout) ≡ true
 unfolding all columnOk imageLayout recordLayout
@@ -109,38 +106,24 @@ before-alone = refl
 -- Where the images of a line that can be read stand.
 module _ (line : List ℕ) (set : lineSet recordLayout line ≡ true) where
   image-place : take 28 (drop 30 line) ≡ imageText (recordIn line .image)
-  unfolding recordIn recordOf imageFrom recordLayout imageLayout imageNumbers rowOf lineSet fieldsText
+  unfolding recordIn recordOf imageFrom recordLayout imageLayout imageNumbers lineBytes rowOf fieldsText offset
   image-place =
-      let s = drop 10 (drop 6 (drop 6 (drop 3 (drop 3 (drop 2 line))))) in
-      let h : lineSet (imageLayout ++ drop 10 recordLayout) s ≡ true = search tests in
-      let e : drop 30 line ≡ s = sym (simp drop-drop) in
-      ap (take 28) e ∙ image-read (drop 10 recordLayout) s with-before h
+      fields-read imageLayout (drop 10 recordLayout) 28 (drop 30 line) image-layout-ok with-before refl (rest-set 6 recordLayout line set (omega arith))
+      ∙ ap (fieldsText imageLayout) (rest-row 6 recordLayout line (omega arith))
 
   before-place : take 28 (drop 58 line) ≡ imageText (recordIn line .before)
-  unfolding recordIn recordOf imageFrom recordLayout imageLayout imageNumbers rowOf lineSet fieldsText
+  unfolding recordIn recordOf imageFrom recordLayout imageLayout imageNumbers lineBytes rowOf fieldsText offset
   before-place =
-      let t = drop 10 (drop 6 (drop 6 (drop 3 (drop 3 (drop 2 line))))) in
-      let s = drop 9 (drop 9 (drop 4 (drop 6 t))) in
-      let g : lineSet (drop 6 recordLayout) t ≡ true = search tests in
-      let h : lineSet (imageLayout ++ drop 14 recordLayout) s ≡ true = search (tests, g) in
-      let e : drop 58 line ≡ s = sym (simp drop-drop) in
-      ap (take 28) e ∙ image-read (drop 14 recordLayout) s before-alone h
+      fields-read imageLayout (drop 14 recordLayout) 28 (drop 58 line) image-layout-ok before-alone refl (rest-set 10 recordLayout line set (omega arith))
+      ∙ ap (fieldsText imageLayout) (rest-row 10 recordLayout line (omega arith))
 
   whole : length line ≡ 98
   unfolding lineBytes recordLayout
   whole = line-length recordLayout line set
 
-  line-end : drop 97 line ≡ 10 ∷ []
-  unfolding recordLayout lineSet
-  line-end =
-      let t = drop 6 (drop 3 (drop 3 (drop 2 line))) in
-      let u = drop 9 (drop 4 (drop 6 (drop 10 (drop 6 t)))) in
-      let s = drop 11 (drop 9 (drop 9 (drop 4 (drop 6 (drop 9 u))))) in
-      let f : lineSet (drop 4 recordLayout) t ≡ true = search tests in
-      let g : lineSet (drop 9 recordLayout) u ≡ true = search (tests, f) in
-      let h : eqList s (10 ∷ []) ≡ true = search (tests, g) in
-      let e : drop 97 line ≡ s = sym (simp drop-drop) in
-      e ∙ eqList-true s (10 ∷ []) h
+  last-byte : drop 97 line ≡ 10 ∷ []
+  unfolding recordLayout offset
+  last-byte = line-end recordLayout line set
 
   -- The bytes of an image behind a state word, and nothing behind them, over what stands there.
   module _ (state : State) (m : Image) (image : List ℕ) (is : image ≡ imageText m) (sized : length image ≡ 28) where
@@ -153,7 +136,7 @@ module _ (line : List ℕ) (set : lineSet recordLayout line ≡ true) where
         let n : 20 + length ((w ++ image) ++ nothingText) ≡ 97 = simp length-append (omega (arith, length-word state, length-nothing)) in
         ap (λ (t : List ℕ). over t 58 nothingText) a
         ∙ (b
-        ∙ (ap₂ (λ (k e : List ℕ). k ++ (((w ++ image) ++ nothingText) ++ e)) (line-key-text line set) (ap (λ (i : ℕ). drop i line) n ∙ line-end)
+        ∙ (ap₂ (λ (k e : List ℕ). k ++ (((w ++ image) ++ nothingText) ++ e)) (line-key-text line set) (ap (λ (i : ℕ). drop i line) n ∙ last-byte)
         ∙ (ap (λ (t : List ℕ). keyText (recordIn line .key) ++ t)
         (append-assoc (w ++ image) nothingText (10 ∷ [])
         ∙ (append-assoc w image (nothingText ++ (10 ∷ []))

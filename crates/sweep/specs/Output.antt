@@ -7,12 +7,12 @@ use native.Mathlib.Omega.{arith}
 use lib.ListN.{length, take, drop, length-append, length-take, length-drop}
 use lib.Seq.{take-at, drop-at, drop-drop}
 use lib.Dec.{eqb, leb}
-use borrow.Author.Tests.{eq-eqb, le-leb, lt-leb}
+use borrow.Author.Tests.{le-leb, lt-leb}
 use Rattle.lists.specs.Bytes.{bytes}
 use Rattle.lists.specs.Chosen.{and-false}
 use Rattle.lists.specs.Tests.{and-both}
 use Rattle.decimal.specs.Field.{fieldText}
-use Rattle.decimal.specs.Word.{putWord}
+use Rattle.decimal.specs.Word.{putWord, put-fits}
 use Rattle.model.specs.Refusals.{refusalOf}
 use Rattle.model.specs.ByteHistories.{Bytes}
 use Rattle.model.specs.Visitor.{firstNumber, coordinatorSize, inputConditions, inputSheets, swept, printed, refusedText, visitorOutput}
@@ -59,9 +59,7 @@ pub record Target (input work output : List ℕ) : Type 0 where
 
 -- bytes put over as many
 pub put-part : (s t u : List ℕ) → t ≡ u → length s ≡ length u → putWord s t ≡ u
-unfolding putWord
-put-part s t u e l =
-    let q : eqb (length s) (length t) ≡ true = eq-eqb (length s) (length t) (l ∙ ap length (sym e)) in rw q e
+put-part s t u e l = put-fits s t (l ∙ ap length (sym e)) ∙ e
 
 -- both slices, with the parts of the input put over them
 pub loaded : (input rs cs rs′ cs′ : List ℕ) (n : ℕ) → Loaded input rs cs → n ≡ placeOfRecords (firstOf input) → rs′ ≡ putWord rs (take (length input - n) (drop n input)) → cs′ ≡ putWord cs (take (n - 20) (drop 20 input)) → both rs′ cs′ ≡ inputSheets input

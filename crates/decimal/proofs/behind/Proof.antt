@@ -1,5 +1,5 @@
 -- By what the first digit makes: a figure, behind which the others are read, or none.
-use Prim.Native.Nat.{ℕ, _+_}
+use Prim.Native.Nat.{_+_}
 use mathlib.Core.Path.{_≡_, sym, ap, _∙_}
 use lib.ListN.{getD, drop}
 use borrow.Author.Needs.{needs}

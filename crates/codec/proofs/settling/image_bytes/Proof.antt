@@ -2,7 +2,7 @@
 use native.Mathlib.Omega.{arith}
 use mathlib.Core.Path.{refl}
 use borrow.Author.Needs.{needs}
-use Rattle.codec.specs.Parts.{copied-part}
+use Rattle.codec.specs.Parts.{bytes-copied}
 use Rattle.codec.proofs.settling.image_bytes.Statement.{statement}
 use Rattle.codec.proofs.settling.image_bytes.Tie as tie
 
@@ -31,7 +31,7 @@ returns : tie.Need-returns
 returns c =
     let a = c .before .before .before .before .before .before .args in
     let p = c .before .before .before .before .image-place .ensures in
-    copied-part _ (a .line .now) _ 28 _ _ refl (p .0) (omega arith) (c .before .put .ensures)
+    bytes-copied _ (a .line .now) _ 28 _ _ refl (p .0) (omega arith) (c .before .put .ensures)
 
 pub image-bytes-spec : {M : Type 1} → statement M
 image-bytes-spec =

@@ -1,6 +1,6 @@
 -- The part comes back as the text, which has its length.
 use borrow.Author.Needs.{needs}
-use Rattle.codec.specs.Parts.{word-part}
+use Rattle.codec.specs.Parts.{text-over}
 use Rattle.codec.proofs.settling.put_at.Statement.{statement}
 use Rattle.codec.proofs.settling.put_at.Tie as tie
 
@@ -25,7 +25,7 @@ same-length c = search needs
 returns : tie.Need-returns
 returns c =
     let a = c .before .before .before .before .before .before .args in
-    word-part (a .line .now) (a .text .now) _ (a .at) (c .before .before .before .before .before .before .pre) (c .before .before .put .ensures)
+    text-over (a .line .now) (a .text .now) _ (a .at) (c .before .before .before .before .before .before .pre) (c .before .before .put .ensures)
 
 pub put-at-spec : {M : Type 1} → statement M
 put-at-spec =

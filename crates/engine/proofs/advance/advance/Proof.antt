@@ -4,7 +4,6 @@ use Rattle.engine.specs.Answers.{stepped}
 use Rattle.engine.specs.Outcomes.{outcome-refused}
 use Rattle.engine.specs.Admission.{admitted}
 use Rattle.engine.specs.Advancing.{forbids, advance-away, advance-forbidden, step-ready, step-outcome}
-use Prim.Native.Nat.{_-_}
 use mathlib.Core.Path.{sym, ap, _∙_}
 use borrow.Author.Needs.{needs}
 use Rattle.engine.proofs.advance.advance.Statement.{statement}
