@@ -1,11 +1,11 @@
 // Decimal fields of any width, as document 01 sets them: right-justified, space-filled, without leading zeros, zero as `0`.
-ghost use Prim.Native.Nat.{_+_, _-_, _*_, _<_};
+ghost use Prim.Native.Nat.{_<_};
 ghost use mathlib.Core.Path.{_≡_};
-ghost use mathlib.Core.Bool.{cond, false};
+ghost use mathlib.Core.Bool.{false};
 ghost use lib.Dec.{eqb};
 ghost use lib.ListN.{length, getD, drop};
 ghost use Rattle.lists.specs.Bytes.{eqList};
-ghost use Rattle.decimal.specs.Field.{isDigit, within, figure, place, fieldText};
+ghost use Rattle.decimal.specs.Field.{within, figure, place, fieldText};
 ghost use Rattle.decimal.specs.Cut.{longer, scannedTo, spaces};
 ghost use Rattle.decimal.specs.Word.{putWord};
 

@@ -2,7 +2,6 @@
 ghost use mathlib.Core.Path.{_≡_};
 ghost use Prim.Native.Nat.{_≤_, _<_};
 ghost use Rattle.types.specs.declared.Found.the-variants.{At};
-ghost use Rattle.model.specs.Transactions.{heldAt};
 ghost use Rattle.model.specs.ByteCalls.{putOn};
 ghost use Rattle.engine.specs.Answers.{stepped};
 ghost use Rattle.engine.specs.Putting.{putHeld, putAt};
