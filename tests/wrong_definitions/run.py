@@ -2,8 +2,9 @@
 """Wrong definitions that the theorems must refuse.
 
 A must-fail edit of a crate re-proves that crate alone, and the definitions stand in another crate than the theorems about them. So each edit here is
-applied to a copy of the crates that the recovery theorem stands on, proofs adapted as one would who believed in it, and the copy must be refused
-where the edit says. The cases that the definitions' own crate shows by computation are left out of the copy: they would refuse most edits first.
+applied to a copy of the crates that the theorems stand on, proofs adapted as one would who believed in it, and the copy must be refused where the
+edit says. The cases that the definitions' own crate shows by computation are left out of the copy: they would refuse most edits first. The copy
+stands outside the repository, so that nothing that is built here is touched.
 
 An edit: comments with `#`; `refused: CRATE NAME`, the first theorem that must be refused; then `file:`, and `old:` and `new:` lines, one line each. `old:` occurs
 once; `every:` instead of `old:` replaces all occurrences. `\\n` in a `new:` line is a line break.
@@ -13,30 +14,31 @@ import re
 import shutil
 import subprocess
 import sys
+import tempfile
 
 HERE = pathlib.Path(__file__).resolve().parent
 ROOT = HERE.parent.parent
-TREE = ROOT / "target" / "wrong_definitions"
-CRATES = ["lists", "decimal", "types", "model", "sheet_laws", "call_laws", "recovery"]
-SHOWN_BY_COMPUTATION = ["Cases", "Learners"]
+CRATES = ["lists", "decimal", "types", "model", "sheet_laws", "call_laws", "recovery", "theorems"]
+TOP = CRATES[-1]
+# what the definitions' own crate shows by computation, and the file that cites it
+LEFT_OUT = [("model", "Cases"), ("model", "Learners"), ("theorems", "Theorems")]
 
 
-def lay_out():
+def lay_out(tree):
     """A fresh copy of the crates, without what the build left in an earlier one."""
-    shutil.rmtree(TREE / "crates", ignore_errors=True)
+    shutil.rmtree(tree / "crates", ignore_errors=True)
     for crate in CRATES:
-        shutil.copytree(ROOT / "crates" / crate, TREE / "crates" / crate, ignore=shutil.ignore_patterns("must-fail"))
+        shutil.copytree(ROOT / "crates" / crate, tree / "crates" / crate, ignore=shutil.ignore_patterns("must-fail"))
     lines = (ROOT / "crates.txt").read_text().splitlines()
-    (TREE / "crates.txt").write_text("\n".join(line for line in lines if line.split(":")[0] in CRATES) + "\n")
-    model = TREE / "crates" / "model" / "specs"
-    lib = (model / "Lib.antt").read_text()
-    for name in SHOWN_BY_COMPUTATION:
-        (model / f"{name}.antt").unlink()
-        lib = lib.replace(f"pub mod {name}\n", "")
-    (model / "Lib.antt").write_text(lib)
+    (tree / "crates.txt").write_text("\n".join(line for line in lines if line.split(":")[0] in CRATES) + "\n")
+    for crate, name in LEFT_OUT:
+        specs = tree / "crates" / crate / "specs"
+        (specs / f"{name}.antt").unlink()
+        lib = (specs / "Lib.antt").read_text()
+        (specs / "Lib.antt").write_text(lib.replace(f"pub mod {name}\n", ""))
 
 
-def apply(edit):
+def apply(edit, tree):
     """Applies an edit to the copy and returns the crate and the theorem that must refuse it."""
     refused, path, old, every = None, None, None, False
     for line in edit.read_text().splitlines():
@@ -44,7 +46,7 @@ def apply(edit):
         if key == "refused":
             refused = value.split()
         elif key == "file":
-            path = TREE / "crates" / value
+            path = tree / "crates" / value
         elif key in ("old", "every"):
             old, every = value, key == "every"
         elif key == "new":
@@ -56,8 +58,8 @@ def apply(edit):
     return refused
 
 
-def prove():
-    done = subprocess.run(["rt", "check", "recovery"], cwd=TREE, capture_output=True, text=True)
+def prove(tree):
+    done = subprocess.run(["rt", "check", TOP], cwd=tree, capture_output=True, text=True)
     return done.returncode, done.stdout + done.stderr
 
 
@@ -66,15 +68,15 @@ def refusals(log):
     return re.findall(r"/crates/(\w+)/\S+: error: `([^`]+)`(?!: `[^`]+` was not admitted)", log)
 
 
-def main():
-    lay_out()
-    status, log = prove()
+def try_all(tree):
+    lay_out(tree)
+    status, log = prove(tree)
     if status != 0:
         sys.exit("the definitions as they are must be proved:\n" + log[-2000:])
     for edit in sorted(HERE.glob("*.edit")):
-        lay_out()
-        crate, name = apply(edit)
-        status, log = prove()
+        lay_out(tree)
+        crate, name = apply(edit, tree)
+        status, log = prove(tree)
         found = refusals(log)
         if status == 0 or not found:
             sys.exit(f"wrong definition {edit.stem}: NOT REFUSED")
@@ -83,4 +85,5 @@ def main():
         print(f"wrong definition {edit.stem}: refused by {crate} `{name}`")
 
 
-main()
+with tempfile.TemporaryDirectory() as folder:
+    try_all(pathlib.Path(folder))

@@ -1,7 +1,7 @@
 -- The call by place is the advance of the one named, wherever the list is not over 16 and has the place; elsewhere it is refused. The test of the
 -- place decides its first condition, and the others are those of the advance.
-use Prim.Native.Nat.{ℕ, _<_}
-use mathlib.Core.Path.{_≡_, refl, ap, _∙_}
+use Prim.Native.Nat.{ℕ, _<_, _≤_}
+use mathlib.Core.Path.{_≡_, refl, sym, ap, _∙_, subst}
 use mathlib.Core.Bool.{Bool, true, false, _&&_}
 use mathlib.Core.List.{List, [], _∷_}
 use native.Mathlib.Omega.{arith}
@@ -11,15 +11,17 @@ use lib.Seq.{getD-set-same, getD-set-other}
 use borrow.Author.Tests.{ltb-true}
 use Rattle.lists.specs.Tests.{and-snd, choose-by}
 use Rattle.types.specs.declared.Transaction.{Transaction}
-use Rattle.model.specs.Refusals.{refusalOf}
+use Rattle.model.specs.Refusals.{refusalOf, lowest}
 use Rattle.model.specs.SheetCalls.{checkConditions}
+use Rattle.model.specs.Writes.{Sheets}
 use Rattle.model.specs.Results.{Result, refused, made, unless}
 use Rattle.model.specs.Conditions.{conditions}
 use Rattle.model.specs.Calls.{advanceResult}
-use Rattle.model.specs.ByteCalls.{advanceOn, recordsAfter, coordinatorAfter}
+use Rattle.model.specs.ByteCalls.{sheetsOf, advanceOn, recordsAfter, coordinatorAfter}
 use Rattle.model.specs.CallByPlace.{listed, named, conditionsAt, allConditionsAt, advanceAtResult, advanceAtOn, listAfter}
-use Rattle.model.specs.Histories.{returned, answerOf}
-use Rattle.call_laws.specs.Exactness.{lowest, risingFrom, first-is-lowest, refusalIn, refusal-by-rows}
+use Rattle.model.specs.Histories.{refusalIn, returned, answerOf}
+use Rattle.model.specs.ByteHistories.{Bytes, bytesAfter}
+use Rattle.call_laws.specs.Exactness.{risingFrom, first-is-lowest, refusal-by-rows, unmoved}
 
 -- the transaction that a result leaves with its client: as it came where the call is refused
 abbrev pub leftWith : Transaction → Result Transaction → Transaction
@@ -30,15 +32,33 @@ pub listed-within : (n place : ℕ) → listed n place ≡ true → place < n
 unfolding listed
 listed-within n place e = ltb-true place n (and-snd (leb n 16) (ltb place n) e)
 
+-- over decoded sheets
+module _ (list : List Transaction) (place now : ℕ) (s : Sheets) where
+  pub named-result : listed (length list) place ≡ true → advanceAtResult list place now s ≡ advanceResult (named list place) now s
+  unfolding advanceAtResult conditionsAt advanceResult refusalOf
+  named-result e = rw e refl
+
+  pub unlisted-result : listed (length list) place ≡ false → advanceAtResult list place now s ≡ refused 3
+  unfolding advanceAtResult conditionsAt refusalOf
+  unlisted-result e = rw e refl
+
+  -- what holds of the advance of the one named, and of refusal 3, holds of the call by place
+  pub by-place : (P : Result Transaction → Type 0) → P (advanceResult (named list place) now s) → P (refused 3) → P (advanceAtResult list place now s)
+  by-place P a r = go (listed (length list) place) refl
+    where
+      go : (b : Bool) → listed (length list) place ≡ b → P (advanceAtResult list place now s)
+      go true e = subst P (sym (named-result e)) a
+      go false e = subst P (sym (unlisted-result e)) r
+
 module _ (list : List Transaction) (place now : ℕ) (rs cs : List ℕ) where
   pub named-advances : listed (length list) place ≡ true → advanceAtOn list place now rs cs ≡ advanceOn (named list place) now rs cs
-  unfolding advanceAtOn advanceAtResult conditionsAt advanceOn advanceResult refusalOf
-  named-advances e = rw e refl
+  unfolding advanceAtOn advanceOn
+  named-advances e = ap (unless (checkConditions rs cs)) (named-result list place now (sheetsOf rs cs) e)
 
   -- 1 and 2 come first
   pub unlisted-refused : listed (length list) place ≡ false → advanceAtOn list place now rs cs ≡ unless (checkConditions rs cs) (refused 3)
-  unfolding advanceAtOn advanceAtResult conditionsAt refusalOf
-  unlisted-refused e = rw e refl
+  unfolding advanceAtOn
+  unlisted-refused e = ap (unless (checkConditions rs cs)) (unlisted-result list place now (sheetsOf rs cs) e)
 
   -- and the list and both sheets are as they were
   pub unlisted-leaves : listed (length list) place ≡ false → (listAfter list place (advanceAtOn list place now rs cs) ≡ list) × ((recordsAfter rs cs (advanceAtOn list place now rs cs) ≡ rs) × (coordinatorAfter rs cs (advanceAtOn list place now rs cs) ≡ cs))
@@ -75,6 +95,12 @@ module _ (list : List Transaction) (place : ℕ) where
   unfolding listAfter
   named-replaced l (refused n) = refl
   named-replaced l (made t w) = getD-set-same list place t _ l
+
+  -- "after a refusal": the list and both sheets are as they were
+  pub refused-leaves : (b : Bytes) (r : Result Transaction) → 1 ≤ refusalIn (answerOf returned r) → (listAfter list place r ≡ list) × (bytesAfter b r ≡ b)
+  unfolding listAfter
+  refused-leaves b (refused n) l = (refl, unmoved returned (λ a. refl) b (refused n) l)
+  refused-leaves b (made t w) l = absurd (omega arith)
 
 -- What the call by place does, beside what the advance of the one named would do.
 pub record AsNamed (list : List Transaction) (place : ℕ) (rs cs : List ℕ) (byPlace byName : Result Transaction) : Type 0 where

@@ -13,7 +13,7 @@ use Rattle.types.specs.declared.Record.{Record}
 use Rattle.types.specs.declared.Transaction.{Transaction}
 use Rattle.types.specs.declared.Recovery.{Recovery}
 use Rattle.types.specs.declared.Recovery.the-variants.{Stays, Forward, Back, Again, Busy}
-use Rattle.model.specs.Refusals.{Condition, refuse, refusalOf}
+use Rattle.model.specs.Refusals.{Condition, refuse, refusalOf, noneBelow, lowest}
 use Rattle.model.specs.SheetCalls.{checkConditions}
 use Rattle.model.specs.Results.{Call, begin, read, put, advance, abort, visit, Result, refused, made, unless}
 use Rattle.model.specs.Conditions.{isNew, conditions, refusals}
@@ -29,23 +29,8 @@ use Rattle.model.specs.ByteCalls.{
   recordsAfter,
   coordinatorAfter,
 }
-use Rattle.model.specs.Histories.{Answer, turnedAway, returned, answered, visited, answerOf, readAnswered}
+use Rattle.model.specs.Histories.{Answer, refusalIn, returned, visited, answerOf, readAnswered}
 use Rattle.model.specs.ByteHistories.{Bytes, bytesAfter, answerOn, afterOn}
-
--- a condition of this number holds
-abbrev pub applies : ℕ → List Condition → Bool
-applies n cs = any (λ (c : Condition). c .holds && eqb (c .number) n) cs
-
--- every condition that holds has this number or a higher one
-abbrev pub noneBelow : ℕ → List Condition → Bool
-noneBelow n cs = all (λ (c : Condition). not (c .holds) || leb n (c .number)) cs
-
-abbrev pub noneHolds : List Condition → Bool
-noneHolds cs = all (λ (c : Condition). not (c .holds)) cs
-
--- n is the lowest number that applies, or 0 where none does
-abbrev pub lowest : ℕ → List Condition → Bool
-lowest n cs = cond (eqb n 0) (noneHolds cs) (applies n cs && noneBelow n cs)
 
 -- from n on the numbers rise
 unfoldable pub risingFrom : ℕ → List ℕ → Bool
@@ -115,13 +100,6 @@ refusal-is-lowest call rs cs =
 
 -- What a call answers.
 
--- the number that an answer turns away with, 0 where it doesn't
-abbrev pub refusalIn : Answer → ℕ
-refusalIn (turnedAway n) = n
-refusalIn (returned t) = 0
-refusalIn (answered v t) = 0
-refusalIn (visited v) = 0
-
 -- an accepted result of an answer that turns nobody away
 abbrev Accepts : {A : Type 0} → (A → Answer) → Result A → Type 0
 Accepts f r = refusalIn (answerOf f r) ≡ 0
@@ -161,7 +139,7 @@ refusal-given (abort t) b = refusal-by-rows returned _ _ (conditions (abort t) _
 refusal-given (visit k now) b = refusal-by-rows visited _ _ (conditions (visit k now) _) _ refl
 
 -- "after a refusal it finds both sheets .. unchanged"
-unmoved : {A : Type 0} (f : A → Answer) → ((a : A) → refusalIn (f a) ≡ 0) → (b : Bytes) (r : Result A) → 1 ≤ refusalIn (answerOf f r) → bytesAfter b r ≡ b
+pub unmoved : {A : Type 0} (f : A → Answer) → ((a : A) → refusalIn (f a) ≡ 0) → (b : Bytes) (r : Result A) → 1 ≤ refusalIn (answerOf f r) → bytesAfter b r ≡ b
 unfolding recordsAfter coordinatorAfter
 unmoved f z b (refused n) l = refl
 unmoved f z b (made a w) l = let e : refusalIn (f a) ≡ 0 = z a in absurd (omega arith)

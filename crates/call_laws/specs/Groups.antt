@@ -47,7 +47,8 @@ module _ (us : List AtomicityUnit) where
       (λ g n. add-other (scope us k) (scope us (e .key)) (scopes us es) (scope-listed k es n))
 
   module _ (es : List Entry) where
-    place-lower : (a b : Key) → hasKey a es ≡ true → less (scope us a) (scope us b) ≡ true → groupPlace us es a < groupPlace us es b
+    -- "Groups go in rising key order": a lower scope has a lower place.
+    pub place-lower : (a b : Key) → hasKey a es ≡ true → less (scope us a) (scope us b) ≡ true → groupPlace us es a < groupPlace us es b
     unfolding groupPlace
     place-lower a b h l =
         count-less (λ (s : List ℕ). less s (scope us a)) (λ (s : List ℕ). less s (scope us b))

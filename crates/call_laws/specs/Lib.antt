@@ -16,3 +16,5 @@ pub mod Keeping
 pub mod Closure
 pub mod Lifting
 pub mod ByPlace
+pub mod Turns
+pub mod ByteUnits

@@ -20,16 +20,12 @@ use Rattle.model.specs.Results.{Call, begin, read, put, advance, abort, visit, 
 use Rattle.model.specs.Calls.{beginResult, readResult, putResult, advanceResult, abortResult, visitResult}
 use Rattle.model.specs.ByteCalls.{onSheets, beginOn, readOn, putOn, advanceOn, abortOn, visitOn, recordsAfter, coordinatorAfter}
 use Rattle.model.specs.Histories.{returned, visited, answerOf, readAnswered, answer, written, after, ClockFits}
-use Rattle.model.specs.ByteHistories.{Bytes, saying, bytesAfter, answerOn, afterOn}
+use Rattle.model.specs.ByteHistories.{Bytes, saying, Passing, bytesAfter, answerOn, afterOn}
 use Rattle.sheet_laws.specs.Records.{records-read-written, sheet-written-read}
 use Rattle.sheet_laws.specs.Coordinator.{coordinator-read-written, coordinator-written-read}
 use Rattle.sheet_laws.specs.Decisions.{accepted-parts}
 use Rattle.call_laws.specs.Choices.{not-first}
 use Rattle.call_laws.specs.Closure.{sheets-stay-good}
-
--- "Accepted sheets are those that refusals 1 and 2 let pass."
-abbrev pub Passing : Bytes → Type 0
-Passing b = refusalOf (checkConditions (b .records) (b .coordinator)) ≡ 0
 
 pub passing-parts : (b : Bytes) → Passing b → (recordsAccepted (b .records) ≡ true) × ((coordinatorAccepted (b .coordinator) ≡ true) × (allIssued (b .records) (b .coordinator) ≡ true))
 unfolding checkConditions
@@ -67,7 +63,7 @@ encoded-says s h =
 
 -- Calls on accepted bytes.
 
-on-passing : {A : Type 0} (b : Bytes) (call : Sheets → Result A) → Passing b → onSheets (b .records) (b .coordinator) call ≡ call (saying b)
+pub on-passing : {A : Type 0} (b : Bytes) (call : Sheets → Result A) → Passing b → onSheets (b .records) (b .coordinator) call ≡ call (saying b)
 on-passing b call h =
     ap (λ (n : ℕ). cond (eqb n 0) (call (saying b)) (refused n)) h
 
@@ -80,18 +76,24 @@ same-answer (advance t now) b h = ap (answerOf returned) (on-passing b (advanceR
 same-answer (abort t) b h = ap (answerOf returned) (on-passing b (abortResult t) h)
 same-answer (visit k now) b h = ap (answerOf visited) (on-passing b (visitResult k now) h)
 
--- the bytes after a result on accepted bytes are the sheets after it, encoded
-bytes-of-result : {A : Type 0} (b : Bytes) (r : Result A) → Passing b → bytesAfter b r ≡ encoded (apply (writeOf r) (saying b))
-unfolding recordsAfter coordinatorAfter apply lineAfter decisionsAfter
-bytes-of-result b (made a w) h = refl
-bytes-of-result b (refused n) h =
+pub apply-nothing : (s : Sheets) → apply nothing s ≡ s
+unfolding apply lineAfter decisionsAfter
+apply-nothing s = λ i. record { lines = map-unmoved (lineAfter nothing) (λ x. refl) (s .lines) i; coordinator = s .coordinator }
+
+-- accepted bytes are those of the sheets that they say
+pub passing-encoded : (b : Bytes) → Passing b → encoded (saying b) ≡ b
+passing-encoded b h =
     let p = passing-parts b h in
-    let r = sheet-written-read (b .records) (p .0) in
-    let m : map (lineAfter nothing) (records (b .records)) ≡ records (b .records) = map-unmoved (lineAfter nothing) (λ x. refl) (records (b .records)) in
     λ i. record {
-      records = sym (ap recordsText m ∙ r) i;
-      coordinator = sym (coordinator-written-read (b .coordinator) (p .1 .0)) i;
+      records = sheet-written-read (b .records) (p .0) i;
+      coordinator = coordinator-written-read (b .coordinator) (p .1 .0) i;
     }
+
+-- the bytes after a result on accepted bytes are the sheets after it, encoded
+pub bytes-of-result : {A : Type 0} (b : Bytes) (r : Result A) → Passing b → bytesAfter b r ≡ encoded (apply (writeOf r) (saying b))
+unfolding recordsAfter coordinatorAfter
+bytes-of-result b (made a w) h = refl
+bytes-of-result b (refused n) h = sym (ap encoded (apply-nothing (saying b)) ∙ passing-encoded b h)
 
 pub same-bytes : (c : Call) (b : Bytes) → Passing b → afterOn c b ≡ encoded (after c (saying b))
 unfolding afterOn after written beginOn readOn putOn advanceOn abortOn visitOn

@@ -24,7 +24,8 @@ use Rattle.call_laws.specs.Lines.{has-line, line-passes}
 use Rattle.call_laws.specs.Sheets.{GoodSheets, good-parts}
 use Rattle.call_laws.specs.Transactions.{Body}
 use Rattle.call_laws.specs.Steps.{group-formed, may-put-over}
-use Rattle.call_laws.specs.Lifting.{Passing, passing-parts, passing-good}
+use Rattle.model.specs.ByteHistories.{Passing}
+use Rattle.call_laws.specs.Lifting.{passing-parts, passing-good}
 use Rattle.group_writes.specs.declared.changes.Change.{Change}
 use Rattle.group_writes.specs.declared.changes.Change.the-variants.{Commit, Prepare, Forward, Back}
 use Rattle.group_writes.specs.Groups.{ofGroup, group-in}

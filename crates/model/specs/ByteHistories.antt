@@ -1,6 +1,9 @@
 -- Histories over the bytes of both sheets: the calls as an engine makes them. Demand 3 speaks of these.
 use Prim.Native.Nat.{ℕ}
+use mathlib.Core.Path.{_≡_}
 use mathlib.Core.List.{List}
+use Rattle.model.specs.Refusals.{refusalOf}
+use Rattle.model.specs.SheetCalls.{checkConditions}
 use Rattle.model.specs.Writes.{Sheets, Write}
 use Rattle.model.specs.Results.{Call, begin, read, put, advance, abort, visit, Result}
 use Rattle.model.specs.ByteCalls.{
@@ -23,6 +26,10 @@ pub record Bytes : Type 0 where
 
 abbrev pub saying : Bytes → Sheets
 saying b = sheetsOf (b .records) (b .coordinator)
+
+-- "Accepted sheets are those that refusals 1 and 2 let pass."
+abbrev pub Passing : Bytes → Type 0
+Passing b = refusalOf (checkConditions (b .records) (b .coordinator)) ≡ 0
 
 -- the bytes after a result
 abbrev pub bytesAfter : {A : Type 0} → Bytes → Result A → Bytes

@@ -5,11 +5,11 @@ use mathlib.Core.Bool.{cond}
 use mathlib.Core.List.{List, [], _∷_, _++_, map}
 use lib.ListN.{replicate, set}
 use Rattle.lists.specs.Bytes.{bytes}
-use Rattle.lists.specs.Each.{joined}
 use Rattle.types.specs.declared.AtomicityUnit.{AtomicityUnit}
 use Rattle.types.specs.declared.AtomicityUnit.the-variants.{Partition, Namespace}
 use Rattle.types.specs.declared.Entry.{Entry}
 use Rattle.types.specs.declared.Transaction.{Transaction}
+use Rattle.model.specs.Lines.{text}
 use Rattle.model.specs.Records.{recordIn, noImage}
 use Rattle.model.specs.Transactions.{noEntry, entryAs, openPhase, preparePhase, decidePhase, finishPhase, undoPhase}
 use Rattle.model.specs.Groups.{groupCount}
@@ -39,10 +39,6 @@ use Rattle.model.specs.Calls as Calls
 use Rattle.model.specs.ByteCalls as ByteCalls
 use Rattle.model.specs.ByteHistories as ByteHistories
 use Rattle.model.specs.Visitor as Visitor
-
--- lines of text, each with LF
-abbrev pub text : List (List ℕ) → List ℕ
-text ls = joined (map (λ (l : List ℕ). l ++ (10 ∷ [])) ls)
 
 -- what the definitions give, and what the paper says
 pub record Case : Type 0 where

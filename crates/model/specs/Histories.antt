@@ -32,6 +32,13 @@ pub record Event : Type 0 where
   pub call : Call
   pub answer : Answer
 
+-- the number that an answer turns away with, 0 where it doesn't
+abbrev pub refusalIn : Answer → ℕ
+refusalIn (turnedAway n) = n
+refusalIn (returned t) = 0
+refusalIn (answered v t) = 0
+refusalIn (visited v) = 0
+
 -- the answer of a result, by what it makes of an accepted one
 abbrev pub answerOf : {A : Type 0} → (A → Answer) → Result A → Answer
 answerOf f (refused n) = turnedAway n

@@ -22,6 +22,9 @@ pub mod Histories
 pub mod SequentialModel
 pub mod RecoveryPass
 pub mod ByteHistories
+pub mod AtomicWrites
+pub mod Turns
+pub mod Recovered
 pub mod Visitor
 pub mod Cases
 pub mod Learners

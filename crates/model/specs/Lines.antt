@@ -2,11 +2,11 @@
 -- A line is read into a row of numbers, one for each field.
 use Prim.Native.Nat.{ℕ, suc, _+_, _-_, _*_, _/_}
 use mathlib.Core.Bool.{Bool, true, _&&_, cond}
-use mathlib.Core.List.{List, [], _∷_, _++_}
+use mathlib.Core.List.{List, [], _∷_, _++_, map}
 use lib.ListN.{length, take, drop, getD}
 use lib.Dec.{eqb, leb}
 use Rattle.lists.specs.Bytes.{eqList}
-use Rattle.lists.specs.Each.{all, pieces}
+use Rattle.lists.specs.Each.{all, joined, pieces}
 use Rattle.decimal.specs.declared.Scan.{Scan}
 use Rattle.decimal.specs.declared.Scan.the-variants.{Number, Wrong}
 use Rattle.decimal.specs.Field.{figure, fieldText, number, isNumber}
@@ -72,3 +72,7 @@ linesOf w s = pieces w (length s / w) s
 -- whole lines of w bytes, each of which can be read
 unfoldable pub linesSet : List Column → ℕ → List ℕ → Bool
 linesSet cs w s = eqb (length s) (length s / w * w) && all (lineSet cs) (linesOf w s)
+
+-- lines of text, each with LF
+abbrev pub text : List (List ℕ) → List ℕ
+text ls = joined (map (λ (l : List ℕ). l ++ (10 ∷ [])) ls)

@@ -2,9 +2,9 @@
 -- undecided ones at clock readings where they have expired".
 use Prim.Native.Nat.{ℕ, _^_, _<_, _≤_}
 use mathlib.Core.Path.{_≡_}
-use mathlib.Core.Bool.{Bool, true, _&&_}
+use mathlib.Core.Bool.{Bool, true, _&&_, not}
 use mathlib.Core.List.{List, [], _∷_}
-use Rattle.lists.specs.Each.{count}
+use Rattle.lists.specs.Each.{all, count}
 use Rattle.types.specs.declared.Key.{Key}
 use Rattle.types.specs.declared.Record.{Record}
 use Rattle.model.specs.Records.{sameKey, lineOf, hasLine}
@@ -25,6 +25,10 @@ visitCall v = visit (v .key) (v .clock)
 -- "a line is undecided while it is PREPARED and its owner's line is `-`"
 unfoldable pub lineUndecided : Sheets → Record → Bool
 lineUndecided s r = isPrepared r && isUndecided (ownerDecision r (s .coordinator))
+
+-- no line is PREPARED
+abbrev pub nonePrepared : List Record → Bool
+nonePrepared rs = all (λ (r : Record). not (isPrepared r)) rs
 
 -- how often a key is visited
 abbrev pub timesVisited : Key → List Visit → ℕ

@@ -1,4 +1,4 @@
--- Well-formed transactions (refusal 3): a line for each clause of document 01, "Transaction", and READINGS.
+-- Well-formed transactions (refusal 3): a line for each clause of document 01, "Transaction". Where it leaves room, docs/DECISIONS.md says what was decided.
 use Prim.Native.Nat.{ℕ}
 use mathlib.Core.Bool.{Bool, true, false, _&&_, _||_, not}
 use mathlib.Core.List.{List, [], _∷_}

@@ -6,6 +6,7 @@ use mathlib.Core.Logic.{_⊎_, inl, inr}
 use mathlib.Core.Bool.{Bool, true, false, _||_}
 use mathlib.Core.List.{List, [], _∷_, map}
 use mathlib.Core.Option.{none, some, Option·none-ne-some}
+use Rattle.types.specs.declared.Decision.{Decision}
 use Rattle.types.specs.declared.Decision.the-variants.{Committed}
 use Rattle.types.specs.declared.Key.{Key}
 use Rattle.types.specs.declared.Columns.{Columns}
@@ -18,12 +19,13 @@ use Rattle.model.specs.Conditions.{conditions}
 use Rattle.model.specs.Calls.{visitResult}
 use Rattle.model.specs.Histories.{answer, written, after, eventsAfter, leftBy, Legal, onePhaseIn}
 use Rattle.model.specs.SequentialModel.{firstModel, modelAfter, isCommitted}
-use Rattle.model.specs.RecoveryPass.{Visit, visitCall}
+use Rattle.model.specs.RecoveryPass.{Visit, visitCall, nonePrepared}
+use Rattle.model.specs.Recovered.{CommittedExactly}
 use Rattle.call_laws.specs.Choices.{unless-by}
 use Rattle.recovery.specs.Settling.{Gentle, gentle-nothing}
 use Rattle.recovery.specs.Counted.{Counted, oneAfter, gentle-before, gentle-later}
 use Rattle.recovery.specs.Calls.{visit-gentle}
-use Rattle.recovery.specs.History.{nonePrepared, first-inv, onesAfter, history-kept}
+use Rattle.recovery.specs.History.{first-inv, onesAfter, history-kept}
 use Rattle.recovery.specs.Theorem.{modelOf, recoveredBy}
 
 -- Visits make no COMMITTED and take none away.
@@ -58,15 +60,27 @@ ones-are (c ∷ cs) s one n =
     ones-are cs (after c s) (oneAfter (written c s) one) n
     ∙ or-shift (isOnePhase n (written c s)) (onePhaseIn written after n cs (after c s)) (one n)
 
-or-none : (a : Bool) → (a || false) ≡ a
+pub or-none : (a : Bool) → (a || false) ≡ a
 or-none true = refl
 or-none false = refl
 
 -- "A transaction with puts is committed exactly when its coordinator line says so or its one-phase write was made", for a number begun in the history.
-pub record Exactly (n : ℕ) (vs : List Visit) (cs : List Call) (s : Sheets) : Type 0 where
-  pub only-if : isCommitted n (modelOf cs s) ≡ true → (decision n (recoveredBy vs cs s .coordinator) ≡ Committed) ⊎ (onePhaseIn written after n cs s ≡ true)
-  pub decided : decision n (recoveredBy vs cs s .coordinator) ≡ Committed → isCommitted n (modelOf cs s) ≡ true
-  pub one-phased : onePhaseIn written after n cs s ≡ true → isCommitted n (modelOf cs s) ≡ true
+abbrev pub Exactly : ℕ → List Visit → List Call → Sheets → Type 0
+Exactly n vs cs s =
+    CommittedExactly (isCommitted n (modelOf cs s)) (decision n (recoveredBy vs cs s .coordinator)) (onePhaseIn written after n cs s)
+
+-- the same of what is equal
+pub exactly-same : {a b : Bool} {d e : Decision} {o p : Bool} → a ≡ b → d ≡ e → o ≡ p → CommittedExactly a d o → CommittedExactly b e p
+exactly-same {d = d} {e = e} {o = o} {p = p} f g h x =
+    record {
+      only-if = λ q. either (x .only-if (f ∙ q));
+      decided = λ q. sym f ∙ x .decided (g ∙ q);
+      one-phased = λ q. sym f ∙ x .one-phased (h ∙ q);
+    }
+  where
+    either : (d ≡ Committed) ⊎ (o ≡ true) → (e ≡ Committed) ⊎ (p ≡ true)
+    either (inl q) = inl (sym g ∙ q)
+    either (inr q) = inr (sym h ∙ q)
 
 pub commits-exactly : (s : Sheets) → sheetsGood s ≡ true → nonePrepared (s .lines) ≡ true → (cs : List Call) → Legal answer after cs s [] → (vs : List Visit) (n : ℕ) → s .coordinator .issued < n → (k : Key) (c : Columns) → modelOf cs s .writes n k ≡ some c → Exactly n vs cs s
 unfolding modelAfter

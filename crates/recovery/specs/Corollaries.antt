@@ -18,7 +18,7 @@ use Rattle.model.specs.Conditions.{conditions}
 use Rattle.model.specs.Calls.{visitResult}
 use Rattle.model.specs.Histories.{answer, written, after, eventsAfter, leftBy, Legal, onePhaseIn}
 use Rattle.model.specs.SequentialModel.{firstModel, modelAfter, isCommitted}
-use Rattle.model.specs.RecoveryPass.{Visit, visitCall, Expiring, Closing}
+use Rattle.model.specs.RecoveryPass.{Visit, visitCall, nonePrepared, Expiring, Closing}
 use Rattle.types.specs.declared.Recovery.{Recovery}
 use Rattle.call_laws.specs.Choices.{unless-by, not-first}
 use Rattle.call_laws.specs.Lines.{listsKey, has-line}
@@ -29,7 +29,7 @@ use Rattle.recovery.specs.Memory.{Away, away-nothing}
 use Rattle.recovery.specs.Counted.{Silent, silent-kept}
 use Rattle.recovery.specs.Calls.{visit-away}
 use Rattle.recovery.specs.Invariant.{Inv}
-use Rattle.recovery.specs.History.{nonePrepared, first-inv, onesAfter, history-kept}
+use Rattle.recovery.specs.History.{first-inv, onesAfter, history-kept}
 use Rattle.recovery.specs.Theorem.{modelOf, recoveredBy, recovery-theorem}
 use Rattle.recovery.specs.Commits.{visits-later, ones-are}
 

@@ -5,7 +5,7 @@ use mathlib.Core.Bool.{Bool, true, false, not, true≢false}
 use mathlib.Core.List.{List, [], _∷_}
 use mathlib.Core.Option.{some}
 use borrow.Author.Tests.{not-true}
-use Rattle.lists.specs.Each.{all, any}
+use Rattle.lists.specs.Each.{any}
 use Rattle.types.specs.declared.Record.{Record}
 use Rattle.types.specs.declared.Transaction.{Transaction}
 use Rattle.model.specs.Images.{isPrepared}
@@ -14,6 +14,7 @@ use Rattle.model.specs.WellFormed.{wellFormed}
 use Rattle.model.specs.Results.{Call, begin, read, put, advance, abort, visit}
 use Rattle.model.specs.Histories.{Event, answer, returns, written, after, Permitted, event, eventsAfter, leftBy, Legal}
 use Rattle.model.specs.SequentialModel.{Model, firstModel, modelStep, modelAfter}
+use Rattle.model.specs.RecoveryPass.{nonePrepared}
 use Rattle.call_laws.specs.Lines.{line-passes}
 use Rattle.call_laws.specs.Sheets.{GoodSheets, good-parts, parts-good}
 use Rattle.call_laws.specs.Closure.{sheets-stay-good, returned-well-formed}
@@ -21,10 +22,6 @@ use Rattle.recovery.specs.Settling.{settled-plain, undecided-committed}
 use Rattle.recovery.specs.Counted.{oneAfter}
 use Rattle.recovery.specs.Invariant.{Inv}
 use Rattle.recovery.specs.Calls.{above-undecided, begin-kept, read-kept, put-kept, advance-kept, abort-kept, visit-kept}
-
--- no line is PREPARED
-abbrev pub nonePrepared : List Record → Bool
-nonePrepared rs = all (λ (r : Record). not (isPrepared r)) rs
 
 pub first-inv : (s : Sheets) → sheetsGood s ≡ true → nonePrepared (s .lines) ≡ true → Inv (s .coordinator .issued) (λ (n : ℕ). false) s [] (firstModel (s .lines))
 unfolding firstModel any

@@ -12,7 +12,10 @@ pub mod Calls
 pub mod History
 pub mod Pass
 pub mod Theorem
-pub mod Bytes
 pub mod Commits
 pub mod PassExists
+pub mod Turns
+pub mod Lift
+pub mod Bytes
+pub mod NextReader
 pub mod Corollaries

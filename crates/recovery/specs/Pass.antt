@@ -33,7 +33,7 @@ use Rattle.model.specs.Writes.{
 }
 use Rattle.model.specs.Visits.{ownerDecision, ownerExpired, meeting, isBusy, recoveryWrite}
 use Rattle.model.specs.Refusals.{refusalOf}
-use Rattle.model.specs.Results.{Call, visit, Result, writeOf}
+use Rattle.model.specs.Results.{Call, visit, Result, made, writeOf}
 use Rattle.model.specs.Conditions.{conditions}
 use Rattle.model.specs.Calls.{visitResult}
 use Rattle.model.specs.Histories.{answer, written, after, leftBy}
@@ -129,16 +129,20 @@ module _ (s : Sheets) (good : GoodSheets s) (k : Key) (now : ℕ) (listed : list
       (λ p d x. absurd (no-busy p d x))
 
   -- it is accepted
-  visit-written : written (visit k now) s ≡ recoveryWrite (meeting now (s .coordinator) (lineOf k (s .lines))) (lineOf k (s .lines))
-  unfolding written visitResult conditions refusalOf
-  visit-written =
+  pub visit-made : visitResult k now s ≡ made (meeting now (s .coordinator) (lineOf k (s .lines))) (recoveryWrite (meeting now (s .coordinator) (lineOf k (s .lines))) (lineOf k (s .lines)))
+  unfolding visitResult conditions refusalOf
+  visit-made =
       let a : LineAt s k = line-at s good k listed in
       let i : keyInRange k ≡ true = ap keyInRange (sym (a .key)) ∙ a .good .key in
       let h : hasLine k (s .lines) ≡ true = has-line k (s .lines) ∙ listed in
       rw (i, h, not-busy)
 
+  visit-written : written (visit k now) s ≡ recoveryWrite (meeting now (s .coordinator) (lineOf k (s .lines))) (lineOf k (s .lines))
+  unfolding written
+  visit-written = ap writeOf visit-made
+
   -- the line rolled is the line visited
-  rolled-line : (f : Record → Record) → isPrepared (lineOf k (s .lines)) ≡ true → cond (isOf (lineOf k (s .lines) .image .txid) (lineOf k (s .lines) .key ∷ []) (lineOf k (s .lines))) (f (lineOf k (s .lines))) (lineOf k (s .lines)) ≡ f (lineOf k (s .lines))
+  pub rolled-line : (f : Record → Record) → isPrepared (lineOf k (s .lines)) ≡ true → cond (isOf (lineOf k (s .lines) .image .txid) (lineOf k (s .lines) .key ∷ []) (lineOf k (s .lines))) (f (lineOf k (s .lines))) (lineOf k (s .lines)) ≡ f (lineOf k (s .lines))
   unfolding isOf preparedBy any
   rolled-line f p =
       let e : eqb (lineOf k (s .lines) .image .txid) (lineOf k (s .lines) .image .txid) ≡ true = eq-eqb (lineOf k (s .lines) .image .txid) (lineOf k (s .lines) .image .txid) refl in

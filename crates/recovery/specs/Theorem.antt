@@ -12,10 +12,10 @@ use Rattle.model.specs.Writes.{Sheets, sheetsGood, lineAfter, apply}
 use Rattle.model.specs.Results.{Call}
 use Rattle.model.specs.Histories.{answer, written, after, eventsAfter, leftBy, Legal}
 use Rattle.model.specs.SequentialModel.{Model, firstModel, modelAfter}
-use Rattle.model.specs.RecoveryPass.{Visit, visitCall, Closing}
+use Rattle.model.specs.RecoveryPass.{Visit, visitCall, nonePrepared, Closing}
 use Rattle.call_laws.specs.Lines.{line-key, all-lines, map-lines}
 use Rattle.recovery.specs.Invariant.{Inv}
-use Rattle.recovery.specs.History.{nonePrepared, first-inv, onesAfter, history-kept}
+use Rattle.recovery.specs.History.{first-inv, onesAfter, history-kept}
 use Rattle.recovery.specs.Pass.{Passed, pass-kept, closed}
 
 -- Keys are fixed.

@@ -1,7 +1,7 @@
 -- A line of an accepted record sheet by its place: what it says, and what replacing it does to the records.
 -- Bytes go by `pieces`; the order of keys stays since a record is replaced by one of the same key.
 use Prim.Native.Nat.{ℕ, zero, suc, _*_, _/_, _≤_, _<_}
-use mathlib.Core.Path.{_≡_, refl, sym, ap, ap₂, _∙_}
+use mathlib.Core.Path.{_≡_, refl, sym, ap, ap₂, _∙_, subst}
 use mathlib.Core.Bool.{Bool, true, _&&_}
 use mathlib.Core.List.{List, [], _∷_, map}
 use native.Mathlib.Omega.{arith}
@@ -12,7 +12,7 @@ use Rattle.lists.specs.Bytes.{bytes, eqList}
 use Rattle.decimal.specs.Field.{number, figure, scanned, within}
 use Rattle.lists.specs.Tests.{and-fst, and-snd, and-both, tests}
 use Rattle.lists.specs.Each.{all, pieces}
-use Rattle.lists.specs.All.{all-set, map-set}
+use Rattle.lists.specs.All.{all-at, all-set, map-set}
 use Rattle.lists.specs.Pieces.{over, length-pieces, pieces-over, getD-pieces, length-over}
 use Rattle.types.specs.declared.Key.{Key}
 use Rattle.types.specs.declared.Record.{Record}
@@ -65,6 +65,14 @@ unfolding records linesOf
 record-at s i l =
     ap (getD (map recordIn (pieces 98 (length s / 98) s)) i) (sym no-record)
     ∙ List·getD-map recordIn (pieces 98 (length s / 98) s) i [] ∙ ap recordIn (getD-pieces 98 i (length s / 98) s l)
+
+-- each line of an accepted sheet can be read
+pub line-set : (s : List ℕ) (i : ℕ) → recordsAccepted s ≡ true → i < length s / 98 → lineSet recordLayout (take 98 (drop (i * 98) s)) ≡ true
+unfolding recordsAccepted linesSet linesOf
+line-set s i a l =
+    let w : all (lineSet recordLayout) (pieces 98 (length s / 98) s) ≡ true = search tests in
+    subst (λ (t : List ℕ). lineSet recordLayout t ≡ true) (getD-pieces 98 i (length s / 98) s l)
+    (all-at (lineSet recordLayout) (pieces 98 (length s / 98) s) [] i w (omega (arith, length-pieces 98 (length s / 98) s)))
 
 -- Order goes by keys alone.
 

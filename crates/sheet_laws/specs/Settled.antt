@@ -35,7 +35,7 @@ use Rattle.model.specs.Records.{
 }
 use Rattle.sheet_laws.specs.Fields.{columnOk}
 use Rattle.sheet_laws.specs.Lines.{layoutOk, lineBytes, line-length, offset, rest-set, rest-row, line-end}
-use Rattle.sheet_laws.specs.Places.{record-at}
+use Rattle.sheet_laws.specs.Places.{record-at, line-set}
 use Rattle.sheet_laws.specs.Keys.{fieldsText, line-split, fields-read, keyText, line-key-text}
 
 -- the four fields of an image
@@ -150,14 +150,6 @@ module _ (line : List ℕ) (set : lineSet recordLayout line ≡ true) where
       line-settled state (recordIn line .before) (take 28 (drop 58 line)) before-place (simp (length-take, length-drop) (omega (arith, whole)))
   line-moved state false =
       line-settled state (recordIn line .image) (take 28 (drop 30 line)) image-place (simp (length-take, length-drop) (omega (arith, whole)))
-
--- each line of an accepted sheet can be read
-line-set : (s : List ℕ) (i : ℕ) → recordsAccepted s ≡ true → i < length s / 98 → lineSet recordLayout (take 98 (drop (i * 98) s)) ≡ true
-unfolding recordsAccepted linesSet linesOf
-line-set s i a l =
-    let w : all (lineSet recordLayout) (pieces 98 (length s / 98) s) ≡ true = search tests in
-    subst (λ (t : List ℕ). lineSet recordLayout t ≡ true) (getD-pieces 98 i (length s / 98) s l)
-    (all-at (lineSet recordLayout) (pieces 98 (length s / 98) s) [] i w (omega (arith, length-pieces 98 (length s / 98) s)))
 
 -- the line at a place of an accepted sheet
 pub line-at-settled : (state : State) (before : Bool) (s : List ℕ) (i : ℕ) → recordsAccepted s ≡ true → i < length s / 98 → settledBytes state before (take (i * 98 + 98 - i * 98) (drop (i * 98) s)) ≡ recordText (settledAs state (imageOf before (getD (records s) i noRecord)) (getD (records s) i noRecord))

@@ -19,7 +19,8 @@ use Rattle.model.specs.WellFormed.{wellFormed, placeFormed}
 use Rattle.model.specs.ByteCalls.{sheetsOf}
 use Rattle.call_laws.specs.Keys.{hasKey, kept-key, same-key-refl}
 use Rattle.call_laws.specs.Transactions.{Body, Stage, well-formed-parts, place-at}
-use Rattle.call_laws.specs.Lifting.{Passing, passing-parts}
+use Rattle.model.specs.ByteHistories.{Passing}
+use Rattle.call_laws.specs.Lifting.{passing-parts}
 use Rattle.group_writes.specs.Placed.{Placed}
 use Rattle.group_writes.specs.Ready.{Ready as MayWrite}
 

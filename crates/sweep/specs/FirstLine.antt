@@ -23,7 +23,7 @@ use Rattle.model.specs.SheetCalls.{checkConditions}
 use Rattle.model.specs.Visitor.{firstLayout, firstBytes, firstNumber, coordinatorSize, inputFits, inputSheets, inputConditions}
 use Rattle.sheet_laws.specs.Lines.{lineBytes, line-length}
 use Rattle.call_laws.specs.Choices.{not-first}
-use Rattle.call_laws.specs.Lifting.{Passing}
+use Rattle.model.specs.ByteHistories.{Passing}
 
 abbrev pub firstOf : List ℕ → FirstLine
 firstOf input = record { lines = firstNumber 0 input; decisions = firstNumber 1 input; clock = firstNumber 2 input }

@@ -12,11 +12,11 @@ use Rattle.model.specs.Records.{records, noRecord}
 use Rattle.model.specs.Writes.{Sheets, Write, lineAfter, apply}
 use Rattle.model.specs.Results.{visit}
 use Rattle.model.specs.Histories.{written, after}
-use Rattle.model.specs.ByteHistories.{Bytes, saying, afterOn}
+use Rattle.model.specs.ByteHistories.{Bytes, saying, Passing, afterOn}
 use Rattle.model.specs.Visitor.{visitedAll, keysIn, swept}
 use Rattle.sheet_laws.specs.Places.{length-records}
 use Rattle.call_laws.specs.Lines.{line-key}
-use Rattle.call_laws.specs.Lifting.{Passing, bytes-stay-passing}
+use Rattle.call_laws.specs.Lifting.{bytes-stay-passing}
 
 abbrev pub both : List ℕ → List ℕ → Bytes
 both rs cs = record { records = rs; coordinator = cs }

@@ -1,9 +1,8 @@
 // All lines of a record sheet visited, twice.
 ghost use mathlib.Core.Path.{_≡_};
 ghost use Rattle.model.specs.Results.{visit};
-ghost use Rattle.model.specs.ByteHistories.{afterOn};
+ghost use Rattle.model.specs.ByteHistories.{Passing, afterOn};
 ghost use Rattle.model.specs.Visitor.{visitedAll, keysIn, swept};
-ghost use Rattle.call_laws.specs.Lifting.{Passing};
 ghost use Rattle.sweep.specs.Passes.{both, keyAt};
 
 // The visit of the key of the line at place i.

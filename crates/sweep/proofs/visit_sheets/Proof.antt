@@ -4,8 +4,7 @@ use native.Mathlib.Omega.{arith}
 use borrow.Author.Needs.{needs}
 use Rattle.sweep.specs.declared.FirstLine.{FirstLine}
 use Rattle.model.specs.Visitor.{swept}
-use Rattle.model.specs.ByteHistories.{Bytes}
-use Rattle.call_laws.specs.Lifting.{Passing}
+use Rattle.model.specs.ByteHistories.{Bytes, Passing}
 use Rattle.sweep.specs.FirstLine.{Small, placeOfRecords, first-small, accepted-input}
 use Rattle.sweep.specs.Sizes.{parts}
 use Rattle.sweep.specs.Output.{loaded}

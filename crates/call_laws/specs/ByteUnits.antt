@@ -1,0 +1,114 @@
+-- T2 over bytes: a write to lines of one unit leaves the coordinator's bytes and the bytes of every other line; any other write leaves the record sheet's.
+-- Lines of a sheet that passes stand at multiples of their length, before and after, and a record that stays has the same text.
+use Prim.Native.Nat.{ℕ, _*_, _/_, _^_, _<_, _≤_}
+use mathlib.Core.Path.{_≡_, refl, sym, ap, _∙_, subst}
+use mathlib.Core.Bool.{Bool, true, false}
+use mathlib.Core.List.{List, [], map}
+use native.Mathlib.Omega.{arith}
+use lib.Dec.{ltb}
+use lib.ListN.{length, take, drop, getD, length-map, drop-of-length-le, List·getD-map}
+use borrow.Author.Tests.{ltb-true, ltb-false}
+use Rattle.lists.specs.All.{map-unmoved, getD-any}
+use Rattle.lists.specs.Tests.{tests}
+use Rattle.types.specs.declared.Record.{Record}
+use Rattle.types.specs.declared.Transaction.{Transaction}
+use Rattle.types.specs.declared.Found.the-variants.{At}
+use Rattle.model.specs.Records.{records, recordsText, recordIn, recordText, recordsGood, recordsAccepted, noRecord}
+use Rattle.model.specs.Coordinator.{coordinatorText}
+use Rattle.model.specs.SheetCalls.{lineAt}
+use Rattle.model.specs.Writes.{Sheets, Write, sheetsGood, lineAfter, apply}
+use Rattle.model.specs.Results.{Call, advance, Result, writeOf}
+use Rattle.model.specs.CallByPlace.{named, advanceAtResult}
+use Rattle.model.specs.Histories.{written, after, ClockFits}
+use Rattle.model.specs.ByteHistories.{Bytes, saying, Passing, afterOn}
+use Rattle.model.specs.AtomicWrites.{OneUnit, lines-of-one-unit, coordinator-only}
+use Rattle.model.specs.Turns.{advanceAt, turnEvent, turnAfter, turnAfterOn}
+use Rattle.sheet_laws.specs.Records.{record-written-read, records-read-written, sheet-written-read}
+use Rattle.sheet_laws.specs.Coordinator.{coordinator-written-read}
+use Rattle.sheet_laws.specs.Places.{whole-lines, length-records, record-at, line-set}
+use Rattle.call_laws.specs.Closure.{sheets-stay-good}
+use Rattle.call_laws.specs.Lifting.{passing-parts, passing-good, encoded, same-bytes}
+use Rattle.call_laws.specs.ByPlace.{by-place}
+use Rattle.call_laws.specs.Turns.{turn-stays-good, turn-bytes}
+use Rattle.call_laws.specs.SingleUnit.{Single, single-unit, nothing-unit}
+use Rattle.call_laws.specs.SingleUnit as Units
+
+-- a line of a sheet that passes is the text of its record
+line-text : (s : List ℕ) (i : ℕ) → recordsAccepted s ≡ true → i < length s / 98 → lineAt s (At i) ≡ recordText (getD (records s) i noRecord)
+unfolding lineAt
+line-text s i a l = sym (ap recordText (record-at s i l) ∙ record-written-read (take 98 (drop (i * 98) s)) (line-set s i a l))
+
+no-line : (s : List ℕ) (i : ℕ) → recordsAccepted s ≡ true → length s / 98 ≤ i → lineAt s (At i) ≡ []
+unfolding lineAt
+no-line s i a l =
+    let m : length s ≤ i * 98 = omega (arith, whole-lines s a) in
+    ap (take 98) (drop-of-length-le s m)
+
+module _ (b : Bytes) (passing : Passing b) (w : Write) (good : sheetsGood (apply w (saying b)) ≡ true) where
+  abbrev lines : List Record
+  lines = records (b .records)
+
+  abbrev sheet : List ℕ
+  sheet = recordsText (map (lineAfter w) lines)
+
+  accepted : recordsAccepted (b .records) ≡ true
+  accepted = passing-parts b passing .0
+
+  read-back : (records sheet ≡ map (lineAfter w) lines) × (recordsAccepted sheet ≡ true)
+  unfolding sheetsGood apply
+  read-back =
+      let g : recordsGood (map (lineAfter w) lines) ≡ true = search (tests, good) in
+      records-read-written (map (lineAfter w) lines) g
+
+  same-count : length sheet / 98 ≡ length (b .records) / 98
+  same-count =
+      sym (length-records sheet)
+      ∙ (ap length (read-back .0) ∙ (length-map lines (lineAfter w) ∙ length-records (b .records)))
+
+  same-length : length sheet ≡ length (b .records)
+  same-length = whole-lines sheet (read-back .1) ∙ (ap (λ (n : ℕ). n * 98) same-count ∙ sym (whole-lines (b .records) accepted))
+
+  -- a line whose record stays has the same bytes
+  line-stays : (i : ℕ) → lineAfter w (recordIn (lineAt (b .records) (At i))) ≡ recordIn (lineAt (b .records) (At i)) → lineAt sheet (At i) ≡ lineAt (b .records) (At i)
+  unfolding lineAt
+  line-stays i stays = go (ltb i (length (b .records) / 98)) refl
+    where
+      go : (x : Bool) → ltb i (length (b .records) / 98) ≡ x → lineAt sheet (At i) ≡ lineAt (b .records) (At i)
+      go true e =
+          let l : i < length (b .records) / 98 = ltb-true i (length (b .records) / 98) e in
+          let n : i < length sheet / 98 = omega (arith, same-count) in
+          let m : i < length (map (lineAfter w) lines) = omega (arith, length-map lines (lineAfter w), length-records (b .records)) in
+          let r : getD lines i noRecord ≡ recordIn (take 98 (drop (i * 98) (b .records))) = record-at (b .records) i l in
+          line-text sheet i (read-back .1) n
+          ∙ (ap (λ (rs : List Record). recordText (getD rs i noRecord)) (read-back .0)
+          ∙ (ap recordText
+          (getD-any (map (lineAfter w) lines) i noRecord (lineAfter w noRecord) m
+          ∙ (List·getD-map (lineAfter w) lines i noRecord ∙ (ap (lineAfter w) r ∙ (stays ∙ sym r))))
+          ∙ sym (line-text (b .records) i accepted l)))
+      go false e =
+          let l : length (b .records) / 98 ≤ i = ltb-false i (length (b .records) / 98) e in
+          let n : length sheet / 98 ≤ i = omega (arith, same-count) in
+          no-line sheet i (read-back .1) n ∙ sym (no-line (b .records) i accepted l)
+
+  pub write-unit : Single (saying b) w → OneUnit b (encoded (apply w (saying b)))
+  unfolding apply
+  write-unit (Units.one-unit g others stays) =
+      lines-of-one-unit g (ap coordinatorText (stays (saying b .coordinator)) ∙ coordinator-written-read (b .coordinator) (passing-parts b passing .1 .0))
+      same-length (λ i d. line-stays i (others _ d))
+  write-unit (Units.coordinator-only stays) =
+      coordinator-only (ap recordsText (map-unmoved (lineAfter w) stays lines) ∙ sheet-written-read (b .records) accepted)
+
+-- "writes to at most one unit or the coordinator sheet"
+pub call-unit : (c : Call) (b : Bytes) → ClockFits c → Passing b → OneUnit b (afterOn c b)
+unfolding after
+call-unit c b l p =
+    subst (OneUnit b) (sym (same-bytes c b p))
+    (write-unit b p (written c (saying b)) (sheets-stay-good c (saying b) l (passing-good b p)) (single-unit c (saying b)))
+
+pub place-unit : (list : List Transaction) (place now : ℕ) (b : Bytes) → now < 2 ^ 32 → Passing b → OneUnit b (turnAfterOn (advanceAt list place now) b)
+unfolding turnAfter turnEvent written
+place-unit list place now b l p =
+    subst (OneUnit b) (sym (turn-bytes (advanceAt list place now) b p))
+    (write-unit b p (writeOf (advanceAtResult list place now (saying b))) (turn-stays-good (advanceAt list place now) (saying b) l (passing-good b p))
+    (by-place list place now (saying b) (λ (r : Result Transaction). Single (saying b) (writeOf r)) (single-unit (advance (named list place) now) (saying b))
+    (nothing-unit (saying b .coordinator .units))))

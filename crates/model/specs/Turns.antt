@@ -1,0 +1,79 @@
+-- Turns of a history, over decoded sheets and over bytes: a call, or one that comes to calls. Document 01, "The cut-off rule": "advance (by place too,
+-- taking and returning the one named)". To legality and to the sequential model an advance by place is the advance of the one named.
+use Prim.Native.Nat.{ℕ}
+use mathlib.Core.Bool.{Bool, false, _||_}
+use mathlib.Core.List.{List, [], _∷_}
+use Rattle.types.specs.declared.Transaction.{Transaction}
+use Rattle.model.specs.Writes.{Sheets, isOnePhase, apply}
+use Rattle.model.specs.Results.{Call, advance, writeOf}
+use Rattle.model.specs.CallByPlace.{named, advanceAtResult, advanceAtOn}
+use Rattle.model.specs.Histories.{Event, returned, answerOf, answer, written, after, Permitted, event}
+use Rattle.model.specs.ByteHistories.{Bytes, saying, bytesAfter, answerOn, afterOn}
+
+pub data Turn : Type 0 where
+  single : Call → Turn
+  -- of a client's list of transactions the one at a place, at a clock reading
+  advanceAt : List Transaction → ℕ → ℕ → Turn
+
+-- Over decoded sheets.
+
+-- the turn made with these sheets, and its answer
+unfoldable pub turnEvent : Turn → Sheets → Event
+turnEvent (single c) s = event answer after c s
+turnEvent (advanceAt list place now) s =
+    record {
+      call = advance (named list place) now;
+      answer = answerOf returned (advanceAtResult list place now s);
+    }
+
+-- the sheets as the turn leaves them
+unfoldable pub turnAfter : Turn → Sheets → Sheets
+turnAfter (single c) s = after c s
+turnAfter (advanceAt list place now) s = apply (writeOf (advanceAtResult list place now s)) s
+
+-- the turn makes the one-phase write of a number
+unfoldable pub turnOnePhase : ℕ → Turn → Sheets → Bool
+turnOnePhase n (single c) s = isOnePhase n (written c s)
+turnOnePhase n (advanceAt list place now) s = isOnePhase n (writeOf (advanceAtResult list place now s))
+
+-- Over bytes.
+
+unfoldable pub turnEventOn : Turn → Bytes → Event
+turnEventOn (single c) b = event answerOn afterOn c b
+turnEventOn (advanceAt list place now) b =
+    record {
+      call = advance (named list place) now;
+      answer = answerOf returned (advanceAtOn list place now (b .records) (b .coordinator));
+    }
+
+unfoldable pub turnAfterOn : Turn → Bytes → Bytes
+turnAfterOn (single c) b = afterOn c b
+turnAfterOn (advanceAt list place now) b = bytesAfter b (advanceAtOn list place now (b .records) (b .coordinator))
+
+abbrev pub turnOnePhaseOn : ℕ → Turn → Bytes → Bool
+turnOnePhaseOn n x b = turnOnePhase n x (saying b)
+
+-- Histories of turns over any kind of sheets, by how a turn leaves them ..
+module _ {S : Type 0} (leaves : Turn → S → S) where
+  -- "each call given the sheets as the last one left them"
+  unfoldable pub turnsLeft : List Turn → S → S
+  turnsLeft [] s = s
+  turnsLeft (x ∷ xs) s = turnsLeft xs (leaves x s)
+
+  -- the one-phase write of a number is made in a history
+  unfoldable pub onePhaseTurn : (ℕ → Turn → S → Bool) → ℕ → List Turn → S → Bool
+  onePhaseTurn makes n [] s = false
+  onePhaseTurn makes n (x ∷ xs) s = makes n x s || onePhaseTurn makes n xs (leaves x s)
+
+  -- .. and by what it is to others.
+  module _ (events : Turn → S → Event) where
+    -- the turns that have been made, the last one first
+    unfoldable pub turnEvents : List Turn → S → List Event → List Event
+    turnEvents [] s es = es
+    turnEvents (x ∷ xs) s es = turnEvents xs (leaves x s) (events x s ∷ es)
+
+    -- a legal history of turns from these sheets, after these events
+    abbrev pub LegalTurns : List Turn → S → List Event → Type 0
+    LegalTurns [] s es = Unit {0}
+    LegalTurns (x ∷ xs) s es =
+        Permitted (events x s .call) (events x s .answer) es × LegalTurns xs (leaves x s) (events x s ∷ es)

@@ -1,0 +1,97 @@
+-- "if COMMITTED was written, the next reader finishes it": whoever next visits a line PREPARED by a COMMITTED owner, or reads it as a key that it doesn't hold,
+-- leaves it rolled forward, at any reading of the clock. The owner is decided, so that neither expiry nor refusal 12 is asked.
+use Prim.Native.Nat.{ℕ, _^_, _<_}
+use mathlib.Core.Path.{_≡_, refl, sym, ap, ap₂, _∙_}
+use mathlib.Core.Bool.{Bool, true, false, _&&_, cond, true≢false}
+use lib.Dec.{eqb}
+use borrow.Author.Tests.{eqb-true}
+use Rattle.lists.specs.Tests.{choose-by}
+use Rattle.types.specs.declared.Decision.{Decision}
+use Rattle.types.specs.declared.Decision.the-variants.{Committed}
+use Rattle.types.specs.declared.Key.{Key}
+use Rattle.types.specs.declared.Record.{Record}
+use Rattle.types.specs.declared.Transaction.{Transaction}
+use Rattle.types.specs.declared.Recovery.{Recovery}
+use Rattle.types.specs.declared.Recovery.the-variants.{Stays, Forward, Back, Again, Busy}
+use Rattle.model.specs.Records.{records, lineOf, hasLine}
+use Rattle.model.specs.Coordinator.{coordinatorOf, isUndecided}
+use Rattle.model.specs.Refusals.{refusalOf}
+use Rattle.model.specs.Images.{isPrepared, byDecision, rolledForward, recovery}
+use Rattle.model.specs.Writes.{Sheets, Write, lineAfter, apply}
+use Rattle.model.specs.Visits.{ownerDecision, ownerExpired, meeting, isAgain, recoveryWrite}
+use Rattle.model.specs.Results.{read, visit, Result, made, refused, writeOf}
+use Rattle.model.specs.Conditions.{isNew, heldEntry, conditions}
+use Rattle.model.specs.Calls.{ReadAnswer, readHeld, readNew, readResult, visitResult}
+use Rattle.model.specs.Histories.{Answer, refusalIn, visited, answerOf, readAnswered, answer, written, after}
+use Rattle.model.specs.ByteHistories.{Bytes, saying, Passing, answerOn, afterOn}
+use Rattle.model.specs.RecoveryPass.{lineUndecided}
+use Rattle.call_laws.specs.Lines.{listsKey, has-line}
+use Rattle.call_laws.specs.Sheets.{GoodSheets, good-parts}
+use Rattle.call_laws.specs.Lifting.{passing-good, same-answer, bytes-stay-passing}
+use Rattle.recovery.specs.View.{line-after}
+use Rattle.recovery.specs.Pass.{visit-made, rolled-line}
+
+module _ (s : Sheets) (good : GoodSheets s) (k : Key) (now : ℕ) (listed : listsKey k (s .lines) ≡ true) (pending : isPrepared (lineOf k (s .lines)) ≡ true) (owner : ownerDecision (lineOf k (s .lines)) (s .coordinator) ≡ Committed) where
+  -- the line is not undecided
+  decided : lineUndecided s (lineOf k (s .lines)) ≡ true → ownerExpired now (lineOf k (s .lines)) ≡ true
+  unfolding lineUndecided isUndecided
+  decided u = absurd (true≢false (sym u ∙ ap₂ (λ (b : Bool) (d : Decision). b && isUndecided d) pending owner))
+
+  meets-forward : meeting now (s .coordinator) (lineOf k (s .lines)) ≡ Forward
+  unfolding meeting recovery
+  meets-forward =
+      ap (λ (b : Bool). cond b (byDecision (ownerDecision (lineOf k (s .lines)) (s .coordinator)) (cond (ownerExpired now (lineOf k (s .lines))) Again Busy) Forward Back) Stays) pending
+      ∙ ap (λ (d : Decision). byDecision d (cond (ownerExpired now (lineOf k (s .lines))) Again Busy) Forward Back) owner
+
+  finished : (w : Write) → w ≡ recoveryWrite (meeting now (s .coordinator) (lineOf k (s .lines))) (lineOf k (s .lines)) → lineOf k (apply w s .lines) ≡ rolledForward (lineOf k (s .lines))
+  unfolding recoveryWrite lineAfter
+  finished w e =
+      ap (λ (x : Write). lineOf k (apply x s .lines)) (e ∙ ap (λ (v : Recovery). recoveryWrite v (lineOf k (s .lines))) meets-forward)
+      ∙ (line-after s _ k listed ∙ rolled-line s good k now listed decided rolledForward pending)
+
+  pub visit-finishes : (answer (visit k now) s ≡ visited Forward) × (lineOf k (after (visit k now) s .lines) ≡ rolledForward (lineOf k (s .lines)))
+  unfolding answer after written
+  visit-finishes =
+      let m = visit-made s good k now listed decided in
+      (ap (answerOf visited) m ∙ ap visited meets-forward, finished (written (visit k now) s) (ap writeOf m))
+
+  -- a read that is accepted, of a key that is not held
+  pub read-finishes : (t : Transaction) → isNew k t ≡ true → refusalIn (answer (read t k now) s) ≡ 0 → lineOf k (after (read t k now) s .lines) ≡ rolledForward (lineOf k (s .lines))
+  unfolding answer after written readResult readNew
+  read-finishes t new = go (eqb (refusalOf (conditions (read t k now) s)) 0) refl
+    where
+      r : Record
+      r = lineOf k (s .lines)
+
+      v : Recovery
+      v = meeting now (s .coordinator) r
+
+      met : Result ReadAnswer
+      met = cond (isNew k t) (readNew t v r) (readHeld t (heldEntry k t))
+
+      writes : writeOf met ≡ recoveryWrite v r
+      writes =
+          ap (λ (b : Bool). writeOf (cond b (readNew t v r) (readHeld t (heldEntry k t)))) new
+          ∙ choose-by (λ (x : Result ReadAnswer). writeOf x ≡ recoveryWrite v r) (isAgain v) (λ e. refl) (λ e. refl)
+
+      go : (b : Bool) → eqb (refusalOf (conditions (read t k now) s)) 0 ≡ b → refusalIn (answerOf readAnswered (cond b met (refused (refusalOf (conditions (read t k now) s))))) ≡ 0 → lineOf k (apply (writeOf (cond b met (refused (refusalOf (conditions (read t k now) s))))) s .lines) ≡ rolledForward (lineOf k (s .lines))
+      go true e a = finished (writeOf met) writes
+      go false e a = absurd (true≢false (sym (ap (λ (n : ℕ). eqb n 0) a) ∙ e))
+
+-- Over bytes.
+module _ (b : Bytes) (passing : Passing b) (k : Key) (now : ℕ) (fits : now < 2 ^ 32) (has : hasLine k (records (b .records)) ≡ true) (pending : isPrepared (lineOf k (records (b .records))) ≡ true) (owner : ownerDecision (lineOf k (records (b .records))) (coordinatorOf (b .coordinator)) ≡ Committed) where
+  good : GoodSheets (saying b)
+  good = good-parts (saying b) (passing-good b passing)
+
+  listed : listsKey k (records (b .records)) ≡ true
+  listed = sym (has-line k (records (b .records))) ∙ has
+
+  pub next-visit-finishes : (answerOn (visit k now) b ≡ visited Forward) × (lineOf k (records (afterOn (visit k now) b .records)) ≡ rolledForward (lineOf k (records (b .records))))
+  next-visit-finishes =
+      let f = visit-finishes (saying b) good k now listed pending owner in
+      (same-answer (visit k now) b passing ∙ f .0, ap (λ (s : Sheets). lineOf k (s .lines)) (bytes-stay-passing (visit k now) b fits passing .0) ∙ f .1)
+
+  pub next-read-finishes : (t : Transaction) → isNew k t ≡ true → refusalIn (answerOn (read t k now) b) ≡ 0 → lineOf k (records (afterOn (read t k now) b .records)) ≡ rolledForward (lineOf k (records (b .records)))
+  next-read-finishes t new accepted =
+      ap (λ (s : Sheets). lineOf k (s .lines)) (bytes-stay-passing (read t k now) b fits passing .0)
+      ∙ read-finishes (saying b) good k now listed pending owner t new (ap refusalIn (sym (same-answer (read t k now) b passing)) ∙ accepted)

@@ -1,0 +1,213 @@
+-- Histories of turns are histories of calls: a legal history of turns is a legal history of the calls that they come to, with the same sheets and the same
+-- model. So demand 3 over calls is demand 3 over turns. What a kind of turn owes for it is `Comes`.
+use Prim.Native.Nat.{ℕ, _<_}
+use mathlib.Core.Path.{_≡_, refl, sym, ap, ap₂, _∙_, subst}
+use mathlib.Core.Logic.{inl, inr}
+use mathlib.Core.Bool.{Bool, true, false, _||_, cond}
+use mathlib.Core.List.{List, [], _∷_, _++_, map}
+use mathlib.Core.Option.{some, Option·none-ne-some}
+use lib.ListN.{length}
+use Rattle.types.specs.declared.Key.{Key}
+use Rattle.types.specs.declared.Columns.{Columns}
+use Rattle.types.specs.declared.Record.{Record}
+use Rattle.types.specs.declared.Transaction.{Transaction}
+use Rattle.model.specs.Coordinator.{decision}
+use Rattle.model.specs.Writes.{Sheets, sheetsGood, nothing, isOnePhase, apply}
+use Rattle.model.specs.Results.{Call, advance, Result, refused, writeOf}
+use Rattle.model.specs.Calls.{advanceResult}
+use Rattle.model.specs.CallByPlace.{listed, named, advanceAtResult}
+use Rattle.model.specs.Histories.{
+  Event,
+  Answer,
+  turnedAway,
+  returned,
+  answerOf,
+  answer,
+  returns,
+  written,
+  after,
+  Available,
+  Permitted,
+  event,
+  eventsAfter,
+  leftBy,
+  Legal,
+  onePhaseIn,
+}
+use Rattle.model.specs.SequentialModel.{Model, firstModel, modelStep, modelAfter, isCommitted}
+use Rattle.model.specs.RecoveryPass.{Visit, visitCall, nonePrepared, Closing}
+use Rattle.model.specs.Turns.{
+  Turn,
+  single,
+  advanceAt,
+  turnEvent,
+  turnAfter,
+  turnOnePhase,
+  turnsLeft,
+  onePhaseTurn,
+  turnEvents,
+  LegalTurns,
+}
+use Rattle.model.specs.Recovered.{modelAfterTurns, CommittedExactly}
+use Rattle.call_laws.specs.Lifting.{apply-nothing}
+use Rattle.call_laws.specs.ByPlace.{named-result, unlisted-result}
+use Rattle.recovery.specs.Invariant.{Inv}
+use Rattle.recovery.specs.History.{first-inv, onesAfter, history-kept}
+use Rattle.recovery.specs.Theorem.{recoveredBy, recovery-theorem}
+use Rattle.recovery.specs.Commits.{or-none, exactly-same, commits-exactly}
+
+-- the calls that a turn comes to: an advance by place none where the list has no such place
+unfoldable pub comesTo : Turn → Sheets → List Call
+comesTo (single c) s = c ∷ []
+comesTo (advanceAt list place now) s = cond (listed (length list) place) (advance (named list place) now ∷ []) []
+
+unfoldable pub expanded : List Turn → Sheets → List Call
+expanded [] s = []
+expanded (x ∷ xs) s = comesTo x s ++ expanded xs (turnAfter x s)
+
+-- Histories one after another.
+
+legal-append : (xs ys : List Call) (s : Sheets) (es : List Event) → Legal answer after xs s es → Legal answer after ys (leftBy answer after xs s) (eventsAfter answer after xs s es) → Legal answer after (xs ++ ys) s es
+unfolding leftBy eventsAfter
+legal-append [] ys s es l m = m
+legal-append (x ∷ xs) ys s es l m = (l .0, legal-append xs ys (after x s) (event answer after x s ∷ es) (l .1) m)
+
+left-append : (xs ys : List Call) (s : Sheets) → leftBy answer after (xs ++ ys) s ≡ leftBy answer after ys (leftBy answer after xs s)
+unfolding leftBy
+left-append [] ys s = refl
+left-append (x ∷ xs) ys s = left-append xs ys (after x s)
+
+events-append : (xs ys : List Call) (s : Sheets) (es : List Event) → eventsAfter answer after (xs ++ ys) s es ≡ eventsAfter answer after ys (leftBy answer after xs s) (eventsAfter answer after xs s es)
+unfolding leftBy eventsAfter
+events-append [] ys s es = refl
+events-append (x ∷ xs) ys s es = events-append xs ys (after x s) (event answer after x s ∷ es)
+
+or-assoc : (a b c : Bool) → (a || (b || c)) ≡ ((a || b) || c)
+or-assoc true b c = refl
+or-assoc false b c = refl
+
+ones-append : (n : ℕ) (xs ys : List Call) (s : Sheets) → onePhaseIn written after n (xs ++ ys) s ≡ (onePhaseIn written after n xs s || onePhaseIn written after n ys (leftBy answer after xs s))
+unfolding leftBy onePhaseIn
+ones-append n [] ys s = refl
+ones-append n (x ∷ xs) ys s =
+    ap (λ (b : Bool). isOnePhase n (written x s) || b) (ones-append n xs ys (after x s))
+    ∙ or-assoc (isOnePhase n (written x s)) (onePhaseIn written after n xs (after x s)) (onePhaseIn written after n ys (leftBy answer after xs (after x s)))
+
+-- What is owed for a turn that is the event e, leaves s′ and comes to the calls cs: they are legal, leave what it leaves, hand on what it hands on, the model
+-- commits as it does, and one-phase writes are made as it makes them. es are the events of turns, es′ those of the calls that they came to.
+pub record Comes (cs : List Call) (e : Event) (s s′ : Sheets) (makes : ℕ → Bool) (es es′ : List Event) : Type 0 where
+  pub legal : Legal answer after cs s es′
+  pub left : leftBy answer after cs s ≡ s′
+  pub handed : (t : Transaction) → Available t (e ∷ es) → Available t (eventsAfter answer after cs s es′)
+  pub model : (m : Model) → modelAfter es′ m ≡ modelAfter es m → modelAfter (eventsAfter answer after cs s es′) m ≡ modelStep e (modelAfter es m)
+  pub ones : (n : ℕ) → onePhaseIn written after n cs s ≡ makes n
+
+-- the events of turns hand on what those of calls do
+module _ (s : Sheets) (es es′ : List Event) (handed-on : (t : Transaction) → Available t es → Available t es′) where
+  single-comes : (c : Call) → Permitted c (answer c s) es → Comes (c ∷ []) (event answer after c s) s (after c s) (λ (n : ℕ). isOnePhase n (written c s)) es es′
+  unfolding leftBy eventsAfter modelAfter onePhaseIn
+  single-comes c p =
+      record {
+        legal = (record { clock = p .clock; state = λ t e. handed-on t (p .state t e) }, tt);
+        left = refl;
+        handed = handed;
+        model = λ m e. ap (modelStep (event answer after c s)) e;
+        ones = λ n. or-none (isOnePhase n (written c s));
+      }
+    where
+      handed : (t : Transaction) → Available t (event answer after c s ∷ es) → Available t (event answer after c s ∷ es′)
+      handed t (inl q) = inl q
+      handed t (inr b) = inr (b .0, handed-on t (b .1))
+
+  -- a turn that is refused comes to nothing
+  pub refused-comes : (c : Call) (i : ℕ) → Comes [] (record { call = c; answer = turnedAway i }) s s (λ (n : ℕ). false) es es′
+  unfolding leftBy eventsAfter modelStep returns onePhaseIn
+  refused-comes c i = record { legal = tt; left = refl; handed = handed; model = λ m e. e; ones = λ n. refl }
+    where
+      handed : (t : Transaction) → Available t (record { call = c; answer = turnedAway i } ∷ es) → Available t es′
+      handed t (inl q) = absurd (Option·none-ne-some t q)
+      handed t (inr b) = handed-on t (b .1)
+
+  module _ (list : List Transaction) (place now : ℕ) where
+    abbrev Come : List Call → Result Transaction → Type 0
+    Come cs r = Comes cs (record { call = advance (named list place) now; answer = answerOf returned r }) s (apply (writeOf r) s) (λ (n : ℕ). isOnePhase n (writeOf r)) es es′
+
+    abbrev May : Result Transaction → Type 0
+    May r = Permitted (advance (named list place) now) (answerOf returned r) es
+
+    by-place-comes : May (advanceAtResult list place now s) → Come (cond (listed (length list) place) (advance (named list place) now ∷ []) []) (advanceAtResult list place now s)
+    unfolding answer after written isOnePhase
+    by-place-comes p = go (listed (length list) place) refl
+      where
+        go : (b : Bool) → listed (length list) place ≡ b → Come (cond b (advance (named list place) now ∷ []) []) (advanceAtResult list place now s)
+        go true e =
+            let q : advanceAtResult list place now s ≡ advanceResult (named list place) now s = named-result list place now s e in
+            subst (Come (advance (named list place) now ∷ [])) (sym q) (single-comes (advance (named list place) now) (subst May q p))
+        go false e =
+            subst (Come []) (sym (unlisted-result list place now s e))
+            (subst (λ (s′ : Sheets). Comes [] (record { call = advance (named list place) now; answer = turnedAway 3 }) s s′ (λ (n : ℕ). false) es es′) (sym (apply-nothing s))
+            (refused-comes (advance (named list place) now) 3))
+
+  turn-comes : (x : Turn) → Permitted (turnEvent x s .call) (turnEvent x s .answer) es → Comes (comesTo x s) (turnEvent x s) s (turnAfter x s) (λ (n : ℕ). turnOnePhase n x s) es es′
+  unfolding comesTo turnEvent turnAfter turnOnePhase
+  turn-comes (single c) p = single-comes c p
+  turn-comes (advanceAt list place now) p = by-place-comes list place now p
+
+-- The reduction.
+
+pub record Reduced (xs : List Turn) (s : Sheets) (es es′ : List Event) (m : Model) : Type 0 where
+  pub legal : Legal answer after (expanded xs s) s es′
+  pub left : leftBy answer after (expanded xs s) s ≡ turnsLeft turnAfter xs s
+  pub model : modelAfter (eventsAfter answer after (expanded xs s) s es′) m ≡ modelAfter (turnEvents turnAfter turnEvent xs s es) m
+  pub ones : (n : ℕ) → onePhaseIn written after n (expanded xs s) s ≡ onePhaseTurn turnAfter turnOnePhase n xs s
+
+pub reduce : {base : ℕ} {one : ℕ → Bool} (xs : List Turn) (s : Sheets) (es es′ : List Event) (m : Model) → Inv base one s es′ (modelAfter es′ m) → ((t : Transaction) → Available t es → Available t es′) → modelAfter es′ m ≡ modelAfter es m → LegalTurns turnAfter turnEvent xs s es → Reduced xs s es es′ m
+unfolding expanded turnsLeft turnEvents onePhaseTurn leftBy eventsAfter modelAfter onePhaseIn
+reduce [] s es es′ m inv h e l = record { legal = tt; left = refl; model = e; ones = λ n. refl }
+reduce {base} {one} (x ∷ xs) s es es′ m inv h e l =
+    let c = turn-comes s es es′ h x (l .0) in
+    let cs = comesTo x s in
+    let es₁ = eventsAfter answer after cs s es′ in
+    let kept : Inv base (onesAfter cs s one) (turnAfter x s) es₁ (modelAfter es₁ m) =
+    subst (λ (y : Sheets). Inv base (onesAfter cs s one) y es₁ (modelAfter es₁ m)) (c .left) (history-kept cs s es′ m inv (c .legal)) in
+    let r : Reduced xs (turnAfter x s) (turnEvent x s ∷ es) es₁ m = reduce xs (turnAfter x s) (turnEvent x s ∷ es) es₁ m kept (c .handed) (c .model m e) (l .1) in
+    let next = expanded xs (turnAfter x s) in
+    record {
+      legal = legal-append cs next s es′ (c .legal) (subst (λ (y : Sheets). Legal answer after next y es₁) (sym (c .left)) (r .legal));
+      left = left-append cs next s ∙ (ap (leftBy answer after next) (c .left) ∙ r .left);
+      model =
+          ap (λ (z : List Event). modelAfter z m) (events-append cs next s es′)
+          ∙ (ap (λ (y : Sheets). modelAfter (eventsAfter answer after next y es₁) m) (c .left) ∙ r .model);
+      ones = λ n. ones-append n cs next s
+          ∙ ap₂ (λ (a b : Bool). a || b) (c .ones n) (ap (onePhaseIn written after n next) (c .left) ∙ r .ones n);
+    }
+
+-- Demand 3 over turns and decoded sheets.
+
+-- the sheets after a history, and after visits that follow it
+abbrev pub recoveredAfter : List Visit → List Turn → Sheets → Sheets
+recoveredAfter vs xs s = leftBy answer after (map visitCall vs) (turnsLeft turnAfter xs s)
+
+abbrev pub modelOfTurns : List Turn → Sheets → Model
+modelOfTurns xs s = modelAfterTurns (λ (y : Sheets). y) turnAfter turnEvent xs s
+
+pub record RecoveredSheets (vs : List Visit) (xs : List Turn) (s : Sheets) : Type 0 where
+  pub unprepared : nonePrepared (recoveredAfter vs xs s .lines) ≡ true
+  pub lines : recoveredAfter vs xs s .lines ≡ map (λ (r : Record). modelOfTurns xs s .line (r .key)) (s .lines)
+  pub committed : (n : ℕ) → s .coordinator .issued < n → (k : Key) (c : Columns) → modelOfTurns xs s .writes n k ≡ some c → CommittedExactly (isCommitted n (modelOfTurns xs s)) (decision n (recoveredAfter vs xs s .coordinator)) (onePhaseTurn turnAfter turnOnePhase n xs s)
+
+pub turns-recover : (s : Sheets) → sheetsGood s ≡ true → nonePrepared (s .lines) ≡ true → (xs : List Turn) → LegalTurns turnAfter turnEvent xs s [] → (vs : List Visit) → Closing (λ (y : Sheets). y) after vs (turnsLeft turnAfter xs s) → RecoveredSheets vs xs s
+unfolding modelAfter
+turns-recover s g z xs legal vs c =
+    let r : Reduced xs s [] [] (firstModel (s .lines)) = reduce xs s [] [] (firstModel (s .lines)) (first-inv s g z) (λ t a. a) refl legal in
+    let cs = expanded xs s in
+    let t = recovery-theorem s g z cs (r .legal) vs (subst (Closing (λ (y : Sheets). y) after vs) (sym (r .left)) c) in
+    let e : recoveredBy vs cs s ≡ recoveredAfter vs xs s = ap (leftBy answer after (map visitCall vs)) (r .left) in
+    record {
+      unprepared = ap (λ (y : Sheets). nonePrepared (y .lines)) (sym e) ∙ t .0;
+      lines =
+          ap (λ (y : Sheets). y .lines) (sym e)
+          ∙ (t .1 ∙ ap (λ (m : Model). map (λ (x : Record). m .line (x .key)) (s .lines)) (r .model));
+      committed = λ n new k x put. exactly-same (ap (isCommitted n) (r .model)) (ap (λ (y : Sheets). decision n (y .coordinator)) e) (r .ones n)
+          (commits-exactly s g z cs (r .legal) vs n new k x (ap (λ (m : Model). m .writes n k) (r .model) ∙ put));
+    }

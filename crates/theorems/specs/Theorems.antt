@@ -1,0 +1,122 @@
+-- What is proved of the engine: every headline statement, in the words of the definitions of `model`, each by citing the law that proves it.
+-- The engine's contracts cite the same definitions, so that what holds of `answerOn`, `afterOn` and `advanceAtOn` holds of the functions that run.
+use Prim.Native.Nat.{ℕ, _^_, _<_, _≤_}
+use mathlib.Core.Path.{_≡_, ap, _∙_}
+use mathlib.Core.Bool.{true}
+use mathlib.Core.List.{List, [], _∷_, map}
+use mathlib.Core.Option.{some}
+use Rattle.types.specs.declared.Decision.the-variants.{Committed}
+use Rattle.types.specs.declared.Key.{Key}
+use Rattle.types.specs.declared.Record.{Record}
+use Rattle.types.specs.declared.Transaction.{Transaction}
+use Rattle.types.specs.declared.Recovery.the-variants.{Forward}
+use Rattle.model.specs.Records.{records, recordsText, recordsGood, recordsAccepted, lineOf, hasLine}
+use Rattle.model.specs.Coordinator.{Coordinator, coordinatorOf, coordinatorText, coordinatorGood, coordinatorAccepted}
+use Rattle.model.specs.Refusals.{Condition, lowest}
+use Rattle.model.specs.Images.{isPrepared, rolledForward}
+use Rattle.model.specs.Visits.{ownerDecision}
+use Rattle.model.specs.WellFormed.{wellFormed}
+use Rattle.model.specs.Results.{Call, read, visit}
+use Rattle.model.specs.Conditions.{isNew, refusals}
+use Rattle.model.specs.ByteCalls.{allConditions}
+use Rattle.model.specs.CallByPlace.{allConditionsAt, advanceAtOn, listAfter}
+use Rattle.model.specs.Histories.{refusalIn, returned, visited, answerOf, returns, ClockFits}
+use Rattle.model.specs.ByteHistories.{Bytes, saying, Passing, bytesAfter, answerOn, afterOn}
+use Rattle.model.specs.AtomicWrites.{OneUnit}
+use Rattle.model.specs.RecoveryPass.{Visit, nonePrepared, Closing}
+use Rattle.model.specs.Turns.{Turn, advanceAt, turnEventOn, turnAfterOn, turnsLeft, LegalTurns}
+use Rattle.model.specs.Recovered.{Recovered, modelOn, bytesRecovered}
+use Rattle.model.specs.Cases.{Case, cases, twelve-cases}
+use Rattle.sheet_laws.specs.Records as RecordLaws
+use Rattle.sheet_laws.specs.Coordinator as CoordinatorLaws
+use Rattle.call_laws.specs.Exactness as Exactness
+use Rattle.call_laws.specs.ByPlace as ByPlace
+use Rattle.call_laws.specs.ByteUnits as ByteUnits
+use Rattle.call_laws.specs.Turns as TurnLaws
+use Rattle.recovery.specs.PassExists.{recoveryPass}
+use Rattle.recovery.specs.NextReader as NextReader
+use Rattle.recovery.specs.Bytes as Recovery
+use Rattle.theorems.specs.Sample as Sample
+
+-- DEMAND 1: "a result or the one refusal that our table names for that input, and after a refusal it finds both sheets and its transaction unchanged".
+-- A call by value returns its transaction as it came where it is refused: `engine` Answers.
+
+-- the refusal given is the lowest of the call's conditions that hold, 0 where none does
+pub refusal-exact : (c : Call) (b : Bytes) → lowest (refusalIn (answerOn c b)) (allConditions c (b .records) (b .coordinator)) ≡ true
+refusal-exact c b =
+    ap (λ (n : ℕ). lowest n (allConditions c (b .records) (b .coordinator))) (Exactness.refusal-given c b)
+    ∙ Exactness.refusal-is-lowest c (b .records) (b .coordinator)
+
+pub refusal-exact-by-place : (list : List Transaction) (place now : ℕ) (rs cs : List ℕ) → lowest (refusalIn (answerOf returned (advanceAtOn list place now rs cs))) (allConditionsAt list place now rs cs) ≡ true
+refusal-exact-by-place list place now rs cs =
+    ap (λ (n : ℕ). lowest n (allConditionsAt list place now rs cs)) (ByPlace.place-refusal-given list place now rs cs)
+    ∙ ByPlace.place-refusal-is-lowest list place now rs cs
+
+-- and these are the conditions of the call's row of the table
+pub conditions-are-the-row : (c : Call) (rs cs : List ℕ) → map (λ (x : Condition). x .number) (allConditions c rs cs) ≡ refusals c
+conditions-are-the-row c rs cs = Exactness.numbers-are c rs cs
+
+pub refused-unchanged : (c : Call) (b : Bytes) → 1 ≤ refusalIn (answerOn c b) → afterOn c b ≡ b
+refused-unchanged c b l = Exactness.refused-unchanged c b l
+
+pub refused-unchanged-by-place : (list : List Transaction) (place now : ℕ) (b : Bytes) → 1 ≤ refusalIn (answerOf returned (advanceAtOn list place now (b .records) (b .coordinator))) → (listAfter list place (advanceAtOn list place now (b .records) (b .coordinator)) ≡ list) × (bytesAfter b (advanceAtOn list place now (b .records) (b .coordinator)) ≡ b)
+refused-unchanged-by-place list place now b l = ByPlace.refused-leaves list place b _ l
+
+-- DEMAND 2: the answer, the transaction and the lines are the contracts' own equations. What holds of all of them:
+
+-- "writes to at most one unit or the coordinator sheet"
+pub single-unit : (c : Call) (b : Bytes) → ClockFits c → Passing b → OneUnit b (afterOn c b)
+single-unit c b l p = ByteUnits.call-unit c b l p
+
+pub single-unit-by-place : (list : List Transaction) (place now : ℕ) (b : Bytes) → now < 2 ^ 32 → Passing b → OneUnit b (turnAfterOn (advanceAt list place now) b)
+single-unit-by-place list place now b l p = ByteUnits.place-unit list place now b l p
+
+-- accepted sheets stay accepted, and a transaction that is returned is well formed on the sheets that the turn leaves
+pub sheets-stay-accepted : (x : Turn) (b : Bytes) → ClockFits (turnEventOn x b .call) → Passing b → Passing (turnAfterOn x b)
+sheets-stay-accepted x b l p = TurnLaws.turn-stays-passing x b l p .1
+
+pub returned-well-formed : (x : Turn) (b : Bytes) (t : Transaction) → ClockFits (turnEventOn x b .call) → Passing b → returns (turnEventOn x b .answer) ≡ some t → wellFormed (saying (turnAfterOn x b)) t ≡ true
+returned-well-formed x b t l p e = TurnLaws.turn-returns-formed-on x b t l p e
+
+-- "an accepted sheet read into records and written again is the same sheet"
+pub records-written-again : (s : List ℕ) → recordsAccepted s ≡ true → recordsText (records s) ≡ s
+records-written-again s a = RecordLaws.sheet-written-read s a
+
+pub coordinator-written-again : (s : List ℕ) → coordinatorAccepted s ≡ true → coordinatorText (coordinatorOf s) ≡ s
+coordinator-written-again s a = CoordinatorLaws.coordinator-written-read s a
+
+-- "and records that keep its rules, written and read, are the same records"
+pub records-read-again : (rs : List Record) → recordsGood rs ≡ true → (records (recordsText rs) ≡ rs) × (recordsAccepted (recordsText rs) ≡ true)
+records-read-again rs g = RecordLaws.records-read-written rs g
+
+pub coordinator-read-again : (c : Coordinator) → coordinatorGood c ≡ true → (coordinatorOf (coordinatorText c) ≡ c) × (coordinatorAccepted (coordinatorText c) ≡ true)
+coordinator-read-again c g = CoordinatorLaws.coordinator-read-written c g
+
+-- document 01's twelve cases
+pub cases-hold : map (λ (c : Case). c .given) cases ≡ map (λ (c : Case). c .expected) cases
+cases-hold = twelve-cases
+
+-- DEMAND 3, over bytes and every turn of a history. For all bytes that refusals 1 and 2 let pass, without a PREPARED line; for every legal history of turns
+-- on them, refused ones included; for every recovery pass after it: no line is PREPARED, the record sheet is byte for byte the sequential model's, and a
+-- transaction with puts is committed exactly when its coordinator line says so or its one-phase write was made.
+pub demand-3 : (b : Bytes) → Passing b → nonePrepared (records (b .records)) ≡ true → (xs : List Turn) → LegalTurns turnAfterOn turnEventOn xs b [] → (vs : List Visit) → Closing saying afterOn vs (turnsLeft turnAfterOn xs b) → Recovered vs xs b
+demand-3 b p z xs legal vs c = Recovery.demand-3 b p z xs legal vs c
+
+-- after every legal history there is a recovery pass
+pub recovery-pass-exists : (b : Bytes) → Passing b → (xs : List Turn) → LegalTurns turnAfterOn turnEventOn xs b [] → Closing saying afterOn (recoveryPass (saying (turnsLeft turnAfterOn xs b))) (turnsLeft turnAfterOn xs b)
+recovery-pass-exists b p xs legal = Recovery.recovery-pass-exists b p xs legal
+
+-- a history and a pass that meet the hypotheses, the bytes that they leave, and what was committed, the last number first
+pub sample-legal : (Passing Sample.sampleBytes × (nonePrepared (records (Sample.sampleBytes .records)) ≡ true)) × (LegalTurns turnAfterOn turnEventOn Sample.sampleTurns Sample.sampleBytes [] × Closing saying afterOn Sample.sampleVisits (turnsLeft turnAfterOn Sample.sampleTurns Sample.sampleBytes))
+sample-legal = ((Sample.sample-passes, Sample.sample-unprepared), (Sample.sample-legal, Sample.sample-closing))
+
+pub sample-recovered : (bytesRecovered Sample.sampleVisits Sample.sampleTurns Sample.sampleBytes ≡ Sample.recoveredBytes) × (modelOn Sample.sampleTurns Sample.sampleBytes .committed ≡ 3 ∷ 2 ∷ [])
+sample-recovered = (Sample.sample-recovered, Sample.sample-committed)
+
+-- "if COMMITTED was written, the next reader finishes it": the next visit of a line PREPARED by a COMMITTED owner, and the next read of it as a new key, leave
+-- it rolled forward, at any reading of the clock
+pub next-visit-finishes : (b : Bytes) → Passing b → (k : Key) (now : ℕ) → now < 2 ^ 32 → hasLine k (records (b .records)) ≡ true → isPrepared (lineOf k (records (b .records))) ≡ true → ownerDecision (lineOf k (records (b .records))) (coordinatorOf (b .coordinator)) ≡ Committed → (answerOn (visit k now) b ≡ visited Forward) × (lineOf k (records (afterOn (visit k now) b .records)) ≡ rolledForward (lineOf k (records (b .records))))
+next-visit-finishes b p k now l h m d = NextReader.next-visit-finishes b p k now l h m d
+
+pub next-read-finishes : (b : Bytes) → Passing b → (k : Key) (now : ℕ) → now < 2 ^ 32 → hasLine k (records (b .records)) ≡ true → isPrepared (lineOf k (records (b .records))) ≡ true → ownerDecision (lineOf k (records (b .records))) (coordinatorOf (b .coordinator)) ≡ Committed → (t : Transaction) → isNew k t ≡ true → refusalIn (answerOn (read t k now) b) ≡ 0 → lineOf k (records (afterOn (read t k now) b .records)) ≡ rolledForward (lineOf k (records (b .records)))
+next-read-finishes b p k now l h m d t n a = NextReader.next-read-finishes b p k now l h m d t n a
