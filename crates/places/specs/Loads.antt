@@ -1,7 +1,7 @@
 -- Bytes as one number of which the first weighs least, as a load takes them, and the turn to the number of which it weighs most: the lowest byte
 -- of the one is taken off as the other takes it in.
 use Prim.Native.Nat.{ℕ, zero, suc, _+_, _-_, _*_, _/_, _%_, _^_, _<_, _≤_}
-use mathlib.Core.Path.{_≡_, refl, _∙_}
+use mathlib.Core.Path.{_≡_, refl, sym, ap₂, _∙_}
 use mathlib.Core.Bool.{true, _&&_}
 use mathlib.Core.List.{List, [], _∷_, _++_}
 use native.Mathlib.Nat.{add-assoc, pow-suc}
@@ -12,9 +12,9 @@ use lib.Seq.{drop-cons, drop-drop, take-add}
 use lib.Dec.{eqb}
 use lib.Pow.{areBytes}
 use borrow.Author.Tests.{eqb-true, eq-eqb}
-use Rattle.lists.specs.Bytes.{eqList}
+use Rattle.lists.specs.Bytes.{eqList, eqList-append}
 use Rattle.lists.specs.Tests.{and-both, same-test, tests}
-use Rattle.places.specs.Order.{numberFrom, numberOf, bytesAt, part-bytes}
+use Rattle.places.specs.Order.{numberFrom, numberOf, bytesAt, part-bytes, same-length}
 
 unfoldable pub loaded : List ℕ → ℕ
 loaded [] = 0
@@ -62,6 +62,10 @@ loaded-four s at h =
     let e3 = loaded-next s 0 (at + 3) (omega arith) in
     omega (arith, e0, e1, e2, e3)
 
+pub loaded-two : (s : List ℕ) (at : ℕ) → at + 2 ≤ length s → getD s at 0 + getD s (at + 1) 0 * 256 ≡ loaded (bytesAt s 2 at)
+unfolding loaded
+loaded-two s at h = omega (arith, loaded-next s 1 at (omega arith), loaded-next s 0 (at + 1) (omega arith))
+
 pub loaded-append : (s t : List ℕ) → loaded (s ++ t) ≡ loaded s + loaded t * 256 ^ length s
 unfolding loaded
 loaded-append [] t = omega arith
@@ -103,3 +107,17 @@ loaded-equal (a ∷ s) (b ∷ t) g h n =
     let k : eqList s t ≡ true = search tests in
     let w : loaded s ≡ loaded t = eqb-true (loaded s) (loaded t) (r ∙ k) in
     eq-eqb (a + loaded s * 256) (b + loaded t * 256) (omega arith))
+
+-- n and m bytes of two texts are equal as both their numbers are
+module _ (s t : List ℕ) (of-s : (i : ℕ) → getD s i 0 < 256) (of-t : (i : ℕ) → getD t i 0 < 256) where
+  pub split-equal : (n m a b : ℕ) → a + (n + m) ≤ length s → b + (n + m) ≤ length t
+      → (eqb (loaded (bytesAt s n a)) (loaded (bytesAt t n b)) && eqb (loaded (bytesAt s m (a + n))) (loaded (bytesAt t m (b + n))))
+      ≡ eqList (bytesAt s (n + m) a) (bytesAt t (n + m) b)
+  split-equal n m a b f g =
+      let l = same-length s t of-s of-t n a b (omega arith) (omega arith) in
+      let k = same-length s t of-s of-t m (a + n) (b + n) (omega arith) (omega arith) in
+      rw (take-add n m (drop a s), take-add n m (drop b t), drop-drop n a s, drop-drop n b t)
+      (ap₂ _&&_
+      (loaded-equal (bytesAt s n a) (bytesAt t n b) (part-bytes s n a of-s) (part-bytes t n b of-t) l)
+      (loaded-equal (bytesAt s m (a + n)) (bytesAt t m (b + n)) (part-bytes s m (a + n) of-s) (part-bytes t m (b + n) of-t) k)
+      ∙ sym (eqList-append (bytesAt s n a) (bytesAt t n b) (bytesAt s m (a + n)) (bytesAt t m (b + n)) l))

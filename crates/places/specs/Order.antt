@@ -102,7 +102,7 @@ part-bytes s n at h = all n (drop at s) (λ i. rw getD-drop (h (at + i)))
 
 -- parts of two texts of bytes
 module _ (s t : List ℕ) (of-s : (i : ℕ) → getD s i 0 < 256) (of-t : (i : ℕ) → getD t i 0 < 256) where
-  same-length : (n a b : ℕ) → a + n ≤ length s → b + n ≤ length t → length (bytesAt s n a) ≡ length (bytesAt t n b)
+  pub same-length : (n a b : ℕ) → a + n ≤ length s → b + n ≤ length t → length (bytesAt s n a) ≡ length (bytesAt t n b)
   same-length n a b f g = simp (length-take, length-drop) (omega arith)
 
   pub part-less : (n a b : ℕ) → a + n ≤ length s → b + n ≤ length t → less (bytesAt s n a) (bytesAt t n b) ≡ ltb (numberOf (bytesAt s n a)) (numberOf (bytesAt t n b))

@@ -4,6 +4,7 @@ ghost use mathlib.Core.Path.{_≡_};
 ghost use Prim.Native.Nat.{_+_, _^_, _<_, _≤_};
 ghost use lib.ListN.{length, getD, take, drop};
 ghost use Rattle.places.specs.Places.{bit, higher, lower, asLong, Room, judgedAt, lineOk};
+ghost use Rattle.lists.specs.Bytes.{eqList};
 ghost use Rattle.lists.specs.Each.{less};
 ghost use Rattle.places.specs.Order.{numberOf};
 ghost use Rattle.places.specs.Loads.{loaded, turned};
@@ -107,6 +108,14 @@ pub fn load_eight(s: &[u8], at: usize) -> u64
     load_four(s, at) + load_four(s, at + 4) * 4294967296
 }
 
+// The two bytes at `at` as one number, the first byte weighing least.
+fn load_two(s: &[u8], at: usize) -> u64
+    requires { ⌜ at + 2 ≤ length (now s) ⌝ }
+    ensures { λ r. ⌜ r ≡ loaded (take 2 (drop at (now (s .entry)))) ⌝ }
+{
+    wide(s[at]) + wide(s[at + 1]) * 0x100
+}
+
 // The six bytes at `at` as one number, the first byte weighing least: loaded with the two before them, which are dropped.
 pub fn load_six(s: &[u8], at: usize) -> u64
     requires { ⌜ 2 ≤ at ⌝ }
@@ -147,6 +156,15 @@ pub fn word(s: &[u8], at: usize) -> u64
     ensures { λ r. ⌜ r ≡ numberOf (take 8 (drop at (now (s .entry)))) ⌝ }
 {
     turned(load_eight(s, at), 8)
+}
+
+// Whether the ten bytes at `at` are those of `word`: eight of them as a number, and the last two.
+pub fn ten_equal(s: &[u8], at: usize, word: &[u8]) -> bool
+    requires { ⌜ at + 10 ≤ length (now s) ⌝ }
+    requires { ⌜ length (now word) ≡ 10 ⌝ }
+    ensures { λ r. ⌜ r ≡ eqList (take 10 (drop at (now (s .entry)))) (now (word .entry)) ⌝ }
+{
+    (load_eight(s, at) == load_eight(word, 0)) & (load_two(s, at + 8) == load_two(word, 8))
 }
 
 // Whether the 12 bytes at `a` of `s` come before the 12 bytes at `b` of `t`: eight of them as a number, and four more where those are equal.

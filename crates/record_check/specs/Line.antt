@@ -1,15 +1,14 @@
 -- A line of the record sheet, as the code judges it: the parts of its kind, how its versions stand to each other, and the clock. Both this and the
 -- plain rule are the line read by the widest ranges, with limits on its numbers. In a line that can be read, the bytes that tell its kind
 -- are those of its state and its before version.
-use Prim.Native.Nat.{ℕ, _<_, _≤_}
+use Prim.Native.Nat.{ℕ, suc, _<_, _≤_}
 use mathlib.Core.Path.{_≡_, refl, sym, ap, ap₂, _∙_}
-use mathlib.Core.Bool.{Bool, true, _&&_, cond, and-assoc}
+use mathlib.Core.Bool.{Bool, true, false, _&&_, cond, true≢false, and-assoc}
 use mathlib.Core.List.{List, map}
 use native.Mathlib.Omega.{arith}
 use lib.ListN.{length, take, drop, getD, length-take, length-drop}
-use lib.Seq.{getD-take, getD-drop}
 use lib.Dec.{eqb}
-use Rattle.lists.specs.Tests.{and-fst, and-same, tests}
+use Rattle.lists.specs.Tests.{and-fst, and-same, same-test, tests}
 use Rattle.lists.specs.Bytes.{bytes, eqList}
 use Rattle.lists.specs.Each.{all}
 use Rattle.decimal.specs.Field.{scanned, stepped}
@@ -27,7 +26,7 @@ use Rattle.record_check.specs.Ranges.{opened, lineHeld, set-is-held, sam
 use Rattle.record_check.specs.Figures.{scan-of}
 use Rattle.record_check.specs.Keys.{equal-bytes}
 use Rattle.record_check.specs.Limits.{keeps, limited-line, limited-parts}
-use Rattle.record_check.specs.States.{kindLimits, openLayout, clockLimit, kindParts, kind-says, record-opens, clock-narrow, clock-limited, kindBy, kindFor, rule, kind-rule}
+use Rattle.record_check.specs.States.{kindLimits, openLayout, clockLimit, kindParts, kind-says, record-opens, clock-narrow, clock-limited, stateSaid, word-said, kindBy, kindFor, rule, kind-rule}
 use Rattle.record_check.specs.Relations.{clockFits, follows, widest, clock-fits, follows-is}
 
 -- the line can be read, and its record is good alone
@@ -38,13 +37,20 @@ lineGood line = lineSet recordLayout line && goodAlone (recordIn line)
 unfoldable pub nothing : List ℕ
 nothing = bytes "     0"
 
+-- the number of the line's state word
+abbrev pub stateIn : List ℕ → ℕ
+stateIn line = stateSaid (take 10 (drop 20 line))
+
+abbrev pub overNothing : List ℕ → Bool
+overNothing line = eqList (take 6 (drop 58 line)) nothing
+
 -- the kind that the line is of, if it is good
 unfoldable pub kindOf : List ℕ → ℕ
-kindOf line = kindBy (getD line 24 0) (eqList (take 6 (drop 58 line)) nothing)
+kindOf line = kindBy (stateIn line) (overNothing line)
 
 -- before version as one number
 pub nothing-is : (line : List ℕ) → ((i : ℕ) → getD line i 0 < 256) → length line ≡ 98
-    → eqb (loaded (take 6 (drop 58 line))) 52914536063008 ≡ eqList (take 6 (drop 58 line)) nothing
+    → eqb (loaded (take 6 (drop 58 line))) 52914536063008 ≡ overNothing line
 unfolding nothing bytes loaded
 nothing-is line h n =
     loaded-equal (take 6 (drop 58 line)) (bytes "     0") (part-bytes line 6 58 h) refl (simp (length-take, length-drop) (omega arith))
@@ -75,7 +81,7 @@ module _ (line : List ℕ) (of-bytes : (i : ℕ) → getD line i 0 < 256) where
       let few : getD row 5 0 ≤ 2 = search (tests, r .1) in
       (r .0, few)
 
-  before-nothing : lineSet widest line ≡ true → eqList (take 6 (drop 58 line)) nothing ≡ eqb (getD row 10 0) 0
+  before-nothing : lineSet widest line ≡ true → overNothing line ≡ eqb (getD row 10 0) 0
   unfolding row nothing bytes scanned stepped fieldAt offset opened recordLayout lineBytes
   before-nothing h =
       let t = take 6 (drop 58 line) in
@@ -85,16 +91,25 @@ module _ (line : List ℕ) (of-bytes : (i : ℕ) → getD line i 0 < 256) where
       (scan-of (getD widest 10 noColumn) t v refl (field-at 10 widest line (omega arith) h)) refl
       (simp (length-take, length-drop) (omega arith))
 
+  state-is : lineSet widest line ≡ true → stateIn line ≡ suc (getD row 5 0)
+  state-is h = ap stateSaid (state-word h .0) ∙ word-said (getD row 5 0) (state-word h .1)
+
   kind-is : lineSet widest line ≡ true → kindOf line ≡ kindFor (getD row 5 0) (getD row 10 0)
   unfolding kindOf
-  kind-is h =
-      let byte : getD line 24 0 ≡ getD (wordAt StateWord (getD row 5 0)) 4 0 =
-      sym (getD-take 10 (drop 20 line) 4 0 (omega arith) ∙ getD-drop 20 line 4 0) ∙ ap (λ (t : List ℕ). getD t 4 0) (state-word h .0) in
-      ap₂ kindBy byte (before-nothing h)
+  kind-is h = ap₂ kindBy (state-is h) (before-nothing h)
+
+  -- a line without a state word cannot be read
+  pub wordless : stateIn line ≡ 0 → lineGood line ≡ false
+  unfolding row
+  wordless e =
+      same-test (lineGood line) false
+      (λ g. let h = and-fst (lineSet widest line) (rowGood recordLayout row) (and-fst (lineHeld recordLayout line) (rule row) (sym good-held ∙ g)) in
+      absurd (omega (arith, state-is h)))
+      (λ g. absurd (true≢false (sym g)))
 
   -- the law: a line is good where it stands in the parts of its kind, and the relations hold
   pub line-is : lineGood line
-      ≡ (partsOk (kindParts (kindOf line)) line && (cond (eqb (kindOf line) 2) (follows line) true && clockFits line))
+      ≡ (partsOk (kindParts (kindOf line)) line && (cond (eqb (kindOf line) 3) (follows line) true && clockFits line))
   unfolding kindParts row
   line-is =
       good-held
@@ -111,7 +126,7 @@ module _ (line : List ℕ) (of-bytes : (i : ℕ) → getD line i 0 < 256) where
       held = lineSet widest line && rowGood openLayout row
 
       related : Bool
-      related = cond (eqb (kindOf line) 2) (follows line) true && clockFits line
+      related = cond (eqb (kindOf line) 3) (follows line) true && clockFits line
 
       same-widest : map opened openLayout ≡ widest
       same-widest = unfold openLayout opened recordLayout in refl

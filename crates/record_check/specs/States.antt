@@ -1,7 +1,7 @@
 -- The kinds of line: the rule of a state as limits on the fields of `recordLayout`, so that a line's parts say word, zeros and bounds at once. A
 -- PREPARED line over nothing is a kind of its own, since most of it is fixed. That the limits are the rule is computed, once the numbers of state
 -- and before version are known.
-use Prim.Native.Nat.{ℕ, zero, suc, _+_, _/_, _%_, _≤_}
+use Prim.Native.Nat.{ℕ, zero, suc, _+_, _-_, _*_, _≤_}
 use mathlib.Core.Path.{_≡_, refl, sym, ap, _∙_}
 use mathlib.Core.Bool.{Bool, true, false, not, _&&_, cond, and-assoc, and-true, and-false}
 use mathlib.Core.List.{List, [], _∷_}
@@ -9,7 +9,7 @@ use native.Mathlib.Omega.{arith}
 use lib.ListN.{getD, set, drop}
 use lib.Dec.{eqb, leb, eqb·suc-zero, leb·suc-zero}
 use borrow.Author.Tests.{eqb-true, eq-eqb, le-leb}
-use Rattle.lists.specs.Bytes.{bytes, eqList}
+use Rattle.lists.specs.Bytes.{bytes, eqList, eqList-true}
 use Rattle.lists.specs.Each.{all}
 use Rattle.lists.specs.Tests.{and-both, same-test, tests}
 use Rattle.types.specs.declared.Kind.the-variants.{StateWord}
@@ -72,9 +72,9 @@ preparedLimits = atLeast 5 2 ∷ atLeast 7 1 ∷ []
 -- by the number of the kind
 unfoldable pub kindLimits : ℕ → List Limit
 kindLimits zero = absentLimits
-kindLimits (suc zero) = firstLimits
-kindLimits (suc (suc zero)) = preparedLimits
-kindLimits (suc (suc (suc k))) = committedLimits
+kindLimits (suc zero) = committedLimits
+kindLimits (suc (suc zero)) = firstLimits
+kindLimits (suc (suc (suc k))) = preparedLimits
 
 -- the record layout with the clock up to the widest figure, and the clock's bound
 unfoldable pub openLayout : List Column
@@ -107,14 +107,45 @@ pub clock-limited : limited clockLimit openLayout ≡ recordLayout
 unfolding limited narrowed clockLimit openLayout opened recordLayout
 clock-limited = refl
 
--- The kind by the numbers of a line.
+-- The state by its word, and the kind by the numbers of a line.
 
--- the kind that a state word's fifth byte tells, `A`, `E` or `M`, with 1 more over a version: the words leave 0, 1 and 3 by 4
-abbrev pub kindBy : (byte : ℕ) (nothing : Bool) → ℕ
-kindBy byte nothing = (byte / 4 + bit (not nothing)) % 4
+-- the number of the state word that ten bytes are, counted from 1; 0 where they are none
+unfoldable pub stateSaid : List ℕ → ℕ
+stateSaid t = bit (eqList t (wordAt StateWord 0)) + bit (eqList t (wordAt StateWord 1)) * 2 + bit (eqList t (wordAt StateWord 2)) * 3
+
+-- each state word is said by its own bytes
+pub word-said : (n : ℕ) → n ≤ 2 → stateSaid (wordAt StateWord n) ≡ suc n
+unfolding stateSaid words bytes eqList
+word-said zero l = refl
+word-said (suc zero) l = refl
+word-said (suc (suc zero)) l = refl
+word-said (suc (suc (suc n))) l = absurd (omega arith)
+
+-- no bytes are two of the words
+pub state-few : (t : List ℕ) → stateSaid t ≤ 3
+state-few t = first (eqList t (wordAt StateWord 0)) refl
+  where
+    said : (n : ℕ) → n ≤ 2 → eqList t (wordAt StateWord n) ≡ true → stateSaid t ≤ 3
+    said n l e = omega (arith, ap stateSaid (eqList-true t (wordAt StateWord n) e) ∙ word-said n l)
+
+    third : (b : Bool) → bit b * 3 ≤ 3
+    third true = omega arith
+    third false = omega arith
+
+    second : (b : Bool) → eqList t (wordAt StateWord 0) ≡ false → eqList t (wordAt StateWord 1) ≡ b → stateSaid t ≤ 3
+    second true f e = said 1 (omega arith) e
+    second false f e = unfold stateSaid in rw (f, e) (omega (arith, third (eqList t (wordAt StateWord 2))))
+
+    first : (b : Bool) → eqList t (wordAt StateWord 0) ≡ b → stateSaid t ≤ 3
+    first true e = said 0 (omega arith) e
+    first false e = second (eqList t (wordAt StateWord 1)) e refl
+
+-- the kind of a line by its state word's number, with 1 more over a version
+abbrev pub kindBy : (said : ℕ) (nothing : Bool) → ℕ
+kindBy said nothing = said - 1 + bit (not nothing)
 
 abbrev pub kindFor : (state before : ℕ) → ℕ
-kindFor state before = kindBy (getD (wordAt StateWord state) 4 0) (eqb before 0)
+kindFor state before = kindBy (suc state) (eqb before 0)
 
 -- the rule that a row of numbers keeps by its state
 abbrev pub rule : List ℕ → Bool
@@ -123,7 +154,7 @@ rule v =
 
 -- how the versions stand to each other, where the limits do not say it
 abbrev pub rowFollows : ℕ → List ℕ → Bool
-rowFollows k v = cond (eqb k 2) (eqb (getD v 6 0) (getD v 10 0 + 1)) true
+rowFollows k v = cond (eqb k 3) (eqb (getD v 6 0) (getD v 10 0 + 1)) true
 
 none : (x : ℕ) → eqb x 0 ≡ leb x 0
 none zero = refl
@@ -150,12 +181,12 @@ module _ (v : List ℕ) where
   by-numbers zero zero e f l = rw (e, f) (simp (none, and-assoc, and-true))
   by-numbers zero (suc b) e f l =
       let left : rule v ≡ false = rw (e, f) (simp (eqb·suc-zero, and-false)) in
-      let right : all (keeps v) firstLimits ≡ false = fails (keeps v) (atLeast 5 2) (drop 1 firstLimits) (ap (leb 2) e) in
+      let right : all (keeps v) committedLimits ≡ false = fails (keeps v) (atLeast 5 1) (drop 1 committedLimits) (ap (leb 1) e) in
       rw (eqb·suc-zero b) (left ∙ sym (ap (λ (x : Bool). x && true) right))
   by-numbers (suc zero) zero e f l = rw (e, f) (simp (none, and-assoc, and-true))
   by-numbers (suc zero) (suc b) e f l =
       let left : rule v ≡ false = rw (e, f) (simp (eqb·suc-zero, and-false)) in
-      let right : all (keeps v) absentLimits ≡ false = fails (keeps v) (atMost 5 0) (drop 1 absentLimits) (ap (λ (x : ℕ). leb x 0) e) in
+      let right : all (keeps v) firstLimits ≡ false = fails (keeps v) (atLeast 5 2) (drop 1 firstLimits) (ap (leb 2) e) in
       rw (eqb·suc-zero b) (left ∙ sym (ap (λ (x : Bool). x && true) right))
   by-numbers (suc (suc zero)) zero e f l = rw (e, f) (simp (one, none, and-assoc, and-true))
   by-numbers (suc (suc zero)) (suc b) e f l =

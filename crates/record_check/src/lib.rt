@@ -4,42 +4,57 @@ ghost use mathlib.Core.Path.{_≡_};
 ghost use mathlib.Core.Bool.{true, cond};
 ghost use lib.Dec.{eqb};
 ghost use Prim.Native.Nat.{_+_, _-_, _*_, _^_, _≤_, _<_};
-ghost use lib.ListN.{length, drop};
+ghost use lib.ListN.{length, take, drop};
 ghost use Rattle.model.specs.Records.{recordsAccepted};
 ghost use Rattle.places.specs.Parts.{partsOk};
 ghost use Rattle.record_check.specs.Figures.{figureAt};
-ghost use Rattle.record_check.specs.States.{kindParts};
+ghost use Rattle.record_check.specs.States.{kindParts, stateSaid, kindBy};
 ghost use Rattle.record_check.specs.Relations.{highestClock, clockFits, follows};
-ghost use Rattle.record_check.specs.Line.{lineGood, kindOf};
+ghost use Rattle.record_check.specs.Line.{lineGood, overNothing};
 ghost use Rattle.record_check.specs.Sheet.{keyBefore, linesPass};
 ghost use Rattle.record_check.specs.Tables.{tables};
 
-// The tables of each kind of line, ABSENT, PREPARED over nothing, PREPARED over a version and COMMITTED, in three rows of 97 bytes: for each place but
-// LF the lowest byte, which may not follow a space, the highest, and one more that may follow a space. A fixed byte is all three, so word, zeros
-// and blank columns are judged in the same pass as the figures.
+// The tables of each kind of line, ABSENT, COMMITTED, PREPARED over nothing and PREPARED over a version, in three rows of 97 bytes: for each place but
+// LF the lowest byte, which may not follow a space, the highest, and one more that may follow a space. A fixed byte is all three, so zeros and
+// blank columns are judged in the same pass as the figures.
 const TABLES: [u8; 1164] = *b"\
 \x200 00 00 00000 00000    ABSENT     0   0        0        0     0   0        0        0          0\
 \x209 99 99 99999 99999    ABSENT     0   0        0        0     0   0        0        0          0\
 \x209  9  9     0     0    ABSENT     0   0        0        0     0   0        0        0          0\
+\x200 00 00 00000 00000 COMMITTED 00000 000 00000000 00000000     0   0        0        0          0\
+\x209 99 99 99999 99999 COMMITTED 99999 999 99999999 99999999     0   0        0        0          0\
+\x209  9  9     0     0 COMMITTED     9   0        0        0     0   0        0        0          0\
 \x200 00 00 00000 00000  PREPARED     1 000 00000000 00000000     0   0        0        0 0000000000\
 \x209 99 99 99999 99999  PREPARED     1 999 99999999 99999999     0   0        0        0 9999999999\
 \x209  9  9     0     0  PREPARED     1   9        0        0     0   0        0        0          0\
 \x200 00 00 00000 00000  PREPARED 00000 000 00000000 00000000 00000 000 00000000 00000000 0000000000\
 \x209 99 99 99999 99999  PREPARED 99999 999 99999999 99999999 99999 999 99999999 99999999 9999999999\
-\x209  9  9     0     0  PREPARED     0   9        0        0     0   0        0        0          0\
-\x200 00 00 00000 00000 COMMITTED 00000 000 00000000 00000000     0   0        0        0          0\
-\x209 99 99 99999 99999 COMMITTED 99999 999 99999999 99999999     0   0        0        0          0\
-\x209  9  9     0     0 COMMITTED     9   0        0        0     0   0        0        0          0";
+\x209  9  9     0     0  PREPARED     0   9        0        0     0   0        0        0          0";
 
-// The number of the line's kind, if it is good. It is counted, so that its tables are found without a branch on what the line says.
-fn kind(line: &[u8]) -> usize
+// The number of the state word at `at`, 1 for ABSENT, 2 for COMMITTED, 3 for PREPARED, and 0 where none of them stands. The answers are counted, so that
+// no branch depends on what the line says.
+fn state(line: &[u8], at: usize) -> u8
+    requires { ⌜ at + 10 ≤ length (now line) ⌝ }
+    ensures { λ r. ⌜ r ≡ stateSaid (take 10 (drop at (now (line .entry)))) ⌝ }
+    ensures { λ r. ⌜ r ≤ 3 ⌝ }
+{
+    let absent = places::ten_equal(line, at, b"    ABSENT");
+    let committed = places::ten_equal(line, at, b" COMMITTED");
+    let prepared = places::ten_equal(line, at, b"  PREPARED");
+    places::bit(absent) + places::bit(committed) * 2 + places::bit(prepared) * 3
+}
+
+// The number of the kind of a line of this state, if it is good: one more over a version, which only PREPARED may have.
+fn kind(line: &[u8], state: u8) -> usize
     requires { ⌜ length (now line) ≡ 98 ⌝ }
-    ensures { λ r. ⌜ r ≡ kindOf (now (line .entry)) ⌝ }
+    requires { ⌜ 1 ≤ state ⌝ }
+    requires { ⌜ state ≤ 3 ⌝ }
+    ensures { λ r. ⌜ r ≡ kindBy state (overNothing (now (line .entry))) ⌝ }
     ensures { λ r. ⌜ r < 4 ⌝ }
 {
     // before version 0, the bytes `     0`
     let nothing = places::load_six(line, 58) == 0x3020_2020_2020;
-    let kind = (line[24] / 4 + places::bit(!nothing)) % 4;
+    let kind = state - 1 + places::bit(!nothing);
     kind as usize
 }
 
@@ -83,9 +98,9 @@ fn figure(line: &[u8], at: usize, n: usize) -> u64
 // the last byte differs, by one.
 fn version_follows(line: &[u8], kind: usize) -> bool
     requires { ⌜ length (now line) ≡ 98 ⌝ }
-    ensures { λ r. ⌜ r ≡ cond (eqb kind 2) (follows (now (line .entry))) true ⌝ }
+    ensures { λ r. ⌜ r ≡ cond (eqb kind 3) (follows (now (line .entry))) true ⌝ }
 {
-    if kind != 2 {
+    if kind != 3 {
         return true;
     }
     if line[63] == b'9' {
@@ -94,15 +109,19 @@ fn version_follows(line: &[u8], kind: usize) -> bool
     places::load_six(line, 30) == places::load_six(line, 58) + 0x0100_0000_0000
 }
 
-// Whether the line can be read and its record is good alone. The tables say all but how the versions of a PREPARED line stand to each other, and that
-// the clock is at most 4294967295. The end of the line, LF included, orders as the clock does.
+// Whether the line can be read and its record is good alone. Its state word is one of the three, and the tables say all else but how the versions of a
+// PREPARED line stand to each other, and that the clock is at most 4294967295. The end of the line, LF included, orders as the clock does.
 fn line_good(line: &[u8], lent: &[u8], highest: &[u8]) -> bool
     requires { ⌜ length (now line) ≡ 98 ⌝ }
     requires { ⌜ now lent ≡ tables ⌝ }
     requires { ⌜ now highest ≡ highestClock ⌝ }
     ensures { λ r. ⌜ r ≡ lineGood (now (line .entry)) ⌝ }
 {
-    let kind = kind(line);
+    let state = state(line, 20);
+    if state == 0 {
+        return false;
+    }
+    let kind = kind(line, state);
     if !stands(line, lent, kind) {
         return false;
     }

@@ -1,4 +1,5 @@
--- The law on a line, test by test: each that fails makes the answer false, and past the first two the third is the answer.
+-- The law on a line, test by test: a line without a state word is not good, each later test that fails makes the answer false, and past them the clock
+-- is the answer.
 use mathlib.Core.Path.{_≡_, sym, ap, _∙_}
 use mathlib.Core.Bool.{true, _&&_, cond, and-false}
 use lib.Dec.{eqb}
@@ -10,9 +11,17 @@ use Rattle.lists.specs.Bytes.{bytes}
 use Rattle.places.specs.Parts.{partsOk}
 use Rattle.record_check.specs.States.{kindParts}
 use Rattle.record_check.specs.Relations.{highestClock, clockFits, follows}
-use Rattle.record_check.specs.Line.{lineGood, line-is}
+use Rattle.record_check.specs.Line.{lineGood, kindOf, wordless, line-is}
 use Rattle.record_check.proofs.line_good.Statement.{statement}
 use Rattle.record_check.proofs.line_good.Tie as tie
+
+state-requires : tie.Need-state-requires
+state-requires c κs = search needs
+
+returns : tie.Need-returns
+returns c =
+    let k = c .before .before .before .before in
+    sym (wordless (k .before .args .line .now) (λ i. k .shared-slice-known .given i .fits) (sym (c .before .state .ensures .0) ∙ c .if1 .taken))
 
 kind-requires : tie.Need-kind-requires
 kind-requires c κs = search needs
@@ -22,49 +31,54 @@ stands-requires c κs = search needs
 
 -- the law on a line, of the kind that was found
 law : (c : tie.After-kind)
-    → let line = c .before .before .before .before .args .line .now in
+    → let line = c .before .before .before .before .before .before .args .line .now in
     let k = c .kind .result in
-    lineGood line ≡ (partsOk (kindParts k) line && (cond (eqb k 2) (follows line) true && clockFits line))
+    lineGood line ≡ (partsOk (kindParts k) line && (cond (eqb k 3) (follows line) true && clockFits line))
+unfolding kindOf
 law c =
-    rw (c .kind .ensures .0) (line-is (c .before .before .before .before .args .line .now) (λ i. c .before .before .before .shared-slice-known .given i .fits))
+    let k = c .before .before .before .before .before in
+    rw (c .kind .ensures .0, c .before .before .state .ensures .0) (line-is (k .before .args .line .now) (λ i. k .shared-slice-known .given i .fits))
 
-returns : tie.Need-returns
-returns c =
-    let f = sym (c .before .stands .ensures) ∙ not-true (c .before .stands .result) (c .if1 .taken) in
+returns-2 : tie.Need-returns-2
+returns-2 c =
+    let f = sym (c .before .stands .ensures) ∙ not-true (c .before .stands .result) (c .if2 .taken) in
     rw (law (c .before .before), f)
 
 version-follows-requires : tie.Need-version-follows-requires
 version-follows-requires c κs = search needs
 
-returns-2 : tie.Need-returns-2
-returns-2 c =
-    let f = sym (c .before .version-follows .ensures) ∙ not-true (c .before .version-follows .result) (c .if2 .taken) in
+returns-3 : tie.Need-returns-3
+returns-3 c =
+    let f = sym (c .before .version-follows .ensures) ∙ not-true (c .before .version-follows .result) (c .if3 .taken) in
     rw (law (c .before .before .before .before), f, and-false)
 
 twelve-less-requires : tie.Need-twelve-less-requires
 unfolding highestClock bytes
 twelve-less-requires c κs =
-    let k = c .before .before .before .before .before .before .before .before in
+    let k = c .before .before .before .before .before .before .before .before .before .before in
     let l : length (k .args .highest .now) ≡ 12 = ap length (k .pre .1 .1) in
     (omega arith, omega arith)
 
-returns-3 : tie.Need-returns-3
+returns-4 : tie.Need-returns-4
 unfolding clockFits highestClock bytes
-returns-3 c =
+returns-4 c =
     let stood = c .before .before .before .before .stands in
     let followed = c .before .before .version-follows in
-    let s = sym (stood .ensures) ∙ not-false (stood .result) (c .before .before .before .if1 .left) in
-    let f = sym (followed .ensures) ∙ not-false (followed .result) (c .before .if2 .left) in
-    rw (law (c .before .before .before .before .before), s, f, c .twelve-less .ensures, c .before .before .before .before .before .before .before .before .before .pre .1 .1)
+    let k = c .before .before .before .before .before in
+    let s = sym (stood .ensures) ∙ not-false (stood .result) (c .before .before .before .if2 .left) in
+    let f = sym (followed .ensures) ∙ not-false (followed .result) (c .before .if3 .left) in
+    rw (law k, s, f, c .twelve-less .ensures, k .before .before .before .before .before .before .pre .1 .1)
 
 pub line-good-spec : {M : Type 1} → statement M
 line-good-spec =
     tie.close
     (tie.spec
+    state-requires
+    returns
     kind-requires
     stands-requires
-    returns
-    version-follows-requires
     returns-2
+    version-follows-requires
+    returns-3
     twelve-less-requires
-    returns-3)
+    returns-4)

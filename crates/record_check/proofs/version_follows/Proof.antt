@@ -6,7 +6,7 @@ use Rattle.record_check.proofs.version_follows.Statement.{statement}
 use Rattle.record_check.proofs.version_follows.Tie as tie
 
 returns : tie.Need-returns
-returns c = rw (ne-eqb (c .before .before .args .kind) 2 (c .if1 .taken))
+returns c = rw (ne-eqb (c .before .before .args .kind) 3 (c .if1 .taken))
 
 shared-slice-read-if2 : tie.Need-shared-slice-read-if2
 shared-slice-read-if2 c = search needs
@@ -23,7 +23,7 @@ add-result c = search needs
 returns-2 : tie.Need-returns-2
 unfolding follows
 returns-2 c =
-    let e = eq-eqb (c .before .before .before .before .before .before .args .kind) 2 (c .before .before .before .before .if1 .left) in
+    let e = eq-eqb (c .before .before .before .before .before .before .args .kind) 3 (c .before .before .before .before .if1 .left) in
     rw (e, eq-eqb _ 57 (c .before .before .if2 .taken), c .figure2 .ensures .0, c .before .figure .ensures .0)
 
 load-six-requires : tie.Need-load-six-requires
@@ -38,7 +38,7 @@ add-result-2 c = search needs
 returns-3 : tie.Need-returns-3
 unfolding follows
 returns-3 c =
-    let e = eq-eqb (c .before .before .before .before .before .before .args .kind) 2 (c .before .before .before .before .if1 .left) in
+    let e = eq-eqb (c .before .before .before .before .before .before .args .kind) 3 (c .before .before .before .before .if1 .left) in
     rw (e, ne-eqb _ 57 (c .before .before .if2 .left), c .load-six2 .ensures .0, c .before .load-six .ensures .0)
 
 pub version-follows-spec : {M : Type 1} → statement M
