@@ -158,13 +158,13 @@ pub fn word(s: &[u8], at: usize) -> u64
     turned(load_eight(s, at), 8)
 }
 
-// Whether the ten bytes at `at` are those of `word`: eight of them as a number, and the last two.
-pub fn ten_equal(s: &[u8], at: usize, word: &[u8]) -> bool
-    requires { ⌜ at + 10 ≤ length (now s) ⌝ }
-    requires { ⌜ length (now word) ≡ 10 ⌝ }
-    ensures { λ r. ⌜ r ≡ eqList (take 10 (drop at (now (s .entry)))) (now (word .entry)) ⌝ }
+// Whether the ten bytes at `a` of `s` are those at `b` of `t`: eight of them as a number, and the last two.
+pub fn ten_equal(s: &[u8], a: usize, t: &[u8], b: usize) -> bool
+    requires { ⌜ a + 10 ≤ length (now s) ⌝ }
+    requires { ⌜ b + 10 ≤ length (now t) ⌝ }
+    ensures { λ r. ⌜ r ≡ eqList (take 10 (drop a (now (s .entry)))) (take 10 (drop b (now (t .entry)))) ⌝ }
 {
-    (load_eight(s, at) == load_eight(word, 0)) & (load_two(s, at + 8) == load_two(word, 8))
+    (load_eight(s, a) == load_eight(t, b)) & (load_two(s, a + 8) == load_two(t, b + 8))
 }
 
 // Whether the 12 bytes at `a` of `s` come before the 12 bytes at `b` of `t`: eight of them as a number, and four more where those are equal.

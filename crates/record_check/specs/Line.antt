@@ -1,15 +1,16 @@
 -- A line of the record sheet, as the code judges it: the parts of its kind, how its versions stand to each other, and the clock. Both this and the
 -- plain rule are the line read by the widest ranges, with limits on its numbers. In a line that can be read, the bytes that tell its kind
 -- are those of its state and its before version.
-use Prim.Native.Nat.{ℕ, suc, _<_, _≤_}
+use Prim.Native.Nat.{ℕ, _<_, _≤_}
 use mathlib.Core.Path.{_≡_, refl, sym, ap, ap₂, _∙_}
 use mathlib.Core.Bool.{Bool, true, false, _&&_, cond, true≢false, and-assoc}
 use mathlib.Core.List.{List, map}
 use native.Mathlib.Omega.{arith}
 use lib.ListN.{length, take, drop, getD, length-take, length-drop}
+use lib.Seq.{take-take}
 use lib.Dec.{eqb}
-use Rattle.lists.specs.Tests.{and-fst, and-same, same-test, tests}
-use Rattle.lists.specs.Bytes.{bytes, eqList}
+use Rattle.lists.specs.Tests.{and-fst, and-snd, and-same, same-test, tests}
+use Rattle.lists.specs.Bytes.{bytes, eqList, eqList-refl}
 use Rattle.lists.specs.Each.{all}
 use Rattle.decimal.specs.Field.{scanned, stepped}
 use Rattle.types.specs.declared.Kind.the-variants.{StateWord}
@@ -26,7 +27,7 @@ use Rattle.record_check.specs.Ranges.{opened, lineHeld, set-is-held, sam
 use Rattle.record_check.specs.Figures.{scan-of}
 use Rattle.record_check.specs.Keys.{equal-bytes}
 use Rattle.record_check.specs.Limits.{keeps, limited-line, limited-parts}
-use Rattle.record_check.specs.States.{kindLimits, openLayout, clockLimit, kindParts, kind-says, record-opens, clock-narrow, clock-limited, stateSaid, word-said, kindBy, kindFor, rule, kind-rule}
+use Rattle.record_check.specs.States.{kindLimits, openLayout, clockLimit, kindParts, kind-says, record-opens, clock-narrow, clock-limited, kindWord, stateTold, word-told, kindBy, kindFor, rule, kind-rule, kind-word}
 use Rattle.record_check.specs.Relations.{clockFits, follows, widest, clock-fits, follows-is}
 
 -- the line can be read, and its record is good alone
@@ -37,9 +38,9 @@ lineGood line = lineSet recordLayout line && goodAlone (recordIn line)
 unfoldable pub nothing : List ℕ
 nothing = bytes "     0"
 
--- the number of the line's state word
+-- the state that the first bytes of the line's word tell
 abbrev pub stateIn : List ℕ → ℕ
-stateIn line = stateSaid (take 10 (drop 20 line))
+stateIn line = stateTold (loaded (take 8 (drop 20 line)))
 
 abbrev pub overNothing : List ℕ → Bool
 overNothing line = eqList (take 6 (drop 58 line)) nothing
@@ -47,6 +48,10 @@ overNothing line = eqList (take 6 (drop 58 line)) nothing
 -- the kind that the line is of, if it is good
 unfoldable pub kindOf : List ℕ → ℕ
 kindOf line = kindBy (stateIn line) (overNothing line)
+
+-- the line has the state word of its kind
+abbrev pub wordHeld : List ℕ → Bool
+wordHeld line = eqList (take 10 (drop 20 line)) (kindWord (kindOf line))
 
 -- before version as one number
 pub nothing-is : (line : List ℕ) → ((i : ℕ) → getD line i 0 < 256) → length line ≡ 98
@@ -91,20 +96,25 @@ module _ (line : List ℕ) (of-bytes : (i : ℕ) → getD line i 0 < 256) where
       (scan-of (getD widest 10 noColumn) t v refl (field-at 10 widest line (omega arith) h)) refl
       (simp (length-take, length-drop) (omega arith))
 
-  state-is : lineSet widest line ≡ true → stateIn line ≡ suc (getD row 5 0)
-  state-is h = ap stateSaid (state-word h .0) ∙ word-said (getD row 5 0) (state-word h .1)
+  state-is : lineSet widest line ≡ true → stateIn line ≡ getD row 5 0
+  state-is h =
+      ap (λ (t : List ℕ). stateTold (loaded t)) (sym (take-take 8 10 (drop 20 line) (omega arith)) ∙ ap (take 8) (state-word h .0))
+      ∙ word-told (getD row 5 0) (state-word h .1)
 
   kind-is : lineSet widest line ≡ true → kindOf line ≡ kindFor (getD row 5 0) (getD row 10 0)
   unfolding kindOf
   kind-is h = ap₂ kindBy (state-is h) (before-nothing h)
 
-  -- a line without a state word cannot be read
-  pub wordless : stateIn line ≡ 0 → lineGood line ≡ false
+  -- a good line has it
+  pub wordless : wordHeld line ≡ false → lineGood line ≡ false
   unfolding row
   wordless e =
       same-test (lineGood line) false
-      (λ g. let h = and-fst (lineSet widest line) (rowGood recordLayout row) (and-fst (lineHeld recordLayout line) (rule row) (sym good-held ∙ g)) in
-      absurd (omega (arith, state-is h)))
+      (λ g. let f = sym good-held ∙ g in
+      let h = and-fst (lineSet widest line) (rowGood recordLayout row) (and-fst (lineHeld recordLayout line) (rule row) f) in
+      let w : kindWord (kindOf line) ≡ take 10 (drop 20 line) =
+      ap kindWord (kind-is h) ∙ (kind-word row (state-word h .1) (and-snd (lineHeld recordLayout line) (rule row) f) ∙ sym (state-word h .0)) in
+      sym e ∙ rw w (eqList-refl (take 10 (drop 20 line))))
       (λ g. absurd (true≢false (sym g)))
 
   -- the law: a line is good where it stands in the parts of its kind, and the relations hold

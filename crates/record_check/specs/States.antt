@@ -1,15 +1,15 @@
 -- The kinds of line: the rule of a state as limits on the fields of `recordLayout`, so that a line's parts say word, zeros and bounds at once. A
 -- PREPARED line over nothing is a kind of its own, since most of it is fixed. That the limits are the rule is computed, once the numbers of state
 -- and before version are known.
-use Prim.Native.Nat.{ℕ, zero, suc, _+_, _-_, _*_, _≤_}
+use Prim.Native.Nat.{ℕ, zero, suc, _+_, _*_, _≤_}
 use mathlib.Core.Path.{_≡_, refl, sym, ap, _∙_}
-use mathlib.Core.Bool.{Bool, true, false, not, _&&_, cond, and-assoc, and-true, and-false}
-use mathlib.Core.List.{List, [], _∷_}
+use mathlib.Core.Bool.{Bool, true, false, not, _&&_, cond, true≢false, and-assoc, and-true, and-false}
+use mathlib.Core.List.{List, [], _∷_, _++_}
 use native.Mathlib.Omega.{arith}
-use lib.ListN.{getD, set, drop}
+use lib.ListN.{length, getD, set, take, drop}
 use lib.Dec.{eqb, leb, eqb·suc-zero, leb·suc-zero}
 use borrow.Author.Tests.{eqb-true, eq-eqb, le-leb}
-use Rattle.lists.specs.Bytes.{bytes, eqList, eqList-true}
+use Rattle.lists.specs.Bytes.{bytes, eqList}
 use Rattle.lists.specs.Each.{all}
 use Rattle.lists.specs.Tests.{and-both, same-test, tests}
 use Rattle.types.specs.declared.Kind.the-variants.{StateWord}
@@ -20,6 +20,7 @@ use Rattle.model.specs.Records.{stateOf, byState, imageFrom, recordOf, isZero, 
 use Rattle.sheet_laws.specs.Fields.{columnOk, allBelow, isThe, wordOk}
 use Rattle.places.specs.Parts.{Part}
 use Rattle.places.specs.Places.{bit}
+use Rattle.places.specs.Loads.{loaded}
 use Rattle.record_check.specs.Ranges.{opened, opens}
 use Rattle.record_check.specs.LayoutParts.{sayable, layoutParts}
 use Rattle.record_check.specs.Limits.{Limit, atLeast, atMost, keeps, narrowed, limited, narrows, allNarrow, says}
@@ -107,45 +108,48 @@ pub clock-limited : limited clockLimit openLayout ≡ recordLayout
 unfolding limited narrowed clockLimit openLayout opened recordLayout
 clock-limited = refl
 
--- The state by its word, and the kind by the numbers of a line.
+-- The words of the kinds, and the kind by the numbers of a line.
 
--- the number of the state word that ten bytes are, counted from 1; 0 where they are none
-unfoldable pub stateSaid : List ℕ → ℕ
-stateSaid t = bit (eqList t (wordAt StateWord 0)) + bit (eqList t (wordAt StateWord 1)) * 2 + bit (eqList t (wordAt StateWord 2)) * 3
+-- the state word of each kind, one after another
+unfoldable pub kindWords : List ℕ
+kindWords = wordAt StateWord 0 ++ (wordAt StateWord 1 ++ (wordAt StateWord 2 ++ wordAt StateWord 2))
 
--- each state word is said by its own bytes
-pub word-said : (n : ℕ) → n ≤ 2 → stateSaid (wordAt StateWord n) ≡ suc n
-unfolding stateSaid words bytes eqList
-word-said zero l = refl
-word-said (suc zero) l = refl
-word-said (suc (suc zero)) l = refl
-word-said (suc (suc (suc n))) l = absurd (omega arith)
+pub words-length : length kindWords ≡ 40
+unfolding kindWords words bytes
+words-length = refl
 
--- no bytes are two of the words
-pub state-few : (t : List ℕ) → stateSaid t ≤ 3
-state-few t = first (eqList t (wordAt StateWord 0)) refl
+abbrev pub kindWord : ℕ → List ℕ
+kindWord k = take 10 (drop (k * 10) kindWords)
+
+-- the number of the state word that begins with eight bytes, which are taken as one number; that of ABSENT where no other does
+unfoldable pub stateTold : ℕ → ℕ
+stateTold front = bit (eqb front (loaded (take 8 (wordAt StateWord 1)))) + bit (eqb front (loaded (take 8 (wordAt StateWord 2)))) * 2
+
+-- each state word is told by its own bytes
+pub word-told : (n : ℕ) → n ≤ 2 → stateTold (loaded (take 8 (wordAt StateWord n))) ≡ n
+unfolding stateTold loaded words bytes
+word-told zero l = refl
+word-told (suc zero) l = refl
+word-told (suc (suc zero)) l = refl
+word-told (suc (suc (suc n))) l = absurd (omega arith)
+
+pub told-few : (front : ℕ) → stateTold front ≤ 2
+told-few front = go (eqb front (loaded (take 8 (wordAt StateWord 1)))) refl
   where
-    said : (n : ℕ) → n ≤ 2 → eqList t (wordAt StateWord n) ≡ true → stateSaid t ≤ 3
-    said n l e = omega (arith, ap stateSaid (eqList-true t (wordAt StateWord n) e) ∙ word-said n l)
+    twice : (b : Bool) → bit b * 2 ≤ 2
+    twice true = omega arith
+    twice false = omega arith
 
-    third : (b : Bool) → bit b * 3 ≤ 3
-    third true = omega arith
-    third false = omega arith
+    go : (b : Bool) → eqb front (loaded (take 8 (wordAt StateWord 1))) ≡ b → stateTold front ≤ 2
+    go true e = omega (arith, ap stateTold (eqb-true front (loaded (take 8 (wordAt StateWord 1))) e) ∙ word-told 1 (omega arith))
+    go false e = unfold stateTold in rw e (omega (arith, twice (eqb front (loaded (take 8 (wordAt StateWord 2))))))
 
-    second : (b : Bool) → eqList t (wordAt StateWord 0) ≡ false → eqList t (wordAt StateWord 1) ≡ b → stateSaid t ≤ 3
-    second true f e = said 1 (omega arith) e
-    second false f e = unfold stateSaid in rw (f, e) (omega (arith, third (eqList t (wordAt StateWord 2))))
-
-    first : (b : Bool) → eqList t (wordAt StateWord 0) ≡ b → stateSaid t ≤ 3
-    first true e = said 0 (omega arith) e
-    first false e = second (eqList t (wordAt StateWord 1)) e refl
-
--- the kind of a line by its state word's number, with 1 more over a version
-abbrev pub kindBy : (said : ℕ) (nothing : Bool) → ℕ
-kindBy said nothing = said - 1 + bit (not nothing)
+-- the kind by the number of a line's state word, one more over a version
+abbrev pub kindBy : (state : ℕ) (nothing : Bool) → ℕ
+kindBy state nothing = state + bit (not nothing)
 
 abbrev pub kindFor : (state before : ℕ) → ℕ
-kindFor state before = kindBy (suc state) (eqb before 0)
+kindFor state before = kindBy state (eqb before 0)
 
 -- the rule that a row of numbers keeps by its state
 abbrev pub rule : List ℕ → Bool
@@ -176,22 +180,41 @@ module _ (v : List ℕ) where
   Ruled : (state before : ℕ) → Type 0
   Ruled s b = rule v ≡ (all (keeps v) (kindLimits (kindFor s b)) && rowFollows (kindFor s b) v)
 
+  -- only PREPARED may be over a version
+  strays : (s b : ℕ) → getD v 5 0 ≡ s → getD v 10 0 ≡ suc b → s ≤ 1 → rule v ≡ false
+  unfolding stateOf recordOf imageFrom isZero absentRule committedRule words bytes
+  strays zero b e f l = rw (e, f) (simp (eqb·suc-zero, and-false))
+  strays (suc zero) b e f l = rw (e, f) (simp (eqb·suc-zero, and-false))
+  strays (suc (suc s)) b e f l = absurd (omega arith)
+
   by-numbers : (s b : ℕ) → getD v 5 0 ≡ s → getD v 10 0 ≡ b → s ≤ 2 → Ruled s b
   unfolding stateOf recordOf imageFrom isZero absentRule committedRule preparedRule all keeps kindLimits absentLimits firstLimits preparedLimits committedLimits words bytes Ruled
   by-numbers zero zero e f l = rw (e, f) (simp (none, and-assoc, and-true))
   by-numbers zero (suc b) e f l =
-      let left : rule v ≡ false = rw (e, f) (simp (eqb·suc-zero, and-false)) in
       let right : all (keeps v) committedLimits ≡ false = fails (keeps v) (atLeast 5 1) (drop 1 committedLimits) (ap (leb 1) e) in
-      rw (eqb·suc-zero b) (left ∙ sym (ap (λ (x : Bool). x && true) right))
+      rw (eqb·suc-zero b) (strays 0 b e f (omega arith) ∙ sym (ap (λ (x : Bool). x && true) right))
   by-numbers (suc zero) zero e f l = rw (e, f) (simp (none, and-assoc, and-true))
   by-numbers (suc zero) (suc b) e f l =
-      let left : rule v ≡ false = rw (e, f) (simp (eqb·suc-zero, and-false)) in
       let right : all (keeps v) firstLimits ≡ false = fails (keeps v) (atLeast 5 2) (drop 1 firstLimits) (ap (leb 2) e) in
-      rw (eqb·suc-zero b) (left ∙ sym (ap (λ (x : Bool). x && true) right))
+      rw (eqb·suc-zero b) (strays 1 b e f (omega arith) ∙ sym (ap (λ (x : Bool). x && true) right))
   by-numbers (suc (suc zero)) zero e f l = rw (e, f) (simp (one, none, and-assoc, and-true))
   by-numbers (suc (suc zero)) (suc b) e f l =
       rw (f, eqb·suc-zero b, e, le-leb 1 (suc b) (omega arith)) (simp (and-assoc, and-true))
   by-numbers (suc (suc (suc s))) b e f l = absurd (omega arith)
+
+  -- the word of a line's kind is that of its state
+  word-by-numbers : (s b : ℕ) → getD v 5 0 ≡ s → getD v 10 0 ≡ b → s ≤ 2 → rule v ≡ true → kindWord (kindFor s b) ≡ wordAt StateWord s
+  unfolding kindWords words bytes
+  word-by-numbers zero zero e f l g = refl
+  word-by-numbers zero (suc b) e f l g = absurd (true≢false (sym g ∙ strays 0 b e f (omega arith)))
+  word-by-numbers (suc zero) zero e f l g = refl
+  word-by-numbers (suc zero) (suc b) e f l g = absurd (true≢false (sym g ∙ strays 1 b e f (omega arith)))
+  word-by-numbers (suc (suc zero)) zero e f l g = refl
+  word-by-numbers (suc (suc zero)) (suc b) e f l g = rw (eqb·suc-zero b)
+  word-by-numbers (suc (suc (suc s))) b e f l g = absurd (omega arith)
+
+  pub kind-word : getD v 5 0 ≤ 2 → rule v ≡ true → kindWord (kindFor (getD v 5 0) (getD v 10 0)) ≡ wordAt StateWord (getD v 5 0)
+  kind-word l g = word-by-numbers (getD v 5 0) (getD v 10 0) refl refl l g
 
   -- with the clock's bound
   pub kind-rule : getD v 5 0 ≤ 2

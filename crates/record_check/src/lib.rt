@@ -4,17 +4,20 @@ ghost use mathlib.Core.Path.{_≡_};
 ghost use mathlib.Core.Bool.{true, cond};
 ghost use lib.Dec.{eqb};
 ghost use Prim.Native.Nat.{_+_, _-_, _*_, _^_, _≤_, _<_};
-ghost use lib.ListN.{length, take, drop};
+ghost use lib.ListN.{length, drop};
 ghost use Rattle.model.specs.Records.{recordsAccepted};
 ghost use Rattle.places.specs.Parts.{partsOk};
 ghost use Rattle.record_check.specs.Figures.{figureAt};
-ghost use Rattle.record_check.specs.States.{kindParts, stateSaid, kindBy};
+ghost use Rattle.record_check.specs.States.{kindParts, kindWords};
 ghost use Rattle.record_check.specs.Relations.{highestClock, clockFits, follows};
-ghost use Rattle.record_check.specs.Line.{lineGood, overNothing};
+ghost use Rattle.record_check.specs.Line.{lineGood, kindOf};
 ghost use Rattle.record_check.specs.Sheet.{keyBefore, linesPass};
 ghost use Rattle.record_check.specs.Tables.{tables};
 
-// The tables of each kind of line, ABSENT, COMMITTED, PREPARED over nothing and PREPARED over a version, in three rows of 97 bytes: for each place but
+// The state word of each kind of line, in ten bytes: ABSENT, COMMITTED, PREPARED over nothing and PREPARED over a version.
+const WORDS: [u8; 40] = *b"    ABSENT COMMITTED  PREPARED  PREPARED";
+
+// The tables of each kind of line, in three rows of 97 bytes: for each place but
 // LF the lowest byte, which may not follow a space, the highest, and one more that may follow a space. A fixed byte is all three, so zeros and
 // blank columns are judged in the same pass as the figures.
 const TABLES: [u8; 1164] = *b"\
@@ -31,30 +34,20 @@ const TABLES: [u8; 1164] = *b"\
 \x209 99 99 99999 99999  PREPARED 99999 999 99999999 99999999 99999 999 99999999 99999999 9999999999\
 \x209  9  9     0     0  PREPARED     0   9        0        0     0   0        0        0          0";
 
-// The number of the state word at `at`, 1 for ABSENT, 2 for COMMITTED, 3 for PREPARED, and 0 where none of them stands. The answers are counted, so that
-// no branch depends on what the line says.
-fn state(line: &[u8], at: usize) -> u8
-    requires { ⌜ at + 10 ≤ length (now line) ⌝ }
-    ensures { λ r. ⌜ r ≡ stateSaid (take 10 (drop at (now (line .entry)))) ⌝ }
-    ensures { λ r. ⌜ r ≤ 3 ⌝ }
-{
-    let absent = places::ten_equal(line, at, b"    ABSENT");
-    let committed = places::ten_equal(line, at, b" COMMITTED");
-    let prepared = places::ten_equal(line, at, b"  PREPARED");
-    places::bit(absent) + places::bit(committed) * 2 + places::bit(prepared) * 3
-}
-
-// The number of the kind of a line of this state, if it is good: one more over a version, which only PREPARED may have.
-fn kind(line: &[u8], state: u8) -> usize
+// The number of the kind whose state word the line has, if it is good. The first eight bytes tell the words apart, and before version whether it is one
+// more. It is counted, so that its tables are found without a branch on what the line says.
+fn kind(line: &[u8], words: &[u8]) -> usize
     requires { ⌜ length (now line) ≡ 98 ⌝ }
-    requires { ⌜ 1 ≤ state ⌝ }
-    requires { ⌜ state ≤ 3 ⌝ }
-    ensures { λ r. ⌜ r ≡ kindBy state (overNothing (now (line .entry))) ⌝ }
+    requires { ⌜ now words ≡ kindWords ⌝ }
+    ensures { λ r. ⌜ r ≡ kindOf (now (line .entry)) ⌝ }
     ensures { λ r. ⌜ r < 4 ⌝ }
 {
+    let front = places::load_eight(line, 20);
+    let committed = front == places::load_eight(words, 10);
+    let prepared = front == places::load_eight(words, 20);
     // before version 0, the bytes `     0`
     let nothing = places::load_six(line, 58) == 0x3020_2020_2020;
-    let kind = state - 1 + places::bit(!nothing);
+    let kind = places::bit(committed) + places::bit(prepared) * 2 + places::bit(!nothing);
     kind as usize
 }
 
@@ -109,19 +102,19 @@ fn version_follows(line: &[u8], kind: usize) -> bool
     places::load_six(line, 30) == places::load_six(line, 58) + 0x0100_0000_0000
 }
 
-// Whether the line can be read and its record is good alone. Its state word is one of the three, and the tables say all else but how the versions of a
+// Whether the line can be read and its record is good alone: its state word is that of a kind, and the tables say all else but how the versions of a
 // PREPARED line stand to each other, and that the clock is at most 4294967295. The end of the line, LF included, orders as the clock does.
-fn line_good(line: &[u8], lent: &[u8], highest: &[u8]) -> bool
+fn line_good(line: &[u8], words: &[u8], lent: &[u8], highest: &[u8]) -> bool
     requires { ⌜ length (now line) ≡ 98 ⌝ }
+    requires { ⌜ now words ≡ kindWords ⌝ }
     requires { ⌜ now lent ≡ tables ⌝ }
     requires { ⌜ now highest ≡ highestClock ⌝ }
     ensures { λ r. ⌜ r ≡ lineGood (now (line .entry)) ⌝ }
 {
-    let state = state(line, 20);
-    if state == 0 {
+    let kind = kind(line, words);
+    if !places::ten_equal(line, 20, words, kind * 10) {
         return false;
     }
-    let kind = kind(line, state);
     if !stands(line, lent, kind) {
         return false;
     }
@@ -146,8 +139,9 @@ fn key_rises(s: &[u8], i: usize, n: usize) -> bool
 }
 
 // Whether each of the n lines is good, and keys rise.
-fn lines_pass(s: &[u8], n: usize, lent: &[u8], highest: &[u8]) -> bool
+fn lines_pass(s: &[u8], n: usize, words: &[u8], lent: &[u8], highest: &[u8]) -> bool
     requires { ⌜ length (now s) ≡ n * 98 ⌝ }
+    requires { ⌜ now words ≡ kindWords ⌝ }
     requires { ⌜ now lent ≡ tables ⌝ }
     requires { ⌜ now highest ≡ highestClock ⌝ }
     ensures { λ r. ⌜ r ≡ linesPass n (now (s .entry)) ⌝ }
@@ -156,7 +150,7 @@ fn lines_pass(s: &[u8], n: usize, lent: &[u8], highest: &[u8]) -> bool
     while i < n {
         let at = i * 98;
         let end = at + 98;
-        if !line_good(&s[at..end], lent, highest) {
+        if !line_good(&s[at..end], words, lent, highest) {
             return false;
         }
         if !key_rises(s, i, n) {
@@ -182,6 +176,7 @@ pub fn records_ok(records: &[u8]) -> bool
         return false;
     }
     // bound once for the sheet and lent: a constant is built anew wherever it is named
+    let words = WORDS;
     let lent = TABLES;
-    lines_pass(records, n, &lent, b" 4294967295\n")
+    lines_pass(records, n, &words, &lent, b" 4294967295\n")
 }

@@ -1,12 +1,8 @@
--- The law on two parts, of eight and of two bytes; the second text is the ten bytes whole.
+-- The law on two parts, of eight and of two bytes.
 use Prim.Native.Nat.{ℕ, _<_}
-use mathlib.Core.Path.{ap, _∙_}
-use mathlib.Core.List.{List}
 use native.Mathlib.Omega.{arith}
-use lib.ListN.{getD, take, drop}
-use lib.Seq.{take-all}
+use lib.ListN.{getD}
 use borrow.Author.Needs.{needs}
-use Rattle.lists.specs.Bytes.{eqList}
 use Rattle.places.specs.Loads.{split-equal}
 use Rattle.places.proofs.ten_equal.Statement.{statement}
 use Rattle.places.proofs.ten_equal.Tie as tie
@@ -23,6 +19,9 @@ add-load-two c = search needs
 load-two-requires : tie.Need-load-two-requires
 load-two-requires c κs = search needs
 
+add-load-two-2 : tie.Need-add-load-two-2
+add-load-two-2 c = search needs
+
 load-two-requires-2 : tie.Need-load-two-requires-2
 load-two-requires-2 c κs = search needs
 
@@ -30,12 +29,11 @@ returns : tie.Need-returns
 returns c =
     let k = c .before .before .before .before .before .before in
     let s = k .args .s .now in
-    let t = k .args .word .now in
+    let t = k .args .t .now in
     let of-s : (i : ℕ) → getD s i 0 < 256 = λ i. c .before .before .before .before .before .shared-slice-known .given i .fits in
     let of-t : (i : ℕ) → getD t i 0 < 256 = λ i. c .before .before .before .before .shared-slice-known2 .given i .fits in
     rw (c .load-two2 .ensures, c .before .load-two .ensures, c .before .before .load-eight2 .ensures, c .before .before .before .load-eight .ensures)
-    (split-equal s t of-s of-t 8 2 (k .args .at) 0 (omega arith) (omega arith)
-    ∙ ap (eqList (take 10 (drop (k .args .at) s))) (take-all 10 t (omega arith)))
+    (split-equal s t of-s of-t 8 2 (k .args .a) (k .args .b) (omega arith) (omega arith))
 
 pub ten-equal-spec : {M : Type 1} → statement M
 ten-equal-spec =
@@ -45,5 +43,6 @@ ten-equal-spec =
     load-eight-requires-2
     add-load-two
     load-two-requires
+    add-load-two-2
     load-two-requires-2
     returns)

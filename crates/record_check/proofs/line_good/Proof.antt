@@ -1,5 +1,5 @@
--- The law on a line, test by test: a line without a state word is not good, each later test that fails makes the answer false, and past them the clock
--- is the answer.
+-- The law on a line, test by test: a line that has not the word of its kind is not good, each later test that fails makes the answer false, and past them
+-- the clock is the answer.
 use mathlib.Core.Path.{_≡_, sym, ap, _∙_}
 use mathlib.Core.Bool.{true, _&&_, cond, and-false}
 use lib.Dec.{eqb}
@@ -9,40 +9,50 @@ use borrow.Author.Tests.{not-true, not-false}
 use borrow.Author.Needs.{needs}
 use Rattle.lists.specs.Bytes.{bytes}
 use Rattle.places.specs.Parts.{partsOk}
-use Rattle.record_check.specs.States.{kindParts}
+use Rattle.record_check.specs.States.{kindParts, words-length}
 use Rattle.record_check.specs.Relations.{highestClock, clockFits, follows}
-use Rattle.record_check.specs.Line.{lineGood, kindOf, wordless, line-is}
+use Rattle.record_check.specs.Line.{lineGood, wordHeld, wordless, line-is}
 use Rattle.record_check.proofs.line_good.Statement.{statement}
 use Rattle.record_check.proofs.line_good.Tie as tie
 
-state-requires : tie.Need-state-requires
-state-requires c κs = search needs
+kind-requires : tie.Need-kind-requires
+kind-requires c κs = search needs
+
+mul-ten-equal : tie.Need-mul-ten-equal
+mul-ten-equal c = search needs
+
+ten-equal-requires : tie.Need-ten-equal-requires
+ten-equal-requires c κs =
+    let l = ap length (c .before .before .before .before .before .pre .1 .0) ∙ words-length in
+    (omega arith, omega arith)
+
+-- the word compared is that of the line's kind
+held : (c : tie.After-ten-equal) → c .ten-equal .result ≡ wordHeld (c .before .before .before .before .before .before .args .line .now)
+held c =
+    rw (c .before .kind .ensures .0, c .before .before .before .before .before .before .pre .1 .0) at (c .ten-equal .ensures)
 
 returns : tie.Need-returns
 returns c =
-    let k = c .before .before .before .before in
-    sym (wordless (k .before .args .line .now) (λ i. k .shared-slice-known .given i .fits) (sym (c .before .state .ensures .0) ∙ c .if1 .taken))
-
-kind-requires : tie.Need-kind-requires
-kind-requires c κs = search needs
+    let k = c .before .before .before .before .before .before in
+    let f = sym (held (c .before)) ∙ not-true (c .before .ten-equal .result) (c .if1 .taken) in
+    sym (wordless (k .before .args .line .now) (λ i. k .shared-slice-known .given i .fits) f)
 
 stands-requires : tie.Need-stands-requires
 stands-requires c κs = search needs
 
 -- the law on a line, of the kind that was found
 law : (c : tie.After-kind)
-    → let line = c .before .before .before .before .before .before .args .line .now in
+    → let line = c .before .before .before .before .before .args .line .now in
     let k = c .kind .result in
     lineGood line ≡ (partsOk (kindParts k) line && (cond (eqb k 3) (follows line) true && clockFits line))
-unfolding kindOf
 law c =
-    let k = c .before .before .before .before .before in
-    rw (c .kind .ensures .0, c .before .before .state .ensures .0) (line-is (k .before .args .line .now) (λ i. k .shared-slice-known .given i .fits))
+    let k = c .before .before .before .before in
+    rw (c .kind .ensures .0) (line-is (k .before .args .line .now) (λ i. k .shared-slice-known .given i .fits))
 
 returns-2 : tie.Need-returns-2
 returns-2 c =
     let f = sym (c .before .stands .ensures) ∙ not-true (c .before .stands .result) (c .if2 .taken) in
-    rw (law (c .before .before), f)
+    rw (law (c .before .before .before .before), f)
 
 version-follows-requires : tie.Need-version-follows-requires
 version-follows-requires c κs = search needs
@@ -50,13 +60,13 @@ version-follows-requires c κs = search needs
 returns-3 : tie.Need-returns-3
 returns-3 c =
     let f = sym (c .before .version-follows .ensures) ∙ not-true (c .before .version-follows .result) (c .if3 .taken) in
-    rw (law (c .before .before .before .before), f, and-false)
+    rw (law (c .before .before .before .before .before .before), f, and-false)
 
 twelve-less-requires : tie.Need-twelve-less-requires
 unfolding highestClock bytes
 twelve-less-requires c κs =
-    let k = c .before .before .before .before .before .before .before .before .before .before in
-    let l : length (k .args .highest .now) ≡ 12 = ap length (k .pre .1 .1) in
+    let k = c .before .before .before .before .before .before .before .before .before .before .before in
+    let l : length (k .args .highest .now) ≡ 12 = ap length (k .pre .1 .1 .1) in
     (omega arith, omega arith)
 
 returns-4 : tie.Need-returns-4
@@ -64,18 +74,19 @@ unfolding clockFits highestClock bytes
 returns-4 c =
     let stood = c .before .before .before .before .stands in
     let followed = c .before .before .version-follows in
-    let k = c .before .before .before .before .before in
+    let k = c .before .before .before .before .before .before .before in
     let s = sym (stood .ensures) ∙ not-false (stood .result) (c .before .before .before .if2 .left) in
     let f = sym (followed .ensures) ∙ not-false (followed .result) (c .before .if3 .left) in
-    rw (law k, s, f, c .twelve-less .ensures, k .before .before .before .before .before .before .pre .1 .1)
+    rw (law k, s, f, c .twelve-less .ensures, k .before .before .before .before .before .pre .1 .1 .1)
 
 pub line-good-spec : {M : Type 1} → statement M
 line-good-spec =
     tie.close
     (tie.spec
-    state-requires
-    returns
     kind-requires
+    mul-ten-equal
+    ten-equal-requires
+    returns
     stands-requires
     returns-2
     version-follows-requires

@@ -15,7 +15,7 @@ use Rattle.places.specs.Places.{columns, partPlaces, places, lows, highs, alsos
 use Rattle.record_check.specs.Ranges.{opened}
 use Rattle.record_check.specs.LayoutParts.{columnPart, layoutParts}
 use Rattle.record_check.specs.Limits.{narrowed, limited}
-use Rattle.record_check.specs.States.{absentLimits, firstLimits, preparedLimits, committedLimits, kindLimits, openLayout, kindParts}
+use Rattle.record_check.specs.States.{absentLimits, firstLimits, preparedLimits, committedLimits, kindLimits, openLayout, kindParts, kindWords}
 use Rattle.record_check.specs.Relations.{highestClock}
 use Rattle.record_check.specs.Tables.{middle, body, rows, tables}
 use Rattle.record_check.specs.Sheet.{sheetSized, accepted-is}
@@ -49,14 +49,17 @@ slice-aggregate-lines-pass c = search needs
 slice-aggregate-lines-pass-2 : tie.Need-slice-aggregate-lines-pass-2
 slice-aggregate-lines-pass-2 c = search needs
 
+slice-aggregate-lines-pass-3 : tie.Need-slice-aggregate-lines-pass-3
+slice-aggregate-lines-pass-3 c = search needs
+
 lines-pass-requires : tie.Need-lines-pass-requires
-unfolding tables rows joined lows highs alsos middle body places partPlaces columns kindParts kindLimits layoutParts columnPart limited narrowed absentLimits firstLimits preparedLimits committedLimits openLayout opened recordLayout fieldBytes fieldText ahead words bytes highestClock
-lines-pass-requires c κs = (sym (c .before .before .before .before .if1 .left), (refl, refl))
+unfolding kindWords tables rows joined lows highs alsos middle body places partPlaces columns kindParts kindLimits layoutParts columnPart limited narrowed absentLimits firstLimits preparedLimits committedLimits openLayout opened recordLayout fieldBytes fieldText ahead words bytes highestClock
+lines-pass-requires c κs = (sym (c .before .before .before .before .before .if1 .left), (refl, (refl, refl)))
 
 returns-4 : tie.Need-returns-4
 unfolding sheetSized
 returns-4 c =
-    let k = c .before .before .before .before .before in
+    let k = c .before .before .before .before .before .before in
     let s = k .before .before .args .records .now in
     let n = length s / 98 in
     rw (accepted-is s, eq-eqb (length s) (n * 98) (sym (k .if1 .left)), le-leb 1 n (omega arith), le-leb n 500 (omega arith))
@@ -72,5 +75,6 @@ records-ok-spec =
     returns-3
     slice-aggregate-lines-pass
     slice-aggregate-lines-pass-2
+    slice-aggregate-lines-pass-3
     lines-pass-requires
     returns-4)
