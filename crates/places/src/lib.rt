@@ -109,7 +109,7 @@ pub fn load_eight(s: &[u8], at: usize) -> u64
 }
 
 // The two bytes at `at` as one number, the first byte weighing least.
-fn load_two(s: &[u8], at: usize) -> u64
+pub fn load_two(s: &[u8], at: usize) -> u64
     requires { ⌜ at + 2 ≤ length (now s) ⌝ }
     ensures { λ r. ⌜ r ≡ loaded (take 2 (drop at (now (s .entry)))) ⌝ }
 {

@@ -1,18 +1,21 @@
 -- A line of the record sheet, as the code judges it: the parts of its kind, how its versions stand to each other, and the clock. Both this and the
 -- plain rule are the line read by the widest ranges, with limits on its numbers. In a line that can be read, the bytes that tell its kind
 -- are those of its state and its before version.
-use Prim.Native.Nat.{ℕ, _<_, _≤_}
+use Prim.Native.Nat.{ℕ, _+_, _/_, _%_, _<_, _≤_}
 use mathlib.Core.Path.{_≡_, refl, sym, ap, ap₂, _∙_}
 use mathlib.Core.Bool.{Bool, true, false, _&&_, cond, true≢false, and-assoc}
 use mathlib.Core.List.{List, map}
 use native.Mathlib.Omega.{arith}
 use lib.ListN.{length, take, drop, getD, length-take, length-drop}
-use lib.Seq.{take-take}
+use lib.Seq.{take-take, drop-drop}
 use lib.Dec.{eqb}
-use Rattle.lists.specs.Tests.{and-fst, and-snd, and-same, same-test, tests}
+use borrow.Author.Tests.{eqb-true, eq-eqb}
+use Rattle.lists.specs.Tests.{and-fst, and-snd, and-same, same-test, tests, choose-by}
 use Rattle.lists.specs.Bytes.{bytes, eqList, eqList-refl}
 use Rattle.lists.specs.Each.{all}
-use Rattle.decimal.specs.Field.{scanned, stepped}
+use Rattle.lists.specs.Pieces.{take-drop-take}
+use Rattle.decimal.specs.Field.{ahead, fieldText}
+use Rattle.decimal.specs.Laws.{scan-written}
 use Rattle.types.specs.declared.Kind.the-variants.{StateWord}
 use Rattle.model.specs.Layouts.{recordLayout, words, wordAt, noColumn}
 use Rattle.model.specs.Lines.{fieldValue, fieldBytes, wordFrom, inRange, rowOf, lineSet, rowGood}
@@ -25,7 +28,6 @@ use Rattle.places.specs.Order.{part-bytes}
 use Rattle.places.specs.Loads.{loaded, loaded-equal}
 use Rattle.record_check.specs.Ranges.{opened, lineHeld, set-is-held, same-row}
 use Rattle.record_check.specs.Figures.{scan-of}
-use Rattle.record_check.specs.Keys.{equal-bytes}
 use Rattle.record_check.specs.Limits.{keeps, limited-line, limited-parts}
 use Rattle.record_check.specs.States.{kindLimits, openLayout, clockLimit, kindParts, kind-says, record-opens, clock-narrow, clock-limited, kindWord, stateTold, word-told, kindBy, kindFor, rule, kind-rule, kind-word}
 use Rattle.record_check.specs.Relations.{clockFits, follows, widest, clock-fits, follows-is}
@@ -34,16 +36,16 @@ use Rattle.record_check.specs.Relations.{clockFits, follows, widest, clo
 unfoldable pub lineGood : List ℕ → Bool
 lineGood line = lineSet recordLayout line && goodAlone (recordIn line)
 
--- before version 0, in its columns
+-- the last two columns of before version 0
 unfoldable pub nothing : List ℕ
-nothing = bytes "     0"
+nothing = bytes " 0"
 
 -- the state that the first bytes of the line's word tell
 abbrev pub stateIn : List ℕ → ℕ
 stateIn line = stateTold (loaded (take 8 (drop 20 line)))
 
 abbrev pub overNothing : List ℕ → Bool
-overNothing line = eqList (take 6 (drop 58 line)) nothing
+overNothing line = eqList (take 2 (drop 62 line)) nothing
 
 -- the kind that the line is of, if it is good
 unfoldable pub kindOf : List ℕ → ℕ
@@ -53,12 +55,22 @@ kindOf line = kindBy (stateIn line) (overNothing line)
 abbrev pub wordHeld : List ℕ → Bool
 wordHeld line = eqList (take 10 (drop 20 line)) (kindWord (kindOf line))
 
--- before version as one number
+-- the two columns as one number
 pub nothing-is : (line : List ℕ) → ((i : ℕ) → getD line i 0 < 256) → length line ≡ 98
-    → eqb (loaded (take 6 (drop 58 line))) 52914536063008 ≡ overNothing line
+    → eqb (loaded (take 2 (drop 62 line))) 12320 ≡ overNothing line
 unfolding nothing bytes loaded
 nothing-is line h n =
-    loaded-equal (take 6 (drop 58 line)) (bytes "     0") (part-bytes line 6 58 h) refl (simp (length-take, length-drop) (omega arith))
+    loaded-equal (take 2 (drop 62 line)) (bytes " 0") (part-bytes line 2 62 h) refl (simp (length-take, length-drop) (omega arith))
+
+-- a figure of six columns ends in them where it is 0
+ends-nothing : (v : ℕ) → eqList (take 2 (drop 4 (fieldText 6 v))) nothing ≡ eqb v 0
+unfolding nothing bytes eqList fieldText ahead
+ends-nothing v =
+    same-test (eqList (take 2 (drop 4 (fieldText 6 v))) (bytes " 0")) (eqb v 0)
+    (choose-by (λ (x : ℕ). (eqb x 32 && (eqb (48 + v % 10) 48 && true)) ≡ true → eqb v 0 ≡ true) (eqb (v / 10) 0)
+    (λ e h. let z : 48 + v % 10 ≡ 48 = search tests in let q : v / 10 ≡ 0 = eqb-true (v / 10) 0 e in eq-eqb v 0 (omega arith))
+    (λ e h. let y : 48 + v / 10 % 10 ≡ 32 = search tests in absurd (omega arith)))
+    (λ e. let z : v ≡ 0 = eqb-true v 0 e in rw z)
 
 module _ (line : List ℕ) (of-bytes : (i : ℕ) → getD line i 0 < 256) where
   row : List ℕ
@@ -87,14 +99,17 @@ module _ (line : List ℕ) (of-bytes : (i : ℕ) → getD line i 0 < 256) where
       (r .0, few)
 
   before-nothing : lineSet widest line ≡ true → overNothing line ≡ eqb (getD row 10 0) 0
-  unfolding row nothing bytes scanned stepped fieldAt offset opened recordLayout lineBytes
+  unfolding row fieldAt offset opened recordLayout lineBytes
   before-nothing h =
       let t = take 6 (drop 58 line) in
       let v = getD row 10 0 in
       let whole : length line ≡ 98 = line-length widest line h in
-      equal-bytes t (bytes "     0") v 0
-      (scan-of (getD widest 10 noColumn) t v refl (field-at 10 widest line (omega arith) h)) refl
-      (simp (length-take, length-drop) (omega arith))
+      let long : length t ≡ 6 = simp (length-take, length-drop) (omega arith) in
+      let written = scan-written t v (scan-of (getD widest 10 noColumn) t v refl (field-at 10 widest line (omega arith) h)) in
+      let text : t ≡ fieldText 6 v = rw long at (written .0) in
+      let last : take 2 (drop 62 line) ≡ take 2 (drop 4 t) =
+      sym (take-drop-take 2 4 6 (drop 58 line) (omega arith) ∙ ap (take 2) (drop-drop 4 58 line)) in
+      ap (λ (u : List ℕ). eqList u nothing) (last ∙ ap (λ (u : List ℕ). take 2 (drop 4 u)) text) ∙ ends-nothing v
 
   state-is : lineSet widest line ≡ true → stateIn line ≡ getD row 5 0
   state-is h =

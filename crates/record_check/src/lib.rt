@@ -45,8 +45,8 @@ fn kind(line: &[u8], words: &[u8]) -> usize
     let front = places::load_eight(line, 20);
     let committed = front == places::load_eight(words, 10);
     let prepared = front == places::load_eight(words, 20);
-    // before version 0, the bytes `     0`
-    let nothing = places::load_six(line, 58) == 0x3020_2020_2020;
+    // before version 0 ends in the bytes ` 0`, and no other does
+    let nothing = places::load_two(line, 62) == 0x3020;
     let kind = places::bit(committed) + places::bit(prepared) * 2 + places::bit(!nothing);
     kind as usize
 }

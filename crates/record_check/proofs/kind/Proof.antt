@@ -1,4 +1,4 @@
--- Eight bytes of the line as a number are compared with those of the words lent, the six bytes with those of version 0, and the rest is what the definition
+-- Eight bytes of the line as a number are compared with those of the words lent, two of before version with ` 0`, and the rest is what the definition
 -- names.
 use Prim.Native.Nat.{_+_, _*_}
 use mathlib.Core.Path.{_≡_, ap, _∙_}
@@ -22,8 +22,8 @@ load-eight-requires-2 c κs = let l = ap length (c .before .before .before .pre 
 load-eight-requires-3 : tie.Need-load-eight-requires-3
 load-eight-requires-3 c κs = let l = ap length (c .before .before .before .before .pre .1) ∙ words-length in omega arith
 
-load-six-requires : tie.Need-load-six-requires
-load-six-requires c κs = search needs
+load-two-requires : tie.Need-load-two-requires
+load-two-requires c κs = search needs
 
 bit-requires : tie.Need-bit-requires
 bit-requires c κs = search needs
@@ -63,7 +63,7 @@ returns c =
       k .pre .1,
     ) in
     let n = nothing-is line (λ i. b .before .before .before .before .before .before .shared-slice-known .given i .fits) (k .pre .0) in
-    (rw (told, c .bit3 .ensures .0, b .before .load-six .ensures .0, n), omega (arith, told, told-few (loaded (take 8 (drop 20 line)))))
+    (rw (told, c .bit3 .ensures .0, b .before .load-two .ensures, n), omega (arith, told, told-few (loaded (take 8 (drop 20 line)))))
 
 pub kind-spec : {M : Type 1} → statement M
 kind-spec =
@@ -72,7 +72,7 @@ kind-spec =
     load-eight-requires
     load-eight-requires-2
     load-eight-requires-3
-    load-six-requires
+    load-two-requires
     bit-requires
     bit-requires-2
     mul-kind
