@@ -5,6 +5,7 @@ ghost use Rattle.model.specs.Records as sheet;
 ghost use Rattle.model.specs.Refusals.{refusalOf};
 ghost use Rattle.model.specs.Results.{refused};
 ghost use Rattle.model.specs.WellFormed.{wellFormed};
+ghost use Rattle.model.specs.Conditions.{notOpen};
 ghost use Rattle.model.specs.ByteCalls.{sheetsOf};
 ghost use Rattle.group_writes.specs.Placed.{Placed};
 ghost use Rattle.engine.specs.Answers.{stepped};
@@ -69,6 +70,24 @@ pub fn admission(t: Transaction, records: &[u8], coordinator: &[u8]) -> Admitted
     Admitted { refusal: 0, places }
 }
 
+// Refusal 4 of read and put, which want phase open.
+fn not_open(t: Transaction) -> bool
+    ensures { λ r. ⌜ r ≡ notOpen t ⌝ }
+{
+    let phase = t.phase;
+    match phase {
+        0 => false,
+        1 => true,
+        2 => true,
+        3 => true,
+        4 => true,
+        5 => true,
+        6 => true,
+        7 => true,
+        _ => true,
+    }
+}
+
 // 0, or the refusal of a call that wants an open transaction and names a key.
 pub fn open_admission(t: Transaction, key: Key, records: &[u8], coordinator: &[u8]) -> u32
     ensures { λ r. ⌜ r ≡ refusalOf (admittingOpen t key (now (records .entry)) (now (coordinator .entry))) ⌝ }
@@ -77,7 +96,7 @@ pub fn open_admission(t: Transaction, key: Key, records: &[u8], coordinator: &[u
     if admitted.refusal != 0 {
         return admitted.refusal;
     }
-    if t.phase != 0 {
+    if not_open(t) {
         return 4;
     }
     if !sheets::lookup::key_in_range(key) {
