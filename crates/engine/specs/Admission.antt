@@ -1,12 +1,17 @@
 -- What is asked before a call looks into a transaction, as one list of conditions: its refusal is the call's, and a transaction that passes has the rest of the
 -- call's conditions before it.
 use Prim.Native.Nat.{ℕ, _≤_}
-use mathlib.Core.Path.{_≡_, refl, sym, ap, ap₂, _∙_}
+use mathlib.Core.Path.{_≡_, refl, sym, ap, ap₂, _∙_, subst}
 use mathlib.Core.Bool.{Bool, true, false, _&&_, not, cond, true≢false}
 use mathlib.Core.List.{List, [], _∷_, _++_}
 use native.Mathlib.Omega.{arith}
 use lib.ListN.{take, drop}
-use borrow.Author.Tests.{not-false}
+use lib.Dec.{eqb}
+use mir.Val.{Val}
+use denote.Laws.{Is}
+use denote.Struct.Declared.{row}
+use borrow.Author.Tests.{ne-eqb, not-false}
+use Rattle.types.proofs.Transaction.{the-type}
 use Rattle.types.specs.declared.AtomicityUnit.{AtomicityUnit}
 use Rattle.types.specs.declared.Key.{Key}
 use Rattle.types.specs.declared.Transaction.{Transaction}
@@ -23,6 +28,7 @@ use Rattle.call_laws.specs.Choices.{unless-by, not-first}
 use Rattle.call_laws.specs.Transactions.{well-formed-parts}
 use Rattle.protocol.specs.Formed.{headFormed, head-few, formed-not}
 use Rattle.protocol.specs.Units.{unitsIn, units-said}
+use Rattle.group_writes.specs.Placed.{noPlaces, placesOf, Placed, placed-all}
 use Rattle.engine.specs.Answers.{stepped}
 use Rattle.engine.specs.Outcomes.{Accepted, accepted, unless-held, unless-free, written-nothing}
 
@@ -99,6 +105,10 @@ module _ (rs cs : List ℕ) (ps : List Condition) where
 unfoldable pub admitting : Transaction → List ℕ → List ℕ → List Condition
 admitting t rs cs = checkConditions rs cs ++ (refuse 3 (not (wellFormed (sheetsOf rs cs) t)) ∷ [])
 
+-- where the lines of the entries are, for a transaction that is admitted; no places for one that is refused
+abbrev pub placesAdmitted : Transaction → List ℕ → List ℕ → List ℕ
+placesAdmitted t rs cs = cond (eqb (refusalOf (admitting t rs cs)) 0) (placesOf (records rs) t (t .count)) noPlaces
+
 -- Read and put, which want an open transaction and name a key.
 unfoldable pub admittingOpen : Transaction → Key → List ℕ → List ℕ → List Condition
 admittingOpen t k rs cs =
@@ -141,6 +151,23 @@ module _ (t : Transaction) (rs cs : List ℕ) where
         formed = f;
         few = well-formed-parts (sheetsOf rs cs) t f .0 .few;
       }
+
+  -- the places that go with the refusal, or with none
+
+  pub places-away : (n : ℕ) → n ≡ refusalOf (admitting t rs cs) → (n ≡ 0 → ⊥) → noPlaces ≡ placesAdmitted t rs cs
+  places-away n e z =
+      sym
+      (ap (λ (m : ℕ). cond (eqb m 0) (placesOf (records rs) t (t .count)) noPlaces) (sym e)
+      ∙ ap (λ (b : Bool). cond b (placesOf (records rs) t (t .count)) noPlaces) (ne-eqb n 0 z))
+
+  pub places-done : 0 ≡ refusalOf (admitting t rs cs) → placesOf (records rs) t (t .count) ≡ placesAdmitted t rs cs
+  places-done e = ap (λ (m : ℕ). cond (eqb m 0) (placesOf (records rs) t (t .count)) noPlaces) e
+
+  pub admitted-placed : {vs : List Val} → Is (row the-type) t vs → Admitted t rs cs → (ps : List ℕ) → ps ≡ placesAdmitted t rs cs → Placed (records rs) t ps (t .count)
+  admitted-placed p a ps e =
+      subst (λ (x : List ℕ). Placed (records rs) t x (t .count))
+      (places-done (admit-done (a .accepted .passing) (a .formed)) ∙ sym e)
+      (placed-all (records rs) t p (a .few) (well-formed-parts (sheetsOf rs cs) t (a .formed) .0 .lines))
 
   -- what is left to ask
   pub admitted-result : {A : Type 0} (ps : List Condition) (r : Result A) → Admitted t rs cs → unless (checkConditions rs cs) (unless (refuse 3 (not (wellFormed (sheetsOf rs cs) t)) ∷ ps) r) ≡ unless ps r

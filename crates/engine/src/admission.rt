@@ -1,43 +1,40 @@
 // What is asked before a call looks into a transaction: refusals 1 to 3, and 4 and 5 of read and put. And what a refused call answers.
 ghost use mathlib.Core.Path.{_≡_};
-ghost use mathlib.Core.Bool.{true};
 ghost use Rattle.model.specs.Records as sheet;
 ghost use Rattle.model.specs.Refusals.{refusalOf};
 ghost use Rattle.model.specs.Results.{refused};
 ghost use Rattle.model.specs.WellFormed.{wellFormed};
 ghost use Rattle.model.specs.Conditions.{notOpen};
 ghost use Rattle.model.specs.ByteCalls.{sheetsOf};
-ghost use Rattle.group_writes.specs.Placed.{Placed};
+ghost use Rattle.group_writes.specs.Placed.{locatedIf};
 ghost use Rattle.engine.specs.Answers.{stepped};
 ghost use Rattle.engine.specs.Outcomes.{Accepted};
-ghost use Rattle.engine.specs.Admission.{admitting, admittingOpen};
+ghost use Rattle.engine.specs.Admission.{admitting, admittingOpen, placesAdmitted};
 use crate::Stepped;
+use group_writes::lines;
 use group_writes::lines::Located;
 use types::Key;
 use types::Transaction;
 
-// A refusal or 0, and then where the lines of the transaction's entries are.
+// A refusal or 0, and then where the lines of the transaction's entries are; no places beside a refusal.
 pub struct Admitted {
     pub refusal: u32,
     pub places: [usize; 8],
 }
 
-const NO_PLACES: [usize; 8] = [0, 0, 0, 0, 0, 0, 0, 0];
-
 // Whether the transaction is well formed, and where its lines are. The unit letters are bytes 5 to 13 of an accepted coordinator sheet.
 fn well_formed(t: Transaction, records: &[u8], coordinator: &[u8]) -> Located
     requires { ⌜ Accepted (now records) (now coordinator) ⌝ }
-    ensures formed { λ r. ⌜ r .all ≡ wellFormed (sheetsOf (now (records .entry)) (now (coordinator .entry))) t ⌝ }
-    ensures placed { λ r. ⌜ (r .all ≡ true → Placed (sheet.records (now (records .entry))) t (r .places) (t .count)) ⌝ }
+    ensures { λ r. ⌜ r ≡ locatedIf (wellFormed (sheetsOf (now (records .entry)) (now (coordinator .entry))) t) (sheet.records (now (records .entry))) t ⌝ }
 {
     let issued = codec::coordinator::issued(coordinator);
     if !protocol::well_formed::formed(&coordinator[5..14], issued, t) {
         return Located {
             all: false,
-            places: NO_PLACES,
+            places: lines::NO_PLACES,
         };
     }
-    group_writes::lines::locate(records, t)
+    lines::locate(records, t)
 }
 
 // A refused call gives its transaction back as it came.
@@ -53,13 +50,13 @@ pub fn refusal(n: u32, t: Transaction) -> Stepped
 // The refusal of every call that takes a transaction.
 pub fn admission(t: Transaction, records: &[u8], coordinator: &[u8]) -> Admitted
     ensures answer { λ r. ⌜ r .refusal ≡ refusalOf (admitting t (now (records .entry)) (now (coordinator .entry))) ⌝ }
-    ensures placed { λ r. ⌜ (r .refusal ≡ 0 → Placed (sheet.records (now (records .entry))) t (r .places) (t .count)) ⌝ }
+    ensures places { λ r. ⌜ r .places ≡ placesAdmitted t (now (records .entry)) (now (coordinator .entry)) ⌝ }
 {
     let checked = sheets::check::check(records, coordinator);
     if checked != 0 {
         return Admitted {
             refusal: checked,
-            places: NO_PLACES,
+            places: lines::NO_PLACES,
         };
     }
     let located = well_formed(t, records, coordinator);

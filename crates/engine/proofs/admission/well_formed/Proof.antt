@@ -1,9 +1,11 @@
 -- The letters of the head are the units of the decoded sheet.
-use mathlib.Core.Path.{sym, _∙_}
-use mathlib.Core.Bool.{true≢false}
+use mathlib.Core.Path.{sym, ap, _∙_}
+use mathlib.Core.Bool.{Bool}
 use native.Mathlib.Omega.{arith}
 use borrow.Author.Tests.{not-true, not-false}
 use borrow.Author.Needs.{needs}
+use Rattle.model.specs.Records.{records}
+use Rattle.group_writes.specs.Placed.{locatedIf}
 use Rattle.sheet_laws.specs.Decisions.{accepted-length}
 use Rattle.engine.specs.Admission.{well-formed-few, well-formed-not, well-formed-lines}
 use Rattle.engine.proofs.admission.well_formed.Statement.{statement}
@@ -25,13 +27,15 @@ formed-requires : tie.Need-formed-requires
 formed-requires c κs = search needs
 
 returns : tie.Need-returns
-returns c = (well-formed-not (c .before .before .before .before .before .before .args .t) (c .before .before .before .before .before .before .args .records .now) (c .before .before .before .before .before .before .args .coordinator .now) (c .before .before .before .before .before .before .pre) _ (c .before .before .before .issued .ensures) (sym (c .before .formed .ensures) ∙ not-true _ (c .if1 .taken)), λ e. absurd (true≢false (sym e)))
+returns c = let a = c .before .before .before .before .before .before .args in
+    ap (λ (b : Bool). locatedIf b (records (a .records .now)) (a .t)) (well-formed-not (a .t) (a .records .now) (a .coordinator .now) (c .before .before .before .before .before .before .pre) _ (c .before .before .before .issued .ensures) (sym (c .before .formed .ensures) ∙ not-true _ (c .if1 .taken)))
 
 locate-requires : tie.Need-locate-requires
 locate-requires c κs = (c .before .before .before .before .before .before .pre .lines, well-formed-few (c .before .before .before .before .before .before .args .t) (c .before .before .before .before .before .before .args .records .now) (c .before .before .before .before .before .before .args .coordinator .now) (c .before .before .before .before .before .before .pre) _ (c .before .before .before .issued .ensures) (sym (c .before .formed .ensures) ∙ not-false _ (c .if1 .left)))
 
 returns-2 : tie.Need-returns-2
-returns-2 c = (c .locate .ensures .0 ∙ well-formed-lines (c .before .before .before .before .before .before .before .args .t) (c .before .before .before .before .before .before .before .args .records .now) (c .before .before .before .before .before .before .before .args .coordinator .now) (c .before .before .before .before .before .before .before .pre) _ (c .before .before .before .before .issued .ensures) (sym (c .before .before .formed .ensures) ∙ not-false _ (c .before .if1 .left)), c .locate .ensures .1)
+returns-2 c = let a = c .before .before .before .before .before .before .before .args in
+    c .locate .ensures ∙ ap (λ (b : Bool). locatedIf b (records (a .records .now)) (a .t)) (well-formed-lines (a .t) (a .records .now) (a .coordinator .now) (c .before .before .before .before .before .before .before .pre) _ (c .before .before .before .before .issued .ensures) (sym (c .before .before .formed .ensures) ∙ not-false _ (c .before .if1 .left)))
 
 pub well-formed-spec : {M : Type 1} → statement M
 well-formed-spec =

@@ -2,7 +2,7 @@
 use Rattle.types.specs.declared.Decision.{Decision}
 use Rattle.engine.specs.Answers.{stepped}
 use Rattle.engine.specs.Outcomes.{outcome-refused}
-use Rattle.engine.specs.Admission.{admitted}
+use Rattle.engine.specs.Admission.{admitted, admitted-placed}
 use Rattle.engine.specs.Advancing.{forbids, advance-away, advance-forbidden, step-ready, step-outcome}
 use mathlib.Core.Path.{sym, ap, _∙_}
 use borrow.Author.Needs.{needs}
@@ -49,7 +49,9 @@ returns-2 : tie.Need-returns-2
 returns-2 c = let o = outcome-refused (stepped (c .before .before .before .before .before .before .before .before .before .before .before .before .args .t)) (c .before .before .before .before .before .before .before .before .before .before .before .before .args .records .now) (c .before .before .before .before .before .before .before .before .before .before .before .before .args .coordinator .now) 4 (advance-forbidden (c .before .before .before .before .before .before .before .before .before .before .before .before .args .t) (c .before .before .before .before .before .before .before .before .before .before .before .before .args .clock) (c .before .before .before .before .before .before .before .before .before .before .before .before .args .records .now) (c .before .before .before .before .before .before .before .before .before .before .before .before .args .coordinator .now) (admitted (c .before .before .before .before .before .before .before .before .before .before .before .before .args .t) (c .before .before .before .before .before .before .before .before .before .before .before .before .args .records .now) (c .before .before .before .before .before .before .before .before .before .before .before .before .args .coordinator .now) (sym (c .before .before .before .before .before .before .before .admission .ensures .0) ∙ c .before .before .before .before .before .if1 .left)) (ap (λ (d : Decision). forbids (c .before .before .before .before .before .before .before .before .before .before .before .before .args .t .phase) d) (sym (c .before .before .before .decision-at .ensures)) ∙ (sym (c .before .before .forbids .ensures) ∙ c .before .if2 .taken))) (c .refusal2 .ensures) in (o .said, (o .lines, o .decisions))
 
 step-requires : tie.Need-step-requires
-step-requires c κs = step-ready (c .before .before .before .before .before .before .before .before .before .before .before .before .before .before .args .t) (c .before .before .before .before .before .before .before .before .before .before .before .before .before .before .args .clock) (c .before .before .before .before .before .before .before .before .before .before .before .before .before .before .args .records .now) (c .before .before .before .before .before .before .before .before .before .before .before .before .before .before .args .coordinator .now) (admitted (c .before .before .before .before .before .before .before .before .before .before .before .before .before .before .args .t) (c .before .before .before .before .before .before .before .before .before .before .before .before .before .before .args .records .now) (c .before .before .before .before .before .before .before .before .before .before .before .before .before .before .args .coordinator .now) (sym (c .before .before .before .before .before .before .before .before .before .admission .ensures .0) ∙ c .before .before .before .before .before .before .before .if1 .left)) _ (c .before .before .before .before .before .before .before .before .before .admission .ensures .1 (c .before .before .before .before .before .before .before .if1 .left))
+step-requires c κs = let a = c .before .before .before .before .before .before .before .before .before .before .before .before .before .before .args in
+    let h = admitted (a .t) (a .records .now) (a .coordinator .now) (sym (c .before .before .before .before .before .before .before .before .before .admission .ensures .0) ∙ c .before .before .before .before .before .before .before .if1 .left) in
+    step-ready (a .t) (a .clock) (a .records .now) (a .coordinator .now) h _ (admitted-placed (a .t) (a .records .now) (a .coordinator .now) (c .before .before .before .before .before .before .before .before .before .before .before .before .before .before .good .0) h _ (c .before .before .before .before .before .before .before .before .before .admission .ensures .1))
 
 same-length-5 : tie.Need-same-length-5
 same-length-5 c = search needs

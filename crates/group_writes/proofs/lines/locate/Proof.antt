@@ -1,7 +1,6 @@
 -- Every entry before i has a line, at the place kept for it.
-use Prim.Native.Nat.{_-_, _<_}
-use mathlib.Core.Path.{_≡_, refl, sym, ap, _∙_}
-use mathlib.Core.Bool.{true≢false}
+use Prim.Native.Nat.{_-_}
+use mathlib.Core.Path.{_≡_, refl, sym, _∙_}
 use native.Mathlib.Omega.{arith}
 use lib.ListN.{length, length-set}
 use borrow.Author.Needs.{needs}
@@ -13,14 +12,14 @@ use Rattle.model.specs.Records.{hasLine, found}
 use Rattle.model.specs.WellFormed.{linesHeld}
 use Rattle.protocol.specs.Held.{PassedTo, entryAt, pass-first, all-unmet, all-next, all-last}
 use Rattle.group_writes.specs.Lookup.{has-line-at, has-no-line}
-use Rattle.group_writes.specs.Placed.{Placed, placed-none, placed-next}
+use Rattle.group_writes.specs.Placed.{placesOf, places-next, located-all, located-not}
 use Rattle.group_writes.proofs.lines.locate.Statement.{statement}
 use Rattle.group_writes.proofs.lines.locate.Tie as tie
 
 abbrev Inv-loop : tie.InvT-loop
 Inv-loop records t n places₀ i₀ places i =
     PassedTo t (all (λ (e : Entry). hasLine (e .key) (sheet.records records))) (linesHeld (sheet.records records) t) i
-    × ((length places ≡ 8) × Placed (sheet.records records) t places i)
+    × ((length places ≡ 8) × (places ≡ placesOf (sheet.records records) t i))
 
 abbrev μ-loop : tie.MeasureT-loop
 μ-loop records t n places₀ i₀ places i = n - i
@@ -29,8 +28,8 @@ cast-n : tie.Need-cast-n Inv-loop μ-loop
 cast-n c = search needs
 
 loop-holds : tie.Need-loop-holds Inv-loop μ-loop
-unfolding linesHeld
-loop-holds c = (pass-first _ _ (c .before .before .good .1 .0) (c .before .before .pre .1), (refl, placed-none _ _ _))
+unfolding linesHeld placesOf
+loop-holds c = (pass-first _ _ (c .before .before .good .1 .0) (c .before .before .pre .1), (refl, refl))
 
 entry-at-requires : tie.Need-entry-at-requires Inv-loop μ-loop
 entry-at-requires c κs = search needs
@@ -47,7 +46,7 @@ enum-told c = search needs
 returns : tie.Need-returns Inv-loop μ-loop
 returns c =
     let h = all-unmet _ _ _ _ (c .before .before .before .before .before .loop .inv .0) (c .before .before .before .before .loop-test .taken) (sym (has-no-line _ _ (rw (c .before .before .before .entry-at .ensures) at (sym (c .before .before .line-of .ensures) ∙ c .enum-told .given .1)))) in
-    (h, λ e. absurd (true≢false (sym e)))
+    located-not _ _ h
 
 mul-places : tie.Need-mul-places Inv-loop μ-loop
 mul-places c = search needs
@@ -64,14 +63,13 @@ loop-less c = search needs
 loop-again : tie.Need-loop-again Inv-loop μ-loop
 loop-again c =
     let f : found (entryAt (c .before .before .before .before .before .before .before .before .before .args .t) (c .before .before .before .before .before .before .loop .i) .key) (sheet.records (c .before .before .before .before .before .before .before .before .before .args .records .now)) ≡ At (c .before .place .given .0 .0) =
-    rw (c .before .before .before .before .entry-at .ensures) at (sym (c .before .before .before .line-of .ensures) ∙ c .before .place .given .1) in
-    let l : c .before .before .before .before .before .before .loop .i < length (c .before .before .before .before .before .before .loop .places) = omega (arith, c .before .before .before .before .before .before .loop .inv .1 .0, c .before .before .before .before .before .loop-test .taken, c .before .before .before .before .before .before .before .before .before .pre .1) in (
+    rw (c .before .before .before .before .entry-at .ensures) at (sym (c .before .before .before .line-of .ensures) ∙ c .before .place .given .1) in (
       all-next _ _ _ _ (c .before .before .before .before .before .before .loop .inv .0) (c .before .before .before .before .before .loop-test .taken) (sym (has-line-at _ _ _ f)),
-      (length-set (c .before .before .before .before .before .before .loop .places) (c .before .before .before .before .before .before .loop .i) _ ∙ c .before .before .before .before .before .before .loop .inv .1 .0, placed-next _ _ _ _ _ (c .before .before .before .before .before .before .loop .inv .1 .1) l f),
+      (length-set (c .before .before .before .before .before .before .loop .places) (c .before .before .before .before .before .before .loop .i) _ ∙ c .before .before .before .before .before .before .loop .inv .1 .0, places-next _ _ _ _ _ (c .before .before .before .before .before .before .loop .inv .1 .1) f),
     )
 
 returns-2 : tie.Need-returns-2 Inv-loop μ-loop
-returns-2 c = (all-last _ _ _ _ (c .before .loop .inv .0) (c .loop-test .left), λ e. record { at = λ i l. c .before .loop .inv .1 .1 .at i (omega (arith, l, c .loop-test .left)) })
+returns-2 c = located-all _ _ _ _ (all-last _ _ _ _ (c .before .loop .inv .0) (c .loop-test .left)) (c .before .loop .inv .1 .1) (omega (arith, c .before .loop .inv .0 .place, c .loop-test .left))
 
 pub locate-spec : {M : Type 1} → statement M
 locate-spec =

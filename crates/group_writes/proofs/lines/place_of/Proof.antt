@@ -1,9 +1,8 @@
--- By the two cases of what is held; a key that is held has its entry's place.
+-- By the two cases of what is held.
 use mathlib.Core.Path.{sym, _∙_}
 use native.Mathlib.Omega.{arith}
 use borrow.Author.Needs.{needs}
 use Rattle.protocol.specs.Held.{held-below}
-use Rattle.group_writes.specs.Placed.{placed-held, held-somewhere}
 use Rattle.group_writes.proofs.lines.place_of.Statement.{statement}
 use Rattle.group_writes.proofs.lines.place_of.Tie as tie
 
@@ -23,10 +22,10 @@ enum-told : tie.Need-enum-told
 enum-told c = search needs
 
 returns : tie.Need-returns
-returns c = λ rs h k. placed-held _ _ rs _ _ (sym (c .before .before .before .held-at .ensures) ∙ c .before .i .given .1) h
+returns c = rw (sym (c .before .before .before .held-at .ensures) ∙ c .before .i .given .1)
 
 returns-2 : tie.Need-returns-2
-returns-2 c = λ rs h k. absurd (held-somewhere _ _ (sym (c .before .before .held-at .ensures) ∙ c .enum-told .given .1) k)
+returns-2 c = rw (sym (c .before .before .held-at .ensures) ∙ c .enum-told .given .1)
 
 pub place-of-spec : {M : Type 1} → statement M
 place-of-spec =

@@ -1,7 +1,9 @@
 -- By whether the entry's condition holds; nothing is written.
-use mathlib.Core.Path.{sym, _∙_}
+use mathlib.Core.Path.{sym, ap, _∙_}
 use borrow.Author.Tests.{not-true, not-false}
 use borrow.Author.Needs.{needs}
+use Rattle.types.specs.declared.Found.the-variants.{At}
+use Rattle.group_writes.specs.Placed.{placed-in}
 use Rattle.steps.specs.Ready.{validate-held}
 use Rattle.steps.specs.Stepped.{wrote-nothing}
 use Rattle.steps.specs.Cases.{stepped-as, validate-fails, validate-passes}
@@ -16,7 +18,7 @@ place-of-requires : tie.Need-place-of-requires
 place-of-requires c κs = c .before .before .pre .0 .1 .0
 
 holds-requires : tie.Need-holds-requires
-holds-requires c κs = c .place-of .ensures _ (c .before .before .before .pre .1) (rw (c .before .to-validate .ensures) (validate-held _ (c .before .before .before .pre .0 .1 .1)))
+holds-requires c κs = placed-in _ _ _ _ (c .before .before .before .pre .1) (rw (c .before .to-validate .ensures) (validate-held _ (c .before .before .before .pre .0 .1 .1))) ∙ ap At (sym (c .place-of .ensures))
 
 to-phase-requires : tie.Need-to-phase-requires
 to-phase-requires c κs = search needs
