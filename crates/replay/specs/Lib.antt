@@ -1,2 +1,3 @@
--- What a look-up that is not refused says of its sheet, its key and the line's place.
+-- What a line of a history says; and what a look-up that is not refused says of its sheet, its key and the line's place.
+pub mod Lines
 pub mod Lookups

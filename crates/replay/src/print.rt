@@ -1,4 +1,5 @@
 // Text for standard output, gathered in a lent buffer and written when that is full. `fill` is how many bytes of it are taken.
+ghost use mathlib.Core.Path.{_≡_};
 ghost use Prim.Native.Nat.{_≤_};
 use crate::reply::Form;
 use crate::reply::Reply;
@@ -82,10 +83,12 @@ pub fn line(r: Reply, out: &mut [u8; 4096], fill: usize) -> usize
     byte(b'\n', out, at)
 }
 
-// What the buffer holds is written.
-pub fn flush(out: &[u8; 4096], fill: usize)
+// What the buffer holds is written, so that nothing of it is taken.
+pub fn flush(out: &[u8; 4096], fill: usize) -> usize
     requires { ⌜ fill ≤ 4096 ⌝ }
+    ensures { λ r. ⌜ r ≡ 0 ⌝ }
 {
     let text: &[u8] = out;
     io::write_all(1, &text[..fill]);
+    0
 }

@@ -1,6 +1,9 @@
 // A line of a history, taken apart: the call that it names, and its numbers.
-ghost use Prim.Native.Nat.{_≤_};
-ghost use lib.ListN.{length};
+ghost use mathlib.Core.Path.{_≡_};
+ghost use Prim.Native.Nat.{_+_, _≤_};
+ghost use lib.ListN.{length, drop};
+ghost use Rattle.replay.specs.Lines.{kindOf, noNumbers, withWord, withWords, wordsAfter, badCommand, called, said, upTo};
+ghost use Rattle.replay.specs.Lines as model;
 use decimal::Scan;
 
 // The calls of a history. BadLine is a line of another form.
@@ -35,7 +38,8 @@ struct Numbers {
 // The first place from `at` on that has the byte `mark`, or the end.
 pub fn end_of(s: &[u8], at: usize, mark: u8) -> usize
     requires { ⌜ at ≤ length (now s) ⌝ }
-    ensures { λ r. ⌜ (at ≤ r) × (r ≤ length (now (s .entry))) ⌝ }
+    ensures within { λ r. ⌜ (at ≤ r) × (r ≤ length (now (s .entry))) ⌝ }
+    ensures place { λ r. ⌜ r ≡ at + length (upTo mark (drop at (now (s .entry)))) ⌝ }
 {
     let n = s.len();
     let mut i = at;
@@ -48,7 +52,9 @@ pub fn end_of(s: &[u8], at: usize, mark: u8) -> usize
     i
 }
 
-fn kind_of(word: &[u8]) -> Kind {
+fn kind_of(word: &[u8]) -> Kind
+    ensures { λ r. ⌜ r ≡ kindOf (now (word .entry)) ⌝ }
+{
     if decimal::same(word, b"check") {
         return Kind::Check;
     }
@@ -86,7 +92,9 @@ fn kind_of(word: &[u8]) -> Kind {
 }
 
 // How many numbers a call has.
-fn arity(kind: Kind) -> usize {
+fn arity(kind: Kind) -> usize
+    ensures { λ r. ⌜ r ≡ model.arity kind ⌝ }
+{
     match kind {
         Kind::Check => 0,
         Kind::Begin => 2,
@@ -104,9 +112,12 @@ fn arity(kind: Kind) -> usize {
 }
 
 // The numbers with a word more. A word holds no space, so that what is read is a number in figures alone.
-fn with_word(so_far: Numbers, word: &[u8]) -> Numbers {
-    let count = so_far.count;
-    let mut values = so_far.values;
+fn with_word(numbers: Numbers, word: &[u8]) -> Numbers
+    ensures { λ r. ⌜ r ≡ withWord numbers (now (word .entry)) ⌝ }
+{
+    let good = numbers.good;
+    let count = numbers.count;
+    let mut values = numbers.values;
     if 14 <= count {
         return Numbers {
             good: false,
@@ -114,24 +125,32 @@ fn with_word(so_far: Numbers, word: &[u8]) -> Numbers {
             values,
         };
     }
-    let Scan::Number(v) = decimal::read(word, 0, 4294967295) else {
-        return Numbers {
+    match decimal::read(word, 0, 4294967295) {
+        Scan::Blank => Numbers {
             good: false,
             count,
             values,
-        };
-    };
-    values[count] = v;
-    Numbers {
-        good: so_far.good,
-        count: count + 1,
-        values,
+        },
+        Scan::Number(v) => {
+            values[count] = v;
+            Numbers {
+                good,
+                count: count + 1,
+                values,
+            }
+        }
+        Scan::Wrong => Numbers {
+            good: false,
+            count,
+            values,
+        },
     }
 }
 
 // The numbers of the words after the one that ends at `from`, each after a single space.
 fn numbers_after(line: &[u8], from: usize) -> Numbers
     requires { ⌜ from ≤ length (now line) ⌝ }
+    ensures { λ r. ⌜ r ≡ withWords noNumbers (wordsAfter (drop from (now (line .entry)))) ⌝ }
 {
     let n = line.len();
     let mut numbers = Numbers {
@@ -149,21 +168,37 @@ fn numbers_after(line: &[u8], from: usize) -> Numbers
     numbers
 }
 
-pub fn parse(line: &[u8]) -> Command {
+fn bad_command() -> Command
+    ensures { λ r. ⌜ r ≡ badCommand ⌝ }
+{
+    Command {
+        kind: Kind::BadLine,
+        numbers: [0; 14],
+    }
+}
+
+// A call with its numbers, if it has so many.
+fn called(kind: Kind, numbers: Numbers) -> Command
+    ensures { λ r. ⌜ r ≡ called kind numbers ⌝ }
+{
+    let values = numbers.values;
+    if !numbers.good {
+        return bad_command();
+    }
+    if numbers.count != arity(kind) {
+        return bad_command();
+    }
+    Command {
+        kind,
+        numbers: values,
+    }
+}
+
+pub fn parse(line: &[u8]) -> Command
+    ensures { λ r. ⌜ r ≡ said (now (line .entry)) ⌝ }
+{
     let end = end_of(line, 0, b' ');
     let kind = kind_of(&line[..end]);
     let numbers = numbers_after(line, end);
-    let values = numbers.values;
-    if numbers.good {
-        if numbers.count == arity(kind) {
-            return Command {
-                kind,
-                numbers: values,
-            };
-        }
-    }
-    Command {
-        kind: Kind::BadLine,
-        numbers: values,
-    }
+    called(kind, numbers)
 }

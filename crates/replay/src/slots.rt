@@ -1,5 +1,9 @@
 // The sixteen transactions of a history, by value, and a call on them.
+ghost use mathlib.Core.Path.{_≡_};
+ghost use mathlib.Core.Bool.{false};
 ghost use Prim.Native.Nat.{_≤_};
+ghost use lib.ListN.{replicate};
+ghost use Rattle.model.specs.Calls.{newTransaction};
 use crate::calls;
 use crate::reply;
 use crate::reply::Reply;
@@ -14,7 +18,9 @@ pub struct Turn {
 }
 
 // An unused slot is all zeros.
-pub fn empty() -> [Transaction; 16] {
+pub fn empty() -> [Transaction; 16]
+    ensures { λ r. ⌜ r ≡ replicate 16 (newTransaction 0 false) ⌝ }
+{
     let t = protocol::transactions::new_transaction(0, false);
     [t; 16]
 }

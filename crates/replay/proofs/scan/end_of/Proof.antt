@@ -1,24 +1,28 @@
--- The place stays between the first and the end of the slice.
-use Prim.Native.Nat.{_-_, _≤_}
-use lib.ListN.{length}
+-- The place stays between the first and the end of the slice, and what is before the mark from there on ends where all of it does.
+use Prim.Native.Nat.{_+_, _-_, _≤_}
+use mathlib.Core.Path.{_≡_, refl}
+use native.Mathlib.Omega.{arith}
+use lib.ListN.{length, drop}
 use borrow.Author.Needs.{needs}
+use Rattle.replay.specs.Lines.{upTo, mark-here, mark-later, mark-none}
 use Rattle.replay.proofs.scan.end_of.Statement.{statement}
 use Rattle.replay.proofs.scan.end_of.Tie as tie
 
 abbrev Inv-loop : tie.InvT-loop
-Inv-loop s at mark n i₀ i = (at ≤ i) × (i ≤ length s)
+Inv-loop s at mark n i₀ i =
+    ((at ≤ i) × (i ≤ length s)) × (at + length (upTo mark (drop at s)) ≡ i + length (upTo mark (drop i s)))
 
 abbrev μ-loop : tie.MeasureT-loop
 μ-loop s at mark n i₀ i = length s - i
 
 loop-holds : tie.Need-loop-holds Inv-loop μ-loop
-loop-holds c = search needs
+loop-holds c = ((omega arith, c .pre), refl)
 
 shared-slice-read-if1 : tie.Need-shared-slice-read-if1 Inv-loop μ-loop
 shared-slice-read-if1 c = search needs
 
 returns : tie.Need-returns Inv-loop μ-loop
-returns c = search needs
+returns c = let e = mark-here (c .before .before .before .before .args .mark) (c .before .before .before .before .args .s .now) (c .before .before .before .loop .i) (c .before .before .loop-test .taken) (c .if1 .taken) in ((omega arith, omega arith), omega arith)
 
 add-i : tie.Need-add-i Inv-loop μ-loop
 add-i c = search needs
@@ -27,10 +31,10 @@ loop-less : tie.Need-loop-less Inv-loop μ-loop
 loop-less c = search needs
 
 loop-again : tie.Need-loop-again Inv-loop μ-loop
-loop-again c = search needs
+loop-again c = let e = mark-later (c .before .before .before .before .args .mark) (c .before .before .before .before .args .s .now) (c .before .before .before .loop .i) (c .before .before .loop-test .taken) (c .if1 .left) in ((omega arith, omega arith), omega arith)
 
 returns-2 : tie.Need-returns-2 Inv-loop μ-loop
-returns-2 c = search needs
+returns-2 c = let e = mark-none (c .before .before .args .mark) (c .before .before .args .s .now) (c .before .loop .i) (c .loop-test .left) in ((omega arith, omega arith), omega arith)
 
 pub end-of-spec : {M : Type 1} → statement M
 end-of-spec =

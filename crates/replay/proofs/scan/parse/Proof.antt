@@ -1,7 +1,9 @@
--- The first word is a part of the line.
+-- The first word is what stands before the first space, and the other words are read after it.
+use mathlib.Core.Path.{_≡_, ap₂, _∙_}
 use native.Mathlib.Omega.{arith}
-use lib.ListN.{length-take}
+use lib.ListN.{length, length-take}
 use borrow.Author.Needs.{needs}
+use Rattle.replay.specs.Lines.{called, upTo, said-read}
 use Rattle.replay.proofs.scan.parse.Statement.{statement}
 use Rattle.replay.proofs.scan.parse.Tie as tie
 
@@ -17,17 +19,14 @@ kind-of-requires c κs = search needs
 numbers-after-requires : tie.Need-numbers-after-requires
 numbers-after-requires c κs = search needs
 
-arity-requires : tie.Need-arity-requires
-arity-requires c κs = search needs
+called-requires : tie.Need-called-requires
+called-requires c κs = search needs
 
 returns : tie.Need-returns
-returns c = search needs
-
-returns-2 : tie.Need-returns-2
-returns-2 c = search needs
-
-returns-3 : tie.Need-returns-3
-returns-3 c = search needs
+returns c = let s = c .before .before .before .before .before .before .args .line .now in
+    let end = c .before .before .before .before .end-of .result in
+    let e : end ≡ length (upTo 32 s) = omega arith in
+    c .called .ensures ∙ (ap₂ called (c .before .before .kind-of .ensures) (c .before .numbers-after .ensures) ∙ said-read s end e)
 
 pub parse-spec : {M : Type 1} → statement M
 parse-spec =
@@ -37,7 +36,5 @@ parse-spec =
     slice-aggregate-kind-of
     kind-of-requires
     numbers-after-requires
-    arity-requires
-    returns
-    returns-2
-    returns-3)
+    called-requires
+    returns)
