@@ -1,14 +1,14 @@
 //! The sheets and calls of document 01, written a second time from the papers alone, to hold the engine against.
 //!
 //! - `plain` reads the paper in the most obvious way and is what the engine must agree with.
-//! - `book` is the paper's plain book, which `plain` must come to after any history.
+//! - `sequential_model` is what `plain` must come to after any history, the plain book of the paper.
 //! - `replay` runs a history given as text over `plain`.
 //! - `exported` has the calls that the engine exports for C, over `plain` and over `fast`.
 //! - `fast` gives the same answers as `plain` and is what the engine's time is compared with.
 //! - `make` writes accepted, damaged and forged sheets, histories of calls and the scripts of replays.
 //! - `seen` counts which refusals and steps a comparison has met.
 //!
-//! `cargo test --release` holds `fast` against `plain`, both against cases of the paper, and histories against the book.
+//! `cargo test --release` holds `fast` against `plain`, both against cases of the paper, and histories against the model.
 //!
 //! With `--features engine`, `cargo run --release --bin differ` holds the engine against `plain`, and `--bin bench` times it
 //! beside `fast`. Both need the engine's static archive, `../target/staticlib/libc_api.a` or the one in the folder that
@@ -16,10 +16,10 @@
 //! folder that `RAPYHEO_PROGRAMS_DIR` names; with `target/release` there, it is tried against `plain` itself.
 #![forbid(unsafe_code)]
 
-pub mod book;
 pub mod exported;
 pub mod fast;
 pub mod make;
 pub mod plain;
 pub mod replay;
 pub mod seen;
+pub mod sequential_model;

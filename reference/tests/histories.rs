@@ -1,6 +1,5 @@
 //! Demand 3 and what holds of every call, on random histories.
 
-use reference::book::Book;
 use reference::make::arguments::prepared;
 use reference::make::closing::close;
 use reference::make::history::{Event, History, Rule};
@@ -12,6 +11,7 @@ use reference::plain::key::Key;
 use reference::plain::request::Request;
 use reference::plain::store::Store;
 use reference::plain::transaction::{Transaction, OPEN};
+use reference::sequential_model::SequentialModel;
 use std::collections::BTreeSet;
 
 const HISTORIES: u64 = 2_000;
@@ -50,32 +50,33 @@ fn one_phase<'a>(event: &'a Event, after: &Sheets) -> Option<&'a Transaction> {
     }
 }
 
-/// One legal history and its closing visits, held against the book.
+/// One legal history and its closing visits, held against the sequential model.
 fn demand_3(seed: u64) {
     let mut random = Random::new(seed);
     let mut history = History::new(&mut random, Rule::Legal);
-    let mut book = Book::new(&history.sheets.records).expect("the first sheet is accepted");
+    let mut model =
+        SequentialModel::new(&history.sheets.records).expect("the first sheet is accepted");
     let mut one_phase_numbers = BTreeSet::new();
-    // Some stop early, so that most orders are cut off half-way.
+    // Some stop early, so that most transactions are cut off half-way.
     for _ in 0..random.pick(&[10, 30, 100, 200]) {
         let event = history.step(&mut random);
         judge(&event, &history.sheets);
-        book.note(&event.request, &event.answer);
+        model.note(&event.request, &event.answer);
         one_phase_numbers.extend(one_phase(&event, &history.sheets).map(|t| t.number));
     }
     let mut sheets = history.sheets;
     for event in close(&mut random, &mut sheets) {
         assert!(event.answer.is_ok(), "seed {seed}: {:?}", event.request);
-        book.note(&event.request, &event.answer);
+        model.note(&event.request, &event.answer);
     }
     let last = sheets.store();
     assert!(prepared(&last.records).is_empty(), "seed {seed}\n{sheets}");
-    assert_eq!(sheets.records, book.sheet(), "seed {seed}\n{sheets}");
-    for number in book.with_puts() {
+    assert_eq!(sheets.records, model.sheet(), "seed {seed}\n{sheets}");
+    for number in model.with_puts() {
         let committed =
             last.decision(number) == Decision::Committed || one_phase_numbers.contains(&number);
         assert_eq!(
-            book.is_committed(number),
+            model.is_committed(number),
             committed,
             "seed {seed}: {number}"
         );
@@ -83,7 +84,7 @@ fn demand_3(seed: u64) {
 }
 
 #[test]
-fn legal_histories_come_to_what_the_book_says() {
+fn legal_histories_come_to_what_the_model_says() {
     for seed in 0..HISTORIES {
         demand_3(seed);
     }

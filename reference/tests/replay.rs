@@ -22,7 +22,7 @@ fn replayed(calls: &str) -> (String, String) {
 }
 
 #[test]
-fn an_order_is_answered_line_by_line() {
+fn a_transaction_is_answered_line_by_line() {
     let calls = "check\nbegin 3 0\nread 3 1 1 1 1 1 7\nput 3 1 1 1 1 1 500 250\nread 3 1 1 1 1 1 7\nshow 3\n\
                  advance 3 9\nadvance 3 9\nabort 3\nvisit 1 1 1 1 1 0\nlookup 1 1 1 1 1\nlookup 1 1 1 1 2\n";
     let answers =

@@ -19,7 +19,7 @@ const EDGES: [u32; 9] = [
 ];
 
 /// Keys few and close together, so that they share units of every kind and clients meet. In some sheets all have the
-/// same namespace or table, so that puts of one order often share a unit.
+/// same namespace or table, so that puts of one transaction often share a unit.
 pub fn close_keys(random: &mut Random, count: usize) -> BTreeSet<[u32; 5]> {
     let same = match count {
         ..=6 => random.pick(&[0, 2, 3]),

@@ -39,7 +39,7 @@ impl Event {
 pub struct History {
     pub sheets: Sheets,
     rule: Rule,
-    /// None for a client without an order.
+    /// None for a client without a transaction.
     clients: Vec<Option<Client>>,
     /// Every state that was returned once.
     old: Vec<Transaction>,

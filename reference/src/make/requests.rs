@@ -1,4 +1,4 @@
-//! What clients ask for: the next call for an order, or one that comes from nowhere.
+//! What clients ask for: the next call of a transaction, or one that comes from nowhere.
 
 use super::arguments::{any_key, clock, columns, prepared};
 use super::random::Random;
@@ -8,7 +8,7 @@ use crate::plain::record::Record;
 use crate::plain::request::Request;
 use crate::plain::transaction::{Transaction, OPEN};
 
-/// A client at work on an order.
+/// A client at work on a transaction.
 #[derive(Clone, Copy)]
 pub struct Client {
     /// The state of its number that may be handed on.
@@ -25,7 +25,7 @@ impl Client {
         }
     }
 
-    /// The next call for the order, at times one that does not go with its phase.
+    /// The next call of the transaction, at times one that does not go with its phase.
     pub fn request(&self, random: &mut Random, records: &[Record]) -> Request {
         let transaction = self.transaction;
         let hungry = transaction.phase == OPEN && transaction.count < self.appetite;

@@ -5,14 +5,14 @@ use crate::plain::request::Request;
 use crate::plain::transaction::{Transaction, MOST_ENTRIES};
 use crate::plain::{coordinator, record};
 use crate::replay::line::{Line, SLOTS};
-use crate::replay::{self, station::Station, MOST_BYTES};
+use crate::replay::{self, state::ReplayState, MOST_BYTES};
 use crate::seen::Seen;
 
 /// Slots from here on are for forged transactions, those below for begun ones.
 const FORGED: usize = 12;
 
 pub struct Script {
-    pub station: Station,
+    pub state: ReplayState,
     pub input: Vec<u8>,
     answers: Vec<u8>,
     begun: usize,
@@ -28,7 +28,7 @@ impl Script {
         let first = replay::first_line(records, decisions);
         Script {
             input: [first, sheets.coordinator.clone(), sheets.records.clone()].concat(),
-            station: Station::new(sheets),
+            state: ReplayState::new(sheets),
             answers: Vec::new(),
             begun: 0,
             forged: 0,
@@ -37,7 +37,7 @@ impl Script {
 
     /// The whole output expected.
     pub fn expected(&self) -> Vec<u8> {
-        let ending = replay::ending(&self.station.sheets);
+        let ending = replay::ending(&self.state.sheets);
         [self.answers.clone(), ending].concat()
     }
 
@@ -49,9 +49,9 @@ impl Script {
     /// Adds a line of any form, without its LF.
     pub fn say(&mut self, seen: &mut Seen, text: &[u8]) {
         let line = Line::parse(text);
-        let request = line.and_then(|line| self.station.request(&line));
+        let request = line.and_then(|line| self.state.request(&line));
         let taken = request.as_ref().and_then(|(_, request)| request.taken());
-        let reply = replay::reply(&mut self.station, text);
+        let reply = replay::reply(&mut self.state, text);
         seen.note(line.as_ref(), taken, &reply);
         self.input.extend(text);
         self.input.push(b'\n');
@@ -82,14 +82,14 @@ impl Script {
         self.add(seen, line);
     }
 
-    /// A slot for a new transaction. What it held is dropped, as by a station that stops.
+    /// A slot for a new transaction. What it held is dropped, as by a client that stops.
     fn next_begun(&mut self) -> usize {
         self.begun += 1;
         self.begun % FORGED
     }
 
     fn slot_of(&mut self, seen: &mut Seen, transaction: &Transaction) -> usize {
-        let slots = &self.station.slots;
+        let slots = &self.state.slots;
         if let Some(slot) = slots.iter().position(|held| held == transaction) {
             return slot;
         }
@@ -105,7 +105,7 @@ impl Script {
         self.add(seen, Line::Set { slot, fields });
         for place in 0..MOST_ENTRIES {
             let entry = transaction.entries[place];
-            if self.station.slots[slot].entries[place] != entry {
+            if self.state.slots[slot].entries[place] != entry {
                 let numbers = entry.numbers();
                 self.add(
                     seen,
@@ -124,7 +124,7 @@ impl Script {
         for slot in 0..SLOTS {
             self.add(seen, Line::Show { slot });
             if whole {
-                let mut fields = self.station.slots[slot].fields();
+                let mut fields = self.state.slots[slot].fields();
                 fields[5] = MOST_ENTRIES as u32;
                 self.add(seen, Line::Set { slot, fields });
                 self.add(seen, Line::Show { slot });

@@ -1,4 +1,4 @@
-//! Scripts of several kinds: demand 3's lists with their book, lists of any calls, and calls on damaged sheets.
+//! Scripts of several kinds: demand 3's lists with the sequential model, lists of any calls, and calls on damaged sheets.
 
 use super::arguments::{any_key, clock};
 use super::bad_lines::bad_line;
@@ -10,14 +10,14 @@ use super::random::Random;
 use super::requests::{begin, stray};
 use super::script::Script;
 use super::sheets::{accepted, of_size, Mix, Size};
-use crate::book::Book;
 use crate::replay::line::{Line, SLOTS};
 use crate::seen::Seen;
+use crate::sequential_model::SequentialModel;
 
 /// How long a history is, and how large its sheets are.
 #[derive(Clone, Copy)]
 pub enum Extent {
-    /// Few keys, so that clients meet; some stop early, so that most orders are cut off half-way.
+    /// Few keys, so that clients meet; some stop early, so that most transactions are cut off half-way.
     Small,
     /// Few keys, and so many calls that every number is issued.
     Long,
@@ -58,26 +58,30 @@ fn sizes(random: &mut Random, records: usize, decisions: usize) -> Size {
     }
 }
 
-/// A legal history, closed by visits, or what the book says against it.
+/// A legal history, closed by visits, or how it departs from the sequential model.
 pub fn legal(random: &mut Random, seen: &mut Seen, extent: Extent) -> Result<Script, String> {
     let (mut history, calls) = history(random, Rule::Legal, extent);
     let mut script = Script::new(&history.sheets);
-    let mut book = Book::new(&history.sheets.records).expect("the first sheet is accepted");
+    let mut model =
+        SequentialModel::new(&history.sheets.records).expect("the first sheet is accepted");
     for _ in 0..calls {
         if !script.has_room() {
             break;
         }
         let event = history.step(random);
-        book.note(&event.request, &event.answer);
+        model.note(&event.request, &event.answer);
         beside(random, seen, &mut script, &history);
         script.ask(seen, &event.request);
     }
     for event in close(random, &mut history.sheets) {
-        book.note(&event.request, &event.answer);
+        model.note(&event.request, &event.answer);
         script.ask(seen, &event.request);
     }
-    if script.station.sheets.records != book.sheet() {
-        return Err(format!("not the book's sheet\n{}", script.station.sheets));
+    if script.state.sheets.records != model.sheet() {
+        return Err(format!(
+            "not the sequential model's sheet\n{}",
+            script.state.sheets
+        ));
     }
     script.show_all(seen, random.once_in(3));
     Ok(script)

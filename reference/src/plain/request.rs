@@ -1,4 +1,4 @@
-//! A call with its arguments as data, so that lists of calls can be made, kept and handed to the book.
+//! A call with its arguments as data, so that lists of calls can be made, kept and handed to the sequential model.
 
 use super::calls;
 use super::key::Key;

@@ -8,7 +8,7 @@ use super::record::{Image, NOTHING};
 /// The most keys that a transaction holds.
 pub const MOST_ENTRIES: usize = 8;
 
-/// The most transactions in a list that a station lends.
+/// The most transactions in a list that a client lends (document 01: a station).
 pub const MOST_LISTED: usize = 16;
 
 pub const OPEN: u32 = 0;

@@ -4,7 +4,7 @@ use crate::plain::key::Key;
 use crate::plain::transaction::MOST_ENTRIES;
 use std::fmt;
 
-/// Transactions that a station keeps.
+/// Transactions that a replay keeps.
 pub const SLOTS: usize = 16;
 
 #[derive(Clone, Copy, Debug, PartialEq, Eq)]

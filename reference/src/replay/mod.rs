@@ -6,14 +6,14 @@
 
 pub mod line;
 pub mod reply;
-pub mod station;
+pub mod state;
 
 use crate::make::Sheets;
 use crate::plain::field::read_figure;
 use crate::plain::{coordinator, record};
 use line::Line;
 use reply::Reply;
-use station::Station;
+use state::ReplayState;
 
 /// The most bytes that an input may have.
 pub const MOST_BYTES: usize = 500_000;
@@ -25,19 +25,19 @@ pub fn replay(input: &[u8]) -> Vec<u8> {
     let Some((sheets, calls)) = parts(input) else {
         return b"bad input\n".to_vec();
     };
-    let mut station = Station::new(sheets);
+    let mut state = ReplayState::new(sheets);
     let mut output = Vec::new();
     for line in lines(calls) {
-        output.extend(reply(&mut station, line).to_string().bytes());
+        output.extend(reply(&mut state, line).to_string().bytes());
     }
-    output.extend(ending(&station.sheets));
+    output.extend(ending(&state.sheets));
     output
 }
 
 /// What one line of the calls is answered.
-pub fn reply(station: &mut Station, line: &[u8]) -> Reply {
+pub fn reply(state: &mut ReplayState, line: &[u8]) -> Reply {
     match Line::parse(line) {
-        Some(line) => station.make(&line),
+        Some(line) => state.make(&line),
         None => Reply::BadLine,
     }
 }

@@ -29,7 +29,7 @@ pub enum Case {
     /// One step in prepare, with 8 puts in 8 groups.
     Prepare,
     /// From begin to done, with 8 puts in 8 groups: 19 calls.
-    Order,
+    Transaction,
 }
 
 /// In the order printed.
@@ -39,7 +39,7 @@ pub const CASES: [(Case, &str); 8] = [
     (Case::VisitStays, "visit, line stays"),
     (Case::VisitBack, "visit, rolls back"),
     (Case::Prepare, "advance, 8 puts in 8 groups"),
-    (Case::Order, "whole order, 8 puts, 19 calls"),
+    (Case::Transaction, "whole transaction, 8 puts, 19 calls"),
     (Case::CheckCommitted, "check, all COMMITTED"),
     (Case::CheckPrepared, "check, all PREPARED"),
 ];
@@ -53,7 +53,7 @@ impl Case {
             Case::Begin => make(&Call::Begin, lent),
             Case::VisitStays | Case::VisitBack => make(&Call::Visit { key, now: NOW }, lent),
             Case::Prepare => make(&ADVANCE, lent),
-            Case::Order => order(make, lent),
+            Case::Transaction => transaction(make, lent),
         }
     }
 
@@ -143,14 +143,14 @@ fn in_prepare(store: &Store, number: u32) -> Transaction {
 }
 
 /// Begins, fills the new transaction with the entries and advances it until it is done.
-fn order(make: Make, lent: &mut Lent) -> u32 {
+fn transaction(make: Make, lent: &mut Lent) -> u32 {
     let number = make(&Call::Begin, lent);
     let transaction = &mut lent.list[0];
     transaction.number = number;
     transaction.phase = OPEN;
     while lent.list[0].phase != DONE {
         let answer = make(&ADVANCE, lent);
-        assert_eq!(answer, 0, "the order goes through");
+        assert_eq!(answer, 0, "the transaction goes through");
     }
     number
 }

@@ -1,4 +1,4 @@
-//! The plain book of document 01: what the record sheet comes to once every line has been visited.
+//! The sequential model, document 01's plain book: what the record sheet comes to once every line has been visited.
 //!
 //! It is told what each call was asked and answered and never sees the sheets after the first.
 
@@ -8,22 +8,22 @@ use crate::plain::request::{Answer, Request};
 use crate::plain::transaction::{Transaction, COMMITTED, NO_VERDICT};
 use std::collections::{BTreeMap, BTreeSet};
 
-/// The last columns put to each key by one number.
-type Page = BTreeMap<Key, [u32; 2]>;
+/// The last columns put to each key by one number, which document 01 calls its page.
+type WriteSet = BTreeMap<Key, [u32; 2]>;
 
-pub struct Book {
+pub struct SequentialModel {
     lines: Vec<Record>,
-    /// A page for each number begun in the list.
-    pages: BTreeMap<u32, Page>,
+    /// A write set for each number begun in the list.
+    write_sets: BTreeMap<u32, WriteSet>,
     committed: BTreeSet<u32>,
 }
 
-impl Book {
-    /// The book before the first call, or nothing where the record sheet isn't accepted.
-    pub fn new(records: &[u8]) -> Option<Book> {
-        Some(Book {
+impl SequentialModel {
+    /// The model before the first call, or nothing where the record sheet isn't accepted.
+    pub fn new(records: &[u8]) -> Option<SequentialModel> {
+        Some(SequentialModel {
             lines: record::read_sheet(records)?,
-            pages: BTreeMap::new(),
+            write_sets: BTreeMap::new(),
             committed: BTreeSet::new(),
         })
     }
@@ -32,7 +32,7 @@ impl Book {
     pub fn note(&mut self, request: &Request, answer: &Result<Answer, u32>) {
         let Ok(answer) = answer else { return };
         if let (Request::Begin { .. }, Some(begun)) = (request, answer.returned()) {
-            self.pages.insert(begun.number, Page::new());
+            self.write_sets.insert(begun.number, WriteSet::new());
         }
         if let Request::Put {
             transaction,
@@ -40,8 +40,8 @@ impl Book {
             columns,
         } = request
         {
-            if let Some(page) = self.pages.get_mut(&transaction.number) {
-                page.insert(*key, *columns);
+            if let Some(write_set) = self.write_sets.get_mut(&transaction.number) {
+                write_set.insert(*key, *columns);
             }
         }
         if let (Some(taken), Some(returned)) = (request.taken(), answer.returned()) {
@@ -54,17 +54,17 @@ impl Book {
             return;
         }
         self.committed.insert(taken.number);
-        let Some(page) = self.pages.get(&taken.number) else {
+        let Some(write_set) = self.write_sets.get(&taken.number) else {
             return;
         };
         for line in &mut self.lines {
-            if let Some(columns) = page.get(&line.key) {
+            if let Some(columns) = write_set.get(&line.key) {
                 *line = line.committed(taken.number, *columns);
             }
         }
     }
 
-    /// The book's lines as a record sheet.
+    /// The model's lines as a record sheet.
     pub fn sheet(&self) -> Vec<u8> {
         let mut sheet = vec![0; self.lines.len() * record::LINE];
         record::write_sheet(&mut sheet, &self.lines);
@@ -73,8 +73,9 @@ impl Book {
 
     /// The numbers begun in the list that have puts.
     pub fn with_puts(&self) -> impl Iterator<Item = u32> + '_ {
-        let pages = self.pages.iter().filter(|(_, page)| !page.is_empty());
-        pages.map(|(number, _)| *number)
+        let write_sets = self.write_sets.iter();
+        let with_puts = write_sets.filter(|(_, write_set)| !write_set.is_empty());
+        with_puts.map(|(number, _)| *number)
     }
 
     pub fn is_committed(&self, number: u32) -> bool {

@@ -8,15 +8,15 @@ use crate::plain::key::Key;
 use crate::plain::request::{Answer, Request};
 use crate::plain::transaction::{Entry, Transaction};
 
-pub struct Station {
+pub struct ReplayState {
     pub sheets: Sheets,
     /// A slot that no call has used is all 0.
     pub slots: [Transaction; SLOTS],
 }
 
-impl Station {
-    pub fn new(sheets: Sheets) -> Station {
-        Station {
+impl ReplayState {
+    pub fn new(sheets: Sheets) -> ReplayState {
+        ReplayState {
             sheets,
             slots: [Transaction::begun(0, false); SLOTS],
         }

@@ -1,4 +1,4 @@
-//! Whole orders, step by step and byte for byte, and the places where learners go astray.
+//! Whole transactions, step by step and byte for byte, and the places where learners go astray.
 
 use reference::make::Sheets;
 use reference::plain::key::Key;
@@ -18,7 +18,7 @@ const TWO: Key = Key {
     ..ONE
 };
 
-/// The first line, and as the first order prepares it and leaves it.
+/// The first line, and as the first transaction prepares it and leaves it.
 const ONE_FIRST: &str = " 1  1  1     1     1 COMMITTED     9   0      500      250     0   0        0        0          0\n";
 const ONE_PREPARED: &str = " 1  1  1     1     1  PREPARED    10   1      600      240     9   0      500      250       5000\n";
 const ONE_LAST: &str = " 1  1  1     1     1 COMMITTED    10   1      600      240     0   0        0        0          0\n";
@@ -26,7 +26,7 @@ const ONE_LAST: &str = " 1  1  1     1     1 COMMITTED    10   1      600      2
 const TWO_FIRST: &str = " 1  1  1     1     2    ABSENT     0   0        0        0     0   0        0        0          0\n";
 const TWO_PREPARED: &str = " 1  1  1     1     2  PREPARED     1   1        7 99999999     0   0        0        0 4294967295\n";
 const TWO_LAST: &str = " 1  1  1     1     2 COMMITTED     1   1        7 99999999     0   0        0        0          0\n";
-/// The second line as the second order leaves it, or prepares it.
+/// The second line as the second transaction leaves it, or prepares it.
 const TWO_TAKEN: &str = " 1  1  1     1     2 COMMITTED     1   2        8        9     0   0        0        0          0\n";
 const TWO_HELD: &str = " 1  1  1     1     2  PREPARED     2   2        8        9     1   1        7 99999999       5002\n";
 
@@ -53,8 +53,8 @@ fn returned(sheets: &mut Sheets, request: Request) -> Transaction {
     *answer.returned().unwrap()
 }
 
-/// An order that has read its keys and put its columns, in this order.
-fn order(sheets: &mut Sheets, serializable: bool, puts: &[(Key, [u32; 2])]) -> Transaction {
+/// A transaction that has read its keys and put its columns, in this order.
+fn with_puts(sheets: &mut Sheets, serializable: bool, puts: &[(Key, [u32; 2])]) -> Transaction {
     let mut transaction = returned(sheets, Request::Begin { serializable });
     for (key, columns) in puts {
         let (key, columns) = (*key, *columns);
@@ -78,7 +78,7 @@ fn order(sheets: &mut Sheets, serializable: bool, puts: &[(Key, [u32; 2])]) -> T
     transaction
 }
 
-/// The first order: the second line is read first, but groups go in key order.
+/// The first transaction: the second line is read first, but groups go in key order.
 const PUTS: [(Key, [u32; 2]); 2] = [(TWO, [7, 99_999_999]), (ONE, [600, 240])];
 
 /// Advances, and asks for phase, place and verdict and for both sheets afterwards.
@@ -106,9 +106,9 @@ fn advance(
 }
 
 #[test]
-fn an_order_is_committed() {
+fn a_transaction_is_committed() {
     let mut now = first_sheets("R");
-    let mut t = order(&mut now, false, &PUTS);
+    let mut t = with_puts(&mut now, false, &PUTS);
     let undecided = coordinator(1, "R", ["-", "-"]);
     let committed = coordinator(1, "R", ["COMMITTED", "-"]);
     let first = sheets([ONE_FIRST, TWO_FIRST], &undecided);
@@ -131,15 +131,15 @@ fn an_order_is_committed() {
 }
 
 #[test]
-fn an_order_is_withdrawn() {
+fn a_transaction_is_withdrawn() {
     let mut now = first_sheets("R");
-    let mut t = order(&mut now, false, &PUTS);
+    let mut t = with_puts(&mut now, false, &PUTS);
     let undecided = coordinator(2, "R", ["-", "-"]);
     let aborted = coordinator(2, "R", ["ABORTED", "-"]);
     let first = sheets([ONE_FIRST, TWO_FIRST], &coordinator(1, "R", ["-", "-"]));
     advance(&mut now, &mut t, 4_999, [PREPARE, 0, NO_VERDICT], first);
-    // Another order takes the second line in one phase; no line of the coordinator's tells.
-    let mut other = order(&mut now, false, &[(TWO, [8, 9])]);
+    // Another transaction takes the second line in one phase; no line of the coordinator's tells.
+    let mut other = with_puts(&mut now, false, &[(TWO, [8, 9])]);
     let taken = sheets([ONE_FIRST, TWO_TAKEN], &undecided);
     advance(&mut now, &mut other, 0, [DONE, 0, COMMITTED], taken);
     let one = sheets([ONE_PREPARED, TWO_TAKEN], &undecided);
@@ -161,9 +161,9 @@ fn an_order_is_withdrawn() {
 #[test]
 fn a_group_is_prepared_whole_or_not_at_all() {
     let mut now = first_sheets("S");
-    // A serializable order doesn't use one phase, so that its one group is prepared.
-    let mut t = order(&mut now, true, &PUTS);
-    let mut other = order(&mut now, false, &[(TWO, [8, 9])]);
+    // A serializable transaction doesn't use one phase, so that its one group is prepared.
+    let mut t = with_puts(&mut now, true, &PUTS);
+    let mut other = with_puts(&mut now, false, &[(TWO, [8, 9])]);
     let taken = sheets([ONE_FIRST, TWO_TAKEN], &coordinator(2, "S", ["-", "-"]));
     advance(&mut now, &mut other, 0, [DONE, 0, COMMITTED], taken.clone());
     advance(&mut now, &mut t, 0, [PREPARE, 0, NO_VERDICT], taken.clone());
@@ -174,9 +174,9 @@ fn a_group_is_prepared_whole_or_not_at_all() {
 fn finish_skips_what_another_number_prepared() {
     let committed = coordinator(2, "R", ["COMMITTED", "-"]);
     let mut now = first_sheets("R");
-    let mut t = order(&mut now, false, &PUTS);
+    let mut t = with_puts(&mut now, false, &PUTS);
     t = t.entering(FINISH).with_verdict(COMMITTED);
-    // A visitor has finished the second line, and the second order has prepared it since.
+    // A visitor has finished the second line, and the second transaction has prepared it since.
     now = sheets([ONE_PREPARED, TWO_HELD], &committed);
     let left = sheets([ONE_LAST, TWO_HELD], &committed);
     advance(&mut now, &mut t, 0, [FINISH, 1, COMMITTED], left.clone());
@@ -186,7 +186,7 @@ fn finish_skips_what_another_number_prepared() {
 #[test]
 fn reads_see_the_own_puts() {
     let mut now = first_sheets("R");
-    let transaction = order(&mut now, false, &PUTS);
+    let transaction = with_puts(&mut now, false, &PUTS);
     for (key, columns) in PUTS {
         let answer = now.ask(Request::Read {
             transaction,
