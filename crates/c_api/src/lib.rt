@@ -9,6 +9,9 @@ ghost use Rattle.model.specs.ByteCalls.{beginOn, visitOn, advanceOn, recordsAft
 ghost use Rattle.model.specs.CallByPlace.{listed, advanceAtOn, listAfter};
 ghost use Rattle.c_api.specs.Numbers.{beginNumber, visitNumber, advanceNumber, unlistedNumber};
 ghost use Rattle.c_api.specs.ByPlace.{advanced};
+
+pub mod conversions;
+
 use types::Key;
 use types::Transaction;
 
