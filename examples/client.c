@@ -1,5 +1,6 @@
 /* A client in C: two orders over three records in two storages. The first client dies between its two prepares, and visits after expiry undo
- * its order; the second dies after its decision, and visits finish it. Every step is printed with both sheets after it. */
+ * its order; the second dies after its decision, and visits finish it. Every step is printed with both sheets after it. Last, both sheets are
+ * read to numbers and written from them. */
 #include <inttypes.h>
 #include <stdio.h>
 #include <string.h>
@@ -7,6 +8,7 @@
 #include "rapyheo.h"
 
 enum { LINES = 3, NUMBERS = 3, PLACES = 4, OVER = RAPYHEO_LIST + 1 };
+enum { ROWS = LINES * RAPYHEO_RECORD_NUMBERS, DECISIONS = RAPYHEO_HEAD_NUMBERS + NUMBERS };
 
 /* Stock, account, and a delivery note that does not exist yet. A storage is written as a whole (unit S), so an order over both has two groups. */
 static uint8_t records[LINES * RAPYHEO_RECORD_BYTES + 1] =
@@ -38,23 +40,15 @@ static void say(uint32_t answer, const char *given) {
         printf("%s\n", given);
 }
 
-/* The figure in the bytes of a line from `first` up to `end`. */
-static uint32_t figure(const uint8_t *line, size_t first, size_t end) {
-    uint32_t value = 0;
-    for (size_t i = first; i < end; i++)
-        if (line[i] != ' ')
-            value = value * 10 + (uint32_t)(line[i] - '0');
-    return value;
-}
-
-/* What the line of a key says, or zeros. */
+/* What the line of a key says, or zeros. A row of numbers begins with the five of the key and the state, and the image follows. */
 static rapyheo_image image_of(rapyheo_key key) {
     rapyheo_image image = {0, 0, 0, 0};
-    for (const uint8_t *line = records; line < records + records_length; line += RAPYHEO_RECORD_BYTES) {
-        const rapyheo_key here = {figure(line, 0, 2), figure(line, 2, 5), figure(line, 5, 8), figure(line, 8, 14), figure(line, 14, 20)};
-        if (memcmp(&here, &key, sizeof key) == 0)
-            image = (rapyheo_image){figure(line, 30, 36), figure(line, 36, 40), figure(line, 40, 49), figure(line, 49, 58)};
-    }
+    uint32_t rows[ROWS];
+    if (rapyheo_read_records(records, records_length, rows, ROWS) != 0)
+        return image;
+    for (const uint32_t *row = rows; row < rows + ROWS; row += RAPYHEO_RECORD_NUMBERS)
+        if (memcmp(row, &key, sizeof key) == 0)
+            memcpy(&image, row + 6, sizeof image);
     return image;
 }
 
@@ -76,11 +70,20 @@ static rapyheo_transaction begin(void) {
     return order;
 }
 
-static void advance(rapyheo_transaction *list, size_t length, size_t place, uint32_t clock) {
+/* Where an advance has led: phase, place in it and verdict. */
+static void say_step(const rapyheo_transaction *order) {
     static const char *const phases[] = {"open", "prepare", "check", "decide", "withdraw", "finish", "undo", "done"};
+    static const char *const verdicts[] = {"none", "committed", "aborted"};
+    printf("%s, place %" PRIu32 ", verdict %s\n", phases[order->phase], order->place, verdicts[order->verdict]);
+}
+
+static void advance(rapyheo_transaction *list, size_t length, size_t place, uint32_t clock) {
     printf("advance place %zu of %zu at clock %" PRIu32 ": ", place, length, clock);
     const uint32_t answer = rapyheo_advance_at(list, length, place, records, records_length, coordinator, coordinator_length, clock);
-    say(answer, answer == 0 ? phases[list[place].phase] : "");
+    if (answer == 0)
+        say_step(&list[place]);
+    else
+        say(answer, "");
     show();
 }
 
@@ -143,11 +146,34 @@ static void refused_calls(void) {
     show();
 }
 
+static void say_numbers(const uint32_t *numbers, size_t length) {
+    for (size_t i = 0; i < length; i++)
+        printf(" %" PRIu32, numbers[i]);
+    puts("");
+}
+
+/* Both sheets as numbers, and other memory written from them: the same bytes. A target one number short is refused and stays as it was. */
+static void numbers_and_back(void) {
+    uint32_t rows[ROWS], decisions[DECISIONS];
+    uint8_t records_again[sizeof records], coordinator_again[sizeof coordinator];
+    printf("records to numbers: %" PRIu32 "\n", rapyheo_read_records(records, records_length, rows, ROWS));
+    for (size_t line = 0; line < LINES; line++)
+        say_numbers(rows + line * RAPYHEO_RECORD_NUMBERS, RAPYHEO_RECORD_NUMBERS);
+    printf("coordinator to numbers: %" PRIu32 "\n", rapyheo_read_coordinator(coordinator, coordinator_length, decisions, DECISIONS));
+    say_numbers(decisions, DECISIONS);
+    printf("numbers to records: %" PRIu32 ", ", rapyheo_write_records(rows, ROWS, records_again, records_length));
+    puts(memcmp(records, records_again, records_length) == 0 ? "the same bytes" : "other bytes");
+    printf("numbers to coordinator: %" PRIu32 ", ", rapyheo_write_coordinator(decisions, DECISIONS, coordinator_again, coordinator_length));
+    puts(memcmp(coordinator, coordinator_again, coordinator_length) == 0 ? "the same bytes" : "other bytes");
+    printf("records to numbers, one number short: %" PRIu32 "\n", rapyheo_read_records(records, records_length, rows, ROWS - 1));
+}
+
 int main(void) {
     check();
     undone_order();
     finished_order();
     refused_calls();
     check();
+    numbers_and_back();
     return 0;
 }

@@ -22,6 +22,9 @@
  *
  * Coordinator sheet: lines of 15 bytes, the last byte LF. The head has the count of numbers issued (4 columns), a space and the unit letters
  * of storages 1 to 9: R, P, T, N or S. Then come 1 to 999 lines: k (4 columns) and COMMITTED, ABORTED or `-` (10 columns).
+ *
+ * As numbers, a record is fifteen in the order of its columns, the state among them; a coordinator is its count, the nine units and one number
+ * for each line, whose own number is its place. Words and letters have the numbers of RAPYHEO_STATE_.., RAPYHEO_UNIT_.. and RAPYHEO_DECISION_..
  */
 #ifndef RAPYHEO_H
 #define RAPYHEO_H
@@ -36,6 +39,8 @@ extern "C" {
 enum {
     RAPYHEO_RECORD_BYTES = 98,
     RAPYHEO_COORDINATOR_BYTES = 15,
+    RAPYHEO_RECORD_NUMBERS = 15, /* numbers of one record */
+    RAPYHEO_HEAD_NUMBERS = 10,   /* numbers of a coordinator before those of its lines */
     RAPYHEO_ENTRIES = 8, /* entries of a transaction */
     RAPYHEO_LIST = 16,   /* transactions in a list */
     RAPYHEO_REFUSED = 1000 /* an answer of begin, visit or advance_at above this is 1000 + the refusal */
@@ -43,8 +48,8 @@ enum {
 
 /* Refusals. The lowest that applies is given. A call here gives only those that its comment names. */
 enum {
-    RAPYHEO_BAD_RECORDS = 1,      /* the record sheet breaks a rule */
-    RAPYHEO_BAD_COORDINATOR = 2,  /* the coordinator sheet does, or a record names a number that is not issued */
+    RAPYHEO_BAD_RECORDS = 1,      /* the record sheet, or records in numbers, break a rule, or a target has another length than needed */
+    RAPYHEO_BAD_COORDINATOR = 2,  /* the coordinator sheet does, or its numbers do, or a record names a number that is not issued */
     RAPYHEO_BAD_TRANSACTION = 3,  /* the one named is not well formed, the list is over 16, or it has no such place */
     RAPYHEO_WRONG_PHASE = 4,      /* not for this phase, or the own coordinator line forbids the step */
     RAPYHEO_BAD_KEY = 5,          /* a key field is out of range */
@@ -74,6 +79,11 @@ enum {
 };
 
 enum { RAPYHEO_NO_VERDICT = 0, RAPYHEO_COMMITTED = 1, RAPYHEO_ABORTED = 2 };
+
+/* Words and letters of the sheets in lists of numbers. */
+enum { RAPYHEO_STATE_ABSENT = 0, RAPYHEO_STATE_COMMITTED = 1, RAPYHEO_STATE_PREPARED = 2 };
+enum { RAPYHEO_UNIT_RECORD = 0, RAPYHEO_UNIT_PARTITION = 1, RAPYHEO_UNIT_TABLE = 2, RAPYHEO_UNIT_NAMESPACE = 3, RAPYHEO_UNIT_STORAGE = 4 };
+enum { RAPYHEO_DECISION_NONE = 0, RAPYHEO_DECISION_COMMITTED = 1, RAPYHEO_DECISION_ABORTED = 2 };
 
 /* The namespace is spelled `name_space`, since C++ keeps the other word. */
 typedef struct rapyheo_key {
@@ -116,18 +126,44 @@ typedef struct rapyheo_transaction {
     rapyheo_entry entries[RAPYHEO_ENTRIES];
 } rapyheo_transaction;
 
+/* How the engine lays out what is lent to it: sizes alone would let two fields change places. */
 #ifdef __cplusplus
 #define RAPYHEO_SIZE(type, bytes) static_assert(sizeof(type) == (bytes), #type)
+#define RAPYHEO_AT(type, field, byte) static_assert(offsetof(type, field) == (byte), #type "." #field)
 #else
 #define RAPYHEO_SIZE(type, bytes) _Static_assert(sizeof(type) == (bytes), #type)
+#define RAPYHEO_AT(type, field, byte) _Static_assert(offsetof(type, field) == (byte), #type "." #field)
 #endif
-RAPYHEO_SIZE(rapyheo_key, 20);
-RAPYHEO_SIZE(rapyheo_image, 16);
-RAPYHEO_SIZE(rapyheo_columns, 8);
-RAPYHEO_SIZE(rapyheo_entry, 48);
-RAPYHEO_SIZE(rapyheo_transaction, 408);
 RAPYHEO_SIZE(size_t, 8);
+RAPYHEO_SIZE(rapyheo_key, 20);
+RAPYHEO_AT(rapyheo_key, storage, 0);
+RAPYHEO_AT(rapyheo_key, name_space, 4);
+RAPYHEO_AT(rapyheo_key, table, 8);
+RAPYHEO_AT(rapyheo_key, partition, 12);
+RAPYHEO_AT(rapyheo_key, clustering, 16);
+RAPYHEO_SIZE(rapyheo_image, 16);
+RAPYHEO_AT(rapyheo_image, version, 0);
+RAPYHEO_AT(rapyheo_image, txid, 4);
+RAPYHEO_AT(rapyheo_image, column1, 8);
+RAPYHEO_AT(rapyheo_image, column2, 12);
+RAPYHEO_SIZE(rapyheo_columns, 8);
+RAPYHEO_AT(rapyheo_columns, column1, 0);
+RAPYHEO_AT(rapyheo_columns, column2, 4);
+RAPYHEO_SIZE(rapyheo_entry, 48);
+RAPYHEO_AT(rapyheo_entry, key, 0);
+RAPYHEO_AT(rapyheo_entry, seen, 20);
+RAPYHEO_AT(rapyheo_entry, wrote, 36);
+RAPYHEO_AT(rapyheo_entry, put, 40);
+RAPYHEO_SIZE(rapyheo_transaction, 408);
+RAPYHEO_AT(rapyheo_transaction, number, 0);
+RAPYHEO_AT(rapyheo_transaction, serializable, 4);
+RAPYHEO_AT(rapyheo_transaction, phase, 8);
+RAPYHEO_AT(rapyheo_transaction, place, 12);
+RAPYHEO_AT(rapyheo_transaction, verdict, 16);
+RAPYHEO_AT(rapyheo_transaction, count, 20);
+RAPYHEO_AT(rapyheo_transaction, entries, 24);
 #undef RAPYHEO_SIZE
+#undef RAPYHEO_AT
 
 /* 0 where both sheets are accepted, else the refusal itself: 1 or 2. */
 uint32_t rapyheo_check(const uint8_t *records, size_t records_length, const uint8_t *coordinator, size_t coordinator_length);
@@ -142,6 +178,21 @@ uint32_t rapyheo_visit(uint8_t *records, size_t records_length, uint8_t *coordin
 /* Advances the transaction at a place of the list, counted from 0, by one step, there: 0, or 1000 + 1, 2, 3 or 4. The others stay. */
 uint32_t rapyheo_advance_at(rapyheo_transaction *list, size_t list_length, size_t place, uint8_t *records, size_t records_length,
                             uint8_t *coordinator, size_t coordinator_length, uint32_t clock);
+
+/* Sheets to numbers and back. Each answers 0, or the refusal itself, as the check does; which numbers records name is not looked at. A target is
+ * exactly as long as whole lines or records need, else 1 is answered, before 2. A refused one stays as it was. */
+
+/* Record sheet to numbers, 15 for each line: 0 or 1. */
+uint32_t rapyheo_read_records(const uint8_t *records, size_t records_length, uint32_t *numbers, size_t numbers_length);
+
+/* Numbers to record sheet, 98 bytes for each record: 0 or 1. */
+uint32_t rapyheo_write_records(const uint32_t *numbers, size_t numbers_length, uint8_t *records, size_t records_length);
+
+/* Coordinator sheet to numbers, 10 for the head and one for each line: 0, 1 or 2. */
+uint32_t rapyheo_read_coordinator(const uint8_t *coordinator, size_t coordinator_length, uint32_t *numbers, size_t numbers_length);
+
+/* Numbers to coordinator sheet, 15 bytes for the head and for each line: 0, 1 or 2. */
+uint32_t rapyheo_write_coordinator(const uint32_t *numbers, size_t numbers_length, uint8_t *coordinator, size_t coordinator_length);
 
 #ifdef __cplusplus
 }
