@@ -7,6 +7,10 @@
  *   - each write to the lines of one unit of the record sheet, or to the coordinator sheet, stands whole or not at all after a crash.
  * Nothing else is asked. Whatever the bytes and numbers are, a call returns, and a refused one changes no byte of any slice.
  *
+ * What is proved of whole orders, that none is lost and none is half done after any crash, speaks of transactions as calls return them, each state
+ * handed on once. There is no read and no put here, so a client fills its entries itself and stands outside that claim: each call judges what it is
+ * given, but an entry added in the phase decide, or a saved state handed in again after a crash, can break an order with every call answering 0.
+ *
  * Record sheet: 1 to 500 lines of 98 bytes, the last byte LF. Figures are decimal, right-justified, filled with spaces, without leading zeros.
  *
  *   bytes  0- 1  storage, 1-9                 bytes 40-48  column 1, 0-99999999
