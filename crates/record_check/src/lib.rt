@@ -17,9 +17,8 @@ ghost use Rattle.record_check.specs.Tables.{tables};
 // The state word of each kind of line, in ten bytes: ABSENT, COMMITTED, PREPARED over nothing and PREPARED over a version.
 const WORDS: [u8; 40] = *b"    ABSENT COMMITTED  PREPARED  PREPARED";
 
-// The tables of each kind of line, in three rows of 97 bytes: for each place but
-// LF the lowest byte, which may not follow a space, the highest, and one more that may follow a space. A fixed byte is all three, so zeros and
-// blank columns are judged in the same pass as the figures.
+// The tables of each kind of line, in three rows of 97 bytes: for each place but LF the lowest byte, which may not follow a space, the highest, and one
+// more that may follow a space. A fixed byte is all three, so zeros and blank columns are judged in the same pass as the figures.
 const TABLES: [u8; 1164] = *b"\
 \x200 00 00 00000 00000    ABSENT     0   0        0        0     0   0        0        0          0\
 \x209 99 99 99999 99999    ABSENT     0   0        0        0     0   0        0        0          0\
@@ -34,8 +33,8 @@ const TABLES: [u8; 1164] = *b"\
 \x209 99 99 99999 99999  PREPARED 99999 999 99999999 99999999 99999 999 99999999 99999999 9999999999\
 \x209  9  9     0     0  PREPARED     0   9        0        0     0   0        0        0          0";
 
-// The number of the kind whose state word the line has, if it is good. The first eight bytes tell the words apart, and before version whether it is one
-// more. It is counted, so that its tables are found without a branch on what the line says.
+// The number of the line's kind, if it is good: the first eight bytes of its state word tell the words apart, and over a version it is one more. It is
+// counted, so that word and tables are found without a branch on what the line says.
 fn kind(line: &[u8], words: &[u8]) -> usize
     requires { ⌜ length (now line) ≡ 98 ⌝ }
     requires { ⌜ now words ≡ kindWords ⌝ }
@@ -130,11 +129,11 @@ fn key_rises(s: &[u8], i: usize, n: usize) -> bool
     requires { ⌜ i < n ⌝ }
     ensures { λ r. ⌜ r ≡ keyBefore (n - (i + 1)) (drop (i * 98) (now (s .entry))) ⌝ }
 {
-    let at = i * 98;
-    let next = at + 98;
-    if next == s.len() {
+    if i + 1 == n {
         return true;
     }
+    let at = i * 98;
+    let next = at + 98;
     places::key_less(s, at, next)
 }
 

@@ -8,11 +8,8 @@ use Rattle.record_check.specs.Sheet.{keyBefore}
 use Rattle.record_check.proofs.key_rises.Statement.{statement}
 use Rattle.record_check.proofs.key_rises.Tie as tie
 
-mul-at : tie.Need-mul-at
-mul-at c = search needs
-
-add-next : tie.Need-add-next
-add-next c = search needs
+add-if1 : tie.Need-add-if1
+add-if1 c = search needs
 
 returns : tie.Need-returns
 unfolding keyBefore
@@ -20,6 +17,12 @@ returns c =
     let a = c .before .before .args in
     let e : a .n - (a .i + 1) ≡ 0 = omega arith in
     rw e
+
+mul-at : tie.Need-mul-at
+mul-at c = search needs
+
+add-next : tie.Need-add-next
+add-next c = search needs
 
 key-less-requires : tie.Need-key-less-requires
 key-less-requires c κs = search needs
@@ -32,4 +35,4 @@ returns-2 c =
     rw (e, drop-drop 98 (a .i * 98) (a .s .now)) (c .key-less .ensures)
 
 pub key-rises-spec : {M : Type 1} → statement M
-key-rises-spec = tie.close (tie.spec mul-at add-next returns key-less-requires returns-2)
+key-rises-spec = tie.close (tie.spec add-if1 returns mul-at add-next key-less-requires returns-2)
