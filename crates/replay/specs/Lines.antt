@@ -16,7 +16,7 @@ use Rattle.decimal.specs.declared.Scan.the-variants.{Blank, Number, Wrong}
 use Rattle.decimal.specs.Field.{figure}
 use Rattle.replay.specs.declared.scan.Command.{Command}
 use Rattle.replay.specs.declared.scan.Kind.{Kind}
-use Rattle.replay.specs.declared.scan.Kind.the-variants.{Check, Begin, Read, Put, Advance, Abort, Visit, Lookup, Show, Set, Entry, BadLine}
+use Rattle.replay.specs.declared.scan.Kind.the-variants.{Check, Begin, Read, Put, Advance, Abort, Visit, Lookup, Line, Show, Set, Entry, BadLine}
 use Rattle.replay.specs.declared.scan.Numbers.{Numbers}
 
 -- The words.
@@ -32,18 +32,46 @@ words [] = [] ∷ []
 words (b ∷ s) = cond (eqb b 32) ([] ∷ words s) (longer b (words s))
 
 -- The call that a word names.
+
+-- the first of four that is named, or else another
+unfoldable pub firstNamed : Bool → Kind → Bool → Kind → Bool → Kind → Bool → Kind → Kind → Kind
+firstNamed a k b l c m d n other = cond a k (cond b l (cond c m (cond d n other)))
+
+-- the other calls on a slot
+unfoldable pub otherSlotKind : List ℕ → Kind
+otherSlotKind w =
+    firstNamed (eqList w (bytes "abort")) Abort (eqList w (bytes "show")) Show (eqList w (bytes "set")) Set (eqList w (bytes "entry")) Entry BadLine
+
+-- a call on a slot
+unfoldable pub slotKind : List ℕ → Kind
+slotKind w =
+    firstNamed (eqList w (bytes "begin")) Begin (eqList w (bytes "read")) Read (eqList w (bytes "put")) Put (eqList w (bytes "advance")) Advance (otherSlotKind w)
+
+-- any call
 unfoldable pub kindOf : List ℕ → Kind
 kindOf w =
-    cond (eqList w (bytes "check")) Check
-    (cond (eqList w (bytes "begin")) Begin
-    (cond (eqList w (bytes "read")) Read
-    (cond (eqList w (bytes "put")) Put
-    (cond (eqList w (bytes "advance")) Advance
-    (cond (eqList w (bytes "abort")) Abort
-    (cond (eqList w (bytes "visit")) Visit
-    (cond (eqList w (bytes "lookup")) Lookup
-    (cond (eqList w (bytes "show")) Show
-    (cond (eqList w (bytes "set")) Set (cond (eqList w (bytes "entry")) Entry BadLine))))))))))
+    firstNamed (eqList w (bytes "check")) Check (eqList w (bytes "visit")) Visit (eqList w (bytes "lookup")) Lookup (eqList w (bytes "line")) Line (slotKind w)
+
+module _ (a b c d : Bool) (k l m n other : Kind) where
+  pub first-named : a ≡ true → k ≡ firstNamed a k b l c m d n other
+  unfolding firstNamed
+  first-named e = rw e
+
+  pub second-named : a ≡ false → b ≡ true → l ≡ firstNamed a k b l c m d n other
+  unfolding firstNamed
+  second-named e f = rw (e, f)
+
+  pub third-named : a ≡ false → b ≡ false → c ≡ true → m ≡ firstNamed a k b l c m d n other
+  unfolding firstNamed
+  third-named e f g = rw (e, f, g)
+
+  pub fourth-named : a ≡ false → b ≡ false → c ≡ false → d ≡ true → n ≡ firstNamed a k b l c m d n other
+  unfolding firstNamed
+  fourth-named e f g h = rw (e, f, g, h)
+
+  pub none-named : a ≡ false → b ≡ false → c ≡ false → d ≡ false → other ≡ firstNamed a k b l c m d n other
+  unfolding firstNamed
+  none-named e f g h = rw (e, f, g, h)
 
 -- how many numbers a call has
 abbrev pub arity : Kind → ℕ
@@ -55,6 +83,7 @@ arity Advance = 2
 arity Abort = 1
 arity Visit = 6
 arity Lookup = 5
+arity Line = 5
 arity Show = 1
 arity Set = 7
 arity Entry = 14

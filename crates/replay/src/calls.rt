@@ -1,5 +1,7 @@
 // The calls of a history, each by the engine's.
+ghost use mathlib.Core.Path.{_≡_};
 ghost use Prim.Native.Nat.{_≤_};
+ghost use Rattle.replay.specs.Parts.{keyFrom, asksLine, partAsked};
 use crate::reply;
 use crate::reply::Form;
 use crate::reply::Reply;
@@ -21,6 +23,7 @@ pub struct Done {
 // The key whose five numbers begin at `at`.
 fn key_at(n: [u32; 14], at: usize) -> Key
     requires { ⌜ at ≤ 9 ⌝ }
+    ensures { λ r. ⌜ r ≡ keyFrom n at ⌝ }
 {
     Key {
         storage: n[at],
@@ -31,7 +34,7 @@ fn key_at(n: [u32; 14], at: usize) -> Key
     }
 }
 
-fn ok() -> Reply
+pub fn ok() -> Reply
     ensures { λ r. ⌜ r .count ≤ 102 ⌝ }
 {
     reply::answer(Form::Made, 0, 0, 0, 0)
@@ -72,6 +75,38 @@ pub fn lookup(n: [u32; 14], records: &[u8]) -> Reply
         Found::At(i) => reply::answer(Form::Made, 1, i as u32, 0, 0),
         Found::Nothing => reply::refused(6),
     }
+}
+
+fn asks_line(kind: Kind) -> bool
+    ensures { λ r. ⌜ r ≡ asksLine kind ⌝ }
+{
+    match kind {
+        Kind::Check => false,
+        Kind::Begin => false,
+        Kind::Read => false,
+        Kind::Put => false,
+        Kind::Advance => false,
+        Kind::Abort => false,
+        Kind::Visit => false,
+        Kind::Lookup => false,
+        Kind::Line => true,
+        Kind::Show => false,
+        Kind::Set => false,
+        Kind::Entry => false,
+        Kind::BadLine => false,
+    }
+}
+
+// What is printed after the reply: the part of the record sheet that the look-up hands back, and an empty part for a call that asks for none.
+pub fn part(c: Command, records: &[u8]) -> &[u8]
+    ensures { λ r. ⌜ now r ≡ partAsked c (now (records .entry)) ⌝ }
+{
+    let kind = c.kind;
+    let n = c.numbers;
+    if !asks_line(kind) {
+        return &records[..0];
+    }
+    sheets::lookup::lookup(records, key_at(n, 0))
 }
 
 // A refused begin leaves the slot as it was.

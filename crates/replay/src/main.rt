@@ -10,8 +10,27 @@ mod reply;
 mod scan;
 mod slots;
 
+use reply::Reply;
+use scan::Command;
+
 // A history has at most 500,000 bytes, and one byte more tells a longer one.
 const LONGEST: usize = 500000;
+
+// The reply to a call as a line, with the part of the record sheet that the call asks for.
+fn answer(
+    command: Command,
+    reply: Reply,
+    records: &[u8],
+    out: &mut [u8; 4096],
+    fill: usize,
+) -> usize
+    requires { ⌜ reply .count ≤ 102 ⌝ }
+    requires { ⌜ fill ≤ 4096 ⌝ }
+    ensures { λ r. ⌜ r ≤ 4096 ⌝ }
+{
+    let part = calls::part(command, records);
+    print::line(reply, part, out, fill)
+}
 
 // The answers to the calls after the sheets, in order. The record sheet is input[from..to].
 fn answer_calls(
@@ -30,11 +49,13 @@ fn answer_calls(
     let mut at = to;
     while at < n {
         let end = scan::end_of(input, at, b'\n');
+        let next = end + 1;
         let command = scan::parse(&input[at..end]);
         let turn = slots::run(command, slots, &mut input[from..to], coordinator);
         slots = turn.slots;
-        fill = print::line(turn.reply, out, fill);
-        at = end + 1;
+        let reply = turn.reply;
+        fill = answer(command, reply, &input[from..to], out, fill);
+        at = next;
     }
     fill
 }

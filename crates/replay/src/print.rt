@@ -69,8 +69,22 @@ fn numbers(values: [u32; 102], count: usize, out: &mut [u8; 4096], fill: usize) 
     at
 }
 
-// A reply as a line.
-pub fn line(r: Reply, out: &mut [u8; 4096], fill: usize) -> usize
+// A space and a part of the sheet without its LF; nothing for an empty part.
+fn part(s: &[u8], out: &mut [u8; 4096], fill: usize) -> usize
+    requires { ⌜ fill ≤ 4096 ⌝ }
+    ensures { λ r. ⌜ r ≤ 4096 ⌝ }
+{
+    let n = s.len();
+    if n == 0 {
+        return fill;
+    }
+    let end = n - 1;
+    let at = byte(b' ', out, fill);
+    text(&s[..end], out, at)
+}
+
+// A reply as a line, with the part of the sheet that was asked for.
+pub fn line(r: Reply, s: &[u8], out: &mut [u8; 4096], fill: usize) -> usize
     requires { ⌜ r .count ≤ 102 ⌝ }
     requires { ⌜ fill ≤ 4096 ⌝ }
     ensures { λ r. ⌜ r ≤ 4096 ⌝ }
@@ -80,6 +94,7 @@ pub fn line(r: Reply, out: &mut [u8; 4096], fill: usize) -> usize
     let values = r.numbers;
     let at = words(form, out, fill);
     let at = numbers(values, count, out, at);
+    let at = part(s, out, at);
     byte(b'\n', out, at)
 }
 

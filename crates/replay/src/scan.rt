@@ -2,7 +2,7 @@
 ghost use mathlib.Core.Path.{_≡_};
 ghost use Prim.Native.Nat.{_+_, _≤_};
 ghost use lib.ListN.{length, drop};
-ghost use Rattle.replay.specs.Lines.{kindOf, noNumbers, withWord, withWords, wordsAfter, badCommand, called, said, upTo};
+ghost use Rattle.replay.specs.Lines.{otherSlotKind, slotKind, kindOf, noNumbers, withWord, withWords, wordsAfter, badCommand, called, said, upTo};
 ghost use Rattle.replay.specs.Lines as model;
 use decimal::Scan;
 
@@ -16,6 +16,7 @@ pub enum Kind {
     Abort,
     Visit,
     Lookup,
+    Line,
     Show,
     Set,
     Entry,
@@ -52,12 +53,29 @@ pub fn end_of(s: &[u8], at: usize, mark: u8) -> usize
     i
 }
 
-fn kind_of(word: &[u8]) -> Kind
-    ensures { λ r. ⌜ r ≡ kindOf (now (word .entry)) ⌝ }
+// Another call on a slot.
+fn other_slot_kind(word: &[u8]) -> Kind
+    ensures { λ r. ⌜ r ≡ otherSlotKind (now (word .entry)) ⌝ }
 {
-    if decimal::same(word, b"check") {
-        return Kind::Check;
+    if decimal::same(word, b"abort") {
+        return Kind::Abort;
     }
+    if decimal::same(word, b"show") {
+        return Kind::Show;
+    }
+    if decimal::same(word, b"set") {
+        return Kind::Set;
+    }
+    if decimal::same(word, b"entry") {
+        return Kind::Entry;
+    }
+    Kind::BadLine
+}
+
+// A call on a slot.
+fn slot_kind(word: &[u8]) -> Kind
+    ensures { λ r. ⌜ r ≡ slotKind (now (word .entry)) ⌝ }
+{
     if decimal::same(word, b"begin") {
         return Kind::Begin;
     }
@@ -70,8 +88,15 @@ fn kind_of(word: &[u8]) -> Kind
     if decimal::same(word, b"advance") {
         return Kind::Advance;
     }
-    if decimal::same(word, b"abort") {
-        return Kind::Abort;
+    other_slot_kind(word)
+}
+
+// The call that a word names.
+fn kind_of(word: &[u8]) -> Kind
+    ensures { λ r. ⌜ r ≡ kindOf (now (word .entry)) ⌝ }
+{
+    if decimal::same(word, b"check") {
+        return Kind::Check;
     }
     if decimal::same(word, b"visit") {
         return Kind::Visit;
@@ -79,16 +104,10 @@ fn kind_of(word: &[u8]) -> Kind
     if decimal::same(word, b"lookup") {
         return Kind::Lookup;
     }
-    if decimal::same(word, b"show") {
-        return Kind::Show;
+    if decimal::same(word, b"line") {
+        return Kind::Line;
     }
-    if decimal::same(word, b"set") {
-        return Kind::Set;
-    }
-    if decimal::same(word, b"entry") {
-        return Kind::Entry;
-    }
-    Kind::BadLine
+    slot_kind(word)
 }
 
 // How many numbers a call has.
@@ -104,6 +123,7 @@ fn arity(kind: Kind) -> usize
         Kind::Abort => 1,
         Kind::Visit => 6,
         Kind::Lookup => 5,
+        Kind::Line => 5,
         Kind::Show => 1,
         Kind::Set => 7,
         Kind::Entry => 14,

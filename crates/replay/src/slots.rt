@@ -72,6 +72,10 @@ pub fn run(c: Command, slots: [Transaction; 16], records: &mut [u8], coordinator
             slots,
             reply: calls::lookup(n, records),
         },
+        Kind::Line => Turn {
+            slots,
+            reply: calls::ok(),
+        },
         _ => on_slot(c, slots, records, coordinator),
     }
 }

@@ -22,6 +22,9 @@ loop-holds c = search needs
 end-of-requires : tie.Need-end-of-requires Inv-loop μ-loop
 end-of-requires c κs = search needs
 
+add-next : tie.Need-add-next Inv-loop μ-loop
+add-next c = search needs
+
 sub-parse : tie.Need-sub-parse Inv-loop μ-loop
 sub-parse c = search needs
 
@@ -46,11 +49,17 @@ part-run-end c = search needs
 run-requires : tie.Need-run-requires Inv-loop μ-loop
 run-requires c κs = search needs
 
-line-requires : tie.Need-line-requires Inv-loop μ-loop
-line-requires c κs = search needs
+sub-answer : tie.Need-sub-answer Inv-loop μ-loop
+sub-answer c = search needs
 
-add-at : tie.Need-add-at Inv-loop μ-loop
-add-at c = search needs
+part-answer-start : tie.Need-part-answer-start Inv-loop μ-loop
+part-answer-start c = search needs
+
+part-answer-end : tie.Need-part-answer-end Inv-loop μ-loop
+part-answer-end c = search needs
+
+answer-requires : tie.Need-answer-requires Inv-loop μ-loop
+answer-requires c κs = search needs
 
 loop-less : tie.Need-loop-less Inv-loop μ-loop
 loop-less c = search needs
@@ -76,6 +85,7 @@ answer-calls-spec =
     empty-requires
     loop-holds
     end-of-requires
+    add-next
     sub-parse
     part-parse-start
     part-parse-end
@@ -84,8 +94,10 @@ answer-calls-spec =
     part-run-start
     part-run-end
     run-requires
-    line-requires
-    add-at
+    sub-answer
+    part-answer-start
+    part-answer-end
+    answer-requires
     loop-less
     loop-again
     same-length
