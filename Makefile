@@ -1,12 +1,12 @@
 # The commands of the README. `make test` is the whole gate.
-.PHONY: test proofs wrong reference-tests programs outside histories visits visit differ soak bench archive client client-test install
+.PHONY: test wrong reference-tests programs outside histories visits visit differ soak faults bench archive client client-test install
 
 # Everything is proved from nothing first, since `rt ci` removes what was built. What it leaves is then held from outside, and the last line is its own.
 test:
 	rt fmt --check
 	tests/prove.sh
 	$(MAKE) --no-print-directory archive programs
-	$(MAKE) --no-print-directory -j2 -O wrong reference-tests outside
+	$(MAKE) --no-print-directory -j2 -O wrong reference-tests faults outside
 	@tail -n 1 target/ci.log
 
 # the separate implementation's own tests
@@ -53,6 +53,10 @@ differ: archive programs
 SEED ?= $(shell date +%s)
 soak: archive programs
 	cd reference && cargo run --release --quiet --features engine --bin differ 3000000 $(SEED) 600
+
+# the comparison itself: faults in the separate implementation, each of which must show as a difference within a third of its calls
+faults:
+	cd reference && cargo run --release --quiet --features faults --bin faults
 
 # the engine's time beside a baseline in safe Rust, printed and drawn
 bench: archive

@@ -22,8 +22,8 @@ const EDGES: [u32; 9] = [
 /// same namespace or table, so that puts of one transaction often share a unit.
 pub fn close_keys(random: &mut Random, count: usize) -> BTreeSet<[u32; 5]> {
     let same = match count {
-        ..=6 => random.pick(&[0, 2, 3]),
-        _ => random.pick(&[0, 2]),
+        ..=6 => random.pick(&[0, 1, 2, 3]),
+        _ => random.pick(&[0, 1, 2]),
     };
     let mut keys = BTreeSet::new();
     while keys.len() < count {
@@ -44,23 +44,36 @@ fn close_key(random: &mut Random) -> [u32; 5] {
     ]
 }
 
+/// A place in the key and a number just out of its range.
+const BEYOND: [(usize, u32); 8] = [
+    (0, 0),
+    (0, 10),
+    (1, 0),
+    (1, 100),
+    (2, 0),
+    (2, 100),
+    (3, 100_000),
+    (4, 100_000),
+];
+
 /// The key of a line, mostly; else one that may have no line, or with a field out of range.
 pub fn any_key(random: &mut Random, records: &[Record]) -> Key {
     let mut numbers = random.pick(records).key.numbers();
     match random.below(16) {
         0 => numbers = close_key(random),
         1 => {
-            let beyond = random.pick(&[0, 10, 100, 100_000, u32::MAX]);
-            numbers[random.below(5)] = beyond;
+            let (field, beyond) = random.pick(&BEYOND);
+            numbers[field] = random.pick(&[beyond, beyond, u32::MAX]);
         }
         _ => {}
     }
     Key::from_numbers(numbers)
 }
 
-/// Two put columns, seldom too large.
-pub fn columns(random: &mut Random) -> [u32; 2] {
-    let mut column = || match random.below(24) {
+/// Two put columns, seldom too large, more often where something else is wrong too.
+pub fn columns(random: &mut Random, wrong: bool) -> [u32; 2] {
+    let seldom = if wrong { 4 } else { 24 };
+    let mut column = || match random.below(seldom) {
         0 => random.pick(&[100_000_000, u32::MAX]),
         _ => random.figure(0, 99_999_999),
     };
@@ -81,6 +94,15 @@ pub fn clock(random: &mut Random, records: &[Record]) -> u32 {
     }
     let record = random.pick(&prepared);
     reading_after(random, record)
+}
+
+/// A reading for a call on the line of this key: near an edge of its own clock, if it is prepared.
+pub fn clock_for(random: &mut Random, key: &Key, records: &[Record]) -> u32 {
+    let line = records.iter().find(|record| record.key == *key);
+    match line {
+        Some(record) if record.state == State::Prepared => reading_after(random, record),
+        _ => clock(random, records),
+    }
 }
 
 /// A reading at some time after the line was prepared, most often near an edge.

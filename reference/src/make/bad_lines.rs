@@ -30,7 +30,7 @@ const WORDS: [&str; 18] = [
 pub fn bad_line(random: &mut Random, good: &str) -> Vec<u8> {
     let mut line = good.as_bytes().to_vec();
     let place = random.below(line.len());
-    match random.below(9) {
+    match random.below(10) {
         0 => line[place] = random.pick(TELLING),
         1 => line.insert(place, random.pick(TELLING)),
         2 => drop(line.remove(place)),
@@ -38,6 +38,11 @@ pub fn bad_line(random: &mut Random, good: &str) -> Vec<u8> {
         4 => line.push(random.pick(b" \r\t\0,1")),
         5 => line.insert(0, b' '),
         6 => line.resize(line.len() + random.pick(&[1, 100, 5_000]), b'7'),
+        // Two spaces for one.
+        7 if line.contains(&b' ') => {
+            let place = line.iter().rposition(|byte| *byte == b' ');
+            line.insert(place.unwrap_or(0), b' ');
+        }
         _ => return other_word(random, good),
     }
     line
@@ -45,7 +50,11 @@ pub fn bad_line(random: &mut Random, good: &str) -> Vec<u8> {
 
 fn other_word(random: &mut Random, good: &str) -> Vec<u8> {
     let mut words: Vec<&str> = good.split(' ').collect();
-    let place = random.below(words.len());
+    // The second word is a slot or a key's storage.
+    let place = match random.once_in(2) {
+        true => 1.min(words.len() - 1),
+        false => random.below(words.len()),
+    };
     match random.below(4) {
         0 => words.insert(place, random.pick(&WORDS)),
         1 => drop(words.remove(place)),
@@ -56,14 +65,17 @@ fn other_word(random: &mut Random, good: &str) -> Vec<u8> {
 
 /// An input whose first line or length is changed, or any byte.
 pub fn bad_input(random: &mut Random, mut input: Vec<u8>) -> Vec<u8> {
-    let place = random.below(FIRST_LINE);
-    match random.below(8) {
+    let place = match random.once_in(4) {
+        true => FIRST_LINE - 1,
+        false => random.below(FIRST_LINE),
+    };
+    match random.below(9) {
         0 | 1 => input[place] = random.pick(TELLING),
         2 => input.insert(place, random.pick(TELLING)),
         3 => drop(input.remove(place)),
         4 => input.truncate(random.below(input.len())),
         5 => input.truncate(random.below(FIRST_LINE + 1)),
-        6 => too_long(random, &mut input),
+        6 | 7 => too_long(random, &mut input),
         _ => {
             let place = random.below(input.len());
             input[place] = random.pick(TELLING);

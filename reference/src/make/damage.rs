@@ -76,19 +76,23 @@ pub fn damage(random: &mut Random, sheets: &mut Sheets) {
     if sheets.records.len() < RECORD_LINE || sheets.coordinator.len() < 2 * COORDINATOR_LINE {
         return; // An earlier damage left nothing to work on.
     }
-    match random.below(20) {
+    match random.below(28) {
         0..=2 => any_byte(random, &mut sheets.records),
         3 => any_byte(random, &mut sheets.coordinator),
         4 => length(random, &mut sheets.records, RECORD_LINE),
         5 => length(random, &mut sheets.coordinator, COORDINATOR_LINE),
         6..=8 => figure_text(random, &mut sheets.records),
-        9 | 10 => figure_value(random, &mut sheets.records),
-        11 | 12 => key_order(random, &mut sheets.records),
-        13 => state_word(random, &mut sheets.records),
-        14 | 15 => state_rule(random, &mut sheets.records),
-        16 => tx_id(random, sheets),
-        17 => head(random, &mut sheets.coordinator),
-        18 => decision(random, &mut sheets.coordinator),
+        9..=11 => figure_value(random, &mut sheets.records),
+        12 | 13 => key_order(random, &mut sheets.records),
+        14 => state_word(random, &mut sheets.records),
+        15 => state_rule(random, &mut sheets.records),
+        16..=18 => lone_field(random, &mut sheets.records),
+        19 => line_end(random, &mut sheets.records, RECORD_LINE),
+        20 => line_end(random, &mut sheets.coordinator, COORDINATOR_LINE),
+        21 | 22 => tx_id(random, sheets),
+        23 | 24 => head(random, &mut sheets.coordinator),
+        25 => decision(random, &mut sheets.coordinator),
+        26 => above_the_count(random, &mut sheets.coordinator),
         _ => size(random, sheets),
     }
 }
@@ -162,11 +166,11 @@ fn figure_value(random: &mut Random, sheet: &mut [u8]) {
     let figure = &FIGURES[random.below(FIGURES.len())];
     let columns = &mut line[figure.start..figure.end];
     let widest = 10u64.pow(columns.len() as u32) - 1;
-    let value = match random.below(7) {
+    let value = match random.below(9) {
         0 => 0,
         1 => figure.least,
         2 => figure.most,
-        3 => figure.most + 1,
+        3 | 7 | 8 => figure.most + 1,
         4 => widest,
         5 => figure.most + random.draw() % (widest - figure.most) + 1,
         _ => random.draw() % (widest + 1),
@@ -198,8 +202,18 @@ fn swap(sheet: &mut [u8], one: usize, other: usize, length: usize) {
 }
 
 fn state_word(random: &mut Random, sheet: &mut [u8]) {
-    let line = some_line(random, sheet, RECORD_LINE);
-    line[20..30].copy_from_slice(&random.pick(&WORDS));
+    let word = &mut some_line(random, sheet, RECORD_LINE)[20..30];
+    match random.below(5) {
+        0 => word.make_ascii_lowercase(),
+        1 => word.rotate_left(word.iter().take_while(|b| **b == b' ').count()),
+        2 => word[0] = random.pick(TELLING),
+        _ => word.copy_from_slice(&random.pick(&WORDS)),
+    }
+}
+
+/// A line that ends in another byte.
+fn line_end(random: &mut Random, sheet: &mut [u8], line: usize) {
+    some_line(random, sheet, line)[line - 1] = random.pick(TELLING);
 }
 
 /// A line that its state's rule turns away, most often.
@@ -220,11 +234,39 @@ fn state_rule(random: &mut Random, sheet: &mut [u8]) {
     set_figure(&mut line[figure.start..figure.end], value);
 }
 
+/// The least line of a state, with one field more than it may have or one less.
+fn lone_field(random: &mut Random, sheet: &mut [u8]) {
+    let line = some_line(random, sheet, RECORD_LINE);
+    let (word, version, tx_id) = random.pick(&[
+        (b"    ABSENT", 0, 0),
+        (b" COMMITTED", 1, 0),
+        (b"  PREPARED", 1, 1),
+    ]);
+    line[20..30].copy_from_slice(word);
+    for figure in &FIGURES[5..] {
+        set_figure(&mut line[figure.start..figure.end], 0);
+    }
+    set_figure(&mut line[VERSION.start..VERSION.end], version);
+    set_figure(&mut line[TX_ID.start..TX_ID.end], tx_id);
+    let figure = &FIGURES[5 + random.below(9)];
+    let columns = &mut line[figure.start..figure.end];
+    let changed = 1 - figure_of(columns).min(1);
+    set_figure(columns, changed);
+}
+
 /// A TxID near the issued count, in the line or in its before fields.
 fn tx_id(random: &mut Random, sheets: &mut Sheets) {
     let issued = figure_of(&sheets.coordinator[0..4]);
-    let line = some_line(random, &mut sheets.records, RECORD_LINE);
     let figure = random.pick(&[&TX_ID, &BEFORE_TX_ID]);
+    // A before TxID may stand in a PREPARED line only.
+    let may_have = |line: &&mut [u8]| figure.start == TX_ID.start || line[20..30] == *b"  PREPARED";
+    let lines = sheets.records.chunks_exact_mut(RECORD_LINE);
+    let mut lines: Vec<&mut [u8]> = lines.filter(may_have).collect();
+    if lines.is_empty() {
+        return;
+    }
+    let place = random.below(lines.len());
+    let line = &mut lines[place];
     let value = random.pick(&[issued, issued + 1, issued + 1, issued + 10, 999]);
     set_figure(&mut line[figure.start..figure.end], value);
 }
@@ -233,8 +275,12 @@ fn tx_id(random: &mut Random, sheets: &mut Sheets) {
 fn head(random: &mut Random, sheet: &mut [u8]) {
     let lines = (sheet.len() / COORDINATOR_LINE - 1) as u64;
     let issued = figure_of(&sheet[0..4]);
-    let place = 4 + random.below(11);
-    match random.below(7) {
+    let place = match random.below(4) {
+        0 => 4 + random.below(11),
+        // The space, the first letter, the last and the LF.
+        _ => random.pick(&[4, 5, 13, 14]),
+    };
+    match random.below(8) {
         0 => set_figure(&mut sheet[0..4], lines + 1),
         1 => set_figure(&mut sheet[0..4], issued.saturating_sub(1)),
         2 => set_figure(&mut sheet[0..4], random.draw() % 2_000),
@@ -242,7 +288,8 @@ fn head(random: &mut Random, sheet: &mut [u8]) {
             sheet[0..4].copy_from_slice(random.pick(&[b"   -", b"    ", b"0001", b" 00 ", b"1   "]))
         }
         4 => sheet[place] = sheet[place].to_ascii_lowercase(),
-        5 => sheet[place] = random.pick(b"RPTNSrptnsABCOQU "),
+        6 => sheet[place] = sheet[place].wrapping_add(random.pick(&[1, 255])),
+        5 => sheet[place] = random.pick(b"RPTNSrptnsABCMOQU "),
         _ => sheet[place] = random.pick(TELLING),
     }
 }
@@ -261,6 +308,19 @@ fn decision(random: &mut Random, sheet: &mut [u8]) {
     }
 }
 
+/// A decision of a number that isn't issued.
+fn above_the_count(random: &mut Random, sheet: &mut [u8]) {
+    let issued = figure_of(&sheet[0..4]) as usize;
+    let lines = sheet.len() / COORDINATOR_LINE - 1;
+    if issued < lines {
+        let above = lines - issued;
+        let any = random.below(above);
+        let k = 1 + issued + random.pick(&[0, above - 1, any]);
+        let word = random.pick(&[b" COMMITTED", b"   ABORTED"]);
+        sheet[k * COORDINATOR_LINE + 4..][..10].copy_from_slice(word);
+    }
+}
+
 /// Good lines, but none, or more than a sheet may have.
 fn size(random: &mut Random, sheets: &mut Sheets) {
     let mut size = Size {
@@ -269,8 +329,8 @@ fn size(random: &mut Random, sheets: &mut Sheets) {
         issued: 2,
     };
     match random.below(40) {
-        0 => size.records = 501 + random.below(3),
-        1 => size.decisions = 1_000 + random.below(3),
+        0 => size.records = 501 + random.below(2),
+        1 => size.decisions = 1_000 + random.below(2),
         2..=12 => size.records = 0,
         13..=24 => size.decisions = 0,
         25..=32 => return sheets.coordinator.clear(),

@@ -120,18 +120,24 @@ impl History {
     }
 
     fn request(&mut self, random: &mut Random) -> Request {
-        let records = self.sheets.store().records;
+        let store = self.sheets.store();
+        let records = &store.records;
         let place = random.below(self.clients.len());
+        // In a free history most calls come from nowhere: each tries a state that clients seldom reach.
+        let strays = match self.rule {
+            Rule::Legal => 6,
+            Rule::Free => 2,
+        };
         match self.clients[place] {
-            Some(client) if !random.once_in(6) => {
+            Some(client) if !random.once_in(strays) => {
                 if stops(random, client.transaction.phase) {
                     self.clients[place] = None;
                     return begin(random);
                 }
-                client.request(random, &records)
+                client.request(random, records)
             }
             None if random.once_in(2) => begin(random),
-            _ => stray(random, &self.old, &records),
+            _ => stray(random, &self.old, &store),
         }
     }
 }

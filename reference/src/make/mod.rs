@@ -3,8 +3,10 @@
 pub mod arguments;
 pub mod bad_lines;
 pub mod closing;
+pub mod conversions;
 pub mod damage;
 pub mod exported;
+pub mod exports;
 pub mod forge;
 pub mod history;
 pub mod random;
@@ -13,6 +15,7 @@ pub mod script;
 pub mod scripts;
 pub mod sheets;
 pub mod transactions;
+pub mod visits;
 
 use crate::plain::request::{Answer, Request};
 use crate::plain::store::Store;

@@ -1,12 +1,13 @@
 //! What clients ask for: the next call of a transaction, or one that comes from nowhere.
 
-use super::arguments::{any_key, clock, columns, prepared};
+use super::arguments::{any_key, clock, clock_for, columns, prepared};
 use super::random::Random;
-use super::transactions::forged;
+use super::transactions::{forged, full};
 use crate::plain::key::Key;
-use crate::plain::record::Record;
+use crate::plain::record::{Record, MOST_VERSION};
 use crate::plain::request::Request;
-use crate::plain::transaction::{Transaction, OPEN};
+use crate::plain::store::Store;
+use crate::plain::transaction::{Transaction, MOST_ENTRIES, OPEN};
 
 /// A client at work on a transaction.
 #[derive(Clone, Copy)]
@@ -54,19 +55,20 @@ pub fn begin(random: &mut Random) -> Request {
 }
 
 /// A visit, or a call with a transaction made of one of these, which nobody may hand on now.
-pub fn stray(random: &mut Random, old: &[Transaction], records: &[Record]) -> Request {
-    if random.once_in(2) {
+pub fn stray(random: &mut Random, old: &[Transaction], store: &Store) -> Request {
+    let records = &store.records;
+    if random.once_in(3) {
         return visit(random, records);
     }
-    let key = any_key(random, records);
     let old = match old.len() {
         0 => Transaction::begun(1, true),
         // The last ones, since the sheets are still near them.
         n => old[n - 1 - random.below(n.min(12))],
     };
-    let transaction = match random.below(4) {
-        0 => old,
-        _ => forged(random, old, records),
+    let transaction = match random.below(16) {
+        0..=3 => old,
+        4 | 5 => return read_beyond(random, old, records),
+        _ => forged(random, old, store),
     };
     let kind = random.pick(&[
         Kind::Read,
@@ -75,7 +77,30 @@ pub fn stray(random: &mut Random, old: &[Transaction], records: &[Record]) -> Re
         Kind::Advance,
         Kind::Abort,
     ]);
+    let held = &transaction.entries[..MOST_ENTRIES.min(transaction.count as usize)];
+    let key = match kind {
+        Kind::Put if !held.is_empty() && random.once_in(2) => random.pick(held).key,
+        _ => any_key(random, records),
+    };
     kind.request(random, transaction, key, records)
+}
+
+/// A read of another key by a transaction that may hold no more, of a PREPARED line if there is one.
+fn read_beyond(random: &mut Random, old: Transaction, records: &[Record]) -> Request {
+    let transaction = full(random, old, records);
+    let others = records.iter();
+    let others = others.filter(|line| transaction.place_of(&line.key).is_none());
+    let others: Vec<Record> = others.copied().collect();
+    let prepared = prepared(&others);
+    let key = match prepared.len() {
+        1.. if !random.once_in(3) => random.pick(&prepared).key,
+        _ => any_key(random, if others.is_empty() { records } else { &others }),
+    };
+    Request::Read {
+        transaction,
+        key,
+        now: clock_for(random, &key, records),
+    }
 }
 
 /// A visit, of a prepared line more often.
@@ -87,7 +112,7 @@ fn visit(random: &mut Random, records: &[Record]) -> Request {
     };
     Request::Visit {
         key,
-        now: clock(random, records),
+        now: clock_for(random, &key, records),
     }
 }
 
@@ -112,12 +137,12 @@ impl Kind {
             Kind::Read => Request::Read {
                 transaction,
                 key,
-                now: clock(random, records),
+                now: clock_for(random, &key, records),
             },
             Kind::Put => Request::Put {
                 transaction,
                 key,
-                columns: columns(random),
+                columns: columns(random, !may_put(&transaction, &key)),
             },
             Kind::Advance => Request::Advance {
                 transaction,
@@ -126,4 +151,11 @@ impl Kind {
             Kind::Abort => Request::Abort { transaction },
         }
     }
+}
+
+/// Whether the key is among the entries that count, as far as there are any, and its version isn't spent.
+fn may_put(transaction: &Transaction, key: &Key) -> bool {
+    let count = (transaction.count as usize).min(MOST_ENTRIES);
+    let mut held = transaction.entries[..count].iter();
+    held.any(|entry| entry.key == *key && entry.seen.version < MOST_VERSION)
 }

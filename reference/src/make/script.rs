@@ -14,6 +14,8 @@ const FORGED: usize = 12;
 pub struct Script {
     pub state: ReplayState,
     pub input: Vec<u8>,
+    /// How many lines are calls.
+    pub calls: u64,
     answers: Vec<u8>,
     begun: usize,
     forged: usize,
@@ -29,6 +31,7 @@ impl Script {
         Script {
             input: [first, sheets.coordinator.clone(), sheets.records.clone()].concat(),
             state: ReplayState::new(sheets),
+            calls: 0,
             answers: Vec::new(),
             begun: 0,
             forged: 0,
@@ -52,7 +55,7 @@ impl Script {
         let request = line.and_then(|line| self.state.request(&line));
         let taken = request.as_ref().and_then(|(_, request)| request.taken());
         let reply = replay::reply(&mut self.state, text);
-        seen.note(line.as_ref(), taken, &reply);
+        self.calls += u64::from(seen.note(line.as_ref(), taken, &reply));
         self.input.extend(text);
         self.input.push(b'\n');
         self.answers.extend(reply.to_string().bytes());

@@ -9,7 +9,7 @@ use super::history::{History, Rule};
 use super::random::Random;
 use super::requests::{begin, stray};
 use super::script::Script;
-use super::sheets::{accepted, of_size, Mix, Size};
+use super::sheets::{self, accepted, of_size, Mix, Size};
 use crate::replay::line::{Line, SLOTS};
 use crate::seen::Seen;
 use crate::sequential_model::SequentialModel;
@@ -103,6 +103,21 @@ pub fn free(random: &mut Random, seen: &mut Seen, extent: Extent) -> Script {
     script
 }
 
+/// A few calls from nowhere on small sheets with much in them.
+pub fn crowded(random: &mut Random, seen: &mut Seen) -> Script {
+    let mut script = Script::new(&sheets::crowded(random));
+    for _ in 0..16 {
+        let store = script.state.sheets.store();
+        script.ask(seen, &stray(random, &[], &store));
+    }
+    for _ in 0..4 {
+        let slot = random.below(SLOTS);
+        any_line(random, seen, &mut script, &Line::Show { slot });
+    }
+    script.show_all(seen, random.once_in(3));
+    script
+}
+
 /// Lines beside the history's own that write no sheet.
 fn beside(random: &mut Random, seen: &mut Seen, script: &mut Script, history: &History) {
     let slot = random.below(SLOTS);
@@ -136,7 +151,8 @@ fn unfit(random: &mut Random, seen: &mut Seen, script: &mut Script, good: &Line)
 /// Calls of every kind on sheets that are damaged or forged, and lines of any form.
 pub fn damaged(random: &mut Random, seen: &mut Seen) -> Script {
     let mut sheets = accepted(random);
-    let records = sheets.store().records;
+    let store = sheets.store();
+    let records = &store.records;
     match random.below(4) {
         0 => forge(random, &mut sheets),
         _ => damage(random, &mut sheets),
@@ -144,8 +160,8 @@ pub fn damaged(random: &mut Random, seen: &mut Seen) -> Script {
     let mut script = Script::new(&sheets);
     for _ in 0..12 {
         let slot = random.below(SLOTS);
-        let key = any_key(random, &records);
-        let now = clock(random, &records);
+        let key = any_key(random, records);
+        let now = clock(random, records);
         match random.below(10) {
             0 => script.add(seen, Line::Check),
             1 => script.add(seen, Line::Lookup { key }),
@@ -153,7 +169,7 @@ pub fn damaged(random: &mut Random, seen: &mut Seen) -> Script {
             3 => script.ask(seen, &begin(random)),
             4 => any_line(random, seen, &mut script, &Line::Read { slot, key, now }),
             5 => any_line(random, seen, &mut script, &Line::Abort { slot }),
-            _ => script.ask(seen, &stray(random, &[], &records)),
+            _ => script.ask(seen, &stray(random, &[], &store)),
         }
     }
     script.show_all(seen, false);

@@ -1,5 +1,6 @@
 //! Accepted sheets of every size, written by the standard library's formatting and not by `plain`.
 
+use super::arguments::close_keys;
 use super::random::Random;
 use super::Sheets;
 use std::collections::BTreeSet;
@@ -47,6 +48,19 @@ fn size(random: &mut Random, most: usize) -> usize {
         2..=20 => 1 + random.below(40),
         _ => 1 + random.below(6),
     }
+}
+
+/// Small sheets in which units, states, owners and decisions of every kind lie close together.
+pub fn crowded(random: &mut Random) -> Sheets {
+    let decisions = 1 + random.below(6);
+    let size = Size {
+        records: random.pick(&[3, 4, 6, 9, 12]),
+        decisions,
+        issued: 1 + random.below(decisions),
+    };
+    let mix = random.pick(&[Mix::Prepared, Mix::Thirds, Mix::Thirds, Mix::Settled]);
+    let keys = close_keys(random, size.records);
+    with_keys(random, &keys, size, mix)
 }
 
 /// Sheets of the size asked for. Beyond 500 or 999 lines they keep every rule but that one.

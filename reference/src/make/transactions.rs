@@ -2,55 +2,120 @@
 
 use super::arguments::{any_key, columns};
 use super::random::Random;
-use crate::plain::record::{Image, Record, MOST_VERSION};
+use crate::plain::coordinator::Decision;
+use crate::plain::groups::groups;
+use crate::plain::record::{Image, Record, State, MOST_VERSION};
+use crate::plain::store::Store;
 use crate::plain::transaction::*;
 
 /// Another transaction with some fields changed, or made to fit a phase that it may never have reached.
-pub fn forged(random: &mut Random, mut base: Transaction, records: &[Record]) -> Transaction {
-    match random.below(6) {
-        0 => unreached(random, base),
-        1..=3 => {
-            fill(random, &mut base, records);
-            unreached(random, base)
+pub fn forged(random: &mut Random, mut base: Transaction, store: &Store) -> Transaction {
+    if random.below(6) < 4 {
+        if !random.once_in(4) {
+            fill(random, &mut base, &store.records);
         }
-        _ => {
-            for _ in 0..1 + random.below(3) {
-                change(random, &mut base, records);
-            }
-            base
+        base = unreached(random, base, store);
+        if !random.once_in(4) {
+            return base;
         }
     }
+    for _ in 0..1 + random.below(2) {
+        change(random, &mut base, &store.records);
+    }
+    base
 }
 
 /// The entries in any phase, with the verdict that goes with it.
-fn unreached(random: &mut Random, base: Transaction) -> Transaction {
-    let phase = random.below(8) as u32;
+fn unreached(random: &mut Random, base: Transaction, store: &Store) -> Transaction {
+    let phase = random.pick(&[
+        OPEN, OPEN, OPEN, PREPARE, PREPARE, CHECK, CHECK, DECIDE, DECIDE, WITHDRAW, FINISH, FINISH,
+        UNDO, UNDO, DONE,
+    ]);
     let verdict = match phase {
+        _ if random.once_in(12) => random.below(3) as u32,
         FINISH => COMMITTED,
         UNDO => ABORTED,
         DONE => random.pick(&[COMMITTED, ABORTED]),
         _ => NO_VERDICT,
     };
-    let place = match phase {
-        PREPARE | CHECK | FINISH | UNDO => random.below(3) as u32,
-        _ => 0,
+    let number = match random.below(3) {
+        0 => base.number,
+        _ => number_for(random, phase, store).unwrap_or(base.number),
     };
+    let places = places(&base, phase, store);
+    let place = match places {
+        0 => 0,
+        _ if random.once_in(8) => places,
+        _ => random.below(places),
+    };
+    let serializable = phase == CHECK && !random.once_in(8) || random.once_in(2);
     Transaction {
-        serializable: random.below(2) as u32,
-        place,
+        number,
+        serializable: u32::from(serializable),
+        place: place as u32,
         ..base.entering(phase).with_verdict(verdict)
     }
 }
 
-/// Entries for some lines of the sheet, as if they had just been read, that keep the rules.
-fn fill(random: &mut Random, transaction: &mut Transaction, records: &[Record]) {
+/// How many places the phase has, as far as the entries are as many as told and their storages have letters.
+fn places(base: &Transaction, phase: u32, store: &Store) -> usize {
+    let few = base.count as usize <= MOST_ENTRIES;
+    if !few || base.held().iter().any(|entry| !entry.key.in_range()) {
+        return 0;
+    }
+    match phase {
+        PREPARE | FINISH | UNDO => groups(base, &store.coordinator.units).len(),
+        CHECK => base.only_read().count(),
+        _ => 0,
+    }
+}
+
+/// A number that the phase goes with, most often one that has prepared a line.
+fn number_for(random: &mut Random, phase: u32, store: &Store) -> Option<u32> {
+    let fits = |number: &u32| match phase {
+        FINISH => store.decision(*number) == Decision::Committed,
+        UNDO => store.decision(*number) == Decision::Aborted,
+        _ => true,
+    };
+    let lines = store.records.iter();
+    let owners = lines.filter(|line| line.state == State::Prepared);
+    let owners: Vec<u32> = owners.map(|line| line.image.tx_id).filter(fits).collect();
+    let issued: Vec<u32> = (1..=store.coordinator.issued).filter(fits).collect();
+    match (owners.len(), issued.len()) {
+        (_, 0) => None,
+        (1.., _) if !random.once_in(3) => Some(random.pick(&owners)),
+        _ => Some(random.pick(&issued)),
+    }
+}
+
+/// An open transaction with as many entries as it may have, or one less, as far as there are lines.
+pub fn full(random: &mut Random, base: Transaction, records: &[Record]) -> Transaction {
+    let mut transaction = base.entering(OPEN).with_verdict(NO_VERDICT);
     let first = random.below(records.len());
-    let count = records.len().min(1 + random.below(MOST_ENTRIES));
-    let lines = records.iter().cycle().skip(first).take(count);
+    let lines = records.iter().cycle().skip(first);
+    let most = MOST_ENTRIES - usize::from(random.once_in(4));
+    let lines = lines.take(records.len().min(most));
+    transaction.count = lines.clone().count() as u32;
     for (entry, line) in transaction.entries.iter_mut().zip(lines) {
         *entry = Entry::read(line.key, line.image);
-        if random.once_in(4) {
+    }
+    transaction
+}
+
+/// Entries for some lines of the sheet, as if they had just been read, that keep the rules.
+fn fill(random: &mut Random, transaction: &mut Transaction, records: &[Record]) {
+    let lines = some_lines(random, records);
+    // Where few are out of date, groups are met of which some conditions hold and some don't.
+    let seldom = random.pick(&[2, 4, 8]);
+    for (entry, line) in transaction.entries.iter_mut().zip(&lines) {
+        *entry = Entry::read(line.key, line.image);
+        if random.once_in(10) {
+            // The last version that may be put over, and the one that may not.
+            entry.seen.version = random.pick(&[99_998, 99_999]);
+        } else if random.once_in(seldom) {
             date_back(random, &mut entry.seen);
+        } else if random.once_in(2) {
+            other_columns(random, &mut entry.seen);
         }
         if entry.seen.version < MOST_VERSION {
             entry.wrote = random.below(2) as u32;
@@ -58,27 +123,68 @@ fn fill(random: &mut Random, transaction: &mut Transaction, records: &[Record]) 
         entry.put_1 = random.figure(0, 99_999_999);
         entry.put_2 = random.figure(0, 99_999_999);
     }
-    transaction.count = count as u32;
+    transaction.count = lines.len() as u32;
+    // Often all are put, so that groups have several lines.
+    if random.once_in(2) {
+        let held = &mut transaction.entries[..lines.len()];
+        let may_put = held.iter_mut().filter(|e| e.seen.version < MOST_VERSION);
+        may_put.for_each(|entry| entry.wrote = 1);
+    }
+}
+
+/// Up to eight lines that are neighbours, in rising or falling order; at times no PREPARED ones.
+fn some_lines<'a>(random: &mut Random, records: &'a [Record]) -> Vec<&'a Record> {
+    let settled = random.once_in(2);
+    let lines = records.iter();
+    let lines = lines.filter(|line| !settled || line.state != State::Prepared);
+    let mut lines: Vec<&Record> = lines.collect();
+    if lines.is_empty() {
+        lines = records.iter().collect();
+    }
+    let first = random.below(lines.len());
+    lines.rotate_left(first);
+    lines.truncate(1 + random.below(MOST_ENTRIES));
+    if random.once_in(2) {
+        lines.reverse();
+    }
+    lines
 }
 
 /// As if the line had been written since: one part of the condition fails and no other does.
 fn date_back(random: &mut Random, seen: &mut Image) {
     match random.below(2) {
+        1 if seen.tx_id == 0 && seen.version > 0 => seen.tx_id = 1,
+        // An ABSENT line, as if it had been COMMITTED at layout.
+        _ if seen.version == 0 => seen.version = 1 + random.below(3) as u32,
         0 if seen.version > 1 => seen.version -= 1,
         _ => seen.tx_id = seen.tx_id.saturating_sub(1),
+    }
+}
+
+/// As if columns could differ where version and TxID agree. The condition holds all the same.
+fn other_columns(random: &mut Random, seen: &mut Image) {
+    if seen.version >= 1 {
+        match random.below(2) {
+            0 => seen.column_1 = random.figure(0, 99_999_999),
+            _ => seen.column_2 = random.figure(0, 99_999_999),
+        }
     }
 }
 
 fn change(random: &mut Random, transaction: &mut Transaction, records: &[Record]) {
     let t = transaction;
     let beside = [t.number.wrapping_sub(1), t.number.wrapping_add(1)];
-    match random.below(8) {
+    match random.below(13) {
         0 => t.number = random.pick(&[0, 1, beside[0], beside[1], 999, 1_000, u32::MAX]),
         1 => t.serializable = random.pick(&[0, 1, 2, u32::MAX]),
         2 => t.phase = random.pick(&[0, 1, 2, 3, 4, 5, 6, 7, 8, u32::MAX]),
         3 => t.place = random.pick(&[0, 1, 2, 3, 8, u32::MAX]),
         4 => t.verdict = random.pick(&[0, 1, 2, 3, u32::MAX]),
         5 => t.count = random.pick(&[0, 1, 2, 7, 8, 9, u32::MAX]),
+        6 => {
+            let place = random.below(MOST_ENTRIES - 1);
+            t.entries[place + 1].key = t.entries[place].key;
+        }
         _ => {
             let held = t.count.clamp(1, MOST_ENTRIES as u32) as usize;
             let place = random.below(held);
@@ -88,14 +194,21 @@ fn change(random: &mut Random, transaction: &mut Transaction, records: &[Record]
 }
 
 fn change_entry(random: &mut Random, entry: &mut Entry, records: &[Record]) {
-    match random.below(7) {
+    match random.below(12) {
         0 => entry.key = any_key(random, records),
+        // A version 0 with a field that it can't have.
+        7 => (entry.seen.version, entry.seen.tx_id) = (0, 1),
+        8 => (entry.seen.version, entry.seen.tx_id) = (0, 0),
+        // Columns too large, which mean nothing without a put.
+        9 => (entry.wrote, entry.put_1) = (random.below(2) as u32, 100_000_000),
+        10 => (entry.wrote, entry.put_2) = (random.below(2) as u32, 100_000_000),
+        11 => (entry.wrote, entry.seen.version) = (1, 99_999),
         1 => entry.seen.version = version(random, entry.seen.version),
         2 => entry.seen.tx_id = random.pick(&[0, 1, 2, 20, 999, 1_000, u32::MAX]),
-        3 => entry.seen.column_1 = columns(random)[0],
-        4 => entry.seen.column_2 = columns(random)[1],
+        3 => entry.seen.column_1 = columns(random, true)[0],
+        4 => entry.seen.column_2 = columns(random, true)[1],
         5 => entry.wrote = random.pick(&[0, 1, 2, u32::MAX]),
-        _ => [entry.put_1, entry.put_2] = columns(random),
+        _ => [entry.put_1, entry.put_2] = columns(random, true),
     }
 }
 

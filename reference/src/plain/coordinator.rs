@@ -54,8 +54,10 @@ impl Coordinator {
         let issued = self.issued as usize;
         count
             && issued <= self.decisions.len()
-            && self.decisions[issued..]
+            && self
+                .decisions
                 .iter()
+                .skip(issued)
                 .all(|d| *d == Decision::Undecided)
     }
 }

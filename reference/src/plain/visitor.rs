@@ -1,9 +1,9 @@
 //! The visiting program, from its whole input to its whole output.
 
-use super::calls::visit;
 use super::field::{read_figure, write_figure};
-use super::record::{self, LINE};
-use super::{check, ACCEPTED, BAD_RECORDS, BUSY};
+use super::record::LINE;
+use super::store::Store;
+use super::{BAD_RECORDS, BUSY};
 
 /// Bytes of the first line, LF counted.
 const FIRST: usize = 20;
@@ -33,17 +33,15 @@ fn visited_twice(
     mut records: Vec<u8>,
     clock: u32,
 ) -> Result<Vec<u8>, u32> {
-    match check(&records, &coordinator) {
-        ACCEPTED => {}
-        refusal => return Err(refusal),
-    }
-    let lines = record::read_sheet(&records).ok_or(BAD_RECORDS)?;
-    for line in lines.iter().chain(&lines) {
-        match visit(&mut records, &mut coordinator, line.key, clock) {
+    let mut store = Store::read(&records, &coordinator)?;
+    let lines = store.records.len();
+    for place in (0..lines).chain(0..lines) {
+        match store.visit(place, clock) {
             Ok(_) | Err(BUSY) => {}
             Err(refusal) => return Err(refusal),
         }
     }
+    store.write(&mut records, &mut coordinator);
     Ok([coordinator, records].concat())
 }
 

@@ -72,6 +72,11 @@ fn parts(input: &[u8]) -> Option<(Sheets, &[u8])> {
     Some((sheets, calls))
 }
 
+/// The lines of an input's calls, none of a bad input.
+pub fn calls(input: &[u8]) -> impl Iterator<Item = &[u8]> {
+    lines(parts(input).map_or(&[], |(_, calls)| calls))
+}
+
 /// The lines without their LF, which the last one may lack.
 fn lines(calls: &[u8]) -> impl Iterator<Item = &[u8]> {
     let lines = calls.split_inclusive(|byte| *byte == b'\n');

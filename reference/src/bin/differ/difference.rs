@@ -1,28 +1,56 @@
 //! A difference that was found: what it is, and a file with the input that shows it.
 
-use crate::programs::run;
+use crate::programs::Engine;
+use reference::compare::{Case, Subject};
 use reference::replay::replay;
 use std::fs;
-use std::path::{Path, PathBuf};
+use std::path::PathBuf;
 
-/// Holds the replay program against the output expected. Of a difference it keeps a prefix that shows it and wouldn't
-/// without its last line.
-pub fn compare_replay(
-    program: &Path,
-    seed: u64,
-    input: &[u8],
-    expected: &[u8],
-) -> Result<(), String> {
-    if run(program, input).as_deref() == Ok(expected) {
-        return Ok(());
+/// Says how the engine departs from what a case expects.
+pub fn told(seed: u64, case: &Case) -> String {
+    match case {
+        Case::Replay { input, .. } => {
+            let prefix = least_prefix(input);
+            of_program(seed, prefix, &Engine.replay(prefix), &replay(prefix))
+        }
+        Case::Visit { input, expected } => {
+            of_program(seed, input, &Engine.visitor(input), expected)
+        }
+        Case::Call {
+            call,
+            lent,
+            answer,
+            after,
+        } => {
+            let mut left = lent.clone();
+            let answered = Engine.call(call, &mut left);
+            let lists = left.list == after.list;
+            let (plain, engine) = (&after.sheets, left.sheets);
+            format!(
+                "{call:?}\nplain answers {answer}, the engine {answered}; the lists are equal: {lists}\n\
+                 plain leaves\n{plain}\nthe engine leaves\n{engine}"
+            )
+        }
+        Case::Convert {
+            conversion,
+            lent,
+            answer,
+            after,
+        } => {
+            let mut left = lent.clone();
+            let answered = Engine.convert(*conversion, &mut left);
+            format!(
+                "{conversion:?} of {lent:?}\nplain answers {answer}, the engine {answered}\n\
+                 plain leaves\n{after:?}\nthe engine leaves\n{left:?}"
+            )
+        }
     }
-    let prefix = least_prefix(program, input);
-    Err(told(seed, prefix, &run(program, prefix), &replay(prefix)))
 }
 
-/// By halves: answers stay in the output of a longer prefix, so that a difference mostly does.
-fn least_prefix<'a>(program: &Path, input: &'a [u8]) -> &'a [u8] {
-    let shows = |end: usize| run(program, &input[..end]) != Ok(replay(&input[..end]));
+/// A prefix that shows a difference of the replay program and mostly wouldn't without its last line. It is found by halves,
+/// since answers stay in the output of a longer prefix.
+fn least_prefix(input: &[u8]) -> &[u8] {
+    let shows = |end: usize| Engine.replay(&input[..end]) != Ok(replay(&input[..end]));
     let line_ends = (1..input.len()).filter(|end| input[end - 1] == b'\n');
     let ends: Vec<usize> = line_ends.chain([input.len()]).collect();
     let (mut low, mut high) = (0, ends.len() - 1);
@@ -37,22 +65,13 @@ fn least_prefix<'a>(program: &Path, input: &'a [u8]) -> &'a [u8] {
     &input[..ends[high]]
 }
 
-/// Holds a program without parts to its input against the output expected.
-pub fn compare_whole(
-    program: &Path,
+/// What differs in a program's output, and in which file the input is kept.
+fn of_program(
     seed: u64,
     input: &[u8],
+    output: &Result<Vec<u8>, String>,
     expected: &[u8],
-) -> Result<(), String> {
-    let output = run(program, input);
-    match output.as_deref() == Ok(expected) {
-        true => Ok(()),
-        false => Err(told(seed, input, &output, expected)),
-    }
-}
-
-/// Says what differs, and in which file the input is kept.
-fn told(seed: u64, input: &[u8], output: &Result<Vec<u8>, String>, expected: &[u8]) -> String {
+) -> String {
     let kept = match keep(seed, input) {
         Ok(path) => path.display().to_string(),
         Err(error) => format!("no file, {error}"),

@@ -8,12 +8,12 @@
 mod difference;
 #[path = "../engine/mod.rs"]
 mod engine;
-mod exports;
+#[path = "../engine/conversions.rs"]
+mod engine_conversions;
 mod programs;
-mod rounds;
-mod visits;
 
-use rounds::Tally;
+use programs::Engine;
+use reference::compare::rounds::Tally;
 use std::process::ExitCode;
 use std::time::{Duration, Instant};
 
@@ -28,12 +28,22 @@ fn argument(place: usize, otherwise: u64) -> Option<u64> {
     }
 }
 
+/// One round, or the difference that it found.
+fn round(tally: &mut Tally, seed: u64) -> Result<(), String> {
+    for case in tally.round(seed)? {
+        if !case.holds(&Engine) {
+            return Err(difference::told(seed, &case));
+        }
+    }
+    Ok(())
+}
+
 /// Makes rounds until there are enough calls or the time is over; answers the seed after the last.
 fn rounds(tally: &mut Tally, calls: u64, first: u64, time: Duration) -> Result<u64, String> {
     let start = Instant::now();
     let mut seed = first;
-    while tally.calls() < calls && start.elapsed() < time {
-        let found = tally.round(seed);
+    while tally.seen.calls() < calls && start.elapsed() < time {
+        let found = round(tally, seed);
         found.map_err(|difference| format!("seed {seed}: {difference}"))?;
         seed += 1;
     }
@@ -41,18 +51,17 @@ fn rounds(tally: &mut Tally, calls: u64, first: u64, time: Duration) -> Result<u
 }
 
 fn report(tally: &Tally, first: u64, end: u64) {
-    let [visited, refused_1, refused_2] = tally.visited;
-    println!("{}\n", tally.seen);
-    println!("visiting program: {visited} visited, {refused_1} refused 1, {refused_2} refused 2");
+    let seen = &tally.seen;
+    println!("{seen}\n");
     println!(
         "seeds {first} to {}: {} calls, of these {} for C and {} of the visiting program; {} histories, {} bad inputs, {} other lines; 0 differences",
         end - 1,
-        tally.calls(),
-        tally.exported_calls,
-        tally.visitor_inputs(),
+        seen.calls(),
+        seen.exported_calls(),
+        seen.visitor_inputs(),
         tally.histories,
         tally.bad_inputs,
-        tally.seen.other_lines,
+        seen.other_lines,
     );
 }
 
@@ -71,9 +80,9 @@ fn main() -> ExitCode {
             return ExitCode::FAILURE;
         }
     }
-    let faults = tally.faults();
-    if calls >= ENOUGH && !faults.is_empty() {
-        println!("not seen, or seen and not of the tables: {faults:?}");
+    let amiss = tally.seen.amiss();
+    if calls >= ENOUGH && !amiss.is_empty() {
+        println!("not seen, or seen and not of the tables: {amiss:?}");
         return ExitCode::FAILURE;
     }
     ExitCode::SUCCESS

@@ -1,5 +1,10 @@
-//! The engine's programs, one process for each input.
+//! The engine as it is built: its programs, one process for each input, and its functions for C in this process.
 
+use crate::engine::calls;
+use crate::engine_conversions;
+use reference::compare::Subject;
+use reference::conversions::{self, Conversion};
+use reference::exported::{Call, Lent};
 use std::env;
 use std::io::Write;
 use std::path::{Path, PathBuf};
@@ -9,8 +14,28 @@ use std::thread;
 /// A folder that has the programs, in place of the repository's own.
 const FOLDER: &str = "RAPYHEO_PROGRAMS_DIR";
 
+pub struct Engine;
+
+impl Subject for Engine {
+    fn replay(&self, input: &[u8]) -> Result<Vec<u8>, String> {
+        run(&path("replay"), input)
+    }
+
+    fn visitor(&self, input: &[u8]) -> Result<Vec<u8>, String> {
+        run(&path("visitor"), input)
+    }
+
+    fn call(&self, call: &Call, lent: &mut Lent) -> u32 {
+        calls::by_engine(call, lent)
+    }
+
+    fn convert(&self, conversion: Conversion, lent: &mut conversions::Lent) -> u32 {
+        engine_conversions::by_engine(conversion, lent)
+    }
+}
+
 /// Where the program of this name lies.
-pub fn path(name: &str) -> PathBuf {
+fn path(name: &str) -> PathBuf {
     let folder = match env::var_os(FOLDER) {
         Some(folder) => PathBuf::from(folder),
         None => PathBuf::from(env!("CARGO_MANIFEST_DIR")).join("../target/bin"),
@@ -19,7 +44,7 @@ pub fn path(name: &str) -> PathBuf {
 }
 
 /// The whole output for an input, or how the program failed.
-pub fn run(program: &Path, input: &[u8]) -> Result<Vec<u8>, String> {
+fn run(program: &Path, input: &[u8]) -> Result<Vec<u8>, String> {
     let failed = |error: std::io::Error| format!("{}: {error}", program.display());
     let mut child = Command::new(program)
         .stdin(Stdio::piped())

@@ -1,51 +1,43 @@
 //! Inputs of the visiting program, good ones and damaged ones.
 
-use crate::difference::compare_whole;
-use crate::programs;
-use reference::make::arguments::clock;
-use reference::make::damage::TELLING;
-use reference::make::random::Random;
-use reference::make::sheets::{accepted, of_size, Mix, Size};
-use reference::make::{any, Sheets};
-use reference::plain::visitor::output;
-use reference::plain::{coordinator, record};
+use super::arguments::clock;
+use super::damage::TELLING;
+use super::random::Random;
+use super::sheets::{accepted, crowded, of_size, Mix, Size};
+use super::{any, Sheets};
+use crate::compare::Case;
+use crate::plain::{coordinator, record};
+use crate::seen::Seen;
 
 /// Bytes of the first line, LF counted.
 const FIRST_LINE: usize = 20;
 
-/// How many inputs were visited, refused with 1 and refused with 2.
-pub type Answers = [u64; 3];
-
-/// Compares the visiting program on some inputs.
-pub fn compare(random: &mut Random, seed: u64, answers: &mut Answers) -> Result<(), String> {
-    let program = programs::path("visitor");
-    for _ in 0..10 {
-        let input = input(random);
-        let expected = output(&input);
-        compare_whole(&program, seed, &input, &expected)?;
-        answers[answer(&expected)] += 1;
-    }
-    Ok(())
-}
-
-fn answer(output: &[u8]) -> usize {
-    match output {
-        b"REFUSED  1\n" => 1,
-        b"REFUSED  2\n" => 2,
-        _ => 0,
-    }
+/// Inputs of every kind, as cases of the comparison.
+pub fn cases(random: &mut Random, seen: &mut Seen) -> Vec<Case> {
+    let case = |_| {
+        let case = Case::visit(input(random));
+        seen.note_visits(&case);
+        case
+    };
+    (0..30).map(case).collect()
 }
 
 fn input(random: &mut Random) -> Vec<u8> {
-    match random.below(8) {
-        0..=2 => {
-            let sheets = accepted(random);
+    match random.below(9) {
+        0..=2 | 8 => {
+            let sheets = match random.once_in(3) {
+                false => crowded(random),
+                true => accepted(random),
+            };
             let clock = clock(random, &sheets.store().records);
             text(&sheets, clock.into())
         }
         3 => too_many_lines(random),
         4 => {
-            let sheets = any(random);
+            let sheets = match random.once_in(2) {
+                true => accepted(random),
+                false => any(random),
+            };
             text(&sheets, random.pick(&[0, 4_294_967_295, 4_294_967_296]))
         }
         5 => text(&any(random), random.draw() % 4_294_967_296),
@@ -76,7 +68,10 @@ fn too_many_lines(random: &mut Random) -> Vec<u8> {
 
 /// The first line or the length changed.
 fn damaged_text(random: &mut Random, mut text: Vec<u8>) -> Vec<u8> {
-    let place = random.below(FIRST_LINE);
+    let place = match random.once_in(4) {
+        true => FIRST_LINE - 1,
+        false => random.below(FIRST_LINE),
+    };
     match random.below(8) {
         0..=2 => text[place] = random.pick(TELLING),
         3 => drop(text.remove(place)),

@@ -1,0 +1,126 @@
+//! The comparison: cases made from seeds, each with what is expected of it, and an implementation held against them.
+
+pub mod rounds;
+
+use crate::conversions::{self, Conversion};
+use crate::exported::{self, Call, Lent};
+use crate::plain::visitor;
+use crate::replay::{self, replay};
+use crate::seen::is_call;
+
+/// What is held against `plain`: two programs, and the functions for C.
+pub trait Subject {
+    /// The whole output of the replay program, or how it failed.
+    fn replay(&self, input: &[u8]) -> Result<Vec<u8>, String>;
+    /// The same of the visiting program.
+    fn visitor(&self, input: &[u8]) -> Result<Vec<u8>, String>;
+    fn call(&self, call: &Call, lent: &mut Lent) -> u32;
+    fn convert(&self, conversion: Conversion, lent: &mut conversions::Lent) -> u32;
+}
+
+/// An input and what `plain` makes of it.
+pub enum Case {
+    Replay {
+        input: Vec<u8>,
+        expected: Vec<u8>,
+        calls: u64,
+    },
+    Visit {
+        input: Vec<u8>,
+        expected: Vec<u8>,
+    },
+    Call {
+        call: Call,
+        lent: Lent,
+        answer: u32,
+        after: Lent,
+    },
+    Convert {
+        conversion: Conversion,
+        lent: conversions::Lent,
+        answer: u32,
+        after: conversions::Lent,
+    },
+}
+
+impl Case {
+    /// An input of the replay program that is refused whole, most often.
+    pub fn bad_input(input: Vec<u8>) -> Case {
+        Case::Replay {
+            expected: replay(&input),
+            input,
+            calls: 0,
+        }
+    }
+
+    pub fn visit(input: Vec<u8>) -> Case {
+        Case::Visit {
+            expected: visitor::output(&input),
+            input,
+        }
+    }
+
+    pub fn call(call: Call, lent: Lent) -> Case {
+        let mut after = lent.clone();
+        let answer = exported::by_plain(&call, &mut after);
+        Case::Call {
+            call,
+            lent,
+            answer,
+            after,
+        }
+    }
+
+    pub fn convert(conversion: Conversion, lent: conversions::Lent) -> Case {
+        let mut after = lent.clone();
+        let answer = conversions::by_plain(conversion, &mut after);
+        Case::Convert {
+            conversion,
+            lent,
+            answer,
+            after,
+        }
+    }
+
+    /// How many calls it makes.
+    pub fn calls(&self) -> u64 {
+        match self {
+            Case::Replay { calls, .. } => *calls,
+            Case::Visit { .. } | Case::Call { .. } | Case::Convert { .. } => 1,
+        }
+    }
+
+    /// Whether the subject answers and leaves what is expected, byte for byte.
+    pub fn holds(&self, subject: &impl Subject) -> bool {
+        match self {
+            Case::Replay {
+                input, expected, ..
+            } => subject.replay(input).as_ref() == Ok(expected),
+            Case::Visit { input, expected } => subject.visitor(input).as_ref() == Ok(expected),
+            Case::Call {
+                call,
+                lent,
+                answer,
+                after,
+            } => {
+                let mut lent = lent.clone();
+                subject.call(call, &mut lent) == *answer && lent == *after
+            }
+            Case::Convert {
+                conversion,
+                lent,
+                answer,
+                after,
+            } => {
+                let mut lent = lent.clone();
+                subject.convert(*conversion, &mut lent) == *answer && lent == *after
+            }
+        }
+    }
+}
+
+/// How many of the first so many lines of a replay's calls are calls.
+pub fn calls_among(input: &[u8], lines: usize) -> u64 {
+    let calls = replay::calls(input).take(lines);
+    calls.filter(|line| is_call(line)).count() as u64
+}

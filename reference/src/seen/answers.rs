@@ -1,0 +1,66 @@
+//! How often each call gave each answer.
+
+use std::fmt;
+
+/// A call and the refusals that it can give.
+pub type Row = (&'static str, &'static [usize]);
+
+pub struct Answers {
+    rows: &'static [Row],
+    /// Accepted calls at 0, refused ones at the number of the refusal.
+    counts: Vec<[u64; 13]>,
+}
+
+impl Answers {
+    pub fn new(rows: &'static [Row]) -> Answers {
+        Answers {
+            rows,
+            counts: vec![[0; 13]; rows.len()],
+        }
+    }
+
+    pub fn note(&mut self, row: usize, refusal: u32) {
+        self.counts[row][refusal as usize] += 1;
+    }
+
+    pub fn total(&self) -> u64 {
+        self.counts.iter().flatten().sum()
+    }
+
+    /// Answers that should have been seen and weren't, or were seen and shouldn't have been.
+    pub fn amiss(&self) -> Vec<String> {
+        let rows = self.rows.iter().zip(&self.counts);
+        let amiss = rows.flat_map(|((call, refusals), counts)| {
+            let expected = |n: usize| n == 0 || refusals.contains(&n);
+            let amiss = (0..counts.len()).filter(move |n| expected(*n) != (counts[*n] > 0));
+            amiss.map(move |n| format!("{call}: answer {n}"))
+        });
+        amiss.collect()
+    }
+}
+
+/// A count, or a point where there was none.
+pub fn count(count: u64) -> String {
+    match count {
+        0 => ".".into(),
+        _ => count.to_string(),
+    }
+}
+
+impl fmt::Display for Answers {
+    fn fmt(&self, out: &mut fmt::Formatter) -> fmt::Result {
+        let widest = self.rows.iter().map(|(call, _)| call.len()).max();
+        let width = widest.unwrap_or(0).max(7) + 2;
+        write!(out, "{:<width$}{:>8}", "refusal", "none")?;
+        for number in 1..13 {
+            write!(out, "{number:>6}")?;
+        }
+        for ((call, _), counts) in self.rows.iter().zip(&self.counts) {
+            write!(out, "\n{call:<width$}{:>8}", count(counts[0]))?;
+            for number in &counts[1..] {
+                write!(out, "{:>6}", count(*number))?;
+            }
+        }
+        Ok(())
+    }
+}
