@@ -33,6 +33,22 @@ fn a_transaction_is_answered_line_by_line() {
 }
 
 #[test]
+fn a_key_s_line_is_handed_back_or_nothing() {
+    let calls = "line 1 1 1 1 1\nline 1 1 1 1 2\nline 0 1 1 1 1\nline 1 1 1 1\n";
+    let answers = format!("ok {ABSENT}ok\nok\nbad line\n");
+    assert_eq!(replayed(calls).0, answers);
+    // A bad coordinator sheet is of no account, a bad record sheet is.
+    let good = format!("   1   2\n{COORDINATOR}{ABSENT}line 1 1 1 1 1\n");
+    let handed = |input: &str| {
+        let output = String::from_utf8(replay(input.as_bytes())).unwrap();
+        output.starts_with(&format!("ok {ABSENT}"))
+    };
+    assert!(handed(&good));
+    assert!(handed(&good.replacen("SSSSSSSSS", "SSSSSSSS?", 1)));
+    assert!(!handed(&good.replacen("ABSENT", "absent", 1)));
+}
+
+#[test]
 fn transactions_are_forged_field_by_field() {
     let calls =
         "begin 0 1\nset 0 1 1 6 0 2 1\nentry 0 0 1 1 1 1 1 0 0 0 0 1 5 6\nshow 0\nadvance 0 0\n\

@@ -64,6 +64,10 @@ fn find(calls: u64, first: u64) -> Found {
     while made < calls && found.contains(&None) {
         let cases = tally.round(seed).expect("no fault is on");
         for case in &cases {
+            assert!(
+                case.holds(&Faulty(0)),
+                "seed {seed}: a difference without a fault"
+            );
             for (place, at) in found.iter_mut().enumerate() {
                 let subject = Faulty(place + 1);
                 if at.is_none() && !case.holds(&subject) {
@@ -125,7 +129,12 @@ fn main() -> ExitCode {
         [calls] => (*calls, &SEEDS[..]),
         [calls, seeds @ ..] => (*calls, seeds),
     };
-    set_hook(Box::new(|_| {}));
+    // Of panics only that of the trial itself is told.
+    set_hook(Box::new(|panic| {
+        if faults::on() == 0 {
+            eprintln!("{panic}");
+        }
+    }));
     let found: Vec<Found> = seeds.iter().map(|seed| find(calls, *seed)).collect();
     match report(seeds, &found) {
         0 => ExitCode::SUCCESS,

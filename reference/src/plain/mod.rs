@@ -60,6 +60,14 @@ pub fn lookup(records: &[u8], key: [u32; 5]) -> Result<usize, u32> {
     place_of(&records, &Key::from_numbers(key))
 }
 
+/// The key's line as a part of the sheet, LF counted; an empty part where it is refused.
+pub fn line_of(records: &[u8], key: [u32; 5]) -> &[u8] {
+    match lookup(records, key) {
+        Ok(place) => &records[place * record::LINE..][..record::LINE],
+        Err(_) => &[],
+    }
+}
+
 /// The place of the key's line among these records, or the refusal.
 fn place_of(records: &[Record], key: &Key) -> Result<usize, u32> {
     if !key.in_range() {

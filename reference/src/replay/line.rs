@@ -38,6 +38,10 @@ pub enum Line {
     Lookup {
         key: Key,
     },
+    /// The record line that the look-up hands back.
+    LineOf {
+        key: Key,
+    },
     Show {
         slot: usize,
     },
@@ -71,6 +75,7 @@ impl Line {
                 now: *now,
             },
             (b"lookup", key) => Line::Lookup { key: key_of(key)? },
+            (b"line", key) => Line::LineOf { key: key_of(key)? },
             (_, [slot, rest @ ..]) => Line::on_slot(call, place_below(*slot, SLOTS)?, rest)?,
             _ => return None,
         })
@@ -153,6 +158,7 @@ impl fmt::Display for Line {
             Line::Abort { slot } => write!(out, "abort {slot}"),
             Line::Visit { key: k, now } => write!(out, "visit {} {now}", key(k)),
             Line::Lookup { key: k } => write!(out, "lookup {}", key(k)),
+            Line::LineOf { key: k } => write!(out, "line {}", key(k)),
             Line::Show { slot } => write!(out, "show {slot}"),
             Line::Set { slot, fields } => write!(out, "set {slot} {}", words(fields)),
             Line::Entry {

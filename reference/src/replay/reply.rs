@@ -1,6 +1,7 @@
 //! What a line is answered, and how the answer is written.
 
 use super::line::words;
+use crate::plain::record;
 use crate::plain::store::Visit;
 use crate::plain::transaction::{Reading, Transaction, MOST_ENTRIES};
 use std::fmt;
@@ -17,6 +18,8 @@ pub enum Reply {
     Visited(Visit),
     /// The place of a line, from 0.
     Found(usize),
+    /// A record line without its LF.
+    Line([u8; record::LINE - 1]),
     Shown(Transaction),
     BadLine,
 }
@@ -32,6 +35,7 @@ impl fmt::Display for Reply {
             Reply::Advanced(t) => writeln!(out, "ok {}", words(&[t.phase, t.place, t.verdict])),
             Reply::Visited(visit) => writeln!(out, "ok {}", visit_text(*visit)),
             Reply::Found(place) => writeln!(out, "ok {place}"),
+            Reply::Line(line) => writeln!(out, "ok {}", String::from_utf8_lossy(line)),
             Reply::Shown(transaction) => writeln!(out, "ok {}", words(&shown(transaction))),
             Reply::BadLine => writeln!(out, "bad line"),
         }

@@ -27,6 +27,7 @@ impl ReplayState {
         match *line {
             Line::Check => self.check(),
             Line::Lookup { key } => self.lookup(key),
+            Line::LineOf { key } => self.line_of(key),
             Line::Show { slot } => Reply::Shown(self.slots[slot]),
             Line::Set { slot, fields } => {
                 self.slots[slot] = self.slots[slot].with_fields(fields);
@@ -55,6 +56,15 @@ impl ReplayState {
         match plain::lookup(&self.sheets.records, key.numbers()) {
             Ok(place) => Reply::Found(place),
             Err(refusal) => Reply::Refused(refusal),
+        }
+    }
+
+    /// Nothing is told where no line is handed back.
+    fn line_of(&self, key: Key) -> Reply {
+        let line = plain::line_of(&self.sheets.records, key.numbers());
+        match line.split_last() {
+            Some((_, line)) => Reply::Line(line.try_into().expect("a whole line")),
+            None => Reply::Done,
         }
     }
 

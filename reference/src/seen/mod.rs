@@ -90,7 +90,9 @@ fn call_of(line: &Line) -> Option<usize> {
         Line::Abort { .. } => 5,
         Line::Visit { .. } => 6,
         Line::Lookup { .. } => 7,
-        Line::Show { .. } | Line::Set { .. } | Line::Entry { .. } => return None,
+        Line::LineOf { .. } | Line::Show { .. } | Line::Set { .. } | Line::Entry { .. } => {
+            return None
+        }
     })
 }
 
