@@ -10,6 +10,7 @@ use super::random::Random;
 use super::requests::{begin, stray};
 use super::script::Script;
 use super::sheets::{self, accepted, of_size, Mix, Size};
+use crate::plain::record::Record;
 use crate::replay::line::{Line, SLOTS};
 use crate::seen::Seen;
 use crate::sequential_model::SequentialModel;
@@ -123,9 +124,7 @@ fn beside(random: &mut Random, seen: &mut Seen, script: &mut Script, history: &H
     let slot = random.below(SLOTS);
     let line = match random.below(40) {
         0 => Line::Check,
-        1..=3 => Line::Lookup {
-            key: any_key(random, &history.sheets.store().records),
-        },
+        1..=3 => looked_up(random, &history.sheets.store().records),
         4..=12 => Line::Show { slot },
         13 => {
             let good = Line::Advance { slot, now: 0 };
@@ -137,6 +136,15 @@ fn beside(random: &mut Random, seen: &mut Seen, script: &mut Script, history: &H
         return unfit(random, seen, script, &line);
     }
     script.add(seen, line);
+}
+
+/// The place of a key's line, or the line.
+fn looked_up(random: &mut Random, records: &[Record]) -> Line {
+    let key = any_key(random, records);
+    match random.once_in(2) {
+        true => Line::Lookup { key },
+        false => Line::LineOf { key },
+    }
 }
 
 /// A line changed so that it is no call; if it still is one, it is left out, since the history doesn't know of it.
@@ -164,7 +172,7 @@ pub fn damaged(random: &mut Random, seen: &mut Seen) -> Script {
         let now = clock(random, records);
         match random.below(10) {
             0 => script.add(seen, Line::Check),
-            1 => script.add(seen, Line::Lookup { key }),
+            1 => script.add(seen, looked_up(random, records)),
             2 => script.add(seen, Line::Visit { key, now }),
             3 => script.ask(seen, &begin(random)),
             4 => any_line(random, seen, &mut script, &Line::Read { slot, key, now }),

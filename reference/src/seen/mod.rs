@@ -25,6 +25,7 @@ const LINES: &[Row] = &[
     ("abort", &[1, 2, 3, 4]),
     ("visit", &[1, 2, 5, 6, 12]),
     ("lookup", &[1, 5, 6]),
+    ("line", &[]),
 ];
 
 /// The functions for C.
@@ -90,9 +91,8 @@ fn call_of(line: &Line) -> Option<usize> {
         Line::Abort { .. } => 5,
         Line::Visit { .. } => 6,
         Line::Lookup { .. } => 7,
-        Line::LineOf { .. } | Line::Show { .. } | Line::Set { .. } | Line::Entry { .. } => {
-            return None
-        }
+        Line::LineOf { .. } => 8,
+        Line::Show { .. } | Line::Set { .. } | Line::Entry { .. } => return None,
     })
 }
 
