@@ -10,4 +10,5 @@ echo "definitions $(find crates/model/specs -name '*.antt' -exec cat {} + | line
 echo "laws $(find crates -path '*/specs/*.antt' -not -path 'crates/model/*' -exec cat {} + | lines)"
 echo "of these recovery $(find crates/recovery/specs -name '*.antt' -exec cat {} + | lines)"
 echo "proofs $(find crates -path '*/proofs/*.antt' -exec cat {} + | lines)"
-echo "reference $(find reference/src reference/tests -name '*.rs' -exec cat {} + | lines)"
+echo "reference $(find reference/src reference/tests reference/build -name '*.rs' -exec cat {} + | lines)"
+echo "faults $(cat reference/faults/*.txt | grep -c '^fault: ')"
