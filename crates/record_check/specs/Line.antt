@@ -30,7 +30,7 @@ use Rattle.record_check.specs.Ranges.{opened, lineHeld, set-is-held, sam
 use Rattle.record_check.specs.Figures.{scan-of}
 use Rattle.record_check.specs.Limits.{keeps, limited-line, limited-parts}
 use Rattle.record_check.specs.States.{kindLimits, openLayout, clockLimit, kindParts, kind-says, record-opens, clock-narrow, clock-limited, kindWord, stateTold, word-told, kindBy, kindFor, rule, kind-rule, kind-word}
-use Rattle.record_check.specs.Relations.{clockFits, follows, widest, clock-fits, follows-is}
+use Rattle.record_check.specs.Relations.{clockFits, follows, widest, clock-fits, clock-low, follows-is}
 
 -- the line can be read, and its record is good alone
 unfoldable pub lineGood : List ℕ → Bool
@@ -132,10 +132,28 @@ module _ (line : List ℕ) (of-bytes : (i : ℕ) → getD line i 0 < 256) where
       sym e ∙ rw w (eqList-refl (take 10 (drop 20 line))))
       (λ g. absurd (true≢false (sym g)))
 
+  -- the line with the clock up to the widest figure
+  held : Bool
+  held = lineSet widest line && rowGood openLayout row
+
+  same-widest : map opened openLayout ≡ widest
+  same-widest = unfold openLayout opened recordLayout in refl
+
+  -- what the parts of a kind say of it
+  said : (k : ℕ) → partsOk (kindParts k) line ≡ (held && all (keeps row) (kindLimits k))
+  unfolding kindParts row held
+  said k = rw same-widest at (limited-parts (kindLimits k) openLayout line (kind-says k))
+
+  -- in its places, and with a clock that begins below the highest one
+  pub low-clock : (k : ℕ) → partsOk (kindParts k) line ≡ true → getD line 87 0 < 52 → clockFits line ≡ true
+  unfolding held
+  low-clock k g l =
+      clock-low line (and-fst (lineSet widest line) (rowGood openLayout row) (and-fst held (all (keeps row) (kindLimits k)) (sym (said k) ∙ g))) l
+
   -- the law: a line is good where it stands in the parts of its kind, and the relations hold
   pub line-is : lineGood line
       ≡ (partsOk (kindParts (kindOf line)) line && (cond (eqb (kindOf line) 3) (follows line) true && clockFits line))
-  unfolding kindParts row
+  unfolding row held
   line-is =
       good-held
       ∙ (ap (λ (x : Bool). x && rule row) bounded
@@ -144,20 +162,10 @@ module _ (line : List ℕ) (of-bytes : (i : ℕ) → getD line i 0 < 256) where
       (λ g. let h = and-fst (lineSet widest line) (rowGood openLayout row) g in
       rw (kind-is h, follows-is line of-bytes h, clock-fits line h) (kind-rule row (state-word h .1)))
       ∙ (sym (and-assoc held (all (keeps row) (kindLimits (kindOf line))) related)
-      ∙ ap (λ (x : Bool). x && related) (sym said)))))
+      ∙ ap (λ (x : Bool). x && related) (sym (said (kindOf line)))))))
     where
-      -- the line with the clock up to the widest figure
-      held : Bool
-      held = lineSet widest line && rowGood openLayout row
-
       related : Bool
       related = cond (eqb (kindOf line) 3) (follows line) true && clockFits line
 
-      same-widest : map opened openLayout ≡ widest
-      same-widest = unfold openLayout opened recordLayout in refl
-
       bounded : lineHeld recordLayout line ≡ (held && all (keeps row) clockLimit)
       bounded = rw (clock-limited, same-widest) at (limited-line clockLimit openLayout line clock-narrow)
-
-      said : partsOk (kindParts (kindOf line)) line ≡ (held && all (keeps row) (kindLimits (kindOf line)))
-      said = rw same-widest at (limited-parts (kindLimits (kindOf line)) openLayout line (kind-says (kindOf line)))

@@ -1,28 +1,28 @@
 -- How the versions of a PREPARED line stand to each other, by their bytes, and the clock's bound, which no width says. Where the last digit of a
 -- figure is no 9, the next figure has the same bytes but the last, which is one more; else the digits of a field make its number. The end of
 -- the line orders as the clock does.
-use Prim.Native.Nat.{ℕ, suc, _+_, _/_, _%_, _^_, _<_}
+use Prim.Native.Nat.{ℕ, suc, _+_, _/_, _%_, _^_, _<_, _≤_}
 use mathlib.Core.Path.{_≡_, refl, sym, ap, _∙_}
 use mathlib.Core.Bool.{Bool, true, false, not, cond, and-false, or-false}
 use mathlib.Core.List.{List, [], _∷_, _++_, map}
 use native.Mathlib.Nat.{pow-suc}
 use native.Mathlib.Omega.{arith}
 use lib.ListN.{length, take, drop, getD, length-take, length-drop, length-append}
-use lib.Seq.{take-add, take-length, drop-drop, getD-take, getD-drop, getD-append-seam}
+use lib.Seq.{take-add, take-length, drop-cons, drop-drop, getD-take, getD-drop, getD-append-seam}
 use lib.Dec.{eqb, leb, ltb}
 use lib.Pow.{areBytes}
-use borrow.Author.Tests.{eqb-false, le-leb, lt-leb, ltb-true, ltb-false}
+use borrow.Author.Tests.{eqb-false, eq-eqb, ne-eqb, le-leb, lt-leb, le-ltb, ltb-true, ltb-false}
 use Rattle.lists.specs.Bytes.{bytes, eqList}
 use Rattle.lists.specs.Each.{less}
 use Rattle.lists.specs.Order.{less-append}
 use Rattle.lists.specs.Tests.{choose-by}
 use Rattle.decimal.specs.declared.Scan.the-variants.{Blank, Number}
 use Rattle.decimal.specs.Field.{scanned, stepped, ahead, fieldText}
-use Rattle.decimal.specs.Laws.{scan-written, scan-text, length-fieldText, fieldText-bytes}
+use Rattle.decimal.specs.Laws.{figure-scan, scan-written, scan-text, length-fieldText, fieldText-bytes}
 use Rattle.decimal.specs.Order.{order-bytes}
 use Rattle.types.specs.declared.Column.{Column}
 use Rattle.model.specs.Layouts.{recordLayout, noColumn}
-use Rattle.model.specs.Lines.{rowOf, lineSet}
+use Rattle.model.specs.Lines.{fieldValue, rowOf, lineSet}
 use Rattle.sheet_laws.specs.Lines.{lineBytes, line-length, offset, fieldAt, field-at, line-end}
 use Rattle.places.specs.Order.{part-bytes}
 use Rattle.places.specs.Loads.{loaded, loaded-append, loaded-equal}
@@ -73,6 +73,25 @@ clock-fits line h =
     let lf : drop 97 line ≡ 10 ∷ [] = line-end widest line h in
     let ends : take 12 (drop 86 line) ≡ clock ++ (10 ∷ []) = take-add 11 1 (drop 86 line) ∙ rw (drop-drop 11 86 line, lf) in
     rw ends (ended-order (bytes " 4294967295") clock 4294967295 (getD (rowOf widest line) 14 0) refl reads (sym long))
+
+-- a figure that leaves the first of eleven columns blank
+blank-first : (v : ℕ) → v ≤ 9999999999 → getD (fieldText 11 v) 0 0 ≡ 32
+unfolding fieldText ahead
+blank-first v l = rw (eq-eqb (v / 10 / 10 / 10 / 10 / 10 / 10 / 10 / 10 / 10 / 10) 0 (omega arith))
+
+-- a clock whose second column is below `4`
+pub clock-low : (line : List ℕ) → lineSet widest line ≡ true → getD line 87 0 < 52 → clockFits line ≡ true
+unfolding clockFits highestClock bytes less fieldValue offset fieldAt opened recordLayout lineBytes
+clock-low line h l =
+    let clock : List ℕ = take 11 (drop 86 line) in
+    let v = getD (rowOf widest line) 14 0 in
+    let read = figure-scan 0 9999999999 clock v (field-at 14 widest line (omega arith) h) in
+    let whole : length line ≡ 98 = line-length widest line h in
+    let long : length clock ≡ 11 = simp (length-take, length-drop) (omega arith) in
+    let text : clock ≡ fieldText 11 v = rw long at (scan-written clock v (read .0) .0) in
+    let first : getD line 86 0 ≡ 32 =
+    sym (getD-take 11 (drop 86 line) 0 0 (omega arith) ∙ getD-drop 86 line 0 0) ∙ (ap (λ (t : List ℕ). getD t 0 0) text ∙ blank-first v (read .1 .1)) in
+    rw (drop-cons line 86 0 (omega arith), drop-cons line 87 0 (omega arith), first, le-ltb 52 (getD line 87 0) (omega arith), ne-eqb 52 (getD line 87 0) (λ e. omega arith))
 
 -- a figure that does not end in 9, and one that is to be the next
 next-is : (w : ℕ) (s t : List ℕ) (x y : ℕ)

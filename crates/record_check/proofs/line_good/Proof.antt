@@ -1,5 +1,5 @@
 -- The law on a line, test by test: a line that has not the word of its kind is not good, each later test that fails makes the answer false, and past them
--- the clock is the answer.
+-- the clock is the answer, by its first digit where that is enough.
 use mathlib.Core.Path.{_≡_, sym, ap, _∙_}
 use mathlib.Core.Bool.{true, _&&_, cond, and-false}
 use lib.Dec.{eqb}
@@ -11,7 +11,7 @@ use Rattle.lists.specs.Bytes.{bytes}
 use Rattle.places.specs.Parts.{partsOk}
 use Rattle.record_check.specs.States.{kindParts, words-length}
 use Rattle.record_check.specs.Relations.{highestClock, clockFits, follows}
-use Rattle.record_check.specs.Line.{lineGood, wordHeld, wordless, line-is}
+use Rattle.record_check.specs.Line.{lineGood, wordHeld, wordless, low-clock, line-is}
 use Rattle.record_check.proofs.line_good.Statement.{statement}
 use Rattle.record_check.proofs.line_good.Tie as tie
 
@@ -62,22 +62,36 @@ returns-3 c =
     let f = sym (c .before .version-follows .ensures) ∙ not-true (c .before .version-follows .result) (c .if3 .taken) in
     rw (law (c .before .before .before .before .before .before), f, and-false)
 
+-- past the tests of parts and versions the clock decides
+passed : (c : tie.After-shared-slice-known5)
+    → let line = c .before .before .before .before .before .before .before .before .before .before .before .before .args .line .now in
+    (partsOk (kindParts (c .before .before .before .before .before .before .before .kind .result)) line ≡ true) × (lineGood line ≡ clockFits line)
+passed c =
+    let stood = c .before .before .before .before .stands in
+    let followed = c .before .before .version-follows in
+    let s = sym (stood .ensures) ∙ not-false (stood .result) (c .before .before .before .if2 .left) in
+    let f = sym (followed .ensures) ∙ not-false (followed .result) (c .before .if3 .left) in
+    (s, law (c .before .before .before .before .before .before .before) ∙ rw (s, f))
+
+shared-slice-read-if4 : tie.Need-shared-slice-read-if4
+shared-slice-read-if4 c = search needs
+
+returns-4 : tie.Need-returns-4
+returns-4 c =
+    let k = c .before .before .before .before .before .before .before .before .before .before .before .before in
+    let p = passed (c .before) in
+    sym (p .1 ∙ low-clock (k .before .args .line .now) (λ i. k .shared-slice-known .given i .fits) (c .before .before .before .before .before .before .before .before .kind .result) (p .0) (c .if4 .taken))
+
 twelve-less-requires : tie.Need-twelve-less-requires
 unfolding highestClock bytes
 twelve-less-requires c κs =
-    let k = c .before .before .before .before .before .before .before .before .before .before .before in
+    let k = c .before .before .before .before .before .before .before .before .before .before .before .before .before in
     let l : length (k .args .highest .now) ≡ 12 = ap length (k .pre .1 .1 .1) in
     (omega arith, omega arith)
 
-returns-4 : tie.Need-returns-4
+returns-5 : tie.Need-returns-5
 unfolding clockFits highestClock bytes
-returns-4 c =
-    let stood = c .before .before .before .before .stands in
-    let followed = c .before .before .version-follows in
-    let k = c .before .before .before .before .before .before .before in
-    let s = sym (stood .ensures) ∙ not-false (stood .result) (c .before .before .before .if2 .left) in
-    let f = sym (followed .ensures) ∙ not-false (followed .result) (c .before .if3 .left) in
-    rw (law k, s, f, c .twelve-less .ensures, k .before .before .before .before .before .pre .1 .1 .1)
+returns-5 c = rw (passed (c .before .before) .1, c .twelve-less .ensures, c .before .before .before .before .before .before .before .before .before .before .before .before .before .before .pre .1 .1 .1)
 
 pub line-good-spec : {M : Type 1} → statement M
 line-good-spec =
@@ -91,5 +105,7 @@ line-good-spec =
     returns-2
     version-follows-requires
     returns-3
+    shared-slice-read-if4
+    returns-4
     twelve-less-requires
-    returns-4)
+    returns-5)
