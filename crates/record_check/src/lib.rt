@@ -1,4 +1,5 @@
-// The fast check of a record sheet: each line by one pass over the tables of its kind, the keys of neighbours as bytes.
+// The fast check of a record sheet: each line's state word compared with that of its kind, the line by one pass over the kind's tables, and the keys of
+// neighbours as bytes.
 
 ghost use mathlib.Core.Path.{_≡_};
 ghost use mathlib.Core.Bool.{true, cond};
@@ -101,8 +102,9 @@ fn version_follows(line: &[u8], kind: usize) -> bool
     places::load_six(line, 30) == places::load_six(line, 58) + 0x0100_0000_0000
 }
 
-// Whether the line can be read and its record is good alone: its state word is that of a kind, and the tables say all else but how the versions of a
-// PREPARED line stand to each other, and that the clock is at most 4294967295. The end of the line, LF included, orders as the clock does.
+// Whether the line can be read and its record is good alone. Its ten bytes of state word are compared with the word of its kind, so that a line with none
+// of the words is refused. The tables say all else but how the versions of a PREPARED line stand to each other, and that the clock is at most
+// 4294967295. The end of the line, LF included, orders as the clock does.
 fn line_good(line: &[u8], words: &[u8], lent: &[u8], highest: &[u8]) -> bool
     requires { ⌜ length (now line) ≡ 98 ⌝ }
     requires { ⌜ now words ≡ kindWords ⌝ }
