@@ -1,7 +1,7 @@
 // Runs a history of calls from standard input and prints every answer, then both sheets. docs/REPLAY.md has the form of a history.
 ghost use mathlib.Core.Path.{_≡_};
 ghost use Prim.Native.Nat.{_+_, _≤_};
-ghost use lib.ListN.{length};
+ghost use lib.ListN.{length, replicate};
 
 mod calls;
 mod head;
@@ -15,6 +15,19 @@ use scan::Command;
 
 // A history has at most 500,000 bytes, and one byte more tells a longer one.
 const LONGEST: usize = 500000;
+
+// The two arrays before they are filled. A call makes each, since the check would count the bytes of a local array one by one, for seconds and a gigabyte.
+fn blank_input() -> [u8; 500001]
+    ensures { λ r. ⌜ r ≡ replicate 500001 0 ⌝ }
+{
+    [0u8; 500001]
+}
+
+fn blank_sheet() -> [u8; 150000]
+    ensures { λ r. ⌜ r ≡ replicate 150000 0 ⌝ }
+{
+    [0u8; 150000]
+}
 
 // The reply to a call as a line, with the part of the record sheet that the call asks for.
 fn answer(
@@ -87,12 +100,12 @@ fn history(input: &mut [u8]) {
         io::write_all(1, b"bad input\n");
         return;
     }
-    let mut coordinator = [0u8; 150000];
+    let mut coordinator = blank_sheet();
     replay(input, from, to, &mut coordinator[..size]);
 }
 
 fn main() {
-    let mut input = [0u8; 500001];
+    let mut input = blank_input();
     let n = io::read_full(0, &mut input);
     if LONGEST < n {
         io::write_all(1, b"bad input\n");

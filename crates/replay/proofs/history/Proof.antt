@@ -47,6 +47,9 @@ same-length-2 c = search needs
 returns-2 : tie.Need-returns-2
 returns-2 c = search needs
 
+blank-sheet-requires : tie.Need-blank-sheet-requires
+blank-sheet-requires c κs = search needs
+
 array-borrow-prefix-coordinator : tie.Need-array-borrow-prefix-coordinator
 array-borrow-prefix-coordinator c = search needs
 
@@ -80,6 +83,7 @@ history-spec =
     write-all-requires-2
     same-length-2
     returns-2
+    blank-sheet-requires
     array-borrow-prefix-coordinator
     slice-aggregate-replay
     replay-requires
