@@ -3,15 +3,10 @@ ghost use mathlib.Core.Path.{_≡_};
 ghost use Prim.Native.Nat.{_+_, _≤_};
 ghost use lib.ListN.{length, replicate};
 
-mod calls;
-mod head;
 mod print;
-mod reply;
-mod scan;
-mod slots;
 
-use reply::Reply;
-use scan::Command;
+use script::reply::Reply;
+use script::scan::Command;
 
 // A history has at most 500,000 bytes, and one byte more tells a longer one.
 const LONGEST: usize = 500000;
@@ -41,7 +36,7 @@ fn answer(
     requires { ⌜ fill ≤ 4096 ⌝ }
     ensures { λ r. ⌜ r ≤ 4096 ⌝ }
 {
-    let part = calls::part(command, records);
+    let part = script_calls::calls::part(command, records);
     print::line(reply, part, out, fill)
 }
 
@@ -57,14 +52,14 @@ fn answer_calls(
     ensures { λ r. ⌜ r ≤ 4096 ⌝ }
 {
     let n = input.len();
-    let mut slots = slots::empty();
+    let mut slots = script_calls::slots::empty();
     let mut fill = 0;
     let mut at = to;
     while at < n {
-        let end = scan::end_of(input, at, b'\n');
+        let end = script::scan::end_of(input, at, b'\n');
         let next = end + 1;
-        let command = scan::parse(&input[at..end]);
-        let turn = slots::run(command, slots, &mut input[from..to], coordinator);
+        let command = script::scan::parse(&input[at..end]);
+        let turn = script_calls::slots::run(command, slots, &mut input[from..to], coordinator);
         slots = turn.slots;
         let reply = turn.reply;
         fill = answer(command, reply, &input[from..to], out, fill);
@@ -88,7 +83,7 @@ fn replay(input: &mut [u8], from: usize, to: usize, coordinator: &mut [u8])
 
 // A history, whose first line says how long its sheets are.
 fn history(input: &mut [u8]) {
-    let head = head::read(input);
+    let head = script::head::read(input);
     if !head.good {
         io::write_all(1, b"bad input\n");
         return;

@@ -1,8 +1,8 @@
 // Text for standard output, gathered in a lent buffer and written when that is full. `fill` is how many bytes of it are taken.
 ghost use mathlib.Core.Path.{_≡_};
 ghost use Prim.Native.Nat.{_≤_};
-use crate::reply::Form;
-use crate::reply::Reply;
+use script::reply::Form;
+use script::reply::Reply;
 
 fn byte(b: u8, out: &mut [u8; 4096], fill: usize) -> usize
     requires { ⌜ fill ≤ 4096 ⌝ }

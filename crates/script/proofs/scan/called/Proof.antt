@@ -1,0 +1,37 @@
+-- By whether all words are numbers, and by how many there are.
+use mathlib.Core.Path.{refl, sym, _∙_}
+use mathlib.Core.Bool.{true, false}
+use borrow.Author.Tests.{eq-eqb, ne-eqb, not-true, not-false}
+use Rattle.script.specs.Lines.{called-by}
+use borrow.Author.Needs.{needs}
+use Rattle.script.proofs.scan.called.Statement.{statement}
+use Rattle.script.proofs.scan.called.Tie as tie
+
+bad-command-requires : tie.Need-bad-command-requires
+bad-command-requires c κs = search needs
+
+returns : tie.Need-returns
+returns c = let a = c .before .before .before .before .args in c .bad-command .ensures ∙ called-by (a .kind) (a .numbers) false _ (not-true _ (c .before .if1 .taken)) refl
+
+arity-requires : tie.Need-arity-requires
+arity-requires c κs = search needs
+
+bad-command-requires-2 : tie.Need-bad-command-requires-2
+bad-command-requires-2 c κs = search needs
+
+returns-2 : tie.Need-returns-2
+returns-2 c = let a = c .before .before .before .before .before .before .before .args in c .bad-command2 .ensures ∙ called-by (a .kind) (a .numbers) true false (not-false _ (c .before .before .before .before .if1 .left)) (ne-eqb _ _ (λ z. c .before .if2 .taken (z ∙ sym (c .before .before .before .arity .ensures))))
+
+returns-3 : tie.Need-returns-3
+returns-3 c = let a = c .before .before .before .before .before .before .args in called-by (a .kind) (a .numbers) true true (not-false _ (c .before .before .before .if1 .left)) (eq-eqb _ _ (c .if2 .left ∙ c .before .before .arity .ensures))
+
+pub called-spec : {M : Type 1} → statement M
+called-spec =
+    tie.close
+    (tie.spec
+    bad-command-requires
+    returns
+    arity-requires
+    bad-command-requires-2
+    returns-2
+    returns-3)

@@ -1,0 +1,71 @@
+-- A word ends after the space before it, so that the place rises to the end of the line; the words to come, after the numbers so far, give what all words do.
+use Prim.Native.Nat.{_+_, _-_, _≤_}
+use mathlib.Core.Path.{_≡_, refl, sym, ap, _∙_}
+use native.Mathlib.Omega.{arith}
+use lib.ListN.{length, drop}
+use borrow.Author.Needs.{needs}
+use Rattle.script.specs.declared.scan.Numbers.{Numbers}
+use Rattle.script.specs.Lines.{noNumbers, withWords, wordsAfter, next-word, no-word}
+use Rattle.script.proofs.scan.numbers_after.Statement.{statement}
+use Rattle.script.proofs.scan.numbers_after.Tie as tie
+
+abbrev Inv-loop : tie.InvT-loop
+Inv-loop line from n numbers₀ at₀ numbers at =
+    (at ≤ length line) × (withWords numbers (wordsAfter (drop at line)) ≡ withWords noNumbers (wordsAfter (drop from line)))
+
+abbrev μ-loop : tie.MeasureT-loop
+μ-loop line from n numbers₀ at₀ numbers at = length line - at
+
+loop-holds : tie.Need-loop-holds Inv-loop μ-loop
+loop-holds c = (c .before .pre, refl)
+
+add-start : tie.Need-add-start Inv-loop μ-loop
+add-start c = search needs
+
+end-of-requires : tie.Need-end-of-requires Inv-loop μ-loop
+end-of-requires c κs = search needs
+
+sub-with-word : tie.Need-sub-with-word Inv-loop μ-loop
+sub-with-word c = search needs
+
+part-with-word-start : tie.Need-part-with-word-start Inv-loop μ-loop
+part-with-word-start c = search needs
+
+part-with-word-end : tie.Need-part-with-word-end Inv-loop μ-loop
+part-with-word-end c = search needs
+
+with-word-requires : tie.Need-with-word-requires Inv-loop μ-loop
+with-word-requires c κs = search needs
+
+loop-less : tie.Need-loop-less Inv-loop μ-loop
+loop-less c = search needs
+
+loop-again : tie.Need-loop-again Inv-loop μ-loop
+loop-again c = let s = c .before .before .before .before .before .before .args .line .now in
+    let l = c .before .before .before .before .loop in
+    let end = c .before .before .end-of .result in
+    let f : end - (l .at + 1) + (l .at + 1) ≡ end = omega arith in (
+      c .before .before .end-of .ensures .0 .1,
+      ap (λ (n : Numbers). withWords n (wordsAfter (drop end s))) (c .with-word .ensures)
+          ∙ (next-word s (l .numbers) (l .at) end (end - (l .at + 1)) (c .before .before .before .loop-test .taken) (c .before .before .end-of .ensures .1) f ∙ l .inv .1),
+    )
+
+returns : tie.Need-returns Inv-loop μ-loop
+returns c = sym (no-word (c .before .before .before .args .line .now) (c .before .loop .numbers) (c .before .loop .at) (c .loop-test .left)) ∙ c .before .loop .inv .1
+
+pub numbers-after-spec : {M : Type 1} → statement M
+numbers-after-spec =
+    tie.close
+    (tie.spec
+    Inv-loop
+    μ-loop
+    loop-holds
+    add-start
+    end-of-requires
+    sub-with-word
+    part-with-word-start
+    part-with-word-end
+    with-word-requires
+    loop-less
+    loop-again
+    returns)

@@ -1,0 +1,40 @@
+-- The first word is what stands before the first space, and the other words are read after it.
+use mathlib.Core.Path.{_≡_, ap₂, _∙_}
+use native.Mathlib.Omega.{arith}
+use lib.ListN.{length, length-take}
+use borrow.Author.Needs.{needs}
+use Rattle.script.specs.Lines.{called, upTo, said-read}
+use Rattle.script.proofs.scan.parse.Statement.{statement}
+use Rattle.script.proofs.scan.parse.Tie as tie
+
+end-of-requires : tie.Need-end-of-requires
+end-of-requires c κs = search needs
+
+slice-aggregate-kind-of : tie.Need-slice-aggregate-kind-of
+slice-aggregate-kind-of c = simp length-take (omega arith)
+
+kind-of-requires : tie.Need-kind-of-requires
+kind-of-requires c κs = search needs
+
+numbers-after-requires : tie.Need-numbers-after-requires
+numbers-after-requires c κs = search needs
+
+called-requires : tie.Need-called-requires
+called-requires c κs = search needs
+
+returns : tie.Need-returns
+returns c = let s = c .before .before .before .before .before .before .args .line .now in
+    let end = c .before .before .before .before .end-of .result in
+    let e : end ≡ length (upTo 32 s) = omega arith in
+    c .called .ensures ∙ (ap₂ called (c .before .before .kind-of .ensures) (c .before .numbers-after .ensures) ∙ said-read s end e)
+
+pub parse-spec : {M : Type 1} → statement M
+parse-spec =
+    tie.close
+    (tie.spec
+    end-of-requires
+    slice-aggregate-kind-of
+    kind-of-requires
+    numbers-after-requires
+    called-requires
+    returns)

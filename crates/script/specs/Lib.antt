@@ -1,0 +1,2 @@
+-- What a line of a history says.
+pub mod Lines

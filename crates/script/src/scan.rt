@@ -1,0 +1,224 @@
+// A line of a history, taken apart: the call that it names, and its numbers.
+ghost use mathlib.Core.Path.{_≡_};
+ghost use Prim.Native.Nat.{_+_, _≤_};
+ghost use lib.ListN.{length, drop};
+ghost use Rattle.script.specs.Lines.{otherSlotKind, slotKind, kindOf, noNumbers, withWord, withWords, wordsAfter, badCommand, called, said, upTo};
+ghost use Rattle.script.specs.Lines as model;
+use decimal::Scan;
+
+// The calls of a history. BadLine is a line of another form.
+pub enum Kind {
+    Check,
+    Begin,
+    Read,
+    Put,
+    Advance,
+    Abort,
+    Visit,
+    Lookup,
+    Line,
+    Show,
+    Set,
+    Entry,
+    BadLine,
+}
+
+// A call and its numbers in the order of the line, zeros after the last.
+pub struct Command {
+    pub kind: Kind,
+    pub numbers: [u32; 14],
+}
+
+// The numbers read so far; not good once a word was no number or one too many.
+struct Numbers {
+    good: bool,
+    count: usize,
+    values: [u32; 14],
+}
+
+// The first place from `at` on that has the byte `mark`, or the end.
+pub fn end_of(s: &[u8], at: usize, mark: u8) -> usize
+    requires { ⌜ at ≤ length (now s) ⌝ }
+    ensures within { λ r. ⌜ (at ≤ r) × (r ≤ length (now (s .entry))) ⌝ }
+    ensures place { λ r. ⌜ r ≡ at + length (upTo mark (drop at (now (s .entry)))) ⌝ }
+{
+    let n = s.len();
+    let mut i = at;
+    while i < n {
+        if s[i] == mark {
+            return i;
+        }
+        i += 1;
+    }
+    i
+}
+
+// Another call on a slot.
+fn other_slot_kind(word: &[u8]) -> Kind
+    ensures { λ r. ⌜ r ≡ otherSlotKind (now (word .entry)) ⌝ }
+{
+    if decimal::same(word, b"abort") {
+        return Kind::Abort;
+    }
+    if decimal::same(word, b"show") {
+        return Kind::Show;
+    }
+    if decimal::same(word, b"set") {
+        return Kind::Set;
+    }
+    if decimal::same(word, b"entry") {
+        return Kind::Entry;
+    }
+    Kind::BadLine
+}
+
+// A call on a slot.
+fn slot_kind(word: &[u8]) -> Kind
+    ensures { λ r. ⌜ r ≡ slotKind (now (word .entry)) ⌝ }
+{
+    if decimal::same(word, b"begin") {
+        return Kind::Begin;
+    }
+    if decimal::same(word, b"read") {
+        return Kind::Read;
+    }
+    if decimal::same(word, b"put") {
+        return Kind::Put;
+    }
+    if decimal::same(word, b"advance") {
+        return Kind::Advance;
+    }
+    other_slot_kind(word)
+}
+
+// The call that a word names.
+fn kind_of(word: &[u8]) -> Kind
+    ensures { λ r. ⌜ r ≡ kindOf (now (word .entry)) ⌝ }
+{
+    if decimal::same(word, b"check") {
+        return Kind::Check;
+    }
+    if decimal::same(word, b"visit") {
+        return Kind::Visit;
+    }
+    if decimal::same(word, b"lookup") {
+        return Kind::Lookup;
+    }
+    if decimal::same(word, b"line") {
+        return Kind::Line;
+    }
+    slot_kind(word)
+}
+
+// How many numbers a call has.
+fn arity(kind: Kind) -> usize
+    ensures { λ r. ⌜ r ≡ model.arity kind ⌝ }
+{
+    match kind {
+        Kind::Check => 0,
+        Kind::Begin => 2,
+        Kind::Read => 7,
+        Kind::Put => 8,
+        Kind::Advance => 2,
+        Kind::Abort => 1,
+        Kind::Visit => 6,
+        Kind::Lookup => 5,
+        Kind::Line => 5,
+        Kind::Show => 1,
+        Kind::Set => 7,
+        Kind::Entry => 14,
+        Kind::BadLine => 0,
+    }
+}
+
+// The numbers with a word more. A word holds no space, so that what is read is a number in figures alone.
+fn with_word(numbers: Numbers, word: &[u8]) -> Numbers
+    ensures { λ r. ⌜ r ≡ withWord numbers (now (word .entry)) ⌝ }
+{
+    let good = numbers.good;
+    let count = numbers.count;
+    let mut values = numbers.values;
+    if 14 <= count {
+        return Numbers {
+            good: false,
+            count,
+            values,
+        };
+    }
+    match decimal::read(word, 0, 4294967295) {
+        Scan::Blank => Numbers {
+            good: false,
+            count,
+            values,
+        },
+        Scan::Number(v) => {
+            values[count] = v;
+            Numbers {
+                good,
+                count: count + 1,
+                values,
+            }
+        }
+        Scan::Wrong => Numbers {
+            good: false,
+            count,
+            values,
+        },
+    }
+}
+
+// The numbers of the words after the one that ends at `from`, each after a single space.
+fn numbers_after(line: &[u8], from: usize) -> Numbers
+    requires { ⌜ from ≤ length (now line) ⌝ }
+    ensures { λ r. ⌜ r ≡ withWords noNumbers (wordsAfter (drop from (now (line .entry)))) ⌝ }
+{
+    let n = line.len();
+    let mut numbers = Numbers {
+        good: true,
+        count: 0,
+        values: [0; 14],
+    };
+    let mut at = from;
+    while at < n {
+        let start = at + 1;
+        let end = end_of(line, start, b' ');
+        numbers = with_word(numbers, &line[start..end]);
+        at = end;
+    }
+    numbers
+}
+
+fn bad_command() -> Command
+    ensures { λ r. ⌜ r ≡ badCommand ⌝ }
+{
+    Command {
+        kind: Kind::BadLine,
+        numbers: [0; 14],
+    }
+}
+
+// A call with its numbers, if it has so many.
+fn called(kind: Kind, numbers: Numbers) -> Command
+    ensures { λ r. ⌜ r ≡ called kind numbers ⌝ }
+{
+    let values = numbers.values;
+    if !numbers.good {
+        return bad_command();
+    }
+    if numbers.count != arity(kind) {
+        return bad_command();
+    }
+    Command {
+        kind,
+        numbers: values,
+    }
+}
+
+pub fn parse(line: &[u8]) -> Command
+    ensures { λ r. ⌜ r ≡ said (now (line .entry)) ⌝ }
+{
+    let end = end_of(line, 0, b' ');
+    let kind = kind_of(&line[..end]);
+    let numbers = numbers_after(line, end);
+    called(kind, numbers)
+}
