@@ -1,13 +1,21 @@
 # The commands of the README. `make test` is the whole gate.
-.PHONY: test wrong reference-tests programs outside histories visits visit differ soak faults bench archive client client-test install
+.PHONY: test proofs apart wrong reference-tests programs outside histories visits visit differ soak faults bench archive client client-test install
 
-# Everything is proved from nothing first, since `rt ci` removes what was built. What it leaves is then held from outside, and the last line is its own.
+# Everything is proved from nothing first, since `rt ci` removes what was built; beside it runs what needs nothing that is built. What is built is then held
+# from outside, and the last line is that of `rt ci`.
 test:
 	rt fmt --check
-	tests/prove.sh
+	$(MAKE) --no-print-directory -j2 -O proofs apart
 	$(MAKE) --no-print-directory archive programs
-	$(MAKE) --no-print-directory -j2 -O wrong reference-tests faults outside
+	$(MAKE) --no-print-directory outside
 	@tail -n 1 target/ci.log
+
+proofs:
+	tests/prove.sh
+
+# one after another, in the time that `rt ci` leaves
+apart:
+	nice -n 19 $(MAKE) --no-print-directory -j1 wrong reference-tests faults
 
 # the separate implementation's own tests
 reference-tests:
