@@ -14,11 +14,17 @@ mod programs;
 
 use programs::Engine;
 use reference::compare::rounds::Tally;
+use reference::compare::Case;
 use std::process::ExitCode;
+use std::sync::mpsc::{sync_channel, Receiver, SyncSender};
+use std::thread;
 use std::time::{Duration, Instant};
 
 /// From so many calls on, something not seen is a fault.
 const ENOUGH: u64 = 100_000;
+
+/// Rounds that may wait for the engine.
+const WAITING: usize = 4;
 
 /// The number at this place of the command line, `otherwise` where there is none.
 fn argument(place: usize, otherwise: u64) -> Option<u64> {
@@ -28,26 +34,49 @@ fn argument(place: usize, otherwise: u64) -> Option<u64> {
     }
 }
 
-/// One round, or the difference that it found.
-fn round(tally: &mut Tally, seed: u64) -> Result<(), String> {
-    for case in tally.round(seed)? {
-        if !case.holds(&Engine) {
-            return Err(difference::told(seed, &case));
+/// Cases and the seed of their round.
+type Round = (u64, Vec<Case>);
+
+/// Holds the engine against cases in the order in which they were made, up to the first difference.
+fn hold(rounds: Receiver<Round>) -> Result<(), String> {
+    for (seed, cases) in rounds {
+        if let Some(case) = cases.iter().find(|case| !case.holds(&Engine)) {
+            return Err(format!("seed {seed}: {}", difference::told(seed, case)));
         }
     }
     Ok(())
 }
 
-/// Makes rounds until there are enough calls or the time is over; answers the seed after the last.
-fn rounds(tally: &mut Tally, calls: u64, first: u64, time: Duration) -> Result<u64, String> {
+/// Makes rounds until there are enough calls, the time is over or a difference was found; answers the seed after the last.
+fn make(
+    tally: &mut Tally,
+    calls: u64,
+    first: u64,
+    time: Duration,
+    rounds: SyncSender<Round>,
+) -> Result<u64, String> {
     let start = Instant::now();
     let mut seed = first;
     while tally.seen.calls() < calls && start.elapsed() < time {
-        let found = round(tally, seed);
-        found.map_err(|difference| format!("seed {seed}: {difference}"))?;
+        let cases = tally.round(seed);
+        let cases = cases.map_err(|difference| format!("seed {seed}: {difference}"))?;
+        if rounds.send((seed, cases)).is_err() {
+            break;
+        }
         seed += 1;
     }
     Ok(seed)
+}
+
+/// Makes cases by `plain` and holds the engine against them at the same time.
+fn rounds(tally: &mut Tally, calls: u64, first: u64, time: Duration) -> Result<u64, String> {
+    let (send, receive) = sync_channel(WAITING);
+    thread::scope(|scope| {
+        let held = scope.spawn(|| hold(receive));
+        let made = make(tally, calls, first, time, send);
+        held.join().expect("no panic")?;
+        made
+    })
 }
 
 fn report(tally: &Tally, first: u64, end: u64) {
