@@ -1,12 +1,13 @@
 -- What holds of a choice holds of each of its cases: one rule for each combinator of the specification, with the case's equation at hand.
 use Prim.Native.Nat.{ℕ, _≤_}
 use mathlib.Core.Path.{_≡_, refl}
-use mathlib.Core.Bool.{Bool, true, false}
-use mathlib.Core.List.{List, _∷_}
+use mathlib.Core.Bool.{Bool, true, false, cond}
+use mathlib.Core.List.{List, [], _∷_}
 use native.Mathlib.Omega.{arith}
-use lib.Dec.{eqb}
-use borrow.Author.Tests.{eqb-true}
-use Rattle.lists.specs.Tests.{choose-by}
+use lib.Dec.{eqb, leb}
+use borrow.Author.Tests.{eqb-true, leb-true}
+use Rattle.lists.specs.Each.{all}
+use Rattle.lists.specs.Tests.{and-fst, and-snd, choose-by}
 use Rattle.types.specs.declared.Decision.{Decision}
 use Rattle.types.specs.declared.Decision.the-variants.{Undecided, Committed, Aborted}
 use Rattle.types.specs.declared.Record.{Record}
@@ -15,7 +16,9 @@ use Rattle.types.specs.declared.Recovery.the-variants.{Stays, Forward, Back, Ag
 use Rattle.model.specs.Refusals.{Condition, refuse, refusalOf}
 use Rattle.model.specs.Transactions.{byPhase}
 use Rattle.model.specs.Images.{isPrepared, byDecision, recovery}
-use Rattle.model.specs.Results.{Result, refused, unless}
+use Rattle.model.specs.Writes.{Sheets}
+use Rattle.model.specs.Results.{Call, begin, read, put, advance, abort, visit, Result, refused, unless}
+use Rattle.model.specs.Conditions.{conditions}
 
 pub by-phase {ℓ κ} : {A : Type ℓ} (P : A → Type κ) (p : ℕ) {o r v d w f u e x : A} → P o → P r → P v → P d → P w → P f → P u → P e → P x → P (byPhase p o r v d w f u e x)
 by-phase P p o r v d w f u e x =
@@ -64,3 +67,33 @@ pub not-first : (n : ℕ) (x : Bool) (cs : List Condition) → 1 ≤ n → refus
 unfolding refusalOf
 not-first n true cs l h = absurd (omega (arith, h))
 not-first n false cs l h = (refl, h)
+
+-- the same by the condition's number, wherever it stands in the list
+
+abbrev numbered : Condition → Bool
+numbered c = leb 1 (c .number)
+
+unfoldable pub testOf : ℕ → List Condition → Bool
+testOf n [] = false
+testOf n (c ∷ cs) = cond (eqb (c .number) n) (c .holds) (testOf n cs)
+
+pub not-held : (n : ℕ) (cs : List Condition) → all numbered cs ≡ true → refusalOf cs ≡ 0 → testOf n cs ≡ false
+unfolding testOf all
+not-held n [] l h = refl
+not-held n (c ∷ cs) l h =
+    let p = not-first (c .number) (c .holds) cs (leb-true 1 (c .number) (and-fst (numbered c) (all numbered cs) l)) h in
+    choose-by (λ (x : Bool). x ≡ false) (eqb (c .number) n) (λ e. p .0)
+    (λ e. not-held n cs (and-snd (numbered c) (all numbered cs) l) (p .1))
+
+conditions-numbered : (c : Call) (s : Sheets) → all numbered (conditions c s) ≡ true
+unfolding all conditions
+conditions-numbered (begin b) s = refl
+conditions-numbered (read t k now) s = refl
+conditions-numbered (put t k c) s = refl
+conditions-numbered (advance t now) s = refl
+conditions-numbered (abort t) s = refl
+conditions-numbered (visit k now) s = refl
+
+-- of a call that is accepted
+pub accepted : (n : ℕ) (c : Call) (s : Sheets) → refusalOf (conditions c s) ≡ 0 → testOf n (conditions c s) ≡ false
+accepted n c s z = not-held n (conditions c s) (conditions-numbered c s) z

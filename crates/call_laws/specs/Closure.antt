@@ -45,7 +45,7 @@ use Rattle.model.specs.Calls.{newTransaction, readNew, holding, afterPut, begin
 use Rattle.model.specs.Histories.{returned, visited, readAnswered, answer, written, after, returns, ClockFits}
 use Rattle.sheet_laws.specs.Search.{first-by}
 use Rattle.sheet_laws.specs.Coordinator.{bounds}
-use Rattle.call_laws.specs.Choices.{by-phase-of, unless-by, not-first, by-meeting}
+use Rattle.call_laws.specs.Choices.{by-phase-of, unless-by, testOf, accepted, by-meeting}
 use Rattle.call_laws.specs.Keys.{hasKey}
 use Rattle.call_laws.specs.Ranges.{GoodParts}
 use Rattle.call_laws.specs.Images.{back-plain, when-settled, forward-fine, back-fine}
@@ -77,10 +77,10 @@ module _ (s : Sheets) (good : GoodSheets s) where
   begin-stage us n b = record { decides = refl; validates = refl; place = refl; verdict = refl }
 
   begin-keeps : (b : Bool) → Keeps s returned (beginResult b s)
-  unfolding beginResult conditions returns
+  unfolding beginResult conditions returns testOf
   begin-keeps b =
       unless-by (Keeps s returned) (conditions (begin b) s) (keeps-refused s returned _)
-      (λ z. let n : eqb (s .coordinator .issued) (length (s .coordinator .decisions)) ≡ false = not-first 8 _ [] (omega arith) z .0 in
+      (λ z. let n : eqb (s .coordinator .issued) (length (s .coordinator .decisions)) ≡ false = accepted 8 (begin b) s z in
       let m : s .coordinator .issued ≤ length (s .coordinator .decisions) = bounds (s .coordinator) (good .decisions) .issued in
       let l : s .coordinator .issued < length (s .coordinator .decisions) = strictly (s .coordinator .issued) (length (s .coordinator .decisions)) m n in
       keeps-made s returned (newTransaction (s .coordinator .issued + 1) b) issue (newTransaction (s .coordinator .issued + 1) b) refl (fit-issue l)
@@ -112,11 +112,11 @@ module _ (s : Sheets) (good : GoodSheets s) where
       (λ h. absurd (true≢false h))
 
   abort-keeps : (t : Transaction) → Keeps s returned (abortResult t s)
-  unfolding abortResult conditions returns
+  unfolding abortResult conditions returns testOf
   abort-keeps t =
       unless-by (Keeps s returned) (conditions (abort t) s) (keeps-refused s returned _)
       (λ z. let p = taken-parts s t _ z in
-      let c : cannotAbort t ≡ false = not-first 4 (cannotAbort t) [] (omega arith) (not-first 3 (not (wellFormed s t)) _ (omega arith) z .1) .0 in
+      let c : cannotAbort t ≡ false = accepted 4 (abort t) s z in
       keeps-made s returned (moved withdrawPhase 0 (t .verdict) t) nothing (moved withdrawPhase 0 (t .verdict) t) refl fit-nothing
       (formed-after s nothing (moved withdrawPhase 0 (t .verdict) t) (body-moved s t withdrawPhase 0 (t .verdict) (p .0))
       (to-withdraw (unitsOf s) t (abort-verdict t (p .1) c))))
@@ -138,13 +138,12 @@ module _ (s : Sheets) (good : GoodSheets s) where
       any-fits Busy = fit-nothing
 
   visit-keeps : (k : Key) (now : ℕ) → Keeps s visited (visitResult k now s)
-  unfolding visitResult conditions returns
+  unfolding visitResult conditions returns testOf
   visit-keeps k now =
       unless-by (Keeps s visited) (conditions (visit k now) s) (keeps-refused s visited _)
-      (λ z. let a = not-first 5 (not (keyInRange k)) _ (omega arith) z in
-      let b = not-first 6 (not (hasLine k (s .lines))) _ (omega arith) (a .1) in
+      (λ z. let c6 : not (hasLine k (s .lines)) ≡ false = accepted 6 (visit k now) s z in
       record {
-        fits = visit-fits k now (not-false (hasLine k (s .lines)) (b .0));
+        fits = visit-fits k now (not-false (hasLine k (s .lines)) c6);
         formed = λ t e. absurd (Option·none-ne-some t e);
       })
 
@@ -191,26 +190,24 @@ module _ (s : Sheets) (good : GoodSheets s) where
         }
 
   read-keeps : (t : Transaction) (k : Key) (now : ℕ) → Keeps s readAnswered (readResult t k now s)
-  unfolding readResult conditions returns readNew
+  unfolding readResult conditions returns readNew testOf
   read-keeps t k now =
       unless-by (Keeps s readAnswered) (conditions (read t k now) s) (keeps-refused s readAnswered _)
       (λ z. let p = taken-parts s t _ z in
       let r = lineOf k (s .lines) in
       let v = meeting now (s .coordinator) r in
-      let c3 = not-first 3 (not (wellFormed s t)) _ (omega arith) z in
-      let c4 = not-first 4 (not (eqb (t .phase) 0)) _ (omega arith) (c3 .1) in
-      let c5 = not-first 5 (not (keyInRange k)) _ (omega arith) (c4 .1) in
-      let c6 = not-first 6 (not (hasLine k (s .lines))) _ (omega arith) (c5 .1) in
-      let c9 = not-first 9 (isNew k t && leb 8 (t .count)) _ (omega arith) (c6 .1) in
-      let c12 = not-first 12 (isNew k t && busy k now s) [] (omega arith) (c9 .1) in
-      let h : hasLine k (s .lines) ≡ true = not-false (hasLine k (s .lines)) (c6 .0) in
-      let ph : t .phase ≡ 0 = eqb-true (t .phase) 0 (not-false (eqb (t .phase) 0) (c4 .0)) in
+      let c4 : not (eqb (t .phase) 0) ≡ false = accepted 4 (read t k now) s z in
+      let c6 : not (hasLine k (s .lines)) ≡ false = accepted 6 (read t k now) s z in
+      let c9 : (isNew k t && leb 8 (t .count)) ≡ false = accepted 9 (read t k now) s z in
+      let c12 : (isNew k t && busy k now s) ≡ false = accepted 12 (read t k now) s z in
+      let h : hasLine k (s .lines) ≡ true = not-false (hasLine k (s .lines)) c6 in
+      let ph : t .phase ≡ 0 = eqb-true (t .phase) 0 (not-false (eqb (t .phase) 0) c4) in
       choose-by (Keeps s readAnswered) (isNew k t)
       (λ n. choose-by (Keeps s readAnswered) (isAgain v)
       (λ a. keeps-made s readAnswered _ (recoveryWrite v r) t refl (visit-fits k now h) (formed-after s (recoveryWrite v r) t (p .0) (p .1)))
-      (λ a. let u = visited-good k now h a (ap (λ (x : Bool). x && busy k now s) (sym n) ∙ c12 .0) in
+      (λ a. let u = visited-good k now h a (ap (λ (x : Bool). x && busy k now s) (sym n) ∙ c12) in
       let e = entryAs (r .key) (recovered v r .image) in
-      let l : leb 8 (t .count) ≡ false = ap (λ (x : Bool). x && leb 8 (t .count)) (sym n) ∙ c9 .0 in
+      let l : leb 8 (t .count) ≡ false = ap (λ (x : Bool). x && leb 8 (t .count)) (sym n) ∙ c9 in
       let kk : r .key ≡ k = line-of-key k (s .lines) in
       let body : Body s (holding e t) =
       holding-body t (p .0) e (less-than-eight (t .count) l) (ap (λ (x : Key). hasKey x (held t)) kk ∙ not-held k t n)
@@ -264,20 +261,16 @@ module _ (s : Sheets) (good : GoodSheets s) where
         (open-again (unitsOf s) t g ph (t .count) m (withPut c (getD (t .entries) m noEntry))))
 
   put-keeps : (t : Transaction) (k : Key) (c : Columns) → Keeps s returned (putResult t k c s)
-  unfolding putResult conditions returns
+  unfolding putResult conditions returns testOf
   put-keeps t k c =
       unless-by (Keeps s returned) (conditions (put t k c) s) (keeps-refused s returned _)
       (λ z. let p = taken-parts s t _ z in
-      let c3 = not-first 3 (not (wellFormed s t)) _ (omega arith) z in
-      let c4 = not-first 4 (not (eqb (t .phase) 0)) _ (omega arith) (c3 .1) in
-      let c5 = not-first 5 (not (keyInRange k)) _ (omega arith) (c4 .1) in
-      let c6 = not-first 6 (not (hasLine k (s .lines))) _ (omega arith) (c5 .1) in
-      let c7 = not-first 7 (not (columnsInRange c)) _ (omega arith) (c6 .1) in
-      let c10 = not-first 10 (isNew k t) _ (omega arith) (c7 .1) in
-      let c11 = not-first 11 (leb 99999 (heldEntry k t .seen .version)) [] (omega arith) (c10 .1) in
-      let ph : t .phase ≡ 0 = eqb-true (t .phase) 0 (not-false (eqb (t .phase) 0) (c4 .0)) in
+      let c4 : not (eqb (t .phase) 0) ≡ false = accepted 4 (put t k c) s z in
+      let c7 : not (columnsInRange c) ≡ false = accepted 7 (put t k c) s z in
+      let c11 : leb 99999 (heldEntry k t .seen .version) ≡ false = accepted 11 (put t k c) s z in
+      let ph : t .phase ≡ 0 = eqb-true (t .phase) 0 (not-false (eqb (t .phase) 0) c4) in
       keeps-made s returned (afterPut t k c) nothing (afterPut t k c) refl fit-nothing
-      (put-formed t (p .0) c k (p .1) ph (not-false (columnsInRange c) (c7 .0)) (c11 .0)))
+      (put-formed t (p .0) c k (p .1) ph (not-false (columnsInRange c) c7) c11))
 
 -- Every call.
 

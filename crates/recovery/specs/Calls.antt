@@ -47,7 +47,7 @@ use Rattle.model.specs.Calls.{
 use Rattle.model.specs.Histories.{Event, Answer, returned, visited, answerOf, readAnswered, given, returns, takenBy, Available}
 use Rattle.model.specs.SequentialModel.{Model, modelBegin, modelPut, modelCommit, modelCall, modelStep}
 use Rattle.sheet_laws.specs.Search.{FirstAt, first-by}
-use Rattle.call_laws.specs.Choices.{by-phase-of, unless-by, not-first, by-meeting}
+use Rattle.call_laws.specs.Choices.{by-phase-of, unless-by, testOf, accepted, by-meeting}
 use Rattle.call_laws.specs.Keys.{same-key}
 use Rattle.call_laws.specs.Lines.{listsKey, has-line}
 use Rattle.call_laws.specs.Sheets.{GoodSheets}
@@ -151,28 +151,27 @@ module _ {base : ℕ} {one : ℕ → Bool} (s : Sheets) (es : List Event) (m : M
       inv-free s es m nothing _ inv refl g gentle-nothing (λ j. away-nothing)
 
   pub visit-kept : (k : Key) (now : ℕ) → Kept (visit k now) visited (visitResult k now s)
-  unfolding visitResult conditions modelStep returns
+  unfolding visitResult conditions testOf modelStep returns
   visit-kept k now =
       unless-by (Kept (visit k now) visited) (conditions (visit k now) s) (kept-refused (visit k now) visited _)
-      (λ z g w a. let c5 = not-first 5 (not (keyInRange k)) _ (omega arith) z in
-      let c6 = not-first 6 (not (hasLine k (s .lines))) _ (omega arith) (c5 .1) in
-      let h : listsKey k (s .lines) ≡ true = sym (has-line k (s .lines)) ∙ not-false (hasLine k (s .lines)) (c6 .0) in
+      (λ z g w a. let c6 : not (hasLine k (s .lines)) ≡ false = accepted 6 (visit k now) s z in
+      let h : listsKey k (s .lines) ≡ true = sym (has-line k (s .lines)) ∙ not-false (hasLine k (s .lines)) c6 in
       inv-free s es m (recoveryWrite (meeting now (s .coordinator) (lineOf k (s .lines))) (lineOf k (s .lines))) _ inv refl g
       (visit-gentle s now (lineOf k (s .lines))) (visit-away s now k h))
 
   pub advance-kept : (t : Transaction) (now : ℕ) → Kept (advance t now) returned (advanceResult t now s)
-  unfolding advanceResult conditions modelStep modelCall returns given afterStep
+  unfolding advanceResult conditions testOf modelStep modelCall returns given afterStep
   advance-kept t now =
       unless-by (Kept (advance t now) returned) (conditions (advance t now) s) (kept-refused (advance t now) returned _)
-      (λ z g w a. let ok : cannotAdvance t s ≡ false = not-first 4 (cannotAdvance t s) [] (omega arith) (not-first 3 (not (wellFormed s t)) _ (omega arith) z .1) .0 in
+      (λ z g w a. let ok : cannotAdvance t s ≡ false = accepted 4 (advance t now) s z in
       inv-taken s es m _ t (step t now s .transaction) (step t now s .write) _ inv (a t refl) refl refl (advance-live t s ok) g (w (step t now s .transaction) refl)
       (step-moves s m t (inv .good) (inv .view) (inv .known t (a t refl)) now ok))
 
   pub abort-kept : (t : Transaction) → Kept (abort t) returned (abortResult t s)
-  unfolding abortResult conditions modelStep modelCall returns given afterStep
+  unfolding abortResult conditions testOf modelStep modelCall returns given afterStep
   abort-kept t =
       unless-by (Kept (abort t) returned) (conditions (abort t) s) (kept-refused (abort t) returned _)
-      (λ z g w a. let early : t .phase ≤ 4 = early-abort t (not-first 4 (cannotAbort t) [] (omega arith) (not-first 3 (not (wellFormed s t)) _ (omega arith) z .1) .0) in
+      (λ z g w a. let early : t .phase ≤ 4 = early-abort t (accepted 4 (abort t) s z) in
       inv-taken s es m _ t (moved withdrawPhase 0 (t .verdict) t) nothing _ inv (a t refl) refl refl (omega arith) g (w (moved withdrawPhase 0 (t .verdict) t) refl)
       (withdraws s m t (inv .good) (inv .view) (inv .known t (a t refl)) early))
 
@@ -246,23 +245,19 @@ module _ {base : ℕ} {one : ℕ → Bool} (s : Sheets) (es : List Event) (m : M
       }
 
   pub put-kept : (t : Transaction) (k : Key) (c : Columns) → Kept (put t k c) returned (putResult t k c s)
-  unfolding putResult conditions modelStep modelCall returns given afterPut heldAt
+  unfolding putResult conditions testOf modelStep modelCall returns given afterPut heldAt
   put-kept t k c =
       unless-by (Kept (put t k c) returned) (conditions (put t k c) s) (kept-refused (put t k c) returned _)
-      (λ z g w a. let c3 = not-first 3 (not (wellFormed s t)) _ (omega arith) z in
-      let c4 = not-first 4 (not (eqb (t .phase) 0)) _ (omega arith) (c3 .1) in
-      let c5 = not-first 5 (not (keyInRange k)) _ (omega arith) (c4 .1) in
-      let c6 = not-first 6 (not (hasLine k (s .lines))) _ (omega arith) (c5 .1) in
-      let c7 = not-first 7 (not (columnsInRange c)) _ (omega arith) (c6 .1) in
-      let c10 = not-first 10 (isNew k t) _ (omega arith) (c7 .1) in
-      let ph : t .phase ≡ 0 = eqb-true (t .phase) 0 (not-false (eqb (t .phase) 0) (c4 .0)) in
+      (λ z g w a. let c4 : not (eqb (t .phase) 0) ≡ false = accepted 4 (put t k c) s z in
+      let c10 : isNew k t ≡ false = accepted 10 (put t k c) s z in
+      let ph : t .phase ≡ 0 = eqb-true (t .phase) 0 (not-false (eqb (t .phase) 0) c4) in
       inv-taken s es m _ t (afterPut t k c) nothing _ inv (a t refl) refl refl (omega arith) g (w (afterPut t k c) refl)
       (first-by (λ (e : Entry). sameKey (e .key) k)
       (λ (f : Found). isMissing f ≡ false → Moves s m t nothing (modelPut (t .number) k c m) (byFound f t (λ (i : ℕ). withEntry (t .count) i (withPut c (getD (t .entries) i noEntry)) t)))
       (held t) noEntry
       (λ n q. absurd (missing-none q))
       (λ i x q. put-moves t k c i (inv .known t (a t refl)) ph x)
-      (c10 .0)))
+      c10))
 
   -- Read.
 
@@ -285,17 +280,15 @@ module _ {base : ℕ} {one : ℕ → Bool} (s : Sheets) (es : List Event) (m : M
       })
 
   pub read-kept : (t : Transaction) (k : Key) (now : ℕ) → Kept (read t k now) readAnswered (readResult t k now s)
-  unfolding readResult conditions readNew modelStep modelCall returns given afterStep
+  unfolding readResult conditions testOf readNew modelStep modelCall returns given afterStep
   read-kept t k now =
       unless-by (Kept (read t k now) readAnswered) (conditions (read t k now) s) (kept-refused (read t k now) readAnswered _)
-      (λ z. let c3 = not-first 3 (not (wellFormed s t)) _ (omega arith) z in
-      let c4 = not-first 4 (not (eqb (t .phase) 0)) _ (omega arith) (c3 .1) in
-      let ph : t .phase ≡ 0 = eqb-true (t .phase) 0 (not-false (eqb (t .phase) 0) (c4 .0)) in
+      (λ z. let c4 : not (eqb (t .phase) 0) ≡ false = accepted 4 (read t k now) s z in
+      let ph : t .phase ≡ 0 = eqb-true (t .phase) 0 (not-false (eqb (t .phase) 0) c4) in
       let r = lineOf k (s .lines) in
       let v = meeting now (s .coordinator) r in
-      let c5 = not-first 5 (not (keyInRange k)) _ (omega arith) (c4 .1) in
-      let c6 = not-first 6 (not (hasLine k (s .lines))) _ (omega arith) (c5 .1) in
-      let h : listsKey k (s .lines) ≡ true = sym (has-line k (s .lines)) ∙ not-false (hasLine k (s .lines)) (c6 .0) in
+      let c6 : not (hasLine k (s .lines)) ≡ false = accepted 6 (read t k now) s z in
+      let h : listsKey k (s .lines) ≡ true = sym (has-line k (s .lines)) ∙ not-false (hasLine k (s .lines)) c6 in
       let gentle : Gentle s (recoveryWrite v r) = visit-gentle s now r in
       let away : (j : ℕ) → Away s j (recoveryWrite v r) = visit-away s now k h in
       choose-by (Kept (read t k now) readAnswered) (isNew k t)

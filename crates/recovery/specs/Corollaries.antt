@@ -20,7 +20,7 @@ use Rattle.model.specs.Histories.{answer, written, after, eventsAfter, leftBy, 
 use Rattle.model.specs.SequentialModel.{firstModel, modelAfter, isCommitted}
 use Rattle.model.specs.RecoveryPass.{Visit, visitCall, nonePrepared, Expiring, Closing}
 use Rattle.types.specs.declared.Recovery.{Recovery}
-use Rattle.call_laws.specs.Choices.{unless-by, not-first}
+use Rattle.call_laws.specs.Choices.{unless-by, testOf, accepted}
 use Rattle.call_laws.specs.Lines.{listsKey, has-line}
 use Rattle.call_laws.specs.Sheets.{GoodSheets, good-parts, parts-good}
 use Rattle.call_laws.specs.Closure.{sheets-stay-good}
@@ -35,13 +35,12 @@ use Rattle.recovery.specs.Commits.{visits-later, ones-are}
 
 -- a visit keeps a number silent
 visit-silent : (n : ℕ) (v : Visit) (s : Sheets) → GoodSheets s → Silent n s → Silent n (after (visitCall v) s)
-unfolding after written visitResult conditions
+unfolding after written visitResult conditions testOf
 visit-silent n v s g x =
     silent-kept n s (written (visitCall v) s) g
     (unless-by (λ (r : Result Recovery). Away s n (writeOf r)) (conditions (visitCall v) s) away-nothing
-    (λ z. let c5 = not-first 5 (not (keyInRange (v .key))) _ (omega arith) z in
-    let c6 = not-first 6 (not (hasLine (v .key) (s .lines))) _ (omega arith) (c5 .1) in
-    visit-away s (v .clock) (v .key) (sym (has-line (v .key) (s .lines)) ∙ not-false (hasLine (v .key) (s .lines)) (c6 .0)) n))
+    (λ z. let c6 : not (hasLine (v .key) (s .lines)) ≡ false = accepted 6 (visitCall v) s z in
+    visit-away s (v .clock) (v .key) (sym (has-line (v .key) (s .lines)) ∙ not-false (hasLine (v .key) (s .lines)) c6) n))
     x
 
 visits-silent : (n : ℕ) (vs : List Visit) (s : Sheets) → sheetsGood s ≡ true → Expiring (λ (y : Sheets). y) after vs s → Silent n s → Silent n (leftBy answer after (map visitCall vs) s)
