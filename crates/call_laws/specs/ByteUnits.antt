@@ -16,7 +16,7 @@ use Rattle.types.specs.declared.Found.the-variants.{At}
 use Rattle.model.specs.Records.{records, recordsText, recordIn, recordText, recordsGood, recordsAccepted, noRecord}
 use Rattle.model.specs.Coordinator.{coordinatorText}
 use Rattle.model.specs.SheetCalls.{lineAt}
-use Rattle.model.specs.Writes.{Sheets, Write, sheetsGood, lineAfter, apply}
+use Rattle.model.specs.Writes.{Sheets, Write, sheetsGood, lineAfter, linesAfter, apply}
 use Rattle.model.specs.Results.{Call, advance, Result, writeOf}
 use Rattle.model.specs.CallByPlace.{named, advanceAtResult}
 use Rattle.model.specs.Histories.{written, after, ClockFits}
@@ -26,6 +26,7 @@ use Rattle.model.specs.Turns.{advanceAt, turnEvent, turnAfter, turnAfterOn}
 use Rattle.sheet_laws.specs.Records.{record-written-read, records-read-written, sheet-written-read}
 use Rattle.sheet_laws.specs.Coordinator.{coordinator-written-read}
 use Rattle.sheet_laws.specs.Places.{whole-lines, length-records, record-at, line-set}
+use Rattle.call_laws.specs.Lines.{lines-mapped}
 use Rattle.call_laws.specs.Closure.{sheets-stay-good}
 use Rattle.call_laws.specs.Lifting.{passing-parts, passing-good, encoded, same-bytes}
 use Rattle.call_laws.specs.ByPlace.{by-place}
@@ -49,21 +50,21 @@ module _ (b : Bytes) (passing : Passing b) (w : Write) (good : sheetsGood (apply
   lines = records (b .records)
 
   abbrev sheet : List ℕ
-  sheet = recordsText (map (lineAfter w) lines)
+  sheet = recordsText (linesAfter w lines)
 
   accepted : recordsAccepted (b .records) ≡ true
   accepted = passing-parts b passing .0
 
-  read-back : (records sheet ≡ map (lineAfter w) lines) × (recordsAccepted sheet ≡ true)
+  read-back : (records sheet ≡ linesAfter w lines) × (recordsAccepted sheet ≡ true)
   unfolding sheetsGood apply
   read-back =
-      let g : recordsGood (map (lineAfter w) lines) ≡ true = search (tests, good) in
-      records-read-written (map (lineAfter w) lines) g
+      let g : recordsGood (linesAfter w lines) ≡ true = search (tests, good) in
+      records-read-written (linesAfter w lines) g
 
   same-count : length sheet / 98 ≡ length (b .records) / 98
   same-count =
       sym (length-records sheet)
-      ∙ (ap length (read-back .0) ∙ (length-map lines (lineAfter w) ∙ length-records (b .records)))
+      ∙ (ap length (read-back .0 ∙ lines-mapped w lines) ∙ (length-map lines (lineAfter w) ∙ length-records (b .records)))
 
   same-length : length sheet ≡ length (b .records)
   same-length = whole-lines sheet (read-back .1) ∙ (ap (λ (n : ℕ). n * 98) same-count ∙ sym (whole-lines (b .records) accepted))
@@ -80,7 +81,7 @@ module _ (b : Bytes) (passing : Passing b) (w : Write) (good : sheetsGood (apply
           let m : i < length (map (lineAfter w) lines) = omega (arith, length-map lines (lineAfter w), length-records (b .records)) in
           let r : getD lines i noRecord ≡ recordIn (take 98 (drop (i * 98) (b .records))) = record-at (b .records) i l in
           line-text sheet i (read-back .1) n
-          ∙ (ap (λ (rs : List Record). recordText (getD rs i noRecord)) (read-back .0)
+          ∙ (ap (λ (rs : List Record). recordText (getD rs i noRecord)) (read-back .0 ∙ lines-mapped w lines)
           ∙ (ap recordText
           (getD-any (map (lineAfter w) lines) i noRecord (lineAfter w noRecord) m
           ∙ (List·getD-map (lineAfter w) lines i noRecord ∙ (ap (lineAfter w) r ∙ (stays ∙ sym r))))
@@ -96,7 +97,7 @@ module _ (b : Bytes) (passing : Passing b) (w : Write) (good : sheetsGood (apply
       lines-of-one-unit g (ap coordinatorText (stays (saying b .coordinator)) ∙ coordinator-written-read (b .coordinator) (passing-parts b passing .1 .0))
       same-length (λ i d. line-stays i (others _ d))
   write-unit (Units.coordinator-only stays) =
-      coordinator-only (ap recordsText (map-unmoved (lineAfter w) stays lines) ∙ sheet-written-read (b .records) accepted)
+      coordinator-only (ap recordsText (lines-mapped w lines ∙ map-unmoved (lineAfter w) stays lines) ∙ sheet-written-read (b .records) accepted)
 
 -- "writes to at most one unit or the coordinator sheet"
 pub call-unit : (c : Call) (b : Bytes) → ClockFits c → Passing b → OneUnit b (afterOn c b)

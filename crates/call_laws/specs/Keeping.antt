@@ -17,7 +17,7 @@ use Rattle.model.specs.Records.{sameKey, hasLine, lineOf}
 use Rattle.model.specs.Coordinator.{Coordinator, withIssued}
 use Rattle.model.specs.Refusals.{Condition, refuse, refusalOf}
 use Rattle.model.specs.Transactions.{held, heldAt, withEntry}
-use Rattle.model.specs.Writes.{Sheets, Write, nothing, issue, decide, commit, prepare, forward, back, lineAfter, decisionsAfter, apply}
+use Rattle.model.specs.Writes.{Sheets, Write, nothing, issue, decide, commit, prepare, forward, back, linesAfter, decisionsAfter, apply}
 use Rattle.model.specs.WellFormed.{entryFormed, placeFormed, verdictFormed, linesHeld, wellFormed}
 use Rattle.model.specs.Results.{Result, refused, made, writeOf}
 use Rattle.model.specs.Conditions.{isNew}
@@ -27,7 +27,7 @@ use Rattle.sheet_laws.specs.Search.{some-found}
 use Rattle.call_laws.specs.Choices.{not-first}
 use Rattle.call_laws.specs.Keys.{hasKey}
 use Rattle.call_laws.specs.Ranges.{GoodParts, fine, fine-parts}
-use Rattle.call_laws.specs.Lines.{has-line, line-key, has-line-kept, line-passes}
+use Rattle.call_laws.specs.Lines.{has-line, has-line-after, line-passes}
 use Rattle.call_laws.specs.Sheets.{GoodSheets, Fit, fit-nothing, decided-issued, decided-units}
 use Rattle.call_laws.specs.Transactions.{Body, Stage, well-formed-parts, parts-well-formed, place-at, verdict-at, stage-open}
 
@@ -77,8 +77,8 @@ body-after s w t b =
           (entry-later (s .coordinator .issued) (decisionsAfter w (s .coordinator) .issued) g) (held t) (b .entries);
       distinct = b .distinct;
       lines =
-          all-weaken (λ (e : Entry). hasLine (e .key) (s .lines)) (λ (e : Entry). hasLine (e .key) (map (lineAfter w) (s .lines)))
-          (λ e h. has-line-kept (lineAfter w) (line-key w) (e .key) (s .lines) ∙ h) (held t) (b .lines);
+          all-weaken (λ (e : Entry). hasLine (e .key) (s .lines)) (λ (e : Entry). hasLine (e .key) (linesAfter w (s .lines)))
+          (λ e h. has-line-after w (e .key) (s .lines) ∙ h) (held t) (b .lines);
     }
 
 pub formed-after : (s : Sheets) (w : Write) (t : Transaction) → Body s t → Stage (unitsOf s) t → wellFormed (apply w s) t ≡ true

@@ -15,7 +15,7 @@ use Rattle.model.specs.Layouts.{recordLayout}
 use Rattle.model.specs.Coordinator.{coordinatorText, coordinatorGood, coordinatorAccepted, namesIssued}
 use Rattle.model.specs.Refusals.{refusalOf}
 use Rattle.model.specs.SheetCalls.{allIssued, checkConditions}
-use Rattle.model.specs.Writes.{Sheets, sheetsGood, nothing, lineAfter, decisionsAfter, apply}
+use Rattle.model.specs.Writes.{Sheets, sheetsGood, nothing, lineAfter, linesAfter, decisionsAfter, apply}
 use Rattle.model.specs.Results.{Call, begin, read, put, advance, abort, visit, Result, refused, made, writeOf}
 use Rattle.model.specs.Calls.{beginResult, readResult, putResult, advanceResult, abortResult, visitResult}
 use Rattle.model.specs.ByteCalls.{onSheets, beginOn, readOn, putOn, advanceOn, abortOn, visitOn, recordsAfter, coordinatorAfter}
@@ -77,7 +77,7 @@ same-answer (abort t) b h = ap (answerOf returned) (on-passing b (abortResult t)
 same-answer (visit k now) b h = ap (answerOf visited) (on-passing b (visitResult k now) h)
 
 pub apply-nothing : (s : Sheets) → apply nothing s ≡ s
-unfolding apply lineAfter decisionsAfter
+unfolding apply linesAfter lineAfter decisionsAfter
 apply-nothing s = λ i. record { lines = map-unmoved (lineAfter nothing) (λ x. refl) (s .lines) i; coordinator = s .coordinator }
 
 -- accepted bytes are those of the sheets that they say

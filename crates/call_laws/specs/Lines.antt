@@ -1,4 +1,5 @@
 -- Lines by their keys: a write keeps keys, so that order and look-up stay; on a sheet in order the line of a record's key is that record.
+use Prim.Native.Nat.{ℕ}
 use mathlib.Core.Path.{_≡_, refl, sym, ap, ap₂, _∙_}
 use mathlib.Core.Bool.{Bool, true, false, _&&_, _||_, cond, true≢false}
 use mathlib.Core.List.{List, [], _∷_, map}
@@ -6,12 +7,13 @@ use mathlib.Core.Option.{Option, none, some}
 use Rattle.lists.specs.Each.{all, any}
 use Rattle.lists.specs.Order.{less-irrefl, less-trans}
 use Rattle.lists.specs.Tests.{and-fst, and-snd, and-both, choose-by}
-use Rattle.lists.specs.Chosen.{or-else, or-left, or-right}
+use Rattle.lists.specs.Chosen.{or-else, or-fst, or-snd, or-left, or-right}
+use Rattle.types.specs.declared.Decision.{Decision}
 use Rattle.types.specs.declared.Key.{Key}
 use Rattle.types.specs.declared.Record.{Record}
 use Rattle.types.specs.declared.Entry.{Entry}
-use Rattle.model.specs.Records.{keyNumbers, keyLess, inOrder, rising, sameKey, found, hasLine, lineOf}
-use Rattle.model.specs.Images.{prepared, committed, rolledForward, rolledBack}
+use Rattle.model.specs.Records.{keyNumbers, keyLess, inOrder, rising, sameKey, found, hasLine, absentAt, lineOf}
+use Rattle.model.specs.Images.{preparedBy, prepared, committed, rolledForward, rolledBack}
 use Rattle.model.specs.Writes.{
   Write,
   nothing,
@@ -25,6 +27,7 @@ use Rattle.model.specs.Writes.{
   byEntry,
   isOf,
   lineAfter,
+  linesAfter,
 }
 use Rattle.sheet_laws.specs.Search.{some-found}
 use Rattle.call_laws.specs.Keys.{same-key, same-key-refl, other-key}
@@ -87,6 +90,68 @@ module _ (f : Record → Record) (kept : (r : Record) → f r .key ≡ r .key) w
       go : (b : Bool) → (b || listsKey k rs) ≡ true → (listsKey k rs ≡ true → lineOf k (map f rs) ≡ f (lineOf k rs)) → cond b (f r) (lineOf k (map f rs)) ≡ f (cond b r (lineOf k rs))
       go true g e = refl
       go false g e = e g
+
+-- A write, by key.
+
+pub lines-mapped : (w : Write) (rs : List Record) → linesAfter w rs ≡ map (lineAfter w) rs
+unfolding linesAfter
+lines-mapped w rs = refl
+
+pub lists-after : (w : Write) (k : Key) (rs : List Record) → listsKey k (linesAfter w rs) ≡ listsKey k rs
+unfolding linesAfter
+lists-after w k rs = lists-kept (lineAfter w) (line-key w) k rs
+
+pub has-line-after : (w : Write) (k : Key) (rs : List Record) → hasLine k (linesAfter w rs) ≡ hasLine k rs
+unfolding linesAfter
+has-line-after w k rs = has-line-kept (lineAfter w) (line-key w) k rs
+
+pub rising-after : (w : Write) (rs : List Record) → rising (linesAfter w rs) ≡ rising rs
+unfolding linesAfter
+rising-after w rs = rising-kept (lineAfter w) (line-key w) rs
+
+-- a key without a line counts as an ABSENT line of version 0
+pub unlisted : (k : Key) (rs : List Record) → listsKey k rs ≡ false → lineOf k rs ≡ absentAt k
+unfolding lineOf any
+unlisted k [] h = refl
+unlisted k (r ∷ rs) h =
+    ap (λ (b : Bool). cond b r (lineOf k rs)) (or-fst (sameKey (r .key) k) (listsKey k rs) h)
+    ∙ unlisted k rs (or-snd (sameKey (r .key) k) (listsKey k rs) h)
+
+-- a write that leaves keys without a line as they are
+abbrev pub Still : List Record → Write → Type 0
+Still rs w = (k : Key) → listsKey k rs ≡ false → lineAfter w (absentAt k) ≡ absentAt k
+
+-- the line of a key after such a write
+pub line-written : (rs : List Record) (w : Write) → Still rs w → (k : Key) → lineOf k (linesAfter w rs) ≡ lineAfter w (lineOf k rs)
+unfolding linesAfter
+line-written rs w still k = go (listsKey k rs) refl
+  where
+    go : (b : Bool) → listsKey k rs ≡ b → lineOf k (map (lineAfter w) rs) ≡ lineAfter w (lineOf k rs)
+    go true h = line-mapped (lineAfter w) (line-key w) k rs h
+    go false h =
+        unlisted k (map (lineAfter w) rs) (lists-kept (lineAfter w) (line-key w) k rs ∙ h)
+        ∙ (sym (still k h) ∙ ap (lineAfter w) (sym (unlisted k rs h)))
+
+-- the writes that put nothing
+pub still-nothing : (rs : List Record) → Still rs nothing
+unfolding lineAfter
+still-nothing rs k h = refl
+
+pub still-issue : (rs : List Record) → Still rs issue
+unfolding lineAfter
+still-issue rs k h = refl
+
+pub still-decide : (rs : List Record) (n : ℕ) (d : Decision) → Still rs (decide n d)
+unfolding lineAfter
+still-decide rs n d k h = refl
+
+pub still-forward : (rs : List Record) (n : ℕ) (ks : List Key) → Still rs (forward n ks)
+unfolding lineAfter isOf preparedBy
+still-forward rs n ks k h = refl
+
+pub still-back : (rs : List Record) (n : ℕ) (ks : List Key) → Still rs (back n ks)
+unfolding lineAfter isOf preparedBy
+still-back rs n ks k h = refl
 
 -- The line of a key.
 

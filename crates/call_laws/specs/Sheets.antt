@@ -1,8 +1,8 @@
 -- Sheets stay good under the writes that calls make: each line by the lemma of its image, order because keys are kept, the coordinator by its own rules.
 use Prim.Native.Nat.{ℕ, zero, suc, _+_, _≤_, _<_}
-use mathlib.Core.Path.{_≡_, refl, sym, ap, _∙_}
-use mathlib.Core.Bool.{true}
-use mathlib.Core.List.{List, map}
+use mathlib.Core.Path.{_≡_, refl, sym, ap, _∙_, subst}
+use mathlib.Core.Bool.{true, false, true≢false}
+use mathlib.Core.List.{List}
 use mathlib.Core.Option.{Option, none, some}
 use native.Mathlib.Omega.{arith}
 use native.Mathlib.Numerals.{add-one}
@@ -15,7 +15,7 @@ use Rattle.types.specs.declared.Decision.{Decision}
 use Rattle.types.specs.declared.Key.{Key}
 use Rattle.types.specs.declared.Record.{Record}
 use Rattle.types.specs.declared.Entry.{Entry}
-use Rattle.model.specs.Records.{goodAlone, rising, recordsGood, lineOf}
+use Rattle.model.specs.Records.{goodAlone, rising, recordsGood, absentAt, lineOf}
 use Rattle.model.specs.Coordinator.{Coordinator, coordinatorGood, namesIssued, withDecision, withIssued}
 use Rattle.model.specs.Images.{isPrepared, preparedBy, prepared, committed}
 use Rattle.model.specs.Writes.{
@@ -33,13 +33,14 @@ use Rattle.model.specs.Writes.{
   byEntry,
   isOf,
   lineAfter,
+  linesAfter,
   decisionsAfter,
   apply,
 }
 use Rattle.sheet_laws.specs.Decisions.{good-decided, good-raised}
 use Rattle.call_laws.specs.Ranges.{GoodParts, fine, fine-parts, parts-fine}
 use Rattle.call_laws.specs.Images.{MayPut, committed-fine, prepared-fine, forward-fine, back-fine}
-use Rattle.call_laws.specs.Lines.{listsKey, line-key, rising-kept, all-lines, line-passes}
+use Rattle.call_laws.specs.Lines.{listsKey, lines-mapped, rising-after, Still, all-lines, line-passes}
 
 -- Good sheets, in parts.
 pub record GoodSheets (s : Sheets) : Type 0 where
@@ -75,10 +76,28 @@ parts-good s g =
     (and-both (and-both (and-both (le-leb 1 (length (s .lines)) (g .some-lines)) (le-leb (length (s .lines)) 500 (g .few-lines))) a) (g .order))
     (g .decisions)) b
 
--- an entry may be put over the line of its key
+-- the key of an entry has a line, over which the entry may be put
 abbrev pub MayPutAll : Sheets → ℕ → List Entry → Type 0
 MayPutAll s n es =
-    (r : Record) → listsKey (r .key) (s .lines) ≡ true → lineOf (r .key) (s .lines) ≡ r → (e : Entry) → entryFor (r .key) es ≡ some e → MayPut (s .coordinator .issued) n e r
+    (k : Key) (e : Entry) → entryFor k es ≡ some e → (listsKey k (s .lines) ≡ true) × MayPut (s .coordinator .issued) n e (lineOf k (s .lines))
+
+-- keys without a line have no entry
+no-entry-there : (s : Sheets) (n : ℕ) (es : List Entry) → MayPutAll s n es → (k : Key) → listsKey k (s .lines) ≡ false → entryFor k es ≡ none
+no-entry-there s n es m k h = go (entryFor k es) refl
+  where
+    go : (o : Option Entry) → entryFor k es ≡ o → o ≡ none
+    go none e = refl
+    go (some x) e = absurd (true≢false (sym (m k x e .0) ∙ h))
+
+pub still-commit : (s : Sheets) (n : ℕ) (es : List Entry) → MayPutAll s n es → Still (s .lines) (commit n es)
+unfolding lineAfter
+still-commit s n es m k h =
+    ap (λ (o : Option Entry). byEntry o (absentAt k) (λ (e : Entry). committed n e (absentAt k))) (no-entry-there s n es m k h)
+
+pub still-prepare : (s : Sheets) (n now : ℕ) (es : List Entry) → MayPutAll s n es → Still (s .lines) (prepare n now es)
+unfolding lineAfter
+still-prepare s n now es m k h =
+    ap (λ (o : Option Entry). byEntry o (absentAt k) (λ (e : Entry). prepared n now e (absentAt k))) (no-entry-there s n es m k h)
 
 -- The writes that keep sheets good.
 pub data Fit (s : Sheets) : Write → Type 0 where
@@ -135,10 +154,10 @@ module _ (s : Sheets) (good : GoodSheets s) where
       more-issued (s .coordinator .issued) (withDecision n d (s .coordinator) .issued) r (omega (arith, decided-issued n d (s .coordinator))) g
   line-fit (fit-commit n es m) r k e g =
       entry-fine (s .coordinator .issued) r (entryFor (r .key) es) (λ (x : Entry). committed n x r) g
-      (λ x o. committed-fine (s .coordinator .issued) n x r g (m r k e x o))
+      (λ x o. committed-fine (s .coordinator .issued) n x r g (subst (MayPut (s .coordinator .issued) n x) e (m (r .key) x o .1)))
   line-fit (fit-prepare n now es l m) r k e g =
       entry-fine (s .coordinator .issued) r (entryFor (r .key) es) (λ (x : Entry). prepared n now x r) g
-      (λ x o. prepared-fine (s .coordinator .issued) n x r g (m r k e x o) now l)
+      (λ x o. prepared-fine (s .coordinator .issued) n x r g (subst (MayPut (s .coordinator .issued) n x) e (m (r .key) x o .1)) now l)
   line-fit (fit-forward n ks) r k e g =
       choose-by (GoodParts (s .coordinator .issued)) (isOf n ks r)
       (λ h. forward-fine (s .coordinator .issued) r g (rolled n ks r h)) (λ h. g)
@@ -146,9 +165,10 @@ module _ (s : Sheets) (good : GoodSheets s) where
       choose-by (GoodParts (s .coordinator .issued)) (isOf n ks r)
       (λ h. back-fine (s .coordinator .issued) r g (rolled n ks r h)) (λ h. g)
 
-  lines-fit : {w : Write} → Fit s w → all (fine (decisionsAfter w (s .coordinator) .issued)) (map (lineAfter w) (s .lines)) ≡ true
+  lines-fit : {w : Write} → Fit s w → all (fine (decisionsAfter w (s .coordinator) .issued)) (linesAfter w (s .lines)) ≡ true
   lines-fit {w} f =
-      all-map (fine (decisionsAfter w (s .coordinator) .issued)) (lineAfter w) (s .lines)
+      ap (all (fine (decisionsAfter w (s .coordinator) .issued))) (lines-mapped w (s .lines))
+      ∙ all-map (fine (decisionsAfter w (s .coordinator) .issued)) (lineAfter w) (s .lines)
       ∙ all-lines (λ (r : Record). fine (decisionsAfter w (s .coordinator) .issued) (lineAfter w r)) (s .lines) (good .order)
       (λ r k e. let h : fine (s .coordinator .issued) r ≡ true =
       ap (fine (s .coordinator .issued)) (sym e) ∙ line-passes (fine (s .coordinator .issued)) (r .key) (s .lines) (good .fine-lines) k in
@@ -174,13 +194,13 @@ module _ (s : Sheets) (good : GoodSheets s) where
   pub write-closed : {w : Write} → Fit s w → GoodSheets (apply w s)
   unfolding apply
   write-closed {w} f =
-      let n : length (map (lineAfter w) (s .lines)) ≡ length (s .lines) = length-map (s .lines) (lineAfter w) in
+      let n : length (linesAfter w (s .lines)) ≡ length (s .lines) = ap length (lines-mapped w (s .lines)) ∙ length-map (s .lines) (lineAfter w) in
       let a : 1 ≤ length (s .lines) = good .some-lines in
       let b : length (s .lines) ≤ 500 = good .few-lines in
       record {
         some-lines = omega arith;
         few-lines = omega arith;
         fine-lines = lines-fit f;
-        order = rising-kept (lineAfter w) (line-key w) (s .lines) ∙ good .order;
+        order = rising-after w (s .lines) ∙ good .order;
         decisions = decisions-fit f;
       }

@@ -44,6 +44,7 @@ use Rattle.model.specs.Steps.{Step, holds, unitsOf, groupsOf, groupAt, keysOf, 
 use Rattle.sheet_laws.specs.Coordinator.{bounds}
 use Rattle.call_laws.specs.Choices.{by-phase-of, by-decision}
 use Rattle.call_laws.specs.Keys.{entry-has-key, entry-passes}
+use Rattle.call_laws.specs.Lines.{listsKey, has-line}
 use Rattle.call_laws.specs.Images.{MayPut}
 use Rattle.call_laws.specs.Sheets.{
   GoodSheets,
@@ -130,13 +131,16 @@ module _ (s : Sheets) (good : GoodSheets s) (t : Transaction) (b : Body s t) whe
 
   -- the puts of a group whose conditions hold may be written
   pub may-put : all (holds (s .lines)) (groupAt t s) ≡ true → MayPutAll s (t .number) (groupAt t s)
-  may-put h r listed same e found =
+  unfolding holds
+  may-put h k e found =
       let i = s .coordinator .issued in
-      let k : e .key ≡ r .key = entry-has-key (r .key) (groupAt t s) e found in
-      let l : lineOf (e .key) (s .lines) ≡ r = ap (λ (x : Key). lineOf x (s .lines)) k ∙ same in
-      subst (MayPut i (t .number) e) l
-      (may-put-over e (entry-passes (holds (s .lines)) (r .key) (groupAt t s) e h found)
-      (entry-passes (λ (x : Entry). entryFormed i x && isPut x) (r .key) (groupAt t s) e group-formed found))
+      let same : e .key ≡ k = entry-has-key k (groupAt t s) e found in
+      let c : holds (s .lines) e ≡ true = entry-passes (holds (s .lines)) k (groupAt t s) e h found in
+      let l : hasLine (e .key) (s .lines) ≡ true = and-fst (hasLine (e .key) (s .lines)) (unchanged e (lineOf (e .key) (s .lines))) c in (
+        ap (λ (x : Key). listsKey x (s .lines)) (sym same) ∙ (sym (has-line (e .key) (s .lines)) ∙ l),
+        subst (λ (x : Key). MayPut i (t .number) e (lineOf x (s .lines))) same
+            (may-put-over e c (entry-passes (λ (x : Entry). entryFormed i x && isPut x) k (groupAt t s) e group-formed found)),
+      )
 
   -- a move to another phase that writes nothing
   moves : (phase place verdict : ℕ) → Stage (unitsOf s) (moved phase place verdict t) → Closed s (record { transaction = moved phase place verdict t; write = nothing })

@@ -11,13 +11,13 @@ use Rattle.types.specs.declared.Record.{Record}
 use Rattle.types.specs.declared.Transaction.{Transaction}
 use Rattle.types.specs.declared.Recovery.the-variants.{Again, Back}
 use Rattle.model.specs.Images.{preparedBy}
-use Rattle.model.specs.Writes.{Sheets, nothing, forward, back, isOf, lineAfter, decisionsAfter, apply}
+use Rattle.model.specs.Writes.{Sheets, nothing, forward, back, isOf, lineAfter, linesAfter, decisionsAfter, apply}
 use Rattle.model.specs.Visits.{recoveryWrite}
 use Rattle.model.specs.Steps.{holds, groupAt, prepareStep}
 
 -- Rolling back and writing ABORTED in one call: a visit that writes ABORTED leaves every line as it is ..
 pub again-leaves-lines : (s : Sheets) (r : Record) → apply (recoveryWrite Again r) s .lines ≡ s .lines
-unfolding apply recoveryWrite lineAfter
+unfolding apply linesAfter recoveryWrite lineAfter
 again-leaves-lines s r = map-unmoved _ (λ (x : Record). refl) (s .lines)
 
 -- .. and one that rolls back writes nothing to the coordinator.

@@ -72,9 +72,11 @@ decisionsAfter (prepare n now es) c = c
 decisionsAfter (forward n ks) c = c
 decisionsAfter (back n ks) c = c
 
+unfoldable pub linesAfter : Write → List Record → List Record
+linesAfter w rs = map (lineAfter w) rs
+
 unfoldable pub apply : Write → Sheets → Sheets
-apply w s =
-    record { lines = map (lineAfter w) (s .lines); coordinator = decisionsAfter w (s .coordinator) }
+apply w s = record { lines = linesAfter w (s .lines); coordinator = decisionsAfter w (s .coordinator) }
 
 -- the write is the one-phase write of a number
 unfoldable pub isOnePhase : ℕ → Write → Bool

@@ -43,7 +43,6 @@ use Rattle.model.specs.Conditions.{cannotAdvance}
 use Rattle.model.specs.Steps.{Step, holds, unitsOf, groupsOf, groupAt, keysOf, to, noStep, commits, onePhaseAllowed, openWithoutPuts, onePhase, openStep, nextGroup, prepareStep, nextEntry, validateStep, decideStep, withdrawn, withdrawStep, finishStep, undoStep, step}
 use Rattle.model.specs.SequentialModel.{Model, modelCommit}
 use Rattle.call_laws.specs.Choices.{by-phase-of, by-decision-of}
-use Rattle.call_laws.specs.Lines.{listsKey}
 use Rattle.call_laws.specs.Sheets.{GoodSheets, MayPutAll}
 use Rattle.call_laws.specs.Transactions.{Body, Stage, well-formed-parts, place-at, verdict-at}
 use Rattle.call_laws.specs.Steps.{may-put}
@@ -56,7 +55,7 @@ use Rattle.recovery.specs.Settling.{
   gentle-back,
   gentle-prepare,
 }
-use Rattle.recovery.specs.View.{View, gentle-view, listed-before}
+use Rattle.recovery.specs.View.{View, gentle-view}
 use Rattle.recovery.specs.Memory.{
   putIn,
   preparedColumns,
@@ -158,7 +157,7 @@ module _ (s : Sheets) (m : Model) (t : Transaction) (good : GoodSheets s) (view 
   -- the memory of a stage with the same columns done, and nothing written
   memory-at : (phase place verdict : ℕ) → t .phase ≤ 3 → ((k : Key) → doneAt (unitsOf s) (moved phase place verdict t) k ≡ doneAt (unitsOf s) t k) → Memory (apply nothing s) (moved phase place verdict t)
   memory-at phase place verdict l d =
-      memory-kept s (moved phase place verdict t) nothing good away-nothing
+      memory-kept s (moved phase place verdict t) nothing away-nothing
       (memory-as s t (moved phase place verdict t) refl d (known .memory l))
 
   -- without puts the model commits nothing
@@ -202,16 +201,15 @@ module _ (s : Sheets) (m : Model) (t : Transaction) (good : GoodSheets s) (view 
   -- Prepare.
 
   -- after a group was prepared, a stage in which the groups up to it are done
-  prepared-memory : (now : ℕ) → t .phase ≡ 1 → (t′ : Transaction) → t′ .number ≡ t .number → ((k : Key) → doneAt (unitsOf s) t′ k ≡ doneTo (unitsOf s) t (t .place + 1) k) → Memory (apply (prepare (t .number) now (groupAt t s)) s) t′
+  prepared-memory : (now : ℕ) → MayPutAll s (t .number) (groupAt t s) → t .phase ≡ 1 → (t′ : Transaction) → t′ .number ≡ t .number → ((k : Key) → doneAt (unitsOf s) t′ k ≡ doneTo (unitsOf s) t (t .place + 1) k) → Memory (apply (prepare (t .number) now (groupAt t s)) s) t′
   unfolding apply decisionsAfter
-  prepared-memory now ph t′ n d =
+  prepared-memory now may ph t′ n d =
       let mem : Memory s t = known .memory (omega arith) in
       record {
         undone = λ e. mem .undone (ap (λ (x : ℕ). decision x (s .coordinator)) (sym n) ∙ e);
-        columns = λ e k h. let l : listsKey k (s .lines) ≡ true = listed-before s (prepare (t .number) now (groupAt t s)) k h in
-            let u : decision (t .number) (s .coordinator) ≡ Undecided = ap (λ (x : ℕ). decision x (s .coordinator)) (sym n) ∙ e in
+        columns = λ e k. let u : decision (t .number) (s .coordinator) ≡ Undecided = ap (λ (x : ℕ). decision x (s .coordinator)) (sym n) ∙ e in
             ap (λ (x : ℕ). preparedColumns x (lineOf k (apply (prepare (t .number) now (groupAt t s)) s .lines))) n
-            ∙ (prepare-columns s good t now (λ j i. mem .columns u j i ∙ done-in-prepare (unitsOf s) t ph j) k l ∙ sym (d k));
+            ∙ (prepare-columns s good t now may (λ j. mem .columns u j ∙ done-in-prepare (unitsOf s) t ph j) k ∙ sym (d k));
       }
 
   prepare-moves : (now : ℕ) → t .phase ≡ 1 → StepMoves (prepareStep t now s)
@@ -227,17 +225,17 @@ module _ (s : Sheets) (m : Model) (t : Transaction) (good : GoodSheets s) (view 
       choose-by (λ (u : Transaction). StepMoves (record { transaction = u; write = w })) (ltb (t .place + 1) (groupsOf t s))
       (λ l. plain w (moved (t .phase) (t .place + 1) (t .verdict) t) (never-both (t .verdict)) gentle
       (λ j d. away-prepare (t .number) now (groupAt t s) (λ e. d (sym e)) may) refl refl (λ q. absurd (omega (arith, q, ph))) (λ q. absurd (omega (arith, q, ph)))
-      (λ q. prepared-memory now ph (moved (t .phase) (t .place + 1) (t .verdict) t) refl
+      (λ q. prepared-memory now may ph (moved (t .phase) (t .place + 1) (t .verdict) t) refl
       (λ k. done-in-prepare (unitsOf s) (moved (t .phase) (t .place + 1) (t .verdict) t) ph k)))
       (λ l. let last : groupCount (unitsOf s) (puts t) ≡ t .place + 1 = let x : groupsOf t s ≤ t .place + 1 = ltb-false (t .place + 1) (groupsOf t s) l in omega arith in
       choose-by (λ (p : ℕ). StepMoves (record { transaction = moved p 0 (t .verdict) t; write = w })) (isEmpty (toValidate t))
       (λ e. plain w (moved decidePhase 0 (t .verdict) t) (never-both (t .verdict)) gentle
       (λ j d. away-prepare (t .number) now (groupAt t s) (λ q. d (sym q)) may) refl refl (λ q. absurd (omega (arith, q, ph))) (λ q. absurd (omega (arith, q)))
-      (λ q. prepared-memory now ph (moved decidePhase 0 (t .verdict) t) refl
+      (λ q. prepared-memory now may ph (moved decidePhase 0 (t .verdict) t) refl
       (λ k. done-in-decide (unitsOf s) (moved decidePhase 0 (t .verdict) t) refl k ∙ all-to last k)))
       (λ e. plain w (moved validatePhase 0 (t .verdict) t) (never-both (t .verdict)) gentle
       (λ j d. away-prepare (t .number) now (groupAt t s) (λ q. d (sym q)) may) refl refl (λ q. absurd (omega (arith, q, ph))) (λ q. absurd (omega (arith, q)))
-      (λ q. prepared-memory now ph (moved validatePhase 0 (t .verdict) t) refl
+      (λ q. prepared-memory now may ph (moved validatePhase 0 (t .verdict) t) refl
       (λ k. done-in-validate (unitsOf s) (moved validatePhase 0 (t .verdict) t) refl k ∙ all-to last k)))))
       (λ h. withdraws (omega arith))
     where
@@ -267,7 +265,7 @@ module _ (s : Sheets) (m : Model) (t : Transaction) (good : GoodSheets s) (view 
   unfolding decisionsAfter
   stays =
       plain nothing t (never-both (t .verdict)) gentle-nothing (λ j d. away-nothing) refl refl (λ l. l) (known .open-undecided)
-      (λ l. memory-kept s t nothing good away-nothing (known .memory l))
+      (λ l. memory-kept s t nothing away-nothing (known .memory l))
 
   -- Decide.
   decide-moves : t .phase ≡ 3 → StepMoves (decideStep t s)
@@ -280,7 +278,7 @@ module _ (s : Sheets) (m : Model) (t : Transaction) (good : GoodSheets s) (view 
       by-decision-of StepMoves (decision (t .number) (s .coordinator))
       (λ u. commits-it (decide (t .number) Committed) (moved finishPhase 0 committedVerdict t) (ap (λ (x : ℕ). eqb x 0 && true) v)
       (decide-view s good t m (known .sets) (body .number) (omega arith) u
-      (λ k l. mem .columns u k l ∙ done-in-decide (unitsOf s) t ph k) view)
+      (λ k. mem .columns u k ∙ done-in-decide (unitsOf s) t ph k) view)
       (λ j d. away-decide (t .number) Committed (λ e. d (sym e))) refl refl (omega arith) (λ q. absurd (true≢false (sym q))) by-decision)
       (λ u. stays)
       (λ u. moves undoPhase 0 abortedVerdict aborted-verdict (omega arith) (λ q. omega (arith, q)) (λ l. absurd (omega arith)))

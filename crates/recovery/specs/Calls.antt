@@ -49,7 +49,7 @@ use Rattle.model.specs.SequentialModel.{Model, modelBegin, modelPut, modelCommi
 use Rattle.sheet_laws.specs.Search.{FirstAt, first-by}
 use Rattle.call_laws.specs.Choices.{by-phase-of, unless-by, testOf, accepted, by-meeting}
 use Rattle.call_laws.specs.Keys.{same-key}
-use Rattle.call_laws.specs.Lines.{listsKey, has-line}
+use Rattle.call_laws.specs.Lines.{still-issue}
 use Rattle.call_laws.specs.Sheets.{GoodSheets}
 use Rattle.call_laws.specs.Transactions.{well-formed-parts}
 use Rattle.call_laws.specs.Entries.{getD-first}
@@ -63,7 +63,7 @@ use Rattle.recovery.specs.Settling.{
   issued-decision,
   undecided-committed,
 }
-use Rattle.recovery.specs.View.{line-at, listed-before, line-after, gentle-view}
+use Rattle.recovery.specs.View.{own-txid, line-after, gentle-view}
 use Rattle.recovery.specs.Memory.{putIn, preparedColumns, Memory, other-owner, memory-kept, undecided-kept, Away, away-nothing, away-issue, away-abort, away-forward, away-back}
 use Rattle.recovery.specs.Advance.{never-both, afterStep, plain, withdraws, stays, step-moves, advance-live}
 use Rattle.recovery.specs.Puts.{put-in-more, put-in-replaced, take-set}
@@ -83,14 +83,14 @@ visit-gentle s now r =
     (λ p d x. gentle-abort (r .image .txid) d)
     (λ p d x. gentle-nothing)
 
-pub visit-away : (s : Sheets) (now : ℕ) (k : Key) → listsKey k (s .lines) ≡ true → (j : ℕ) → Away s j (recoveryWrite (meeting now (s .coordinator) (lineOf k (s .lines))) (lineOf k (s .lines)))
+pub visit-away : (s : Sheets) (now : ℕ) (k : Key) (j : ℕ) → Away s j (recoveryWrite (meeting now (s .coordinator) (lineOf k (s .lines))) (lineOf k (s .lines)))
 unfolding meeting recoveryWrite preparedBy
-visit-away s now k h j =
+visit-away s now k j =
     by-meeting (λ (v : Recovery). Away s j (recoveryWrite v r)) r (ownerDecision r (s .coordinator)) (ownerExpired now r)
     (λ p. away-nothing)
     (λ p d. away-forward (r .image .txid) (r .key ∷ []) (λ e. ap (λ (x : ℕ). decision x (s .coordinator)) (sym e) ∙ d))
     (λ p d. away-back (r .image .txid) (r .key ∷ []) (λ e. ap (λ (x : ℕ). decision x (s .coordinator)) (sym e) ∙ d))
-    (λ p d x. away-abort (r .image .txid) (λ e. record { key = k; listed = h; by = and-both p (eq-eqb (r .image .txid) j e) }))
+    (λ p d x. away-abort (r .image .txid) (λ e. record { key = k; by = and-both p (eq-eqb (r .image .txid) j e) }))
     (λ p d x. away-nothing)
   where
     r : Record
@@ -154,10 +154,8 @@ module _ {base : ℕ} {one : ℕ → Bool} (s : Sheets) (es : List Event) (m : M
   unfolding visitResult conditions testOf modelStep returns
   visit-kept k now =
       unless-by (Kept (visit k now) visited) (conditions (visit k now) s) (kept-refused (visit k now) visited _)
-      (λ z g w a. let c6 : not (hasLine k (s .lines)) ≡ false = accepted 6 (visit k now) s z in
-      let h : listsKey k (s .lines) ≡ true = sym (has-line k (s .lines)) ∙ not-false (hasLine k (s .lines)) c6 in
-      inv-free s es m (recoveryWrite (meeting now (s .coordinator) (lineOf k (s .lines))) (lineOf k (s .lines))) _ inv refl g
-      (visit-gentle s now (lineOf k (s .lines))) (visit-away s now k h))
+      (λ z g w a. inv-free s es m (recoveryWrite (meeting now (s .coordinator) (lineOf k (s .lines))) (lineOf k (s .lines))) _ inv refl g
+      (visit-gentle s now (lineOf k (s .lines))) (visit-away s now k))
 
   pub advance-kept : (t : Transaction) (now : ℕ) → Kept (advance t now) returned (advanceResult t now s)
   unfolding advanceResult conditions testOf modelStep modelCall returns given afterStep
@@ -190,9 +188,8 @@ module _ {base : ℕ} {one : ℕ → Bool} (s : Sheets) (es : List Event) (m : M
   begin-memory b =
       record {
         undone = λ e. undecided-committed (sym new-undecided ∙ (sym (issued-decision (s .coordinator .issued + 1) (s .coordinator .issued + 1) (s .coordinator)) ∙ e));
-        columns = λ e k h. let l : listsKey k (s .lines) ≡ true = listed-before s issue k h in
-            let x : lineOf k (s .lines) .image .txid ≤ s .coordinator .issued = line-at s (inv .good) k l .good .txid in
-            ap (preparedColumns (s .coordinator .issued + 1)) (line-after s issue k l)
+        columns = λ e k. let x : lineOf k (s .lines) .image .txid ≤ s .coordinator .issued = own-txid s (inv .good) k in
+            ap (preparedColumns (s .coordinator .issued + 1)) (line-after s issue (still-issue (s .lines)) k)
             ∙ (other-owner (s .coordinator .issued + 1) (lineOf k (s .lines)) (λ q. omega (arith, x, q))
             ∙ sym (done-in-open (unitsOf (apply issue s)) (newTransaction (s .coordinator .issued + 1) b) refl k));
       }
@@ -235,7 +232,7 @@ module _ {base : ℕ} {one : ℕ → Bool} (s : Sheets) (es : List Event) (m : M
             ∙ sym (ap (putIn j) (take-set (t .count) i (withPut c y) (t .entries))
             ∙ put-in-replaced k j (withPut c y) noEntry i (held t) (well-formed-parts s t (known .formed) .0 .distinct) (x .within) there
             (ap (λ (e : Entry). e .key) (sym same) ∙ there) refl));
-        memory = λ l. memory-kept s t′ nothing (inv .good) away-nothing
+        memory = λ l. memory-kept s t′ nothing away-nothing
             (memory-as s t t′ refl (λ j. done-in-open (unitsOf s) t′ ph j ∙ sym (done-in-open (unitsOf s) t ph j)) (known .memory (omega arith)));
         open-undecided = λ e. known .open-undecided ph;
         away = λ j d. away-nothing;
@@ -271,7 +268,7 @@ module _ {base : ℕ} {one : ℕ → Bool} (s : Sheets) (es : List Event) (m : M
         number = refl;
         sets = λ k. known .sets k
             ∙ sym (ap (λ (n : ℕ). putIn k (take n (set (t .entries) (t .count) e))) (add-one (t .count)) ∙ put-in-more k e p (t .count) (t .entries));
-        memory = λ l. memory-kept s (holding e t) w (inv .good) (away (t .number))
+        memory = λ l. memory-kept s (holding e t) w (away (t .number))
             (memory-as s t (holding e t) refl (λ j. done-in-open (unitsOf s) (holding e t) ph j ∙ sym (done-in-open (unitsOf s) t ph j)) (known .memory (omega arith)));
         open-undecided = λ q. undecided-kept s (t .number) w (away (t .number)) (open-unprepared s m t known ph) (known .open-undecided ph);
         away = λ j d. away j;
@@ -287,16 +284,14 @@ module _ {base : ℕ} {one : ℕ → Bool} (s : Sheets) (es : List Event) (m : M
       let ph : t .phase ≡ 0 = eqb-true (t .phase) 0 (not-false (eqb (t .phase) 0) c4) in
       let r = lineOf k (s .lines) in
       let v = meeting now (s .coordinator) r in
-      let c6 : not (hasLine k (s .lines)) ≡ false = accepted 6 (read t k now) s z in
-      let h : listsKey k (s .lines) ≡ true = sym (has-line k (s .lines)) ∙ not-false (hasLine k (s .lines)) c6 in
       let gentle : Gentle s (recoveryWrite v r) = visit-gentle s now r in
-      let away : (j : ℕ) → Away s j (recoveryWrite v r) = visit-away s now k h in
+      let away : (j : ℕ) → Away s j (recoveryWrite v r) = visit-away s now k in
       choose-by (Kept (read t k now) readAnswered) (isNew k t)
       (λ n. choose-by (Kept (read t k now) readAnswered) (isAgain v)
       (λ x g w a. inv-taken s es m _ t t (recoveryWrite v r) _ inv (a t refl) refl refl (omega arith) g (w t refl)
       (plain s m t (inv .good) (inv .view) (inv .known t (a t refl)) (recoveryWrite v r) t (never-both (t .verdict)) gentle (λ j d. away j) refl refl (λ l. l)
       (λ l. undecided-kept s (t .number) (recoveryWrite v r) (away (t .number)) (open-unprepared s m t (inv .known t (a t refl)) ph) (inv .known t (a t refl) .open-undecided ph))
-      (λ l. memory-kept s t (recoveryWrite v r) (inv .good) (away (t .number)) (inv .known t (a t refl) .memory l))))
+      (λ l. memory-kept s t (recoveryWrite v r) (away (t .number)) (inv .known t (a t refl) .memory l))))
       (λ x g w a. let e = entryAs (r .key) (recovered v r .image) in
       inv-taken s es m _ t (holding e t) (recoveryWrite v r) _ inv (a t refl) refl refl (omega arith) g (w (holding e t) refl)
       (read-moves t e (recoveryWrite v r) (inv .known t (a t refl)) ph refl gentle away)))

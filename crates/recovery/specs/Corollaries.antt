@@ -34,20 +34,19 @@ use Rattle.recovery.specs.Theorem.{modelOf, recoveredBy, recovery-theore
 use Rattle.recovery.specs.Commits.{visits-later, ones-are}
 
 -- a visit keeps a number silent
-visit-silent : (n : ℕ) (v : Visit) (s : Sheets) → GoodSheets s → Silent n s → Silent n (after (visitCall v) s)
-unfolding after written visitResult conditions testOf
-visit-silent n v s g x =
-    silent-kept n s (written (visitCall v) s) g
+visit-silent : (n : ℕ) (v : Visit) (s : Sheets) → Silent n s → Silent n (after (visitCall v) s)
+unfolding after written visitResult
+visit-silent n v s x =
+    silent-kept n s (written (visitCall v) s)
     (unless-by (λ (r : Result Recovery). Away s n (writeOf r)) (conditions (visitCall v) s) away-nothing
-    (λ z. let c6 : not (hasLine (v .key) (s .lines)) ≡ false = accepted 6 (visitCall v) s z in
-    visit-away s (v .clock) (v .key) (sym (has-line (v .key) (s .lines)) ∙ not-false (hasLine (v .key) (s .lines)) c6) n))
+    (λ z. visit-away s (v .clock) (v .key) n))
     x
 
 visits-silent : (n : ℕ) (vs : List Visit) (s : Sheets) → sheetsGood s ≡ true → Expiring (λ (y : Sheets). y) after vs s → Silent n s → Silent n (leftBy answer after (map visitCall vs) s)
 unfolding leftBy
 visits-silent n [] s g e x = x
 visits-silent n (v ∷ vs) s g e x =
-    visits-silent n vs (after (visitCall v) s) (sheets-stay-good (visitCall v) s (e .0) g) (e .1 .1) (visit-silent n v s (good-parts s g) x)
+    visits-silent n vs (after (visitCall v) s) (sheets-stay-good (visitCall v) s (e .0) g) (e .1 .1) (visit-silent n v s x)
 
 module _ (s : Sheets) (good : sheetsGood s ≡ true) (none : nonePrepared (s .lines) ≡ true) (cs : List Call) (legal : Legal answer after cs s []) where
   invariant : Inv (s .coordinator .issued) (onesAfter cs s (λ (n : ℕ). false)) (leftBy answer after cs s) (eventsAfter answer after cs s []) (modelOf cs s)
@@ -56,9 +55,9 @@ module _ (s : Sheets) (good : sheetsGood s ≡ true) (none : nonePrepared (s .li
 
   -- "They take a PREPARED line for half a commit; it is nothing until the coordinator's line has decided": unless its owner is COMMITTED, the model has the
   -- line that was there before.
-  pub prepared-is-nothing : (k : Key) → listsKey k (leftBy answer after cs s .lines) ≡ true → isPrepared (lineOf k (leftBy answer after cs s .lines)) ≡ true → (ownerDecision (lineOf k (leftBy answer after cs s .lines)) (leftBy answer after cs s .coordinator) ≡ Committed → ⊥) → modelOf cs s .line k ≡ rolledBack (lineOf k (leftBy answer after cs s .lines))
-  prepared-is-nothing k h p d =
-      sym (invariant .view k h) ∙ settled-back (leftBy answer after cs s .coordinator) (lineOf k (leftBy answer after cs s .lines)) p d
+  pub prepared-is-nothing : (k : Key) → isPrepared (lineOf k (leftBy answer after cs s .lines)) ≡ true → (ownerDecision (lineOf k (leftBy answer after cs s .lines)) (leftBy answer after cs s .coordinator) ≡ Committed → ⊥) → modelOf cs s .line k ≡ rolledBack (lineOf k (leftBy answer after cs s .lines))
+  prepared-is-nothing k p d =
+      sym (invariant .view k) ∙ settled-back (leftBy answer after cs s .coordinator) (lineOf k (leftBy answer after cs s .lines)) p d
 
   -- "They think a dead station means a lost order; if COMMITTED was written, the next reader finishes it": the model has committed the number, and every
   -- recovery pass leaves the coordinator line, no line PREPARED and the model's lines.

@@ -22,7 +22,6 @@ use Rattle.model.specs.Histories.{Event, returns, taken, Available}
 use Rattle.model.specs.SequentialModel.{Model, modelCommit, isCommitted}
 use Rattle.call_laws.specs.Keeping.{issued-grows}
 use Rattle.model.specs.Records.{lineOf}
-use Rattle.call_laws.specs.Lines.{listsKey}
 use Rattle.call_laws.specs.Sheets.{GoodSheets}
 use Rattle.recovery.specs.Memory.{preparedColumns, Away, undecided-kept, none-prepared-kept}
 use Rattle.recovery.specs.Settling.{
@@ -47,15 +46,15 @@ oneAfter w one n = isOnePhase n w || one n
 -- a number that is undecided and has prepared no line
 pub record Silent (n : ℕ) (s : Sheets) : Type 0 where
   pub undecided : decision n (s .coordinator) ≡ Undecided
-  pub unprepared : (k : Key) → listsKey k (s .lines) ≡ true → preparedColumns n (lineOf k (s .lines)) ≡ none
+  pub unprepared : (k : Key) → preparedColumns n (lineOf k (s .lines)) ≡ none
 
 -- it stays so under the writes of others
-pub silent-kept : (n : ℕ) (s : Sheets) (w : Write) → GoodSheets s → Away s n w → Silent n s → Silent n (apply w s)
+pub silent-kept : (n : ℕ) (s : Sheets) (w : Write) → Away s n w → Silent n s → Silent n (apply w s)
 unfolding apply
-silent-kept n s w g a x =
+silent-kept n s w a x =
     record {
       undecided = undecided-kept s n w a (x .unprepared) (x .undecided);
-      unprepared = none-prepared-kept s n w g a (x .unprepared) (x .undecided);
+      unprepared = none-prepared-kept s n w a (x .unprepared) (x .undecided);
     }
 
 -- Why a transaction that commits in the model does: by the decision, by its one-phase write, or without a write since it has put nothing.

@@ -1,13 +1,15 @@
 -- A legal history keeps the invariant from its first sheets on.
 use Prim.Native.Nat.{ℕ}
-use mathlib.Core.Path.{_≡_, sym, _∙_}
+use mathlib.Core.Path.{_≡_, refl, sym, _∙_}
 use mathlib.Core.Bool.{Bool, true, false, not, true≢false}
 use mathlib.Core.List.{List, [], _∷_}
 use mathlib.Core.Option.{some}
 use borrow.Author.Tests.{not-true}
 use Rattle.lists.specs.Each.{any}
+use Rattle.types.specs.declared.Key.{Key}
 use Rattle.types.specs.declared.Record.{Record}
 use Rattle.types.specs.declared.Transaction.{Transaction}
+use Rattle.model.specs.Records.{lineOf}
 use Rattle.model.specs.Images.{isPrepared}
 use Rattle.model.specs.Writes.{Sheets, sheetsGood}
 use Rattle.model.specs.WellFormed.{wellFormed}
@@ -19,16 +21,21 @@ use Rattle.call_laws.specs.Lines.{line-passes}
 use Rattle.call_laws.specs.Sheets.{GoodSheets, good-parts, parts-good}
 use Rattle.call_laws.specs.Closure.{sheets-stay-good, returned-well-formed}
 use Rattle.recovery.specs.Settling.{settled-plain, undecided-committed}
+use Rattle.recovery.specs.View.{by-line}
 use Rattle.recovery.specs.Counted.{oneAfter}
 use Rattle.recovery.specs.Invariant.{Inv}
 use Rattle.recovery.specs.Calls.{above-undecided, begin-kept, read-kept, put-kept, advance-kept, abort-kept, visit-kept}
+
+none-pending : (k : Key) (rs : List Record) → nonePrepared rs ≡ true → isPrepared (lineOf k rs) ≡ false
+none-pending k rs n =
+    by-line (λ (r : Record). isPrepared r ≡ false) k rs (λ h. not-true _ (line-passes (λ (r : Record). not (isPrepared r)) k rs n h)) refl
 
 pub first-inv : (s : Sheets) → sheetsGood s ≡ true → nonePrepared (s .lines) ≡ true → Inv (s .coordinator .issued) (λ (n : ℕ). false) s [] (firstModel (s .lines))
 unfolding firstModel any
 first-inv s g n =
     record {
       good = good-parts s g;
-      view = λ k h. settled-plain (s .coordinator) _ (not-true _ (line-passes (λ (r : Record). not (isPrepared r)) k (s .lines) n h));
+      view = λ k. settled-plain (s .coordinator) (lineOf k (s .lines)) (none-pending k (s .lines) n);
       known = λ t a. absurd a;
       unique = λ t u a b e. absurd a;
       counted =

@@ -20,7 +20,6 @@ use Rattle.model.specs.Writes.{Sheets, Write, commit, decisionsAfter, apply, is
 use Rattle.model.specs.WellFormed.{wellFormed}
 use Rattle.model.specs.Histories.{Event, returns, taken, Available}
 use Rattle.model.specs.SequentialModel.{Model}
-use Rattle.call_laws.specs.Lines.{listsKey}
 use Rattle.call_laws.specs.Sheets.{GoodSheets}
 use Rattle.call_laws.specs.Transactions.{well-formed-parts}
 use Rattle.call_laws.specs.Keeping.{formed-after}
@@ -89,9 +88,9 @@ number-fits s g t f =
     (b .number, b .known, bounds (s .coordinator) (g .decisions) .issued)
 
 -- in open nothing is prepared
-pub open-unprepared : (s : Sheets) (m : Model) (t : Transaction) → Remembered s m t → t .phase ≡ 0 → (k : Key) → listsKey k (s .lines) ≡ true → preparedColumns (t .number) (lineOf k (s .lines)) ≡ none
-open-unprepared s m t r e k h =
-    r .memory (omega (arith, e)) .columns (r .open-undecided e) k h ∙ done-in-open (s .coordinator .units) t e k
+pub open-unprepared : (s : Sheets) (m : Model) (t : Transaction) → Remembered s m t → t .phase ≡ 0 → (k : Key) → preparedColumns (t .number) (lineOf k (s .lines)) ≡ none
+open-unprepared s m t r e k =
+    r .memory (omega (arith, e)) .columns (r .open-undecided e) k ∙ done-in-open (s .coordinator .units) t e k
 
 -- the state of another number
 other-kept : (s : Sheets) (w : Write) (m m′ : Model) (u : Transaction) → GoodSheets s → Away s (u .number) w → ((k : Key) → m′ .writes (u .number) k ≡ m .writes (u .number) k) → Remembered s m u → Remembered (apply w s) m′ u
@@ -101,7 +100,7 @@ other-kept s w m m′ u g a e r =
     record {
       formed = formed-after s w u (p .0) (p .1);
       sets = λ k. e k ∙ r .sets k;
-      memory = λ l. memory-kept s u w g a (r .memory l);
+      memory = λ l. memory-kept s u w a (r .memory l);
       open-undecided = λ e. undecided-kept s (u .number) w a (open-unprepared s m u r e) (r .open-undecided e);
     }
 
@@ -149,7 +148,7 @@ inv-taken {base} {one} s es m m′ t t′ w e inv a tk rt live g f mv =
     -- a number that has finished is not the one taken
     still : (n : ℕ) → one n ≡ true → Finished n (apply w s) (e ∷ es)
     still n h =
-        record { silent = silent-kept n s w (inv .good) (mv .away n apart-n) (inv .finished n h .silent); done = done }
+        record { silent = silent-kept n s w (mv .away n apart-n) (inv .finished n h .silent); done = done }
       where
         apart-n : n ≡ t .number → ⊥
         apart-n q = let p : t .phase ≡ 7 = inv .finished n h .done t a (sym q) in omega (arith, live, p)
@@ -170,7 +169,7 @@ inv-taken {base} {one} s es m m′ t t′ w e inv a tk rt live g f mv =
         by-why w′ (by-one-phase gs aw si) q z =
             let p : n ≡ t .number = eqb-true n (t .number) q in
             subst (λ (i : ℕ). Finished i (apply w′ s) (e ∷ es)) (sym p)
-            (record { silent = silent-kept (t .number) s (commit (t .number) gs) (inv .good) aw si; done = λ u b r. own-done u b r (z (eq-eqb (t .number) (t .number) refl)) })
+            (record { silent = silent-kept (t .number) s (commit (t .number) gs) aw si; done = λ u b r. own-done u b r (z (eq-eqb (t .number) (t .number) refl)) })
           where
             own-done : (u : Transaction) → Available u (e ∷ es) → u .number ≡ t .number → t′ .phase ≡ 7 → u .phase ≡ 7
             own-done u (inl p) r y = subst (λ (x : Transaction). x .phase ≡ 7) (Option·some-injective t′ u (sym rt ∙ p)) y
@@ -205,7 +204,7 @@ inv-free {base} {one} s es m w e inv rt g v a =
     finished n h =
         let o : one n ≡ true = ap (λ (b : Bool). b || one n) (sym (gentle-one s w v n)) ∙ h in
         record {
-          silent = silent-kept n s w (inv .good) (a n) (inv .finished n o .silent);
+          silent = silent-kept n s w (a n) (inv .finished n o .silent);
           done = λ u b q. inv .finished n o .done u (before u b) q;
         }
 
@@ -243,7 +242,7 @@ inv-begun {base} {one} s es m m′ t′ w e inv new rt g gentle v a o c own =
 
     finished : (n : ℕ) → oneAfter w one n ≡ true → Finished n (apply w s) (e ∷ es)
     finished n h =
-        record { silent = silent-kept n s w (inv .good) (a n) (inv .finished n q .silent); done = done }
+        record { silent = silent-kept n s w (a n) (inv .finished n q .silent); done = done }
       where
         q : one n ≡ true
         q = ap (λ (b : Bool). b || one n) (sym (gentle-one s w gentle n)) ∙ h

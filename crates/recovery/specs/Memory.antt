@@ -42,8 +42,8 @@ use Rattle.model.specs.Writes.{
 }
 use Rattle.model.specs.Steps.{unitsOf}
 use Rattle.call_laws.specs.Images.{forward-plain, back-plain}
-use Rattle.call_laws.specs.Lines.{listsKey}
-use Rattle.call_laws.specs.Sheets.{GoodSheets, MayPutAll}
+use Rattle.call_laws.specs.Lines.{Still, still-nothing, still-issue, still-decide, still-forward, still-back}
+use Rattle.call_laws.specs.Sheets.{MayPutAll, still-commit, still-prepare}
 use Rattle.call_laws.specs.Keeping.{units-kept}
 use Rattle.recovery.specs.Settling.{
   decided-other,
@@ -53,7 +53,7 @@ use Rattle.recovery.specs.Settling.{
   undecided-committed,
   undecided-aborted,
 }
-use Rattle.recovery.specs.View.{LineAt, line-at, listed-before, line-after}
+use Rattle.recovery.specs.View.{own-key, line-after}
 
 -- the columns put for a key, if any
 unfoldable pub putIn : Key → List Entry → Option Columns
@@ -76,12 +76,11 @@ doneAt us t k = cond (ltb (groupPlace us (puts t) k) (groupsDone us t)) (putIn k
 
 pub record Memory (s : Sheets) (t : Transaction) : Type 0 where
   pub undone : decision (t .number) (s .coordinator) ≡ Committed → ⊥
-  pub columns : decision (t .number) (s .coordinator) ≡ Undecided → (k : Key) → listsKey k (s .lines) ≡ true → preparedColumns (t .number) (lineOf k (s .lines)) ≡ doneAt (unitsOf s) t k
+  pub columns : decision (t .number) (s .coordinator) ≡ Undecided → (k : Key) → preparedColumns (t .number) (lineOf k (s .lines)) ≡ doneAt (unitsOf s) t k
 
 -- a line that a number has prepared
 pub record PreparedLine (s : Sheets) (j : ℕ) : Type 0 where
   pub key : Key
-  pub listed : listsKey key (s .lines) ≡ true
   pub by : preparedBy j (lineOf key (s .lines)) ≡ true
 
 -- The writes that keep the memory of number j: those of other numbers, and rolling its own lines once it is decided.
@@ -96,6 +95,17 @@ pub data Away (s : Sheets) (j : ℕ) : Write → Type 0 where
   away-forward : (i : ℕ) (ks : List Key) → (i ≡ j → decision j (s .coordinator) ≡ Committed) → Away s j (forward i ks)
   away-back : (i : ℕ) (ks : List Key) → (i ≡ j → decision j (s .coordinator) ≡ Aborted) → Away s j (back i ks)
 
+-- they leave keys without a line as they are
+pub away-still : (s : Sheets) (j : ℕ) (w : Write) → Away s j w → Still (s .lines) w
+away-still s j w away-nothing = still-nothing (s .lines)
+away-still s j w away-issue = still-issue (s .lines)
+away-still s j w (away-abort i x) = still-decide (s .lines) i Aborted
+away-still s j w (away-decide i d n) = still-decide (s .lines) i d
+away-still s j w (away-commit i es m) = still-commit s i es m
+away-still s j w (away-prepare i now es n m) = still-prepare s i now es m
+away-still s j w (away-forward i ks h) = still-forward (s .lines) i ks
+away-still s j w (away-back i ks h) = still-back (s .lines) i ks
+
 -- A line without a preparation of the number.
 
 pub not-prepared : (j : ℕ) (r : Record) → isPrepared r ≡ false → preparedColumns j r ≡ none
@@ -109,13 +119,13 @@ other-owner j r n =
     rw (e, and-false (isPrepared r))
 
 -- The columns prepared on a line stay.
-module _ (s : Sheets) (j : ℕ) (u : decision j (s .coordinator) ≡ Undecided) (r : Record) (listed : listsKey (r .key) (s .lines) ≡ true) (own : lineOf (r .key) (s .lines) ≡ r) where
+module _ (s : Sheets) (j : ℕ) (u : decision j (s .coordinator) ≡ Undecided) (r : Record) (own : lineOf (r .key) (s .lines) ≡ r) where
   put-away : (i : ℕ) (es : List Entry) (f : Entry → Record) → MayPutAll s i es → ((e : Entry) → preparedColumns j (f e) ≡ none) → preparedColumns j (byEntry (entryFor (r .key) es) r f) ≡ preparedColumns j r
   put-away i es f m h = go (entryFor (r .key) es) refl
     where
       go : (o : Option Entry) → entryFor (r .key) es ≡ o → preparedColumns j (byEntry o r f) ≡ preparedColumns j r
       go none e = refl
-      go (some x) e = h x ∙ sym (not-prepared j r (m r listed own x e .free))
+      go (some x) e = h x ∙ sym (not-prepared j r (ap isPrepared (sym own) ∙ m (r .key) x e .1 .free))
 
   roll-away : (i : ℕ) (ks : List Key) (r′ : Record) → (i ≡ j → ⊥) → isPrepared r′ ≡ false → preparedColumns j (cond (isOf i ks r) r′ r) ≡ preparedColumns j r
   roll-away i ks r′ n p =
@@ -170,26 +180,24 @@ away-stood d s j w f (away-forward i ks h) e = e
 away-stood d s j w f (away-back i ks h) e = e
 
 -- Writes away from a transaction keep what is remembered of it.
-pub memory-kept : (s : Sheets) (t : Transaction) (w : Write) → GoodSheets s → Away s (t .number) w → Memory s t → Memory (apply w s) t
+pub memory-kept : (s : Sheets) (t : Transaction) (w : Write) → Away s (t .number) w → Memory s t → Memory (apply w s) t
 unfolding apply
-memory-kept s t w g a m =
+memory-kept s t w a m =
     record {
       undone = λ e. m .undone (away-stood Committed s (t .number) w (λ i. abort-commits-none (s .coordinator) i (t .number)) a e);
-      columns = λ e k h. let l : listsKey k (s .lines) ≡ true = listed-before s w k h in
-          let u : decision (t .number) (s .coordinator) ≡ Undecided = away-stood Undecided s (t .number) w (λ i. abort-undecided (s .coordinator) i (t .number)) a e in
-          let x : LineAt s k = line-at s g k l in
-          ap (preparedColumns (t .number)) (line-after s w k l)
-          ∙ (away-columns s (t .number) u (lineOf k (s .lines)) (x .listed) (x .own) w a
-          ∙ (m .columns u k l ∙ ap (λ (us : List AtomicityUnit). doneAt us t k) (sym (units-kept w (s .coordinator)))));
+      columns = λ e k. let u : decision (t .number) (s .coordinator) ≡ Undecided = away-stood Undecided s (t .number) w (λ i. abort-undecided (s .coordinator) i (t .number)) a e in
+          ap (preparedColumns (t .number)) (line-after s w (away-still s (t .number) w a) k)
+          ∙ (away-columns s (t .number) u (lineOf k (s .lines)) (own-key s k) w a
+          ∙ (m .columns u k ∙ ap (λ (us : List AtomicityUnit). doneAt us t k) (sym (units-kept w (s .coordinator)))));
     }
 
-owns-none : (s : Sheets) (j : ℕ) → ((k : Key) → listsKey k (s .lines) ≡ true → preparedColumns j (lineOf k (s .lines)) ≡ none) → PreparedLine s j → ⊥
+owns-none : (s : Sheets) (j : ℕ) → ((k : Key) → preparedColumns j (lineOf k (s .lines)) ≡ none) → PreparedLine s j → ⊥
 unfolding preparedColumns
 owns-none s j n x =
-    Option·none-ne-some _ (sym (n (x .key) (x .listed)) ∙ ap (λ (b : Bool). cond b (some (record { column1 = lineOf (x .key) (s .lines) .image .column1; column2 = lineOf (x .key) (s .lines) .image .column2 })) none) (x .by))
+    Option·none-ne-some _ (sym (n (x .key)) ∙ ap (λ (b : Bool). cond b (some (record { column1 = lineOf (x .key) (s .lines) .image .column1; column2 = lineOf (x .key) (s .lines) .image .column2 })) none) (x .by))
 
 -- Undecided as long as no line is prepared: nobody aborts a number that owns no line.
-pub undecided-kept : (s : Sheets) (j : ℕ) (w : Write) → Away s j w → ((k : Key) → listsKey k (s .lines) ≡ true → preparedColumns j (lineOf k (s .lines)) ≡ none) → decision j (s .coordinator) ≡ Undecided → decision j (decisionsAfter w (s .coordinator)) ≡ Undecided
+pub undecided-kept : (s : Sheets) (j : ℕ) (w : Write) → Away s j w → ((k : Key) → preparedColumns j (lineOf k (s .lines)) ≡ none) → decision j (s .coordinator) ≡ Undecided → decision j (decisionsAfter w (s .coordinator)) ≡ Undecided
 unfolding decisionsAfter
 undecided-kept s j w away-nothing n u = u
 undecided-kept s j w away-issue n u = issued-decision _ j (s .coordinator) ∙ u
@@ -201,8 +209,7 @@ undecided-kept s j w (away-forward i ks h) n u = u
 undecided-kept s j w (away-back i ks h) n u = u
 
 -- and none is prepared by the writes of others
-pub none-prepared-kept : (s : Sheets) (j : ℕ) (w : Write) → GoodSheets s → Away s j w → ((k : Key) → listsKey k (s .lines) ≡ true → preparedColumns j (lineOf k (s .lines)) ≡ none) → decision j (s .coordinator) ≡ Undecided → (k : Key) → listsKey k (apply w s .lines) ≡ true → preparedColumns j (lineOf k (apply w s .lines)) ≡ none
-none-prepared-kept s j w g a n u k h =
-    let l : listsKey k (s .lines) ≡ true = listed-before s w k h in
-    let x : LineAt s k = line-at s g k l in
-    ap (preparedColumns j) (line-after s w k l) ∙ (away-columns s j u (lineOf k (s .lines)) (x .listed) (x .own) w a ∙ n k l)
+pub none-prepared-kept : (s : Sheets) (j : ℕ) (w : Write) → Away s j w → ((k : Key) → preparedColumns j (lineOf k (s .lines)) ≡ none) → decision j (s .coordinator) ≡ Undecided → (k : Key) → preparedColumns j (lineOf k (apply w s .lines)) ≡ none
+unfolding apply
+none-prepared-kept s j w a n u k =
+    ap (preparedColumns j) (line-after s w (away-still s j w a) k) ∙ (away-columns s j u (lineOf k (s .lines)) (own-key s k) w a ∙ n k)

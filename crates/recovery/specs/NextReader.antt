@@ -3,6 +3,7 @@
 use Prim.Native.Nat.{ℕ, _^_, _<_}
 use mathlib.Core.Path.{_≡_, refl, sym, ap, ap₂, _∙_}
 use mathlib.Core.Bool.{Bool, true, false, _&&_, cond, true≢false}
+use mathlib.Core.List.{[], _∷_}
 use lib.Dec.{eqb}
 use borrow.Author.Tests.{eqb-true}
 use Rattle.lists.specs.Tests.{choose-by}
@@ -17,7 +18,7 @@ use Rattle.model.specs.Records.{records, lineOf, hasLine}
 use Rattle.model.specs.Coordinator.{coordinatorOf, isUndecided}
 use Rattle.model.specs.Refusals.{refusalOf}
 use Rattle.model.specs.Images.{isPrepared, byDecision, rolledForward, recovery}
-use Rattle.model.specs.Writes.{Sheets, Write, lineAfter, apply}
+use Rattle.model.specs.Writes.{Sheets, Write, forward, lineAfter, apply}
 use Rattle.model.specs.Visits.{ownerDecision, ownerExpired, meeting, isAgain, recoveryWrite}
 use Rattle.model.specs.Results.{read, visit, Result, made, refused, writeOf}
 use Rattle.model.specs.Conditions.{isNew, heldEntry, conditions}
@@ -25,7 +26,7 @@ use Rattle.model.specs.Calls.{ReadAnswer, readHeld, readNew, readResult, visitR
 use Rattle.model.specs.Histories.{Answer, refusalIn, visited, answerOf, readAnswered, answer, written, after}
 use Rattle.model.specs.ByteHistories.{Bytes, saying, Passing, answerOn, afterOn}
 use Rattle.model.specs.RecoveryPass.{lineUndecided}
-use Rattle.call_laws.specs.Lines.{listsKey, has-line}
+use Rattle.call_laws.specs.Lines.{listsKey, has-line, still-forward}
 use Rattle.call_laws.specs.Sheets.{GoodSheets, good-parts}
 use Rattle.call_laws.specs.Lifting.{passing-good, same-answer, bytes-stay-passing}
 use Rattle.recovery.specs.View.{line-after}
@@ -47,7 +48,7 @@ module _ (s : Sheets) (good : GoodSheets s) (k : Key) (now : ℕ) (listed : list
   unfolding recoveryWrite lineAfter
   finished w e =
       ap (λ (x : Write). lineOf k (apply x s .lines)) (e ∙ ap (λ (v : Recovery). recoveryWrite v (lineOf k (s .lines))) meets-forward)
-      ∙ (line-after s _ k listed ∙ rolled-line s good k now listed decided rolledForward pending)
+      ∙ (line-after s (forward (lineOf k (s .lines) .image .txid) (lineOf k (s .lines) .key ∷ [])) (still-forward (s .lines) (lineOf k (s .lines) .image .txid) (lineOf k (s .lines) .key ∷ [])) k ∙ rolled-line s good k now listed decided rolledForward pending)
 
   pub visit-finishes : (answer (visit k now) s ≡ visited Forward) × (lineOf k (after (visit k now) s .lines) ≡ rolledForward (lineOf k (s .lines)))
   unfolding answer after written

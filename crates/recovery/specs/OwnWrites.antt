@@ -28,10 +28,10 @@ use Rattle.model.specs.Steps.{unitsOf, groupAt}
 use Rattle.model.specs.SequentialModel.{Model, modelCommit, overwritten}
 use Rattle.call_laws.specs.Images.{when-prepared}
 use Rattle.call_laws.specs.Groups.{place-below}
-use Rattle.call_laws.specs.Lines.{listsKey}
-use Rattle.call_laws.specs.Sheets.{GoodSheets, MayPutAll}
+use Rattle.call_laws.specs.Lines.{line-of-key, still-decide}
+use Rattle.call_laws.specs.Sheets.{GoodSheets, MayPutAll, still-commit, still-prepare}
 use Rattle.recovery.specs.Settling.{settle, settled-plain, settled-by, settled-back, decided-own, decided-other, undecided-committed}
-use Rattle.recovery.specs.View.{View, LineAt, line-at, listed-before, line-after}
+use Rattle.recovery.specs.View.{View, own-key, own-rule, line-after}
 use Rattle.recovery.specs.Memory.{putIn, preparedColumns}
 use Rattle.recovery.specs.Puts.{putOf, put-in-puts, entry-in-group, found-has-key}
 
@@ -122,14 +122,13 @@ module _ (s : Sheets) (good : GoodSheets s) (t : Transaction) where
   put-is k = put-in-puts k (held t)
 
   -- the line of a key after its group was prepared
-  pub prepare-columns : (now : ℕ) → ((k : Key) → listsKey k (s .lines) ≡ true → preparedColumns (t .number) (lineOf k (s .lines)) ≡ doneTo (unitsOf s) t (t .place) k) → (k : Key) → listsKey k (s .lines) ≡ true → preparedColumns (t .number) (lineOf k (apply (prepare (t .number) now (groupAt t s)) s .lines)) ≡ doneTo (unitsOf s) t (t .place + 1) k
-  unfolding lineAfter
-  prepare-columns now before k h =
-      let a : LineAt s k = line-at s good k h in
+  pub prepare-columns : (now : ℕ) → MayPutAll s (t .number) (groupAt t s) → ((k : Key) → preparedColumns (t .number) (lineOf k (s .lines)) ≡ doneTo (unitsOf s) t (t .place) k) → (k : Key) → preparedColumns (t .number) (lineOf k (apply (prepare (t .number) now (groupAt t s)) s .lines)) ≡ doneTo (unitsOf s) t (t .place + 1) k
+  unfolding lineAfter apply
+  prepare-columns now may before k =
       let w = prepare (t .number) now (groupAt t s) in
       let o : entryFor (lineOf k (s .lines) .key) (groupAt t s) ≡ cond (eqb (groupPlace (unitsOf s) (puts t) k) (t .place)) (entryFor k (puts t)) none =
-      ap (λ (x : Key). entryFor x (groupAt t s)) (a .key) ∙ group-entry k in
-      ap (preparedColumns (t .number)) (line-after s w k h)
+      ap (λ (x : Key). entryFor x (groupAt t s)) (line-of-key k (s .lines)) ∙ group-entry k in
+      ap (preparedColumns (t .number)) (line-after s w (still-prepare s (t .number) now (groupAt t s) may) k)
       ∙ (ap (λ (x : Option Entry). preparedColumns (t .number) (byEntry x (lineOf k (s .lines)) (λ (e : Entry). prepared (t .number) now e (lineOf k (s .lines))))) o
       ∙ go (eqb (groupPlace (unitsOf s) (puts t) k) (t .place)) refl (entryFor k (puts t)) refl)
     where
@@ -142,27 +141,25 @@ module _ (s : Sheets) (good : GoodSheets s) (t : Transaction) where
       go : (b : Bool) → eqb g (t .place) ≡ b → (x : Option Entry) → entryFor k (puts t) ≡ x → preparedColumns (t .number) (byEntry (cond b x none) r (λ (e : Entry). prepared (t .number) now e r)) ≡ doneTo (unitsOf s) t (t .place + 1) k
       go true q none e =
           let n : putIn k (held t) ≡ none = put-is k ∙ ap putOf e in
-          before k h ∙ (no-put (unitsOf s) t (t .place) k n ∙ sym (no-put (unitsOf s) t (t .place + 1) k n))
+          before k ∙ (no-put (unitsOf s) t (t .place) k n ∙ sym (no-put (unitsOf s) t (t .place + 1) k n))
       go true q (some x) e =
           let n : putIn k (held t) ≡ some (x .put) = put-is k ∙ ap putOf e in
           let p : g ≡ t .place = eqb-true g (t .place) q in
           let l : ltb g (t .place + 1) ≡ true = lt-ltb g (t .place + 1) (omega arith) in
           prepared-own (t .number) now x r ∙ sym (ap₂ (λ (b : Bool) (c : Option Columns). cond b c none) l n)
-      go false q x e = before k h ∙ ap (λ (b : Bool). cond b (putIn k (held t)) none) (one-further g (t .place) (eqb-false g (t .place) q))
+      go false q x e = before k ∙ ap (λ (b : Bool). cond b (putIn k (held t)) none) (one-further g (t .place) (eqb-false g (t .place) q))
 
   -- The model's commit.
 
   -- one phase: there is one group, at place 0
   pub one-phase-view : (m : Model) → ((k : Key) → m .writes (t .number) k ≡ putIn k (held t)) → MayPutAll s (t .number) (groupAt t s) → t .place ≡ 0 → groupCount (unitsOf s) (puts t) ≡ 1 → View s m → View (apply (commit (t .number) (groupAt t s)) s) (modelCommit (t .number) m)
   unfolding lineAfter decisionsAfter modelCommit apply overwritten committed
-  one-phase-view m sets may z one v k h =
+  one-phase-view m sets may z one v k =
       let w = commit (t .number) (groupAt t s) in
-      let l : listsKey k (s .lines) ≡ true = listed-before s w k h in
-      let a : LineAt s k = line-at s good k l in
       let o : entryFor (lineOf k (s .lines) .key) (groupAt t s) ≡ cond (eqb (groupPlace (unitsOf s) (puts t) k) (t .place)) (entryFor k (puts t)) none =
-      ap (λ (x : Key). entryFor x (groupAt t s)) (a .key) ∙ group-entry k in
-      ap (settle (s .coordinator)) (line-after s w k l)
-      ∙ (go (entryFor k (puts t)) refl (eqb (groupPlace (unitsOf s) (puts t) k) (t .place)) refl a l o
+      ap (λ (x : Key). entryFor x (groupAt t s)) (line-of-key k (s .lines)) ∙ group-entry k in
+      ap (settle (s .coordinator)) (line-after s w (still-commit s (t .number) (groupAt t s) may) k)
+      ∙ (go (entryFor k (puts t)) refl (eqb (groupPlace (unitsOf s) (puts t) k) (t .place)) refl o
       ∙ ap (λ (x : Option Columns). overwritten (t .number) x (m .line k)) (sym (sets k)))
     where
       r : Record
@@ -171,39 +168,36 @@ module _ (s : Sheets) (good : GoodSheets s) (t : Transaction) where
       after : Option Entry → Record
       after x = byEntry x r (λ (e : Entry). committed (t .number) e r)
 
-      go : (x : Option Entry) → entryFor k (puts t) ≡ x → (b : Bool) → eqb (groupPlace (unitsOf s) (puts t) k) (t .place) ≡ b → LineAt s k → listsKey k (s .lines) ≡ true → entryFor (r .key) (groupAt t s) ≡ cond (eqb (groupPlace (unitsOf s) (puts t) k) (t .place)) (entryFor k (puts t)) none → settle (s .coordinator) (after (entryFor (r .key) (groupAt t s))) ≡ overwritten (t .number) (putIn k (held t)) (m .line k)
-      go none e b q a l o =
+      go : (x : Option Entry) → entryFor k (puts t) ≡ x → (b : Bool) → eqb (groupPlace (unitsOf s) (puts t) k) (t .place) ≡ b → entryFor (r .key) (groupAt t s) ≡ cond (eqb (groupPlace (unitsOf s) (puts t) k) (t .place)) (entryFor k (puts t)) none → settle (s .coordinator) (after (entryFor (r .key) (groupAt t s))) ≡ overwritten (t .number) (putIn k (held t)) (m .line k)
+      go none e b q o =
           let n : putIn k (held t) ≡ none = put-is k ∙ ap putOf e in
           let i : entryFor (r .key) (groupAt t s) ≡ none =
           o ∙ (ap (λ (y : Option Entry). cond (eqb (groupPlace (unitsOf s) (puts t) k) (t .place)) y none) e ∙ either-way (eqb (groupPlace (unitsOf s) (puts t) k) (t .place)) none) in
           ap (λ (y : Option Entry). settle (s .coordinator) (after y)) i
-          ∙ (v k l ∙ ap (λ (y : Option Columns). overwritten (t .number) y (m .line k)) (sym n))
-      go (some x) e true q a l o =
+          ∙ (v k ∙ ap (λ (y : Option Columns). overwritten (t .number) y (m .line k)) (sym n))
+      go (some x) e true q o =
           let n : putIn k (held t) ≡ some (x .put) = put-is k ∙ ap putOf e in
           let i : entryFor (r .key) (groupAt t s) ≡ some x = o ∙ (ap₂ (λ (c : Bool) (y : Option Entry). cond c y none) q e) in
-          let f : isPrepared r ≡ false = may r (a .listed) (a .own) x i .free in
-          let b : m .line k ≡ r = sym (v k l) ∙ settled-plain (s .coordinator) r f in
+          let f : isPrepared r ≡ false = ap isPrepared (sym (own-key s k)) ∙ may (r .key) x i .1 .free in
+          let b : m .line k ≡ r = sym (v k) ∙ settled-plain (s .coordinator) r f in
           ap (λ (y : Option Entry). settle (s .coordinator) (after y)) i
           ∙ (settled-plain (s .coordinator) (committed (t .number) x r) refl
           ∙ ap₂ (λ (y : Option Columns) (z : Record). overwritten (t .number) y z) (sym n) (sym b))
-      go (some x) e false q a l o =
+      go (some x) e false q o =
           let p : groupPlace (unitsOf s) (puts t) k < groupCount (unitsOf s) (puts t) = place-below (unitsOf s) (puts t) k (found-has-key k (puts t) x e) in
           absurd (eqb-false (groupPlace (unitsOf s) (puts t) k) (t .place) q (omega arith))
 
   -- a transaction without puts commits nothing
   pub empty-view : (m : Model) → ((k : Key) → m .writes (t .number) k ≡ none) → View s m → View s (modelCommit (t .number) m)
   unfolding modelCommit overwritten
-  empty-view m sets v k h = v k h ∙ sym (ap (λ (x : Option Columns). overwritten (t .number) x (m .line k)) (sets k))
+  empty-view m sets v k = v k ∙ sym (ap (λ (x : Option Columns). overwritten (t .number) x (m .line k)) (sets k))
 
   -- the decision: every put is prepared, and rolling it forward is what the model writes
-  pub decide-view : (m : Model) → ((k : Key) → m .writes (t .number) k ≡ putIn k (held t)) → 1 ≤ t .number → t .number ≤ length (s .coordinator .decisions) → decision (t .number) (s .coordinator) ≡ Undecided → ((k : Key) → listsKey k (s .lines) ≡ true → preparedColumns (t .number) (lineOf k (s .lines)) ≡ putIn k (held t)) → View s m → View (apply (decide (t .number) Committed) s) (modelCommit (t .number) m)
+  pub decide-view : (m : Model) → ((k : Key) → m .writes (t .number) k ≡ putIn k (held t)) → 1 ≤ t .number → t .number ≤ length (s .coordinator .decisions) → decision (t .number) (s .coordinator) ≡ Undecided → ((k : Key) → preparedColumns (t .number) (lineOf k (s .lines)) ≡ putIn k (held t)) → View s m → View (apply (decide (t .number) Committed) s) (modelCommit (t .number) m)
   unfolding lineAfter decisionsAfter modelCommit apply overwritten preparedBy
-  decide-view m sets one known u done v k h =
-      let w = decide (t .number) Committed in
-      let l : listsKey k (s .lines) ≡ true = listed-before s w k h in
-      let a : LineAt s k = line-at s good k l in
-      ap (settle (withDecision (t .number) Committed (s .coordinator))) (line-after s w k l)
-      ∙ (go (preparedBy (t .number) r) refl a l ∙ ap (λ (x : Option Columns). overwritten (t .number) x (m .line k)) (sym (sets k)))
+  decide-view m sets one known u done v k =
+      ap (settle (withDecision (t .number) Committed (s .coordinator))) (line-after s (decide (t .number) Committed) (still-decide (s .lines) (t .number) Committed) k)
+      ∙ (go (preparedBy (t .number) r) refl ∙ ap (λ (x : Option Columns). overwritten (t .number) x (m .line k)) (sym (sets k)))
     where
       n : ℕ
       n = t .number
@@ -211,20 +205,20 @@ module _ (s : Sheets) (good : GoodSheets s) (t : Transaction) where
       r : Record
       r = lineOf k (s .lines)
 
-      go : (b : Bool) → preparedBy n r ≡ b → LineAt s k → listsKey k (s .lines) ≡ true → settle (withDecision n Committed (s .coordinator)) r ≡ overwritten n (putIn k (held t)) (m .line k)
-      go true q a l =
+      go : (b : Bool) → preparedBy n r ≡ b → settle (withDecision n Committed (s .coordinator)) r ≡ overwritten n (putIn k (held t)) (m .line k)
+      go true q =
           let p : isPrepared r ≡ true = search (tests, q) in
           let o : r .image .txid ≡ n = search (tests, q) in
           let d : decision (r .image .txid) (withDecision n Committed (s .coordinator)) ≡ Committed =
           ap (λ (x : ℕ). decision x (withDecision n Committed (s .coordinator))) o ∙ decided-own n Committed (s .coordinator) one known in
           let b : m .line k ≡ rolledBack r =
-          sym (v k l) ∙ settled-back (s .coordinator) r p (λ e. undecided-committed (sym u ∙ (ap (λ (x : ℕ). decision x (s .coordinator)) (sym o) ∙ e))) in
+          sym (v k) ∙ settled-back (s .coordinator) r p (λ e. undecided-committed (sym u ∙ (ap (λ (x : ℕ). decision x (s .coordinator)) (sym o) ∙ e))) in
           let c : putIn k (held t) ≡ some (record { column1 = r .image .column1; column2 = r .image .column2 }) =
-          sym (done k l) ∙ prepared-some n r q in
+          sym (done k) ∙ prepared-some n r q in
           settled-by (withDecision n Committed (s .coordinator)) r Committed p d
-          ∙ (forward-overwrites n r (when-prepared r p (a .good .rule)) o
+          ∙ (forward-overwrites n r (when-prepared r p (own-rule s good k)) o
           ∙ ap₂ (λ (y : Option Columns) (z : Record). overwritten n y z) (sym c) (sym b))
-      go false q a l =
-          let c : putIn k (held t) ≡ none = sym (done k l) ∙ prepared-none n r q in
+      go false q =
+          let c : putIn k (held t) ≡ none = sym (done k) ∙ prepared-none n r q in
           other-decided n r q (s .coordinator)
-          ∙ (v k l ∙ ap (λ (y : Option Columns). overwritten n y (m .line k)) (sym c))
+          ∙ (v k ∙ ap (λ (y : Option Columns). overwritten n y (m .line k)) (sym c))

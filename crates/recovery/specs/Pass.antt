@@ -43,11 +43,11 @@ use Rattle.call_laws.specs.Choices.{unless-by, by-meeting}
 use Rattle.sheet_laws.specs.Coordinator.{bounds}
 use Rattle.call_laws.specs.Keys.{same-key, same-key-refl}
 use Rattle.call_laws.specs.Images.{forward-plain, back-plain, when-prepared}
-use Rattle.call_laws.specs.Lines.{listsKey, has-line, line-key, lists-kept}
+use Rattle.call_laws.specs.Lines.{listsKey, has-line, lists-after, line-of-key, Still, still-nothing, still-decide, still-forward, still-back}
 use Rattle.call_laws.specs.Sheets.{GoodSheets, good-parts, parts-good}
 use Rattle.call_laws.specs.Closure.{sheets-stay-good}
 use Rattle.recovery.specs.Settling.{settle, settled-plain, gentle-nothing, decided-own, undecided-aborted}
-use Rattle.recovery.specs.View.{View, LineAt, line-at, line-after, gentle-view}
+use Rattle.recovery.specs.View.{View, listed-good, own-rule, own-txid, line-after, gentle-view}
 use Rattle.recovery.specs.Memory.{abort-undecided}
 use Rattle.recovery.specs.Calls.{visit-gentle}
 
@@ -77,6 +77,12 @@ unfolding written visitResult
 visit-visiting k now s =
     unless-by (λ (x : Result Recovery). Visiting (writeOf x)) (conditions (visit k now) s) visiting-nothing (λ z. recovery-visiting _ _)
 
+pub visiting-still : (rs : List Record) (w : Write) → Visiting w → Still rs w
+visiting-still rs w visiting-nothing = still-nothing rs
+visiting-still rs w (visiting-abort i) = still-decide rs i Aborted
+visiting-still rs w (visiting-forward i ks) = still-forward rs i ks
+visiting-still rs w (visiting-back i ks) = still-back rs i ks
+
 -- a line that is prepared after a visit was prepared before, by the same number
 pub prepared-before : (w : Write) → Visiting w → (r : Record) → isPrepared (lineAfter w r) ≡ true → lineAfter w r ≡ r
 unfolding lineAfter
@@ -103,17 +109,17 @@ undecided-before w (visiting-forward i ks) s n e = e
 undecided-before w (visiting-back i ks) s n e = e
 
 -- Visits to any line never lower a line.
-rank-kept : (n : ℕ) (s : Sheets) (w : Write) (k : Key) → Visiting w → listsKey k (s .lines) ≡ true → AtLeast n s k → AtLeast n (apply w s) k
+rank-kept : (n : ℕ) (s : Sheets) (w : Write) (k : Key) → Visiting w → AtLeast n s k → AtLeast n (apply w s) k
 unfolding apply
-rank-kept zero s w k v h a = tt
-rank-kept (suc zero) s w k v h a = λ p u.
-    let l : lineOf k (apply w s .lines) ≡ lineAfter w (lineOf k (s .lines)) = line-after s w k h in
+rank-kept zero s w k v a = tt
+rank-kept (suc zero) s w k v a = λ p u.
+    let l : lineOf k (apply w s .lines) ≡ lineAfter w (lineOf k (s .lines)) = line-after s w (visiting-still (s .lines) w v) k in
     let q : isPrepared (lineAfter w (lineOf k (s .lines))) ≡ true = ap isPrepared (sym l) ∙ p in
     let e : lineOf k (apply w s .lines) ≡ lineOf k (s .lines) = l ∙ prepared-before w v (lineOf k (s .lines)) q in
     a (ap isPrepared (sym e) ∙ p)
     (undecided-before w v s (lineOf k (s .lines) .image .txid) (ap (λ (r : Record). ownerDecision r (decisionsAfter w (s .coordinator))) (sym e) ∙ u))
-rank-kept (suc (suc n)) s w k v h a =
-    ap isPrepared (line-after s w k h) ∙ settled-stays w v (lineOf k (s .lines)) a
+rank-kept (suc (suc n)) s w k v a =
+    ap isPrepared (line-after s w (visiting-still (s .lines) w v) k) ∙ settled-stays w v (lineOf k (s .lines)) a
 
 -- A visit at a reading at which an undecided line has expired.
 module _ (s : Sheets) (good : GoodSheets s) (k : Key) (now : ℕ) (listed : listsKey k (s .lines) ≡ true) (expiring : lineUndecided s (lineOf k (s .lines)) ≡ true → ownerExpired now (lineOf k (s .lines)) ≡ true) where
@@ -132,8 +138,7 @@ module _ (s : Sheets) (good : GoodSheets s) (k : Key) (now : ℕ) (listed : list
   pub visit-made : visitResult k now s ≡ made (meeting now (s .coordinator) (lineOf k (s .lines))) (recoveryWrite (meeting now (s .coordinator) (lineOf k (s .lines))) (lineOf k (s .lines)))
   unfolding visitResult conditions refusalOf
   visit-made =
-      let a : LineAt s k = line-at s good k listed in
-      let i : keyInRange k ≡ true = ap keyInRange (sym (a .key)) ∙ a .good .key in
+      let i : keyInRange k ≡ true = ap keyInRange (sym (line-of-key k (s .lines))) ∙ listed-good s good k listed .key in
       let h : hasLine k (s .lines) ≡ true = has-line k (s .lines) ∙ listed in
       rw (i, h, not-busy)
 
@@ -153,12 +158,18 @@ module _ (s : Sheets) (good : GoodSheets s) (k : Key) (now : ℕ) (listed : list
   decided-now : isPrepared (lineOf k (s .lines)) ≡ true → decision (lineOf k (s .lines) .image .txid) (withDecision (lineOf k (s .lines) .image .txid) Aborted (s .coordinator)) ≡ Undecided → ⊥
   unfolding preparedRule
   decided-now p u =
-      let a : LineAt s k = line-at s good k listed in
-      let x : preparedRule (lineOf k (s .lines)) ≡ true = when-prepared (lineOf k (s .lines)) p (a .good .rule) in
+      let x : preparedRule (lineOf k (s .lines)) ≡ true = when-prepared (lineOf k (s .lines)) p (own-rule s good k) in
       let one : 1 ≤ lineOf k (s .lines) .image .txid = search (tests, x) in
-      let known : lineOf k (s .lines) .image .txid ≤ s .coordinator .issued = a .good .txid in
+      let known : lineOf k (s .lines) .image .txid ≤ s .coordinator .issued = own-txid s good k in
       let most : s .coordinator .issued ≤ length (s .coordinator .decisions) = bounds (s .coordinator) (good .decisions) .issued in
       undecided-aborted (sym u ∙ decided-own (lineOf k (s .lines) .image .txid) Aborted (s .coordinator) one (omega arith))
+
+  -- the line's own key and number
+  abbrev here : Key
+  here = lineOf k (s .lines) .key
+
+  abbrev owner : ℕ
+  owner = lineOf k (s .lines) .image .txid
 
   -- the line after each outcome
   abbrev lineAfterVisit : Recovery → Record
@@ -166,19 +177,19 @@ module _ (s : Sheets) (good : GoodSheets s) (k : Key) (now : ℕ) (listed : list
 
   clear-stays : isPrepared (lineOf k (s .lines)) ≡ false → isPrepared (lineAfterVisit Stays) ≡ false
   unfolding recoveryWrite lineAfter
-  clear-stays p = ap isPrepared (line-after s nothing k listed) ∙ p
+  clear-stays p = ap isPrepared (line-after s nothing (still-nothing (s .lines)) k) ∙ p
 
   clear-forward : isPrepared (lineOf k (s .lines)) ≡ true → isPrepared (lineAfterVisit Forward) ≡ false
   unfolding recoveryWrite lineAfter
-  clear-forward p = ap isPrepared (line-after s _ k listed ∙ rolled-line rolledForward p) ∙ forward-plain (lineOf k (s .lines))
+  clear-forward p = ap isPrepared (line-after s (forward owner (here ∷ [])) (still-forward (s .lines) owner (here ∷ [])) k ∙ rolled-line rolledForward p) ∙ forward-plain (lineOf k (s .lines))
 
   clear-back : isPrepared (lineOf k (s .lines)) ≡ true → isPrepared (lineAfterVisit Back) ≡ false
   unfolding recoveryWrite lineAfter
-  clear-back p = ap isPrepared (line-after s _ k listed ∙ rolled-line rolledBack p) ∙ back-plain (lineOf k (s .lines))
+  clear-back p = ap isPrepared (line-after s (back owner (here ∷ [])) (still-back (s .lines) owner (here ∷ [])) k ∙ rolled-line rolledBack p) ∙ back-plain (lineOf k (s .lines))
 
   same-again : lineAfterVisit Again ≡ lineOf k (s .lines)
   unfolding recoveryWrite lineAfter
-  same-again = line-after s _ k listed
+  same-again = line-after s (decide owner Aborted) (still-decide (s .lines) owner Aborted) k
 
   raised : (n : ℕ) → AtLeast n s k → AtLeast (suc n) (apply (recoveryWrite (meeting now (s .coordinator) (lineOf k (s .lines))) (lineOf k (s .lines))) s) k
   unfolding meeting recoveryWrite apply decisionsAfter
@@ -224,7 +235,7 @@ turn v s good k n h x a =
     (λ e. let q : v .key ≡ k = same-key (v .key) k e in
     subst (λ (j : Key). AtLeast (suc n) (after (visit j (v .clock)) s) k) (sym q)
     (visit-raises s good k (v .clock) h (subst (λ (j : Key). lineUndecided s (lineOf j (s .lines)) ≡ true → ownerExpired (v .clock) (lineOf j (s .lines)) ≡ true) q x) n a))
-    (λ e. rank-kept n s (written (visitCall v) s) k (visit-visiting (v .key) (v .clock) s) h a)
+    (λ e. rank-kept n s (written (visitCall v) s) k (visit-visiting (v .key) (v .clock) s) a)
 
 -- A visit leaves good sheets, the same settled lines and the same keys.
 module _ (m : Model) (v : Visit) (fits : v .clock < 2 ^ 32) (s : Sheets) (good : GoodSheets s) where
@@ -240,7 +251,7 @@ module _ (m : Model) (v : Visit) (fits : v .clock < 2 ^ 32) (s : Sheets) (good :
 
 pub call-lists : (c : Call) (s : Sheets) (k : Key) → listsKey k (after c s .lines) ≡ listsKey k (s .lines)
 unfolding after apply
-call-lists c s k = lists-kept (lineAfter (written c s)) (line-key (written c s)) k (s .lines)
+call-lists c s k = lists-after (written c s) k (s .lines)
 
 -- what a pass leaves
 pub record Passed (m : Model) (vs : List Visit) (s s′ : Sheets) : Type 0 where
@@ -272,5 +283,5 @@ closed m vs s g w c r h e =
     let f : isPrepared r ≡ false = ap isPrepared (sym e) ∙ p .rank (r .key) 0 2 l (omega arith) tt in (
       f,
       sym (settled-plain (leftBy answer after (map visitCall vs) s .coordinator) r f)
-          ∙ (ap (settle (leftBy answer after (map visitCall vs) s .coordinator)) (sym e) ∙ p .view (r .key) h),
+          ∙ (ap (settle (leftBy answer after (map visitCall vs) s .coordinator)) (sym e) ∙ p .view (r .key)),
     )

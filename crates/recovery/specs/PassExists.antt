@@ -17,11 +17,11 @@ use Rattle.model.specs.Writes.{Sheets, sheetsGood}
 use Rattle.model.specs.Visits.{ownerDecision, ownerExpired}
 use Rattle.model.specs.Histories.{written, after}
 use Rattle.model.specs.RecoveryPass.{Visit, visitCall, lineUndecided, timesVisited, Expiring, Closing}
-use Rattle.call_laws.specs.Lines.{listsKey, has-line}
+use Rattle.call_laws.specs.Lines.{listsKey, has-line, unlisted}
 use Rattle.call_laws.specs.Sheets.{GoodSheets, good-parts}
-use Rattle.recovery.specs.View.{line-at, line-after}
+use Rattle.recovery.specs.View.{listed-good, line-after}
 use Rattle.recovery.specs.Theorem.{keysIn}
-use Rattle.recovery.specs.Pass.{visit-visiting, prepared-before, call-lists}
+use Rattle.recovery.specs.Pass.{visit-visiting, visiting-still, prepared-before, call-lists}
 
 -- a reading at which a line has expired
 abbrev pub reading : Record → ℕ
@@ -36,14 +36,6 @@ expired-then r l =
     let e : ((r .clock + 15000) % 2 ^ 32 + (2 ^ 32 - r .clock)) % 2 ^ 32 ≡ 15000 = ticks (r .clock) l in
     rw e refl
 
--- a key without a line is not prepared
-unlisted : (k : Key) (rs : List Record) → listsKey k rs ≡ false → lineOf k rs ≡ absentAt k
-unfolding any lineOf
-unlisted k [] h = refl
-unlisted k (r ∷ rs) h =
-    ap (λ (b : Bool). cond b r (lineOf k rs)) (or-fst (sameKey (r .key) k) (listsKey k rs) h)
-    ∙ unlisted k rs (or-snd (sameKey (r .key) k) (listsKey k rs) h)
-
 -- During the pass a line that is prepared is the line of the first sheets.
 record Same (s s′ : Sheets) : Type 0 where
   lists : (k : Key) → listsKey k (s′ .lines) ≡ listsKey k (s .lines)
@@ -57,7 +49,7 @@ unfolding after
 same-next s s′ v x =
     record {
       lists = λ k. call-lists (visitCall v) s′ k ∙ x .lists k;
-      line = λ k h p. let l = line-after s′ (written (visitCall v) s′) k (x .lists k ∙ h) in
+      line = λ k h p. let l = line-after s′ (written (visitCall v) s′) (visiting-still (s′ .lines) (written (visitCall v) s′) (visit-visiting (v .key) (v .clock) s′)) k in
           let e = l ∙ prepared-before (written (visitCall v) s′) (visit-visiting (v .key) (v .clock) s′) (lineOf k (s′ .lines)) (ap isPrepared (sym l) ∙ p) in
           e ∙ x .line k h (ap isPrepared (sym e) ∙ p);
     }
@@ -75,7 +67,7 @@ fits-then s s′ g x k u = go (listsKey k (s .lines)) refl
 
     go : (b : Bool) → listsKey k (s .lines) ≡ b → ownerExpired (reading (lineOf k (s .lines))) (lineOf k (s′ .lines)) ≡ true
     go true h =
-        ap (lineExpired (reading (lineOf k (s .lines)))) (x .line k h p) ∙ expired-then (lineOf k (s .lines)) (line-at s g k h .good .clock)
+        ap (lineExpired (reading (lineOf k (s .lines)))) (x .line k h p) ∙ expired-then (lineOf k (s .lines)) (listed-good s g k h .clock)
     go false h = absurd (true≢false (sym p ∙ ap isPrepared (unlisted k (s′ .lines) (x .lists k ∙ h))))
 
 expiring-for : (ks : List Key) (s s′ : Sheets) → GoodSheets s → Same s s′ → Expiring (λ (y : Sheets). y) after (map (visitFor s) ks) s′

@@ -16,15 +16,14 @@ use Rattle.types.specs.declared.Decision.the-variants.{Undecided, Committed, Ab
 use Rattle.types.specs.declared.Key.{Key}
 use Rattle.types.specs.declared.Entry.{Entry}
 use Rattle.types.specs.declared.Record.{Record}
-use Rattle.model.specs.Records.{lineOf}
+use Rattle.model.specs.Records.{lineOf, stateRule}
 use Rattle.model.specs.Coordinator.{Coordinator, decisionNumber, decision, withDecision, withIssued}
 use Rattle.model.specs.Images.{isPrepared, preparedBy, prepared, rolledForward, rolledBack, byDecision}
 use Rattle.model.specs.Writes.{Sheets, Write, nothing, issue, decide, prepare, forward, back, entryFor, byEntry, isOf, lineAfter, decisionsAfter}
 use Rattle.model.specs.Visits.{ownerDecision}
-use Rattle.call_laws.specs.Ranges.{GoodParts}
 use Rattle.call_laws.specs.Images.{forward-plain, back-plain, back-is-before}
-use Rattle.call_laws.specs.Lines.{listsKey}
-use Rattle.call_laws.specs.Sheets.{MayPutAll}
+use Rattle.call_laws.specs.Lines.{Still, still-nothing, still-issue, still-decide, still-forward, still-back}
+use Rattle.call_laws.specs.Sheets.{MayPutAll, still-prepare}
 
 unfoldable pub settle : Coordinator → Record → Record
 settle c r =
@@ -136,10 +135,10 @@ rolled-settled d c n ks r x p q e =
     (λ h. refl)
 
 -- a line that is prepared by a number without COMMITTED still counts as it was
-prepare-settled : (c : Coordinator) (i n now : ℕ) (e : Entry) (r : Record) → GoodParts i r → isPrepared r ≡ false → (decision n c ≡ Committed → ⊥) → settle c (prepared n now e r) ≡ settle c r
+prepare-settled : (c : Coordinator) (n now : ℕ) (e : Entry) (r : Record) → stateRule r ≡ true → isPrepared r ≡ false → (decision n c ≡ Committed → ⊥) → settle c (prepared n now e r) ≡ settle c r
 unfolding prepared
-prepare-settled c i n now e r g f d =
-    settled-back c (prepared n now e r) refl d ∙ (back-is-before n now e r f (g .rule) ∙ sym (settled-plain c r f))
+prepare-settled c n now e r g f d =
+    settled-back c (prepared n now e r) refl d ∙ (back-is-before n now e r f g ∙ sym (settled-plain c r f))
 
 -- one more number decides nothing
 pub issued-decision : (n j : ℕ) (c : Coordinator) → decision j (withIssued n c) ≡ decision j c
@@ -153,15 +152,24 @@ issue-settled n c r =
     ap (λ (d : Decision). cond (isPrepared r) (byDecision d (rolledBack r) (rolledForward r) (rolledBack r)) r) (issued-decision n (r .image .txid) c)
 
 -- Every gentle write leaves the settled line of a key alone.
-pub gentle-settled : (s : Sheets) (w : Write) → Gentle s w → (r : Record) → listsKey (r .key) (s .lines) ≡ true → lineOf (r .key) (s .lines) ≡ r → GoodParts (s .coordinator .issued) r → settle (decisionsAfter w (s .coordinator)) (lineAfter w r) ≡ settle (s .coordinator) r
+pub gentle-settled : (s : Sheets) (w : Write) → Gentle s w → (r : Record) → lineOf (r .key) (s .lines) ≡ r → stateRule r ≡ true → settle (decisionsAfter w (s .coordinator)) (lineAfter w r) ≡ settle (s .coordinator) r
 unfolding decisionsAfter lineAfter
-gentle-settled s w gentle-nothing r k l g = refl
-gentle-settled s w gentle-issue r k l g = issue-settled (s .coordinator .issued + 1) (s .coordinator) r
-gentle-settled s w (gentle-abort i d) r k l g = abort-settled (s .coordinator) i r d
-gentle-settled s w (gentle-forward i ks d) r k l g = rolled-settled Committed (s .coordinator) i ks r (rolledForward r) (forward-plain r) refl d
-gentle-settled s w (gentle-back i ks d) r k l g = rolled-settled Aborted (s .coordinator) i ks r (rolledBack r) (back-plain r) refl d
-gentle-settled s w (gentle-prepare n now es d m) r k l g = go (entryFor (r .key) es) refl
+gentle-settled s w gentle-nothing r l g = refl
+gentle-settled s w gentle-issue r l g = issue-settled (s .coordinator .issued + 1) (s .coordinator) r
+gentle-settled s w (gentle-abort i d) r l g = abort-settled (s .coordinator) i r d
+gentle-settled s w (gentle-forward i ks d) r l g = rolled-settled Committed (s .coordinator) i ks r (rolledForward r) (forward-plain r) refl d
+gentle-settled s w (gentle-back i ks d) r l g = rolled-settled Aborted (s .coordinator) i ks r (rolledBack r) (back-plain r) refl d
+gentle-settled s w (gentle-prepare n now es d m) r l g = go (entryFor (r .key) es) refl
   where
     go : (o : Option Entry) → entryFor (r .key) es ≡ o → settle (s .coordinator) (byEntry o r (λ (e : Entry). prepared n now e r)) ≡ settle (s .coordinator) r
     go none e = refl
-    go (some x) e = prepare-settled (s .coordinator) (s .coordinator .issued) n now x r g (m r k l x e .free) d
+    go (some x) e = prepare-settled (s .coordinator) n now x r g (ap isPrepared (sym l) ∙ m (r .key) x e .1 .free) d
+
+-- and leaves keys without a line as they are
+pub gentle-still : (s : Sheets) (w : Write) → Gentle s w → Still (s .lines) w
+gentle-still s w gentle-nothing = still-nothing (s .lines)
+gentle-still s w gentle-issue = still-issue (s .lines)
+gentle-still s w (gentle-abort i d) = still-decide (s .lines) i Aborted
+gentle-still s w (gentle-forward i ks d) = still-forward (s .lines) i ks
+gentle-still s w (gentle-back i ks d) = still-back (s .lines) i ks
+gentle-still s w (gentle-prepare n now es d m) = still-prepare s n now es m

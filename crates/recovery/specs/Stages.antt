@@ -23,8 +23,8 @@ pub memory-as : (s : Sheets) (t t′ : Transaction) → t′ .number ≡ t .numb
 memory-as s t t′ n d m =
     record {
       undone = λ e. m .undone (ap (λ (x : ℕ). decision x (s .coordinator)) (sym n) ∙ e);
-      columns = λ e k h. ap (λ (x : ℕ). preparedColumns x (lineOf k (s .lines))) n
-          ∙ (m .columns (ap (λ (x : ℕ). decision x (s .coordinator)) (sym n) ∙ e) k h ∙ sym (d k));
+      columns = λ e k. ap (λ (x : ℕ). preparedColumns x (lineOf k (s .lines))) n
+          ∙ (m .columns (ap (λ (x : ℕ). decision x (s .coordinator)) (sym n) ∙ e) k ∙ sym (d k));
     }
 
 module _ (us : List AtomicityUnit) (t : Transaction) where

@@ -8,7 +8,7 @@ use Rattle.lists.specs.All.{map-map}
 use Rattle.types.specs.declared.Key.{Key}
 use Rattle.types.specs.declared.Record.{Record}
 use Rattle.model.specs.Images.{isPrepared}
-use Rattle.model.specs.Writes.{Sheets, sheetsGood, lineAfter, apply}
+use Rattle.model.specs.Writes.{Sheets, sheetsGood, lineAfter, linesAfter, apply}
 use Rattle.model.specs.Results.{Call}
 use Rattle.model.specs.Histories.{answer, written, after, eventsAfter, leftBy, Legal}
 use Rattle.model.specs.SequentialModel.{Model, firstModel, modelAfter}
@@ -28,7 +28,7 @@ keys-mapped f h [] = refl
 keys-mapped f h (r ∷ rs) = ap (λ (k : Key). k ∷ keysIn (map f rs)) (h r) ∙ ap (λ (ks : List Key). r .key ∷ ks) (keys-mapped f h rs)
 
 pub keys-left : (cs : List Call) (s : Sheets) → keysIn (leftBy answer after cs s .lines) ≡ keysIn (s .lines)
-unfolding leftBy after apply
+unfolding leftBy after apply linesAfter
 keys-left [] s = refl
 keys-left (c ∷ cs) s = keys-left cs (after c s) ∙ keys-mapped (lineAfter (written c s)) (line-key (written c s)) (s .lines)
 

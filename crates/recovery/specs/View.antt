@@ -1,51 +1,59 @@
--- The invariant of the record sheet: the settled line of each key is the sequential model's line of that key. Gentle writes keep it.
-use mathlib.Core.Path.{_≡_, sym, ap, _∙_}
-use mathlib.Core.Bool.{true}
+-- The invariant of the record sheet: the settled line of each key is the sequential model's line of that key, a key without a line counting as an ABSENT line
+-- of version 0. Gentle writes keep it.
+use Prim.Native.Nat.{_≤_}
+use mathlib.Core.Path.{_≡_, refl, sym, ap, _∙_, subst}
+use mathlib.Core.Bool.{Bool, true, false}
+use mathlib.Core.List.{List}
+use native.Mathlib.Omega.{arith}
 use Rattle.types.specs.declared.Key.{Key}
-use Rattle.model.specs.Records.{lineOf}
+use Rattle.types.specs.declared.Record.{Record}
+use Rattle.model.specs.Records.{isZero, absentRule, stateRule, absentAt, lineOf}
 use Rattle.model.specs.Writes.{Sheets, Write, lineAfter, decisionsAfter, apply}
 use Rattle.model.specs.SequentialModel.{Model}
 use Rattle.call_laws.specs.Ranges.{GoodParts, fine, fine-parts}
-use Rattle.call_laws.specs.Lines.{listsKey, line-key, lists-kept, line-mapped, line-of-key, line-passes}
+use Rattle.call_laws.specs.Lines.{listsKey, unlisted, Still, line-written, line-of-key, line-passes}
 use Rattle.call_laws.specs.Sheets.{GoodSheets}
-use Rattle.recovery.specs.Settling.{settle, Gentle, gentle-settled}
+use Rattle.recovery.specs.Settling.{settle, Gentle, gentle-settled, gentle-still}
 
 abbrev pub View : Sheets → Model → Type 0
-View s m =
-    (k : Key) → listsKey k (s .lines) ≡ true → settle (s .coordinator) (lineOf k (s .lines)) ≡ m .line k
+View s m = (k : Key) → settle (s .coordinator) (lineOf k (s .lines)) ≡ m .line k
 
--- The line of a key that has one.
-pub record LineAt (s : Sheets) (k : Key) : Type 0 where
-  pub key : lineOf k (s .lines) .key ≡ k
-  pub listed : listsKey (lineOf k (s .lines) .key) (s .lines) ≡ true
-  pub own : lineOf (lineOf k (s .lines) .key) (s .lines) ≡ lineOf k (s .lines)
-  pub good : GoodParts (s .coordinator .issued) (lineOf k (s .lines))
+-- The line of a key.
 
-pub line-at : (s : Sheets) → GoodSheets s → (k : Key) → listsKey k (s .lines) ≡ true → LineAt s k
-line-at s g k h =
-    let e : lineOf k (s .lines) .key ≡ k = line-of-key k (s .lines) in
-    record {
-      key = e;
-      listed = ap (λ (x : Key). listsKey x (s .lines)) e ∙ h;
-      own = ap (λ (x : Key). lineOf x (s .lines)) e;
-      good =
-          fine-parts (s .coordinator .issued) (lineOf k (s .lines))
-          (line-passes (fine (s .coordinator .issued)) k (s .lines) (g .fine-lines) h);
-    }
+-- it is that of its own key
+pub own-key : (s : Sheets) (k : Key) → lineOf (lineOf k (s .lines) .key) (s .lines) ≡ lineOf k (s .lines)
+own-key s k = ap (λ (x : Key). lineOf x (s .lines)) (line-of-key k (s .lines))
 
--- a write keeps keys
-pub listed-before : (s : Sheets) (w : Write) (k : Key) → listsKey k (apply w s .lines) ≡ true → listsKey k (s .lines) ≡ true
+-- what holds of a line and of an ABSENT line of version 0 holds of the line of every key
+pub by-line : (P : Record → Type 0) (k : Key) (rs : List Record) → (listsKey k rs ≡ true → P (lineOf k rs)) → P (absentAt k) → P (lineOf k rs)
+by-line P k rs f a = go (listsKey k rs) refl
+  where
+    go : (b : Bool) → listsKey k rs ≡ b → P (lineOf k rs)
+    go true h = f h
+    go false h = subst P (sym (unlisted k rs h)) a
+
+pub listed-good : (s : Sheets) → GoodSheets s → (k : Key) → listsKey k (s .lines) ≡ true → GoodParts (s .coordinator .issued) (lineOf k (s .lines))
+listed-good s g k h =
+    fine-parts (s .coordinator .issued) (lineOf k (s .lines))
+    (line-passes (fine (s .coordinator .issued)) k (s .lines) (g .fine-lines) h)
+
+-- it keeps the rule of its state
+pub own-rule : (s : Sheets) → GoodSheets s → (k : Key) → stateRule (lineOf k (s .lines)) ≡ true
+unfolding absentRule isZero
+own-rule s g k = by-line (λ (r : Record). stateRule r ≡ true) k (s .lines) (λ h. listed-good s g k h .rule) refl
+
+-- and names an issued number
+pub own-txid : (s : Sheets) → GoodSheets s → (k : Key) → lineOf k (s .lines) .image .txid ≤ s .coordinator .issued
+own-txid s g k =
+    by-line (λ (r : Record). r .image .txid ≤ s .coordinator .issued) k (s .lines) (λ h. listed-good s g k h .txid) (omega arith)
+
+-- the line of a key after a write that leaves keys without a line as they are
+pub line-after : (s : Sheets) (w : Write) → Still (s .lines) w → (k : Key) → lineOf k (apply w s .lines) ≡ lineAfter w (lineOf k (s .lines))
 unfolding apply
-listed-before s w k h = sym (lists-kept (lineAfter w) (line-key w) k (s .lines)) ∙ h
-
-pub line-after : (s : Sheets) (w : Write) (k : Key) → listsKey k (s .lines) ≡ true → lineOf k (apply w s .lines) ≡ lineAfter w (lineOf k (s .lines))
-unfolding apply
-line-after s w k h = line-mapped (lineAfter w) (line-key w) k (s .lines) h
+line-after s w still k = line-written (s .lines) w still k
 
 pub gentle-view : (s : Sheets) (m : Model) (w : Write) → GoodSheets s → Gentle s w → View s m → View (apply w s) m
 unfolding apply
-gentle-view s m w g f v k h =
-    let l : listsKey k (s .lines) ≡ true = listed-before s w k h in
-    let a : LineAt s k = line-at s g k l in
-    ap (settle (decisionsAfter w (s .coordinator))) (line-after s w k l)
-    ∙ (gentle-settled s w f (lineOf k (s .lines)) (a .listed) (a .own) (a .good) ∙ v k l)
+gentle-view s m w g f v k =
+    ap (settle (decisionsAfter w (s .coordinator))) (line-after s w (gentle-still s w f) k)
+    ∙ (gentle-settled s w f (lineOf k (s .lines)) (own-key s k) (own-rule s g k) ∙ v k)
