@@ -8,7 +8,7 @@ use native.Mathlib.Omega.{arith}
 use lib.Dec.{ltb}
 use lib.ListN.{length, take, drop, getD, length-map, drop-of-length-le, List·getD-map}
 use borrow.Author.Tests.{ltb-true, ltb-false}
-use Rattle.lists.specs.All.{map-unmoved, getD-any}
+use Rattle.lists.specs.All.{getD-any}
 use Rattle.lists.specs.Tests.{tests}
 use Rattle.types.specs.declared.Record.{Record}
 use Rattle.types.specs.declared.Transaction.{Transaction}
@@ -26,7 +26,7 @@ use Rattle.model.specs.Turns.{advanceAt, turnEvent, turnAfter, turnAfterOn}
 use Rattle.sheet_laws.specs.Records.{record-written-read, records-read-written, sheet-written-read}
 use Rattle.sheet_laws.specs.Coordinator.{coordinator-written-read}
 use Rattle.sheet_laws.specs.Places.{whole-lines, length-records, record-at, line-set}
-use Rattle.call_laws.specs.Lines.{lines-mapped}
+use Rattle.call_laws.specs.Lines.{lines-mapped, lines-unmoved}
 use Rattle.call_laws.specs.Closure.{sheets-stay-good}
 use Rattle.call_laws.specs.Lifting.{passing-parts, passing-good, encoded, same-bytes}
 use Rattle.call_laws.specs.ByPlace.{by-place}
@@ -97,7 +97,7 @@ module _ (b : Bytes) (passing : Passing b) (w : Write) (good : sheetsGood (apply
       lines-of-one-unit g (ap coordinatorText (stays (saying b .coordinator)) ∙ coordinator-written-read (b .coordinator) (passing-parts b passing .1 .0))
       same-length (λ i d. line-stays i (others _ d))
   write-unit (Units.coordinator-only stays) =
-      coordinator-only (ap recordsText (lines-mapped w lines ∙ map-unmoved (lineAfter w) stays lines) ∙ sheet-written-read (b .records) accepted)
+      coordinator-only (ap recordsText (lines-unmoved w stays lines) ∙ sheet-written-read (b .records) accepted)
 
 -- "writes to at most one unit or the coordinator sheet"
 pub call-unit : (c : Call) (b : Bytes) → ClockFits c → Passing b → OneUnit b (afterOn c b)

@@ -7,7 +7,6 @@ use native.Mathlib.Omega.{arith}
 use lib.Dec.{eqb}
 use borrow.Author.Tests.{not-false}
 use Rattle.lists.specs.Each.{all}
-use Rattle.lists.specs.All.{map-unmoved}
 use Rattle.lists.specs.Tests.{and-fst, and-snd, and-both}
 use Rattle.model.specs.Records.{records, recordsText, recordsGood, recordsAccepted}
 use Rattle.model.specs.Lines.{linesSet}
@@ -15,7 +14,7 @@ use Rattle.model.specs.Layouts.{recordLayout}
 use Rattle.model.specs.Coordinator.{coordinatorText, coordinatorGood, coordinatorAccepted, namesIssued}
 use Rattle.model.specs.Refusals.{refusalOf}
 use Rattle.model.specs.SheetCalls.{allIssued, checkConditions}
-use Rattle.model.specs.Writes.{Sheets, sheetsGood, nothing, lineAfter, linesAfter, decisionsAfter, apply}
+use Rattle.model.specs.Writes.{Sheets, sheetsGood, nothing, lineAfter, decisionsAfter, apply}
 use Rattle.model.specs.Results.{Call, begin, read, put, advance, abort, visit, Result, refused, made, writeOf}
 use Rattle.model.specs.Calls.{beginResult, readResult, putResult, advanceResult, abortResult, visitResult}
 use Rattle.model.specs.ByteCalls.{onSheets, beginOn, readOn, putOn, advanceOn, abortOn, visitOn, recordsAfter, coordinatorAfter}
@@ -25,6 +24,7 @@ use Rattle.sheet_laws.specs.Records.{records-read-written, sheet-written-read}
 use Rattle.sheet_laws.specs.Coordinator.{coordinator-read-written, coordinator-written-read}
 use Rattle.sheet_laws.specs.Decisions.{accepted-parts}
 use Rattle.call_laws.specs.Choices.{not-first}
+use Rattle.call_laws.specs.Lines.{lines-unmoved}
 use Rattle.call_laws.specs.Closure.{sheets-stay-good}
 
 pub passing-parts : (b : Bytes) → Passing b → (recordsAccepted (b .records) ≡ true) × ((coordinatorAccepted (b .coordinator) ≡ true) × (allIssued (b .records) (b .coordinator) ≡ true))
@@ -77,8 +77,8 @@ same-answer (abort t) b h = ap (answerOf returned) (on-passing b (abortResult t)
 same-answer (visit k now) b h = ap (answerOf visited) (on-passing b (visitResult k now) h)
 
 pub apply-nothing : (s : Sheets) → apply nothing s ≡ s
-unfolding apply linesAfter lineAfter decisionsAfter
-apply-nothing s = λ i. record { lines = map-unmoved (lineAfter nothing) (λ x. refl) (s .lines) i; coordinator = s .coordinator }
+unfolding apply lineAfter decisionsAfter
+apply-nothing s = λ i. record { lines = lines-unmoved nothing (λ x. refl) (s .lines) i; coordinator = s .coordinator }
 
 -- accepted bytes are those of the sheets that they say
 pub passing-encoded : (b : Bytes) → Passing b → encoded (saying b) ≡ b

@@ -5,6 +5,7 @@ use mathlib.Core.Bool.{Bool, true, false, _&&_, _||_, cond, true≢false}
 use mathlib.Core.List.{List, [], _∷_, map}
 use mathlib.Core.Option.{Option, none, some}
 use Rattle.lists.specs.Each.{all, any}
+use Rattle.lists.specs.All.{map-unmoved}
 use Rattle.lists.specs.Order.{less-irrefl, less-trans}
 use Rattle.lists.specs.Tests.{and-fst, and-snd, and-both, choose-by}
 use Rattle.lists.specs.Chosen.{or-else, or-fst, or-snd, or-left, or-right}
@@ -108,6 +109,15 @@ has-line-after w k rs = has-line-kept (lineAfter w) (line-key w) k rs
 pub rising-after : (w : Write) (rs : List Record) → rising (linesAfter w rs) ≡ rising rs
 unfolding linesAfter
 rising-after w rs = rising-kept (lineAfter w) (line-key w) rs
+
+pub lines-unmoved : (w : Write) → ((r : Record) → lineAfter w r ≡ r) → (rs : List Record) → linesAfter w rs ≡ rs
+unfolding linesAfter
+lines-unmoved w h rs = map-unmoved (lineAfter w) h rs
+
+pub keys-after : (w : Write) (rs : List Record) → map (λ (r : Record). r .key) (linesAfter w rs) ≡ map (λ (r : Record). r .key) rs
+unfolding linesAfter
+keys-after w [] = refl
+keys-after w (r ∷ rs) = ap₂ _∷_ (line-key w r) (keys-after w rs)
 
 -- a key without a line counts as an ABSENT line of version 0
 pub unlisted : (k : Key) (rs : List Record) → listsKey k rs ≡ false → lineOf k rs ≡ absentAt k

@@ -6,7 +6,6 @@ use mathlib.Core.Bool.{Bool, true, cond}
 use mathlib.Core.List.{List}
 use lib.Dec.{eqb}
 use borrow.Author.Tests.{ne-eqb}
-use Rattle.lists.specs.All.{map-unmoved}
 use Rattle.types.specs.declared.Record.{Record}
 use Rattle.model.specs.Records.{records, recordsText, recordsAccepted}
 use Rattle.model.specs.Coordinator.{Coordinator, coordinatorOf, coordinatorText, coordinatorAccepted}
@@ -18,6 +17,7 @@ use Rattle.model.specs.ByteCalls.{sheetsOf, onSheets, recordsAfter, coordinator
 use Rattle.model.specs.ByteHistories.{Bytes}
 use Rattle.sheet_laws.specs.Records.{sheet-written-read}
 use Rattle.sheet_laws.specs.Coordinator.{coordinator-written-read}
+use Rattle.call_laws.specs.Lines.{lines-unmoved}
 use Rattle.call_laws.specs.Sheets.{GoodSheets, good-parts}
 use Rattle.call_laws.specs.Lifting.{passing-parts, passing-good}
 
@@ -91,7 +91,7 @@ module _ {A : Type 0} (rs cs : List ℕ) (call : Sheets → Result A) where
 module _ (rs cs : List ℕ) (a : Accepted rs cs) (w : Write) where
   pub lines-kept : ((r : Record) → lineAfter w r ≡ r) → rs ≡ recordsText (apply w (sheetsOf rs cs) .lines)
   unfolding apply
-  lines-kept h = sym (ap recordsText (map-unmoved (lineAfter w) h (records rs)) ∙ sheet-written-read rs (a .lines))
+  lines-kept h = sym (ap recordsText (lines-unmoved w h (records rs)) ∙ sheet-written-read rs (a .lines))
 
   pub decisions-kept : ((c : Coordinator) → decisionsAfter w c ≡ c) → cs ≡ coordinatorText (apply w (sheetsOf rs cs) .coordinator)
   unfolding apply

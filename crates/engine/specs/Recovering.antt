@@ -32,7 +32,7 @@ use Rattle.call_laws.specs.Choices.{by-meeting}
 use Rattle.call_laws.specs.Keys.{same-key-refl, same-key-flip}
 use Rattle.call_laws.specs.Ranges.{GoodParts, parts-fine}
 use Rattle.call_laws.specs.Images.{when-prepared, forward-fine, back-fine}
-use Rattle.call_laws.specs.Lines.{has-line, line-key}
+use Rattle.call_laws.specs.Lines.{has-line, line-key, lines-mapped}
 use Rattle.call_laws.specs.Keeping.{line-good}
 use Rattle.call_laws.specs.Places.{FoundAt, found-at, atKey, set-at-key, line-replaced, decision-replaced}
 use Rattle.engine.specs.Outcomes.{Written, Outcome, outcome-made, Accepted, lines-kept, decisions-kept, written-nothing}
@@ -114,7 +114,7 @@ module _ (rs cs : List ℕ) (i : ℕ) (s : Standing rs cs i) where
       ∙ (ap (λ (x : Record). recordsText (set (records rs) i x)) f
       ∙ ap recordsText
       (set-at-key (here .key) (lineAfter w) (records rs) i (s .accepted .good .order) l refl
-      ∙ map-alone w (here .key) h (records rs))))
+      ∙ (map-alone w (here .key) h (records rs) ∙ sym (lines-mapped w (records rs))))))
 
   -- the line rolled, by a write that rolls it alone
   settle-rolled : (w : Write) (roll : Record → Record) {rs′ : List ℕ} → ((r : Record) → lineAfter w r ≡ cond (isOf (here .image .txid) (here .key ∷ []) r) (roll r) r) → ((c : Coordinator) → decisionsAfter w c ≡ c) → GoodParts (coordinatorOf cs .issued) (roll here) → isPrepared here ≡ true → rs′ ≡ cond (ltb i (length rs / 98)) (over rs (i * 98) (recordText (roll here))) rs → Written w rs cs rs′ cs

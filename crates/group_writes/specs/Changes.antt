@@ -10,7 +10,7 @@ use lib.ListN.{length, getD, set}
 use lib.Dec.{ltb}
 use borrow.Author.Tests.{le-leb, lt-ltb}
 use Rattle.lists.specs.Each.{all, any}
-use Rattle.lists.specs.All.{map-unmoved, map-map, map-equal, all-always}
+use Rattle.lists.specs.All.{map-map, map-equal, all-always}
 use Rattle.lists.specs.Chosen.{or-fst, or-snd}
 use Rattle.lists.specs.Pieces.{over}
 use Rattle.lists.specs.Tests.{and-both, choose-by, tests}
@@ -35,11 +35,12 @@ use Rattle.model.specs.Records.{
 }
 use Rattle.model.specs.Coordinator.{namesIssued}
 use Rattle.model.specs.Images.{preparedBy, prepared, committed, rolledForward, rolledBack}
-use Rattle.model.specs.Writes.{Write, commit, prepare, forward, back, entryFor, byEntry, isOf, lineAfter}
+use Rattle.model.specs.Writes.{Write, commit, prepare, forward, back, entryFor, byEntry, isOf, lineAfter, linesAfter}
 use Rattle.model.specs.WellFormed.{imageInRange}
 use Rattle.model.specs.Steps.{keysOf}
 use Rattle.sheet_laws.specs.Records.{good-ranged}
 use Rattle.sheet_laws.specs.Places.{whole-lines, length-records, records-over}
+use Rattle.call_laws.specs.Lines.{lines-unmoved}
 use Rattle.call_laws.specs.Keys.{same-key, same-key-refl, same-key-flip, hasKey, no-entry}
 use Rattle.call_laws.specs.Places.{FoundAt, found-at, atKey, set-at-key, line-replaced}
 use Rattle.call_laws.specs.Ranges.{fine-parts}
@@ -115,11 +116,12 @@ by-key Back n es r = rolled-by-entry (preparedBy n r) (rolledBack r) r (r .key) 
 
 -- Lines under the changes for a group's entries.
 module _ (c : Change) (n : ℕ) where
-  pub lines-none : (rs : List Record) → map (lineAfter (written c n [])) rs ≡ rs
+  pub lines-none : (rs : List Record) → linesAfter (written c n []) rs ≡ rs
   unfolding entryFor
-  lines-none rs = map-unmoved (lineAfter (written c n [])) (λ r. by-key c n [] r) rs
+  lines-none rs = lines-unmoved (written c n []) (λ r. by-key c n [] r) rs
 
-  pub lines-first : (e : Entry) (es : List Entry) (rs : List Record) → hasKey (e .key) es ≡ false → map (lineAfter (written c n (e ∷ es))) rs ≡ map (lineAfter (written c n es)) (map (atKey (e .key) (changed c n e)) rs)
+  pub lines-first : (e : Entry) (es : List Entry) (rs : List Record) → hasKey (e .key) es ≡ false → linesAfter (written c n (e ∷ es)) rs ≡ linesAfter (written c n es) (map (atKey (e .key) (changed c n e)) rs)
+  unfolding linesAfter
   lines-first e es rs free =
       map-equal (λ (r : Record). true) (lineAfter (written c n (e ∷ es))) (λ (r : Record). lineAfter (written c n es) (atKey (e .key) (changed c n e) r))
       (λ r h. by-key c n (e ∷ es) r ∙ (one-first c n e es r free ∙ sym (by-key c n es (atKey (e .key) (changed c n e) r))))

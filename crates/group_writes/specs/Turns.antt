@@ -19,7 +19,7 @@ use Rattle.types.specs.declared.Transaction.{Transaction}
 use Rattle.model.specs.Records.{records, recordsText, recordsAccepted, found}
 use Rattle.model.specs.Coordinator.{coordinatorAccepted}
 use Rattle.model.specs.Transactions.{held}
-use Rattle.model.specs.Writes.{lineAfter}
+use Rattle.model.specs.Writes.{linesAfter}
 use Rattle.model.specs.WellFormed.{distinctKeys}
 use Rattle.model.specs.Steps.{groupAt}
 use Rattle.model.specs.ByteCalls.{sheetsOf}
@@ -77,7 +77,7 @@ free-kept q k es h = go (hasKey k (filter q es)) refl
 module _ (c : Change) (cs : List ℕ) (t : Transaction) where
   -- the lines that the changes for the group among these entries leave
   abbrev pub leaves : List ℕ → List Entry → List Record
-  leaves rs es = map (lineAfter (written c (t .number) (groupIn cs t es))) (records rs)
+  leaves rs es = linesAfter (written c (t .number) (groupIn cs t es)) (records rs)
 
   -- these entries may be turned one by one
   abbrev mayTurn : List ℕ → List Entry → Bool
@@ -166,9 +166,9 @@ module _ (c : Change) (cs : List ℕ) (t : Transaction) where
               let m : records rs′ ≡ map (atKey (e .key) (changed c (t .number) e)) (records rs) =
               x .lines ∙ ap (λ (b : Bool). cond b (map (atKey (e .key) (changed c (t .number) e)) (records rs)) (records rs)) h in
               next
-              (ap (λ (y : List Entry). map (lineAfter (written c (t .number) y)) (records rs)) (own h)
+              (ap (λ (y : List Entry). linesAfter (written c (t .number) y) (records rs)) (own h)
               ∙ (lines-first c (t .number) e (groupIn cs t es) (records rs) free
-              ∙ ap (map (lineAfter (written c (t .number) (groupIn cs t es)))) (sym m)))
+              ∙ ap (linesAfter (written c (t .number) (groupIn cs t es))) (sym m)))
               (ap (λ (y : List Record). all (fits c (t .number) y) (groupIn cs t es)) m
               ∙ (fits-elsewhere c (t .number) e (records rs) (groupIn cs t es) free
               ∙ and-snd (fits c (t .number) (records rs) e) (all (fits c (t .number) (records rs)) (groupIn cs t es)) (own-fits h)))
@@ -178,6 +178,6 @@ module _ (c : Change) (cs : List ℕ) (t : Transaction) where
               let m : records rs′ ≡ records rs =
               x .lines ∙ ap (λ (b : Bool). cond b (map (atKey (e .key) (changed c (t .number) e)) (records rs)) (records rs)) h in
               next
-              (ap₂ (λ (y : List Entry) (z : List Record). map (lineAfter (written c (t .number) y)) z) (other h) (sym m))
+              (ap₂ (λ (y : List Entry) (z : List Record). linesAfter (written c (t .number) y) z) (other h) (sym m))
               (ap₂ (λ (z : List Record) (y : List Entry). all (fits c (t .number) z) y) m (sym (other h)) ∙ here-fits)
               (subst (λ (y : List Record). Placed y t ps (t .count)) (sym m) (u .placed))

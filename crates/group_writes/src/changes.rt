@@ -5,7 +5,7 @@ ghost use mathlib.Core.List.{map};
 ghost use Rattle.lists.specs.Each.{all};
 ghost use Rattle.model.specs.Records.{goodAlone, recordsText};
 ghost use Rattle.model.specs.Records as sheet;
-ghost use Rattle.model.specs.Writes.{lineAfter, prepare, commit, forward, back};
+ghost use Rattle.model.specs.Writes.{linesAfter, prepare, commit, forward, back};
 ghost use Rattle.model.specs.Steps.{holds, groupAt, keysOf};
 ghost use Rattle.model.specs.ByteCalls.{sheetsOf};
 ghost use Rattle.protocol.specs.Held.{entryAt};
@@ -88,7 +88,7 @@ fn change_group(
     coordinator: &[u8],
 )
     requires { ⌜ MayChange c (now records) (now coordinator) t places ⌝ }
-    ensures { λ u. ⌜ now (records .exit) ≡ recordsText (map (lineAfter (written c (t .number) (groupAt t (sheetsOf (now (records .entry)) (now (coordinator .entry)))))) (sheet.records (now (records .entry)))) ⌝ }
+    ensures { λ u. ⌜ now (records .exit) ≡ recordsText (linesAfter (written c (t .number) (groupAt t (sheetsOf (now (records .entry)) (now (coordinator .entry))))) (sheet.records (now (records .entry)))) ⌝ }
 {
     let n = t.count as usize;
     for i in 0..n {
@@ -101,7 +101,7 @@ fn change_group(
 pub fn commit_group(t: Transaction, places: [usize; 8], records: &mut [u8], coordinator: &[u8])
     requires { ⌜ Ready (now records) (now coordinator) t places ⌝ }
     requires { ⌜ all (holds (sheet.records (now records))) (groupAt t (sheetsOf (now records) (now coordinator))) ≡ true ⌝ }
-    ensures { λ u. ⌜ now (records .exit) ≡ recordsText (map (lineAfter (commit (t .number) (groupAt t (sheetsOf (now (records .entry)) (now (coordinator .entry)))))) (sheet.records (now (records .entry)))) ⌝ }
+    ensures { λ u. ⌜ now (records .exit) ≡ recordsText (linesAfter (commit (t .number) (groupAt t (sheetsOf (now (records .entry)) (now (coordinator .entry))))) (sheet.records (now (records .entry)))) ⌝ }
 {
     change_group(Change::Commit, t, places, records, coordinator);
 }
@@ -116,7 +116,7 @@ pub fn prepare_group(
 )
     requires { ⌜ Ready (now records) (now coordinator) t places ⌝ }
     requires { ⌜ all (holds (sheet.records (now records))) (groupAt t (sheetsOf (now records) (now coordinator))) ≡ true ⌝ }
-    ensures { λ u. ⌜ now (records .exit) ≡ recordsText (map (lineAfter (prepare (t .number) clock (groupAt t (sheetsOf (now (records .entry)) (now (coordinator .entry)))))) (sheet.records (now (records .entry)))) ⌝ }
+    ensures { λ u. ⌜ now (records .exit) ≡ recordsText (linesAfter (prepare (t .number) clock (groupAt t (sheetsOf (now (records .entry)) (now (coordinator .entry))))) (sheet.records (now (records .entry)))) ⌝ }
 {
     change_group(Change::Prepare(clock), t, places, records, coordinator);
 }
@@ -124,7 +124,7 @@ pub fn prepare_group(
 // The lines of the group that the transaction has prepared rolled forward.
 pub fn forward_group(t: Transaction, places: [usize; 8], records: &mut [u8], coordinator: &[u8])
     requires { ⌜ Ready (now records) (now coordinator) t places ⌝ }
-    ensures { λ u. ⌜ now (records .exit) ≡ recordsText (map (lineAfter (forward (t .number) (keysOf (groupAt t (sheetsOf (now (records .entry)) (now (coordinator .entry))))))) (sheet.records (now (records .entry)))) ⌝ }
+    ensures { λ u. ⌜ now (records .exit) ≡ recordsText (linesAfter (forward (t .number) (keysOf (groupAt t (sheetsOf (now (records .entry)) (now (coordinator .entry)))))) (sheet.records (now (records .entry)))) ⌝ }
 {
     change_group(Change::Forward, t, places, records, coordinator);
 }
@@ -132,7 +132,7 @@ pub fn forward_group(t: Transaction, places: [usize; 8], records: &mut [u8], coo
 // The lines of the group that the transaction has prepared rolled back.
 pub fn back_group(t: Transaction, places: [usize; 8], records: &mut [u8], coordinator: &[u8])
     requires { ⌜ Ready (now records) (now coordinator) t places ⌝ }
-    ensures { λ u. ⌜ now (records .exit) ≡ recordsText (map (lineAfter (back (t .number) (keysOf (groupAt t (sheetsOf (now (records .entry)) (now (coordinator .entry))))))) (sheet.records (now (records .entry)))) ⌝ }
+    ensures { λ u. ⌜ now (records .exit) ≡ recordsText (linesAfter (back (t .number) (keysOf (groupAt t (sheetsOf (now (records .entry)) (now (coordinator .entry)))))) (sheet.records (now (records .entry)))) ⌝ }
 {
     change_group(Change::Back, t, places, records, coordinator);
 }

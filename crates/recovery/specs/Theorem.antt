@@ -8,12 +8,12 @@ use Rattle.lists.specs.All.{map-map}
 use Rattle.types.specs.declared.Key.{Key}
 use Rattle.types.specs.declared.Record.{Record}
 use Rattle.model.specs.Images.{isPrepared}
-use Rattle.model.specs.Writes.{Sheets, sheetsGood, lineAfter, linesAfter, apply}
+use Rattle.model.specs.Writes.{Sheets, sheetsGood, apply}
 use Rattle.model.specs.Results.{Call}
 use Rattle.model.specs.Histories.{answer, written, after, eventsAfter, leftBy, Legal}
 use Rattle.model.specs.SequentialModel.{Model, firstModel, modelAfter}
 use Rattle.model.specs.RecoveryPass.{Visit, visitCall, nonePrepared, Closing}
-use Rattle.call_laws.specs.Lines.{line-key, all-lines, map-lines}
+use Rattle.call_laws.specs.Lines.{keys-after, all-lines, map-lines}
 use Rattle.recovery.specs.Invariant.{Inv}
 use Rattle.recovery.specs.History.{first-inv, onesAfter, history-kept}
 use Rattle.recovery.specs.Pass.{Passed, pass-kept, closed}
@@ -23,14 +23,10 @@ use Rattle.recovery.specs.Pass.{Passed, pass-kept, closed}
 abbrev pub keysIn : List Record → List Key
 keysIn rs = map (λ (r : Record). r .key) rs
 
-keys-mapped : (f : Record → Record) → ((r : Record) → f r .key ≡ r .key) → (rs : List Record) → keysIn (map f rs) ≡ keysIn rs
-keys-mapped f h [] = refl
-keys-mapped f h (r ∷ rs) = ap (λ (k : Key). k ∷ keysIn (map f rs)) (h r) ∙ ap (λ (ks : List Key). r .key ∷ ks) (keys-mapped f h rs)
-
 pub keys-left : (cs : List Call) (s : Sheets) → keysIn (leftBy answer after cs s .lines) ≡ keysIn (s .lines)
-unfolding leftBy after apply linesAfter
+unfolding leftBy after apply
 keys-left [] s = refl
-keys-left (c ∷ cs) s = keys-left cs (after c s) ∙ keys-mapped (lineAfter (written c s)) (line-key (written c s)) (s .lines)
+keys-left (c ∷ cs) s = keys-left cs (after c s) ∙ keys-after (written c s) (s .lines)
 
 -- the model after a history
 abbrev pub modelOf : List Call → Sheets → Model

@@ -6,7 +6,6 @@ use mathlib.Core.List.{List, map}
 use native.Mathlib.Omega.{arith}
 use lib.ListN.{length, drop}
 use borrow.Author.Tests.{le-leb}
-use Rattle.lists.specs.All.{map-unmoved}
 use Rattle.lists.specs.Pieces.{over}
 use Rattle.lists.specs.Tests.{and-both}
 use Rattle.types.specs.declared.Decision.{Decision}
@@ -14,12 +13,13 @@ use Rattle.types.specs.declared.Record.{Record}
 use Rattle.types.specs.declared.Transaction.{Transaction}
 use Rattle.model.specs.Records.{records, recordsText, recordsAccepted}
 use Rattle.model.specs.Coordinator.{coordinatorOf, coordinatorText, coordinatorAccepted, withDecision}
-use Rattle.model.specs.Writes.{Sheets, Write, nothing, decide, lineAfter, decisionsAfter, apply}
+use Rattle.model.specs.Writes.{Sheets, Write, nothing, decide, lineAfter, linesAfter, decisionsAfter, apply}
 use Rattle.model.specs.Steps.{Step}
 use Rattle.model.specs.ByteCalls.{sheetsOf}
 use Rattle.sheet_laws.specs.Records.{sheet-written-read}
 use Rattle.sheet_laws.specs.Coordinator.{decisionText, coordinator-written-read, bounds}
 use Rattle.sheet_laws.specs.Decisions.{accepted-parts, length-decisions}
+use Rattle.call_laws.specs.Lines.{lines-unmoved}
 use Rattle.call_laws.specs.Places.{decision-replaced}
 use Rattle.codec.specs.Parts.{hasLine}
 use Rattle.steps.specs.Ready.{Known}
@@ -38,9 +38,9 @@ pub record ByCoordinator (f : Sheets → Step) (cs : List ℕ) (t : Transaction)
   pub beside : (rs : List ℕ) → recordsAccepted rs ≡ true → Stepped (sheetsOf rs cs) (f (sheetsOf rs cs)) t rs cs′
 
 -- a write that changes no line
-lines-stay : (w : Write) (rs : List ℕ) → ((r : Record) → lineAfter w r ≡ r) → recordsAccepted rs ≡ true → rs ≡ recordsText (map (lineAfter w) (records rs))
+lines-stay : (w : Write) (rs : List ℕ) → ((r : Record) → lineAfter w r ≡ r) → recordsAccepted rs ≡ true → rs ≡ recordsText (linesAfter w (records rs))
 lines-stay w rs h a =
-    sym (ap recordsText (map-unmoved (lineAfter w) h (records rs)) ∙ sheet-written-read rs a)
+    sym (ap recordsText (lines-unmoved w h (records rs)) ∙ sheet-written-read rs a)
 
 module _ (rs cs : List ℕ) where
   -- nothing is written
@@ -54,7 +54,7 @@ module _ (rs cs : List ℕ) where
       }
 
   -- the lines of a group, by a write that leaves the coordinator alone
-  pub wrote-lines : (w : Write) → decisionsAfter w (coordinatorOf cs) ≡ coordinatorOf cs → coordinatorAccepted cs ≡ true → (t u : Transaction) (rs′ : List ℕ) → u ≡ t → rs′ ≡ recordsText (map (lineAfter w) (records rs)) → Stepped (sheetsOf rs cs) (record { transaction = t; write = w }) u rs′ cs
+  pub wrote-lines : (w : Write) → decisionsAfter w (coordinatorOf cs) ≡ coordinatorOf cs → coordinatorAccepted cs ≡ true → (t u : Transaction) (rs′ : List ℕ) → u ≡ t → rs′ ≡ recordsText (linesAfter w (records rs)) → Stepped (sheetsOf rs cs) (record { transaction = t; write = w }) u rs′ cs
   unfolding apply
   wrote-lines w h a t u rs′ e r =
       record {

@@ -9,13 +9,13 @@ use lib.Seq.{drop-cons}
 use Rattle.types.specs.declared.Key.{Key}
 use Rattle.types.specs.declared.Record.{Record}
 use Rattle.model.specs.Records.{records, noRecord}
-use Rattle.model.specs.Writes.{Sheets, Write, lineAfter, apply}
+use Rattle.model.specs.Writes.{Sheets, apply}
 use Rattle.model.specs.Results.{visit}
 use Rattle.model.specs.Histories.{written, after}
 use Rattle.model.specs.ByteHistories.{Bytes, saying, Passing, afterOn}
 use Rattle.model.specs.Visitor.{visitedAll, keysIn, swept}
 use Rattle.sheet_laws.specs.Places.{length-records}
-use Rattle.call_laws.specs.Lines.{line-key}
+use Rattle.call_laws.specs.Lines.{keys-after}
 use Rattle.call_laws.specs.Lifting.{bytes-stay-passing}
 
 abbrev pub both : List ℕ → List ℕ → Bytes
@@ -29,10 +29,6 @@ pub record Kept (ks : List Key) (b : Bytes) : Type 0 where
   pub passing : Passing b
   pub keys : keysIn b ≡ ks
 
-keys-kept : (w : Write) (rs : List Record) → map (λ (r : Record). r .key) (map (lineAfter w) rs) ≡ map (λ (r : Record). r .key) rs
-keys-kept w [] = refl
-keys-kept w (r ∷ rs) = ap₂ _∷_ (line-key w r) (keys-kept w rs)
-
 kept-visit : (k : Key) (now : ℕ) (ks : List Key) (b : Bytes) → now < 2 ^ 32 → Kept ks b → Kept ks (afterOn (visit k now) b)
 unfolding after apply
 kept-visit k now ks b l h =
@@ -41,7 +37,7 @@ kept-visit k now ks b l h =
       passing = q .1;
       keys =
           ap (λ (s : Sheets). map (λ (r : Record). r .key) (s .lines)) (q .0)
-          ∙ (keys-kept (written (visit k now) (saying b)) (records (b .records)) ∙ h .keys);
+          ∙ (keys-after (written (visit k now) (saying b)) (records (b .records)) ∙ h .keys);
     }
 
 visited-kept : (now : ℕ) (ks ls : List Key) (b : Bytes) → now < 2 ^ 32 → Kept ls b → Kept ls (visitedAll now ks b)

@@ -9,7 +9,7 @@ use Rattle.types.specs.declared.Entry.{Entry}
 use Rattle.model.specs.Records as sheet
 use Rattle.model.specs.Records.{recordsText}
 use Rattle.model.specs.Transactions.{held}
-use Rattle.model.specs.Writes.{lineAfter}
+use Rattle.model.specs.Writes.{linesAfter}
 use Rattle.group_writes.specs.Groups.{group-in}
 use Rattle.group_writes.specs.Changes.{written}
 use Rattle.group_writes.specs.Turns.{leaves, Underway, underway-first, underway-next, underway-last, turn-fits}
@@ -60,7 +60,7 @@ same-length c = c .before .loop .inv .0
 returns : tie.Need-returns Inv-loop μ-loop
 returns c =
     underway-last _ _ _ _ _ _ _ (c .before .loop .inv .1) (c .loop-test .left)
-    ∙ ap (λ (es : List Entry). recordsText (map (lineAfter (written (c .before .before .before .before .before .args .c) (c .before .before .before .before .before .args .t .number) es)) (sheet.records (c .before .before .before .before .before .args .records .now))))
+    ∙ ap (λ (es : List Entry). recordsText (linesAfter (written (c .before .before .before .before .before .args .c) (c .before .before .before .before .before .args .t .number) es) (sheet.records (c .before .before .before .before .before .args .records .now))))
     (sym (group-in (c .before .before .before .before .before .args .records .now) (c .before .before .before .before .before .args .coordinator .now) (c .before .before .before .before .before .args .t)))
 
 pub change-group-spec : {M : Type 1} → statement M
