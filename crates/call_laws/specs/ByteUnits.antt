@@ -13,6 +13,7 @@ use Rattle.lists.specs.Tests.{tests}
 use Rattle.types.specs.declared.Record.{Record}
 use Rattle.types.specs.declared.Transaction.{Transaction}
 use Rattle.types.specs.declared.Found.the-variants.{At}
+use Rattle.model.specs.Layouts.{recordBytes}
 use Rattle.model.specs.Records.{records, recordsText, recordIn, recordText, recordsGood, recordsAccepted, noRecord}
 use Rattle.model.specs.Coordinator.{coordinatorText}
 use Rattle.model.specs.SheetCalls.{lineAt}
@@ -35,15 +36,15 @@ use Rattle.call_laws.specs.SingleUnit.{Single, single-unit, nothing-unit
 use Rattle.call_laws.specs.SingleUnit as Units
 
 -- a line of a sheet that passes is the text of its record
-line-text : (s : List ℕ) (i : ℕ) → recordsAccepted s ≡ true → i < length s / 98 → lineAt s (At i) ≡ recordText (getD (records s) i noRecord)
+line-text : (s : List ℕ) (i : ℕ) → recordsAccepted s ≡ true → i < length s / recordBytes → lineAt s (At i) ≡ recordText (getD (records s) i noRecord)
 unfolding lineAt
-line-text s i a l = sym (ap recordText (record-at s i l) ∙ record-written-read (take 98 (drop (i * 98) s)) (line-set s i a l))
+line-text s i a l = sym (ap recordText (record-at s i l) ∙ record-written-read (take recordBytes (drop (i * recordBytes) s)) (line-set s i a l))
 
-no-line : (s : List ℕ) (i : ℕ) → recordsAccepted s ≡ true → length s / 98 ≤ i → lineAt s (At i) ≡ []
+no-line : (s : List ℕ) (i : ℕ) → recordsAccepted s ≡ true → length s / recordBytes ≤ i → lineAt s (At i) ≡ []
 unfolding lineAt
 no-line s i a l =
-    let m : length s ≤ i * 98 = omega (arith, whole-lines s a) in
-    ap (take 98) (drop-of-length-le s m)
+    let m : length s ≤ i * recordBytes = omega (arith, whole-lines s a) in
+    ap (take recordBytes) (drop-of-length-le s m)
 
 module _ (b : Bytes) (passing : Passing b) (w : Write) (good : sheetsGood (apply w (saying b)) ≡ true) where
   abbrev lines : List Record
@@ -61,25 +62,25 @@ module _ (b : Bytes) (passing : Passing b) (w : Write) (good : sheetsGood (apply
       let g : recordsGood (linesAfter w lines) ≡ true = search (tests, good) in
       records-read-written (linesAfter w lines) g
 
-  same-count : length sheet / 98 ≡ length (b .records) / 98
+  same-count : length sheet / recordBytes ≡ length (b .records) / recordBytes
   same-count =
       sym (length-records sheet)
       ∙ (ap length (read-back .0 ∙ lines-mapped w lines) ∙ (length-map lines (lineAfter w) ∙ length-records (b .records)))
 
   same-length : length sheet ≡ length (b .records)
-  same-length = whole-lines sheet (read-back .1) ∙ (ap (λ (n : ℕ). n * 98) same-count ∙ sym (whole-lines (b .records) accepted))
+  same-length = whole-lines sheet (read-back .1) ∙ (ap (λ (n : ℕ). n * recordBytes) same-count ∙ sym (whole-lines (b .records) accepted))
 
   -- a line whose record stays has the same bytes
   line-stays : (i : ℕ) → lineAfter w (recordIn (lineAt (b .records) (At i))) ≡ recordIn (lineAt (b .records) (At i)) → lineAt sheet (At i) ≡ lineAt (b .records) (At i)
   unfolding lineAt
-  line-stays i stays = go (ltb i (length (b .records) / 98)) refl
+  line-stays i stays = go (ltb i (length (b .records) / recordBytes)) refl
     where
-      go : (x : Bool) → ltb i (length (b .records) / 98) ≡ x → lineAt sheet (At i) ≡ lineAt (b .records) (At i)
+      go : (x : Bool) → ltb i (length (b .records) / recordBytes) ≡ x → lineAt sheet (At i) ≡ lineAt (b .records) (At i)
       go true e =
-          let l : i < length (b .records) / 98 = ltb-true i (length (b .records) / 98) e in
-          let n : i < length sheet / 98 = omega (arith, same-count) in
+          let l : i < length (b .records) / recordBytes = ltb-true i (length (b .records) / recordBytes) e in
+          let n : i < length sheet / recordBytes = omega (arith, same-count) in
           let m : i < length (map (lineAfter w) lines) = omega (arith, length-map lines (lineAfter w), length-records (b .records)) in
-          let r : getD lines i noRecord ≡ recordIn (take 98 (drop (i * 98) (b .records))) = record-at (b .records) i l in
+          let r : getD lines i noRecord ≡ recordIn (take recordBytes (drop (i * recordBytes) (b .records))) = record-at (b .records) i l in
           line-text sheet i (read-back .1) n
           ∙ (ap (λ (rs : List Record). recordText (getD rs i noRecord)) (read-back .0 ∙ lines-mapped w lines)
           ∙ (ap recordText
@@ -87,8 +88,8 @@ module _ (b : Bytes) (passing : Passing b) (w : Write) (good : sheetsGood (apply
           ∙ (List·getD-map (lineAfter w) lines i noRecord ∙ (ap (lineAfter w) r ∙ (stays ∙ sym r))))
           ∙ sym (line-text (b .records) i accepted l)))
       go false e =
-          let l : length (b .records) / 98 ≤ i = ltb-false i (length (b .records) / 98) e in
-          let n : length sheet / 98 ≤ i = omega (arith, same-count) in
+          let l : length (b .records) / recordBytes ≤ i = ltb-false i (length (b .records) / recordBytes) e in
+          let n : length sheet / recordBytes ≤ i = omega (arith, same-count) in
           no-line sheet i (read-back .1) n ∙ sym (no-line (b .records) i accepted l)
 
   pub write-unit : Single (saying b) w → OneUnit b (encoded (apply w (saying b)))

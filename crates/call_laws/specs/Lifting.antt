@@ -10,7 +10,7 @@ use Rattle.lists.specs.Each.{all}
 use Rattle.lists.specs.Tests.{and-fst, and-snd, and-both}
 use Rattle.model.specs.Records.{records, recordsText, recordsGood, recordsAccepted}
 use Rattle.model.specs.Lines.{linesSet}
-use Rattle.model.specs.Layouts.{recordLayout}
+use Rattle.model.specs.Layouts.{recordLayout, recordBytes}
 use Rattle.model.specs.Coordinator.{coordinatorText, coordinatorGood, coordinatorAccepted, namesIssued}
 use Rattle.model.specs.Refusals.{refusalOf}
 use Rattle.model.specs.SheetCalls.{allIssued, checkConditions}
@@ -43,7 +43,7 @@ unfolding sheetsGood recordsAccepted allIssued
 passing-good b h =
     let p = passing-parts b h in
     and-both
-    (and-both (and-snd (linesSet recordLayout 98 (b .records)) (recordsGood (records (b .records))) (p .0)) (accepted-parts (b .coordinator) (p .1 .0) .good))
+    (and-both (and-snd (linesSet recordLayout recordBytes (b .records)) (recordsGood (records (b .records))) (p .0)) (accepted-parts (b .coordinator) (p .1 .0) .good))
     (p .1 .1)
 
 -- the bytes for two sheets

@@ -15,6 +15,7 @@ use Rattle.types.specs.declared.Decision.{Decision}
 use Rattle.types.specs.declared.Key.{Key}
 use Rattle.types.specs.declared.Record.{Record}
 use Rattle.types.specs.declared.Found.the-variants.{At}
+use Rattle.model.specs.Layouts.{recordBytes}
 use Rattle.model.specs.Records.{
   noRecord,
   recordText,
@@ -119,11 +120,11 @@ set-at-key k f (r ∷ rs) (suc i) h l m =
 -- The bytes.
 
 -- the line at a place replaced
-pub line-replaced : (s : List ℕ) (i : ℕ) (r : Record) → recordsAccepted s ≡ true → i < length (records s) → goodAlone r ≡ true → r .key ≡ getD (records s) i noRecord .key → (over s (i * 98) (recordText r) ≡ recordsText (set (records s) i r)) × (recordsAccepted (over s (i * 98) (recordText r)) ≡ true)
+pub line-replaced : (s : List ℕ) (i : ℕ) (r : Record) → recordsAccepted s ≡ true → i < length (records s) → goodAlone r ≡ true → r .key ≡ getD (records s) i noRecord .key → (over s (i * recordBytes) (recordText r) ≡ recordsText (set (records s) i r)) × (recordsAccepted (over s (i * recordBytes) (recordText r)) ≡ true)
 line-replaced s i r a l g e =
-    let n : i < length s / 98 = omega (arith, length-records s) in
-    let b : recordsAccepted (over s (i * 98) (recordText r)) ≡ true = accepted-over s i r noRecord a n g e in (
-      sym (sheet-written-read (over s (i * 98) (recordText r)) b)
+    let n : i < length s / recordBytes = omega (arith, length-records s) in
+    let b : recordsAccepted (over s (i * recordBytes) (recordText r)) ≡ true = accepted-over s i r noRecord a n g e in (
+      sym (sheet-written-read (over s (i * recordBytes) (recordText r)) b)
           ∙ ap recordsText (records-over s i r n (good-ranged r g) (whole-lines s a)),
       b,
     )

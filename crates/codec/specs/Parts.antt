@@ -15,7 +15,7 @@ use Rattle.lists.specs.Tests.{and-snd, tests}
 use Rattle.decimal.specs.Field.{number, figure, fieldText}
 use Rattle.decimal.specs.Laws.{length-fieldText}
 use Rattle.decimal.specs.Word.{putWord, put-fits}
-use Rattle.model.specs.Layouts.{recordLayout, lineLayout}
+use Rattle.model.specs.Layouts.{recordLayout, lineLayout, recordBytes}
 use Rattle.model.specs.Lines.{rowOf}
 use Rattle.model.specs.Records.{stateOf, recordOf, recordIn, records, noRecord}
 use Rattle.model.specs.Coordinator.{decisionOf, decisionIn, decision, coordinatorOf}
@@ -30,10 +30,10 @@ state-else (suc zero) z o = absurd (o refl)
 state-else (suc (suc n)) z o = refl
 
 -- the row read from the part of place i is that of the record there
-pub record-part : (s row : List ℕ) (i : ℕ) → i < length s / 98 → row ≡ rowOf recordLayout (take (i * 98 + 98 - i * 98) (drop (i * 98) s)) → recordOf row ≡ getD (records s) i noRecord
+pub record-part : (s row : List ℕ) (i : ℕ) → i < length s / recordBytes → row ≡ rowOf recordLayout (take (i * recordBytes + recordBytes - i * recordBytes) (drop (i * recordBytes) s)) → recordOf row ≡ getD (records s) i noRecord
 unfolding recordIn
 record-part s row i l e =
-    let w : i * 98 + 98 - i * 98 ≡ 98 = omega arith in
+    let w : i * recordBytes + recordBytes - i * recordBytes ≡ recordBytes = omega arith in
     ap recordOf (rw w at e) ∙ sym (record-at s i l)
 
 -- a part from a on, where there is room for it

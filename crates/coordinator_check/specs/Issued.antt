@@ -20,7 +20,7 @@ use Rattle.decimal.specs.Field.{figure}
 use Rattle.decimal.specs.Laws.{figure-scan}
 use Rattle.decimal.specs.Order.{order-bytes}
 use Rattle.places.specs.Order.{numberOf, bytesAt, less-is, part-bytes}
-use Rattle.model.specs.Layouts.{recordLayout}
+use Rattle.model.specs.Layouts.{recordLayout, recordBytes}
 use Rattle.model.specs.Lines.{fieldValue, lineSet, linesOf, linesSet}
 use Rattle.model.specs.Records.{noRecord, recordOf, imageFrom, recordIn, records, recordsAccepted}
 use Rattle.model.specs.Coordinator.{coordinatorOf, coordinatorAccepted, namesIssued}
@@ -57,14 +57,14 @@ figures-order s t a b p q f g n =
 
 -- How far the records have been looked at: those before i are good.
 pub record NamedTo (rs cs : List ℕ) (i : ℕ) : Type 0 where
-  pub place : i ≤ length rs / 98
+  pub place : i ≤ length rs / recordBytes
   pub left : all (namesIssued (coordinatorOf cs .issued)) (drop i (records rs)) ≡ allIssued rs cs
 
 pub named-first : (rs cs : List ℕ) → NamedTo rs cs 0
 unfolding allIssued
 named-first rs cs = record { place = omega arith; left = refl }
 
-pub named-last : (rs cs : List ℕ) (i : ℕ) → length rs / 98 ≤ i → NamedTo rs cs i → true ≡ allIssued rs cs
+pub named-last : (rs cs : List ℕ) (i : ℕ) → length rs / recordBytes ≤ i → NamedTo rs cs i → true ≡ allIssued rs cs
 unfolding all
 named-last rs cs i l t =
     let n : length (records rs) ≤ i = omega (arith, length-records rs) in
@@ -74,36 +74,36 @@ named-last rs cs i l t =
 module _ (rs cs : List ℕ) (good-rs : recordsAccepted rs ≡ true) (good-cs : coordinatorAccepted cs ≡ true) (bytes-rs : Bytes rs) (bytes-cs : Bytes cs) where
   -- the number of the four bytes at o of record i is at most that of the count
   abbrev named : (i o : ℕ) → Bool
-  named i o = leb (numberOf (bytesAt rs 4 (i * 98 + o))) (numberOf (bytesAt cs 4 0))
+  named i o = leb (numberOf (bytesAt rs 4 (i * recordBytes + o))) (numberOf (bytesAt cs 4 0))
 
-  line-at : (i : ℕ) → i < length rs / 98 → lineSet recordLayout (take 98 (drop (i * 98) rs)) ≡ true
+  line-at : (i : ℕ) → i < length rs / recordBytes → lineSet recordLayout (take recordBytes (drop (i * recordBytes) rs)) ≡ true
   unfolding recordsAccepted linesSet linesOf
   line-at i l =
       let h = good-rs in
-      let each : all (lineSet recordLayout) (pieces 98 (length rs / 98) rs) ≡ true = search tests in
-      rw (getD-pieces 98 i (length rs / 98) rs l) at
-      (all-at (lineSet recordLayout) (pieces 98 (length rs / 98) rs) [] i each (omega (arith, length-pieces 98 (length rs / 98) rs)))
+      let each : all (lineSet recordLayout) (pieces recordBytes (length rs / recordBytes) rs) ≡ true = search tests in
+      rw (getD-pieces recordBytes i (length rs / recordBytes) rs l) at
+      (all-at (lineSet recordLayout) (pieces recordBytes (length rs / recordBytes) rs) [] i each (omega (arith, length-pieces recordBytes (length rs / recordBytes) rs)))
 
   -- the test of a figure in record i
-  named-is : (i o v : ℕ) → i < length rs / 98 → o + 4 ≤ 98 → figure 0 999 (take 4 (drop o (take 98 (drop (i * 98) rs)))) ≡ Number v
+  named-is : (i o v : ℕ) → i < length rs / recordBytes → o + 4 ≤ recordBytes → figure 0 999 (take 4 (drop o (take recordBytes (drop (i * recordBytes) rs)))) ≡ Number v
       → named i o ≡ leb v (coordinatorOf cs .issued)
   named-is i o v l m e =
-      let w : take 4 (drop o (take 98 (drop (i * 98) rs))) ≡ bytesAt rs 4 (i * 98 + o) =
-      take-drop-take 4 o 98 (drop (i * 98) rs) m ∙ ap (take 4) (drop-drop o (i * 98) rs) in
+      let w : take 4 (drop o (take recordBytes (drop (i * recordBytes) rs))) ≡ bytesAt rs 4 (i * recordBytes + o) =
+      take-drop-take 4 o recordBytes (drop (i * recordBytes) rs) m ∙ ap (take 4) (drop-drop o (i * recordBytes) rs) in
       let long : 15 ≤ length cs = accepted-length cs good-cs in
-      figures-order (bytesAt rs 4 (i * 98 + o)) (bytesAt cs 4 0) v (coordinatorOf cs .issued) (rw w at e) (accepted-head cs good-cs .0)
-      (part-bytes rs 4 (i * 98 + o) bytes-rs) (part-bytes cs 4 0 bytes-cs) (simp (length-take, length-drop) (omega arith))
+      figures-order (bytesAt rs 4 (i * recordBytes + o)) (bytesAt cs 4 0) v (coordinatorOf cs .issued) (rw w at e) (accepted-head cs good-cs .0)
+      (part-bytes rs 4 (i * recordBytes + o) bytes-rs) (part-bytes cs 4 0 bytes-cs) (simp (length-take, length-drop) (omega arith))
 
-  record-is : (i : ℕ) → i < length rs / 98 → namesIssued (coordinatorOf cs .issued) (getD (records rs) i noRecord) ≡ (named i 36 && named i 64)
+  record-is : (i : ℕ) → i < length rs / recordBytes → namesIssued (coordinatorOf cs .issued) (getD (records rs) i noRecord) ≡ (named i 36 && named i 64)
   unfolding namesIssued
   record-is i l =
-      let line = take 98 (drop (i * 98) rs) in
+      let line = take recordBytes (drop (i * recordBytes) rs) in
       ap (namesIssued (coordinatorOf cs .issued)) (record-at rs i l)
       ∙ ap₂ _&&_ (sym (named-is i 36 (recordIn line .image .txid) l (omega arith) (txid-at line (line-at i l))))
       (sym (named-is i 64 (recordIn line .before .txid) l (omega arith) (before-txid-at line (line-at i l))))
 
   -- record i and those after it
-  pub named-turn : (i : ℕ) → i < length rs / 98 → NamedTo rs cs i
+  pub named-turn : (i : ℕ) → i < length rs / recordBytes → NamedTo rs cs i
       → ((named i 36 && named i 64) && all (namesIssued (coordinatorOf cs .issued)) (drop (i + 1) (records rs))) ≡ allIssued rs cs
   unfolding all
   named-turn i l t =

@@ -17,6 +17,7 @@ use Rattle.types.specs.declared.Record.{Record}
 use Rattle.types.specs.declared.Found.the-variants.{At}
 use Rattle.types.specs.declared.Recovery.{Recovery}
 use Rattle.types.specs.declared.Recovery.the-variants.{Stays, Forward, Back, Again, Busy}
+use Rattle.model.specs.Layouts.{recordBytes}
 use Rattle.model.specs.Records.{noRecord, records, recordText, recordsText, goodAlone, sameKey, found, lineOf, preparedRule}
 use Rattle.model.specs.Coordinator.{Coordinator, coordinatorOf, coordinatorText, namesIssued}
 use Rattle.model.specs.Images.{isPrepared, preparedBy, rolledForward, rolledBack, byRecovery}
@@ -101,15 +102,15 @@ module _ (rs cs : List ℕ) (i : ℕ) (s : Standing rs cs i) where
       (line-good (sheetsOf rs cs) (s .accepted .good) (here .key) (has-line (here .key) (records rs) ∙ s .place .listed))
 
   -- the line of one key replaced
-  line-set : (w : Write) (r : Record) → Alone w (here .key) → lineAfter w here ≡ r → GoodParts (coordinatorOf cs .issued) r → cond (ltb i (length rs / 98)) (over rs (i * 98) (recordText r)) rs ≡ recordsText (apply w (sheetsOf rs cs) .lines)
+  line-set : (w : Write) (r : Record) → Alone w (here .key) → lineAfter w here ≡ r → GoodParts (coordinatorOf cs .issued) r → cond (ltb i (length rs / recordBytes)) (over rs (i * recordBytes) (recordText r)) rs ≡ recordsText (apply w (sheetsOf rs cs) .lines)
   unfolding apply
   line-set w r h e g =
       let l : i < length (records rs) = s .place .within in
-      let m : ltb i (length rs / 98) ≡ true = lt-ltb i (length rs / 98) (omega (arith, length-records rs)) in
+      let m : ltb i (length rs / recordBytes) ≡ true = lt-ltb i (length rs / recordBytes) (omega (arith, length-records rs)) in
       let q : goodAlone r ≡ true = and-fst (goodAlone r) (namesIssued (coordinatorOf cs .issued) r) (parts-fine (coordinatorOf cs .issued) r g) in
       let k : r .key ≡ here .key = ap (λ (x : Record). x .key) (sym e) ∙ line-key w here in
       let f : r ≡ lineAfter w (lineOf (here .key) (records rs)) = sym e ∙ ap (lineAfter w) (s .place .line) in
-      ap (λ (b : Bool). cond b (over rs (i * 98) (recordText r)) rs) m
+      ap (λ (b : Bool). cond b (over rs (i * recordBytes) (recordText r)) rs) m
       ∙ (line-replaced rs i r (s .accepted .lines) l q k .0
       ∙ (ap (λ (x : Record). recordsText (set (records rs) i x)) f
       ∙ ap recordsText
@@ -117,7 +118,7 @@ module _ (rs cs : List ℕ) (i : ℕ) (s : Standing rs cs i) where
       ∙ (map-alone w (here .key) h (records rs) ∙ sym (lines-mapped w (records rs))))))
 
   -- the line rolled, by a write that rolls it alone
-  settle-rolled : (w : Write) (roll : Record → Record) {rs′ : List ℕ} → ((r : Record) → lineAfter w r ≡ cond (isOf (here .image .txid) (here .key ∷ []) r) (roll r) r) → ((c : Coordinator) → decisionsAfter w c ≡ c) → GoodParts (coordinatorOf cs .issued) (roll here) → isPrepared here ≡ true → rs′ ≡ cond (ltb i (length rs / 98)) (over rs (i * 98) (recordText (roll here))) rs → Written w rs cs rs′ cs
+  settle-rolled : (w : Write) (roll : Record → Record) {rs′ : List ℕ} → ((r : Record) → lineAfter w r ≡ cond (isOf (here .image .txid) (here .key ∷ []) r) (roll r) r) → ((c : Coordinator) → decisionsAfter w c ≡ c) → GoodParts (coordinatorOf cs .issued) (roll here) → isPrepared here ≡ true → rs′ ≡ cond (ltb i (length rs / recordBytes)) (over rs (i * recordBytes) (recordText (roll here))) rs → Written w rs cs rs′ cs
   settle-rolled w roll rolls still g p e =
       record {
         lines =
@@ -129,12 +130,12 @@ module _ (rs cs : List ℕ) (i : ℕ) (s : Standing rs cs i) where
         decisions = decisions-kept rs cs (s .accepted) w still;
       }
 
-  pub settle-forward : {rs′ : List ℕ} → isPrepared here ≡ true → rs′ ≡ cond (ltb i (length rs / 98)) (over rs (i * 98) (recordText (rolledForward here))) rs → Written (forward (here .image .txid) (here .key ∷ [])) rs cs rs′ cs
+  pub settle-forward : {rs′ : List ℕ} → isPrepared here ≡ true → rs′ ≡ cond (ltb i (length rs / recordBytes)) (over rs (i * recordBytes) (recordText (rolledForward here))) rs → Written (forward (here .image .txid) (here .key ∷ [])) rs cs rs′ cs
   unfolding lineAfter decisionsAfter
   settle-forward p =
       settle-rolled (forward (here .image .txid) (here .key ∷ [])) rolledForward (λ r. refl) (λ c. refl) (forward-fine (coordinatorOf cs .issued) here line-parts p) p
 
-  pub settle-back : {rs′ : List ℕ} → isPrepared here ≡ true → rs′ ≡ cond (ltb i (length rs / 98)) (over rs (i * 98) (recordText (rolledBack here))) rs → Written (back (here .image .txid) (here .key ∷ [])) rs cs rs′ cs
+  pub settle-back : {rs′ : List ℕ} → isPrepared here ≡ true → rs′ ≡ cond (ltb i (length rs / recordBytes)) (over rs (i * recordBytes) (recordText (rolledBack here))) rs → Written (back (here .image .txid) (here .key ∷ [])) rs cs rs′ cs
   unfolding lineAfter decisionsAfter
   settle-back p =
       settle-rolled (back (here .image .txid) (here .key ∷ [])) rolledBack (λ r. refl) (λ c. refl) (back-fine (coordinatorOf cs .issued) here line-parts p) p

@@ -18,7 +18,7 @@ use Rattle.types.specs.declared.Entry.{Entry}
 use Rattle.types.specs.declared.Found.the-variants.{At}
 use Rattle.types.specs.declared.Key.{Key}
 use Rattle.types.specs.declared.Record.{Record}
-use Rattle.model.specs.Layouts.{recordLayout, imageLayout}
+use Rattle.model.specs.Layouts.{recordLayout, imageLayout, recordBytes}
 use Rattle.model.specs.Lines.{rowGood, inRange}
 use Rattle.model.specs.Records.{
   noRecord,
@@ -197,14 +197,14 @@ module _ (c : Change) (n : ℕ) (e : Entry) (i : ℕ) (rs : List ℕ) (due : Due
   pub due-at : goodAlone (changed c n e (getD (records rs) i noRecord)) ≡ true
   due-at = ap (λ (r : Record). goodAlone (changed c n e r)) (found-at (e .key) (records rs) i (due .there) .line) ∙ due .fit
 
-  pub wrote-line : (r : Record) (rs′ : List ℕ) → r ≡ changed c n e (getD (records rs) i noRecord) → rs′ ≡ cond (ltb i (length rs / 98)) (over rs (i * 98) (recordText r)) rs → Wrote c n e rs rs′
+  pub wrote-line : (r : Record) (rs′ : List ℕ) → r ≡ changed c n e (getD (records rs) i noRecord) → rs′ ≡ cond (ltb i (length rs / recordBytes)) (over rs (i * recordBytes) (recordText r)) rs → Wrote c n e rs rs′
   wrote-line r rs′ q w =
       let x : FoundAt (e .key) (records rs) i = found-at (e .key) (records rs) i (due .there) in
       let l : i < length (records rs) = x .within in
-      let m : i < length rs / 98 = omega (arith, length-records rs) in
+      let m : i < length rs / recordBytes = omega (arith, length-records rs) in
       let g : goodAlone r ≡ true = ap goodAlone q ∙ due-at in
       let k : r .key ≡ getD (records rs) i noRecord .key = ap (λ (y : Record). y .key) q ∙ changed-key c n e (getD (records rs) i noRecord) in
-      let o : rs′ ≡ over rs (i * 98) (recordText r) = w ∙ ap (λ (b : Bool). cond b (over rs (i * 98) (recordText r)) rs) (lt-ltb i (length rs / 98) m) in
+      let o : rs′ ≡ over rs (i * recordBytes) (recordText r) = w ∙ ap (λ (b : Bool). cond b (over rs (i * recordBytes) (recordText r)) rs) (lt-ltb i (length rs / recordBytes) m) in
       let p : r ≡ changed c n e (lineOf (e .key) (records rs)) = q ∙ ap (changed c n e) (x .line) in
       record {
         accepted = ap recordsAccepted o ∙ line-replaced rs i r (due .accepted) l g k .1;

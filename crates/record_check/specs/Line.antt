@@ -17,7 +17,7 @@ use Rattle.lists.specs.Pieces.{take-drop-take}
 use Rattle.decimal.specs.Field.{ahead, fieldText}
 use Rattle.decimal.specs.Laws.{scan-written}
 use Rattle.types.specs.declared.Kind.the-variants.{StateWord}
-use Rattle.model.specs.Layouts.{recordLayout, words, wordAt, noColumn}
+use Rattle.model.specs.Layouts.{recordLayout, words, wordAt, noColumn, recordBytes}
 use Rattle.model.specs.Lines.{fieldValue, fieldBytes, wordFrom, inRange, rowOf, lineSet, rowGood}
 use Rattle.model.specs.Records.{recordOf, goodAlone, recordIn}
 use Rattle.sheet_laws.specs.Fields.{columnOk, allBelow, wordOk, isThe, field-written-read}
@@ -56,7 +56,7 @@ abbrev pub wordHeld : List ℕ → Bool
 wordHeld line = eqList (take 10 (drop 20 line)) (kindWord (kindOf line))
 
 -- the two columns as one number
-pub nothing-is : (line : List ℕ) → ((i : ℕ) → getD line i 0 < 256) → length line ≡ 98
+pub nothing-is : (line : List ℕ) → ((i : ℕ) → getD line i 0 < 256) → length line ≡ recordBytes
     → eqb (loaded (take 2 (drop 62 line))) 12320 ≡ overNothing line
 unfolding nothing bytes loaded
 nothing-is line h n =
@@ -92,7 +92,7 @@ module _ (line : List ℕ) (of-bytes : (i : ℕ) → getD line i 0 < 256) where
   state-word : lineSet widest line ≡ true → (take 10 (drop 20 line) ≡ wordAt StateWord (getD row 5 0)) × (getD row 5 0 ≤ 2)
   unfolding row fieldAt offset fieldBytes inRange opened recordLayout lineBytes columnOk words allBelow wordOk isThe fieldValue wordFrom bytes eqList
   state-word h =
-      let whole : length line ≡ 98 = line-length widest line h in
+      let whole : length line ≡ recordBytes = line-length widest line h in
       let long : length (take 10 (drop 20 line)) ≡ 10 = simp (length-take, length-drop) (omega arith) in
       let r = field-written-read (getD widest 5 noColumn) (take 10 (drop 20 line)) (getD row 5 0) refl long (field-at 5 widest line (omega arith) h) in
       let few : getD row 5 0 ≤ 2 = search (tests, r .1) in
@@ -103,7 +103,7 @@ module _ (line : List ℕ) (of-bytes : (i : ℕ) → getD line i 0 < 256) where
   before-nothing h =
       let t = take 6 (drop 58 line) in
       let v = getD row 10 0 in
-      let whole : length line ≡ 98 = line-length widest line h in
+      let whole : length line ≡ recordBytes = line-length widest line h in
       let long : length t ≡ 6 = simp (length-take, length-drop) (omega arith) in
       let written = scan-written t v (scan-of (getD widest 10 noColumn) t v refl (field-at 10 widest line (omega arith) h)) in
       let text : t ≡ fieldText 6 v = rw long at (written .0) in

@@ -21,7 +21,7 @@ use Rattle.decimal.specs.Field.{scanned, stepped, ahead, fieldText}
 use Rattle.decimal.specs.Laws.{figure-scan, scan-written, scan-text, length-fieldText, fieldText-bytes}
 use Rattle.decimal.specs.Order.{order-bytes}
 use Rattle.types.specs.declared.Column.{Column}
-use Rattle.model.specs.Layouts.{recordLayout, noColumn}
+use Rattle.model.specs.Layouts.{recordLayout, noColumn, recordBytes}
 use Rattle.model.specs.Lines.{fieldValue, rowOf, lineSet}
 use Rattle.sheet_laws.specs.Lines.{lineBytes, line-length, offset, fieldAt, field-at, line-end}
 use Rattle.places.specs.Order.{part-bytes}
@@ -68,7 +68,7 @@ clock-fits line h =
     let clock : List ℕ = take 11 (drop 86 line) in
     let reads : scanned Blank clock ≡ Number (getD (rowOf widest line) 14 0) =
     scan-of (getD widest 14 noColumn) clock (getD (rowOf widest line) 14 0) refl (field-at 14 widest line (omega arith) h) in
-    let whole : length line ≡ 98 = line-length widest line h in
+    let whole : length line ≡ recordBytes = line-length widest line h in
     let long : length clock ≡ 11 = simp (length-take, length-drop) (omega arith) in
     let lf : drop 97 line ≡ 10 ∷ [] = line-end widest line h in
     let ends : take 12 (drop 86 line) ≡ clock ++ (10 ∷ []) = take-add 11 1 (drop 86 line) ∙ rw (drop-drop 11 86 line, lf) in
@@ -86,7 +86,7 @@ clock-low line h l =
     let clock : List ℕ = take 11 (drop 86 line) in
     let v = getD (rowOf widest line) 14 0 in
     let read = figure-scan 0 9999999999 clock v (field-at 14 widest line (omega arith) h) in
-    let whole : length line ≡ 98 = line-length widest line h in
+    let whole : length line ≡ recordBytes = line-length widest line h in
     let long : length clock ≡ 11 = simp (length-take, length-drop) (omega arith) in
     let text : clock ≡ fieldText 11 v = rw long at (scan-written clock v (read .0) .0) in
     let first : getD line 86 0 ≡ 32 =
@@ -132,7 +132,7 @@ follows-is line h g =
     let d10 : figureAt 58 6 line ≡ y = digits-at 10 widest line (omega arith) refl g in
     let p : scanned Blank s ≡ Number x = scan-of (getD widest 6 noColumn) s x refl (field-at 6 widest line (omega arith) g) in
     let q : scanned Blank t ≡ Number y = scan-of (getD widest 10 noColumn) t y refl (field-at 10 widest line (omega arith) g) in
-    let whole : length line ≡ 98 = line-length widest line g in
+    let whole : length line ≡ recordBytes = line-length widest line g in
     let end : getD t 5 0 ≡ getD line 63 0 = getD-take 6 (drop 58 line) 5 0 (omega arith) ∙ getD-drop 58 line 5 0 in
     choose-by (λ (r : Bool). r ≡ eqb x (y + 1)) (eqb (getD line 63 0) 57)
     (λ e. rw (d6, d10))

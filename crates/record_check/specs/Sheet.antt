@@ -10,7 +10,7 @@ use lib.Seq.{take-take, drop-drop}
 use lib.Dec.{eqb, leb}
 use Rattle.lists.specs.Tests.{and-fst, and-swap}
 use Rattle.lists.specs.Each.{all, pieces, less}
-use Rattle.model.specs.Layouts.{recordLayout}
+use Rattle.model.specs.Layouts.{recordLayout, recordBytes}
 use Rattle.model.specs.Lines.{lineSet, linesOf, linesSet}
 use Rattle.model.specs.Records.{goodAlone, inOrder, rising, recordsGood, recordIn, records, recordsAccepted}
 use Rattle.sheet_laws.specs.Places.{length-records}
@@ -20,22 +20,22 @@ use Rattle.record_check.specs.Line.{lineGood}
 -- the first line's key comes before that of the next, where n lines follow the first
 unfoldable pub keyBefore : ℕ → List ℕ → Bool
 keyBefore zero s = true
-keyBefore (suc n) s = less (take 20 s) (take 20 (drop 98 s))
+keyBefore (suc n) s = less (take 20 s) (take 20 (drop recordBytes s))
 
 -- n lines that are good, with keys that rise
 unfoldable pub linesPass : ℕ → List ℕ → Bool
 linesPass zero s = true
-linesPass (suc n) s = lineGood (take 98 s) && (keyBefore n s && linesPass n (drop 98 s))
+linesPass (suc n) s = lineGood (take recordBytes s) && (keyBefore n s && linesPass n (drop recordBytes s))
 
-key-before : (n : ℕ) (s : List ℕ) → lineSet recordLayout (take 98 s) ≡ true → all (lineSet recordLayout) (pieces 98 n (drop 98 s)) ≡ true
-    → keyBefore n s ≡ inOrder (recordIn (take 98 s)) (map recordIn (pieces 98 n (drop 98 s)))
+key-before : (n : ℕ) (s : List ℕ) → lineSet recordLayout (take recordBytes s) ≡ true → all (lineSet recordLayout) (pieces recordBytes n (drop recordBytes s)) ≡ true
+    → keyBefore n s ≡ inOrder (recordIn (take recordBytes s)) (map recordIn (pieces recordBytes n (drop recordBytes s)))
 unfolding all pieces keyBefore inOrder
 key-before zero s h g = refl
 key-before (suc n) s h g =
-    let a = take 98 s in
-    let b = take 98 (drop 98 s) in
-    let f = and-fst (lineSet recordLayout b) (all (lineSet recordLayout) (pieces 98 n (drop 98 (drop 98 s)))) g in
-    ap₂ less (sym (take-take 20 98 s (omega arith))) (sym (take-take 20 98 (drop 98 s) (omega arith))) ∙ key-order a b h f
+    let a = take recordBytes s in
+    let b = take recordBytes (drop recordBytes s) in
+    let f = and-fst (lineSet recordLayout b) (all (lineSet recordLayout) (pieces recordBytes n (drop recordBytes (drop recordBytes s)))) g in
+    ap₂ less (sym (take-take 20 recordBytes s (omega arith))) (sym (take-take 20 recordBytes (drop recordBytes s) (omega arith))) ∙ key-order a b h f
 
 -- the tests of a line and of the lines after it, taken together or kind by kind
 shuffled : (l g o p a b c : Bool) → (l ≡ true → a ≡ true → o ≡ p) → ((l && g) && (o && (a && (b && c)))) ≡ ((l && a) && ((g && b) && (p && c)))
@@ -50,13 +50,13 @@ shuffled true true o p true false c f = and-false o
 abbrev rules : List (List ℕ) → Bool
 rules ls = all (lineSet recordLayout) ls && (all goodAlone (map recordIn ls) && rising (map recordIn ls))
 
-lines-pass : (n : ℕ) (s : List ℕ) → linesPass n s ≡ rules (pieces 98 n s)
+lines-pass : (n : ℕ) (s : List ℕ) → linesPass n s ≡ rules (pieces recordBytes n s)
 unfolding linesPass lineGood all pieces rising
 lines-pass zero s = refl
 lines-pass (suc n) s =
-    let line = take 98 s in
-    let ls = pieces 98 n (drop 98 s) in
-    ap (λ (x : Bool). lineGood line && (keyBefore n s && x)) (lines-pass n (drop 98 s))
+    let line = take recordBytes s in
+    let ls = pieces recordBytes n (drop recordBytes s) in
+    ap (λ (x : Bool). lineGood line && (keyBefore n s && x)) (lines-pass n (drop recordBytes s))
     ∙ shuffled
     (lineSet recordLayout line)
     (goodAlone (recordIn line))
@@ -69,25 +69,25 @@ lines-pass (suc n) s =
 
 -- one turn of the code's loop: what is left from line i on
 pub pass-next : (i n : ℕ) (s : List ℕ) → i < n
-    → linesPass (n - i) (drop (i * 98) s)
-    ≡ (lineGood (take 98 (drop (i * 98) s)) && (keyBefore (n - (i + 1)) (drop (i * 98) s) && linesPass (n - (i + 1)) (drop ((i + 1) * 98) s)))
+    → linesPass (n - i) (drop (i * recordBytes) s)
+    ≡ (lineGood (take recordBytes (drop (i * recordBytes) s)) && (keyBefore (n - (i + 1)) (drop (i * recordBytes) s) && linesPass (n - (i + 1)) (drop ((i + 1) * recordBytes) s)))
 unfolding linesPass
 pass-next i n s l =
     let e : n - i ≡ suc (n - (i + 1)) = omega arith in
-    let f : (i + 1) * 98 ≡ i * 98 + 98 = omega arith in
-    rw (e, f, drop-drop 98 (i * 98) s)
+    let f : (i + 1) * recordBytes ≡ i * recordBytes + recordBytes = omega arith in
+    rw (e, f, drop-drop recordBytes (i * recordBytes) s)
 
 -- 1 to 500 whole lines
 unfoldable pub sheetSized : ℕ → ℕ → Bool
-sheetSized bytes n = eqb bytes (n * 98) && (leb 1 n && leb n 500)
+sheetSized bytes n = eqb bytes (n * recordBytes) && (leb 1 n && leb n 500)
 
 -- the record sheets that the code lets pass
-pub accepted-is : (s : List ℕ) → recordsAccepted s ≡ (sheetSized (length s) (length s / 98) && linesPass (length s / 98) s)
+pub accepted-is : (s : List ℕ) → recordsAccepted s ≡ (sheetSized (length s) (length s / recordBytes) && linesPass (length s / recordBytes) s)
 unfolding recordsAccepted linesSet linesOf records recordsGood sheetSized
 accepted-is s =
-    let n = length s / 98 in
-    let ls = pieces 98 n s in
-    let whole = eqb (length s) (n * 98) in
+    let n = length s / recordBytes in
+    let ls = pieces recordBytes n s in
+    let whole = eqb (length s) (n * recordBytes) in
     let count = leb 1 n && leb n 500 in
     let good = all goodAlone (map recordIn ls) in
     rw (length-records s, lines-pass n s)

@@ -10,7 +10,7 @@ use lib.Dec.{eqb, ltb}
 use Rattle.lists.specs.Bytes.{bytes}
 use Rattle.lists.specs.Each.{all, joined}
 use Rattle.lists.specs.Pieces.{AllOf, getD-pieces, pieces-joined, length-joined}
-use Rattle.model.specs.Layouts.{recordLayout, words}
+use Rattle.model.specs.Layouts.{recordLayout, words, recordBytes}
 use Rattle.model.specs.Lines.{fieldBytes}
 use Rattle.decimal.specs.Field.{fieldText, ahead}
 use Rattle.places.specs.Parts.{partsOk}
@@ -104,7 +104,7 @@ module _ (k : ℕ) (l : k < 4) where
   tables-room i = rw (rows-of k l .low) (room-is (lows (body k)) (framed k l .roomy) i)
 
   -- the line stands in the parts of a kind as the code judges it
-  pub tables-are : (line : List ℕ) → length line ≡ 98
+  pub tables-are : (line : List ℕ) → length line ≡ recordBytes
       → (lineOk (take 97 line) (take 97 (drop (k * 291) tables)) (take 97 (drop (k * 291 + 97) tables)) (take 97 (drop (k * 291 + 194) tables))
       && (eqb (getD line 0 0) 32 && eqb (getD line 97 0) 10))
       ≡ partsOk (kindParts k) line

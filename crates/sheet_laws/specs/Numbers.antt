@@ -12,7 +12,7 @@ use Rattle.lists.specs.Each.{all, joined, pieces}
 use Rattle.lists.specs.All.{all-map, all-and, all-weaken, all-of, pieces-whole, map-map, map-same, map-equal}
 use Rattle.lists.specs.Pieces.{length-pieces, joined-pieces, pieces-joined, length-joined}
 use Rattle.types.specs.declared.Record.{Record}
-use Rattle.model.specs.Layouts.{recordLayout}
+use Rattle.model.specs.Layouts.{recordLayout, recordBytes}
 use Rattle.model.specs.Lines.{rowOf, lineText, lineSet, linesOf, linesSet, rowGood}
 use Rattle.model.specs.Records.{
   recordOf,
@@ -96,14 +96,14 @@ numbers-written-read v h =
     ∙ joined-pieces 15 (length v / 15) v n
 
 -- the rows of an accepted sheet's lines are the numbers of its records
-pub numbers-of-lines : (s : List ℕ) → recordsAccepted s ≡ true → joined (map (rowOf recordLayout) (linesOf 98 s)) ≡ allNumbers (records s)
+pub numbers-of-lines : (s : List ℕ) → recordsAccepted s ≡ true → joined (map (rowOf recordLayout) (linesOf recordBytes s)) ≡ allNumbers (records s)
 unfolding recordsAccepted linesSet records allNumbers
 numbers-of-lines s h =
-    let w : all (lineSet recordLayout) (linesOf 98 s) ≡ true = search tests in
+    let w : all (lineSet recordLayout) (linesOf recordBytes s) ≡ true = search tests in
     ap joined
     (sym
-    (map-map recordNumbers recordIn (linesOf 98 s)
-    ∙ map-equal (lineSet recordLayout) (λ (x : List ℕ). recordNumbers (recordIn x)) (rowOf recordLayout) line-numbers (linesOf 98 s) w))
+    (map-map recordNumbers recordIn (linesOf recordBytes s)
+    ∙ map-equal (lineSet recordLayout) (λ (x : List ℕ). recordNumbers (recordIn x)) (rowOf recordLayout) line-numbers (linesOf recordBytes s) w))
 
 -- the lines of accepted rows are those of their records
 pub lines-of-numbers : (v : List ℕ) → rowsAccepted v ≡ true → joined (map (lineText recordLayout) (rows v)) ≡ recordsText (map recordOf (rows v))

@@ -16,7 +16,7 @@ use Rattle.lists.specs.All.{all-at, all-set, map-set}
 use Rattle.lists.specs.Pieces.{over, length-pieces, pieces-over, getD-pieces, length-over}
 use Rattle.types.specs.declared.Key.{Key}
 use Rattle.types.specs.declared.Record.{Record}
-use Rattle.model.specs.Layouts.{recordLayout, words}
+use Rattle.model.specs.Layouts.{recordLayout, words, recordBytes}
 use Rattle.model.specs.Lines.{fieldValue, wordFrom, rowOf, lineSet, linesOf, linesSet}
 use Rattle.model.specs.Records.{
   noRecord,
@@ -43,36 +43,36 @@ use Rattle.sheet_laws.specs.Records.{
 }
 
 -- an accepted sheet has whole lines only
-pub whole-lines : (s : List ℕ) → recordsAccepted s ≡ true → length s ≡ length s / 98 * 98
+pub whole-lines : (s : List ℕ) → recordsAccepted s ≡ true → length s ≡ length s / recordBytes * recordBytes
 unfolding recordsAccepted linesSet
 whole-lines s a = search tests
 
-pub length-records : (s : List ℕ) → length (records s) ≡ length s / 98
+pub length-records : (s : List ℕ) → length (records s) ≡ length s / recordBytes
 unfolding records linesOf
-length-records s = length-map (pieces 98 (length s / 98) s) recordIn ∙ length-pieces 98 (length s / 98) s
+length-records s = length-map (pieces recordBytes (length s / recordBytes) s) recordIn ∙ length-pieces recordBytes (length s / recordBytes) s
 
 -- no bytes say nothing
 no-record : recordIn [] ≡ noRecord
 unfolding recordIn recordOf keyOf imageFrom stateOf rowOf recordLayout fieldValue wordFrom words bytes eqList number figure scanned within
 no-record = refl
 
-pub record-past : (s : List ℕ) (i : ℕ) → length s / 98 ≤ i → getD (records s) i noRecord ≡ noRecord
+pub record-past : (s : List ℕ) (i : ℕ) → length s / recordBytes ≤ i → getD (records s) i noRecord ≡ noRecord
 record-past s i l = let n : length (records s) ≤ i = omega (arith, length-records s) in List·getD-eq-default (records s) noRecord n
 
 -- the record at a place is what the 98 bytes there say
-pub record-at : (s : List ℕ) (i : ℕ) → i < length s / 98 → getD (records s) i noRecord ≡ recordIn (take 98 (drop (i * 98) s))
+pub record-at : (s : List ℕ) (i : ℕ) → i < length s / recordBytes → getD (records s) i noRecord ≡ recordIn (take recordBytes (drop (i * recordBytes) s))
 unfolding records linesOf
 record-at s i l =
-    ap (getD (map recordIn (pieces 98 (length s / 98) s)) i) (sym no-record)
-    ∙ List·getD-map recordIn (pieces 98 (length s / 98) s) i [] ∙ ap recordIn (getD-pieces 98 i (length s / 98) s l)
+    ap (getD (map recordIn (pieces recordBytes (length s / recordBytes) s)) i) (sym no-record)
+    ∙ List·getD-map recordIn (pieces recordBytes (length s / recordBytes) s) i [] ∙ ap recordIn (getD-pieces recordBytes i (length s / recordBytes) s l)
 
 -- each line of an accepted sheet can be read
-pub line-set : (s : List ℕ) (i : ℕ) → recordsAccepted s ≡ true → i < length s / 98 → lineSet recordLayout (take 98 (drop (i * 98) s)) ≡ true
+pub line-set : (s : List ℕ) (i : ℕ) → recordsAccepted s ≡ true → i < length s / recordBytes → lineSet recordLayout (take recordBytes (drop (i * recordBytes) s)) ≡ true
 unfolding recordsAccepted linesSet linesOf
 line-set s i a l =
-    let w : all (lineSet recordLayout) (pieces 98 (length s / 98) s) ≡ true = search tests in
-    subst (λ (t : List ℕ). lineSet recordLayout t ≡ true) (getD-pieces 98 i (length s / 98) s l)
-    (all-at (lineSet recordLayout) (pieces 98 (length s / 98) s) [] i w (omega (arith, length-pieces 98 (length s / 98) s)))
+    let w : all (lineSet recordLayout) (pieces recordBytes (length s / recordBytes) s) ≡ true = search tests in
+    subst (λ (t : List ℕ). lineSet recordLayout t ≡ true) (getD-pieces recordBytes i (length s / recordBytes) s l)
+    (all-at (lineSet recordLayout) (pieces recordBytes (length s / recordBytes) s) [] i w (omega (arith, length-pieces recordBytes (length s / recordBytes) s)))
 
 -- Order goes by keys alone.
 
@@ -94,45 +94,45 @@ rising-set (x ∷ rs) zero r d l e = ap (λ (b : Bool). b && rising rs) (order-l
 rising-set (x ∷ rs) (suc i) r d l e =
     ap₂ _&&_ (order-right x r d rs i (omega arith) e) (rising-set rs i r d (omega arith) e)
 
-module _ (s : List ℕ) (i : ℕ) (r : Record) (place : i < length s / 98) (fits : ranged r ≡ true) where
+module _ (s : List ℕ) (i : ℕ) (r : Record) (place : i < length s / recordBytes) (fits : ranged r ≡ true) where
   -- the text of a record over the bytes of a place
-  over-length : length (over s (i * 98) (recordText r)) ≡ length s
+  over-length : length (over s (i * recordBytes) (recordText r)) ≡ length s
   over-length =
-      let n : length (recordText r) ≡ 98 = length-recordText r fits in
-      length-over s (recordText r) (i * 98) (omega arith)
+      let n : length (recordText r) ≡ recordBytes = length-recordText r fits in
+      length-over s (recordText r) (i * recordBytes) (omega arith)
 
   -- replacing the line is replacing the record, and nothing else
-  pub records-over : length s ≡ length s / 98 * 98 → records (over s (i * 98) (recordText r)) ≡ set (records s) i r
+  pub records-over : length s ≡ length s / recordBytes * recordBytes → records (over s (i * recordBytes) (recordText r)) ≡ set (records s) i r
   unfolding records linesOf
   records-over n =
-      let q : length (over s (i * 98) (recordText r)) / 98 ≡ length s / 98 = ap (λ (k : ℕ). k / 98) over-length in
+      let q : length (over s (i * recordBytes) (recordText r)) / recordBytes ≡ length s / recordBytes = ap (λ (k : ℕ). k / recordBytes) over-length in
       rw q
-      (ap (map recordIn) (pieces-over 98 i (length s / 98) s (recordText r) place n (length-recordText r fits))
-      ∙ map-set recordIn (pieces 98 (length s / 98) s) i (recordText r)
-      ∙ ap (set (map recordIn (pieces 98 (length s / 98) s)) i) (record-read-written r fits))
+      (ap (map recordIn) (pieces-over recordBytes i (length s / recordBytes) s (recordText r) place n (length-recordText r fits))
+      ∙ map-set recordIn (pieces recordBytes (length s / recordBytes) s) i (recordText r)
+      ∙ ap (set (map recordIn (pieces recordBytes (length s / recordBytes) s)) i) (record-read-written r fits))
 
 -- an accepted sheet stays accepted where the new record keeps the rules and the key
-pub accepted-over : (s : List ℕ) (i : ℕ) (r d : Record) → recordsAccepted s ≡ true → i < length s / 98 → goodAlone r ≡ true → r .key ≡ getD (records s) i d .key → recordsAccepted (over s (i * 98) (recordText r)) ≡ true
+pub accepted-over : (s : List ℕ) (i : ℕ) (r d : Record) → recordsAccepted s ≡ true → i < length s / recordBytes → goodAlone r ≡ true → r .key ≡ getD (records s) i d .key → recordsAccepted (over s (i * recordBytes) (recordText r)) ≡ true
 unfolding recordsAccepted linesSet recordsGood linesOf
 accepted-over s i r d a l g e =
     let f : ranged r ≡ true = good-ranged r g in
-    let n : length s ≡ length s / 98 * 98 = search tests in
-    let m : length (over s (i * 98) (recordText r)) ≡ length s = over-length s i r l f in
-    let c : records (over s (i * 98) (recordText r)) ≡ set (records s) i r = records-over s i r l f n in
+    let n : length s ≡ length s / recordBytes * recordBytes = search tests in
+    let m : length (over s (i * recordBytes) (recordText r)) ≡ length s = over-length s i r l f in
+    let c : records (over s (i * recordBytes) (recordText r)) ≡ set (records s) i r = records-over s i r l f n in
     let k : length (set (records s) i r) ≡ length (records s) = length-set (records s) i r in
     let j : i < length (records s) = omega (arith, length-records s) in
-    let p = and-fst (eqb (length s) (length s / 98 * 98) && all (lineSet recordLayout) (pieces 98 (length s / 98) s)) _ a in
-    let w : all (lineSet recordLayout) (pieces 98 (length s / 98) s) ≡ true = search (tests, p) in
-    let q = and-snd (eqb (length s) (length s / 98 * 98) && all (lineSet recordLayout) (pieces 98 (length s / 98) s)) (leb 1 (length (records s)) && leb (length (records s)) 500 && all goodAlone (records s) && rising (records s)) a in
+    let p = and-fst (eqb (length s) (length s / recordBytes * recordBytes) && all (lineSet recordLayout) (pieces recordBytes (length s / recordBytes) s)) _ a in
+    let w : all (lineSet recordLayout) (pieces recordBytes (length s / recordBytes) s) ≡ true = search (tests, p) in
+    let q = and-snd (eqb (length s) (length s / recordBytes * recordBytes) && all (lineSet recordLayout) (pieces recordBytes (length s / recordBytes) s)) (leb 1 (length (records s)) && leb (length (records s)) 500 && all goodAlone (records s) && rising (records s)) a in
     let q1 : leb 1 (length (records s)) ≡ true = search (tests, q) in
     let q2 : leb (length (records s)) 500 ≡ true = search (tests, q) in
     let q3 : all goodAlone (records s) ≡ true = search (tests, q) in
     let q4 : rising (records s) ≡ true = search (tests, q) in
     rw (c, k, m)
     (and-both
-    (and-both (eq-eqb (length s) (length s / 98 * 98) n)
-    (rw (pieces-over 98 i (length s / 98) s (recordText r) l n (length-recordText r f))
-    (all-set (lineSet recordLayout) (pieces 98 (length s / 98) s) i (recordText r) w (record-text-set r f))))
+    (and-both (eq-eqb (length s) (length s / recordBytes * recordBytes) n)
+    (rw (pieces-over recordBytes i (length s / recordBytes) s (recordText r) l n (length-recordText r f))
+    (all-set (lineSet recordLayout) (pieces recordBytes (length s / recordBytes) s) i (recordText r) w (record-text-set r f))))
     (and-both
     (and-both (and-both q1 q2) (all-set goodAlone (records s) i r q3 g))
     (rising-set (records s) i r d j e ∙ q4)))

@@ -18,7 +18,7 @@ use Rattle.types.specs.declared.State.the-variants.{Absent, Committed, Prepared
 use Rattle.types.specs.declared.Kind.the-variants.{Figure}
 use Rattle.types.specs.declared.Column.{Column}
 use Rattle.types.specs.declared.Record.{Record}
-use Rattle.model.specs.Layouts.{recordLayout, words, figures}
+use Rattle.model.specs.Layouts.{recordLayout, words, figures, recordBytes}
 use Rattle.model.specs.Lines.{fieldValue, fieldBytes, wordFrom, rowOf, lineSet, lineText, rowGood, inRange, linesOf, linesSet}
 use Rattle.model.specs.Records.{
   stateNumber,
@@ -89,7 +89,7 @@ pub record-layout-ok : layoutOk recordLayout ≡ true
 unfolding all columnOk recordLayout words allBelow wordOk isThe fieldValue fieldBytes wordFrom bytes eqList
 record-layout-ok = refl
 
-pub record-bytes : lineBytes recordLayout ≡ 98
+pub record-bytes : lineBytes recordLayout ≡ recordBytes
 unfolding lineBytes recordLayout
 record-bytes = refl
 
@@ -137,29 +137,29 @@ pub record-text-set : (r : Record) → ranged r ≡ true → lineSet recordLayou
 unfolding recordText
 record-text-set r g = line-read-written recordLayout (recordNumbers r) record-layout-ok g
 
-pub length-recordText : (r : Record) → ranged r ≡ true → length (recordText r) ≡ 98
+pub length-recordText : (r : Record) → ranged r ≡ true → length (recordText r) ≡ recordBytes
 length-recordText r g = line-length recordLayout (recordText r) (record-text-set r g) ∙ record-bytes
 
 -- T3, record sheet: an accepted sheet, read into records and written again, is the same sheet
 pub sheet-written-read : (s : List ℕ) → recordsAccepted s ≡ true → recordsText (records s) ≡ s
 unfolding recordsAccepted linesSet recordsText records linesOf
 sheet-written-read s h =
-    let n : length s ≡ length s / 98 * 98 = search tests in
-    let l : all (lineSet recordLayout) (pieces 98 (length s / 98) s) ≡ true = search tests in
+    let n : length s ≡ length s / recordBytes * recordBytes = search tests in
+    let l : all (lineSet recordLayout) (pieces recordBytes (length s / recordBytes) s) ≡ true = search tests in
     ap joined
-    (map-map recordText recordIn (pieces 98 (length s / 98) s)
+    (map-map recordText recordIn (pieces recordBytes (length s / recordBytes) s)
     ∙ map-same (lineSet recordLayout) (λ (x : List ℕ). recordText (recordIn x)) record-written-read _ l)
-    ∙ joined-pieces 98 (length s / 98) s n
+    ∙ joined-pieces recordBytes (length s / recordBytes) s n
 
 -- the lines of the text of records in range are the records' texts
-pub lines-of-text : (rs : List Record) → all ranged rs ≡ true → (linesOf 98 (recordsText rs) ≡ map recordText rs) × (length (recordsText rs) ≡ length rs * 98)
+pub lines-of-text : (rs : List Record) → all ranged rs ≡ true → (linesOf recordBytes (recordsText rs) ≡ map recordText rs) × (length (recordsText rs) ≡ length rs * recordBytes)
 unfolding linesOf recordsText
 lines-of-text rs h =
-    let w = all-of 98 ranged recordText length-recordText rs h in
+    let w = all-of recordBytes ranged recordText length-recordText rs h in
     let m : length (map recordText rs) ≡ length rs = length-map rs recordText in
-    let n : length (joined (map recordText rs)) ≡ length (map recordText rs) * 98 = length-joined 98 (map recordText rs) w in
-    let k : length (joined (map recordText rs)) / 98 ≡ length (map recordText rs) = omega arith in
-    (rw k (pieces-joined 98 (map recordText rs) w), n ∙ ap (λ (i : ℕ). i * 98) m)
+    let n : length (joined (map recordText rs)) ≡ length (map recordText rs) * recordBytes = length-joined recordBytes (map recordText rs) w in
+    let k : length (joined (map recordText rs)) / recordBytes ≡ length (map recordText rs) = omega arith in
+    (rw k (pieces-joined recordBytes (map recordText rs) w), n ∙ ap (λ (i : ℕ). i * recordBytes) m)
 
 -- T3, record sheet: rule-keeping records, written and read, are the same records, and their sheet is accepted
 pub records-read-written : (rs : List Record) → recordsGood rs ≡ true → (records (recordsText rs) ≡ rs) × (recordsAccepted (recordsText rs) ≡ true)
@@ -168,12 +168,12 @@ records-read-written rs h =
     let g : all goodAlone rs ≡ true = search tests in
     let a : all ranged rs ≡ true = all-weaken goodAlone ranged good-ranged rs g in
     let l = lines-of-text rs a in
-    let e : map recordIn (linesOf 98 (recordsText rs)) ≡ rs =
+    let e : map recordIn (linesOf recordBytes (recordsText rs)) ≡ rs =
     ap (map recordIn) (l .0)
     ∙ map-map recordIn recordText rs
     ∙ map-same ranged (λ (r : Record). recordIn (recordText r)) record-read-written rs a in
-    let n : length (recordsText rs) ≡ length rs * 98 = l .1 in
-    let s : all (lineSet recordLayout) (linesOf 98 (recordsText rs)) ≡ true =
+    let n : length (recordsText rs) ≡ length rs * recordBytes = l .1 in
+    let s : all (lineSet recordLayout) (linesOf recordBytes (recordsText rs)) ≡ true =
     rw (l .0) (rw all-map (all-weaken ranged (λ (r : Record). lineSet recordLayout (recordText r)) record-text-set rs a)) in
-    let k : length (recordsText rs) ≡ length (recordsText rs) / 98 * 98 = omega arith in
-    (e, and-both (and-both (eq-eqb (length (recordsText rs)) (length (recordsText rs) / 98 * 98) k) s) (rw e h))
+    let k : length (recordsText rs) ≡ length (recordsText rs) / recordBytes * recordBytes = omega arith in
+    (e, and-both (and-both (eq-eqb (length (recordsText rs)) (length (recordsText rs) / recordBytes * recordBytes) k) s) (rw e h))

@@ -12,6 +12,7 @@ use Rattle.lists.specs.Tests.{tests}
 use Rattle.lists.specs.Each.{all}
 use Rattle.lists.specs.All.{all-weaken}
 use Rattle.types.specs.declared.Record.{Record}
+use Rattle.model.specs.Layouts.{recordBytes}
 use Rattle.model.specs.Records.{
   recordOf,
   goodAlone,
@@ -56,13 +57,13 @@ use Rattle.sheet_laws.specs.CoordinatorNumbers.{coordinator-of-numbers, 
 
 -- What the calls leave where nothing is refused.
 
-read-accepted : (s t : List ℕ) → recordsAccepted s ≡ true → length t ≡ length s / 98 * 15 → numbersRead s t ≡ allNumbers (records s)
+read-accepted : (s t : List ℕ) → recordsAccepted s ≡ true → length t ≡ length s / recordBytes * 15 → numbersRead s t ≡ allNumbers (records s)
 unfolding numbersRead readRecordsConditions refusalOf
-read-accepted s t a n = rw (a, eq-eqb (length t) (length s / 98 * 15) n)
+read-accepted s t a n = rw (a, eq-eqb (length t) (length s / recordBytes * 15) n)
 
-write-accepted : (v t : List ℕ) → rowsAccepted v ≡ true → length t ≡ length v / 15 * 98 → recordsWritten v t ≡ recordsText (map recordOf (rows v))
+write-accepted : (v t : List ℕ) → rowsAccepted v ≡ true → length t ≡ length v / 15 * recordBytes → recordsWritten v t ≡ recordsText (map recordOf (rows v))
 unfolding recordsWritten writeRecordsConditions refusalOf
-write-accepted v t a n = rw (a, eq-eqb (length t) (length v / 15 * 98) n)
+write-accepted v t a n = rw (a, eq-eqb (length t) (length v / 15 * recordBytes) n)
 
 good-of : (s : List ℕ) → recordsAccepted s ≡ true → recordsGood (records s) ≡ true
 unfolding recordsAccepted
@@ -73,28 +74,28 @@ unfolding recordsGood
 all-ranged rs h = let g : all goodAlone rs ≡ true = search tests in all-weaken goodAlone ranged good-ranged rs g
 
 -- T3, record sheet: read into numbers and written again
-pub records-round-trip : (s t u : List ℕ) → recordsAccepted s ≡ true → length t ≡ length s / 98 * 15 → length u ≡ length s → recordsWritten (numbersRead s t) u ≡ s
+pub records-round-trip : (s t u : List ℕ) → recordsAccepted s ≡ true → length t ≡ length s / recordBytes * 15 → length u ≡ length s → recordsWritten (numbersRead s t) u ≡ s
 records-round-trip s t u a n m =
     let g = good-of s a in
     let r = numbers-read-written (records s) g in
     let l : length (allNumbers (records s)) ≡ length (records s) * 15 = rows-of-numbers (records s) (all-ranged (records s) g) .1 in
-    let c : length (records s) ≡ length s / 98 = length-records s in
-    let w : length s ≡ length s / 98 * 98 = whole-lines s a in
-    let k : length u ≡ length (allNumbers (records s)) / 15 * 98 = omega arith in
+    let c : length (records s) ≡ length s / recordBytes = length-records s in
+    let w : length s ≡ length s / recordBytes * recordBytes = whole-lines s a in
+    let k : length u ≡ length (allNumbers (records s)) / 15 * recordBytes = omega arith in
     ap (λ (v : List ℕ). recordsWritten v u) (read-accepted s t a n)
     ∙ (write-accepted (allNumbers (records s)) u (r .1) k ∙ (ap recordsText (r .0) ∙ sheet-written-read s a))
 
 -- T3, record sheet: numbers written and read
-pub numbers-round-trip : (v t u : List ℕ) → rowsAccepted v ≡ true → length t ≡ length v / 15 * 98 → length u ≡ length v → numbersRead (recordsWritten v t) u ≡ v
+pub numbers-round-trip : (v t u : List ℕ) → rowsAccepted v ≡ true → length t ≡ length v / 15 * recordBytes → length u ≡ length v → numbersRead (recordsWritten v t) u ≡ v
 unfolding rowsAccepted
 numbers-round-trip v t u a n m =
     let rs = map recordOf (rows v) in
     let g : recordsGood rs ≡ true = search tests in
     let r = records-read-written rs g in
     let c : length rs ≡ length v / 15 = length-map (rows v) recordOf ∙ length-rows v in
-    let l : length (recordsText rs) ≡ length rs * 98 = lines-of-text rs (all-ranged rs g) .1 in
+    let l : length (recordsText rs) ≡ length rs * recordBytes = lines-of-text rs (all-ranged rs g) .1 in
     let w : length v ≡ length v / 15 * 15 = search tests in
-    let k : length u ≡ length (recordsText rs) / 98 * 15 = omega arith in
+    let k : length u ≡ length (recordsText rs) / recordBytes * 15 = omega arith in
     ap (λ (x : List ℕ). numbersRead x u) (write-accepted v t a n)
     ∙ (read-accepted (recordsText rs) u (r .1) k ∙ (ap allNumbers (r .0) ∙ numbers-written-read v a))
 

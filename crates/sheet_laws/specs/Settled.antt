@@ -17,7 +17,7 @@ use Rattle.types.specs.declared.Kind.the-variants.{StateWord}
 use Rattle.types.specs.declared.Record.{Record}
 use Rattle.types.specs.declared.State.{State}
 use Rattle.types.specs.declared.State.the-variants.{Absent, Committed, Prepared}
-use Rattle.model.specs.Layouts.{recordLayout, keyLayout, imageLayout, words, wordAt, noColumn}
+use Rattle.model.specs.Layouts.{recordLayout, keyLayout, imageLayout, words, wordAt, noColumn, recordBytes}
 use Rattle.model.specs.Lines.{fieldBytes, rowOf, lineSet, lineText, linesOf, linesSet}
 use Rattle.model.specs.Records.{
   noImage,
@@ -117,7 +117,7 @@ module _ (line : List ℕ) (set : lineSet recordLayout line ≡ true) where
       fields-read imageLayout (drop 14 recordLayout) 28 (drop 58 line) image-layout-ok before-alone refl (rest-set 10 recordLayout line set (omega arith))
       ∙ ap (fieldsText imageLayout) (rest-row 10 recordLayout line (omega arith))
 
-  whole : length line ≡ 98
+  whole : length line ≡ recordBytes
   unfolding lineBytes recordLayout
   whole = line-length recordLayout line set
 
@@ -152,9 +152,9 @@ module _ (line : List ℕ) (set : lineSet recordLayout line ≡ true) where
       line-settled state (recordIn line .image) (take 28 (drop 30 line)) image-place (simp (length-take, length-drop) (omega (arith, whole)))
 
 -- the line at a place of an accepted sheet
-pub line-at-settled : (state : State) (before : Bool) (s : List ℕ) (i : ℕ) → recordsAccepted s ≡ true → i < length s / 98 → settledBytes state before (take (i * 98 + 98 - i * 98) (drop (i * 98) s)) ≡ recordText (settledAs state (imageOf before (getD (records s) i noRecord)) (getD (records s) i noRecord))
+pub line-at-settled : (state : State) (before : Bool) (s : List ℕ) (i : ℕ) → recordsAccepted s ≡ true → i < length s / recordBytes → settledBytes state before (take (i * recordBytes + recordBytes - i * recordBytes) (drop (i * recordBytes) s)) ≡ recordText (settledAs state (imageOf before (getD (records s) i noRecord)) (getD (records s) i noRecord))
 line-at-settled state before s i a l =
-    let k : i * 98 + 98 - i * 98 ≡ 98 = omega arith in
-    ap (λ (n : ℕ). settledBytes state before (take n (drop (i * 98) s))) k
-    ∙ (line-moved (take 98 (drop (i * 98) s)) (line-set s i a l) state before
+    let k : i * recordBytes + recordBytes - i * recordBytes ≡ recordBytes = omega arith in
+    ap (λ (n : ℕ). settledBytes state before (take n (drop (i * recordBytes) s))) k
+    ∙ (line-moved (take recordBytes (drop (i * recordBytes) s)) (line-set s i a l) state before
     ∙ ap (λ (r : Record). recordText (settledAs state (imageOf before r) r)) (sym (record-at s i l)))

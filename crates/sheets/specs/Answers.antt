@@ -8,6 +8,7 @@ use lib.ListN.{length, take, drop}
 use Rattle.types.specs.declared.Found.the-variants.{At, Nothing}
 use Rattle.types.specs.declared.Key.{Key}
 use Rattle.types.specs.declared.Record.{Record}
+use Rattle.model.specs.Layouts.{recordBytes}
 use Rattle.model.specs.Records.{noRecord, records, recordsAccepted, keyInRange, sameKey, found, isMissing}
 use Rattle.model.specs.Refusals.{refusalOf}
 use Rattle.model.specs.Coordinator.{coordinatorAccepted}
@@ -32,12 +33,12 @@ module _ (s : List ℕ) (k : Key) where
   unfolding lookedUp lookupConditions refusalOf isMissing
   lookup-none e g f = rw (e, g, f) (refl, refl)
 
-  pub lookup-met : (i : ℕ) → recordsAccepted s ≡ true → keyInRange k ≡ true → found k (records s) ≡ At i → LookedUp (take 98 (drop (i * 98) s)) 0
+  pub lookup-met : (i : ℕ) → recordsAccepted s ≡ true → keyInRange k ≡ true → found k (records s) ≡ At i → LookedUp (take recordBytes (drop (i * recordBytes) s)) 0
   unfolding lookedUp lookupConditions refusalOf isMissing lineAt
   lookup-met i e g f = rw (e, g, f) (refl, refl)
 
 -- a place that was found is one of the sheet's
-pub found-fits : (s : List ℕ) (k : Key) (i : ℕ) → found k (records s) ≡ At i → i * 98 + 98 ≤ length s
+pub found-fits : (s : List ℕ) (k : Key) (i : ℕ) → found k (records s) ≡ At i → i * recordBytes + recordBytes ≤ length s
 unfolding found
 found-fits s k i e =
     let x = first-at (λ (r : Record). sameKey (r .key) k) (records s) noRecord i e in

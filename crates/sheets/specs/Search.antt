@@ -16,7 +16,7 @@ use Rattle.types.specs.declared.Found.{Found}
 use Rattle.types.specs.declared.Found.the-variants.{At, Nothing}
 use Rattle.types.specs.declared.Key.{Key}
 use Rattle.types.specs.declared.Record.{Record}
-use Rattle.model.specs.Layouts.{recordLayout}
+use Rattle.model.specs.Layouts.{recordLayout, recordBytes}
 use Rattle.model.specs.Lines.{lineSet, linesOf, linesSet}
 use Rattle.model.specs.Search.{firstFrom}
 use Rattle.model.specs.Records.{
@@ -49,22 +49,22 @@ keyField f at s = take (at + edge (f + 1) - (at + edge f)) (drop (at + edge f) s
 
 -- the line at a place
 abbrev lineBytesAt : List ℕ → ℕ → List ℕ
-lineBytesAt s i = take 98 (drop (i * 98) s)
+lineBytesAt s i = take recordBytes (drop (i * recordBytes) s)
 
 -- a field of the sheet is that of its line
-field-of-line : (s : List ℕ) (i f : ℕ) → f < 5 → keyField f (i * 98) s ≡ take (edge (f + 1) - edge f) (drop (edge f) (lineBytesAt s i))
+field-of-line : (s : List ℕ) (i f : ℕ) → f < 5 → keyField f (i * recordBytes) s ≡ take (edge (f + 1) - edge f) (drop (edge f) (lineBytesAt s i))
 field-of-line s i f l =
     let e = edges f l in
-    let n : i * 98 + edge (f + 1) - (i * 98 + edge f) ≡ edge (f + 1) - edge f = omega arith in
+    let n : i * recordBytes + edge (f + 1) - (i * recordBytes + edge f) ≡ edge (f + 1) - edge f = omega arith in
     rw n
-    (ap (take (edge (f + 1) - edge f)) (sym (drop-drop (edge f) (i * 98) s))
-    ∙ sym (take-drop-take (edge (f + 1) - edge f) (edge f) 98 (drop (i * 98) s) (omega arith)))
+    (ap (take (edge (f + 1) - edge f)) (sym (drop-drop (edge f) (i * recordBytes) s))
+    ∙ sym (take-drop-take (edge (f + 1) - edge f) (edge f) recordBytes (drop (i * recordBytes) s) (omega arith)))
 
 pub field-of-text : (t : List ℕ) (f : ℕ) → keyField f 0 t ≡ take (edge (f + 1) - edge f) (drop (edge f) t)
 field-of-text t f = simp zero-add
 
 -- the parts that the code compares are those of the line and of the key's line
-parts-compared : (s text : List ℕ) (i f : ℕ) (b : Bool) → f < 5 → eqList (keyField f (i * 98) s) (keyField f 0 text) ≡ b → eqList (take (edge (f + 1) - edge f) (drop (edge f) (lineBytesAt s i))) (take (edge (f + 1) - edge f) (drop (edge f) text)) ≡ b
+parts-compared : (s text : List ℕ) (i f : ℕ) (b : Bool) → f < 5 → eqList (keyField f (i * recordBytes) s) (keyField f 0 text) ≡ b → eqList (take (edge (f + 1) - edge f) (drop (edge f) (lineBytesAt s i))) (take (edge (f + 1) - edge f) (drop (edge f) text)) ≡ b
 parts-compared s text i f b l e = sym (ap₂ eqList (field-of-line s i f l) (field-of-text text f)) ∙ e
 
 -- Two texts that agree from p up to n agree from o if the parts between do, and differ in their first n if the parts differ.
@@ -96,8 +96,8 @@ foundLine i text ls = firstFrom (λ (l : List ℕ). eqList (take 20 l) (take 20 
 
 -- How far the lines have been passed: none before i begins so.
 pub record Passed (s text : List ℕ) (i : ℕ) : Type 0 where
-  pub place : i ≤ length s / 98
-  pub rest : foundLine i text (drop i (linesOf 98 s)) ≡ foundLine 0 text (linesOf 98 s)
+  pub place : i ≤ length s / recordBytes
+  pub rest : foundLine i text (drop i (linesOf recordBytes s)) ≡ foundLine 0 text (linesOf recordBytes s)
 
 -- How far line i agrees with the key's line: from field f on.
 pub record Agreed (s text : List ℕ) (i f : ℕ) : Type 0 where
@@ -111,24 +111,24 @@ pub agree-first : (s text : List ℕ) (i : ℕ) → Agreed s text i 5
 unfolding edge
 agree-first s text i = record { place = omega arith; same = refl }
 
-pub agree-next : (s text : List ℕ) (i g f : ℕ) → g ≡ f + 1 → f < 5 → eqList (keyField f (i * 98) s) (keyField f 0 text) ≡ true → Agreed s text i g → Agreed s text i f
+pub agree-next : (s text : List ℕ) (i g f : ℕ) → g ≡ f + 1 → f < 5 → eqList (keyField f (i * recordBytes) s) (keyField f 0 text) ≡ true → Agreed s text i g → Agreed s text i f
 agree-next s text i g f n l e a =
     let k = edges f l in
     let h : take (20 - edge (f + 1)) (drop (edge (f + 1)) (lineBytesAt s i)) ≡ take (20 - edge (f + 1)) (drop (edge (f + 1)) text) = rw n at (a .same) in
     record { place = omega arith; same = agree-more (lineBytesAt s i) text (edge f) (edge (f + 1)) 20 (k .0) (k .1) h (parts-compared s text i f true l e) }
 
 -- The line at place i, by whether it begins as the text does.
-module _ (s text : List ℕ) (i : ℕ) (here : i < length s / 98) (p : Passed s text i) where
-  from-here : cond (eqList (take 20 (lineBytesAt s i)) (take 20 text)) (At i) (foundLine (i + 1) text (drop (i + 1) (linesOf 98 s))) ≡ foundLine 0 text (linesOf 98 s)
+module _ (s text : List ℕ) (i : ℕ) (here : i < length s / recordBytes) (p : Passed s text i) where
+  from-here : cond (eqList (take 20 (lineBytesAt s i)) (take 20 text)) (At i) (foundLine (i + 1) text (drop (i + 1) (linesOf recordBytes s))) ≡ foundLine 0 text (linesOf recordBytes s)
   unfolding firstFrom linesOf
   from-here =
-      let n : i < length (pieces 98 (length s / 98) s) = omega (arith, length-pieces 98 (length s / 98) s) in
-      let d : drop i (linesOf 98 s) ≡ lineBytesAt s i ∷ drop (i + 1) (linesOf 98 s) =
-      drop-cons (pieces 98 (length s / 98) s) i [] n
-      ∙ ap₂ _∷_ (getD-pieces 98 i (length s / 98) s here) (ap (λ (k : ℕ). drop k (linesOf 98 s)) (sym (add-one i))) in
+      let n : i < length (pieces recordBytes (length s / recordBytes) s) = omega (arith, length-pieces recordBytes (length s / recordBytes) s) in
+      let d : drop i (linesOf recordBytes s) ≡ lineBytesAt s i ∷ drop (i + 1) (linesOf recordBytes s) =
+      drop-cons (pieces recordBytes (length s / recordBytes) s) i [] n
+      ∙ ap₂ _∷_ (getD-pieces recordBytes i (length s / recordBytes) s here) (ap (λ (k : ℕ). drop k (linesOf recordBytes s)) (sym (add-one i))) in
       sym (rw (d, add-one)) ∙ p .rest
 
-  pub pass-met : (f : ℕ) → f ≤ 0 → Agreed s text i f → At i ≡ foundLine 0 text (linesOf 98 s)
+  pub pass-met : (f : ℕ) → f ≤ 0 → Agreed s text i f → At i ≡ foundLine 0 text (linesOf recordBytes s)
   unfolding edge
   pass-met f l a =
       let n : f ≡ 0 = omega arith in
@@ -136,7 +136,7 @@ module _ (s text : List ℕ) (i : ℕ) (here : i < length s / 98) (p : Passed s 
       let m : eqList (take 20 (lineBytesAt s i)) (take 20 text) ≡ true = rw k (eqList-refl (take 20 text)) in
       rw m at from-here
 
-  pub pass-next : (f : ℕ) → f < 5 → eqList (keyField f (i * 98) s) (keyField f 0 text) ≡ false → Passed s text (i + 1)
+  pub pass-next : (f : ℕ) → f < 5 → eqList (keyField f (i * recordBytes) s) (keyField f 0 text) ≡ false → Passed s text (i + 1)
   pass-next f l d =
       let k = edges f l in
       let x : take 20 (lineBytesAt s i) ≡ take 20 text → ⊥ =
@@ -144,18 +144,18 @@ module _ (s text : List ℕ) (i : ℕ) (here : i < length s / 98) (p : Passed s 
       let m : eqList (take 20 (lineBytesAt s i)) (take 20 text) ≡ false = ne-eqList (take 20 (lineBytesAt s i)) (take 20 text) x in
       record { place = omega arith; rest = rw m at from-here }
 
-pub pass-last : (s text : List ℕ) (i : ℕ) → length s / 98 ≤ i → Passed s text i → Nothing ≡ foundLine 0 text (linesOf 98 s)
+pub pass-last : (s text : List ℕ) (i : ℕ) → length s / recordBytes ≤ i → Passed s text i → Nothing ≡ foundLine 0 text (linesOf recordBytes s)
 unfolding firstFrom linesOf
 pass-last s text i l p =
-    let n : length (pieces 98 (length s / 98) s) ≤ i = omega (arith, length-pieces 98 (length s / 98) s) in
-    let d : drop i (linesOf 98 s) ≡ [] = drop-of-length-le (pieces 98 (length s / 98) s) n in
+    let n : length (pieces recordBytes (length s / recordBytes) s) ≤ i = omega (arith, length-pieces recordBytes (length s / recordBytes) s) in
+    let d : drop i (linesOf recordBytes s) ≡ [] = drop-of-length-le (pieces recordBytes (length s / recordBytes) s) n in
     rw d at (p .rest)
 
 -- the line that begins as a key line does is the one that has the key
-pub search-is : (s : List ℕ) (k : Key) → recordsAccepted s ≡ true → keyInRange k ≡ true → foundLine 0 (keyLine k) (linesOf 98 s) ≡ found k (records s)
+pub search-is : (s : List ℕ) (k : Key) → recordsAccepted s ≡ true → keyInRange k ≡ true → foundLine 0 (keyLine k) (linesOf recordBytes s) ≡ found k (records s)
 unfolding recordsAccepted linesSet records found
 search-is s k a g =
-    let w : all (lineSet recordLayout) (linesOf 98 s) ≡ true = search tests in
+    let w : all (lineSet recordLayout) (linesOf recordBytes s) ≡ true = search tests in
     sym
     (first-map (λ (r : Record). sameKey (r .key) k) recordIn (lineSet recordLayout) _
-    (λ l o. sym (ap (eqList (take 20 l)) (key-line-text k g) ∙ key-same l o k g)) 0 (linesOf 98 s) w)
+    (λ l o. sym (ap (eqList (take 20 l)) (key-line-text k g) ∙ key-same l o k g)) 0 (linesOf recordBytes s) w)

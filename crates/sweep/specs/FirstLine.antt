@@ -16,7 +16,7 @@ use Rattle.lists.specs.Tests.{and-fst, and-snd}
 use Rattle.decimal.specs.Field.{figure, number, isNumber}
 use Rattle.decimal.specs.Laws.{number-bounded}
 use Rattle.sweep.specs.declared.FirstLine.{FirstLine}
-use Rattle.model.specs.Layouts.{coordinatorBytes}
+use Rattle.model.specs.Layouts.{coordinatorBytes, recordBytes}
 use Rattle.model.specs.Lines.{fieldValue, rowOf, lineSet}
 use Rattle.model.specs.Refusals.{refusalOf}
 use Rattle.model.specs.SheetCalls.{checkConditions}
@@ -130,7 +130,7 @@ module _ (s : List ℕ) where
 
   pub unset-unfit : lineSet firstLayout (take 20 s) ≡ false → inputFits s ≡ false
   unfolding inputFits
-  unset-unfit h = ap (λ (x : Bool). x && eqb (length s) (20 + coordinatorSize s + firstNumber 0 s * 98)) h
+  unset-unfit h = ap (λ (x : Bool). x && eqb (length s) (20 + coordinatorSize s + firstNumber 0 s * recordBytes)) h
 
   pub short-unfit : length s < 20 → inputFits s ≡ false
   short-unfit l = go (lineSet firstLayout (take 20 s)) refl
@@ -139,21 +139,21 @@ module _ (s : List ℕ) where
       go true e = absurd (omega (arith, set-long e))
       go false e = unset-unfit e
 
-  pub set-fits : lineSet firstLayout (take 20 s) ≡ true → inputFits s ≡ eqb (length s) (20 + coordinatorSize s + firstNumber 0 s * 98)
+  pub set-fits : lineSet firstLayout (take 20 s) ≡ true → inputFits s ≡ eqb (length s) (20 + coordinatorSize s + firstNumber 0 s * recordBytes)
   unfolding inputFits
-  set-fits h = ap (λ (x : Bool). x && eqb (length s) (20 + coordinatorSize s + firstNumber 0 s * 98)) h
+  set-fits h = ap (λ (x : Bool). x && eqb (length s) (20 + coordinatorSize s + firstNumber 0 s * recordBytes)) h
 
   pub record Fit : Type 0 where
     pub set : lineSet firstLayout (take 20 s) ≡ true
     pub long : 20 ≤ length s
-    pub whole : length s ≡ 20 + coordinatorSize s + firstNumber 0 s * 98
+    pub whole : length s ≡ 20 + coordinatorSize s + firstNumber 0 s * recordBytes
 
   pub fit : inputFits s ≡ true → Fit
   unfolding inputFits
   fit h =
       let a : lineSet firstLayout (take 20 s) ≡ true = and-fst (lineSet firstLayout (take 20 s)) _ h in
-      let b : eqb (length s) (20 + coordinatorSize s + firstNumber 0 s * 98) ≡ true = and-snd (lineSet firstLayout (take 20 s)) _ h in
-      record { set = a; long = set-long a; whole = eqb-true (length s) (20 + coordinatorSize s + firstNumber 0 s * 98) b }
+      let b : eqb (length s) (20 + coordinatorSize s + firstNumber 0 s * recordBytes) ≡ true = and-snd (lineSet firstLayout (take 20 s)) _ h in
+      record { set = a; long = set-long a; whole = eqb-true (length s) (20 + coordinatorSize s + firstNumber 0 s * recordBytes) b }
 
   -- What refuses an input.
 

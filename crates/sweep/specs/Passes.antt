@@ -8,6 +8,7 @@ use lib.ListN.{length, drop, getD, length-map, drop-of-length-le, List·getD-map
 use lib.Seq.{drop-cons}
 use Rattle.types.specs.declared.Key.{Key}
 use Rattle.types.specs.declared.Record.{Record}
+use Rattle.model.specs.Layouts.{recordBytes}
 use Rattle.model.specs.Records.{records, noRecord}
 use Rattle.model.specs.Writes.{Sheets, apply}
 use Rattle.model.specs.Results.{visit}
@@ -59,10 +60,10 @@ pub record VisitedTo (now : ℕ) (first b : Bytes) (i : ℕ) : Type 0 where
 pub pass-first : (now : ℕ) (first : Bytes) → Passing first → VisitedTo now first first 0
 pass-first now first h = record { place = omega arith; kept = record { passing = h; keys = refl }; rest = refl }
 
-length-keys : (b : Bytes) → length (keysIn b) ≡ length (b .records) / 98
+length-keys : (b : Bytes) → length (keysIn b) ≡ length (b .records) / recordBytes
 length-keys b = length-map (records (b .records)) (λ (r : Record). r .key) ∙ length-records (b .records)
 
-pub pass-next : (now : ℕ) (first b c : Bytes) (i : ℕ) → now < 2 ^ 32 → i < length (first .records) / 98 → VisitedTo now first b i → c ≡ afterOn (visit (keyAt (b .records) i) now) b → VisitedTo now first c (i + 1)
+pub pass-next : (now : ℕ) (first b c : Bytes) (i : ℕ) → now < 2 ^ 32 → i < length (first .records) / recordBytes → VisitedTo now first b i → c ≡ afterOn (visit (keyAt (b .records) i) now) b → VisitedTo now first c (i + 1)
 unfolding visitedAll
 pass-next now first b c i l m v e =
     let n : i < length (keysIn first) = omega (arith, length-keys first) in
@@ -79,7 +80,7 @@ pass-next now first b c i l m v e =
       rest = ap (λ (ks : List Key). visitedAll now ks b) (sym d) ∙ v .rest;
     })
 
-pub pass-last : (now : ℕ) (first b : Bytes) (i : ℕ) → length (first .records) / 98 ≤ i → VisitedTo now first b i → b ≡ visitedAll now (keysIn first) first
+pub pass-last : (now : ℕ) (first b : Bytes) (i : ℕ) → length (first .records) / recordBytes ≤ i → VisitedTo now first b i → b ≡ visitedAll now (keysIn first) first
 unfolding visitedAll
 pass-last now first b i m v =
     let n : length (keysIn first) ≤ i = omega (arith, length-keys first) in

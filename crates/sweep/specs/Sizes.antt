@@ -11,7 +11,7 @@ use lib.Dec.{eqb, leb}
 use borrow.Author.Tests.{eqb-true, leb-true, leb-false}
 use Rattle.lists.specs.Each.{all}
 use Rattle.lists.specs.Tests.{and-fst, and-snd, tests}
-use Rattle.model.specs.Layouts.{recordLayout}
+use Rattle.model.specs.Layouts.{recordLayout, recordBytes}
 use Rattle.model.specs.Lines.{linesOf, linesSet, lineSet}
 use Rattle.model.specs.Records.{records, recordsGood, recordsAccepted}
 use Rattle.model.specs.Coordinator.{coordinatorOf, coordinatorAccepted}
@@ -28,9 +28,9 @@ use Rattle.sweep.specs.FirstLine.{firstOf, placeOfRecords, first-small, 
 records-few : (s : List ℕ) → recordsAccepted s ≡ true → length s ≤ 49000
 unfolding recordsAccepted linesSet recordsGood
 records-few s h =
-    let l : linesSet recordLayout 98 s ≡ true = and-fst (linesSet recordLayout 98 s) (recordsGood (records s)) h in
-    let g : recordsGood (records s) ≡ true = and-snd (linesSet recordLayout 98 s) (recordsGood (records s)) h in
-    let w : length s ≡ length s / 98 * 98 = eqb-true _ _ (and-fst (eqb (length s) (length s / 98 * 98)) (all (lineSet recordLayout) (linesOf 98 s)) l) in
+    let l : linesSet recordLayout recordBytes s ≡ true = and-fst (linesSet recordLayout recordBytes s) (recordsGood (records s)) h in
+    let g : recordsGood (records s) ≡ true = and-snd (linesSet recordLayout recordBytes s) (recordsGood (records s)) h in
+    let w : length s ≡ length s / recordBytes * recordBytes = eqb-true _ _ (and-fst (eqb (length s) (length s / recordBytes * recordBytes)) (all (lineSet recordLayout) (linesOf recordBytes s)) l) in
     let f : length (records s) ≤ 500 = search tests in
     omega (arith, length-records s)
 
@@ -72,7 +72,7 @@ parts s n e h =
 
 -- The largest input that 1 need not refuse: the first line, a head and 9,999 coordinator lines, 500 record lines.
 abbrev pub longest : ℕ
-longest = 20 + 15 * 10000 + 98 * 500
+longest = 20 + 15 * 10000 + recordBytes * 500
 
 -- one condition that holds gives its number
 refused-text : (s : List ℕ) → refusalOf (inputConditions s) ≡ 1 → visitorOutput s ≡ refusedText 1
@@ -95,7 +95,7 @@ longer-refused s l = go (inputFits s) refl
     go false e = refused-text s (unfit-refused s e)
     go true e =
         let f = fit s e in
-        let w : length s ≡ 20 + coordinatorSize s + firstNumber 0 s * 98 = f .whole in
+        let w : length s ≡ 20 + coordinatorSize s + firstNumber 0 s * recordBytes = f .whole in
         let d : firstNumber 1 s ≤ 9999 = first-small s .decisions in
         let m : length (inputSheets s .records) ≡ length s - (20 + coordinatorSize s) = length-drop (20 + coordinatorSize s) s in
         let k : 49000 < length (inputSheets s .records) = omega arith in

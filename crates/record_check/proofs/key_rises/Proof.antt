@@ -7,6 +7,7 @@ use borrow.Author.Needs.{needs}
 use Rattle.record_check.specs.Sheet.{keyBefore}
 use Rattle.record_check.proofs.key_rises.Statement.{statement}
 use Rattle.record_check.proofs.key_rises.Tie as tie
+use Rattle.model.specs.Layouts.{recordBytes}
 
 add-if1 : tie.Need-add-if1
 add-if1 c = search needs
@@ -32,7 +33,7 @@ unfolding keyBefore
 returns-2 c =
     let a = c .before .before .before .args in
     let e : a .n - (a .i + 1) ≡ suc (a .n - (a .i + 2)) = omega arith in
-    rw (e, drop-drop 98 (a .i * 98) (a .s .now)) (c .key-less .ensures)
+    rw (e, drop-drop recordBytes (a .i * recordBytes) (a .s .now)) (c .key-less .ensures)
 
 pub key-rises-spec : {M : Type 1} → statement M
 key-rises-spec = tie.close (tie.spec add-if1 returns mul-at add-next key-less-requires returns-2)

@@ -10,9 +10,10 @@ use Rattle.record_check.specs.Line.{lineGood}
 use Rattle.record_check.specs.Sheet.{linesPass, pass-next}
 use Rattle.record_check.proofs.lines_pass.Statement.{statement}
 use Rattle.record_check.proofs.lines_pass.Tie as tie
+use Rattle.model.specs.Layouts.{recordBytes}
 
 abbrev Inv-loop : tie.InvT-loop
-Inv-loop s n words lent highest i₀ i = (i ≤ n) × (linesPass (n - i) (drop (i * 98) s) ≡ linesPass n s)
+Inv-loop s n words lent highest i₀ i = (i ≤ n) × (linesPass (n - i) (drop (i * recordBytes) s) ≡ linesPass n s)
 
 abbrev μ-loop : tie.MeasureT-loop
 μ-loop s n words lent highest i₀ i = n - i
@@ -43,10 +44,10 @@ line-good-requires c κs = search needs
 
 -- the answer for a line is that for the 98 bytes at its place
 judged : (c : tie.After-line-good Inv-loop μ-loop)
-    → c .line-good .result ≡ lineGood (take 98 (drop (c .before .before .before .loop .i * 98) (c .before .before .before .before .before .before .before .before .args .s .now)))
+    → c .line-good .result ≡ lineGood (take recordBytes (drop (c .before .before .before .loop .i * recordBytes) (c .before .before .before .before .before .before .before .before .args .s .now)))
 judged c =
     let i = c .before .before .before .loop .i in
-    let w : i * 98 + 98 - i * 98 ≡ 98 = omega arith in
+    let w : i * recordBytes + recordBytes - i * recordBytes ≡ recordBytes = omega arith in
     rw w at (c .line-good .ensures)
 
 returns : tie.Need-returns Inv-loop μ-loop

@@ -9,7 +9,7 @@ use borrow.Author.Needs.{needs}
 use Rattle.lists.specs.Bytes.{bytes}
 use Rattle.lists.specs.Each.{joined}
 use Rattle.decimal.specs.Field.{fieldText, ahead}
-use Rattle.model.specs.Layouts.{recordLayout, words}
+use Rattle.model.specs.Layouts.{recordLayout, words, recordBytes}
 use Rattle.model.specs.Lines.{fieldBytes}
 use Rattle.places.specs.Places.{columns, partPlaces, places, lows, highs, alsos}
 use Rattle.record_check.specs.Ranges.{opened}
@@ -29,19 +29,19 @@ returns : tie.Need-returns
 unfolding sheetSized
 returns c =
     let s = c .before .before .args .records .now in
-    rw (accepted-is s, ne-eqb (length s) (length s / 98 * 98) (λ q. c .if1 .taken (sym q)))
+    rw (accepted-is s, ne-eqb (length s) (length s / recordBytes * recordBytes) (λ q. c .if1 .taken (sym q)))
 
 returns-2 : tie.Need-returns-2
 unfolding sheetSized
 returns-2 c =
     let s = c .before .before .before .args .records .now in
-    rw (accepted-is s, lt-leb 1 (length s / 98) (c .if2 .taken), and-false)
+    rw (accepted-is s, lt-leb 1 (length s / recordBytes) (c .if2 .taken), and-false)
 
 returns-3 : tie.Need-returns-3
 unfolding sheetSized
 returns-3 c =
     let s = c .before .before .before .before .args .records .now in
-    rw (accepted-is s, lt-leb (length s / 98) 500 (c .if3 .taken), and-false, and-false)
+    rw (accepted-is s, lt-leb (length s / recordBytes) 500 (c .if3 .taken), and-false, and-false)
 
 slice-aggregate-lines-pass : tie.Need-slice-aggregate-lines-pass
 slice-aggregate-lines-pass c = search needs
@@ -61,8 +61,8 @@ unfolding sheetSized
 returns-4 c =
     let k = c .before .before .before .before .before .before in
     let s = k .before .before .args .records .now in
-    let n = length s / 98 in
-    rw (accepted-is s, eq-eqb (length s) (n * 98) (sym (k .if1 .left)), le-leb 1 n (omega arith), le-leb n 500 (omega arith))
+    let n = length s / recordBytes in
+    rw (accepted-is s, eq-eqb (length s) (n * recordBytes) (sym (k .if1 .left)), le-leb 1 n (omega arith), le-leb n 500 (omega arith))
     (c .lines-pass .ensures)
 
 pub records-ok-spec : {M : Type 1} → statement M

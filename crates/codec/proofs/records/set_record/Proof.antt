@@ -8,7 +8,7 @@ use borrow.Author.Needs.{needs}
 use Rattle.model.specs.Records.{recordText}
 use Rattle.model.specs.Lines.{lineText}
 use Rattle.codec.specs.Parts.{room-part}
-use Rattle.model.specs.Layouts.{layout, recordLayout}
+use Rattle.model.specs.Layouts.{layout, recordLayout, recordBytes}
 use Rattle.sheet_laws.specs.Lines.{lineBytes}
 use Rattle.codec.proofs.records.set_record.Statement.{statement}
 use Rattle.codec.proofs.records.set_record.Tie as tie
@@ -44,9 +44,9 @@ same-length c = search needs
 returns : tie.Need-returns
 unfolding layout recordText
 returns c =
-    let k : length (c .before .before .write-row .last .1 .1 .0) ≡ c .before .before .before .before .before .before .before .before .args .i * 98 + 98 - c .before .before .before .before .before .before .before .before .args .i * 98 =
+    let k : length (c .before .before .write-row .last .1 .1 .0) ≡ c .before .before .before .before .before .before .before .before .args .i * recordBytes + recordBytes - c .before .before .before .before .before .before .before .before .args .i * recordBytes =
     c .before .before .write-row .kept .1 .1 .0 ∙ simp (length-take, length-drop) (omega arith) in
-    room-part _ 98 (c .before .before .before .before .before .before .before .before .args .i * 98) _ _ _ (lt-ltb _ _ (c .before .before .before .before .before .before .if1 .taken)) k
+    room-part _ recordBytes (c .before .before .before .before .before .before .before .before .args .i * recordBytes) _ _ _ (lt-ltb _ _ (c .before .before .before .before .before .before .if1 .taken)) k
     (c .before .before .write-row .ensures ∙ ap (lineText recordLayout) (c .before .before .before .before .before .numbers-of .ensures))
 
 returns-2 : tie.Need-returns-2

@@ -9,6 +9,7 @@ use Rattle.codec.specs.Parts.{room-part}
 use Rattle.sheet_laws.specs.Settled.{line-at-settled}
 use Rattle.codec.proofs.settling.settle.Statement.{statement}
 use Rattle.codec.proofs.settling.settle.Tie as tie
+use Rattle.model.specs.Layouts.{recordBytes}
 
 mul-at : tie.Need-mul-at
 mul-at c = search needs
@@ -34,9 +35,9 @@ same-length c = search needs
 returns : tie.Need-returns
 returns c =
     let a = c .before .before .before .before .before .before .args in
-    let k : length (c .before .before .settle-line .last .0) ≡ a .i * 98 + 98 - a .i * 98 =
+    let k : length (c .before .before .settle-line .last .0) ≡ a .i * recordBytes + recordBytes - a .i * recordBytes =
     c .before .before .settle-line .kept .0 ∙ simp (length-take, length-drop) (omega arith) in
-    room-part _ 98 (a .i * 98) _ _ _ (lt-ltb _ _ (c .before .before .before .before .if1 .taken)) k
+    room-part _ recordBytes (a .i * recordBytes) _ _ _ (lt-ltb _ _ (c .before .before .before .before .if1 .taken)) k
     (c .before .before .settle-line .ensures ∙ line-at-settled (a .state) (a .before) (a .records .now) (a .i) (c .before .before .before .before .before .before .pre) (c .before .before .before .before .if1 .taken))
 
 returns-2 : tie.Need-returns-2

@@ -4,7 +4,7 @@ use mathlib.Core.Path.{_≡_, refl, _∙_}
 use native.Mathlib.Omega.{arith}
 use lib.ListN.{length, length-take, length-drop}
 use borrow.Author.Needs.{needs}
-use Rattle.model.specs.Layouts.{layout, recordLayout}
+use Rattle.model.specs.Layouts.{layout, recordLayout, recordBytes}
 use Rattle.model.specs.Lines.{rowOf, linesOf}
 use Rattle.sheet_laws.specs.Lines.{lineBytes}
 use Rattle.numbers.specs.Filling.{MadeTo, made-first, made-next, made-last, made-room}
@@ -12,13 +12,13 @@ use Rattle.numbers.proofs.records.fill_numbers.Statement.{statement}
 use Rattle.numbers.proofs.records.fill_numbers.Tie as tie
 
 abbrev Inv-loop : tie.InvT-loop
-Inv-loop records numbers₀ n i₀ numbers i = (n ≡ length records / 98) × MadeTo 98 15 (rowOf recordLayout) records n numbers i
+Inv-loop records numbers₀ n i₀ numbers i = (n ≡ length records / recordBytes) × MadeTo recordBytes 15 (rowOf recordLayout) records n numbers i
 
 abbrev μ-loop : tie.MeasureT-loop
 μ-loop records numbers₀ n i₀ numbers i = n - i
 
 loop-holds : tie.Need-loop-holds Inv-loop μ-loop
-loop-holds c = (refl, made-first 98 15 (rowOf recordLayout) _ _ _ (c .before .before .pre))
+loop-holds c = (refl, made-first recordBytes 15 (rowOf recordLayout) _ _ _ (c .before .before .pre))
 
 mul-at : tie.Need-mul-at Inv-loop μ-loop
 mul-at c = search needs
@@ -52,13 +52,13 @@ part-read-row-start-2 c = search needs
 
 part-read-row-end-2 : tie.Need-part-read-row-end-2 Inv-loop μ-loop
 part-read-row-end-2 c =
-    let r = made-room 98 15 (rowOf recordLayout) (c .before .before .before .before .before .args .records .now) (length (c .before .before .before .before .before .args .records .now) / 98) (c .before .before .loop .numbers) (c .before .before .loop .i) (c .before .before .loop .inv .1) in
+    let r = made-room recordBytes 15 (rowOf recordLayout) (c .before .before .before .before .before .args .records .now) (length (c .before .before .before .before .before .args .records .now) / recordBytes) (c .before .before .loop .numbers) (c .before .before .loop .i) (c .before .before .loop .inv .1) in
     omega arith
 
 read-row-requires : tie.Need-read-row-requires Inv-loop μ-loop
 unfolding layout recordLayout lineBytes
 read-row-requires c κs =
-    let r = made-room 98 15 (rowOf recordLayout) (c .before .before .before .before .before .before .args .records .now) (length (c .before .before .before .before .before .before .args .records .now) / 98) (c .before .before .before .loop .numbers) (c .before .before .before .loop .i) (c .before .before .before .loop .inv .1) in
+    let r = made-room recordBytes 15 (rowOf recordLayout) (c .before .before .before .before .before .before .args .records .now) (length (c .before .before .before .before .before .before .args .records .now) / recordBytes) (c .before .before .before .loop .numbers) (c .before .before .before .loop .i) (c .before .before .before .loop .inv .1) in
     (simp (length-take, length-drop) (omega arith), simp (length-take, length-drop) (omega arith))
 
 add-i : tie.Need-add-i Inv-loop μ-loop
@@ -70,19 +70,19 @@ loop-less c = search needs
 loop-again : tie.Need-loop-again Inv-loop μ-loop
 unfolding layout
 loop-again c =
-    let r = made-room 98 15 (rowOf recordLayout) (c .before .before .before .before .before .before .before .before .before .args .records .now) (length (c .before .before .before .before .before .before .before .before .before .args .records .now) / 98) (c .before .before .before .before .before .before .loop .numbers) (c .before .before .before .before .before .before .loop .i) (c .before .before .before .before .before .before .loop .inv .1) in
+    let r = made-room recordBytes 15 (rowOf recordLayout) (c .before .before .before .before .before .before .before .before .before .args .records .now) (length (c .before .before .before .before .before .before .before .before .before .args .records .now) / recordBytes) (c .before .before .before .before .before .before .loop .numbers) (c .before .before .before .before .before .before .loop .i) (c .before .before .before .before .before .before .loop .inv .1) in
     let k : length (c .before .before .read-row .last .1 .1 .0) ≡ c .before .before .before .before .before .before .loop .i * 15 + 15 - c .before .before .before .before .before .before .loop .i * 15 =
     c .before .before .read-row .kept .1 .1 .0 ∙ simp (length-take, length-drop) (omega arith) in
-    (c .before .before .before .before .before .before .loop .inv .0, made-next 98 15 (rowOf recordLayout) _ _ _ _ (c .before .before .before .before .before .before .loop .i) (c .before .before .before .before .before .loop-test .taken) k (c .before .before .read-row .ensures) (c .before .before .before .before .before .before .loop .inv .1))
+    (c .before .before .before .before .before .before .loop .inv .0, made-next recordBytes 15 (rowOf recordLayout) _ _ _ _ (c .before .before .before .before .before .before .loop .i) (c .before .before .before .before .before .loop-test .taken) k (c .before .before .read-row .ensures) (c .before .before .before .before .before .before .loop .inv .1))
 
 same-length : tie.Need-same-length Inv-loop μ-loop
 same-length c =
-    let r = made-room 98 15 (rowOf recordLayout) (c .before .before .before .before .args .records .now) (length (c .before .before .before .before .args .records .now) / 98) (c .before .loop .numbers) (c .before .loop .i) (c .before .loop .inv .1) in
+    let r = made-room recordBytes 15 (rowOf recordLayout) (c .before .before .before .before .args .records .now) (length (c .before .before .before .before .args .records .now) / recordBytes) (c .before .loop .numbers) (c .before .loop .i) (c .before .loop .inv .1) in
     omega arith
 
 returns : tie.Need-returns Inv-loop μ-loop
 unfolding linesOf
-returns c = made-last 98 15 (rowOf recordLayout) (c .before .before .before .before .args .records .now) (length (c .before .before .before .before .args .records .now) / 98) (c .before .loop .numbers) (c .before .loop .i) (c .loop-test .left) (c .before .loop .inv .1)
+returns c = made-last recordBytes 15 (rowOf recordLayout) (c .before .before .before .before .args .records .now) (length (c .before .before .before .before .args .records .now) / recordBytes) (c .before .loop .numbers) (c .before .loop .i) (c .loop-test .left) (c .before .loop .inv .1)
 
 pub fill-numbers-spec : {M : Type 1} → statement M
 fill-numbers-spec =

@@ -9,6 +9,7 @@ use borrow.Author.Needs.{needs}
 use Rattle.sheets.specs.Search.{Passed, Agreed, pass-first, agree-first, agree-next, pass-met, pass-next, pass-last}
 use Rattle.sheets.proofs.lookup.find_line.Statement.{statement}
 use Rattle.sheets.proofs.lookup.find_line.Tie as tie
+use Rattle.model.specs.Layouts.{recordBytes}
 
 abbrev Inv-loop : tie.InvT-loop
 Inv-loop records text n i₀ at f₀ i f = (i ≡ i₀) × Agreed records text i₀ f
@@ -17,7 +18,7 @@ abbrev μ-loop : tie.MeasureT-loop
 μ-loop records text n i₀ at f₀ i f = f
 
 abbrev Inv-lines : tie.InvT-lines
-Inv-lines records text n i₀ i = (n ≡ length records / 98) × Passed records text i
+Inv-lines records text n i₀ i = (n ≡ length records / recordBytes) × Passed records text i
 
 abbrev μ-lines : tie.MeasureT-lines
 μ-lines records text n i₀ i = n - i
@@ -56,7 +57,7 @@ returns : tie.Need-returns Inv-loop μ-loop Inv-lines μ-lines
 returns c =
     ⊎-elim (λ w. absurd (omega arith))
     (λ w.
-    let here : c .before .before .lines .i < length (c .before .before .before .before .before .args .records .now) / 98 = omega arith in
+    let here : c .before .before .lines .i < length (c .before .before .before .before .before .args .records .now) / recordBytes = omega arith in
     rw (w .3, w .1 .inv .0) (pass-met _ _ _ here (c .before .before .lines .inv .1) _ (w .2 .left) (w .1 .inv .1)))
     (c .before .lines-test .came)
 
@@ -64,7 +65,7 @@ returns-2 : tie.Need-returns-2 Inv-loop μ-loop Inv-lines μ-lines
 returns-2 c =
     ⊎-elim
     (λ w.
-    let past : length (c .before .before .before .before .before .args .records .now) / 98 ≤ c .before .before .lines .i = omega arith in
+    let past : length (c .before .before .before .before .before .args .records .now) / recordBytes ≤ c .before .before .lines .i = omega arith in
     pass-last _ _ _ past (c .before .before .lines .inv .1))
     (λ w. absurd (omega arith))
     (c .before .lines-test .came)

@@ -8,6 +8,7 @@ use borrow.Author.Needs.{needs}
 use Rattle.sheets.specs.Answers.{lookup-bad, lookup-out, lookup-none, lookup-met, found-fits}
 use Rattle.sheets.proofs.lookup.lookup.Statement.{statement}
 use Rattle.sheets.proofs.lookup.lookup.Tie as tie
+use Rattle.model.specs.Layouts.{recordBytes}
 
 records-ok-requires : tie.Need-records-ok-requires
 records-ok-requires c κs = search needs
@@ -57,8 +58,8 @@ slice-aggregate-result-3 c = search needs
 returns-3 : tie.Need-returns-3
 returns-3 c =
     let i = c .before .before .i .given .0 .0 in
-    let w : i * 98 + 98 - i * 98 ≡ 98 = omega arith in
-    ap (λ (n : ℕ). take n (drop (i * 98) (c .before .before .before .before .before .before .before .before .before .before .args .records .now))) w
+    let w : i * recordBytes + recordBytes - i * recordBytes ≡ recordBytes = omega arith in
+    ap (λ (n : ℕ). take n (drop (i * recordBytes) (c .before .before .before .before .before .before .before .before .before .before .args .records .now))) w
     ∙ lookup-met (c .before .before .before .before .before .before .before .before .before .before .args .records .now) (c .before .before .before .before .before .before .before .before .before .before .args .key) i (sym (c .before .before .before .before .before .before .before .before .records-ok .ensures) ∙ not-false _ (c .before .before .before .before .before .before .before .if1 .left)) (sym (c .before .before .before .before .before .before .key-in-range .ensures) ∙ not-false _ (c .before .before .before .before .before .if2 .left)) (sym (c .before .before .before .before .find .ensures) ∙ c .before .before .i .given .1) .0
 
 returns-4 : tie.Need-returns-4

@@ -10,6 +10,7 @@ use Rattle.sweep.specs.declared.FirstLine.{FirstLine}
 use Rattle.sweep.specs.FirstLine.{Small, placeOfRecords, short-unfit, unset-unfit, set-fits, first-small}
 use Rattle.sweep.proofs.first_line.fits.Statement.{statement}
 use Rattle.sweep.proofs.first_line.fits.Tie as tie
+use Rattle.model.specs.Layouts.{recordBytes}
 
 returns : tie.Need-returns
 returns c = sym (short-unfit (c .before .before .args .input .now) (omega (arith, c .if1 .taken)))
@@ -37,8 +38,8 @@ add-result c = search needs
 
 returns-3 : tie.Need-returns-3
 returns-3 c =
-    ap (λ (n : ℕ). eqb (length (c .before .before .before .before .before .before .before .args .input .now)) (n + c .before .before .numbers .result .lines * 98)) (c .before .records-from .ensures)
-    ∙ (ap (λ (f : FirstLine). eqb (length (c .before .before .before .before .before .before .before .args .input .now)) (placeOfRecords f + f .lines * 98)) (c .before .before .numbers .ensures)
+    ap (λ (n : ℕ). eqb (length (c .before .before .before .before .before .before .before .args .input .now)) (n + c .before .before .numbers .result .lines * recordBytes)) (c .before .records-from .ensures)
+    ∙ (ap (λ (f : FirstLine). eqb (length (c .before .before .before .before .before .before .before .args .input .now)) (placeOfRecords f + f .lines * recordBytes)) (c .before .before .numbers .ensures)
     ∙ sym (set-fits (c .before .before .before .before .before .before .before .args .input .now) (sym (c .before .before .before .before .well-set .ensures) ∙ not-false _ (c .before .before .before .if2 .left))))
 
 pub fits-spec : {M : Type 1} → statement M

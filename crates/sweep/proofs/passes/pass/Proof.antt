@@ -7,6 +7,7 @@ use borrow.Author.Needs.{needs}
 use Rattle.sweep.specs.Passes.{both, VisitedTo, pass-first, pass-next, pass-last}
 use Rattle.sweep.proofs.passes.pass.Statement.{statement}
 use Rattle.sweep.proofs.passes.pass.Tie as tie
+use Rattle.model.specs.Layouts.{recordBytes}
 
 abbrev Inv-loop : tie.InvT-loop
 Inv-loop clock records₀ coordinator₀ n i₀ records coordinator i = (length records ≡ length records₀) × ((length coordinator ≡ length coordinator₀) × VisitedTo clock (both records₀ coordinator₀) (both records coordinator) i)
@@ -30,7 +31,7 @@ loop-less : tie.Need-loop-less Inv-loop μ-loop
 loop-less c = search needs
 
 loop-again : tie.Need-loop-again Inv-loop μ-loop
-loop-again c = let l : c .before .before .before .before .before .before .before .before .loop .i < length (c .before .before .before .before .before .before .before .before .before .before .before .before .before .args .records .now) / 98 = omega (arith, c .before .before .before .before .before .before .before .loop-test .taken, c .before .before .before .before .before .before .before .before .before .count .ensures) in
+loop-again c = let l : c .before .before .before .before .before .before .before .before .loop .i < length (c .before .before .before .before .before .before .before .before .before .before .before .before .before .args .records .now) / recordBytes = omega (arith, c .before .before .before .before .before .before .before .loop-test .taken, c .before .before .before .before .before .before .before .before .before .count .ensures) in
     (omega arith, (omega arith, pass-next _ _ (both (c .before .before .before .before .before .before .before .before .loop .records) (c .before .before .before .before .before .before .before .before .loop .coordinator)) _ _ (omega arith) l (c .before .before .before .before .before .before .before .before .loop .inv .1 .1) (c .before .before .before .before .visit-place .ensures)))
 
 same-length : tie.Need-same-length Inv-loop μ-loop
