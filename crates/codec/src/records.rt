@@ -5,6 +5,7 @@ ghost use Prim.Native.Nat.{_*_, _/_};
 ghost use lib.ListN.{length, getD};
 ghost use lib.Dec.{ltb};
 ghost use Rattle.lists.specs.Pieces.{over};
+ghost use Rattle.model.specs.Layouts.{recordBytes};
 ghost use Rattle.model.specs.Records.{stateOf, stateNumber, recordOf, recordNumbers, recordText, noRecord};
 ghost use Rattle.model.specs.Records as model;
 use crate::lines;
@@ -13,6 +14,7 @@ use types::Key;
 use types::Layout;
 use types::NO_IMAGE;
 use types::NO_KEY;
+use types::RECORD_BYTES;
 use types::Record;
 use types::State;
 
@@ -102,18 +104,18 @@ pub fn numbers_of(r: Record) -> [u32; 15]
 
 // How many records a sheet has.
 pub fn count(records: &[u8]) -> usize
-    ensures { λ r. ⌜ r ≡ length (now (records .entry)) / 98 ⌝ }
+    ensures { λ r. ⌜ r ≡ length (now (records .entry)) / recordBytes ⌝ }
 {
-    records.len() / 98
+    records.len() / RECORD_BYTES
 }
 
 // The record at place i, an absent one of no key past the end.
 pub fn record_at(records: &[u8], i: usize) -> Record
     ensures { λ r. ⌜ r ≡ getD (model.records (now (records .entry))) i noRecord ⌝ }
 {
-    if i < records.len() / 98 {
-        let at = i * 98;
-        let end = at + 98;
+    if i < records.len() / RECORD_BYTES {
+        let at = i * RECORD_BYTES;
+        let end = at + RECORD_BYTES;
         let mut row = [0u32; 15];
         lines::read_row(Layout::RecordLine, &records[at..end], &mut row);
         return record_of(&row);
@@ -123,11 +125,11 @@ pub fn record_at(records: &[u8], i: usize) -> Record
 
 // The text of a record over the line at place i; past the end nothing changes.
 pub fn set_record(records: &mut [u8], i: usize, r: Record)
-    ensures { λ u. ⌜ now (records .exit) ≡ cond (ltb i (length (now (records .entry)) / 98)) (over (now (records .entry)) (i * 98) (recordText r)) (now (records .entry)) ⌝ }
+    ensures { λ u. ⌜ now (records .exit) ≡ cond (ltb i (length (now (records .entry)) / recordBytes)) (over (now (records .entry)) (i * recordBytes) (recordText r)) (now (records .entry)) ⌝ }
 {
-    if i < records.len() / 98 {
-        let at = i * 98;
-        let end = at + 98;
+    if i < records.len() / RECORD_BYTES {
+        let at = i * RECORD_BYTES;
+        let end = at + RECORD_BYTES;
         let row = numbers_of(r);
         lines::write_row(Layout::RecordLine, &row, &mut records[at..end]);
     }

@@ -5,12 +5,14 @@ ghost use Prim.Native.Nat.{_+_, _*_, _/_, _≤_};
 ghost use lib.ListN.{length, getD, take, drop};
 ghost use lib.Dec.{ltb};
 ghost use Rattle.lists.specs.Pieces.{over};
+ghost use Rattle.model.specs.Layouts.{recordBytes};
 ghost use Rattle.model.specs.Records.{recordText, recordsAccepted, noRecord};
 ghost use Rattle.model.specs.Records as model;
 ghost use Rattle.sheet_laws.specs.Settled.{imageOf, imagePlace, settledAs, settledBytes};
 use crate::layouts;
 use crate::records;
 use types::Kind;
+use types::RECORD_BYTES;
 use types::State;
 
 // An image of zeros and a clock of 0.
@@ -38,7 +40,7 @@ fn image_place(before: bool) -> usize
 
 // The bytes of that image.
 fn image_bytes(line: &[u8], before: bool) -> [u8; 28]
-    requires { ⌜ length (now line) ≡ 98 ⌝ }
+    requires { ⌜ length (now line) ≡ recordBytes ⌝ }
     ensures { λ r. ⌜ r ≡ take 28 (drop (imagePlace before) (now (line .entry))) ⌝ }
 {
     let from = image_place(before);
@@ -50,7 +52,7 @@ fn image_bytes(line: &[u8], before: bool) -> [u8; 28]
 
 // A line with another state word, one of its images and nothing after it.
 fn settle_line(line: &mut [u8], state: State, before: bool)
-    requires { ⌜ length (now line) ≡ 98 ⌝ }
+    requires { ⌜ length (now line) ≡ recordBytes ⌝ }
     ensures { λ u. ⌜ now (line .exit) ≡ settledBytes state before (now (line .entry)) ⌝ }
 {
     let image = image_bytes(line, before);
@@ -64,11 +66,11 @@ fn settle_line(line: &mut [u8], state: State, before: bool)
 // The line at place i settled; past the end nothing changes.
 pub fn settle(records: &mut [u8], i: usize, state: State, before: bool)
     requires { ⌜ recordsAccepted (now records) ≡ true ⌝ }
-    ensures { λ u. ⌜ now (records .exit) ≡ cond (ltb i (length (now (records .entry)) / 98)) (over (now (records .entry)) (i * 98) (recordText (settledAs state (imageOf before (getD (model.records (now (records .entry))) i noRecord)) (getD (model.records (now (records .entry))) i noRecord)))) (now (records .entry)) ⌝ }
+    ensures { λ u. ⌜ now (records .exit) ≡ cond (ltb i (length (now (records .entry)) / recordBytes)) (over (now (records .entry)) (i * recordBytes) (recordText (settledAs state (imageOf before (getD (model.records (now (records .entry))) i noRecord)) (getD (model.records (now (records .entry))) i noRecord)))) (now (records .entry)) ⌝ }
 {
-    if i < records.len() / 98 {
-        let at = i * 98;
-        let end = at + 98;
+    if i < records.len() / RECORD_BYTES {
+        let at = i * RECORD_BYTES;
+        let end = at + RECORD_BYTES;
         settle_line(&mut records[at..end], state, before);
     }
 }

@@ -2,23 +2,22 @@
 -- to its own LF. The second number tells which decision the line can say, so the line is right if both numbers are those of the text that
 -- says it. Equal numbers are equal bytes.
 use Prim.Native.Nat.{ℕ, zero, suc, _+_, _*_, _/_, _%_, _^_, _<_, _≤_}
-use mathlib.Core.Path.{_≡_, refl, sym, ap, ap₂, subst, _∙_}
+use mathlib.Core.Path.{_≡_, refl, sym, ap, subst, _∙_}
 use mathlib.Core.Bool.{Bool, true, _&&_}
 use mathlib.Core.List.{List, [], _∷_, _++_}
 use native.Mathlib.Omega.{arith}
-use lib.ListN.{length, take, drop, getD, length-take, length-drop}
-use lib.Seq.{take-add, take-all, drop-drop}
+use lib.ListN.{length, take, drop, getD}
+use lib.Seq.{take-all, drop-drop}
 use lib.Dec.{eqb, ltb}
 use lib.Pow.{areBytes}
 use borrow.Author.Tests.{ltb-true}
-use Rattle.lists.specs.Bytes.{bytes, eqList, eqList-append, below-append}
+use Rattle.lists.specs.Bytes.{bytes, eqList, below-append}
 use Rattle.lists.specs.Each.{listed}
 use Rattle.lists.specs.All.{listed-is}
 use Rattle.lists.specs.Tests.{and-fst, and-snd}
 use Rattle.decimal.specs.Field.{fieldText, ahead}
 use Rattle.decimal.specs.Laws.{fieldText-bytes}
-use Rattle.places.specs.Order.{part-bytes}
-use Rattle.places.specs.Loads.{loaded, loaded-equal}
+use Rattle.places.specs.Loads.{loaded, split-equal}
 use Rattle.types.specs.declared.Kind.the-variants.{DecisionWord}
 use Rattle.types.specs.declared.Decision.{Decision}
 use Rattle.types.specs.declared.Decision.the-variants.{Undecided, Committed, Aborted}
@@ -151,13 +150,7 @@ lfText-back k Aborted = refl
 -- sixteen bytes are equal if the first eight and the last eight are equal as numbers
 sixteen : (r t : List ℕ) → Bytes r → Bytes t → 16 ≤ length r → 16 ≤ length t
     → eqList (take 16 r) (take 16 t) ≡ (eqb (loaded (take 8 r)) (loaded (take 8 t)) && eqb (loaded (take 8 (drop 8 r))) (loaded (take 8 (drop 8 t))))
-sixteen r t f g n m =
-    let l : length (take 8 r) ≡ length (take 8 t) = simp length-take (omega arith) in
-    let k : length (take 8 (drop 8 r)) ≡ length (take 8 (drop 8 t)) = simp (length-take, length-drop) (omega arith) in
-    rw (take-add 8 8 r, take-add 8 8 t)
-    (eqList-append (take 8 r) (take 8 t) (take 8 (drop 8 r)) (take 8 (drop 8 t)) l
-    ∙ sym (ap₂ _&&_ (loaded-equal (take 8 r) (take 8 t) (part-bytes r 8 0 f) (part-bytes t 8 0 g) l)
-    (loaded-equal (take 8 (drop 8 r)) (take 8 (drop 8 t)) (part-bytes r 8 8 f) (part-bytes t 8 8 g) k)))
+sixteen r t f g n m = sym (split-equal r t f g 8 8 0 0 n m)
 
 front-room : (d : Decision) → frontOf (wordFor d) ≤ 80 * 2 ^ 56
 unfolding words bytes decisionNumber loaded

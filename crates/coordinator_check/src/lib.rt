@@ -11,6 +11,7 @@ mod lines;
 
 use decimal::Scan;
 use places::half;
+use types::RECORD_BYTES;
 
 // A head and 1 to 999 lines of 15 bytes.
 fn whole_lines(size: usize) -> bool
@@ -44,10 +45,10 @@ pub fn all_issued(records: &[u8], coordinator: &[u8]) -> bool
     ensures { λ r. ⌜ r ≡ allIssued (now (records .entry)) (now (coordinator .entry)) ⌝ }
 {
     let issued = half(coordinator, 0);
-    let count = records.len() / 98;
+    let count = records.len() / RECORD_BYTES;
     for i in 0..count {
-        let txid = half(records, i * 98 + 36);
-        let before_txid = half(records, i * 98 + 64);
+        let txid = half(records, i * RECORD_BYTES + 36);
+        let before_txid = half(records, i * RECORD_BYTES + 64);
         if txid > issued {
             return false;
         }

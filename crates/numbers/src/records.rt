@@ -4,23 +4,24 @@ ghost use mathlib.Core.List.{map};
 ghost use Prim.Native.Nat.{_*_, _/_};
 ghost use lib.ListN.{length};
 ghost use Rattle.lists.specs.Each.{joined};
-ghost use Rattle.model.specs.Layouts.{recordLayout};
+ghost use Rattle.model.specs.Layouts.{recordLayout, recordBytes};
 ghost use Rattle.model.specs.Lines.{rowOf, lineText, linesOf};
 ghost use Rattle.model.specs.Records.{rows};
 ghost use Rattle.model.specs.Refusals.{refusalOf};
 ghost use Rattle.model.specs.SheetCalls.{readRecordsConditions, numbersRead, writeRecordsConditions, recordsWritten};
 use crate::rows;
 use types::Layout;
+use types::RECORD_BYTES;
 
 // The numbers of every line over the target.
 fn fill_numbers(records: &[u8], numbers: &mut [u32])
-    requires { ⌜ length (now numbers) ≡ length (now records) / 98 * 15 ⌝ }
-    ensures { λ r. ⌜ now (numbers .exit) ≡ joined (map (rowOf recordLayout) (linesOf 98 (now (records .entry)))) ⌝ }
+    requires { ⌜ length (now numbers) ≡ length (now records) / recordBytes * 15 ⌝ }
+    ensures { λ r. ⌜ now (numbers .exit) ≡ joined (map (rowOf recordLayout) (linesOf recordBytes (now (records .entry)))) ⌝ }
 {
-    let n = records.len() / 98;
+    let n = records.len() / RECORD_BYTES;
     for i in 0..n {
-        let at = i * 98;
-        let end = at + 98;
+        let at = i * RECORD_BYTES;
+        let end = at + RECORD_BYTES;
         let to = i * 15;
         let past = to + 15;
         codec::lines::read_row(
@@ -33,15 +34,15 @@ fn fill_numbers(records: &[u8], numbers: &mut [u32])
 
 // The line of every record over the target.
 fn fill_records(numbers: &[u32], records: &mut [u8])
-    requires { ⌜ length (now records) ≡ length (now numbers) / 15 * 98 ⌝ }
+    requires { ⌜ length (now records) ≡ length (now numbers) / 15 * recordBytes ⌝ }
     ensures { λ r. ⌜ now (records .exit) ≡ joined (map (lineText recordLayout) (rows (now (numbers .entry)))) ⌝ }
 {
     let n = numbers.len() / 15;
     for i in 0..n {
         let from = i * 15;
         let end = from + 15;
-        let at = i * 98;
-        let past = at + 98;
+        let at = i * RECORD_BYTES;
+        let past = at + RECORD_BYTES;
         codec::lines::write_row(
             Layout::RecordLine,
             &numbers[from..end],
@@ -58,7 +59,7 @@ pub fn read_records(records: &[u8], numbers: &mut [u32]) -> u32
     if !record_check::records_ok(records) {
         return 1;
     }
-    if numbers.len() != records.len() / 98 * 15 {
+    if numbers.len() != records.len() / RECORD_BYTES * 15 {
         return 1;
     }
     fill_numbers(records, numbers);
@@ -73,7 +74,7 @@ pub fn write_records(numbers: &[u32], records: &mut [u8]) -> u32
     if !rows::rows_ok(numbers) {
         return 1;
     }
-    if records.len() != numbers.len() / 15 * 98 {
+    if records.len() != numbers.len() / 15 * RECORD_BYTES {
         return 1;
     }
     fill_records(numbers, records);

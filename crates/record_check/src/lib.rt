@@ -6,6 +6,7 @@ ghost use mathlib.Core.Bool.{true, cond};
 ghost use lib.Dec.{eqb};
 ghost use Prim.Native.Nat.{_+_, _-_, _*_, _^_, _≤_, _<_};
 ghost use lib.ListN.{length, drop};
+ghost use Rattle.model.specs.Layouts.{recordBytes};
 ghost use Rattle.model.specs.Records.{recordsAccepted};
 ghost use Rattle.places.specs.Parts.{partsOk};
 ghost use Rattle.record_check.specs.Figures.{figureAt};
@@ -14,6 +15,8 @@ ghost use Rattle.record_check.specs.Relations.{highestClock, clockFits, 
 ghost use Rattle.record_check.specs.Line.{lineGood, kindOf};
 ghost use Rattle.record_check.specs.Sheet.{keyBefore, linesPass};
 ghost use Rattle.record_check.specs.Tables.{tables};
+
+use types::RECORD_BYTES;
 
 // The state word of each kind of line, in ten bytes: ABSENT, COMMITTED, PREPARED over nothing and PREPARED over a version.
 const WORDS: [u8; 40] = *b"    ABSENT COMMITTED  PREPARED  PREPARED";
@@ -37,7 +40,7 @@ const TABLES: [u8; 1164] = *b"\
 // The number of the line's kind, if it is good: the first eight bytes of its state word tell the words apart, and over a version it is one more. It is
 // counted, so that word and tables are found without a branch on what the line says.
 fn kind(line: &[u8], words: &[u8]) -> usize
-    requires { ⌜ length (now line) ≡ 98 ⌝ }
+    requires { ⌜ length (now line) ≡ recordBytes ⌝ }
     requires { ⌜ now words ≡ kindWords ⌝ }
     ensures { λ r. ⌜ r ≡ kindOf (now (line .entry)) ⌝ }
     ensures { λ r. ⌜ r < 4 ⌝ }
@@ -53,7 +56,7 @@ fn kind(line: &[u8], words: &[u8]) -> usize
 
 // Whether the line stands in the places of the tables of its kind.
 fn stands(line: &[u8], lent: &[u8], kind: usize) -> bool
-    requires { ⌜ length (now line) ≡ 98 ⌝ }
+    requires { ⌜ length (now line) ≡ recordBytes ⌝ }
     requires { ⌜ now lent ≡ tables ⌝ }
     requires { ⌜ kind < 4 ⌝ }
     ensures { λ r. ⌜ r ≡ partsOk (kindParts kind) (now (line .entry)) ⌝ }
@@ -90,7 +93,7 @@ fn figure(line: &[u8], at: usize, n: usize) -> u64
 // Whether version = before version + 1 in a line that stands in its places, if it is PREPARED over a version. Unless before version ends in 9, only
 // the last byte differs, by one.
 fn version_follows(line: &[u8], kind: usize) -> bool
-    requires { ⌜ length (now line) ≡ 98 ⌝ }
+    requires { ⌜ length (now line) ≡ recordBytes ⌝ }
     ensures { λ r. ⌜ r ≡ cond (eqb kind 3) (follows (now (line .entry))) true ⌝ }
 {
     if kind != 3 {
@@ -106,7 +109,7 @@ fn version_follows(line: &[u8], kind: usize) -> bool
 // of the words is refused. The tables say all else but how the versions of a PREPARED line stand to each other, and that the clock is at most
 // 4294967295. The end of the line, LF included, orders as the clock does.
 fn line_good(line: &[u8], words: &[u8], lent: &[u8], highest: &[u8]) -> bool
-    requires { ⌜ length (now line) ≡ 98 ⌝ }
+    requires { ⌜ length (now line) ≡ recordBytes ⌝ }
     requires { ⌜ now words ≡ kindWords ⌝ }
     requires { ⌜ now lent ≡ tables ⌝ }
     requires { ⌜ now highest ≡ highestClock ⌝ }
@@ -131,21 +134,21 @@ fn line_good(line: &[u8], words: &[u8], lent: &[u8], highest: &[u8]) -> bool
 
 // Whether the key of line i comes before that of the next line, if there is one among the n lines.
 fn key_rises(s: &[u8], i: usize, n: usize) -> bool
-    requires { ⌜ length (now s) ≡ n * 98 ⌝ }
+    requires { ⌜ length (now s) ≡ n * recordBytes ⌝ }
     requires { ⌜ i < n ⌝ }
-    ensures { λ r. ⌜ r ≡ keyBefore (n - (i + 1)) (drop (i * 98) (now (s .entry))) ⌝ }
+    ensures { λ r. ⌜ r ≡ keyBefore (n - (i + 1)) (drop (i * recordBytes) (now (s .entry))) ⌝ }
 {
     if i + 1 == n {
         return true;
     }
-    let at = i * 98;
-    let next = at + 98;
+    let at = i * RECORD_BYTES;
+    let next = at + RECORD_BYTES;
     places::key_less(s, at, next)
 }
 
 // Whether each of the n lines is good, and keys rise.
 fn lines_pass(s: &[u8], n: usize, words: &[u8], lent: &[u8], highest: &[u8]) -> bool
-    requires { ⌜ length (now s) ≡ n * 98 ⌝ }
+    requires { ⌜ length (now s) ≡ n * recordBytes ⌝ }
     requires { ⌜ now words ≡ kindWords ⌝ }
     requires { ⌜ now lent ≡ tables ⌝ }
     requires { ⌜ now highest ≡ highestClock ⌝ }
@@ -153,8 +156,8 @@ fn lines_pass(s: &[u8], n: usize, words: &[u8], lent: &[u8], highest: &[u8]) -> 
 {
     let mut i = 0;
     while i < n {
-        let at = i * 98;
-        let end = at + 98;
+        let at = i * RECORD_BYTES;
+        let end = at + RECORD_BYTES;
         if !line_good(&s[at..end], words, lent, highest) {
             return false;
         }
@@ -170,8 +173,8 @@ fn lines_pass(s: &[u8], n: usize, words: &[u8], lent: &[u8], highest: &[u8]) -> 
 pub fn records_ok(records: &[u8]) -> bool
     ensures { λ r. ⌜ r ≡ recordsAccepted (now (records .entry)) ⌝ }
 {
-    let n = records.len() / 98;
-    if n * 98 != records.len() {
+    let n = records.len() / RECORD_BYTES;
+    if n * RECORD_BYTES != records.len() {
         return false;
     }
     if n < 1 {

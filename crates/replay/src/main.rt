@@ -7,6 +7,7 @@ mod print;
 
 use script::reply::Reply;
 use script::scan::Command;
+use types::RECORD_BYTES;
 
 // A history has at most 500,000 bytes, and one byte more tells a longer one.
 const LONGEST: usize = 500000;
@@ -90,7 +91,7 @@ fn history(input: &mut [u8]) {
     }
     let size = (head.coordinator + 1) * 15;
     let from = 9 + size;
-    let to = from + head.records * 98;
+    let to = from + head.records * RECORD_BYTES;
     if input.len() < to {
         io::write_all(1, b"bad input\n");
         return;

@@ -4,6 +4,7 @@ ghost use mathlib.Core.Bool.{true};
 ghost use Prim.Native.Nat.{_+_, _<_, _≤_};
 ghost use lib.ListN.{length};
 ghost use Rattle.lists.specs.Bytes.{eqList};
+ghost use Rattle.model.specs.Layouts.{recordBytes};
 ghost use Rattle.model.specs.Records.{recordsAccepted, keyInRange, found, keyNumbers};
 ghost use Rattle.model.specs.Records as model;
 ghost use Rattle.sheet_laws.specs.Keys.{keyLine};
@@ -14,6 +15,7 @@ ghost use Rattle.sheets.specs.Search.{keyField, foundLine};
 use types::Found;
 use types::Key;
 use types::Layout;
+use types::RECORD_BYTES;
 
 // Where each key field begins, and the end of the last.
 const EDGES: [usize; 6] = [0, 2, 5, 8, 14, 20];
@@ -43,7 +45,7 @@ fn key_line(key: Key) -> [u8; 21]
 
 // Key field f of the line at `at` is that of the key line.
 fn same_field(records: &[u8], at: usize, text: &[u8], f: usize) -> bool
-    requires { ⌜ (f < 5) × ((at + 98 ≤ length (now records)) × (21 ≤ length (now text))) ⌝ }
+    requires { ⌜ (f < 5) × ((at + recordBytes ≤ length (now records)) × (21 ≤ length (now text))) ⌝ }
     ensures { λ r. ⌜ r ≡ eqList (keyField f at (now (records .entry))) (keyField f 0 (now (text .entry))) ⌝ }
 {
     let edges = EDGES;
@@ -57,12 +59,12 @@ fn same_field(records: &[u8], at: usize, text: &[u8], f: usize) -> bool
 // The place of the first line that begins as a key line does. Fields are compared from the last, in which neighbouring lines differ most often.
 fn find_line(records: &[u8], text: &[u8]) -> Found
     requires { ⌜ 21 ≤ length (now text) ⌝ }
-    ensures { λ r. ⌜ r ≡ foundLine 0 (now (text .entry)) (linesOf 98 (now (records .entry))) ⌝ }
+    ensures { λ r. ⌜ r ≡ foundLine 0 (now (text .entry)) (linesOf recordBytes (now (records .entry))) ⌝ }
 {
-    let n = records.len() / 98;
+    let n = records.len() / RECORD_BYTES;
     let mut i = 0;
     'lines: while i < n {
-        let at = i * 98;
+        let at = i * RECORD_BYTES;
         let mut f = 5;
         while 0 < f {
             f -= 1;
@@ -109,8 +111,8 @@ pub fn lookup(records: &[u8], key: Key) -> &[u8]
     }
     match find(records, key) {
         Found::At(i) => {
-            let at = i * 98;
-            let end = at + 98;
+            let at = i * RECORD_BYTES;
+            let end = at + RECORD_BYTES;
             &records[at..end]
         }
         Found::Nothing => &records[..0],

@@ -9,6 +9,7 @@ ghost use Rattle.model.specs.Visitor.{firstLayout, inputFits, inputConditions};
 ghost use Rattle.sweep.specs.FirstLine.{firstOf, placeOfRecords, Small};
 use crate::FirstLine;
 use decimal::Scan;
+use types::RECORD_BYTES;
 
 fn is_number(s: Scan) -> bool
     ensures { λ r. ⌜ r ≡ isNumber s ⌝ }
@@ -71,7 +72,7 @@ fn fits(input: &[u8]) -> bool
         return false;
     }
     let first = numbers(input);
-    input.len() == records_from(first) + first.lines as usize * 98
+    input.len() == records_from(first) + first.lines as usize * RECORD_BYTES
 }
 
 // 0, or the refusal of an input: 1 or 2.
