@@ -17,7 +17,7 @@ use Rattle.model.specs.Layouts.{recordBytes}
 use Rattle.model.specs.Records.{records, recordsText, recordIn, recordText, recordsGood, recordsAccepted, noRecord}
 use Rattle.model.specs.Coordinator.{coordinatorText}
 use Rattle.model.specs.SheetCalls.{lineAt}
-use Rattle.model.specs.Writes.{Sheets, Write, sheetsGood, lineAfter, linesAfter, apply}
+use Rattle.model.specs.Writes.{Write, sheetsGood, lineAfter, linesAfter, apply}
 use Rattle.model.specs.Results.{Call, advance, Result, writeOf}
 use Rattle.model.specs.CallByPlace.{named, advanceAtResult}
 use Rattle.model.specs.Histories.{written, after, ClockFits}

@@ -2,7 +2,7 @@
 use Prim.Native.Nat.{ℕ, suc, _+_, _^_, _≤_, _<_}
 use mathlib.Core.Path.{_≡_, refl, sym, ap, _∙_}
 use mathlib.Core.Bool.{Bool, true, false, _&&_, _||_, not, true≢false}
-use mathlib.Core.List.{List, []}
+use mathlib.Core.List.{List}
 use mathlib.Core.Option.{some, Option·none-ne-some}
 use native.Mathlib.Omega.{arith}
 use native.Mathlib.Numerals.{add-one}
@@ -21,7 +21,7 @@ use Rattle.types.specs.declared.Transaction.{Transaction}
 use Rattle.types.specs.declared.Found.{Found}
 use Rattle.types.specs.declared.Recovery.{Recovery}
 use Rattle.types.specs.declared.Recovery.the-variants.{Stays, Forward, Back, Again, Busy}
-use Rattle.model.specs.Records.{isZero, sameKey, hasLine, lineOf, keyInRange, byFound}
+use Rattle.model.specs.Records.{isZero, sameKey, hasLine, lineOf, byFound}
 use Rattle.model.specs.Coordinator.{withIssued}
 use Rattle.model.specs.Transactions.{withdrawPhase, noVerdict, held, noEntry, heldAt, entryAs, withPut, moved, withEntry}
 use Rattle.model.specs.Images.{isPrepared, rolledForward}

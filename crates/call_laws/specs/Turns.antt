@@ -1,13 +1,11 @@
 -- A turn on accepted bytes is the turn on what they say, and leaves accepted bytes. A call has these laws already; an advance by place is the advance of
 -- the one named, or refused.
-use Prim.Native.Nat.{ℕ}
-use mathlib.Core.Path.{_≡_, refl, sym, ap, _∙_, subst}
+use mathlib.Core.Path.{_≡_, sym, ap, _∙_, subst}
 use mathlib.Core.Bool.{true}
-use mathlib.Core.List.{List}
 use mathlib.Core.Option.{some, Option·none-ne-some}
 use Rattle.types.specs.declared.Transaction.{Transaction}
 use Rattle.model.specs.Writes.{Sheets, sheetsGood, apply}
-use Rattle.model.specs.Results.{Call, advance, Result, writeOf}
+use Rattle.model.specs.Results.{advance, Result, writeOf}
 use Rattle.model.specs.CallByPlace.{named, advanceAtResult, advanceAtOn}
 use Rattle.model.specs.WellFormed.{wellFormed}
 use Rattle.model.specs.Histories.{Event, Answer, returned, answerOf, answer, returns, written, after, ClockFits}

@@ -1,14 +1,13 @@
 -- One turn of reading and of writing a line, field i of it.
-use Prim.Native.Nat.{ℕ, zero, suc, _+_, _-_, _≤_, _<_}
+use Prim.Native.Nat.{ℕ, suc, _+_, _-_, _≤_, _<_}
 use mathlib.Core.Path.{_≡_, refl, sym, ap, ap₂, _∙_}
-use mathlib.Core.Bool.{Bool, true, false, _&&_, cond}
+use mathlib.Core.Bool.{true, false, _&&_}
 use mathlib.Core.List.{List, [], _∷_, _++_, append-assoc, append-nil}
 use native.Mathlib.Omega.{arith}
 use native.Mathlib.Nat.{add-zero}
 use native.Mathlib.Numerals.{add-one}
 use lib.ListN.{length, take, drop, getD, set, length-set, length-drop, length-take, length-append, drop-of-length-le}
 use lib.Seq.{drop-cons, drop-drop, take-all, take-at, take-suc-set, append-snoc, set-split, getD-drop}
-use lib.Dec.{leb}
 use Rattle.lists.specs.Each.{all}
 use Rattle.lists.specs.All.{all-at}
 use Rattle.decimal.specs.Field.{number}

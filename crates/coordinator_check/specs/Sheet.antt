@@ -30,7 +30,7 @@ use Rattle.sheet_laws.specs.Coordinator.{bounds}
 use Rattle.sheet_laws.specs.Decisions.{issued-at, accepted-parts, parts-accepted, accepted-length, length-decisions}
 use Rattle.coordinator_check.specs.Numbers.{columns}
 use Rattle.coordinator_check.specs.Head.{lettersSet, head-set}
-use Rattle.coordinator_check.specs.Lines.{Bytes, table, lineMade, wordFor, backOf, told, decisionFor}
+use Rattle.coordinator_check.specs.Lines.{Bytes, table, wordFor, backOf, told, decisionFor}
 use Rattle.coordinator_check.specs.Passes.{linesMade, Reads, made-read, read-made, Ready}
 
 -- a head and 1 to 999 lines of 15 bytes
@@ -160,24 +160,6 @@ unfolding words bytes decisionNumber loaded isUndecided
 tells-none Undecided p = refl
 tells-none Committed p = absurd (true≢false (sym p))
 tells-none Aborted p = absurd (true≢false (sym p))
-
--- A line alone: what is judged is that the line can be read and has its number.
-pub line-judged : (k : ℕ) (r : List ℕ) → k < 999 → Bytes r → 16 ≤ length r → getD r 0 0 ≡ 10
-    → lineMade (columns (suc k)) anyDecision r
-    ≡ (lineSet lineLayout (take 15 (drop 1 r)) && eqb (getD (rowOf lineLayout (take 15 (drop 1 r))) 0 0) (suc k))
-unfolding linesMade pieces all numbered
-line-judged k r l f n z =
-    let a = lineSet lineLayout (take 15 (drop 1 r)) in
-    let b = eqb (getD (rowOf lineLayout (take 15 (drop 1 r))) 0 0) (suc k) in
-    same-test (lineMade (columns (suc k)) anyDecision r) (a && b)
-    (λ h.
-    let t = made-read Undecided Committed Aborted Undecided (λ (d : Decision). true) refl k 1 r f (omega arith) (omega arith) (and-both h refl) in
-    and-both (and-fst a true (t .readable)) (and-fst b true (t .in-turn)))
-    (λ h.
-    and-fst (lineMade (columns (suc k)) anyDecision r) true
-    (read-made Undecided Committed Aborted Undecided (λ (d : Decision). true) tells-any k 1 r f (omega arith) (omega arith) z
-    (record { readable = and-both (and-fst a b h) refl; in-turn = and-both (and-snd a b h) refl; decided = refl })
-    .0))
 
 module _ (s : List ℕ) (each : Bytes s) where
   each-from : (a : ℕ) → Bytes (drop a s)

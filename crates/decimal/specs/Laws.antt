@@ -201,16 +201,6 @@ fieldText-bytes zero v i = omega arith
 fieldText-bytes (suc w) v i =
     below-append 256 (ahead w (v / 10)) ((48 + v % 10) ∷ []) (ahead-bytes w (v / 10)) (below-one 256 (48 + v % 10) (omega arith)) i
 
-pub figure-never-blank : (low high : ℕ) (s : List ℕ) → figure low high s ≡ Blank → ⊥
-figure-never-blank low high s =
-    figure-by
-    (λ (r : Scan). r ≡ Blank → ⊥)
-    low
-    high
-    s
-    (λ e. let z : _≡_ {A = ℕ} 0 1 = cc in omega arith)
-    (λ v e a b q. let z : _≡_ {A = ℕ} 0 1 = cc in omega arith)
-
 pub isNumber-number : (r : Scan) → isNumber r ≡ true → r ≡ Number (number r)
 unfolding isNumber number
 isNumber-number Blank e = absurd (true≢false (sym e))

@@ -1,6 +1,6 @@
 -- Advance, case by case in the order of its conditions; an accepted one is the step of its phase.
 use Prim.Native.Nat.{ℕ}
-use mathlib.Core.Path.{_≡_, refl, sym, ap, _∙_}
+use mathlib.Core.Path.{_≡_, _∙_}
 use mathlib.Core.Bool.{Bool, true, false}
 use mathlib.Core.List.{List, [], _∷_}
 use Rattle.types.specs.declared.Decision.{Decision}
@@ -20,7 +20,7 @@ use Rattle.steps.specs.Ready.{Ready}
 use Rattle.steps.specs.Stepped.{Stepped}
 use Rattle.engine.specs.declared.Stepped as Answer
 use Rattle.engine.specs.Answers.{stepped}
-use Rattle.engine.specs.Outcomes.{Written, Outcome, outcome-refused, outcome-made}
+use Rattle.engine.specs.Outcomes.{Outcome, outcome-made}
 use Rattle.engine.specs.Admission.{admitting, Admitted, turned-by, admitted-result, stepped-made}
 
 -- refusal 4, by the phase and the decision on the own line

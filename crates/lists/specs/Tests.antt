@@ -1,7 +1,6 @@
 -- Tests joined by `&&`, and choices by a test: each with the rules that a proof uses.
 use mathlib.Core.Path.{_≡_, refl, sym, ap, _∙_}
 use mathlib.Core.Bool.{Bool, true, false, _&&_, cond, true≢false}
-use Prim.Native.Nat.{ℕ}
 use borrow.Author.Tests.{eqb-true, leb-true, ltb-true}
 
 -- the first of two tests that hold together

@@ -1,5 +1,5 @@
 -- The coordinator sheet: numbers issued, units and decisions, and its rules. Document 01, "Coordinator sheet".
-use Prim.Native.Nat.{ℕ, zero, suc, _+_}
+use Prim.Native.Nat.{ℕ, zero, suc}
 use mathlib.Core.Bool.{Bool, true, false, _&&_}
 use mathlib.Core.List.{List, [], _∷_, _++_, map}
 use lib.ListN.{length, take, drop, getD, set}

@@ -1,6 +1,6 @@
 -- Fields, lines and sheets of lines, read and written by a layout: one codec for every kind of line.
 -- A line is read into a row of numbers, one for each field.
-use Prim.Native.Nat.{ℕ, suc, _+_, _-_, _*_, _/_}
+use Prim.Native.Nat.{ℕ, suc, _-_, _*_, _/_}
 use mathlib.Core.Bool.{Bool, true, _&&_, cond}
 use mathlib.Core.List.{List, [], _∷_, _++_, map}
 use lib.ListN.{length, take, drop, getD}

@@ -3,7 +3,6 @@ ghost use mathlib.Core.Path.{_≡_};
 ghost use Prim.Native.Nat.{_+_, _^_, _<_};
 ghost use Rattle.model.specs.Images as model;
 ghost use Rattle.model.specs.Images.{isPrepared, preparedBy, rolledForward, rolledBack, beforeState, putImage, lineExpired};
-ghost use Rattle.model.specs.Visits as visits;
 ghost use mathlib.Core.Bool.{cond};
 ghost use Rattle.types.specs.declared.Recovery.the-variants.{Again, Busy};
 use types::Decision;
@@ -159,17 +158,4 @@ fn undecided(expired: bool) -> Recovery
         return Recovery::Again;
     }
     Recovery::Busy
-}
-
-// The record as the visit leaves it.
-pub fn recovered(v: Recovery, r: Record) -> Record
-    ensures { λ p. ⌜ p ≡ visits.recovered v r ⌝ }
-{
-    match v {
-        Recovery::Stays => r,
-        Recovery::Forward => rolled_forward(r),
-        Recovery::Back => rolled_back(r),
-        Recovery::Again => r,
-        Recovery::Busy => r,
-    }
 }

@@ -15,7 +15,6 @@ ghost use Rattle.record_check.specs.Relations.{highestClock, clockFits, 
 ghost use Rattle.record_check.specs.Line.{lineGood, kindOf};
 ghost use Rattle.record_check.specs.Sheet.{keyBefore, linesPass};
 ghost use Rattle.record_check.specs.Tables.{tables};
-
 use types::RECORD_BYTES;
 
 // The state word of each kind of line, in ten bytes: ABSENT, COMMITTED, PREPARED over nothing and PREPARED over a version.

@@ -1,5 +1,4 @@
 -- Demand 3 over bytes: the bytes of both sheets are a kind of sheets, and an accepted record sheet is the text of what it says.
-use Prim.Native.Nat.{ℕ}
 use mathlib.Core.Path.{_≡_, sym, ap, _∙_}
 use mathlib.Core.Bool.{true}
 use mathlib.Core.List.{List, [], map}

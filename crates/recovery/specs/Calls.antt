@@ -22,11 +22,11 @@ use Rattle.types.specs.declared.Transaction.{Transaction}
 use Rattle.types.specs.declared.Found.{Found}
 use Rattle.types.specs.declared.Found.the-variants.{Nothing}
 use Rattle.types.specs.declared.Recovery.{Recovery}
-use Rattle.model.specs.Records.{sameKey, lineOf, hasLine, keyInRange, isMissing, byFound}
+use Rattle.model.specs.Records.{sameKey, lineOf, isMissing, byFound}
 use Rattle.model.specs.Coordinator.{Coordinator, decision, isUndecided, coordinatorGood}
 use Rattle.model.specs.Images.{preparedBy}
 use Rattle.model.specs.Writes.{Sheets, Write, nothing, issue, lineAfter, decisionsAfter, apply}
-use Rattle.model.specs.WellFormed.{columnsInRange, wellFormed}
+use Rattle.model.specs.WellFormed.{wellFormed}
 use Rattle.model.specs.Visits.{ownerDecision, ownerExpired, meeting, isAgain, recovered, recoveryWrite}
 use Rattle.model.specs.Results.{Call, begin, read, put, advance, abort, visit, Result, refused, writeOf}
 use Rattle.model.specs.Transactions.{withdrawPhase, isPut, held, noEntry, heldAt, entryAs, withPut, moved, withEntry}

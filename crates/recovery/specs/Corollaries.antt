@@ -1,14 +1,12 @@
 -- What learners doubt, as corollaries of the invariant.
 use Prim.Native.Nat.{ℕ, _<_}
 use mathlib.Core.Path.{_≡_, sym, ap, _∙_}
-use mathlib.Core.Bool.{Bool, true, false, not, _||_}
+use mathlib.Core.Bool.{Bool, true, false, _||_}
 use mathlib.Core.List.{List, [], _∷_, map}
-use native.Mathlib.Omega.{arith}
-use borrow.Author.Tests.{not-false}
 use Rattle.types.specs.declared.Decision.the-variants.{Undecided, Committed}
 use Rattle.types.specs.declared.Key.{Key}
 use Rattle.types.specs.declared.Record.{Record}
-use Rattle.model.specs.Records.{lineOf, hasLine, keyInRange}
+use Rattle.model.specs.Records.{lineOf}
 use Rattle.model.specs.Coordinator.{decision}
 use Rattle.model.specs.Images.{isPrepared, rolledBack}
 use Rattle.model.specs.Writes.{Sheets, sheetsGood}
@@ -20,9 +18,8 @@ use Rattle.model.specs.Histories.{answer, written, after, eventsAfter, leftBy, 
 use Rattle.model.specs.SequentialModel.{firstModel, modelAfter, isCommitted}
 use Rattle.model.specs.RecoveryPass.{Visit, visitCall, nonePrepared, Expiring, Closing}
 use Rattle.types.specs.declared.Recovery.{Recovery}
-use Rattle.call_laws.specs.Choices.{unless-by, testOf, accepted}
-use Rattle.call_laws.specs.Lines.{listsKey, has-line}
-use Rattle.call_laws.specs.Sheets.{GoodSheets, good-parts, parts-good}
+use Rattle.call_laws.specs.Choices.{unless-by}
+use Rattle.call_laws.specs.Sheets.{parts-good}
 use Rattle.call_laws.specs.Closure.{sheets-stay-good}
 use Rattle.recovery.specs.Settling.{settled-back}
 use Rattle.recovery.specs.Memory.{Away, away-nothing}

@@ -22,7 +22,6 @@ use Rattle.model.specs.Histories.{Event, returns, taken, Available}
 use Rattle.model.specs.SequentialModel.{Model, modelCommit, isCommitted}
 use Rattle.call_laws.specs.Keeping.{issued-grows}
 use Rattle.model.specs.Records.{lineOf}
-use Rattle.call_laws.specs.Sheets.{GoodSheets}
 use Rattle.recovery.specs.Memory.{preparedColumns, Away, undecided-kept, none-prepared-kept}
 use Rattle.recovery.specs.Settling.{
   Gentle,

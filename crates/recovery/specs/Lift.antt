@@ -7,7 +7,7 @@ use mathlib.Core.List.{List, [], _∷_, map}
 use Rattle.model.specs.Writes.{Sheets, sheetsGood}
 use Rattle.model.specs.Results.{Call}
 use Rattle.model.specs.Histories.{Event, Answer, answer, after, ClockFits, Permitted, leftBy}
-use Rattle.model.specs.SequentialModel.{Model, firstModel, modelAfter}
+use Rattle.model.specs.SequentialModel.{firstModel, modelAfter}
 use Rattle.model.specs.RecoveryPass.{Visit, visitCall, nonePrepared, Expiring, Closing}
 use Rattle.model.specs.Turns.{Turn, turnEvent, turnAfter, turnOnePhase, turnsLeft, onePhaseTurn, turnEvents, LegalTurns}
 use Rattle.model.specs.Recovered.{modelAfterTurns}

@@ -5,7 +5,6 @@ use mathlib.Core.Path.{_≡_, refl, sym, ap, ap₂, _∙_}
 use mathlib.Core.Bool.{Bool, true, false, _&&_, cond, true≢false}
 use mathlib.Core.List.{[], _∷_}
 use lib.Dec.{eqb}
-use borrow.Author.Tests.{eqb-true}
 use Rattle.lists.specs.Tests.{choose-by}
 use Rattle.types.specs.declared.Decision.{Decision}
 use Rattle.types.specs.declared.Decision.the-variants.{Committed}
@@ -20,10 +19,10 @@ use Rattle.model.specs.Refusals.{refusalOf}
 use Rattle.model.specs.Images.{isPrepared, byDecision, rolledForward, recovery}
 use Rattle.model.specs.Writes.{Sheets, Write, forward, lineAfter, apply}
 use Rattle.model.specs.Visits.{ownerDecision, ownerExpired, meeting, isAgain, recoveryWrite}
-use Rattle.model.specs.Results.{read, visit, Result, made, refused, writeOf}
+use Rattle.model.specs.Results.{read, visit, Result, refused, writeOf}
 use Rattle.model.specs.Conditions.{isNew, heldEntry, conditions}
-use Rattle.model.specs.Calls.{ReadAnswer, readHeld, readNew, readResult, visitResult}
-use Rattle.model.specs.Histories.{Answer, refusalIn, visited, answerOf, readAnswered, answer, written, after}
+use Rattle.model.specs.Calls.{ReadAnswer, readHeld, readNew, readResult}
+use Rattle.model.specs.Histories.{refusalIn, visited, answerOf, readAnswered, answer, written, after}
 use Rattle.model.specs.ByteHistories.{Bytes, saying, Passing, answerOn, afterOn}
 use Rattle.model.specs.RecoveryPass.{lineUndecided}
 use Rattle.call_laws.specs.Lines.{listsKey, has-line, still-forward}

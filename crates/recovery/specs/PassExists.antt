@@ -6,11 +6,10 @@ use mathlib.Core.Bool.{Bool, true, false, _||_, cond, true≢false}
 use mathlib.Core.List.{List, [], _∷_, _++_, map}
 use native.Mathlib.Omega.{arith}
 use Rattle.lists.specs.Each.{any, count}
-use Rattle.lists.specs.Chosen.{or-fst, or-snd}
 use Rattle.lists.specs.Tests.{and-fst}
 use Rattle.types.specs.declared.Key.{Key}
 use Rattle.types.specs.declared.Record.{Record}
-use Rattle.model.specs.Records.{sameKey, lineOf, absentAt}
+use Rattle.model.specs.Records.{sameKey, lineOf}
 use Rattle.model.specs.Coordinator.{isUndecided}
 use Rattle.model.specs.Images.{isPrepared, elapsed, lineExpired}
 use Rattle.model.specs.Writes.{Sheets, sheetsGood}

@@ -12,28 +12,11 @@ use Rattle.types.specs.declared.Columns.{Columns}
 use Rattle.types.specs.declared.Record.{Record}
 use Rattle.types.specs.declared.Transaction.{Transaction}
 use Rattle.model.specs.Coordinator.{decision}
-use Rattle.model.specs.Writes.{Sheets, sheetsGood, nothing, isOnePhase, apply}
-use Rattle.model.specs.Results.{Call, advance, Result, refused, writeOf}
+use Rattle.model.specs.Writes.{Sheets, sheetsGood, isOnePhase, apply}
+use Rattle.model.specs.Results.{Call, advance, Result, writeOf}
 use Rattle.model.specs.Calls.{advanceResult}
 use Rattle.model.specs.CallByPlace.{listed, named, advanceAtResult}
-use Rattle.model.specs.Histories.{
-  Event,
-  Answer,
-  turnedAway,
-  returned,
-  answerOf,
-  answer,
-  returns,
-  written,
-  after,
-  Available,
-  Permitted,
-  event,
-  eventsAfter,
-  leftBy,
-  Legal,
-  onePhaseIn,
-}
+use Rattle.model.specs.Histories.{Event, turnedAway, returned, answerOf, answer, returns, written, after, Available, Permitted, event, eventsAfter, leftBy, Legal, onePhaseIn}
 use Rattle.model.specs.SequentialModel.{Model, firstModel, modelStep, modelAfter, isCommitted}
 use Rattle.model.specs.RecoveryPass.{Visit, visitCall, nonePrepared, Closing}
 use Rattle.model.specs.Turns.{

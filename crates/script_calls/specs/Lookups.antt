@@ -1,5 +1,5 @@
 -- A look-up that is not refused: the sheet is accepted, the key is in range, and a place that was found is one of 500.
-use Prim.Native.Nat.{ℕ, _+_, _*_, _/_, _≤_, _<_}
+use Prim.Native.Nat.{ℕ, _≤_, _<_}
 use mathlib.Core.Path.{_≡_}
 use mathlib.Core.Bool.{true}
 use mathlib.Core.List.{List}

@@ -1,11 +1,11 @@
 -- The coordinator sheet: both round trips, by the head and then line by line, and as numbers; what setting a decision and
 -- raising the issued count do.
-use Prim.Native.Nat.{ℕ, zero, suc, _+_, _-_, _*_, _/_, _≤_, _<_}
-use mathlib.Core.Path.{_≡_, refl, sym, ap, ap₂, subst, _∙_}
-use mathlib.Core.Bool.{Bool, true, false, _&&_}
+use Prim.Native.Nat.{ℕ, zero, suc, _+_, _*_, _/_, _≤_}
+use mathlib.Core.Path.{_≡_, refl, ap, ap₂, _∙_}
+use mathlib.Core.Bool.{true, _&&_}
 use mathlib.Core.List.{List, [], _∷_, _++_, map}
 use native.Mathlib.Omega.{arith}
-use lib.ListN.{length, take, drop, getD, set, length-map, length-set, length-append, length-drop, length-take, take-append-drop}
+use lib.ListN.{length, take, drop, getD, length-map, take-append-drop}
 use lib.Seq.{take-at, drop-at}
 use lib.Dec.{eqb, leb}
 use borrow.Author.Tests.{eqb-true, leb-true, eq-eqb, le-leb}
@@ -21,38 +21,9 @@ use Rattle.types.specs.declared.AtomicityUnit.the-variants.{Record as RecordUni
 use Rattle.types.specs.declared.Column.{Column}
 use Rattle.model.specs.Layouts.{headLayout, lineLayout, decisionColumn, words, figures}
 use Rattle.model.specs.Lines.{fieldValue, fieldBytes, wordFrom, rowOf, lineSet, lineText, rowGood, inRange, linesOf, linesSet}
-use Rattle.model.specs.Coordinator.{
-  Coordinator,
-  decisionNumber,
-  decisionOf,
-  unitNumber,
-  unitOf,
-  isUndecided,
-  coordinatorGood,
-  decisionIn,
-  decisionLines,
-  coordinatorOf,
-  numbered,
-  coordinatorAccepted,
-  decisionTexts,
-  headNumbers,
-  coordinatorText,
-  coordinatorNumbers,
-  coordinatorFrom,
-  numbersAccepted,
-}
+use Rattle.model.specs.Coordinator.{Coordinator, decisionNumber, decisionOf, unitNumber, unitOf, coordinatorGood, decisionIn, coordinatorOf, numbered, coordinatorAccepted, decisionTexts, headNumbers, coordinatorText}
 use Rattle.sheet_laws.specs.Fields.{columnOk, allBelow, isThe, wordOk}
-use Rattle.sheet_laws.specs.Lines.{
-  layoutOk,
-  lineBytes,
-  length-rowOf,
-  line-length,
-  line-written-read,
-  line-read-written,
-  row-read-written,
-  row-in-range,
-  length-lineText,
-}
+use Rattle.sheet_laws.specs.Lines.{layoutOk, lineBytes, length-rowOf, line-length, line-written-read, line-read-written, row-read-written, row-in-range}
 
 pub decision-of-number : (d : Decision) → decisionOf (decisionNumber d) ≡ d
 unfolding decisionOf decisionNumber

@@ -1,18 +1,16 @@
 -- A coordinator as numbers, ten for the head and one for each decision: both round trips, part by part.
-use Prim.Native.Nat.{ℕ, zero, suc, _+_, _-_, _≤_, _<_}
-use mathlib.Core.Path.{_≡_, refl, sym, ap, ap₂, _∙_}
-use mathlib.Core.Bool.{Bool, true, false, _&&_, true≢false}
+use Prim.Native.Nat.{ℕ, _≤_}
+use mathlib.Core.Path.{_≡_, sym, ap, ap₂, _∙_}
+use mathlib.Core.Bool.{true, true≢false}
 use mathlib.Core.List.{List, [], _∷_, _++_, map}
 use native.Mathlib.Omega.{arith}
-use lib.ListN.{length, take, drop, getD, length-map, length-append, length-take, take-append-drop}
+use lib.ListN.{length, take, drop, length-map, length-append, length-take, take-append-drop}
 use lib.Seq.{take-at, drop-at}
-use lib.Dec.{leb}
-use borrow.Author.Tests.{leb-true, le-leb}
-use Rattle.lists.specs.Tests.{and-fst, and-snd, and-both, tests}
+use borrow.Author.Tests.{le-leb}
+use Rattle.lists.specs.Tests.{and-both, tests}
 use Rattle.lists.specs.Each.{all}
 use Rattle.lists.specs.All.{all-map, all-weaken, all-always, map-map, map-same}
 use Rattle.types.specs.declared.Decision.{Decision}
-use Rattle.types.specs.declared.AtomicityUnit.{AtomicityUnit}
 use Rattle.model.specs.Layouts.{headLayout, decisionColumn}
 use Rattle.model.specs.Lines.{rowGood, inRange}
 use Rattle.model.specs.Coordinator.{
@@ -27,16 +25,7 @@ use Rattle.model.specs.Coordinator.{
   coordinatorFrom,
   numbersAccepted,
 }
-use Rattle.sheet_laws.specs.Coordinator.{
-  Bounds,
-  bounds,
-  decision-of-number,
-  number-of-decision,
-  decision-ranged,
-  units-back,
-  head-ranged,
-  head-numbers,
-}
+use Rattle.sheet_laws.specs.Coordinator.{bounds, decision-of-number, number-of-decision, decision-ranged, units-back, head-ranged, head-numbers}
 
 -- the decisions of numbers, and back
 decisions-back : (ds : List Decision) → map decisionOf (map decisionNumber ds) ≡ ds

@@ -1,15 +1,15 @@
 -- A line of the coordinator sheet by its number, and its head's count: what they say, and what replacing one does.
 -- A line goes by `pieces` of what follows the head; the count by the first column of the head.
-use Prim.Native.Nat.{ℕ, zero, suc, _+_, _-_, _*_, _/_, _^_, _≤_, _<_}
-use mathlib.Core.Path.{_≡_, refl, sym, ap, ap₂, _∙_}
-use mathlib.Core.Bool.{Bool, true, false, _&&_}
+use Prim.Native.Nat.{ℕ, zero, suc, _+_, _*_, _/_, _≤_, _<_}
+use mathlib.Core.Path.{_≡_, refl, sym, ap, _∙_}
+use mathlib.Core.Bool.{true}
 use mathlib.Core.List.{List, [], _∷_, _++_, map}
 use native.Mathlib.Omega.{arith}
 use native.Mathlib.Numerals.{add-one}
-use lib.ListN.{length, take, drop, getD, set, length-map, length-set, length-append, length-drop, length-take, List·getD-map}
+use lib.ListN.{length, take, drop, getD, set, length-map, length-set, length-take, List·getD-map}
 use lib.Seq.{take-at, drop-at, drop-set-lt, drop-drop, take-add, take-append-add, drop-append-add, take-take}
 use lib.Dec.{eqb, leb}
-use borrow.Author.Tests.{eqb-true, leb-true, eq-eqb, le-leb}
+use borrow.Author.Tests.{eq-eqb, le-leb}
 use Rattle.lists.specs.Bytes.{bytes, eqList}
 use Rattle.lists.specs.Tests.{and-fst, and-snd, and-both, tests}
 use Rattle.lists.specs.Each.{all, pieces}
@@ -37,15 +37,7 @@ use Rattle.model.specs.Coordinator.{
   coordinatorAccepted,
 }
 use Rattle.sheet_laws.specs.Lines.{line-length, first-field-row, first-field-set}
-use Rattle.sheet_laws.specs.Coordinator.{
-  Bounds,
-  bounds,
-  decisionText,
-  head-bytes,
-  decision-read-written,
-  decision-text-set,
-  length-decisionText,
-}
+use Rattle.sheet_laws.specs.Coordinator.{bounds, decisionText, head-bytes, decision-read-written, decision-text-set, length-decisionText}
 
 -- the lines after the head
 pub length-decisions : (s : List ℕ) → length (coordinatorOf s .decisions) ≡ length (drop 15 s) / 15

@@ -3,14 +3,13 @@
 -- word of the set, and the second holds since reading compares with the words themselves.
 use Prim.Native.Nat.{ℕ, zero, suc, _+_, _-_, _^_, _≤_, _<_}
 use mathlib.Core.Path.{_≡_, refl, sym, ap, subst, _∙_}
-use mathlib.Core.Bool.{Bool, true, false, _&&_, cond, true≢false}
+use mathlib.Core.Bool.{Bool, true, false, _&&_, true≢false}
 use mathlib.Core.List.{List, [], _∷_}
 use native.Mathlib.Omega.{arith}
-use native.Mathlib.Nat.{sub-self}
-use lib.ListN.{length, take, drop, getD}
+use lib.ListN.{length, getD}
 use lib.Dec.{eqb, leb, ltb}
-use borrow.Author.Tests.{eqb-true, eqb-false, leb-true, ltb-true, le-leb}
-use Rattle.lists.specs.Tests.{and-fst, and-snd, and-both, choose-by, tests}
+use borrow.Author.Tests.{eqb-true, eqb-false, le-leb}
+use Rattle.lists.specs.Tests.{and-fst, and-snd, and-both, tests}
 use Rattle.lists.specs.Bytes.{bytes, eqList, eqList-true}
 use Rattle.lists.specs.Each.{all}
 use Rattle.decimal.specs.declared.Scan.{Scan}

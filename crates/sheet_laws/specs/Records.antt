@@ -1,60 +1,26 @@
 -- The record sheet: an accepted sheet is the text of its records, and rule-keeping records are those of their text.
 -- A line goes by the round trips of `recordLayout`, a sheet line by line; replacing a line is replacing a record.
-use Prim.Native.Nat.{ℕ, zero, suc, _+_, _-_, _*_, _/_, _≤_, _<_}
-use mathlib.Core.Path.{_≡_, refl, sym, ap, ap₂, subst, _∙_}
-use mathlib.Core.Bool.{Bool, true, false, _&&_}
-use mathlib.Core.List.{List, [], _∷_, _++_, map}
+use Prim.Native.Nat.{ℕ, zero, suc, _*_, _/_, _≤_}
+use mathlib.Core.Path.{_≡_, refl, ap, _∙_}
+use mathlib.Core.Bool.{Bool, true}
+use mathlib.Core.List.{List, map}
 use native.Mathlib.Omega.{arith}
-use lib.ListN.{length, take, drop, getD, set, length-map, length-set, List·getD-map}
-use lib.Dec.{eqb, leb}
-use borrow.Author.Tests.{eqb-true, leb-true, eq-eqb}
-use Rattle.lists.specs.Tests.{and-fst, and-snd, and-both, tests}
+use lib.ListN.{length, getD, length-map}
+use lib.Dec.{leb}
+use borrow.Author.Tests.{leb-true, eq-eqb}
+use Rattle.lists.specs.Tests.{and-snd, and-both, tests}
 use Rattle.lists.specs.Bytes.{bytes, eqList}
 use Rattle.lists.specs.Each.{all, joined, pieces, listed}
-use Rattle.lists.specs.All.{all-at, all-set, all-map, all-weaken, all-of, map-same, map-map, map-set, listed-is}
-use Rattle.lists.specs.Pieces.{AllOf, over, joined-pieces, pieces-joined, length-joined, length-pieces, pieces-over, getD-pieces, length-over}
+use Rattle.lists.specs.All.{all-map, all-weaken, all-of, map-same, map-map, listed-is}
+use Rattle.lists.specs.Pieces.{joined-pieces, pieces-joined, length-joined}
 use Rattle.types.specs.declared.State.{State}
 use Rattle.types.specs.declared.State.the-variants.{Absent, Committed, Prepared}
-use Rattle.types.specs.declared.Kind.the-variants.{Figure}
-use Rattle.types.specs.declared.Column.{Column}
 use Rattle.types.specs.declared.Record.{Record}
 use Rattle.model.specs.Layouts.{recordLayout, words, figures, recordBytes}
 use Rattle.model.specs.Lines.{fieldValue, fieldBytes, wordFrom, rowOf, lineSet, lineText, rowGood, inRange, linesOf, linesSet}
-use Rattle.model.specs.Records.{
-  stateNumber,
-  stateOf,
-  keyNumbers,
-  imageNumbers,
-  keyOf,
-  imageFrom,
-  recordOf,
-  recordNumbers,
-  goodAlone,
-  keyLess,
-  inOrder,
-  rising,
-  recordsGood,
-  recordIn,
-  recordText,
-  records,
-  recordsText,
-  recordsAccepted,
-  rows,
-  allNumbers,
-  rowsAccepted,
-}
+use Rattle.model.specs.Records.{stateNumber, stateOf, keyNumbers, imageNumbers, keyOf, imageFrom, recordOf, recordNumbers, goodAlone, recordsGood, recordIn, recordText, records, recordsText, recordsAccepted}
 use Rattle.sheet_laws.specs.Fields.{columnOk, allBelow, isThe, wordOk}
-use Rattle.sheet_laws.specs.Lines.{
-  layoutOk,
-  lineBytes,
-  length-rowOf,
-  line-length,
-  line-written-read,
-  line-read-written,
-  row-read-written,
-  row-in-range,
-  length-lineText,
-}
+use Rattle.sheet_laws.specs.Lines.{layoutOk, lineBytes, length-rowOf, line-length, line-written-read, line-read-written, row-read-written, row-in-range}
 
 state-of-number : (s : State) → stateOf (stateNumber s) ≡ s
 unfolding stateOf stateNumber

@@ -1,16 +1,14 @@
 -- A line settled by moving bytes: a state word, one of the line's two images, nothing before it. In a line that can be read each field's text is its bytes,
 -- so the texts of key and images are found where their columns stand.
 use Prim.Native.Nat.{ℕ, _+_, _-_, _*_, _/_, _<_}
-use mathlib.Core.Path.{_≡_, refl, sym, ap, ap₂, subst, _∙_}
+use mathlib.Core.Path.{_≡_, refl, sym, ap, ap₂, _∙_}
 use mathlib.Core.Bool.{Bool, true, false, cond}
 use mathlib.Core.List.{List, [], _∷_, _++_, append-assoc}
 use native.Mathlib.Omega.{arith}
 use lib.ListN.{length, take, drop, getD, length-take, length-drop, length-append}
-use Rattle.lists.specs.Tests.{tests}
-use Rattle.lists.specs.Each.{all, pieces}
-use Rattle.lists.specs.All.{all-at}
+use Rattle.lists.specs.Each.{all}
 use Rattle.lists.specs.Bytes.{bytes}
-use Rattle.lists.specs.Pieces.{over, over-next, getD-pieces, length-pieces}
+use Rattle.lists.specs.Pieces.{over, over-next}
 use Rattle.decimal.specs.Field.{ahead, fieldText}
 use Rattle.types.specs.declared.Image.{Image}
 use Rattle.types.specs.declared.Kind.the-variants.{StateWord}
@@ -18,7 +16,7 @@ use Rattle.types.specs.declared.Record.{Record}
 use Rattle.types.specs.declared.State.{State}
 use Rattle.types.specs.declared.State.the-variants.{Absent, Committed, Prepared}
 use Rattle.model.specs.Layouts.{recordLayout, keyLayout, imageLayout, words, wordAt, noColumn, recordBytes}
-use Rattle.model.specs.Lines.{fieldBytes, rowOf, lineSet, lineText, linesOf, linesSet}
+use Rattle.model.specs.Lines.{fieldBytes, rowOf, lineSet, lineText}
 use Rattle.model.specs.Records.{
   noImage,
   noRecord,

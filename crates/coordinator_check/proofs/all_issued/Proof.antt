@@ -30,24 +30,6 @@ half-requires c κs =
 loop-holds : tie.Need-loop-holds Inv-loop μ-loop
 loop-holds c = named-first _ _
 
-mul-half : tie.Need-mul-half Inv-loop μ-loop
-mul-half c = search needs
-
-add-half : tie.Need-add-half Inv-loop μ-loop
-add-half c = search needs
-
-half-requires-2 : tie.Need-half-requires-2 Inv-loop μ-loop
-half-requires-2 c κs = search needs
-
-mul-half-2 : tie.Need-mul-half-2 Inv-loop μ-loop
-mul-half-2 c = search needs
-
-add-half-2 : tie.Need-add-half-2 Inv-loop μ-loop
-add-half-2 c = search needs
-
-half-requires-3 : tie.Need-half-requires-3 Inv-loop μ-loop
-half-requires-3 c κs = search needs
-
 -- what the two numbers of record i and the records after it make up
 whole : (c : tie.After-half3 Inv-loop μ-loop)
     → let a = c .before .before .before .before .before .before .before .args in
@@ -76,12 +58,6 @@ returns-2 c =
     let before = c .before .before .half3 in
     rw (lt-leb (before .result) (issued .result) (c .if2 .taken), and-false) at (whole (c .before .before))
 
-add-i : tie.Need-add-i Inv-loop μ-loop
-add-i c = search needs
-
-loop-less : tie.Need-loop-less Inv-loop μ-loop
-loop-less c = search needs
-
 loop-again : tie.Need-loop-again Inv-loop μ-loop
 loop-again c =
     let issued = c .before .before .before .before .before .before .half in
@@ -105,15 +81,15 @@ all-issued-spec =
     μ-loop
     half-requires
     loop-holds
-    mul-half
-    add-half
-    half-requires-2
-    mul-half-2
-    add-half-2
-    half-requires-3
+    (λ c. search needs)
+    (λ c. search needs)
+    (λ c κs. search needs)
+    (λ c. search needs)
+    (λ c. search needs)
+    (λ c κs. search needs)
     returns
     returns-2
-    add-i
-    loop-less
+    (λ c. search needs)
+    (λ c. search needs)
     loop-again
     returns-3)

@@ -18,9 +18,6 @@ whole c = sym (c .before .whole-lines .ensures) ∙ not-false (c .before .whole-
 lettered : (c : tie.Else2) → lettersSet (take 15 (c .before .before .before .before .before .before .args .coordinator .now)) ≡ true
 lettered c = sym (c .before .letters-ok .ensures) ∙ not-false (c .before .letters-ok .result) (c .if2 .left)
 
-whole-lines-requires : tie.Need-whole-lines-requires
-whole-lines-requires c κs = search needs
-
 returns : tie.Need-returns
 returns c =
     let s = c .before .before .before .args .coordinator .now in
@@ -47,24 +44,9 @@ slice-aggregate-read c =
     let w = whole-parts _ (whole (c .before .before .before .before)) in
     simp length-take (omega arith)
 
-read-requires : tie.Need-read-requires
-read-requires c κs = search needs
-
-enum-known-issued : tie.Need-enum-known-issued
-enum-known-issued c = search needs
-
-cast-decisions-ok : tie.Need-cast-decisions-ok
-cast-decisions-ok c = search needs
-
 decisions-ok-requires : tie.Need-decisions-ok-requires
 decisions-ok-requires c κs =
     (whole (c .before .before .before .before .before .before .before .before), sym (c .before .before .before .read .ensures) ∙ c .before .issued .given .1)
-
-enum-told : tie.Need-enum-told
-enum-told c = search needs
-
-enum-told-2 : tie.Need-enum-told-2
-enum-told-2 c = search needs
 
 -- what is read decides, once the lines are whole and the letters set
 decided : (c : tie.After-read)
@@ -91,18 +73,18 @@ pub coordinator-ok-spec : {M : Type 1} → statement M
 coordinator-ok-spec =
     tie.close
     (tie.spec
-    whole-lines-requires
+    (λ c κs. search needs)
     returns
     slice-aggregate-letters-ok
     letters-ok-requires
     returns-2
     slice-aggregate-read
-    read-requires
-    enum-known-issued
-    cast-decisions-ok
+    (λ c κs. search needs)
+    (λ c. search needs)
+    (λ c. search needs)
     decisions-ok-requires
-    enum-told
-    enum-told-2
+    (λ c. search needs)
+    (λ c. search needs)
     returns-3
     returns-4
     returns-5)

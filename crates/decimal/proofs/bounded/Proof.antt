@@ -5,12 +5,6 @@ use Rattle.decimal.specs.Field.{within}
 use Rattle.decimal.proofs.bounded.Statement.{statement}
 use Rattle.decimal.proofs.bounded.Tie as tie
 
-enum-told : tie.Need-enum-told
-enum-told c = search needs
-
-enum-known-st : tie.Need-enum-known-st
-enum-known-st c = search needs
-
 returns : tie.Need-returns
 unfolding within
 returns c = rw (c .before .before .st .given .1, lt-leb _ _ (c .if1 .taken))
@@ -18,9 +12,6 @@ returns c = rw (c .before .before .st .given .1, lt-leb _ _ (c .if1 .taken))
 returns-2 : tie.Need-returns-2
 unfolding within
 returns-2 c = rw (c .before .before .before .st .given .1, le-leb _ _ (c .before .if1 .left), lt-leb _ _ (c .if2 .taken))
-
-enum-told-2 : tie.Need-enum-told-2
-enum-told-2 c = search needs
 
 returns-3 : tie.Need-returns-3
 unfolding within
@@ -37,4 +28,4 @@ returns-5 c = rw (c .enum-told2 .given .1)
 pub bounded-spec : {M : Type 1} → statement M
 bounded-spec =
     tie.close
-    (tie.spec enum-told enum-known-st returns returns-2 enum-told-2 returns-3 returns-4 returns-5)
+    (tie.spec (λ c. search needs) (λ c. search needs) returns returns-2 (λ c. search needs) returns-3 returns-4 returns-5)

@@ -20,24 +20,12 @@ returns-2 c =
     let a = c .before .before .args in
     rw (le-leb 48 (a .b) (c .before .if1 .left), lt-leb (a .b) 57 (c .if2 .taken))
 
-mul-n : tie.Need-mul-n
-mul-n c = search needs
-
-cast-n : tie.Need-cast-n
-cast-n c = search needs
-
-add-n : tie.Need-add-n
-add-n c = search needs
-
 returns-3 : tie.Need-returns-3
 unfolding capped
 returns-3 c =
     let a = c .before .before .before .args in
     let d : isDigit (a .b) ≡ true = and-both (le-leb 48 (a .b) (c .before .before .if1 .left)) (le-leb (a .b) 57 (c .before .if2 .left)) in
     rw (d, lt-leb (a .v * 10 + (a .b - 48)) (a .high) (c .if3 .taken))
-
-cast-t10 : tie.Need-cast-t10
-cast-t10 c = search needs
 
 returns-4 : tie.Need-returns-4
 unfolding capped
@@ -47,4 +35,4 @@ returns-4 c =
     rw (d, le-leb (a .v * 10 + (a .b - 48)) (a .high) (c .if3 .left))
 
 pub digit-spec : {M : Type 1} → statement M
-digit-spec = tie.close (tie.spec returns returns-2 mul-n cast-n add-n returns-3 cast-t10 returns-4)
+digit-spec = tie.close (tie.spec returns returns-2 (λ c. search needs) (λ c. search needs) (λ c. search needs) returns-3 (λ c. search needs) returns-4)

@@ -24,26 +24,11 @@ returns c =
     let l = c .before .before .loop in
     sym (byte-after-zero (a .high) (a .s .now) (l .i) (c .before .loop-test .taken) (l .v) (c .if1 .taken)) ∙ l .inv
 
-shared-slice-read-digit : tie.Need-shared-slice-read-digit Inv-loop μ-loop
-shared-slice-read-digit c = search needs
-
-digit-requires : tie.Need-digit-requires Inv-loop μ-loop
-digit-requires c κs = search needs
-
-enum-known-more : tie.Need-enum-known-more Inv-loop μ-loop
-enum-known-more c = search needs
-
-enum-told : tie.Need-enum-told Inv-loop μ-loop
-enum-told c = search needs
-
 returns-2 : tie.Need-returns-2 Inv-loop μ-loop
 returns-2 c =
     let a = c .before .before .before .before .before .before .before .before .args in
     let l = c .before .before .before .before .before .before .loop in
     absurd (longer-unblank (a .high) (l .v) (getD (a .s .now) (l .i) 0) (sym (c .before .before .digit .ensures) ∙ c .enum-told .given .1))
-
-enum-told-2 : tie.Need-enum-told-2 Inv-loop μ-loop
-enum-told-2 c = search needs
 
 returns-3 : tie.Need-returns-3 Inv-loop μ-loop
 returns-3 c =
@@ -52,12 +37,6 @@ returns-3 c =
     let e = more-byte (a .high) (a .s .now) (l .i) (c .before .before .before .before .before .loop-test .taken) (l .v) (c .before .before .before .before .if1 .left) in
     let w : longer (a .high) (l .v) (getD (a .s .now) (l .i) 0) ≡ Wrong = sym (c .before .before .digit .ensures) ∙ c .enum-told2 .given .1 in
     sym (scan-to-wrong (a .high) (drop (l .i + 1) (a .s .now))) ∙ (sym (ap (λ (st : Scan). scannedTo (a .high) st (drop (l .i + 1) (a .s .now))) w) ∙ (sym e ∙ l .inv))
-
-add-i : tie.Need-add-i Inv-loop μ-loop
-add-i c = search needs
-
-loop-less : tie.Need-loop-less Inv-loop μ-loop
-loop-less c = search needs
 
 loop-again : tie.Need-loop-again Inv-loop μ-loop
 loop-again c =
@@ -80,14 +59,14 @@ digits-spec =
     μ-loop
     loop-holds
     returns
-    shared-slice-read-digit
-    digit-requires
-    enum-known-more
-    enum-told
+    (λ c. search needs)
+    (λ c κs. search needs)
+    (λ c. search needs)
+    (λ c. search needs)
     returns-2
-    enum-told-2
+    (λ c. search needs)
     returns-3
-    add-i
-    loop-less
+    (λ c. search needs)
+    (λ c. search needs)
     loop-again
     returns-4)

@@ -24,9 +24,6 @@ blank : (low high n : ℕ) (s : List ℕ) → n ≡ spaces s → length s ≤ n 
 unfolding within
 blank low high n s e l = from-start low high n s Blank e (sym (no-byte high Blank s n l))
 
-spaces-requires : tie.Need-spaces-requires
-spaces-requires c κs = search needs
-
 returns : tie.Need-returns
 returns c =
     let a = c .before .before .before .args in
@@ -39,13 +36,10 @@ behind-requires c κs =
     let l : c .before .spaces .result < length s = omega (arith, c .if1 .left) in
     (l, subst (λ (n : ℕ). eqb (getD s n 0) 32 ≡ false) (sym e) (behind-spaces s (subst (λ (n : ℕ). n < length s) e l)))
 
-bounded-requires : tie.Need-bounded-requires
-bounded-requires c κs = search needs
-
 returns-2 : tie.Need-returns-2
 returns-2 c =
     let a = c .before .before .before .before .before .args in
     c .bounded .ensures ∙ from-start (a .low) (a .high) _ (a .s .now) _ (c .before .before .before .spaces .ensures) (c .before .behind .ensures)
 
 pub read-spec : {M : Type 1} → statement M
-read-spec = tie.close (tie.spec spaces-requires returns behind-requires bounded-requires returns-2)
+read-spec = tie.close (tie.spec (λ c κs. search needs) returns behind-requires (λ c κs. search needs) returns-2)

@@ -40,24 +40,14 @@ returns : tie.Need-returns Inv-loop μ-loop
 returns c = sym (ne-eqList _ _ (λ e. c .if1 .taken (ap length e)))
 
 loop-holds : tie.Need-loop-holds Inv-loop μ-loop
-loop-holds c = (omega arith, c .if1 .left, none (c .before .args .s .now) (c .before .args .t .now) _ refl (c .if1 .left))
-
-sub-i : tie.Need-sub-i Inv-loop μ-loop
-sub-i c = search needs
-
-shared-slice-read-if2 : tie.Need-shared-slice-read-if2 Inv-loop μ-loop
-shared-slice-read-if2 c = search needs
-
-shared-slice-read-if2-2 : tie.Need-shared-slice-read-if2-2 Inv-loop μ-loop
-shared-slice-read-if2-2 c = search needs
+loop-holds c =
+    let a = c .before .args in
+    (omega arith, c .if1 .left, none (a .s .now) (a .t .now) _ refl (c .if1 .left))
 
 returns-2 : tie.Need-returns-2 Inv-loop μ-loop
 returns-2 c =
     let a = c .before .before .before .before .before .before .args in
     sym (ne-eqList (a .s .now) (a .t .now) (λ e. c .if2 .taken (ap (λ (u : List ℕ). getD u (c .before .before .before .before .loop .i - 1) 0) e)))
-
-loop-less : tie.Need-loop-less Inv-loop μ-loop
-loop-less c = search needs
 
 loop-again : tie.Need-loop-again Inv-loop μ-loop
 loop-again c =
@@ -81,10 +71,10 @@ same-spec =
     μ-loop
     returns
     loop-holds
-    sub-i
-    shared-slice-read-if2
-    shared-slice-read-if2-2
+    (λ c. search needs)
+    (λ c. search needs)
+    (λ c. search needs)
     returns-2
-    loop-less
+    (λ c. search needs)
     loop-again
     returns-3)

@@ -49,37 +49,15 @@ abbrev μ-loop : tie.MeasureT-loop
 μ-loop s₀ v i₀ rest₀ s i rest = i
 
 returns : tie.Need-returns Inv-loop μ-loop
-returns c = no-column (c .before .before .args .s .now) (c .before .before .args .v) (c .if1 .taken)
-
-sub-i : tie.Need-sub-i Inv-loop μ-loop
-sub-i c = search needs
-
-cast-s : tie.Need-cast-s Inv-loop μ-loop
-cast-s c = search needs
-
-add-s : tie.Need-add-s Inv-loop μ-loop
-add-s c = search needs
-
-slice-write-s : tie.Need-slice-write-s Inv-loop μ-loop
-slice-write-s c = search needs
+returns c =
+    let a = c .before .before .args in
+    no-column (a .s .now) (a .v) (c .if1 .taken)
 
 loop-holds : tie.Need-loop-holds Inv-loop μ-loop
 loop-holds c =
     let a = c .before .before .args in
     let e = last-column (a .s .now) (length (a .s .now)) (a .v) refl (omega arith) in
     (rw length-set (omega arith), refl, rw length-set e)
-
-sub-i-2 : tie.Need-sub-i-2 Inv-loop μ-loop
-sub-i-2 c = search needs
-
-column-requires : tie.Need-column-requires Inv-loop μ-loop
-column-requires c κs = search needs
-
-slice-write-s-2 : tie.Need-slice-write-s-2 Inv-loop μ-loop
-slice-write-s-2 c = search needs
-
-loop-less : tie.Need-loop-less Inv-loop μ-loop
-loop-less c = search needs
 
 loop-again : tie.Need-loop-again Inv-loop μ-loop
 loop-again c =
@@ -103,15 +81,15 @@ write-spec =
     Inv-loop
     μ-loop
     returns
-    sub-i
-    cast-s
-    add-s
-    slice-write-s
+    (λ c. search needs)
+    (λ c. search needs)
+    (λ c. search needs)
+    (λ c. search needs)
     loop-holds
-    sub-i-2
-    column-requires
-    slice-write-s-2
-    loop-less
+    (λ c. search needs)
+    (λ c κs. search needs)
+    (λ c. search needs)
+    (λ c. search needs)
     loop-again
     same-length
     returns-2)

@@ -5,12 +5,6 @@ use Rattle.places.specs.Loads.{turned-is}
 use Rattle.places.proofs.half.Statement.{statement}
 use Rattle.places.proofs.half.Tie as tie
 
-load-four-requires : tie.Need-load-four-requires
-load-four-requires c κs = search needs
-
-turned-requires : tie.Need-turned-requires
-turned-requires c κs = search needs
-
 returns : tie.Need-returns
 returns c = let a = c .before .before .before .args in (
   rw (c .turned .ensures .0, c .before .load-four .ensures .0)
@@ -19,4 +13,4 @@ returns c = let a = c .before .before .before .args in (
 )
 
 pub half-spec : {M : Type 1} → statement M
-half-spec = tie.close (tie.spec load-four-requires turned-requires returns)
+half-spec = tie.close (tie.spec (λ c κs. search needs) (λ c κs. search needs) returns)

@@ -4,10 +4,14 @@ use Rattle.places.proofs.higher.Statement.{statement}
 use Rattle.places.proofs.higher.Tie as tie
 
 returns : tie.Need-returns
-returns c = rw (lt-ltb (c .before .args .a) (c .before .args .b) (c .if1 .taken))
+returns c =
+    let a1 = c .before .args in
+    rw (lt-ltb (a1 .a) (a1 .b) (c .if1 .taken))
 
 returns-2 : tie.Need-returns-2
-returns-2 c = rw (le-ltb (c .before .args .a) (c .before .args .b) (c .if1 .left))
+returns-2 c =
+    let a1 = c .before .args in
+    rw (le-ltb (a1 .a) (a1 .b) (c .if1 .left))
 
 pub higher-spec : {M : Type 1} → statement M
 higher-spec = tie.close (tie.spec returns returns-2)

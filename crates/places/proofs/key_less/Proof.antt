@@ -9,12 +9,6 @@ use Rattle.places.specs.Order.{part-split}
 use Rattle.places.proofs.key_less.Statement.{statement}
 use Rattle.places.proofs.key_less.Tie as tie
 
-word-requires : tie.Need-word-requires
-word-requires c κs = search needs
-
-word-requires-2 : tie.Need-word-requires-2
-word-requires-2 c κs = search needs
-
 returns : tie.Need-returns
 returns c =
     let a = c .before .before .before .before .args in
@@ -24,15 +18,6 @@ returns c =
     let of-s : (i : ℕ) → getD s i 0 < 256 = λ i. c .before .before .before .shared-slice-known .given i .fits in
     let split = part-split s s of-s of-s 8 12 (a .a) (a .b) (omega arith) (omega arith) in
     rw (v, w) (sym (rw (ne-eqb _ _ (rw (v, w) at (c .if1 .taken))) at split))
-
-add-twelve-less : tie.Need-add-twelve-less
-add-twelve-less c = search needs
-
-add-twelve-less-2 : tie.Need-add-twelve-less-2
-add-twelve-less-2 c = search needs
-
-twelve-less-requires : tie.Need-twelve-less-requires
-twelve-less-requires c κs = search needs
 
 returns-2 : tie.Need-returns-2
 returns-2 c =
@@ -47,10 +32,10 @@ pub key-less-spec : {M : Type 1} → statement M
 key-less-spec =
     tie.close
     (tie.spec
-    word-requires
-    word-requires-2
+    (λ c κs. search needs)
+    (λ c κs. search needs)
     returns
-    add-twelve-less
-    add-twelve-less-2
-    twelve-less-requires
+    (λ c. search needs)
+    (λ c. search needs)
+    (λ c κs. search needs)
     returns-2)

@@ -27,9 +27,6 @@ tables : (c : tie.Else1 Inv-loop μ-loop)
     Lengths (a .line .now) (a .low .now) (a .high .now) (a .also .now)
 tables c = let a = c .before .before .before .before .before .before .args in lengths (a .line .now) (a .low .now) (a .high .now) (a .also .now) (told c)
 
-as-long-requires : tie.Need-as-long-requires Inv-loop μ-loop
-as-long-requires c κs = search needs
-
 returns : tie.Need-returns Inv-loop μ-loop
 unfolding lineOk
 returns c = rw (sym (c .before .as-long .ensures) ∙ not-true (c .before .as-long .result) (c .if1 .taken))
@@ -37,23 +34,11 @@ returns c = rw (sym (c .before .as-long .ensures) ∙ not-true (c .before .as-lo
 loop-holds : tie.Need-loop-holds Inv-loop μ-loop
 loop-holds c = (omega arith, refl)
 
-sub-stands : tie.Need-sub-stands Inv-loop μ-loop
-sub-stands c = search needs
-
-shared-slice-read-stands : tie.Need-shared-slice-read-stands Inv-loop μ-loop
-shared-slice-read-stands c = search needs
-
 stands-requires : tie.Need-stands-requires Inv-loop μ-loop
 stands-requires c κs =
     let l = c .before .before .loop in
     let t = tables (c .before .before .before) in
     omega (arith, c .before .before .before .before .before .before .before .before .before .pre (l .i))
-
-add-i : tie.Need-add-i Inv-loop μ-loop
-add-i c = search needs
-
-loop-less : tie.Need-loop-less Inv-loop μ-loop
-loop-less c = search needs
 
 loop-again : tie.Need-loop-again Inv-loop μ-loop
 loop-again c =
@@ -88,13 +73,13 @@ line-ok-spec =
     (tie.spec
     Inv-loop
     μ-loop
-    as-long-requires
+    (λ c κs. search needs)
     returns
     loop-holds
-    sub-stands
-    shared-slice-read-stands
+    (λ c. search needs)
+    (λ c. search needs)
     stands-requires
-    add-i
-    loop-less
+    (λ c. search needs)
+    (λ c. search needs)
     loop-again
     returns-2)

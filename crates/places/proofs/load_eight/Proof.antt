@@ -5,21 +5,6 @@ use Rattle.places.specs.Loads.{loaded-eight}
 use Rattle.places.proofs.load_eight.Statement.{statement}
 use Rattle.places.proofs.load_eight.Tie as tie
 
-load-four-requires : tie.Need-load-four-requires
-load-four-requires c κs = search needs
-
-add-load-four : tie.Need-add-load-four
-add-load-four c = search needs
-
-load-four-requires-2 : tie.Need-load-four-requires-2
-load-four-requires-2 c κs = search needs
-
-mul-result : tie.Need-mul-result
-mul-result c = search needs
-
-add-result : tie.Need-add-result
-add-result c = search needs
-
 returns : tie.Need-returns
 returns c =
     let a = c .before .before .before .args in
@@ -28,4 +13,4 @@ returns c =
 pub load-eight-spec : {M : Type 1} → statement M
 load-eight-spec =
     tie.close
-    (tie.spec load-four-requires add-load-four load-four-requires-2 mul-result add-result returns)
+    (tie.spec (λ c κs. search needs) (λ c. search needs) (λ c κs. search needs) (λ c. search needs) (λ c. search needs) returns)

@@ -5,12 +5,6 @@ use Rattle.places.specs.Loads.{loaded-six}
 use Rattle.places.proofs.load_six.Statement.{statement}
 use Rattle.places.proofs.load_six.Tie as tie
 
-sub-load-eight : tie.Need-sub-load-eight
-sub-load-eight c = search needs
-
-load-eight-requires : tie.Need-load-eight-requires
-load-eight-requires c κs = search needs
-
 returns : tie.Need-returns
 returns c = let a = c .before .before .args in (
   rw (c .load-eight .ensures) (loaded-six (a .s .now) (a .at) (λ i. c .before .shared-slice-known .given i .fits) (omega arith) (omega arith)),
@@ -18,4 +12,4 @@ returns c = let a = c .before .before .args in (
 )
 
 pub load-six-spec : {M : Type 1} → statement M
-load-six-spec = tie.close (tie.spec sub-load-eight load-eight-requires returns)
+load-six-spec = tie.close (tie.spec (λ c. search needs) (λ c κs. search needs) returns)

@@ -7,24 +7,6 @@ use Rattle.places.specs.Loads.{split-equal}
 use Rattle.places.proofs.ten_equal.Statement.{statement}
 use Rattle.places.proofs.ten_equal.Tie as tie
 
-load-eight-requires : tie.Need-load-eight-requires
-load-eight-requires c κs = search needs
-
-load-eight-requires-2 : tie.Need-load-eight-requires-2
-load-eight-requires-2 c κs = search needs
-
-add-load-two : tie.Need-add-load-two
-add-load-two c = search needs
-
-load-two-requires : tie.Need-load-two-requires
-load-two-requires c κs = search needs
-
-add-load-two-2 : tie.Need-add-load-two-2
-add-load-two-2 c = search needs
-
-load-two-requires-2 : tie.Need-load-two-requires-2
-load-two-requires-2 c κs = search needs
-
 returns : tie.Need-returns
 returns c =
     let k = c .before .before .before .before .before .before in
@@ -39,10 +21,10 @@ pub ten-equal-spec : {M : Type 1} → statement M
 ten-equal-spec =
     tie.close
     (tie.spec
-    load-eight-requires
-    load-eight-requires-2
-    add-load-two
-    load-two-requires
-    add-load-two-2
-    load-two-requires-2
+    (λ c κs. search needs)
+    (λ c κs. search needs)
+    (λ c. search needs)
+    (λ c κs. search needs)
+    (λ c. search needs)
+    (λ c κs. search needs)
     returns)

@@ -23,12 +23,6 @@ mul-v c = let l = c .before .loop in omega (arith, number-fits (l .v) (l .i) 7 (
 add-v : tie.Need-add-v Inv-loop μ-loop
 add-v c = let l = c .before .loop in omega (arith, number-fits (l .v) (l .i) 7 (l .inv .1) (omega arith))
 
-add-i : tie.Need-add-i Inv-loop μ-loop
-add-i c = search needs
-
-loop-less : tie.Need-loop-less Inv-loop μ-loop
-loop-less c = search needs
-
 loop-again : tie.Need-loop-again Inv-loop μ-loop
 loop-again c = let l = c .before .loop in (
   omega arith,
@@ -39,10 +33,11 @@ loop-again c = let l = c .before .loop in (
 returns : tie.Need-returns Inv-loop μ-loop
 unfolding turned
 returns c =
+    let a = c .before .before .args in
     let l = c .before .loop in
-    let e : c .before .before .args .n - l .i ≡ 0 = omega arith in
-    (rw e at (l .inv .2), number-fits (l .v) (l .i) (c .before .before .args .n) (l .inv .1) (l .inv .0))
+    let e : a .n - l .i ≡ 0 = omega arith in
+    (rw e at (l .inv .2), number-fits (l .v) (l .i) (a .n) (l .inv .1) (l .inv .0))
 
 pub turned-spec : {M : Type 1} → statement M
 turned-spec =
-    tie.close (tie.spec Inv-loop μ-loop loop-holds mul-v add-v add-i loop-less loop-again returns)
+    tie.close (tie.spec Inv-loop μ-loop loop-holds mul-v add-v (λ c. search needs) (λ c. search needs) loop-again returns)

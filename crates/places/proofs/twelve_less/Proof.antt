@@ -9,12 +9,6 @@ use Rattle.places.specs.Order.{part-less, part-split}
 use Rattle.places.proofs.twelve_less.Statement.{statement}
 use Rattle.places.proofs.twelve_less.Tie as tie
 
-word-requires : tie.Need-word-requires
-word-requires c κs = search needs
-
-word-requires-2 : tie.Need-word-requires-2
-word-requires-2 c κs = search needs
-
 returns : tie.Need-returns
 returns c =
     let a = c .before .before .before .before .before .args in
@@ -26,18 +20,6 @@ returns c =
     let of-t : (i : ℕ) → getD t i 0 < 256 = λ i. c .before .before .before .shared-slice-known2 .given i .fits in
     let split = part-split s t of-s of-t 8 4 (a .a) (a .b) (omega arith) (omega arith) in
     rw (v, w) (sym (rw (ne-eqb _ _ (rw (v, w) at (c .if1 .taken))) at split))
-
-add-half : tie.Need-add-half
-add-half c = search needs
-
-half-requires : tie.Need-half-requires
-half-requires c κs = search needs
-
-add-half-2 : tie.Need-add-half-2
-add-half-2 c = search needs
-
-half-requires-2 : tie.Need-half-requires-2
-half-requires-2 c κs = search needs
 
 returns-2 : tie.Need-returns-2
 returns-2 c =
@@ -55,11 +37,11 @@ pub twelve-less-spec : {M : Type 1} → statement M
 twelve-less-spec =
     tie.close
     (tie.spec
-    word-requires
-    word-requires-2
+    (λ c κs. search needs)
+    (λ c κs. search needs)
     returns
-    add-half
-    half-requires
-    add-half-2
-    half-requires-2
+    (λ c. search needs)
+    (λ c κs. search needs)
+    (λ c. search needs)
+    (λ c κs. search needs)
     returns-2)

@@ -5,12 +5,6 @@ use Rattle.places.specs.Loads.{turned-is}
 use Rattle.places.proofs.word.Statement.{statement}
 use Rattle.places.proofs.word.Tie as tie
 
-load-eight-requires : tie.Need-load-eight-requires
-load-eight-requires c κs = search needs
-
-turned-requires : tie.Need-turned-requires
-turned-requires c κs = search needs
-
 returns : tie.Need-returns
 returns c =
     let a = c .before .before .before .args in
@@ -18,4 +12,4 @@ returns c =
     (turned-is (a .s .now) 8 (a .at) (λ i. c .before .before .shared-slice-known .given i .fits) (omega arith))
 
 pub word-spec : {M : Type 1} → statement M
-word-spec = tie.close (tie.spec load-eight-requires turned-requires returns)
+word-spec = tie.close (tie.spec (λ c κs. search needs) (λ c κs. search needs) returns)

@@ -9,24 +9,12 @@ use Rattle.record_check.proofs.key_rises.Statement.{statement}
 use Rattle.record_check.proofs.key_rises.Tie as tie
 use Rattle.model.specs.Layouts.{recordBytes}
 
-add-if1 : tie.Need-add-if1
-add-if1 c = search needs
-
 returns : tie.Need-returns
 unfolding keyBefore
 returns c =
     let a = c .before .before .args in
     let e : a .n - (a .i + 1) ≡ 0 = omega arith in
     rw e
-
-mul-at : tie.Need-mul-at
-mul-at c = search needs
-
-add-next : tie.Need-add-next
-add-next c = search needs
-
-key-less-requires : tie.Need-key-less-requires
-key-less-requires c κs = search needs
 
 returns-2 : tie.Need-returns-2
 unfolding keyBefore
@@ -36,4 +24,4 @@ returns-2 c =
     rw (e, drop-drop recordBytes (a .i * recordBytes) (a .s .now)) (c .key-less .ensures)
 
 pub key-rises-spec : {M : Type 1} → statement M
-key-rises-spec = tie.close (tie.spec add-if1 returns mul-at add-next key-less-requires returns-2)
+key-rises-spec = tie.close (tie.spec (λ c. search needs) returns (λ c. search needs) (λ c. search needs) (λ c κs. search needs) returns-2)

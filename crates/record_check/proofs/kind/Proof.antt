@@ -13,38 +13,11 @@ use Rattle.record_check.specs.Line.{kindOf, nothing-is}
 use Rattle.record_check.proofs.kind.Statement.{statement}
 use Rattle.record_check.proofs.kind.Tie as tie
 
-load-eight-requires : tie.Need-load-eight-requires
-load-eight-requires c κs = search needs
-
 load-eight-requires-2 : tie.Need-load-eight-requires-2
 load-eight-requires-2 c κs = let l = ap length (c .before .before .before .pre .1) ∙ words-length in omega arith
 
 load-eight-requires-3 : tie.Need-load-eight-requires-3
 load-eight-requires-3 c κs = let l = ap length (c .before .before .before .before .pre .1) ∙ words-length in omega arith
-
-load-two-requires : tie.Need-load-two-requires
-load-two-requires c κs = search needs
-
-bit-requires : tie.Need-bit-requires
-bit-requires c κs = search needs
-
-bit-requires-2 : tie.Need-bit-requires-2
-bit-requires-2 c κs = search needs
-
-mul-kind : tie.Need-mul-kind
-mul-kind c = search needs
-
-add-kind : tie.Need-add-kind
-add-kind c = search needs
-
-bit-requires-3 : tie.Need-bit-requires-3
-bit-requires-3 c κs = search needs
-
-add-kind-2 : tie.Need-add-kind-2
-add-kind-2 c = search needs
-
-cast-result : tie.Need-cast-result
-cast-result c = search needs
 
 returns : tie.Need-returns
 unfolding kindOf stateTold kindWords words bytes loaded
@@ -69,15 +42,15 @@ pub kind-spec : {M : Type 1} → statement M
 kind-spec =
     tie.close
     (tie.spec
-    load-eight-requires
+    (λ c κs. search needs)
     load-eight-requires-2
     load-eight-requires-3
-    load-two-requires
-    bit-requires
-    bit-requires-2
-    mul-kind
-    add-kind
-    bit-requires-3
-    add-kind-2
-    cast-result
+    (λ c κs. search needs)
+    (λ c κs. search needs)
+    (λ c κs. search needs)
+    (λ c. search needs)
+    (λ c. search needs)
+    (λ c κs. search needs)
+    (λ c. search needs)
+    (λ c. search needs)
     returns)

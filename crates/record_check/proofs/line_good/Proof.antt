@@ -15,12 +15,6 @@ use Rattle.record_check.specs.Line.{lineGood, wordHeld, wordless, low-cl
 use Rattle.record_check.proofs.line_good.Statement.{statement}
 use Rattle.record_check.proofs.line_good.Tie as tie
 
-kind-requires : tie.Need-kind-requires
-kind-requires c κs = search needs
-
-mul-ten-equal : tie.Need-mul-ten-equal
-mul-ten-equal c = search needs
-
 ten-equal-requires : tie.Need-ten-equal-requires
 ten-equal-requires c κs =
     let l = ap length (c .before .before .before .before .before .pre .1 .0) ∙ words-length in
@@ -37,9 +31,6 @@ returns c =
     let f = sym (held (c .before)) ∙ not-true (c .before .ten-equal .result) (c .if1 .taken) in
     sym (wordless (k .before .args .line .now) (λ i. k .shared-slice-known .given i .fits) f)
 
-stands-requires : tie.Need-stands-requires
-stands-requires c κs = search needs
-
 -- the law on a line, of the kind that was found
 law : (c : tie.After-kind)
     → let line = c .before .before .before .before .before .args .line .now in
@@ -53,9 +44,6 @@ returns-2 : tie.Need-returns-2
 returns-2 c =
     let f = sym (c .before .stands .ensures) ∙ not-true (c .before .stands .result) (c .if2 .taken) in
     rw (law (c .before .before .before .before), f)
-
-version-follows-requires : tie.Need-version-follows-requires
-version-follows-requires c κs = search needs
 
 returns-3 : tie.Need-returns-3
 returns-3 c =
@@ -72,9 +60,6 @@ passed c =
     let s = sym (stood .ensures) ∙ not-false (stood .result) (c .before .before .before .if2 .left) in
     let f = sym (followed .ensures) ∙ not-false (followed .result) (c .before .if3 .left) in
     (s, law (c .before .before .before .before .before .before .before) ∙ rw (s, f))
-
-shared-slice-read-if4 : tie.Need-shared-slice-read-if4
-shared-slice-read-if4 c = search needs
 
 returns-4 : tie.Need-returns-4
 returns-4 c =
@@ -97,15 +82,15 @@ pub line-good-spec : {M : Type 1} → statement M
 line-good-spec =
     tie.close
     (tie.spec
-    kind-requires
-    mul-ten-equal
+    (λ c κs. search needs)
+    (λ c. search needs)
     ten-equal-requires
     returns
-    stands-requires
+    (λ c κs. search needs)
     returns-2
-    version-follows-requires
+    (λ c κs. search needs)
     returns-3
-    shared-slice-read-if4
+    (λ c. search needs)
     returns-4
     twelve-less-requires
     returns-5)

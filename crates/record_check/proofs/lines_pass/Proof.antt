@@ -24,24 +24,6 @@ loop-holds c =
     let e : a .n - 0 ≡ a .n = omega arith in
     (omega arith, rw e)
 
-mul-at : tie.Need-mul-at Inv-loop μ-loop
-mul-at c = search needs
-
-add-end : tie.Need-add-end Inv-loop μ-loop
-add-end c = search needs
-
-sub-line-good : tie.Need-sub-line-good Inv-loop μ-loop
-sub-line-good c = search needs
-
-part-line-good-start : tie.Need-part-line-good-start Inv-loop μ-loop
-part-line-good-start c = search needs
-
-part-line-good-end : tie.Need-part-line-good-end Inv-loop μ-loop
-part-line-good-end c = search needs
-
-line-good-requires : tie.Need-line-good-requires Inv-loop μ-loop
-line-good-requires c κs = search needs
-
 -- the answer for a line is that for the 98 bytes at its place
 judged : (c : tie.After-line-good Inv-loop μ-loop)
     → c .line-good .result ≡ lineGood (take recordBytes (drop (c .before .before .before .loop .i * recordBytes) (c .before .before .before .before .before .before .before .before .args .s .now)))
@@ -57,21 +39,12 @@ returns c =
     let f = sym (judged (c .before)) ∙ not-true (c .before .line-good .result) (c .if1 .taken) in
     sym (sym (l .inv .1) ∙ (pass-next (l .i) (a .n) (a .s .now) (c .before .before .before .loop-test .taken) ∙ rw f))
 
-key-rises-requires : tie.Need-key-rises-requires Inv-loop μ-loop
-key-rises-requires c κs = search needs
-
 returns-2 : tie.Need-returns-2 Inv-loop μ-loop
 returns-2 c =
     let a = c .before .before .before .before .before .before .before .before .before .before .before .args in
     let l = c .before .before .before .before .before .before .loop in
     let f = sym (c .before .key-rises .ensures) ∙ not-true (c .before .key-rises .result) (c .if2 .taken) in
     sym (sym (l .inv .1) ∙ (pass-next (l .i) (a .n) (a .s .now) (c .before .before .before .before .before .loop-test .taken) ∙ rw (f, and-false)))
-
-add-i : tie.Need-add-i Inv-loop μ-loop
-add-i c = search needs
-
-loop-less : tie.Need-loop-less Inv-loop μ-loop
-loop-less c = search needs
 
 loop-again : tie.Need-loop-again Inv-loop μ-loop
 loop-again c =
@@ -95,16 +68,16 @@ lines-pass-spec =
     Inv-loop
     μ-loop
     loop-holds
-    mul-at
-    add-end
-    sub-line-good
-    part-line-good-start
-    part-line-good-end
-    line-good-requires
+    (λ c. search needs)
+    (λ c. search needs)
+    (λ c. search needs)
+    (λ c. search needs)
+    (λ c. search needs)
+    (λ c κs. search needs)
     returns
-    key-rises-requires
+    (λ c κs. search needs)
     returns-2
-    add-i
-    loop-less
+    (λ c. search needs)
+    (λ c. search needs)
     loop-again
     returns-3)

@@ -22,9 +22,6 @@ use Rattle.record_check.specs.Sheet.{sheetSized, accepted-is}
 use Rattle.record_check.proofs.records_ok.Statement.{statement}
 use Rattle.record_check.proofs.records_ok.Tie as tie
 
-mul-if1 : tie.Need-mul-if1
-mul-if1 c = search needs
-
 returns : tie.Need-returns
 unfolding sheetSized
 returns c =
@@ -43,15 +40,6 @@ returns-3 c =
     let s = c .before .before .before .before .args .records .now in
     rw (accepted-is s, lt-leb (length s / recordBytes) 500 (c .if3 .taken), and-false, and-false)
 
-slice-aggregate-lines-pass : tie.Need-slice-aggregate-lines-pass
-slice-aggregate-lines-pass c = search needs
-
-slice-aggregate-lines-pass-2 : tie.Need-slice-aggregate-lines-pass-2
-slice-aggregate-lines-pass-2 c = search needs
-
-slice-aggregate-lines-pass-3 : tie.Need-slice-aggregate-lines-pass-3
-slice-aggregate-lines-pass-3 c = search needs
-
 lines-pass-requires : tie.Need-lines-pass-requires
 unfolding kindWords tables rows joined lows highs alsos middle body places partPlaces columns kindParts kindLimits layoutParts columnPart limited narrowed absentLimits firstLimits preparedLimits committedLimits openLayout opened recordLayout fieldBytes fieldText ahead words bytes highestClock
 lines-pass-requires c κs = (sym (c .before .before .before .before .before .if1 .left), (refl, (refl, refl)))
@@ -69,12 +57,12 @@ pub records-ok-spec : {M : Type 1} → statement M
 records-ok-spec =
     tie.close
     (tie.spec
-    mul-if1
+    (λ c. search needs)
     returns
     returns-2
     returns-3
-    slice-aggregate-lines-pass
-    slice-aggregate-lines-pass-2
-    slice-aggregate-lines-pass-3
+    (λ c. search needs)
+    (λ c. search needs)
+    (λ c. search needs)
     lines-pass-requires
     returns-4)

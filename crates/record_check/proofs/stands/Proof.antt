@@ -10,50 +10,11 @@ use Rattle.record_check.specs.Tables.{tables, tables-length, tables-room
 use Rattle.record_check.proofs.stands.Statement.{statement}
 use Rattle.record_check.proofs.stands.Tie as tie
 
-mul-low : tie.Need-mul-low
-mul-low c = search needs
-
-add-high : tie.Need-add-high
-add-high c = search needs
-
-add-also : tie.Need-add-also
-add-also c = search needs
-
-add-end : tie.Need-add-end
-add-end c = search needs
-
-sub-line-ok : tie.Need-sub-line-ok
-sub-line-ok c = search needs
-
-part-line-ok-start : tie.Need-part-line-ok-start
-part-line-ok-start c = search needs
-
-part-line-ok-end : tie.Need-part-line-ok-end
-part-line-ok-end c = search needs
-
-sub-line-ok-2 : tie.Need-sub-line-ok-2
-sub-line-ok-2 c = search needs
-
-part-line-ok-start-2 : tie.Need-part-line-ok-start-2
-part-line-ok-start-2 c = search needs
-
 part-line-ok-end-2 : tie.Need-part-line-ok-end-2
 part-line-ok-end-2 c = let l = ap length (c .before .before .before .pre .1 .0) ∙ tables-length in omega arith
 
-sub-line-ok-3 : tie.Need-sub-line-ok-3
-sub-line-ok-3 c = search needs
-
-part-line-ok-start-3 : tie.Need-part-line-ok-start-3
-part-line-ok-start-3 c = search needs
-
 part-line-ok-end-3 : tie.Need-part-line-ok-end-3
 part-line-ok-end-3 c = let l = ap length (c .before .before .before .before .pre .1 .0) ∙ tables-length in omega arith
-
-sub-line-ok-4 : tie.Need-sub-line-ok-4
-sub-line-ok-4 c = search needs
-
-part-line-ok-start-4 : tie.Need-part-line-ok-start-4
-part-line-ok-start-4 c = search needs
 
 part-line-ok-end-4 : tie.Need-part-line-ok-end-4
 part-line-ok-end-4 c = let l = ap length (c .before .before .before .before .before .pre .1 .0) ∙ tables-length in omega arith
@@ -85,12 +46,6 @@ returns c =
     let f = sym (judged (c .before)) ∙ not-true (c .before .line-ok .result) (c .if1 .taken) in
     rw f at (tables-are (k .args .kind) (k .pre .1 .1) (k .args .line .now) (k .pre .0))
 
-shared-slice-read-result : tie.Need-shared-slice-read-result
-shared-slice-read-result c = search needs
-
-shared-slice-read-result-2 : tie.Need-shared-slice-read-result-2
-shared-slice-read-result-2 c = search needs
-
 returns-2 : tie.Need-returns-2
 returns-2 c =
     let k = c .before .before .before .before .before .before .before .before .before .before in
@@ -101,24 +56,24 @@ pub stands-spec : {M : Type 1} → statement M
 stands-spec =
     tie.close
     (tie.spec
-    mul-low
-    add-high
-    add-also
-    add-end
-    sub-line-ok
-    part-line-ok-start
-    part-line-ok-end
-    sub-line-ok-2
-    part-line-ok-start-2
+    (λ c. search needs)
+    (λ c. search needs)
+    (λ c. search needs)
+    (λ c. search needs)
+    (λ c. search needs)
+    (λ c. search needs)
+    (λ c. search needs)
+    (λ c. search needs)
+    (λ c. search needs)
     part-line-ok-end-2
-    sub-line-ok-3
-    part-line-ok-start-3
+    (λ c. search needs)
+    (λ c. search needs)
     part-line-ok-end-3
-    sub-line-ok-4
-    part-line-ok-start-4
+    (λ c. search needs)
+    (λ c. search needs)
     part-line-ok-end-4
     line-ok-requires
     returns
-    shared-slice-read-result
-    shared-slice-read-result-2
+    (λ c. search needs)
+    (λ c. search needs)
     returns-2)

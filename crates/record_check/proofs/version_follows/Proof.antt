@@ -8,32 +8,11 @@ use Rattle.record_check.proofs.version_follows.Tie as tie
 returns : tie.Need-returns
 returns c = rw (ne-eqb (c .before .before .args .kind) 3 (c .if1 .taken))
 
-shared-slice-read-if2 : tie.Need-shared-slice-read-if2
-shared-slice-read-if2 c = search needs
-
-figure-requires : tie.Need-figure-requires
-figure-requires c κs = search needs
-
-figure-requires-2 : tie.Need-figure-requires-2
-figure-requires-2 c κs = search needs
-
-add-result : tie.Need-add-result
-add-result c = search needs
-
 returns-2 : tie.Need-returns-2
 unfolding follows
 returns-2 c =
     let e = eq-eqb (c .before .before .before .before .before .before .args .kind) 3 (c .before .before .before .before .if1 .left) in
     rw (e, eq-eqb _ 57 (c .before .before .if2 .taken), c .figure2 .ensures .0, c .before .figure .ensures .0)
-
-load-six-requires : tie.Need-load-six-requires
-load-six-requires c κs = search needs
-
-load-six-requires-2 : tie.Need-load-six-requires-2
-load-six-requires-2 c κs = search needs
-
-add-result-2 : tie.Need-add-result-2
-add-result-2 c = search needs
 
 returns-3 : tie.Need-returns-3
 unfolding follows
@@ -46,12 +25,12 @@ version-follows-spec =
     tie.close
     (tie.spec
     returns
-    shared-slice-read-if2
-    figure-requires
-    figure-requires-2
-    add-result
+    (λ c. search needs)
+    (λ c κs. search needs)
+    (λ c κs. search needs)
+    (λ c. search needs)
     returns-2
-    load-six-requires
-    load-six-requires-2
-    add-result-2
+    (λ c κs. search needs)
+    (λ c κs. search needs)
+    (λ c. search needs)
     returns-3)

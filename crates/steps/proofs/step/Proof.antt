@@ -31,59 +31,23 @@ finish-requires c κs = (c .before .before .before .before .before .pre, c .befo
 undo-requires : tie.Need-undo-requires
 undo-requires c κs = (c .before .before .before .before .before .pre, c .before .before .match .keys7)
 
-done-requires : tie.Need-done-requires
-done-requires c κs = search needs
-
-same-length : tie.Need-same-length
-same-length c = search needs
-
-same-length-2 : tie.Need-same-length-2
-same-length-2 c = search needs
-
 returns : tie.Need-returns
 returns c = stepped-as (step-at _ _ _ 0 (c .before .before .before .before .before .match .keys1)) (c .before .before .«open» .ensures)
-
-same-length-3 : tie.Need-same-length-3
-same-length-3 c = search needs
-
-same-length-4 : tie.Need-same-length-4
-same-length-4 c = search needs
 
 returns-2 : tie.Need-returns-2
 returns-2 c = stepped-as (step-at _ _ _ 1 (c .before .before .before .before .before .match .keys2)) (c .before .before .prepare .ensures)
 
-same-length-5 : tie.Need-same-length-5
-same-length-5 c = search needs
-
 returns-3 : tie.Need-returns-3
 returns-3 c = stepped-as (step-at _ _ _ 2 (c .before .before .match .keys3)) (c .validate .ensures .beside _ (coordinator-accepted _ _ _ _ (c .before .before .before .before .before .pre)))
-
-same-length-6 : tie.Need-same-length-6
-same-length-6 c = search needs
 
 returns-4 : tie.Need-returns-4
 returns-4 c = stepped-as (step-at _ _ _ 3 (c .before .before .before .before .match .keys4)) (c .before .before .decide .ensures .beside _ (records-accepted _ _ _ _ (c .before .before .before .before .before .before .before .pre)))
 
-same-length-7 : tie.Need-same-length-7
-same-length-7 c = search needs
-
 returns-5 : tie.Need-returns-5
 returns-5 c = stepped-as (step-at _ _ _ 4 (c .before .before .before .before .match .keys5)) (c .before .before .withdraw .ensures .beside _ (records-accepted _ _ _ _ (c .before .before .before .before .before .before .before .pre)))
 
-same-length-8 : tie.Need-same-length-8
-same-length-8 c = search needs
-
-same-length-9 : tie.Need-same-length-9
-same-length-9 c = search needs
-
 returns-6 : tie.Need-returns-6
 returns-6 c = stepped-as (step-at _ _ _ 5 (c .before .before .before .before .before .match .keys6)) (c .before .before .finish .ensures)
-
-same-length-10 : tie.Need-same-length-10
-same-length-10 c = search needs
-
-same-length-11 : tie.Need-same-length-11
-same-length-11 c = search needs
 
 returns-7 : tie.Need-returns-7
 returns-7 c = stepped-as (step-at _ _ _ 6 (c .before .before .before .before .before .match .keys7)) (c .before .before .undo .ensures)
@@ -105,24 +69,24 @@ step-spec =
     withdraw-requires
     finish-requires
     undo-requires
-    done-requires
-    same-length
-    same-length-2
+    (λ c κs. search needs)
+    (λ c. search needs)
+    (λ c. search needs)
     returns
-    same-length-3
-    same-length-4
+    (λ c. search needs)
+    (λ c. search needs)
     returns-2
-    same-length-5
+    (λ c. search needs)
     returns-3
-    same-length-6
+    (λ c. search needs)
     returns-4
-    same-length-7
+    (λ c. search needs)
     returns-5
-    same-length-8
-    same-length-9
+    (λ c. search needs)
+    (λ c. search needs)
     returns-6
-    same-length-10
-    same-length-11
+    (λ c. search needs)
+    (λ c. search needs)
     returns-7
     returns-8
     returns-9)

@@ -17,9 +17,6 @@ numbers-requires c κs = accepted-input (c .before .before .before .args .input 
 records-from-requires : tie.Need-records-from-requires
 records-from-requires c κs = subst Small (sym (c .numbers .ensures)) (first-small (c .before .before .before .before .args .input .now))
 
-sub-c : tie.Need-sub-c
-sub-c c = search needs
-
 sub-r : tie.Need-sub-r
 sub-r c = let p = parts (c .before .before .before .before .before .args .input .now) (c .records-from .result) (c .records-from .ensures ∙ ap placeOfRecords (c .before .numbers .ensures)) (c .before .before .before .before .before .pre .accepted) in omega arith
 
@@ -43,35 +40,25 @@ visit-sheets-requires c κs = let p = parts (c .before .before .before .before .
       decisions = simp length-take (omega (arith, c .before .before .before .before .before .before .before .pre .work-room, c .before .before .before .before .before .before .before .pre .output-room));
     }
 
-add-n : tie.Need-add-n
-add-n c = search needs
-
-sub-put : tie.Need-sub-put
-sub-put c = search needs
-
-part-put-start : tie.Need-part-put-start
-part-put-start c = search needs
-
 part-put-end : tie.Need-part-put-end
-part-put-end c = let p = parts (c .before .before .before .before .before .before .before .before .before .before .before .before .args .input .now) (c .before .before .before .before .before .before .before .records-from .result) (c .before .before .before .before .before .before .before .records-from .ensures ∙ ap placeOfRecords (c .before .before .before .before .before .before .before .before .numbers .ensures)) (c .before .before .before .before .before .before .before .before .before .before .before .before .pre .accepted) in let e = front-length (c .before .before .before .before .before .before .before .records-from .result - 20) (c .before .before .before .before .visit-sheets .last .1 .1 .0) (c .before .before .before .before .before .before .before .before .before .before .before .before .args .output .now) (c .before .before .before .before .visit-sheets .kept .1 .1 .0) (omega (arith, c .before .before .before .before .before .before .before .before .before .before .before .before .pre .output-room)) in omega (arith, c .before .before .before .before .before .before .before .before .before .before .before .before .pre .output-room)
+part-put-end c =
+    let a = c .before .before .before .before .before .before .before .before .before .before .before .before .args in
+    let p = parts (a .input .now) (c .before .before .before .before .before .before .before .records-from .result) (c .before .before .before .before .before .before .before .records-from .ensures ∙ ap placeOfRecords (c .before .before .before .before .before .before .before .before .numbers .ensures)) (c .before .before .before .before .before .before .before .before .before .before .before .before .pre .accepted) in let e = front-length (c .before .before .before .before .before .before .before .records-from .result - 20) (c .before .before .before .before .visit-sheets .last .1 .1 .0) (a .output .now) (c .before .before .before .before .visit-sheets .kept .1 .1 .0) (omega (arith, c .before .before .before .before .before .before .before .before .before .before .before .before .pre .output-room)) in omega (arith, c .before .before .before .before .before .before .before .before .before .before .before .before .pre .output-room)
 
 slice-reshare-prefix-put : tie.Need-slice-reshare-prefix-put
-slice-reshare-prefix-put c = let p = parts (c .before .before .before .before .before .before .before .before .before .before .before .before .before .args .input .now) (c .before .before .before .before .before .before .before .before .records-from .result) (c .before .before .before .before .before .before .before .before .records-from .ensures ∙ ap placeOfRecords (c .before .before .before .before .before .before .before .before .before .numbers .ensures)) (c .before .before .before .before .before .before .before .before .before .before .before .before .before .pre .accepted) in let e = front-length (length (c .before .before .before .before .before .before .before .before .before .before .before .before .before .args .input .now) - c .before .before .before .before .before .before .before .before .records-from .result) (c .before .before .before .before .before .visit-sheets .last .1 .0) (c .before .before .before .before .before .before .before .before .before .before .before .before .before .args .work .now) (c .before .before .before .before .before .visit-sheets .kept .1 .0) (omega (arith, c .before .before .before .before .before .before .before .before .before .before .before .before .before .pre .work-room)) in omega (arith, c .before .before .before .before .before .before .before .before .before .before .before .before .before .pre .work-room)
+slice-reshare-prefix-put c =
+    let a = c .before .before .before .before .before .before .before .before .before .before .before .before .before .args in
+    let p = parts (a .input .now) (c .before .before .before .before .before .before .before .before .records-from .result) (c .before .before .before .before .before .before .before .before .records-from .ensures ∙ ap placeOfRecords (c .before .before .before .before .before .before .before .before .before .numbers .ensures)) (c .before .before .before .before .before .before .before .before .before .before .before .before .before .pre .accepted) in let e = front-length (length (a .input .now) - c .before .before .before .before .before .before .before .before .records-from .result) (c .before .before .before .before .before .visit-sheets .last .1 .0) (a .work .now) (c .before .before .before .before .before .visit-sheets .kept .1 .0) (omega (arith, c .before .before .before .before .before .before .before .before .before .before .before .before .before .pre .work-room)) in omega (arith, c .before .before .before .before .before .before .before .before .before .before .before .before .before .pre .work-room)
 
 slice-aggregate-put : tie.Need-slice-aggregate-put
-slice-aggregate-put c = let p = parts (c .before .before .before .before .before .before .before .before .before .before .before .before .before .before .args .input .now) (c .before .before .before .before .before .before .before .before .before .records-from .result) (c .before .before .before .before .before .before .before .before .before .records-from .ensures ∙ ap placeOfRecords (c .before .before .before .before .before .before .before .before .before .before .numbers .ensures)) (c .before .before .before .before .before .before .before .before .before .before .before .before .before .before .pre .accepted) in let e = front-length (length (c .before .before .before .before .before .before .before .before .before .before .before .before .before .before .args .input .now) - c .before .before .before .before .before .before .before .before .before .records-from .result) (c .before .before .before .before .before .before .visit-sheets .last .1 .0) (c .before .before .before .before .before .before .before .before .before .before .before .before .before .before .args .work .now) (c .before .before .before .before .before .before .visit-sheets .kept .1 .0) (omega (arith, c .before .before .before .before .before .before .before .before .before .before .before .before .before .before .pre .work-room)) in simp length-take (omega (arith, c .before .before .before .before .before .before .before .before .before .before .before .before .before .before .pre .work-room))
-
-put-requires : tie.Need-put-requires
-put-requires c κs = search needs
-
-same-length : tie.Need-same-length
-same-length c = search needs
-
-same-length-2 : tie.Need-same-length-2
-same-length-2 c = search needs
+slice-aggregate-put c =
+    let a = c .before .before .before .before .before .before .before .before .before .before .before .before .before .before .args in
+    let p = parts (a .input .now) (c .before .before .before .before .before .before .before .before .before .records-from .result) (c .before .before .before .before .before .before .before .before .before .records-from .ensures ∙ ap placeOfRecords (c .before .before .before .before .before .before .before .before .before .before .numbers .ensures)) (c .before .before .before .before .before .before .before .before .before .before .before .before .before .before .pre .accepted) in let e = front-length (length (a .input .now) - c .before .before .before .before .before .before .before .before .before .records-from .result) (c .before .before .before .before .before .before .visit-sheets .last .1 .0) (a .work .now) (c .before .before .before .before .before .before .visit-sheets .kept .1 .0) (omega (arith, c .before .before .before .before .before .before .before .before .before .before .before .before .before .before .pre .work-room)) in simp length-take (omega (arith, c .before .before .before .before .before .before .before .before .before .before .before .before .before .before .pre .work-room))
 
 returns : tie.Need-returns
-returns c = let p = parts (c .before .before .before .before .before .before .before .before .before .before .before .before .before .before .before .before .before .args .input .now) (c .before .before .before .before .before .before .before .before .before .before .before .before .records-from .result) (c .before .before .before .before .before .before .before .before .before .before .before .before .records-from .ensures ∙ ap placeOfRecords (c .before .before .before .before .before .before .before .before .before .before .before .before .before .numbers .ensures)) (c .before .before .before .before .before .before .before .before .before .before .before .before .before .before .before .before .before .pre .accepted) in sheets-printed (c .before .before .before .before .before .before .before .before .before .before .before .before .before .before .before .before .before .args .input .now) (c .before .before .before .before .before .before .before .before .before .before .before .before .before .before .before .before .before .args .work .now) (c .before .before .before .before .before .before .before .before .before .before .before .before .before .before .before .before .before .args .output .now) (c .before .before .before .before .before .before .before .before .before .visit-sheets .last .1 .0) (c .before .before .before .before .before .before .before .before .before .visit-sheets .last .1 .1 .0) _ (c .before .before .before .before .before .before .before .before .before .before .before .before .records-from .result) p (c .before .before .before .before .before .before .before .before .before .before .before .before .before .before .before .before .before .pre) (c .before .before .before .before .before .before .before .before .before .visit-sheets .kept .1 .0) (c .before .before .before .before .before .before .before .before .before .visit-sheets .kept .1 .1 .0) (c .before .before .before .before .before .before .before .before .before .visit-sheets .ensures .0) (c .before .before .before .before .before .before .before .before .before .visit-sheets .ensures .1) (c .before .before .put .ensures)
+returns c =
+    let a = c .before .before .before .before .before .before .before .before .before .before .before .before .before .before .before .before .before .args in
+    let p = parts (a .input .now) (c .before .before .before .before .before .before .before .before .before .before .before .before .records-from .result) (c .before .before .before .before .before .before .before .before .before .before .before .before .records-from .ensures ∙ ap placeOfRecords (c .before .before .before .before .before .before .before .before .before .before .before .before .before .numbers .ensures)) (c .before .before .before .before .before .before .before .before .before .before .before .before .before .before .before .before .before .pre .accepted) in sheets-printed (a .input .now) (a .work .now) (a .output .now) (c .before .before .before .before .before .before .before .before .before .visit-sheets .last .1 .0) (c .before .before .before .before .before .before .before .before .before .visit-sheets .last .1 .1 .0) _ (c .before .before .before .before .before .before .before .before .before .before .before .before .records-from .result) p (c .before .before .before .before .before .before .before .before .before .before .before .before .before .before .before .before .before .pre) (c .before .before .before .before .before .before .before .before .before .visit-sheets .kept .1 .0) (c .before .before .before .before .before .before .before .before .before .visit-sheets .kept .1 .1 .0) (c .before .before .before .before .before .before .before .before .before .visit-sheets .ensures .0) (c .before .before .before .before .before .before .before .before .before .visit-sheets .ensures .1) (c .before .before .put .ensures)
 
 pub print-sheets-spec : {M : Type 1} → statement M
 print-sheets-spec =
@@ -79,20 +66,20 @@ print-sheets-spec =
     (tie.spec
     numbers-requires
     records-from-requires
-    sub-c
+    (λ c. search needs)
     sub-r
     slice-relend-prefix-visit-sheets
     slice-aggregate-visit-sheets
     slice-relend-prefix-visit-sheets-2
     slice-aggregate-visit-sheets-2
     visit-sheets-requires
-    add-n
-    sub-put
-    part-put-start
+    (λ c. search needs)
+    (λ c. search needs)
+    (λ c. search needs)
     part-put-end
     slice-reshare-prefix-put
     slice-aggregate-put
-    put-requires
-    same-length
-    same-length-2
+    (λ c κs. search needs)
+    (λ c. search needs)
+    (λ c. search needs)
     returns)

@@ -17,17 +17,8 @@ numbers-requires c κs = accepted-input (c .before .before .before .args .input 
 records-from-requires : tie.Need-records-from-requires
 records-from-requires c κs = subst Small (sym (c .numbers .ensures)) (first-small (c .before .before .before .before .args .input .now))
 
-sub-put : tie.Need-sub-put
-sub-put c = search needs
-
-part-put-start : tie.Need-part-put-start
-part-put-start c = search needs
-
 part-put-end : tie.Need-part-put-end
 part-put-end c = let p = parts (c .before .before .before .before .before .before .args .input .now) (c .before .records-from .result) (c .before .records-from .ensures ∙ ap placeOfRecords (c .before .before .numbers .ensures)) (c .before .before .before .before .before .before .pre .accepted) in omega arith
-
-put-requires : tie.Need-put-requires
-put-requires c κs = search needs
 
 sub-put-2 : tie.Need-sub-put-2
 sub-put-2 c = let p = parts (c .before .before .before .before .before .before .before .before .before .before .before .args .input .now) (c .before .before .before .before .before .before .records-from .result) (c .before .before .before .before .before .before .records-from .ensures ∙ ap placeOfRecords (c .before .before .before .before .before .before .before .numbers .ensures)) (c .before .before .before .before .before .before .before .before .before .before .before .pre .accepted) in omega arith
@@ -35,23 +26,15 @@ sub-put-2 c = let p = parts (c .before .before .before .before .before .before .
 part-put-start-2 : tie.Need-part-put-start-2
 part-put-start-2 c = let p = parts (c .before .before .before .before .before .before .before .before .before .before .before .args .input .now) (c .before .before .before .before .before .before .records-from .result) (c .before .before .before .before .before .before .records-from .ensures ∙ ap placeOfRecords (c .before .before .before .before .before .before .before .numbers .ensures)) (c .before .before .before .before .before .before .before .before .before .before .before .pre .accepted) in omega arith
 
-part-put-end-2 : tie.Need-part-put-end-2
-part-put-end-2 c = search needs
-
-put-requires-2 : tie.Need-put-requires-2
-put-requires-2 c κs = search needs
-
 sweep-requires : tie.Need-sweep-requires
-sweep-requires c κs = subst Passing (sym (loaded (c .before .before .before .before .before .before .before .before .before .before .before .before .before .before .before .before .before .args .input .now) (c .before .before .before .before .before .before .before .before .before .before .before .before .before .before .before .before .before .args .records .now) (c .before .before .before .before .before .before .before .before .before .before .before .before .before .before .before .before .before .args .coordinator .now) _ _ (c .before .before .before .before .before .before .before .before .before .before .before .before .records-from .result) (c .before .before .before .before .before .before .before .before .before .before .before .before .before .before .before .before .before .pre) (c .before .before .before .before .before .before .before .before .before .before .before .before .records-from .ensures ∙ ap placeOfRecords (c .before .before .before .before .before .before .before .before .before .before .before .before .before .numbers .ensures)) (c .before .before .before .before .put2 .ensures) (c .before .before .before .before .before .before .before .before .before .put .ensures))) (accepted-input (c .before .before .before .before .before .before .before .before .before .before .before .before .before .before .before .before .before .args .input .now) (c .before .before .before .before .before .before .before .before .before .before .before .before .before .before .before .before .before .pre .accepted) .passing)
-
-same-length : tie.Need-same-length
-same-length c = search needs
-
-same-length-2 : tie.Need-same-length-2
-same-length-2 c = search needs
+sweep-requires c κs =
+    let a = c .before .before .before .before .before .before .before .before .before .before .before .before .before .before .before .before .before .args in
+    subst Passing (sym (loaded (a .input .now) (a .records .now) (a .coordinator .now) _ _ (c .before .before .before .before .before .before .before .before .before .before .before .before .records-from .result) (c .before .before .before .before .before .before .before .before .before .before .before .before .before .before .before .before .before .pre) (c .before .before .before .before .before .before .before .before .before .before .before .before .records-from .ensures ∙ ap placeOfRecords (c .before .before .before .before .before .before .before .before .before .before .before .before .before .numbers .ensures)) (c .before .before .before .before .put2 .ensures) (c .before .before .before .before .before .before .before .before .before .put .ensures))) (accepted-input (a .input .now) (c .before .before .before .before .before .before .before .before .before .before .before .before .before .before .before .before .before .pre .accepted) .passing)
 
 returns : tie.Need-returns
-returns c = let e = loaded (c .before .before .before .before .before .before .before .before .before .before .before .before .before .before .before .before .before .before .before .before .before .before .args .input .now) (c .before .before .before .before .before .before .before .before .before .before .before .before .before .before .before .before .before .before .before .before .before .before .args .records .now) (c .before .before .before .before .before .before .before .before .before .before .before .before .before .before .before .before .before .before .before .before .before .before .args .coordinator .now) _ _ (c .before .before .before .before .before .before .before .before .before .before .before .before .before .before .before .before .before .records-from .result) (c .before .before .before .before .before .before .before .before .before .before .before .before .before .before .before .before .before .before .before .before .before .before .pre) (c .before .before .before .before .before .before .before .before .before .before .before .before .before .before .before .before .before .records-from .ensures ∙ ap placeOfRecords (c .before .before .before .before .before .before .before .before .before .before .before .before .before .before .before .before .before .before .numbers .ensures)) (c .before .before .before .before .before .before .before .before .before .put2 .ensures) (c .before .before .before .before .before .before .before .before .before .before .before .before .before .before .put .ensures) in
+returns c =
+    let a = c .before .before .before .before .before .before .before .before .before .before .before .before .before .before .before .before .before .before .before .before .before .before .args in
+    let e = loaded (a .input .now) (a .records .now) (a .coordinator .now) _ _ (c .before .before .before .before .before .before .before .before .before .before .before .before .before .before .before .before .before .records-from .result) (c .before .before .before .before .before .before .before .before .before .before .before .before .before .before .before .before .before .before .before .before .before .before .pre) (c .before .before .before .before .before .before .before .before .before .before .before .before .before .before .before .before .before .records-from .ensures ∙ ap placeOfRecords (c .before .before .before .before .before .before .before .before .before .before .before .before .before .before .before .before .before .before .numbers .ensures)) (c .before .before .before .before .before .before .before .before .before .put2 .ensures) (c .before .before .before .before .before .before .before .before .before .before .before .before .before .before .put .ensures) in
     let v = c .before .before .before .before .sweep .ensures ∙ ap₂ swept (ap (λ (f : FirstLine). f .clock) (c .before .before .before .before .before .before .before .before .before .before .before .before .before .before .before .before .before .before .numbers .ensures)) e in
     (ap (λ (b : Bytes). b .records) v, ap (λ (b : Bytes). b .coordinator) v)
 
@@ -61,15 +44,15 @@ visit-sheets-spec =
     (tie.spec
     numbers-requires
     records-from-requires
-    sub-put
-    part-put-start
+    (λ c. search needs)
+    (λ c. search needs)
     part-put-end
-    put-requires
+    (λ c κs. search needs)
     sub-put-2
     part-put-start-2
-    part-put-end-2
-    put-requires-2
+    (λ c. search needs)
+    (λ c κs. search needs)
     sweep-requires
-    same-length
-    same-length-2
+    (λ c. search needs)
+    (λ c. search needs)
     returns)

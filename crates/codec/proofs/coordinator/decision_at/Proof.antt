@@ -10,63 +10,44 @@ use Rattle.codec.specs.Parts.{line-ends, decision-part, decision-past}
 use Rattle.codec.proofs.coordinator.decision_at.Statement.{statement}
 use Rattle.codec.proofs.coordinator.decision_at.Tie as tie
 
-has-line-requires : tie.Need-has-line-requires
-has-line-requires c κs = search needs
-
-mul-at : tie.Need-mul-at
-mul-at c = search needs
-
-add-end : tie.Need-add-end
-add-end c = search needs
-
-sub-read-row : tie.Need-sub-read-row
-sub-read-row c = search needs
-
-part-read-row-start : tie.Need-part-read-row-start
-part-read-row-start c = search needs
-
 part-read-row-end : tie.Need-part-read-row-end
 part-read-row-end c =
-    let e : c .before .before .before .args .n * 15 + 15 ≤ length (c .before .before .before .args .coordinator .now) = line-ends (c .before .before .before .args .n) (c .before .before .before .args .coordinator .now) (sym (c .before .has-line .ensures) ∙ c .if1 .taken) in
+    let a = c .before .before .before .args in
+    let e : a .n * 15 + 15 ≤ length (a .coordinator .now) = line-ends (a .n) (a .coordinator .now) (sym (c .before .has-line .ensures) ∙ c .if1 .taken) in
     omega arith
-
-slice-aggregate-read-row : tie.Need-slice-aggregate-read-row
-slice-aggregate-read-row c = search needs
 
 read-row-requires : tie.Need-read-row-requires
 unfolding layout lineLayout lineBytes
 read-row-requires c κs =
-    let e : c .before .before .before .before .before .args .n * 15 + 15 ≤ length (c .before .before .before .before .before .args .coordinator .now) = line-ends (c .before .before .before .before .before .args .n) (c .before .before .before .before .before .args .coordinator .now) (sym (c .before .before .before .has-line .ensures) ∙ c .before .before .if1 .taken) in
+    let a = c .before .before .before .before .before .args in
+    let e : a .n * 15 + 15 ≤ length (a .coordinator .now) = line-ends (a .n) (a .coordinator .now) (sym (c .before .before .before .has-line .ensures) ∙ c .before .before .if1 .taken) in
     (simp (length-take, length-drop) (omega arith), refl)
-
-array-read-decision-of : tie.Need-array-read-decision-of
-array-read-decision-of c = search needs
-
-decision-of-requires : tie.Need-decision-of-requires
-decision-of-requires c κs = search needs
 
 returns : tie.Need-returns
 unfolding layout
 returns c =
+    let a = c .before .before .before .before .before .before .before .before .args in
     c .decision-of .ensures
-    ∙ decision-part (c .before .before .before .before .before .before .before .before .args .coordinator .now) _ (c .before .before .before .before .before .before .before .before .args .n) (sym (c .before .before .before .before .before .before .has-line .ensures) ∙ c .before .before .before .before .before .if1 .taken) (c .before .before .read-row .ensures)
+    ∙ decision-part (a .coordinator .now) _ (a .n) (sym (c .before .before .before .before .before .before .has-line .ensures) ∙ c .before .before .before .before .before .if1 .taken) (c .before .before .read-row .ensures)
 
 returns-2 : tie.Need-returns-2
-returns-2 c = decision-past (c .before .before .before .args .coordinator .now) (c .before .before .before .args .n) (sym (c .before .has-line .ensures) ∙ c .if1 .left)
+returns-2 c =
+    let a = c .before .before .before .args in
+    decision-past (a .coordinator .now) (a .n) (sym (c .before .has-line .ensures) ∙ c .if1 .left)
 
 pub decision-at-spec : {M : Type 1} → statement M
 decision-at-spec =
     tie.close
     (tie.spec
-    has-line-requires
-    mul-at
-    add-end
-    sub-read-row
-    part-read-row-start
+    (λ c κs. search needs)
+    (λ c. search needs)
+    (λ c. search needs)
+    (λ c. search needs)
+    (λ c. search needs)
     part-read-row-end
-    slice-aggregate-read-row
+    (λ c. search needs)
     read-row-requires
-    array-read-decision-of
-    decision-of-requires
+    (λ c. search needs)
+    (λ c κs. search needs)
     returns
     returns-2)

@@ -4,15 +4,6 @@ use Rattle.model.specs.Coordinator.{decisionNumber}
 use Rattle.codec.proofs.coordinator.decision_number.Statement.{statement}
 use Rattle.codec.proofs.coordinator.decision_number.Tie as tie
 
-enum-told : tie.Need-enum-told
-enum-told c = search needs
-
-enum-told-2 : tie.Need-enum-told-2
-enum-told-2 c = search needs
-
-enum-told-3 : tie.Need-enum-told-3
-enum-told-3 c = search needs
-
 returns : tie.Need-returns
 unfolding decisionNumber
 returns c = search needs
@@ -27,4 +18,4 @@ returns-3 c = search needs
 
 pub decision-number-spec : {M : Type 1} → statement M
 decision-number-spec =
-    tie.close (tie.spec enum-told enum-told-2 enum-told-3 returns returns-2 returns-3)
+    tie.close (tie.spec (λ c. search needs) (λ c. search needs) (λ c. search needs) returns returns-2 returns-3)

@@ -9,23 +9,11 @@ use Rattle.codec.specs.Parts.{issued-short}
 use Rattle.codec.proofs.coordinator.issued.Statement.{statement}
 use Rattle.codec.proofs.coordinator.issued.Tie as tie
 
-read-requires : tie.Need-read-requires
-read-requires c κs = search needs
-
-number-of-requires : tie.Need-number-of-requires
-number-of-requires c κs = search needs
-
 returns : tie.Need-returns
 returns c = c .number-of .ensures ∙ (ap number (c .before .read .ensures) ∙ issued-short _ (c .before .before .if1 .taken))
 
 slice-aggregate-read : tie.Need-slice-aggregate-read
 slice-aggregate-read c = simp length-take (omega arith)
-
-read-requires-2 : tie.Need-read-requires-2
-read-requires-2 c κs = search needs
-
-number-of-requires-2 : tie.Need-number-of-requires-2
-number-of-requires-2 c κs = search needs
 
 returns-2 : tie.Need-returns-2
 returns-2 c = c .number-of2 .ensures ∙ (ap number (c .before .read2 .ensures) ∙ issued-at _)
@@ -34,10 +22,10 @@ pub issued-spec : {M : Type 1} → statement M
 issued-spec =
     tie.close
     (tie.spec
-    read-requires
-    number-of-requires
+    (λ c κs. search needs)
+    (λ c κs. search needs)
     returns
     slice-aggregate-read
-    read-requires-2
-    number-of-requires-2
+    (λ c κs. search needs)
+    (λ c κs. search needs)
     returns-2)

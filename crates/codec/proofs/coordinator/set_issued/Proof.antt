@@ -10,31 +10,26 @@ use Rattle.codec.specs.Parts.{count-part}
 use Rattle.codec.proofs.coordinator.set_issued.Statement.{statement}
 use Rattle.codec.proofs.coordinator.set_issued.Tie as tie
 
-slice-relend-prefix-write : tie.Need-slice-relend-prefix-write
-slice-relend-prefix-write c = search needs
-
 slice-aggregate-write : tie.Need-slice-aggregate-write
 slice-aggregate-write c = simp length-take (omega arith)
 
-write-requires : tie.Need-write-requires
-write-requires c κs = search needs
-
-same-length : tie.Need-same-length
-same-length c = search needs
-
 returns : tie.Need-returns
-returns c = count-part (c .before .before .before .before .before .before .args .coordinator .now) _ (c .before .before .before .before .before .before .args .n) (c .before .before .before .before .if1 .taken) (c .before .before .write .ensures)
+returns c =
+    let a = c .before .before .before .before .before .before .args in
+    count-part (a .coordinator .now) _ (a .n) (c .before .before .before .before .if1 .taken) (c .before .before .write .ensures)
 
 returns-2 : tie.Need-returns-2
-returns-2 c = let h : leb 4 (length (c .before .before .args .coordinator .now)) ≡ false = lt-leb 4 (length (c .before .before .args .coordinator .now)) (c .if1 .left) in rw h
+returns-2 c =
+    let a = c .before .before .args in
+    let h : leb 4 (length (a .coordinator .now)) ≡ false = lt-leb 4 (length (a .coordinator .now)) (c .if1 .left) in rw h
 
 pub set-issued-spec : {M : Type 1} → statement M
 set-issued-spec =
     tie.close
     (tie.spec
-    slice-relend-prefix-write
+    (λ c. search needs)
     slice-aggregate-write
-    write-requires
-    same-length
+    (λ c κs. search needs)
+    (λ c. search needs)
     returns
     returns-2)

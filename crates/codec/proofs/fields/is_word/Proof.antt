@@ -6,24 +6,6 @@ use Rattle.codec.specs.Turns.{word-part}
 use Rattle.codec.proofs.fields.is_word.Statement.{statement}
 use Rattle.codec.proofs.fields.is_word.Tie as tie
 
-start-requires : tie.Need-start-requires
-start-requires c κs = search needs
-
-word-requires : tie.Need-word-requires
-word-requires c κs = search needs
-
-sub-same : tie.Need-sub-same
-sub-same c = search needs
-
-part-same-start : tie.Need-part-same-start
-part-same-start c = search needs
-
-part-same-end : tie.Need-part-same-end
-part-same-end c = search needs
-
-same-requires : tie.Need-same-requires
-same-requires c κs = search needs
-
 returns : tie.Need-returns
 returns c =
     c .same .ensures
@@ -33,10 +15,10 @@ pub is-word-spec : {M : Type 1} → statement M
 is-word-spec =
     tie.close
     (tie.spec
-    start-requires
-    word-requires
-    sub-same
-    part-same-start
-    part-same-end
-    same-requires
+    (λ c κs. search needs)
+    (λ c κs. search needs)
+    (λ c. search needs)
+    (λ c. search needs)
+    (λ c. search needs)
+    (λ c κs. search needs)
     returns)

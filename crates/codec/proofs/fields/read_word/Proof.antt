@@ -16,23 +16,8 @@ Inv-loop kind w s n i₀ i = (i ≤ n) × (wordFrom w (drop i (words kind)) i s 
 abbrev μ-loop : tie.MeasureT-loop
 μ-loop kind w s n i₀ i = n - i
 
-count-requires : tie.Need-count-requires Inv-loop μ-loop
-count-requires c κs = search needs
-
-loop-holds : tie.Need-loop-holds Inv-loop μ-loop
-loop-holds c = search needs
-
-is-word-requires : tie.Need-is-word-requires Inv-loop μ-loop
-is-word-requires c κs = search needs
-
 returns : tie.Need-returns Inv-loop μ-loop
 returns c = word-met _ _ _ _ _ (c .before .before .before .loop .inv .1) (omega (arith, c .before .before .before .before .count .ensures)) (sym (c .before .is-word .ensures) ∙ c .if1 .taken)
-
-add-i : tie.Need-add-i Inv-loop μ-loop
-add-i c = search needs
-
-loop-less : tie.Need-loop-less Inv-loop μ-loop
-loop-less c = search needs
 
 loop-again : tie.Need-loop-again Inv-loop μ-loop
 loop-again c = (omega arith, word-missed _ _ _ _ _ (c .before .before .before .loop .inv .1) (omega (arith, c .before .before .before .before .count .ensures)) (sym (c .before .is-word .ensures) ∙ c .if1 .left))
@@ -48,11 +33,11 @@ read-word-spec =
     (tie.spec
     Inv-loop
     μ-loop
-    count-requires
-    loop-holds
-    is-word-requires
+    (λ c κs. search needs)
+    (λ c. search needs)
+    (λ c κs. search needs)
     returns
-    add-i
-    loop-less
+    (λ c. search needs)
+    (λ c. search needs)
     loop-again
     returns-2)

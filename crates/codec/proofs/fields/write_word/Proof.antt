@@ -6,27 +6,6 @@ use Rattle.codec.specs.Turns.{word-part}
 use Rattle.codec.proofs.fields.write_word.Statement.{statement}
 use Rattle.codec.proofs.fields.write_word.Tie as tie
 
-start-requires : tie.Need-start-requires
-start-requires c κs = search needs
-
-word-requires : tie.Need-word-requires
-word-requires c κs = search needs
-
-sub-put : tie.Need-sub-put
-sub-put c = search needs
-
-part-put-start : tie.Need-part-put-start
-part-put-start c = search needs
-
-part-put-end : tie.Need-part-put-end
-part-put-end c = search needs
-
-put-requires : tie.Need-put-requires
-put-requires c κs = search needs
-
-same-length : tie.Need-same-length
-same-length c = search needs
-
 returns : tie.Need-returns
 returns c =
     c .before .before .put .ensures
@@ -36,11 +15,11 @@ pub write-word-spec : {M : Type 1} → statement M
 write-word-spec =
     tie.close
     (tie.spec
-    start-requires
-    word-requires
-    sub-put
-    part-put-start
-    part-put-end
-    put-requires
-    same-length
+    (λ c κs. search needs)
+    (λ c κs. search needs)
+    (λ c. search needs)
+    (λ c. search needs)
+    (λ c. search needs)
+    (λ c κs. search needs)
+    (λ c. search needs)
     returns)

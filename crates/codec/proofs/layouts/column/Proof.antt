@@ -4,30 +4,6 @@ use Rattle.model.specs.Layouts.{layout}
 use Rattle.codec.proofs.layouts.column.Statement.{statement}
 use Rattle.codec.proofs.layouts.column.Tie as tie
 
-enum-told : tie.Need-enum-told
-enum-told c = search needs
-
-record-column-requires : tie.Need-record-column-requires
-record-column-requires c κs = search needs
-
-enum-told-2 : tie.Need-enum-told-2
-enum-told-2 c = search needs
-
-key-column-requires : tie.Need-key-column-requires
-key-column-requires c κs = search needs
-
-enum-told-3 : tie.Need-enum-told-3
-enum-told-3 c = search needs
-
-head-column-requires : tie.Need-head-column-requires
-head-column-requires c κs = search needs
-
-enum-told-4 : tie.Need-enum-told-4
-enum-told-4 c = search needs
-
-line-column-requires : tie.Need-line-column-requires
-line-column-requires c κs = search needs
-
 returns : tie.Need-returns
 unfolding layout
 returns c = rw (c .before .enum-told .given .1) (c .record-column .ensures)
@@ -48,14 +24,14 @@ pub column-spec : {M : Type 1} → statement M
 column-spec =
     tie.close
     (tie.spec
-    enum-told
-    record-column-requires
-    enum-told-2
-    key-column-requires
-    enum-told-3
-    head-column-requires
-    enum-told-4
-    line-column-requires
+    (λ c. search needs)
+    (λ c κs. search needs)
+    (λ c. search needs)
+    (λ c κs. search needs)
+    (λ c. search needs)
+    (λ c κs. search needs)
+    (λ c. search needs)
+    (λ c κs. search needs)
     returns
     returns-2
     returns-3

@@ -50,7 +50,9 @@ returns-10 c = rw (c .match .keys10)
 
 returns-11 : tie.Need-returns-11
 unfolding headLayout
-returns-11 c = let l : 10 ≤ c .before .args .i = above 9 (c .before .args .i) (above 8 (c .before .args .i) (above 7 (c .before .args .i) (above 6 (c .before .args .i) (above 5 (c .before .args .i) (above 4 (c .before .args .i) (above 3 (c .before .args .i) (above 2 (c .before .args .i) (above 1 (c .before .args .i) (above 0 (c .before .args .i) (omega arith) (c .match .rest .0 .0 .0 .0 .0 .0 .0 .0 .0 .1)) (c .match .rest .0 .0 .0 .0 .0 .0 .0 .0 .1)) (c .match .rest .0 .0 .0 .0 .0 .0 .0 .1)) (c .match .rest .0 .0 .0 .0 .0 .0 .1)) (c .match .rest .0 .0 .0 .0 .0 .1)) (c .match .rest .0 .0 .0 .0 .1)) (c .match .rest .0 .0 .0 .1)) (c .match .rest .0 .0 .1)) (c .match .rest .0 .1)) (c .match .rest .1) in sym (List·getD-eq-default headLayout noColumn l)
+returns-11 c =
+    let a = c .before .args in
+    let l : 10 ≤ a .i = above 9 (a .i) (above 8 (a .i) (above 7 (a .i) (above 6 (a .i) (above 5 (a .i) (above 4 (a .i) (above 3 (a .i) (above 2 (a .i) (above 1 (a .i) (above 0 (a .i) (omega arith) (c .match .rest .0 .0 .0 .0 .0 .0 .0 .0 .0 .1)) (c .match .rest .0 .0 .0 .0 .0 .0 .0 .0 .1)) (c .match .rest .0 .0 .0 .0 .0 .0 .0 .1)) (c .match .rest .0 .0 .0 .0 .0 .0 .1)) (c .match .rest .0 .0 .0 .0 .0 .1)) (c .match .rest .0 .0 .0 .0 .1)) (c .match .rest .0 .0 .0 .1)) (c .match .rest .0 .0 .1)) (c .match .rest .0 .1)) (c .match .rest .1) in sym (List·getD-eq-default headLayout noColumn l)
 
 pub head-column-spec : {M : Type 1} → statement M
 head-column-spec =

@@ -9,9 +9,6 @@ use Rattle.model.specs.Layouts.{noColumn, recordLayout, keyLayout}
 use Rattle.codec.proofs.layouts.key_column.Statement.{statement}
 use Rattle.codec.proofs.layouts.key_column.Tie as tie
 
-record-column-requires : tie.Need-record-column-requires
-record-column-requires c κs = search needs
-
 returns : tie.Need-returns
 unfolding keyLayout
 returns c = c .record-column .ensures ∙ sym (getD-take 5 recordLayout (c .before .before .args .i) noColumn (c .before .if1 .taken))
@@ -21,4 +18,4 @@ unfolding keyLayout recordLayout
 returns-2 c = let l : 5 ≤ c .before .args .i = omega arith in sym (List·getD-eq-default keyLayout noColumn l)
 
 pub key-column-spec : {M : Type 1} → statement M
-key-column-spec = tie.close (tie.spec record-column-requires returns returns-2)
+key-column-spec = tie.close (tie.spec (λ c κs. search needs) returns returns-2)

@@ -18,7 +18,9 @@ returns-2 c = rw (c .match .keys2)
 
 returns-3 : tie.Need-returns-3
 unfolding lineLayout
-returns-3 c = let l : 2 ≤ c .before .args .i = above 1 (c .before .args .i) (above 0 (c .before .args .i) (omega arith) (c .match .rest .0 .1)) (c .match .rest .1) in sym (List·getD-eq-default lineLayout noColumn l)
+returns-3 c =
+    let a = c .before .args in
+    let l : 2 ≤ a .i = above 1 (a .i) (above 0 (a .i) (omega arith) (c .match .rest .0 .1)) (c .match .rest .1) in sym (List·getD-eq-default lineLayout noColumn l)
 
 pub line-column-spec : {M : Type 1} → statement M
 line-column-spec =

@@ -70,7 +70,9 @@ returns-15 c = rw (c .match .keys15)
 
 returns-16 : tie.Need-returns-16
 unfolding recordLayout
-returns-16 c = let l : 15 ≤ c .before .args .i = above 14 (c .before .args .i) (above 13 (c .before .args .i) (above 12 (c .before .args .i) (above 11 (c .before .args .i) (above 10 (c .before .args .i) (above 9 (c .before .args .i) (above 8 (c .before .args .i) (above 7 (c .before .args .i) (above 6 (c .before .args .i) (above 5 (c .before .args .i) (above 4 (c .before .args .i) (above 3 (c .before .args .i) (above 2 (c .before .args .i) (above 1 (c .before .args .i) (above 0 (c .before .args .i) (omega arith) (c .match .rest .0 .0 .0 .0 .0 .0 .0 .0 .0 .0 .0 .0 .0 .0 .1)) (c .match .rest .0 .0 .0 .0 .0 .0 .0 .0 .0 .0 .0 .0 .0 .1)) (c .match .rest .0 .0 .0 .0 .0 .0 .0 .0 .0 .0 .0 .0 .1)) (c .match .rest .0 .0 .0 .0 .0 .0 .0 .0 .0 .0 .0 .1)) (c .match .rest .0 .0 .0 .0 .0 .0 .0 .0 .0 .0 .1)) (c .match .rest .0 .0 .0 .0 .0 .0 .0 .0 .0 .1)) (c .match .rest .0 .0 .0 .0 .0 .0 .0 .0 .1)) (c .match .rest .0 .0 .0 .0 .0 .0 .0 .1)) (c .match .rest .0 .0 .0 .0 .0 .0 .1)) (c .match .rest .0 .0 .0 .0 .0 .1)) (c .match .rest .0 .0 .0 .0 .1)) (c .match .rest .0 .0 .0 .1)) (c .match .rest .0 .0 .1)) (c .match .rest .0 .1)) (c .match .rest .1) in sym (List·getD-eq-default recordLayout noColumn l)
+returns-16 c =
+    let a = c .before .args in
+    let l : 15 ≤ a .i = above 14 (a .i) (above 13 (a .i) (above 12 (a .i) (above 11 (a .i) (above 10 (a .i) (above 9 (a .i) (above 8 (a .i) (above 7 (a .i) (above 6 (a .i) (above 5 (a .i) (above 4 (a .i) (above 3 (a .i) (above 2 (a .i) (above 1 (a .i) (above 0 (a .i) (omega arith) (c .match .rest .0 .0 .0 .0 .0 .0 .0 .0 .0 .0 .0 .0 .0 .0 .1)) (c .match .rest .0 .0 .0 .0 .0 .0 .0 .0 .0 .0 .0 .0 .0 .1)) (c .match .rest .0 .0 .0 .0 .0 .0 .0 .0 .0 .0 .0 .0 .1)) (c .match .rest .0 .0 .0 .0 .0 .0 .0 .0 .0 .0 .0 .1)) (c .match .rest .0 .0 .0 .0 .0 .0 .0 .0 .0 .0 .1)) (c .match .rest .0 .0 .0 .0 .0 .0 .0 .0 .0 .1)) (c .match .rest .0 .0 .0 .0 .0 .0 .0 .0 .1)) (c .match .rest .0 .0 .0 .0 .0 .0 .0 .1)) (c .match .rest .0 .0 .0 .0 .0 .0 .1)) (c .match .rest .0 .0 .0 .0 .0 .1)) (c .match .rest .0 .0 .0 .0 .1)) (c .match .rest .0 .0 .0 .1)) (c .match .rest .0 .0 .1)) (c .match .rest .0 .1)) (c .match .rest .1) in sym (List·getD-eq-default recordLayout noColumn l)
 
 pub record-column-spec : {M : Type 1} → statement M
 record-column-spec =

@@ -10,18 +10,6 @@ use Rattle.model.specs.Layouts.{words}
 use Rattle.codec.proofs.layouts.word.Statement.{statement}
 use Rattle.codec.proofs.layouts.word.Tie as tie
 
-enum-told : tie.Need-enum-told
-enum-told c = search needs
-
-enum-told-2 : tie.Need-enum-told-2
-enum-told-2 c = search needs
-
-enum-told-3 : tie.Need-enum-told-3
-enum-told-3 c = search needs
-
-enum-told-4 : tie.Need-enum-told-4
-enum-told-4 c = search needs
-
 returns : tie.Need-returns
 unfolding words bytes
 returns c = rw (c .before .before .before .enum-told .given .1, c .before .before .match2 .keys1)
@@ -86,10 +74,10 @@ pub word-spec : {M : Type 1} → statement M
 word-spec =
     tie.close
     (tie.spec
-    enum-told
-    enum-told-2
-    enum-told-3
-    enum-told-4
+    (λ c. search needs)
+    (λ c. search needs)
+    (λ c. search needs)
+    (λ c. search needs)
     returns
     returns-2
     returns-3

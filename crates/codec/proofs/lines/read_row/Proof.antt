@@ -19,48 +19,20 @@ abbrev μ-loop : tie.MeasureT-loop
 loop-holds : tie.Need-loop-holds Inv-loop μ-loop
 loop-holds c = (c .before .before .pre .1, read-first _ _ _ (c .before .before .pre .0) (c .before .before .pre .1))
 
-column-requires : tie.Need-column-requires Inv-loop μ-loop
-column-requires c κs = search needs
-
 add-end : tie.Need-add-end Inv-loop μ-loop
 add-end c =
-    let e = field-ends (layout (c .before .before .before .before .before .before .args .l)) (c .before .before .before .loop .i) (c .before .before .before .loop .at) (length (c .before .before .before .before .before .before .args .line .now)) (c .before .column .result) (omega arith) (c .before .column .ensures) (c .before .before .before .loop .inv .1 .left) in
+    let a = c .before .before .before .before .before .before .args in
+    let e = field-ends (layout (a .l)) (c .before .before .before .loop .i) (c .before .before .before .loop .at) (length (a .line .now)) (c .before .column .result) (omega arith) (c .before .column .ensures) (c .before .before .before .loop .inv .1 .left) in
     omega arith
-
-sub-read-field : tie.Need-sub-read-field Inv-loop μ-loop
-sub-read-field c = search needs
-
-part-read-field-start : tie.Need-part-read-field-start Inv-loop μ-loop
-part-read-field-start c = search needs
 
 part-read-field-end : tie.Need-part-read-field-end Inv-loop μ-loop
 part-read-field-end c =
-    let e = field-ends (layout (c .before .before .before .before .before .before .args .l)) (c .before .before .before .loop .i) (c .before .before .before .loop .at) (length (c .before .before .before .before .before .before .args .line .now)) (c .before .column .result) (omega arith) (c .before .column .ensures) (c .before .before .before .loop .inv .1 .left) in
+    let a = c .before .before .before .before .before .before .args in
+    let e = field-ends (layout (a .l)) (c .before .before .before .loop .i) (c .before .before .before .loop .at) (length (a .line .now)) (c .before .column .result) (omega arith) (c .before .column .ensures) (c .before .before .before .loop .inv .1 .left) in
     omega arith
-
-read-field-requires : tie.Need-read-field-requires Inv-loop μ-loop
-read-field-requires c κs = search needs
-
-number-of-requires : tie.Need-number-of-requires Inv-loop μ-loop
-number-of-requires c κs = search needs
-
-mul-row : tie.Need-mul-row Inv-loop μ-loop
-mul-row c = search needs
-
-slice-write-row : tie.Need-slice-write-row Inv-loop μ-loop
-slice-write-row c = search needs
-
-add-i : tie.Need-add-i Inv-loop μ-loop
-add-i c = search needs
-
-loop-less : tie.Need-loop-less Inv-loop μ-loop
-loop-less c = search needs
 
 loop-again : tie.Need-loop-again Inv-loop μ-loop
 loop-again c = (c .before .before .before .before .before .before .loop .inv .0, read-next _ _ _ _ _ _ _ (omega arith) (c .before .before .before .before .column .ensures) (c .number-of .ensures ∙ ap number (c .before .read-field .ensures)) (c .before .before .before .before .before .before .loop .inv .1))
-
-same-length : tie.Need-same-length Inv-loop μ-loop
-same-length c = search needs
 
 returns : tie.Need-returns Inv-loop μ-loop
 returns c =
@@ -73,17 +45,17 @@ read-row-spec =
     Inv-loop
     μ-loop
     loop-holds
-    column-requires
+    (λ c κs. search needs)
     add-end
-    sub-read-field
-    part-read-field-start
+    (λ c. search needs)
+    (λ c. search needs)
     part-read-field-end
-    read-field-requires
-    number-of-requires
-    mul-row
-    slice-write-row
-    add-i
-    loop-less
+    (λ c κs. search needs)
+    (λ c κs. search needs)
+    (λ c. search needs)
+    (λ c. search needs)
+    (λ c. search needs)
+    (λ c. search needs)
     loop-again
-    same-length
+    (λ c. search needs)
     returns)

@@ -18,25 +18,10 @@ abbrev μ-loop : tie.MeasureT-loop
 loop-holds : tie.Need-loop-holds Inv-loop μ-loop
 loop-holds c = (c .before .before .pre .0, write-first _ _ _ (c .before .before .pre .1))
 
-column-requires : tie.Need-column-requires Inv-loop μ-loop
-column-requires c κs = search needs
-
 add-end : tie.Need-add-end Inv-loop μ-loop
 add-end c =
     let e = field-ends (layout (c .before .before .before .before .before .before .args .l)) (c .before .before .before .loop .i) (c .before .before .before .loop .at) (length (c .before .before .before .loop .line)) (c .before .column .result) (omega arith) (c .before .column .ensures) (c .before .before .before .loop .inv .1 .left) in
     omega arith
-
-mul-write-field : tie.Need-mul-write-field Inv-loop μ-loop
-mul-write-field c = search needs
-
-shared-slice-read-write-field : tie.Need-shared-slice-read-write-field Inv-loop μ-loop
-shared-slice-read-write-field c = search needs
-
-sub-write-field : tie.Need-sub-write-field Inv-loop μ-loop
-sub-write-field c = search needs
-
-part-write-field-start : tie.Need-part-write-field-start Inv-loop μ-loop
-part-write-field-start c = search needs
 
 part-write-field-end : tie.Need-part-write-field-end Inv-loop μ-loop
 part-write-field-end c =
@@ -47,12 +32,6 @@ write-field-requires : tie.Need-write-field-requires Inv-loop μ-loop
 write-field-requires c κs =
     let e = field-ends (layout (c .before .before .before .before .before .before .before .before .args .l)) (c .before .before .before .before .before .loop .i) (c .before .before .before .before .before .loop .at) (length (c .before .before .before .before .before .loop .line)) (c .before .before .before .column .result) (omega arith) (c .before .before .before .column .ensures) (c .before .before .before .before .before .loop .inv .1 .left) in
     (simp (length-take, length-drop) (omega arith), column-wide _ _ _ (omega arith) (c .before .before .before .column .ensures))
-
-add-i : tie.Need-add-i Inv-loop μ-loop
-add-i c = search needs
-
-loop-less : tie.Need-loop-less Inv-loop μ-loop
-loop-less c = search needs
 
 loop-again : tie.Need-loop-again Inv-loop μ-loop
 loop-again c = (c .before .before .before .before .before .before .before .before .loop .inv .0, write-next _ _ _ _ _ _ _ (c .before .before .before .before .before .before .before .before .before .before .before .pre .0) (omega arith) (c .before .before .before .before .before .before .column .ensures) (c .before .before .write-field .ensures) (column-wide _ _ _ (omega arith) (c .before .before .before .before .before .before .column .ensures)) (c .before .before .before .before .before .before .before .before .loop .inv .1))
@@ -73,16 +52,16 @@ write-row-spec =
     Inv-loop
     μ-loop
     loop-holds
-    column-requires
+    (λ c κs. search needs)
     add-end
-    mul-write-field
-    shared-slice-read-write-field
-    sub-write-field
-    part-write-field-start
+    (λ c. search needs)
+    (λ c. search needs)
+    (λ c. search needs)
+    (λ c. search needs)
     part-write-field-end
     write-field-requires
-    add-i
-    loop-less
+    (λ c. search needs)
+    (λ c. search needs)
     loop-again
     slice-write-line
     same-length

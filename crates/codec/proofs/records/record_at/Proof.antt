@@ -8,33 +8,9 @@ use Rattle.codec.specs.Parts.{record-part}
 use Rattle.codec.proofs.records.record_at.Statement.{statement}
 use Rattle.codec.proofs.records.record_at.Tie as tie
 
-mul-at : tie.Need-mul-at
-mul-at c = search needs
-
-add-end : tie.Need-add-end
-add-end c = search needs
-
-sub-read-row : tie.Need-sub-read-row
-sub-read-row c = search needs
-
-part-read-row-start : tie.Need-part-read-row-start
-part-read-row-start c = search needs
-
-part-read-row-end : tie.Need-part-read-row-end
-part-read-row-end c = search needs
-
-slice-aggregate-read-row : tie.Need-slice-aggregate-read-row
-slice-aggregate-read-row c = search needs
-
 read-row-requires : tie.Need-read-row-requires
 unfolding layout recordLayout lineBytes
 read-row-requires c κs = search needs
-
-slice-aggregate-record-of : tie.Need-slice-aggregate-record-of
-slice-aggregate-record-of c = search needs
-
-record-of-requires : tie.Need-record-of-requires
-record-of-requires c κs = search needs
 
 returns : tie.Need-returns
 unfolding layout
@@ -47,14 +23,14 @@ pub record-at-spec : {M : Type 1} → statement M
 record-at-spec =
     tie.close
     (tie.spec
-    mul-at
-    add-end
-    sub-read-row
-    part-read-row-start
-    part-read-row-end
-    slice-aggregate-read-row
+    (λ c. search needs)
+    (λ c. search needs)
+    (λ c. search needs)
+    (λ c. search needs)
+    (λ c. search needs)
+    (λ c. search needs)
     read-row-requires
-    slice-aggregate-record-of
-    record-of-requires
+    (λ c. search needs)
+    (λ c κs. search needs)
     returns
     returns-2)

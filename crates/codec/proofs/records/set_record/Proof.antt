@@ -13,40 +13,17 @@ use Rattle.sheet_laws.specs.Lines.{lineBytes}
 use Rattle.codec.proofs.records.set_record.Statement.{statement}
 use Rattle.codec.proofs.records.set_record.Tie as tie
 
-mul-at : tie.Need-mul-at
-mul-at c = search needs
-
-add-end : tie.Need-add-end
-add-end c = search needs
-
-numbers-of-requires : tie.Need-numbers-of-requires
-numbers-of-requires c κs = search needs
-
-slice-aggregate-write-row : tie.Need-slice-aggregate-write-row
-slice-aggregate-write-row c = search needs
-
-sub-write-row : tie.Need-sub-write-row
-sub-write-row c = search needs
-
-part-write-row-start : tie.Need-part-write-row-start
-part-write-row-start c = search needs
-
-part-write-row-end : tie.Need-part-write-row-end
-part-write-row-end c = search needs
-
 write-row-requires : tie.Need-write-row-requires
 unfolding layout recordLayout lineBytes
 write-row-requires c κs = search needs
 
-same-length : tie.Need-same-length
-same-length c = search needs
-
 returns : tie.Need-returns
 unfolding layout recordText
 returns c =
-    let k : length (c .before .before .write-row .last .1 .1 .0) ≡ c .before .before .before .before .before .before .before .before .args .i * recordBytes + recordBytes - c .before .before .before .before .before .before .before .before .args .i * recordBytes =
+    let a = c .before .before .before .before .before .before .before .before .args in
+    let k : length (c .before .before .write-row .last .1 .1 .0) ≡ a .i * recordBytes + recordBytes - a .i * recordBytes =
     c .before .before .write-row .kept .1 .1 .0 ∙ simp (length-take, length-drop) (omega arith) in
-    room-part _ recordBytes (c .before .before .before .before .before .before .before .before .args .i * recordBytes) _ _ _ (lt-ltb _ _ (c .before .before .before .before .before .before .if1 .taken)) k
+    room-part _ recordBytes (a .i * recordBytes) _ _ _ (lt-ltb _ _ (c .before .before .before .before .before .before .if1 .taken)) k
     (c .before .before .write-row .ensures ∙ ap (lineText recordLayout) (c .before .before .before .before .before .numbers-of .ensures))
 
 returns-2 : tie.Need-returns-2
@@ -56,14 +33,14 @@ pub set-record-spec : {M : Type 1} → statement M
 set-record-spec =
     tie.close
     (tie.spec
-    mul-at
-    add-end
-    numbers-of-requires
-    slice-aggregate-write-row
-    sub-write-row
-    part-write-row-start
-    part-write-row-end
+    (λ c. search needs)
+    (λ c. search needs)
+    (λ c κs. search needs)
+    (λ c. search needs)
+    (λ c. search needs)
+    (λ c. search needs)
+    (λ c. search needs)
     write-row-requires
-    same-length
+    (λ c. search needs)
     returns
     returns-2)

@@ -11,27 +11,6 @@ use Rattle.codec.proofs.settling.settle.Statement.{statement}
 use Rattle.codec.proofs.settling.settle.Tie as tie
 use Rattle.model.specs.Layouts.{recordBytes}
 
-mul-at : tie.Need-mul-at
-mul-at c = search needs
-
-add-end : tie.Need-add-end
-add-end c = search needs
-
-sub-settle-line : tie.Need-sub-settle-line
-sub-settle-line c = search needs
-
-part-settle-line-start : tie.Need-part-settle-line-start
-part-settle-line-start c = search needs
-
-part-settle-line-end : tie.Need-part-settle-line-end
-part-settle-line-end c = search needs
-
-settle-line-requires : tie.Need-settle-line-requires
-settle-line-requires c κs = search needs
-
-same-length : tie.Need-same-length
-same-length c = search needs
-
 returns : tie.Need-returns
 returns c =
     let a = c .before .before .before .before .before .before .args in
@@ -47,12 +26,12 @@ pub settle-spec : {M : Type 1} → statement M
 settle-spec =
     tie.close
     (tie.spec
-    mul-at
-    add-end
-    sub-settle-line
-    part-settle-line-start
-    part-settle-line-end
-    settle-line-requires
-    same-length
+    (λ c. search needs)
+    (λ c. search needs)
+    (λ c. search needs)
+    (λ c. search needs)
+    (λ c. search needs)
+    (λ c κs. search needs)
+    (λ c. search needs)
     returns
     returns-2)

@@ -11,36 +11,6 @@ use Rattle.sheet_laws.specs.Settled.{nothingText, settledBytes}
 use Rattle.codec.proofs.settling.settle_line.Statement.{statement}
 use Rattle.codec.proofs.settling.settle_line.Tie as tie
 
-image-bytes-requires : tie.Need-image-bytes-requires
-image-bytes-requires c κs = search needs
-
-state-number-requires : tie.Need-state-number-requires
-state-number-requires c κs = search needs
-
-word-requires : tie.Need-word-requires
-word-requires c κs = search needs
-
-slice-aggregate-put-at : tie.Need-slice-aggregate-put-at
-slice-aggregate-put-at c = search needs
-
-put-at-requires : tie.Need-put-at-requires
-put-at-requires c κs = search needs
-
-slice-aggregate-put-at-2 : tie.Need-slice-aggregate-put-at-2
-slice-aggregate-put-at-2 c = search needs
-
-put-at-requires-2 : tie.Need-put-at-requires-2
-put-at-requires-2 c κs = search needs
-
-slice-aggregate-put-at-3 : tie.Need-slice-aggregate-put-at-3
-slice-aggregate-put-at-3 c = search needs
-
-put-at-requires-3 : tie.Need-put-at-requires-3
-put-at-requires-3 c κs = search needs
-
-same-length : tie.Need-same-length
-same-length c = search needs
-
 returns : tie.Need-returns
 unfolding settledBytes bytes
 returns c =
@@ -57,14 +27,14 @@ pub settle-line-spec : {M : Type 1} → statement M
 settle-line-spec =
     tie.close
     (tie.spec
-    image-bytes-requires
-    state-number-requires
-    word-requires
-    slice-aggregate-put-at
-    put-at-requires
-    slice-aggregate-put-at-2
-    put-at-requires-2
-    slice-aggregate-put-at-3
-    put-at-requires-3
-    same-length
+    (λ c κs. search needs)
+    (λ c κs. search needs)
+    (λ c κs. search needs)
+    (λ c. search needs)
+    (λ c κs. search needs)
+    (λ c. search needs)
+    (λ c κs. search needs)
+    (λ c. search needs)
+    (λ c κs. search needs)
+    (λ c. search needs)
     returns)

@@ -11,31 +11,13 @@ Inv-loop head good₀ i₀ good i = LettersTo head i good
 abbrev μ-loop : tie.MeasureT-loop
 μ-loop head good₀ i₀ good i = 14 - i
 
-shared-slice-read-good : tie.Need-shared-slice-read-good Inv-loop μ-loop
-shared-slice-read-good c = search needs
-
 loop-holds : tie.Need-loop-holds Inv-loop μ-loop
 loop-holds c = letters-first _
-
-shared-slice-read-is-unit : tie.Need-shared-slice-read-is-unit Inv-loop μ-loop
-shared-slice-read-is-unit c = search needs
-
-is-unit-requires : tie.Need-is-unit-requires Inv-loop μ-loop
-is-unit-requires c κs = search needs
-
-add-i : tie.Need-add-i Inv-loop μ-loop
-add-i c = search needs
-
-loop-less : tie.Need-loop-less Inv-loop μ-loop
-loop-less c = search needs
 
 loop-again : tie.Need-loop-again Inv-loop μ-loop
 loop-again c =
     let p = c .before .before .before .before .before .before .pre in
     letters-next _ _ _ _ p (c .before .before .loop-test .taken) (c .is-unit .ensures) (c .before .before .before .loop .inv)
-
-shared-slice-read-result : tie.Need-shared-slice-read-result Inv-loop μ-loop
-shared-slice-read-result c = search needs
 
 returns : tie.Need-returns Inv-loop μ-loop
 returns c = letters-last _ _ _ (c .before .loop-test .left) (c .before .before .loop .inv)
@@ -46,12 +28,12 @@ letters-ok-spec =
     (tie.spec
     Inv-loop
     μ-loop
-    shared-slice-read-good
+    (λ c. search needs)
     loop-holds
-    shared-slice-read-is-unit
-    is-unit-requires
-    add-i
-    loop-less
+    (λ c. search needs)
+    (λ c κs. search needs)
+    (λ c. search needs)
+    (λ c. search needs)
     loop-again
-    shared-slice-read-result
+    (λ c. search needs)
     returns)

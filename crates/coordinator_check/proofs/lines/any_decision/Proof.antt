@@ -8,24 +8,6 @@ use Rattle.coordinator_check.specs.Lines.{table, table-fits}
 use Rattle.coordinator_check.proofs.lines.any_decision.Statement.{statement}
 use Rattle.coordinator_check.proofs.lines.any_decision.Tie as tie
 
-front-requires : tie.Need-front-requires
-front-requires c κs = search needs
-
-front-requires-2 : tie.Need-front-requires-2
-front-requires-2 c κs = search needs
-
-front-requires-3 : tie.Need-front-requires-3
-front-requires-3 c κs = search needs
-
-back-requires : tie.Need-back-requires
-back-requires c κs = search needs
-
-back-requires-2 : tie.Need-back-requires-2
-back-requires-2 c κs = search needs
-
-back-requires-3 : tie.Need-back-requires-3
-back-requires-3 c κs = search needs
-
 returns : tie.Need-returns
 unfolding table words bytes decisionNumber
 returns c =
@@ -44,10 +26,10 @@ pub any-decision-spec : {M : Type 1} → statement M
 any-decision-spec =
     tie.close
     (tie.spec
-    front-requires
-    front-requires-2
-    front-requires-3
-    back-requires
-    back-requires-2
-    back-requires-3
+    (λ c κs. search needs)
+    (λ c κs. search needs)
+    (λ c κs. search needs)
+    (λ c κs. search needs)
+    (λ c κs. search needs)
+    (λ c κs. search needs)
     returns)

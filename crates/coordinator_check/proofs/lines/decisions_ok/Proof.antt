@@ -12,21 +12,6 @@ sub-count c = let w = whole-parts _ (c .before .pre .0) in omega arith
 returns : tie.Need-returns
 returns c = too-few _ _ (c .if1 .taken)
 
-any-decision-requires : tie.Need-any-decision-requires
-any-decision-requires c κs = search needs
-
-no-decision-requires : tie.Need-no-decision-requires
-no-decision-requires c κs = search needs
-
-slice-aggregate-load-four : tie.Need-slice-aggregate-load-four
-slice-aggregate-load-four c = search needs
-
-load-four-requires : tie.Need-load-four-requires
-load-four-requires c κs = search needs
-
-slice-aggregate-lines-ok : tie.Need-slice-aggregate-lines-ok
-slice-aggregate-lines-ok c = search needs
-
 lines-ok-requires : tie.Need-lines-ok-requires
 lines-ok-requires c κs =
     let d = c .before .before .before .before in
@@ -36,9 +21,6 @@ load-four-requires-2 : tie.Need-load-four-requires-2
 load-four-requires-2 c κs =
     let w = whole-parts _ (c .before .before .before .before .before .before .before .before .pre .0) in
     omega arith
-
-slice-aggregate-lines-ok-2 : tie.Need-slice-aggregate-lines-ok-2
-slice-aggregate-lines-ok-2 c = search needs
 
 lines-ok-requires-2 : tie.Need-lines-ok-requires-2
 lines-ok-requires-2 c κs =
@@ -58,13 +40,13 @@ decisions-ok-spec =
     (tie.spec
     sub-count
     returns
-    any-decision-requires
-    no-decision-requires
-    slice-aggregate-load-four
-    load-four-requires
-    slice-aggregate-lines-ok
+    (λ c κs. search needs)
+    (λ c κs. search needs)
+    (λ c. search needs)
+    (λ c κs. search needs)
+    (λ c. search needs)
     lines-ok-requires
     load-four-requires-2
-    slice-aggregate-lines-ok-2
+    (λ c. search needs)
     lines-ok-requires-2
     returns-2)

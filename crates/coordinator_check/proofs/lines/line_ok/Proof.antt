@@ -5,21 +5,6 @@ use Rattle.coordinator_check.specs.Lines.{told, line-is}
 use Rattle.coordinator_check.proofs.lines.line_ok.Statement.{statement}
 use Rattle.coordinator_check.proofs.lines.line_ok.Tie as tie
 
-add-load-eight : tie.Need-add-load-eight
-add-load-eight c = search needs
-
-load-eight-requires : tie.Need-load-eight-requires
-load-eight-requires c κs = search needs
-
-load-eight-requires-2 : tie.Need-load-eight-requires-2
-load-eight-requires-2 c κs = search needs
-
-mul-result : tie.Need-mul-result
-mul-result c = search needs
-
-mul-result-2 : tie.Need-mul-result-2
-mul-result-2 c = search needs
-
 shared-slice-read-result : tie.Need-shared-slice-read-result
 shared-slice-read-result c = let n = c .before .before .before .before .before .pre .1 .1 .eight in search needs
 
@@ -27,12 +12,6 @@ add-result : tie.Need-add-result
 add-result c =
     let i = told (c .before .before .load-eight .result) in
     omega (arith, c .before .before .before .before .before .pre .1 .1 .room i (omega arith))
-
-add-result-2 : tie.Need-add-result-2
-add-result-2 c = search needs
-
-mul-result-3 : tie.Need-mul-result-3
-mul-result-3 c = search needs
 
 shared-slice-read-result-2 : tie.Need-shared-slice-read-result-2
 shared-slice-read-result-2 c = let n = c .before .before .before .before .before .before .pre .1 .1 .eight in search needs
@@ -48,14 +27,14 @@ pub line-ok-spec : {M : Type 1} → statement M
 line-ok-spec =
     tie.close
     (tie.spec
-    add-load-eight
-    load-eight-requires
-    load-eight-requires-2
-    mul-result
-    mul-result-2
+    (λ c. search needs)
+    (λ c κs. search needs)
+    (λ c κs. search needs)
+    (λ c. search needs)
+    (λ c. search needs)
     shared-slice-read-result
     add-result
-    add-result-2
-    mul-result-3
+    (λ c. search needs)
+    (λ c. search needs)
     shared-slice-read-result-2
     returns)

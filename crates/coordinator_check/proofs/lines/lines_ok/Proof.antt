@@ -21,23 +21,11 @@ next-requires c κs =
     let r = c .before .before .before .before .pre .0 in
     now-fits _ _ (c .before .loop .inv .counted) (omega arith)
 
-mul-line-ok : tie.Need-mul-line-ok Inv-loop μ-loop
-mul-line-ok c = search needs
-
-add-line-ok : tie.Need-add-line-ok Inv-loop μ-loop
-add-line-ok c = search needs
-
 line-ok-requires : tie.Need-line-ok-requires Inv-loop μ-loop
 line-ok-requires c κs =
     let p = c .before .before .before .before .before .pre in
     let r = p .0 in
     (omega arith, (next-fits _ _ _ (c .before .before .loop .inv .counted) (c .next .ensures) (omega arith), p .1))
-
-add-k : tie.Need-add-k Inv-loop μ-loop
-add-k c = search needs
-
-loop-less : tie.Need-loop-less Inv-loop μ-loop
-loop-less c = search needs
 
 loop-again : tie.Need-loop-again Inv-loop μ-loop
 loop-again c =
@@ -56,10 +44,10 @@ lines-ok-spec =
     μ-loop
     loop-holds
     next-requires
-    mul-line-ok
-    add-line-ok
+    (λ c. search needs)
+    (λ c. search needs)
     line-ok-requires
-    add-k
-    loop-less
+    (λ c. search needs)
+    (λ c. search needs)
     loop-again
     returns)

@@ -6,42 +6,15 @@ use Rattle.coordinator_check.specs.Numbers.{following}
 use Rattle.coordinator_check.proofs.lines.next.Statement.{statement}
 use Rattle.coordinator_check.proofs.lines.next.Tie as tie
 
-add-result : tie.Need-add-result
-add-result c = search needs
-
 returns : tie.Need-returns
 unfolding following
 returns c = rw (lt-ltb (c .before .args .number) (57 * 2 ^ 24) (c .if1 .taken))
-
-sub-result : tie.Need-sub-result
-sub-result c = search needs
-
-gain-requires : tie.Need-gain-requires
-gain-requires c κs = search needs
-
-mul-result : tie.Need-mul-result
-mul-result c = search needs
-
-add-result-2 : tie.Need-add-result-2
-add-result-2 c = search needs
 
 returns-2 : tie.Need-returns-2
 unfolding following
 returns-2 c =
     let n = c .before .before .before .args .number in
     rw (c .gain .ensures .0, le-ltb n (57 * 2 ^ 24) (c .before .before .if1 .left), ne-eqb (n / 2 ^ 16 % 256) 57 (c .before .if2 .taken))
-
-sub-result-2 : tie.Need-sub-result-2
-sub-result-2 c = search needs
-
-gain-requires-2 : tie.Need-gain-requires-2
-gain-requires-2 c κs = search needs
-
-mul-result-2 : tie.Need-mul-result-2
-mul-result-2 c = search needs
-
-add-result-3 : tie.Need-add-result-3
-add-result-3 c = search needs
 
 returns-3 : tie.Need-returns-3
 unfolding following
@@ -53,15 +26,15 @@ pub next-spec : {M : Type 1} → statement M
 next-spec =
     tie.close
     (tie.spec
-    add-result
+    (λ c. search needs)
     returns
-    sub-result
-    gain-requires
-    mul-result
-    add-result-2
+    (λ c. search needs)
+    (λ c κs. search needs)
+    (λ c. search needs)
+    (λ c. search needs)
     returns-2
-    sub-result-2
-    gain-requires-2
-    mul-result-2
-    add-result-3
+    (λ c. search needs)
+    (λ c κs. search needs)
+    (λ c. search needs)
+    (λ c. search needs)
     returns-3)

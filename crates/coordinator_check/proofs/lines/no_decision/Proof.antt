@@ -8,18 +8,6 @@ use Rattle.coordinator_check.specs.Lines.{table, table-fits}
 use Rattle.coordinator_check.proofs.lines.no_decision.Statement.{statement}
 use Rattle.coordinator_check.proofs.lines.no_decision.Tie as tie
 
-slice-aggregate-front : tie.Need-slice-aggregate-front
-slice-aggregate-front c = search needs
-
-front-requires : tie.Need-front-requires
-front-requires c κs = search needs
-
-slice-aggregate-back : tie.Need-slice-aggregate-back
-slice-aggregate-back c = search needs
-
-back-requires : tie.Need-back-requires
-back-requires c κs = search needs
-
 returns : tie.Need-returns
 unfolding table words bytes decisionNumber
 returns c =
@@ -28,4 +16,4 @@ returns c =
 pub no-decision-spec : {M : Type 1} → statement M
 no-decision-spec =
     tie.close
-    (tie.spec slice-aggregate-front front-requires slice-aggregate-back back-requires returns)
+    (tie.spec (λ c. search needs) (λ c κs. search needs) (λ c. search needs) (λ c κs. search needs) returns)

@@ -11,16 +11,15 @@ use Rattle.engine.specs.Admission.{admit-away, admit-not, admit-done, pl
 use Rattle.engine.proofs.admission.admission.Statement.{statement}
 use Rattle.engine.proofs.admission.admission.Tie as tie
 
-check-requires : tie.Need-check-requires
-check-requires c κs = search needs
-
 returns : tie.Need-returns
 returns c = let a = c .before .before .before .before .args in
     let e = admit-away (a .t) (a .records .now) (a .coordinator .now) _ (c .before .check .ensures) (c .if1 .taken) in
     (e, places-away (a .t) (a .records .now) (a .coordinator .now) _ e (c .if1 .taken))
 
 well-formed-requires : tie.Need-well-formed-requires
-well-formed-requires c κs = accepted (c .before .before .before .before .args .records .now) (c .before .before .before .before .args .coordinator .now) (sym (c .before .check .ensures) ∙ c .if1 .left)
+well-formed-requires c κs =
+    let a = c .before .before .before .before .args in
+    accepted (a .records .now) (a .coordinator .now) (sym (c .before .check .ensures) ∙ c .if1 .left)
 
 returns-2 : tie.Need-returns-2
 returns-2 c = let a = c .before .before .before .before .before .before .before .before .args in
@@ -36,4 +35,4 @@ returns-3 c = let a = c .before .before .before .before .before .before .before 
 
 pub admission-spec : {M : Type 1} → statement M
 admission-spec =
-    tie.close (tie.spec check-requires returns well-formed-requires returns-2 returns-3)
+    tie.close (tie.spec (λ c κs. search needs) returns well-formed-requires returns-2 returns-3)

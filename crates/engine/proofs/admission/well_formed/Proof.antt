@@ -11,27 +11,17 @@ use Rattle.engine.specs.Admission.{well-formed-few, well-formed-not, wel
 use Rattle.engine.proofs.admission.well_formed.Statement.{statement}
 use Rattle.engine.proofs.admission.well_formed.Tie as tie
 
-issued-requires : tie.Need-issued-requires
-issued-requires c κs = search needs
-
-sub-formed : tie.Need-sub-formed
-sub-formed c = search needs
-
-part-formed-start : tie.Need-part-formed-start
-part-formed-start c = search needs
-
 part-formed-end : tie.Need-part-formed-end
 part-formed-end c = let l = accepted-length (c .before .before .before .args .coordinator .now) (c .before .before .before .pre .decisions) in omega arith
-
-formed-requires : tie.Need-formed-requires
-formed-requires c κs = search needs
 
 returns : tie.Need-returns
 returns c = let a = c .before .before .before .before .before .before .args in
     ap (λ (b : Bool). locatedIf b (records (a .records .now)) (a .t)) (well-formed-not (a .t) (a .records .now) (a .coordinator .now) (c .before .before .before .before .before .before .pre) _ (c .before .before .before .issued .ensures) (sym (c .before .formed .ensures) ∙ not-true _ (c .if1 .taken)))
 
 locate-requires : tie.Need-locate-requires
-locate-requires c κs = (c .before .before .before .before .before .before .pre .lines, well-formed-few (c .before .before .before .before .before .before .args .t) (c .before .before .before .before .before .before .args .records .now) (c .before .before .before .before .before .before .args .coordinator .now) (c .before .before .before .before .before .before .pre) _ (c .before .before .before .issued .ensures) (sym (c .before .formed .ensures) ∙ not-false _ (c .if1 .left)))
+locate-requires c κs =
+    let a = c .before .before .before .before .before .before .args in
+    (c .before .before .before .before .before .before .pre .lines, well-formed-few (a .t) (a .records .now) (a .coordinator .now) (c .before .before .before .before .before .before .pre) _ (c .before .before .before .issued .ensures) (sym (c .before .formed .ensures) ∙ not-false _ (c .if1 .left)))
 
 returns-2 : tie.Need-returns-2
 returns-2 c = let a = c .before .before .before .before .before .before .before .args in
@@ -41,11 +31,11 @@ pub well-formed-spec : {M : Type 1} → statement M
 well-formed-spec =
     tie.close
     (tie.spec
-    issued-requires
-    sub-formed
-    part-formed-start
+    (λ c κs. search needs)
+    (λ c. search needs)
+    (λ c. search needs)
     part-formed-end
-    formed-requires
+    (λ c κs. search needs)
     returns
     locate-requires
     returns-2)

@@ -15,69 +15,42 @@ use Rattle.engine.proofs.admission.admission.Reads as admission-reads
 use Rattle.engine.proofs.advance.forbids.Reads as forbids-reads
 use Rattle.steps.proofs.step.Reads as step-reads
 
-admission-requires : tie.Need-admission-requires
-admission-requires c κs = search needs
-
-refusal-requires : tie.Need-refusal-requires
-refusal-requires c κs = search needs
-
-same-length : tie.Need-same-length
-same-length c = search needs
-
-same-length-2 : tie.Need-same-length-2
-same-length-2 c = search needs
-
 returns : tie.Need-returns
-returns c = let o = outcome-refused (stepped (c .before .before .before .before .before .before .before .before .args .t)) (c .before .before .before .before .before .before .before .before .args .records .now) (c .before .before .before .before .before .before .before .before .args .coordinator .now) _ (advance-away (c .before .before .before .before .before .before .before .before .args .t) (c .before .before .before .before .before .before .before .before .args .clock) (c .before .before .before .before .before .before .before .before .args .records .now) (c .before .before .before .before .before .before .before .before .args .coordinator .now) _ (c .before .before .before .admission .ensures .0) (c .before .if1 .taken)) (c .refusal .ensures) in (o .said, (o .lines, o .decisions))
-
-decision-at-requires : tie.Need-decision-at-requires
-decision-at-requires c κs = search needs
-
-forbids-requires : tie.Need-forbids-requires
-forbids-requires c κs = search needs
-
-refusal-requires-2 : tie.Need-refusal-requires-2
-refusal-requires-2 c κs = search needs
-
-same-length-3 : tie.Need-same-length-3
-same-length-3 c = search needs
-
-same-length-4 : tie.Need-same-length-4
-same-length-4 c = search needs
+returns c =
+    let a = c .before .before .before .before .before .before .before .before .args in
+    let o = outcome-refused (stepped (a .t)) (a .records .now) (a .coordinator .now) _ (advance-away (a .t) (a .clock) (a .records .now) (a .coordinator .now) _ (c .before .before .before .admission .ensures .0) (c .before .if1 .taken)) (c .refusal .ensures) in (o .said, (o .lines, o .decisions))
 
 returns-2 : tie.Need-returns-2
-returns-2 c = let o = outcome-refused (stepped (c .before .before .before .before .before .before .before .before .before .before .before .before .args .t)) (c .before .before .before .before .before .before .before .before .before .before .before .before .args .records .now) (c .before .before .before .before .before .before .before .before .before .before .before .before .args .coordinator .now) 4 (advance-forbidden (c .before .before .before .before .before .before .before .before .before .before .before .before .args .t) (c .before .before .before .before .before .before .before .before .before .before .before .before .args .clock) (c .before .before .before .before .before .before .before .before .before .before .before .before .args .records .now) (c .before .before .before .before .before .before .before .before .before .before .before .before .args .coordinator .now) (admitted (c .before .before .before .before .before .before .before .before .before .before .before .before .args .t) (c .before .before .before .before .before .before .before .before .before .before .before .before .args .records .now) (c .before .before .before .before .before .before .before .before .before .before .before .before .args .coordinator .now) (sym (c .before .before .before .before .before .before .before .admission .ensures .0) ∙ c .before .before .before .before .before .if1 .left)) (ap (λ (d : Decision). forbids (c .before .before .before .before .before .before .before .before .before .before .before .before .args .t .phase) d) (sym (c .before .before .before .decision-at .ensures)) ∙ (sym (c .before .before .forbids .ensures) ∙ c .before .if2 .taken))) (c .refusal2 .ensures) in (o .said, (o .lines, o .decisions))
+returns-2 c =
+    let a = c .before .before .before .before .before .before .before .before .before .before .before .before .args in
+    let o = outcome-refused (stepped (a .t)) (a .records .now) (a .coordinator .now) 4 (advance-forbidden (a .t) (a .clock) (a .records .now) (a .coordinator .now) (admitted (a .t) (a .records .now) (a .coordinator .now) (sym (c .before .before .before .before .before .before .before .admission .ensures .0) ∙ c .before .before .before .before .before .if1 .left)) (ap (λ (d : Decision). forbids (a .t .phase) d) (sym (c .before .before .before .decision-at .ensures)) ∙ (sym (c .before .before .forbids .ensures) ∙ c .before .if2 .taken))) (c .refusal2 .ensures) in (o .said, (o .lines, o .decisions))
 
 step-requires : tie.Need-step-requires
 step-requires c κs = let a = c .before .before .before .before .before .before .before .before .before .before .before .before .before .before .args in
     let h = admitted (a .t) (a .records .now) (a .coordinator .now) (sym (c .before .before .before .before .before .before .before .before .before .admission .ensures .0) ∙ c .before .before .before .before .before .before .before .if1 .left) in
     step-ready (a .t) (a .clock) (a .records .now) (a .coordinator .now) h _ (admitted-placed (a .t) (a .records .now) (a .coordinator .now) (c .before .before .before .before .before .before .before .before .before .before .before .before .before .before .good .0) h _ (c .before .before .before .before .before .before .before .before .before .admission .ensures .1))
 
-same-length-5 : tie.Need-same-length-5
-same-length-5 c = search needs
-
-same-length-6 : tie.Need-same-length-6
-same-length-6 c = search needs
-
 returns-3 : tie.Need-returns-3
-returns-3 c = let o = step-outcome (c .before .before .before .before .before .before .before .before .before .before .before .before .before .before .before .before .before .before .before .args .t) (c .before .before .before .before .before .before .before .before .before .before .before .before .before .before .before .before .before .before .before .args .clock) (c .before .before .before .before .before .before .before .before .before .before .before .before .before .before .before .before .before .before .before .args .records .now) (c .before .before .before .before .before .before .before .before .before .before .before .before .before .before .before .before .before .before .before .args .coordinator .now) (admitted (c .before .before .before .before .before .before .before .before .before .before .before .before .before .before .before .before .before .before .before .args .t) (c .before .before .before .before .before .before .before .before .before .before .before .before .before .before .before .before .before .before .before .args .records .now) (c .before .before .before .before .before .before .before .before .before .before .before .before .before .before .before .before .before .before .before .args .coordinator .now) (sym (c .before .before .before .before .before .before .before .before .before .before .before .before .before .before .admission .ensures .0) ∙ c .before .before .before .before .before .before .before .before .before .before .before .before .if1 .left)) (ap (λ (d : Decision). forbids (c .before .before .before .before .before .before .before .before .before .before .before .before .before .before .before .before .before .before .before .args .t .phase) d) (sym (c .before .before .before .before .before .before .before .before .before .before .decision-at .ensures)) ∙ (sym (c .before .before .before .before .before .before .before .before .before .forbids .ensures) ∙ c .before .before .before .before .before .before .before .before .if2 .left)) (c .before .before .before .before .step .ensures) in (o .said, (o .lines, o .decisions))
+returns-3 c =
+    let a = c .before .before .before .before .before .before .before .before .before .before .before .before .before .before .before .before .before .before .before .args in
+    let o = step-outcome (a .t) (a .clock) (a .records .now) (a .coordinator .now) (admitted (a .t) (a .records .now) (a .coordinator .now) (sym (c .before .before .before .before .before .before .before .before .before .before .before .before .before .before .admission .ensures .0) ∙ c .before .before .before .before .before .before .before .before .before .before .before .before .if1 .left)) (ap (λ (d : Decision). forbids (a .t .phase) d) (sym (c .before .before .before .before .before .before .before .before .before .before .decision-at .ensures)) ∙ (sym (c .before .before .before .before .before .before .before .before .before .forbids .ensures) ∙ c .before .before .before .before .before .before .before .before .if2 .left)) (c .before .before .before .before .step .ensures) in (o .said, (o .lines, o .decisions))
 
 pub advance-spec : {M : Type 1} → statement M
 advance-spec =
     tie.close
     (tie.spec
-    admission-requires
-    refusal-requires
-    same-length
-    same-length-2
+    (λ c κs. search needs)
+    (λ c κs. search needs)
+    (λ c. search needs)
+    (λ c. search needs)
     returns
-    decision-at-requires
-    forbids-requires
-    refusal-requires-2
-    same-length-3
-    same-length-4
+    (λ c κs. search needs)
+    (λ c κs. search needs)
+    (λ c κs. search needs)
+    (λ c. search needs)
+    (λ c. search needs)
     returns-2
     step-requires
-    same-length-5
-    same-length-6
+    (λ c. search needs)
+    (λ c. search needs)
     returns-3)

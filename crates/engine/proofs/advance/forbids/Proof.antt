@@ -1,7 +1,6 @@
 -- By the phase, and in each by what the own decision says.
 use Rattle.protocol.specs.Phases.{phase-none}
 use Rattle.engine.specs.Advancing.{forbids}
-use Prim.Native.Nat.{_-_}
 use borrow.Author.Needs.{needs}
 use Rattle.engine.proofs.advance.forbids.Statement.{statement}
 use Rattle.engine.proofs.advance.forbids.Tie as tie
@@ -10,18 +9,6 @@ use Rattle.engine.proofs.advance.forbids.Lts as lts
 use Rattle.engine.proofs.advance.is_committed.Reads as is-committed-reads
 use Rattle.engine.proofs.advance.not_aborted.Reads as not-aborted-reads
 use Rattle.engine.proofs.advance.not_committed.Reads as not-committed-reads
-
-is-committed-requires : tie.Need-is-committed-requires
-is-committed-requires c κs = search needs
-
-is-committed-requires-2 : tie.Need-is-committed-requires-2
-is-committed-requires-2 c κs = search needs
-
-not-committed-requires : tie.Need-not-committed-requires
-not-committed-requires c κs = search needs
-
-not-aborted-requires : tie.Need-not-aborted-requires
-not-aborted-requires c κs = search needs
 
 returns : tie.Need-returns
 unfolding forbids
@@ -63,10 +50,10 @@ pub forbids-spec : {M : Type 1} → statement M
 forbids-spec =
     tie.close
     (tie.spec
-    is-committed-requires
-    is-committed-requires-2
-    not-committed-requires
-    not-aborted-requires
+    (λ c κs. search needs)
+    (λ c κs. search needs)
+    (λ c κs. search needs)
+    (λ c κs. search needs)
     returns
     returns-2
     returns-3

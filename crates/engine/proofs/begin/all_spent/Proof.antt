@@ -5,11 +5,8 @@ use borrow.Author.Needs.{needs}
 use Rattle.engine.proofs.begin.all_spent.Statement.{statement}
 use Rattle.engine.proofs.begin.all_spent.Tie as tie
 
-count-requires : tie.Need-count-requires
-count-requires c κs = search needs
-
 returns : tie.Need-returns
 returns c = ap (eqb (c .before .before .args .issued)) (c .count .ensures)
 
 pub all-spent-spec : {M : Type 1} → statement M
-all-spent-spec = tie.close (tie.spec count-requires returns)
+all-spent-spec = tie.close (tie.spec (λ c κs. search needs) returns)

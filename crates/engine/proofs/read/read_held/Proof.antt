@@ -7,17 +7,8 @@ use Rattle.engine.specs.Fetching.{fetchedAs}
 use Rattle.engine.proofs.read.read_held.Statement.{statement}
 use Rattle.engine.proofs.read.read_held.Tie as tie
 
-entry-at-requires : tie.Need-entry-at-requires
-entry-at-requires c κs = search needs
-
-reading-requires : tie.Need-reading-requires
-reading-requires c κs = search needs
-
-answer-requires : tie.Need-answer-requires
-answer-requires c κs = search needs
-
 returns : tie.Need-returns
 returns c = c .answer .ensures ∙ ap (λ (v : Reading). fetchedAs v (c .before .before .before .args .t)) (c .before .reading .ensures ∙ ap reading (c .before .before .entry-at .ensures))
 
 pub read-held-spec : {M : Type 1} → statement M
-read-held-spec = tie.close (tie.spec entry-at-requires reading-requires answer-requires returns)
+read-held-spec = tie.close (tie.spec (λ c κs. search needs) (λ c κs. search needs) (λ c κs. search needs) returns)

@@ -8,42 +8,6 @@ use Rattle.engine.specs.Fetching.{fetchedHeld}
 use Rattle.engine.proofs.read.read_met.Statement.{statement}
 use Rattle.engine.proofs.read.read_met.Tie as tie
 
-enum-told : tie.Need-enum-told
-enum-told c = search needs
-
-hold-requires : tie.Need-hold-requires
-hold-requires c κs = search needs
-
-enum-told-2 : tie.Need-enum-told-2
-enum-told-2 c = search needs
-
-rolled-forward-requires : tie.Need-rolled-forward-requires
-rolled-forward-requires c κs = search needs
-
-hold-requires-2 : tie.Need-hold-requires-2
-hold-requires-2 c κs = search needs
-
-enum-told-3 : tie.Need-enum-told-3
-enum-told-3 c = search needs
-
-rolled-back-requires : tie.Need-rolled-back-requires
-rolled-back-requires c κs = search needs
-
-hold-requires-3 : tie.Need-hold-requires-3
-hold-requires-3 c κs = search needs
-
-enum-told-4 : tie.Need-enum-told-4
-enum-told-4 c = search needs
-
-answer-requires : tie.Need-answer-requires
-answer-requires c κs = search needs
-
-enum-told-5 : tie.Need-enum-told-5
-enum-told-5 c = search needs
-
-refusal-requires : tie.Need-refusal-requires
-refusal-requires c κs = search needs
-
 returns : tie.Need-returns
 unfolding recovered
 returns c = rw (c .before .enum-told .given .1) (c .hold .ensures)
@@ -66,18 +30,18 @@ pub read-met-spec : {M : Type 1} → statement M
 read-met-spec =
     tie.close
     (tie.spec
-    enum-told
-    hold-requires
-    enum-told-2
-    rolled-forward-requires
-    hold-requires-2
-    enum-told-3
-    rolled-back-requires
-    hold-requires-3
-    enum-told-4
-    answer-requires
-    enum-told-5
-    refusal-requires
+    (λ c. search needs)
+    (λ c κs. search needs)
+    (λ c. search needs)
+    (λ c κs. search needs)
+    (λ c κs. search needs)
+    (λ c. search needs)
+    (λ c κs. search needs)
+    (λ c κs. search needs)
+    (λ c. search needs)
+    (λ c κs. search needs)
+    (λ c. search needs)
+    (λ c κs. search needs)
     returns
     returns-2
     returns-3

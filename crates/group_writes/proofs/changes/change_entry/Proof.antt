@@ -24,9 +24,6 @@ change-line-requires c κs =
       fit = c .before .before .before .before .before .before .pre .fit (rw (c .before .before .before .entry-at .ensures) at (sym (c .before .before .in-group .ensures) ∙ not-false _ (c .before .if1 .left)));
     })
 
-same-length : tie.Need-same-length
-same-length c = search needs
-
 returns-2 : tie.Need-returns-2
 returns-2 c = rw (c .before .before .before .before .before .before .entry-at .ensures) at (turned-own _ _ _ _ _ _ (sym (c .before .before .before .before .before .in-group .ensures) ∙ not-false _ (c .before .before .before .before .if1 .left)) (c .before .before .change-line .ensures))
 
@@ -38,5 +35,5 @@ change-entry-spec =
     in-group-requires
     returns
     change-line-requires
-    same-length
+    (λ c. search needs)
     returns-2)

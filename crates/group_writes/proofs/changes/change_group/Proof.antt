@@ -1,7 +1,7 @@
 -- The changes that are left make of the lines as they are what all of them make of the lines as they were.
 use Prim.Native.Nat.{_-_}
 use mathlib.Core.Path.{_≡_, refl, sym, ap, _∙_}
-use mathlib.Core.List.{List, map}
+use mathlib.Core.List.{List}
 use native.Mathlib.Omega.{arith}
 use lib.ListN.{length}
 use borrow.Author.Needs.{needs}
@@ -21,9 +21,6 @@ Inv-loop c t records₀ coordinator places n i₀ records i = (length records �
 
 abbrev μ-loop : tie.MeasureT-loop
 μ-loop c t records₀ coordinator places n i₀ records i = n - i
-
-cast-n : tie.Need-cast-n Inv-loop μ-loop
-cast-n c = search needs
 
 loop-holds : tie.Need-loop-holds Inv-loop μ-loop
 loop-holds c = (refl, underway-first _ _ _ _ _ (c .before .before .before .good .1 .0) (c .before .before .before .pre))
@@ -45,12 +42,6 @@ change-entry-requires c κs =
       there = c .before .before .loop .inv .1 .placed .at _ (c .before .loop-test .taken);
     }
 
-add-i : tie.Need-add-i Inv-loop μ-loop
-add-i c = search needs
-
-loop-less : tie.Need-loop-less Inv-loop μ-loop
-loop-less c = search needs
-
 loop-again : tie.Need-loop-again Inv-loop μ-loop
 loop-again c = (omega arith, underway-next _ _ _ _ _ _ _ (c .before .before .before .before .before .loop .inv .1) (c .before .before .before .before .loop-test .taken) _ (c .before .before .change-entry .ensures))
 
@@ -59,9 +50,10 @@ same-length c = c .before .loop .inv .0
 
 returns : tie.Need-returns Inv-loop μ-loop
 returns c =
+    let a = c .before .before .before .before .before .args in
     underway-last _ _ _ _ _ _ _ (c .before .loop .inv .1) (c .loop-test .left)
-    ∙ ap (λ (es : List Entry). recordsText (linesAfter (written (c .before .before .before .before .before .args .c) (c .before .before .before .before .before .args .t .number) es) (sheet.records (c .before .before .before .before .before .args .records .now))))
-    (sym (group-in (c .before .before .before .before .before .args .records .now) (c .before .before .before .before .before .args .coordinator .now) (c .before .before .before .before .before .args .t)))
+    ∙ ap (λ (es : List Entry). recordsText (linesAfter (written (a .c) (a .t .number) es) (sheet.records (a .records .now))))
+    (sym (group-in (a .records .now) (a .coordinator .now) (a .t)))
 
 pub change-group-spec : {M : Type 1} → statement M
 change-group-spec =
@@ -69,13 +61,13 @@ change-group-spec =
     (tie.spec
     Inv-loop
     μ-loop
-    cast-n
+    (λ c. search needs)
     loop-holds
     mul-place
     array-read-place
     change-entry-requires
-    add-i
-    loop-less
+    (λ c. search needs)
+    (λ c. search needs)
     loop-again
     same-length
     returns)

@@ -7,27 +7,20 @@ use Rattle.group_writes.specs.Changes.{changed, due-at, wrote-line}
 use Rattle.group_writes.proofs.changes.change_line.Statement.{statement}
 use Rattle.group_writes.proofs.changes.change_line.Tie as tie
 
-record-at-requires : tie.Need-record-at-requires
-record-at-requires c κs = search needs
-
 changed-requires : tie.Need-changed-requires
 changed-requires c κs =
-    ap (λ (r : Record). goodAlone (changed (c .before .before .before .before .args .c) (c .before .before .before .before .args .n) (c .before .before .before .before .args .e) r)) (c .before .record-at .ensures)
+    let a = c .before .before .before .before .args in
+    ap (λ (r : Record). goodAlone (changed (a .c) (a .n) (a .e) r)) (c .before .record-at .ensures)
     ∙ due-at _ _ _ _ _ (c .before .before .before .before .pre)
-
-set-record-requires : tie.Need-set-record-requires
-set-record-requires c κs = search needs
-
-same-length : tie.Need-same-length
-same-length c = search needs
 
 returns : tie.Need-returns
 returns c =
+    let a = c .before .before .before .before .before .before .before .before .args in
     wrote-line _ _ _ _ _ (c .before .before .before .before .before .before .before .before .pre) _ _
-    (c .before .before .before .changed .ensures ∙ ap (changed (c .before .before .before .before .before .before .before .before .args .c) (c .before .before .before .before .before .before .before .before .args .n) (c .before .before .before .before .before .before .before .before .args .e)) (c .before .before .before .before .before .record-at .ensures))
+    (c .before .before .before .changed .ensures ∙ ap (changed (a .c) (a .n) (a .e)) (c .before .before .before .before .before .record-at .ensures))
     (c .before .before .set-record .ensures)
 
 pub change-line-spec : {M : Type 1} → statement M
 change-line-spec =
     tie.close
-    (tie.spec record-at-requires changed-requires set-record-requires same-length returns)
+    (tie.spec (λ c κs. search needs) changed-requires (λ c κs. search needs) (λ c. search needs) returns)

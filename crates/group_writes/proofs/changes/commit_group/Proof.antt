@@ -8,12 +8,9 @@ use Rattle.group_writes.proofs.changes.commit_group.Tie as tie
 change-group-requires : tie.Need-change-group-requires
 change-group-requires c κs = may-commit _ _ _ _ (c .before .before .before .pre .0) (c .before .before .before .pre .1)
 
-same-length : tie.Need-same-length
-same-length c = search needs
-
 returns : tie.Need-returns
 unfolding written
 returns c = c .before .before .change-group .ensures
 
 pub commit-group-spec : {M : Type 1} → statement M
-commit-group-spec = tie.close (tie.spec change-group-requires same-length returns)
+commit-group-spec = tie.close (tie.spec change-group-requires (λ c. search needs) returns)

@@ -8,12 +8,9 @@ use Rattle.group_writes.proofs.changes.forward_group.Tie as tie
 change-group-requires : tie.Need-change-group-requires
 change-group-requires c κs = may-forward _ _ _ _ (c .before .before .before .pre)
 
-same-length : tie.Need-same-length
-same-length c = search needs
-
 returns : tie.Need-returns
 unfolding written
 returns c = c .before .before .change-group .ensures
 
 pub forward-group-spec : {M : Type 1} → statement M
-forward-group-spec = tie.close (tie.spec change-group-requires same-length returns)
+forward-group-spec = tie.close (tie.spec change-group-requires (λ c. search needs) returns)

@@ -9,12 +9,9 @@ use Rattle.group_writes.proofs.changes.prepare_group.Tie as tie
 change-group-requires : tie.Need-change-group-requires
 change-group-requires c κs = may-prepare _ _ _ _ (c .before .before .before .pre .0) _ (omega (arith, c .before .before .before .fits)) (c .before .before .before .pre .1)
 
-same-length : tie.Need-same-length
-same-length c = search needs
-
 returns : tie.Need-returns
 unfolding written
 returns c = c .before .before .change-group .ensures
 
 pub prepare-group-spec : {M : Type 1} → statement M
-prepare-group-spec = tie.close (tie.spec change-group-requires same-length returns)
+prepare-group-spec = tie.close (tie.spec change-group-requires (λ c. search needs) returns)

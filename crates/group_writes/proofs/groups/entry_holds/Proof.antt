@@ -6,12 +6,6 @@ use Rattle.group_writes.specs.Groups.{other-group, own-group}
 use Rattle.group_writes.proofs.groups.entry_holds.Statement.{statement}
 use Rattle.group_writes.proofs.groups.entry_holds.Tie as tie
 
-entry-at-requires : tie.Need-entry-at-requires
-entry-at-requires c κs = search needs
-
-in-group-requires : tie.Need-in-group-requires
-in-group-requires c κs = search needs
-
 returns : tie.Need-returns
 returns c = other-group _ _ (rw (c .before .before .entry-at .ensures) at (sym (c .before .in-group .ensures) ∙ not-true _ (c .if1 .taken)))
 
@@ -23,4 +17,4 @@ returns-2 c = rw (c .before .before .before .entry-at .ensures) at (c .holds .en
 
 pub entry-holds-spec : {M : Type 1} → statement M
 entry-holds-spec =
-    tie.close (tie.spec entry-at-requires in-group-requires returns holds-requires returns-2)
+    tie.close (tie.spec (λ c κs. search needs) (λ c κs. search needs) returns holds-requires returns-2)

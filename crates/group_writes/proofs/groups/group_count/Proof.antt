@@ -11,27 +11,20 @@ use Rattle.protocol.specs.Units.{units-said}
 use Rattle.group_writes.proofs.groups.group_count.Statement.{statement}
 use Rattle.group_writes.proofs.groups.group_count.Tie as tie
 
-sub-group-count : tie.Need-sub-group-count
-sub-group-count c = search needs
-
-part-group-count-start : tie.Need-part-group-count-start
-part-group-count-start c = search needs
-
 part-group-count-end : tie.Need-part-group-count-end
 part-group-count-end c = omega (arith, accepted-length _ (c .before .pre .0))
 
-group-count-requires : tie.Need-group-count-requires
-group-count-requires c κs = search needs
-
 returns : tie.Need-returns
-returns c = c .group-count .ensures ∙ ap (λ (us : List AtomicityUnit). groupCount us (puts (c .before .before .before .args .t))) (units-said (c .before .before .before .args .coordinator .now) (c .before .before .before .pre .0))
+returns c =
+    let a = c .before .before .before .args in
+    c .group-count .ensures ∙ ap (λ (us : List AtomicityUnit). groupCount us (puts (a .t))) (units-said (a .coordinator .now) (c .before .before .before .pre .0))
 
 pub group-count-spec : {M : Type 1} → statement M
 group-count-spec =
     tie.close
     (tie.spec
-    sub-group-count
-    part-group-count-start
+    (λ c. search needs)
+    (λ c. search needs)
     part-group-count-end
-    group-count-requires
+    (λ c κs. search needs)
     returns)

@@ -17,9 +17,6 @@ Inv-loop records coordinator t places n i₀ i = PassedTo t (all (holdsInGroup r
 abbrev μ-loop : tie.MeasureT-loop
 μ-loop records coordinator t places n i₀ i = n - i
 
-cast-n : tie.Need-cast-n Inv-loop μ-loop
-cast-n c = search needs
-
 loop-holds : tie.Need-loop-holds Inv-loop μ-loop
 loop-holds c = pass-first _ _ (c .before .before .before .good .1 .1 .0) (c .before .before .before .pre .0 .1)
 
@@ -36,19 +33,17 @@ entry-holds-requires c κs = (
 )
 
 returns : tie.Need-returns Inv-loop μ-loop
-returns c = all-unmet _ _ _ _ (c .before .before .before .loop .inv) (c .before .before .loop-test .taken) (sym (c .before .entry-holds .ensures) ∙ not-true _ (c .if1 .taken)) ∙ group-all (c .before .before .before .before .before .before .before .args .records .now) (c .before .before .before .before .before .before .before .args .coordinator .now) (c .before .before .before .before .before .before .before .args .t)
-
-add-i : tie.Need-add-i Inv-loop μ-loop
-add-i c = search needs
-
-loop-less : tie.Need-loop-less Inv-loop μ-loop
-loop-less c = search needs
+returns c =
+    let a = c .before .before .before .before .before .before .before .args in
+    all-unmet _ _ _ _ (c .before .before .before .loop .inv) (c .before .before .loop-test .taken) (sym (c .before .entry-holds .ensures) ∙ not-true _ (c .if1 .taken)) ∙ group-all (a .records .now) (a .coordinator .now) (a .t)
 
 loop-again : tie.Need-loop-again Inv-loop μ-loop
 loop-again c = all-next _ _ _ _ (c .before .before .before .loop .inv) (c .before .before .loop-test .taken) (sym (c .before .entry-holds .ensures) ∙ not-false _ (c .if1 .left))
 
 returns-2 : tie.Need-returns-2 Inv-loop μ-loop
-returns-2 c = all-last _ _ _ _ (c .before .loop .inv) (c .loop-test .left) ∙ group-all (c .before .before .before .before .before .args .records .now) (c .before .before .before .before .before .args .coordinator .now) (c .before .before .before .before .before .args .t)
+returns-2 c =
+    let a = c .before .before .before .before .before .args in
+    all-last _ _ _ _ (c .before .loop .inv) (c .loop-test .left) ∙ group-all (a .records .now) (a .coordinator .now) (a .t)
 
 pub group-holds-spec : {M : Type 1} → statement M
 group-holds-spec =
@@ -56,13 +51,13 @@ group-holds-spec =
     (tie.spec
     Inv-loop
     μ-loop
-    cast-n
+    (λ c. search needs)
     loop-holds
     mul-place
     array-read-place
     entry-holds-requires
     returns
-    add-i
-    loop-less
+    (λ c. search needs)
+    (λ c. search needs)
     loop-again
     returns-2)

@@ -10,24 +10,16 @@ use Rattle.protocol.specs.Groups.{inGroup}
 use Rattle.group_writes.proofs.groups.in_group.Statement.{statement}
 use Rattle.group_writes.proofs.groups.in_group.Tie as tie
 
-sub-in-group : tie.Need-sub-in-group
-sub-in-group c = search needs
-
-part-in-group-start : tie.Need-part-in-group-start
-part-in-group-start c = search needs
-
 part-in-group-end : tie.Need-part-in-group-end
 part-in-group-end c = omega (arith, accepted-length _ (c .before .pre .0))
 
-in-group-requires : tie.Need-in-group-requires
-in-group-requires c κs = search needs
-
 returns : tie.Need-returns
 returns c =
+    let a = c .before .before .before .args in
     c .in-group .ensures
-    ∙ ap (λ (us : List AtomicityUnit). inGroup us (c .before .before .before .args .t) (c .before .before .before .args .t .place) (c .before .before .before .args .e)) (units-said (c .before .before .before .args .coordinator .now) (c .before .before .before .pre .0))
+    ∙ ap (λ (us : List AtomicityUnit). inGroup us (a .t) (a .t .place) (a .e)) (units-said (a .coordinator .now) (c .before .before .before .pre .0))
 
 pub in-group-spec : {M : Type 1} → statement M
 in-group-spec =
     tie.close
-    (tie.spec sub-in-group part-in-group-start part-in-group-end in-group-requires returns)
+    (tie.spec (λ c. search needs) (λ c. search needs) part-in-group-end (λ c κs. search needs) returns)

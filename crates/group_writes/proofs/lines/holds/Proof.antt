@@ -6,17 +6,12 @@ use Rattle.group_writes.specs.Lookup.{holds-at}
 use Rattle.group_writes.proofs.lines.holds.Statement.{statement}
 use Rattle.group_writes.proofs.lines.holds.Tie as tie
 
-record-at-requires : tie.Need-record-at-requires
-record-at-requires c κs = search needs
-
-unchanged-requires : tie.Need-unchanged-requires
-unchanged-requires c κs = search needs
-
 returns : tie.Need-returns
 returns c =
+    let a = c .before .before .before .args in
     c .unchanged .ensures
-    ∙ (ap (unchanged (c .before .before .before .args .e)) (c .before .record-at .ensures)
-    ∙ holds-at _ (c .before .before .before .args .e) _ (c .before .before .before .pre))
+    ∙ (ap (unchanged (a .e)) (c .before .record-at .ensures)
+    ∙ holds-at _ (a .e) _ (c .before .before .before .pre))
 
 pub holds-spec : {M : Type 1} → statement M
-holds-spec = tie.close (tie.spec record-at-requires unchanged-requires returns)
+holds-spec = tie.close (tie.spec (λ c κs. search needs) (λ c κs. search needs) returns)

@@ -24,45 +24,22 @@ Inv-loop records t n places₀ i₀ places i =
 abbrev μ-loop : tie.MeasureT-loop
 μ-loop records t n places₀ i₀ places i = n - i
 
-cast-n : tie.Need-cast-n Inv-loop μ-loop
-cast-n c = search needs
-
 loop-holds : tie.Need-loop-holds Inv-loop μ-loop
 unfolding linesHeld placesOf
 loop-holds c = (pass-first _ _ (c .before .before .good .1 .0) (c .before .before .pre .1), (refl, refl))
 
-entry-at-requires : tie.Need-entry-at-requires Inv-loop μ-loop
-entry-at-requires c κs = search needs
-
 line-of-requires : tie.Need-line-of-requires Inv-loop μ-loop
 line-of-requires c κs = c .before .before .before .before .before .pre .0
-
-enum-known-place : tie.Need-enum-known-place Inv-loop μ-loop
-enum-known-place c = search needs
-
-enum-told : tie.Need-enum-told Inv-loop μ-loop
-enum-told c = search needs
 
 returns : tie.Need-returns Inv-loop μ-loop
 returns c =
     let h = all-unmet _ _ _ _ (c .before .before .before .before .before .loop .inv .0) (c .before .before .before .before .loop-test .taken) (sym (has-no-line _ _ (rw (c .before .before .before .entry-at .ensures) at (sym (c .before .before .line-of .ensures) ∙ c .enum-told .given .1)))) in
     located-not _ _ h
 
-mul-places : tie.Need-mul-places Inv-loop μ-loop
-mul-places c = search needs
-
-array-write-places : tie.Need-array-write-places Inv-loop μ-loop
-array-write-places c = search needs
-
-add-i : tie.Need-add-i Inv-loop μ-loop
-add-i c = search needs
-
-loop-less : tie.Need-loop-less Inv-loop μ-loop
-loop-less c = search needs
-
 loop-again : tie.Need-loop-again Inv-loop μ-loop
 loop-again c =
-    let f : found (entryAt (c .before .before .before .before .before .before .before .before .before .args .t) (c .before .before .before .before .before .before .loop .i) .key) (sheet.records (c .before .before .before .before .before .before .before .before .before .args .records .now)) ≡ At (c .before .place .given .0 .0) =
+    let a = c .before .before .before .before .before .before .before .before .before .args in
+    let f : found (entryAt (a .t) (c .before .before .before .before .before .before .loop .i) .key) (sheet.records (a .records .now)) ≡ At (c .before .place .given .0 .0) =
     rw (c .before .before .before .before .entry-at .ensures) at (sym (c .before .before .before .line-of .ensures) ∙ c .before .place .given .1) in (
       all-next _ _ _ _ (c .before .before .before .before .before .before .loop .inv .0) (c .before .before .before .before .before .loop-test .taken) (sym (has-line-at _ _ _ f)),
       (length-set (c .before .before .before .before .before .before .loop .places) (c .before .before .before .before .before .before .loop .i) _ ∙ c .before .before .before .before .before .before .loop .inv .1 .0, places-next _ _ _ _ _ (c .before .before .before .before .before .before .loop .inv .1 .1) f),
@@ -77,16 +54,16 @@ locate-spec =
     (tie.spec
     Inv-loop
     μ-loop
-    cast-n
+    (λ c. search needs)
     loop-holds
-    entry-at-requires
+    (λ c κs. search needs)
     line-of-requires
-    enum-known-place
-    enum-told
+    (λ c. search needs)
+    (λ c. search needs)
     returns
-    mul-places
-    array-write-places
-    add-i
-    loop-less
+    (λ c. search needs)
+    (λ c. search needs)
+    (λ c. search needs)
+    (λ c. search needs)
     loop-again
     returns-2)

@@ -8,11 +8,8 @@ use Rattle.numbers.proofs.decisions.decision_count.Tie as tie
 returns : tie.Need-returns
 returns c = simp length-drop (omega arith)
 
-sub-result : tie.Need-sub-result
-sub-result c = search needs
-
 returns-2 : tie.Need-returns-2
 returns-2 c = simp length-drop
 
 pub decision-count-spec : {M : Type 1} → statement M
-decision-count-spec = tie.close (tie.spec returns sub-result returns-2)
+decision-count-spec = tie.close (tie.spec returns (λ c. search needs) returns-2)

@@ -16,29 +16,20 @@ abbrev μ-loop : tie.MeasureT-loop
 loop-holds : tie.Need-loop-holds Inv-loop μ-loop
 loop-holds c = (refl, pass-first _ _)
 
-highest-at-requires : tie.Need-highest-at-requires Inv-loop μ-loop
-highest-at-requires c κs = search needs
-
-mul-if1 : tie.Need-mul-if1 Inv-loop μ-loop
-mul-if1 c = search needs
-
-shared-slice-read-if1 : tie.Need-shared-slice-read-if1 Inv-loop μ-loop
-shared-slice-read-if1 c = search needs
-
 returns : tie.Need-returns Inv-loop μ-loop
-returns c = pass-bad (c .before .before .before .before .before .before .args .issued) (c .before .before .before .before .before .before .args .decisions .now) (c .before .before .before .before .loop .i) (c .before .before .before .loop-test .taken) (c .before .before .before .before .loop .inv .1) (rw (c .before .before .highest-at .ensures) at (c .if1 .taken))
-
-add-i : tie.Need-add-i Inv-loop μ-loop
-add-i c = search needs
-
-loop-less : tie.Need-loop-less Inv-loop μ-loop
-loop-less c = search needs
+returns c =
+    let a = c .before .before .before .before .before .before .args in
+    pass-bad (a .issued) (a .decisions .now) (c .before .before .before .before .loop .i) (c .before .before .before .loop-test .taken) (c .before .before .before .before .loop .inv .1) (rw (c .before .before .highest-at .ensures) at (c .if1 .taken))
 
 loop-again : tie.Need-loop-again Inv-loop μ-loop
-loop-again c = (c .before .before .before .before .loop .inv .0, pass-next (c .before .before .before .before .before .before .args .issued) (c .before .before .before .before .before .before .args .decisions .now) (c .before .before .before .before .loop .i) (c .before .before .before .loop-test .taken) (c .before .before .before .before .loop .inv .1) (rw (c .before .before .highest-at .ensures) at (c .if1 .left)))
+loop-again c =
+    let a = c .before .before .before .before .before .before .args in
+    (c .before .before .before .before .loop .inv .0, pass-next (a .issued) (a .decisions .now) (c .before .before .before .before .loop .i) (c .before .before .before .loop-test .taken) (c .before .before .before .before .loop .inv .1) (rw (c .before .before .highest-at .ensures) at (c .if1 .left)))
 
 returns-2 : tie.Need-returns-2 Inv-loop μ-loop
-returns-2 c = pass-last (c .before .before .before .args .issued) (c .before .before .before .args .decisions .now) (c .before .loop .i) (c .loop-test .left) (c .before .loop .inv .1)
+returns-2 c =
+    let a = c .before .before .before .args in
+    pass-last (a .issued) (a .decisions .now) (c .before .loop .i) (c .loop-test .left) (c .before .loop .inv .1)
 
 pub decisions-pass-spec : {M : Type 1} → statement M
 decisions-pass-spec =
@@ -47,11 +38,11 @@ decisions-pass-spec =
     Inv-loop
     μ-loop
     loop-holds
-    highest-at-requires
-    mul-if1
-    shared-slice-read-if1
+    (λ c κs. search needs)
+    (λ c. search needs)
+    (λ c. search needs)
     returns
-    add-i
-    loop-less
+    (λ c. search needs)
+    (λ c. search needs)
     loop-again
     returns-2)

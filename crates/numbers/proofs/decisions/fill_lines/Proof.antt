@@ -19,33 +19,6 @@ abbrev μ-loop : tie.MeasureT-loop
 loop-holds : tie.Need-loop-holds Inv-loop μ-loop
 loop-holds c = (refl, written-first _ _ (c .before .before .pre .1))
 
-mul-at : tie.Need-mul-at Inv-loop μ-loop
-mul-at c = search needs
-
-add-end : tie.Need-add-end Inv-loop μ-loop
-add-end c = search needs
-
-add-t9 : tie.Need-add-t9 Inv-loop μ-loop
-add-t9 c = search needs
-
-cast-t10 : tie.Need-cast-t10 Inv-loop μ-loop
-cast-t10 c = search needs
-
-mul-t11 : tie.Need-mul-t11 Inv-loop μ-loop
-mul-t11 c = search needs
-
-shared-slice-read-t13 : tie.Need-shared-slice-read-t13 Inv-loop μ-loop
-shared-slice-read-t13 c = search needs
-
-slice-aggregate-write-row : tie.Need-slice-aggregate-write-row Inv-loop μ-loop
-slice-aggregate-write-row c = search needs
-
-sub-write-row : tie.Need-sub-write-row Inv-loop μ-loop
-sub-write-row c = search needs
-
-part-write-row-start : tie.Need-part-write-row-start Inv-loop μ-loop
-part-write-row-start c = search needs
-
 part-write-row-end : tie.Need-part-write-row-end Inv-loop μ-loop
 part-write-row-end c = let r = written-room (c .before .before .before .before .before .before .args .decisions .now) (c .before .before .before .loop .lines) (c .before .before .before .loop .i) (c .before .before .before .loop .inv .1) in omega arith
 
@@ -54,18 +27,14 @@ unfolding layout lineLayout lineBytes
 write-row-requires c κs = let r = written-room (c .before .before .before .before .before .before .before .args .decisions .now) (c .before .before .before .before .loop .lines) (c .before .before .before .before .loop .i) (c .before .before .before .before .loop .inv .1) in
     (refl, simp (length-take, length-drop) (omega arith))
 
-add-i : tie.Need-add-i Inv-loop μ-loop
-add-i c = search needs
-
-loop-less : tie.Need-loop-less Inv-loop μ-loop
-loop-less c = search needs
-
 loop-again : tie.Need-loop-again Inv-loop μ-loop
 unfolding layout
-loop-again c = let r = written-room (c .before .before .before .before .before .before .before .before .before .before .args .decisions .now) (c .before .before .before .before .before .before .before .loop .lines) (c .before .before .before .before .before .before .before .loop .i) (c .before .before .before .before .before .before .before .loop .inv .1) in
+loop-again c =
+    let a = c .before .before .before .before .before .before .before .before .before .before .args in
+    let r = written-room (a .decisions .now) (c .before .before .before .before .before .before .before .loop .lines) (c .before .before .before .before .before .before .before .loop .i) (c .before .before .before .before .before .before .before .loop .inv .1) in
     let k : length (c .before .before .write-row .last .1 .1 .0) ≡ c .before .before .before .before .before .before .before .loop .i * 15 + 15 - c .before .before .before .before .before .before .before .loop .i * 15 =
     c .before .before .write-row .kept .1 .1 .0 ∙ simp (length-take, length-drop) (omega arith) in
-    (c .before .before .before .before .before .before .before .loop .inv .0, written-next (c .before .before .before .before .before .before .before .before .before .before .args .decisions .now) (c .before .before .before .before .before .before .before .loop .lines) _ (c .before .before .before .before .before .before .before .loop .i) (c .before .before .before .before .before .before .loop-test .taken) k (c .before .before .write-row .ensures) (c .before .before .before .before .before .before .before .loop .inv .1))
+    (c .before .before .before .before .before .before .before .loop .inv .0, written-next (a .decisions .now) (c .before .before .before .before .before .before .before .loop .lines) _ (c .before .before .before .before .before .before .before .loop .i) (c .before .before .before .before .before .before .loop-test .taken) k (c .before .before .write-row .ensures) (c .before .before .before .before .before .before .before .loop .inv .1))
 
 same-length : tie.Need-same-length Inv-loop μ-loop
 same-length c = let r = written-room (c .before .before .before .before .args .decisions .now) (c .before .loop .lines) (c .before .loop .i) (c .before .loop .inv .1) in omega arith
@@ -80,19 +49,19 @@ fill-lines-spec =
     Inv-loop
     μ-loop
     loop-holds
-    mul-at
-    add-end
-    add-t9
-    cast-t10
-    mul-t11
-    shared-slice-read-t13
-    slice-aggregate-write-row
-    sub-write-row
-    part-write-row-start
+    (λ c. search needs)
+    (λ c. search needs)
+    (λ c. search needs)
+    (λ c. search needs)
+    (λ c. search needs)
+    (λ c. search needs)
+    (λ c. search needs)
+    (λ c. search needs)
+    (λ c. search needs)
     part-write-row-end
     write-row-requires
-    add-i
-    loop-less
+    (λ c. search needs)
+    (λ c. search needs)
     loop-again
     same-length
     returns)

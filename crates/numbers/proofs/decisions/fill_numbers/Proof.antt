@@ -26,36 +26,28 @@ read-row-requires : tie.Need-read-row-requires
 unfolding layout headLayout lineBytes
 read-row-requires c κs = (simp length-take (omega arith), simp length-take (omega arith))
 
-sub-fill-decisions : tie.Need-sub-fill-decisions
-sub-fill-decisions c = search needs
-
-part-fill-decisions-start : tie.Need-part-fill-decisions-start
-part-fill-decisions-start c = search needs
-
-part-fill-decisions-end : tie.Need-part-fill-decisions-end
-part-fill-decisions-end c = search needs
-
 sub-fill-decisions-2 : tie.Need-sub-fill-decisions-2
 sub-fill-decisions-2 c = let e = front-length 10 (c .before .before .before .read-row .last .1 .1 .0) (c .before .before .before .before .before .before .before .before .args .numbers .now) (c .before .before .before .read-row .kept .1 .1 .0) (omega arith) in omega arith
 
 part-fill-decisions-start-2 : tie.Need-part-fill-decisions-start-2
 part-fill-decisions-start-2 c = let e = front-length 10 (c .before .before .before .read-row .last .1 .1 .0) (c .before .before .before .before .before .before .before .before .args .numbers .now) (c .before .before .before .read-row .kept .1 .1 .0) (omega arith) in omega arith
 
-part-fill-decisions-end-2 : tie.Need-part-fill-decisions-end-2
-part-fill-decisions-end-2 c = search needs
-
 fill-decisions-requires : tie.Need-fill-decisions-requires
-fill-decisions-requires c κs = let k : length (drop 10 (c .before .before .before .before .before .before .before .before .before .args .numbers .now)) ≡ length (drop 15 (c .before .before .before .before .before .before .before .before .before .args .coordinator .now)) / 15 = rw length-drop (omega arith) in
-    ap length (front-rest 10 (c .before .before .before .before .read-row .last .1 .1 .0) (c .before .before .before .before .before .before .before .before .before .args .numbers .now) (c .before .before .before .before .read-row .kept .1 .1 .0) (omega arith))
-    ∙ (k ∙ ap (λ (x : List ℕ). length x / 15) (sym (rest-part 15 (c .before .before .before .before .before .before .before .before .before .args .coordinator .now))))
+fill-decisions-requires c κs =
+    let a = c .before .before .before .before .before .before .before .before .before .args in
+    let k : length (drop 10 (a .numbers .now)) ≡ length (drop 15 (a .coordinator .now)) / 15 = rw length-drop (omega arith) in
+    ap length (front-rest 10 (c .before .before .before .before .read-row .last .1 .1 .0) (a .numbers .now) (c .before .before .before .before .read-row .kept .1 .1 .0) (omega arith))
+    ∙ (k ∙ ap (λ (x : List ℕ). length x / 15) (sym (rest-part 15 (a .coordinator .now))))
 
 same-length : tie.Need-same-length
 same-length c = front-same 10 (c .before .before .before .before .before .before .before .read-row .last .1 .1 .0) (c .before .before .before .before .before .before .before .before .before .before .before .before .args .numbers .now) (c .before .before .before .before .before .before .before .read-row .kept .1 .1 .0) (omega arith) (c .before .before .fill-decisions .last .1 .0) (c .before .before .fill-decisions .kept .1 .0)
 
 returns : tie.Need-returns
 unfolding layout numbersIn
-returns c = front-back 10 (c .before .before .before .before .before .before .before .read-row .last .1 .1 .0) (c .before .before .before .before .before .before .before .before .before .before .before .before .args .numbers .now) (c .before .before .before .before .before .before .before .read-row .kept .1 .1 .0) (omega arith) (c .before .before .fill-decisions .last .1 .0)
-    ∙ ap₂ _++_ (c .before .before .before .before .before .before .before .read-row .ensures) (c .before .before .fill-decisions .ensures ∙ ap (λ (x : List ℕ). map decisionField (linesOf 15 x)) (rest-part 15 (c .before .before .before .before .before .before .before .before .before .before .before .before .args .coordinator .now)))
+returns c =
+    let a = c .before .before .before .before .before .before .before .before .before .before .before .before .args in
+    front-back 10 (c .before .before .before .before .before .before .before .read-row .last .1 .1 .0) (a .numbers .now) (c .before .before .before .before .before .before .before .read-row .kept .1 .1 .0) (omega arith) (c .before .before .fill-decisions .last .1 .0)
+    ∙ ap₂ _++_ (c .before .before .before .before .before .before .before .read-row .ensures) (c .before .before .fill-decisions .ensures ∙ ap (λ (x : List ℕ). map decisionField (linesOf 15 x)) (rest-part 15 (a .coordinator .now)))
 
 pub fill-numbers-spec : {M : Type 1} → statement M
 fill-numbers-spec =
@@ -65,12 +57,12 @@ fill-numbers-spec =
     slice-relend-prefix-read-row
     slice-aggregate-read-row-2
     read-row-requires
-    sub-fill-decisions
-    part-fill-decisions-start
-    part-fill-decisions-end
+    (λ c. search needs)
+    (λ c. search needs)
+    (λ c. search needs)
     sub-fill-decisions-2
     part-fill-decisions-start-2
-    part-fill-decisions-end-2
+    (λ c. search needs)
     fill-decisions-requires
     same-length
     returns)

@@ -26,36 +26,28 @@ write-row-requires : tie.Need-write-row-requires
 unfolding layout headLayout lineBytes
 write-row-requires c κs = (simp length-take (omega arith), simp length-take (omega arith))
 
-sub-fill-lines : tie.Need-sub-fill-lines
-sub-fill-lines c = search needs
-
-part-fill-lines-start : tie.Need-part-fill-lines-start
-part-fill-lines-start c = search needs
-
-part-fill-lines-end : tie.Need-part-fill-lines-end
-part-fill-lines-end c = search needs
-
 sub-fill-lines-2 : tie.Need-sub-fill-lines-2
 sub-fill-lines-2 c = let e = front-length 15 (c .before .before .before .write-row .last .1 .1 .0) (c .before .before .before .before .before .before .before .before .args .coordinator .now) (c .before .before .before .write-row .kept .1 .1 .0) (omega arith) in omega arith
 
 part-fill-lines-start-2 : tie.Need-part-fill-lines-start-2
 part-fill-lines-start-2 c = let e = front-length 15 (c .before .before .before .write-row .last .1 .1 .0) (c .before .before .before .before .before .before .before .before .args .coordinator .now) (c .before .before .before .write-row .kept .1 .1 .0) (omega arith) in omega arith
 
-part-fill-lines-end-2 : tie.Need-part-fill-lines-end-2
-part-fill-lines-end-2 c = search needs
-
 fill-lines-requires : tie.Need-fill-lines-requires
-fill-lines-requires c κs = let k : length (drop 15 (c .before .before .before .before .before .before .before .before .before .args .coordinator .now)) ≡ length (drop 10 (c .before .before .before .before .before .before .before .before .before .args .numbers .now)) * 15 = rw (length-drop 15 (c .before .before .before .before .before .before .before .before .before .args .coordinator .now)) (omega arith) in
-    let e = ap length (rest-part 10 (c .before .before .before .before .before .before .before .before .before .args .numbers .now)) in
-    (omega arith, ap length (front-rest 15 (c .before .before .before .before .write-row .last .1 .1 .0) (c .before .before .before .before .before .before .before .before .before .args .coordinator .now) (c .before .before .before .before .write-row .kept .1 .1 .0) (omega arith)) ∙ (k ∙ ap (λ (n : ℕ). n * 15) (sym e)))
+fill-lines-requires c κs =
+    let a = c .before .before .before .before .before .before .before .before .before .args in
+    let k : length (drop 15 (a .coordinator .now)) ≡ length (drop 10 (a .numbers .now)) * 15 = rw (length-drop 15 (a .coordinator .now)) (omega arith) in
+    let e = ap length (rest-part 10 (a .numbers .now)) in
+    (omega arith, ap length (front-rest 15 (c .before .before .before .before .write-row .last .1 .1 .0) (a .coordinator .now) (c .before .before .before .before .write-row .kept .1 .1 .0) (omega arith)) ∙ (k ∙ ap (λ (n : ℕ). n * 15) (sym e)))
 
 same-length : tie.Need-same-length
 same-length c = front-same 15 (c .before .before .before .before .before .before .before .write-row .last .1 .1 .0) (c .before .before .before .before .before .before .before .before .before .before .before .before .args .coordinator .now) (c .before .before .before .before .before .before .before .write-row .kept .1 .1 .0) (omega arith) (c .before .before .fill-lines .last .1 .0) (c .before .before .fill-lines .kept .1 .0)
 
 returns : tie.Need-returns
 unfolding layout sheetFor
-returns c = front-back 15 (c .before .before .before .before .before .before .before .write-row .last .1 .1 .0) (c .before .before .before .before .before .before .before .before .before .before .before .before .args .coordinator .now) (c .before .before .before .before .before .before .before .write-row .kept .1 .1 .0) (omega arith) (c .before .before .fill-lines .last .1 .0)
-    ∙ ap₂ _++_ (c .before .before .before .before .before .before .before .write-row .ensures) (c .before .before .fill-lines .ensures ∙ ap (λ (x : List ℕ). joined (lineTexts 1 x)) (rest-part 10 (c .before .before .before .before .before .before .before .before .before .before .before .before .args .numbers .now)))
+returns c =
+    let a = c .before .before .before .before .before .before .before .before .before .before .before .before .args in
+    front-back 15 (c .before .before .before .before .before .before .before .write-row .last .1 .1 .0) (a .coordinator .now) (c .before .before .before .before .before .before .before .write-row .kept .1 .1 .0) (omega arith) (c .before .before .fill-lines .last .1 .0)
+    ∙ ap₂ _++_ (c .before .before .before .before .before .before .before .write-row .ensures) (c .before .before .fill-lines .ensures ∙ ap (λ (x : List ℕ). joined (lineTexts 1 x)) (rest-part 10 (a .numbers .now)))
 
 pub fill-sheet-spec : {M : Type 1} → statement M
 fill-sheet-spec =
@@ -65,12 +57,12 @@ fill-sheet-spec =
     slice-relend-prefix-write-row
     slice-aggregate-write-row-2
     write-row-requires
-    sub-fill-lines
-    part-fill-lines-start
-    part-fill-lines-end
+    (λ c. search needs)
+    (λ c. search needs)
+    (λ c. search needs)
     sub-fill-lines-2
     part-fill-lines-start-2
-    part-fill-lines-end-2
+    (λ c. search needs)
     fill-lines-requires
     same-length
     returns)

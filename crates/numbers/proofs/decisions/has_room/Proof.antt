@@ -13,14 +13,10 @@ returns c = room-short _ _ (c .if1 .taken)
 returns-2 : tie.Need-returns-2
 returns-2 c = room-broken _ _ (c .if2 .taken)
 
-sub-result : tie.Need-sub-result
-sub-result c = search needs
-
-decision-count-requires : tie.Need-decision-count-requires
-decision-count-requires c κs = search needs
-
 returns-3 : tie.Need-returns-3
-returns-3 c = ap (eqb _) (c .decision-count .ensures) ∙ room-lines (length (c .before .before .before .before .before .args .coordinator .now)) (length (drop 10 (c .before .before .before .before .before .args .numbers .now))) (c .before .before .if1 .left) (c .before .if2 .left)
+returns-3 c =
+    let a = c .before .before .before .before .before .args in
+    ap (eqb _) (c .decision-count .ensures) ∙ room-lines (length (a .coordinator .now)) (length (drop 10 (a .numbers .now))) (c .before .before .if1 .left) (c .before .if2 .left)
 
 pub has-room-spec : {M : Type 1} → statement M
-has-room-spec = tie.close (tie.spec returns returns-2 sub-result decision-count-requires returns-3)
+has-room-spec = tie.close (tie.spec returns returns-2 (λ c. search needs) (λ c κs. search needs) returns-3)

@@ -27,9 +27,6 @@ unfolding layout
 returns-2 c = let g : rowGood headLayout (take 10 (c .before .before .before .before .before .args .numbers .now)) ≡ false = sym (c .before .row-good .ensures) ∙ not-true _ (c .if2 .taken) in
     rw (accepted-numbers, le-leb _ _ (c .before .before .before .if1 .left), g)
 
-sub-n : tie.Need-sub-n
-sub-n c = search needs
-
 returns-3 : tie.Need-returns-3
 unfolding layout
 returns-3 c = let g : rowGood headLayout (take 10 (c .before .before .before .before .before .before .args .numbers .now)) ≡ true = sym (c .before .before .row-good .ensures) ∙ not-false _ (c .before .if2 .left) in
@@ -40,34 +37,18 @@ unfolding layout
 returns-4 c = let g : rowGood headLayout (take 10 (c .before .before .before .before .before .before .before .args .numbers .now)) ≡ true = sym (c .before .before .before .row-good .ensures) ∙ not-false _ (c .before .before .if2 .left) in
     rw (accepted-numbers, le-leb _ _ (c .before .before .before .before .before .if1 .left), g, le-leb _ _ (c .before .if3 .left), lt-leb _ _ (c .if4 .taken))
 
-shared-slice-read-as-count : tie.Need-shared-slice-read-as-count
-shared-slice-read-as-count c = search needs
-
-as-count-requires : tie.Need-as-count-requires
-as-count-requires c κs = search needs
-
 returns-5 : tie.Need-returns-5
 unfolding layout
 returns-5 c = let g : rowGood headLayout (take 10 (c .before .before .before .before .before .before .before .before .before .before .args .numbers .now)) ≡ true = sym (c .before .before .before .before .before .before .row-good .ensures) ∙ not-false _ (c .before .before .before .before .before .if2 .left) in
     rw (accepted-numbers, le-leb _ _ (c .before .before .before .before .before .before .before .before .if1 .left), g, le-leb _ _ (c .before .before .before .before .if3 .left), le-leb _ _ (c .before .before .before .if4 .left), lt-leb _ _ (rw (c .before .as-count .ensures) at (c .if5 .taken)))
 
-sub-decisions-pass : tie.Need-sub-decisions-pass
-sub-decisions-pass c = search needs
-
-part-decisions-pass-start : tie.Need-part-decisions-pass-start
-part-decisions-pass-start c = search needs
-
-part-decisions-pass-end : tie.Need-part-decisions-pass-end
-part-decisions-pass-end c = search needs
-
-decisions-pass-requires : tie.Need-decisions-pass-requires
-decisions-pass-requires c κs = search needs
-
 returns-6 : tie.Need-returns-6
 unfolding layout
-returns-6 c = let g : rowGood headLayout (take 10 (c .before .before .before .before .before .before .before .before .before .before .before .before .args .numbers .now)) ≡ true = sym (c .before .before .before .before .before .before .before .before .row-good .ensures) ∙ not-false _ (c .before .before .before .before .before .before .before .if2 .left) in
+returns-6 c =
+    let a = c .before .before .before .before .before .before .before .before .before .before .before .before .args in
+    let g : rowGood headLayout (take 10 (a .numbers .now)) ≡ true = sym (c .before .before .before .before .before .before .before .before .row-good .ensures) ∙ not-false _ (c .before .before .before .before .before .before .before .if2 .left) in
     rw (accepted-numbers, le-leb _ _ (c .before .before .before .before .before .before .before .before .before .before .if1 .left), g, le-leb _ _ (c .before .before .before .before .before .before .if3 .left), le-leb _ _ (c .before .before .before .before .before .if4 .left), le-leb _ _ (rw (c .before .before .before .as-count .ensures) at (c .before .before .if5 .left)))
-    (c .decisions-pass .ensures ∙ ap₂ decisionsPass (c .before .before .before .as-count .ensures) (rest-part 10 (c .before .before .before .before .before .before .before .before .before .before .before .before .args .numbers .now)))
+    (c .decisions-pass .ensures ∙ ap₂ decisionsPass (c .before .before .before .as-count .ensures) (rest-part 10 (a .numbers .now)))
 
 pub numbers-ok-spec : {M : Type 1} → statement M
 numbers-ok-spec =
@@ -77,14 +58,14 @@ numbers-ok-spec =
     slice-aggregate-row-good
     row-good-requires
     returns-2
-    sub-n
+    (λ c. search needs)
     returns-3
     returns-4
-    shared-slice-read-as-count
-    as-count-requires
+    (λ c. search needs)
+    (λ c κs. search needs)
     returns-5
-    sub-decisions-pass
-    part-decisions-pass-start
-    part-decisions-pass-end
-    decisions-pass-requires
+    (λ c. search needs)
+    (λ c. search needs)
+    (λ c. search needs)
+    (λ c κs. search needs)
     returns-6)

@@ -10,39 +10,36 @@ use Rattle.numbers.specs.DecisionAnswers.{read-misfit, read-bad, read-do
 use Rattle.numbers.proofs.decisions.read_coordinator.Statement.{statement}
 use Rattle.numbers.proofs.decisions.read_coordinator.Tie as tie
 
-count-requires : tie.Need-count-requires
-count-requires c κs = search needs
-
 add-if1 : tie.Need-add-if1
 add-if1 c = omega (arith, c .count .ensures, length-drop 15 (c .before .before .before .args .coordinator .now))
 
 returns : tie.Need-returns
-returns c = read-misfit (c .before .before .before .before .args .coordinator .now) (c .before .before .before .before .args .numbers .now) (λ e. c .if1 .taken (e ∙ ap (λ (n : ℕ). 10 + n) (sym (c .before .count .ensures))))
-
-coordinator-ok-requires : tie.Need-coordinator-ok-requires
-coordinator-ok-requires c κs = search needs
+returns c =
+    let a = c .before .before .before .before .args in
+    read-misfit (a .coordinator .now) (a .numbers .now) (λ e. c .if1 .taken (e ∙ ap (λ (n : ℕ). 10 + n) (sym (c .before .count .ensures))))
 
 returns-2 : tie.Need-returns-2
-returns-2 c = read-bad (c .before .before .before .before .before .before .args .coordinator .now) (c .before .before .before .before .before .before .args .numbers .now) (c .before .before .if1 .left ∙ ap (λ (n : ℕ). 10 + n) (c .before .before .before .count .ensures)) (sym (c .before .coordinator-ok .ensures) ∙ not-true _ (c .if2 .taken))
+returns-2 c =
+    let a = c .before .before .before .before .before .before .args in
+    read-bad (a .coordinator .now) (a .numbers .now) (c .before .before .if1 .left ∙ ap (λ (n : ℕ). 10 + n) (c .before .before .before .count .ensures)) (sym (c .before .coordinator-ok .ensures) ∙ not-true _ (c .if2 .taken))
 
 fill-numbers-requires : tie.Need-fill-numbers-requires
 fill-numbers-requires c κs = (accepted-length (c .before .before .before .before .before .before .before .args .coordinator .now) (sym (c .before .before .coordinator-ok .ensures) ∙ not-false _ (c .before .if2 .left)), c .before .before .before .if1 .left ∙ ap (λ (n : ℕ). 10 + n) (c .before .before .before .before .count .ensures))
 
-same-length : tie.Need-same-length
-same-length c = search needs
-
 returns-3 : tie.Need-returns-3
-returns-3 c = read-done (c .before .before .before .before .before .before .before .before .before .before .args .coordinator .now) (c .before .before .before .before .before .before .before .before .before .before .args .numbers .now) _ (c .before .before .before .before .before .before .if1 .left ∙ ap (λ (n : ℕ). 10 + n) (c .before .before .before .before .before .before .before .count .ensures)) (sym (c .before .before .before .before .before .coordinator-ok .ensures) ∙ not-false _ (c .before .before .before .before .if2 .left)) (c .before .before .fill-numbers .ensures)
+returns-3 c =
+    let a = c .before .before .before .before .before .before .before .before .before .before .args in
+    read-done (a .coordinator .now) (a .numbers .now) _ (c .before .before .before .before .before .before .if1 .left ∙ ap (λ (n : ℕ). 10 + n) (c .before .before .before .before .before .before .before .count .ensures)) (sym (c .before .before .before .before .before .coordinator-ok .ensures) ∙ not-false _ (c .before .before .before .before .if2 .left)) (c .before .before .fill-numbers .ensures)
 
 pub read-coordinator-spec : {M : Type 1} → statement M
 read-coordinator-spec =
     tie.close
     (tie.spec
-    count-requires
+    (λ c κs. search needs)
     add-if1
     returns
-    coordinator-ok-requires
+    (λ c κs. search needs)
     returns-2
     fill-numbers-requires
-    same-length
+    (λ c. search needs)
     returns-3)

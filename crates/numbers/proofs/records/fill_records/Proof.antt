@@ -21,69 +21,39 @@ abbrev μ-loop : tie.MeasureT-loop
 loop-holds : tie.Need-loop-holds Inv-loop μ-loop
 loop-holds c = (refl, made-first 15 recordBytes (lineText recordLayout) _ _ _ (c .before .before .pre))
 
-mul-from : tie.Need-mul-from Inv-loop μ-loop
-mul-from c = search needs
-
-add-end : tie.Need-add-end Inv-loop μ-loop
-add-end c = search needs
-
-mul-at : tie.Need-mul-at Inv-loop μ-loop
-mul-at c = search needs
-
-add-past : tie.Need-add-past Inv-loop μ-loop
-add-past c = search needs
-
-mul-write-row : tie.Need-mul-write-row Inv-loop μ-loop
-mul-write-row c = search needs
-
-sub-write-row : tie.Need-sub-write-row Inv-loop μ-loop
-sub-write-row c = search needs
-
-part-write-row-start : tie.Need-part-write-row-start Inv-loop μ-loop
-part-write-row-start c = search needs
-
-part-write-row-end : tie.Need-part-write-row-end Inv-loop μ-loop
-part-write-row-end c = search needs
-
-sub-write-row-2 : tie.Need-sub-write-row-2 Inv-loop μ-loop
-sub-write-row-2 c = search needs
-
-part-write-row-start-2 : tie.Need-part-write-row-start-2 Inv-loop μ-loop
-part-write-row-start-2 c = search needs
-
 part-write-row-end-2 : tie.Need-part-write-row-end-2 Inv-loop μ-loop
 part-write-row-end-2 c =
-    let r = made-room 15 recordBytes (lineText recordLayout) (c .before .before .before .before .before .args .numbers .now) (length (c .before .before .before .before .before .args .numbers .now) / 15) (c .before .before .loop .records) (c .before .before .loop .i) (c .before .before .loop .inv .1) in
+    let a = c .before .before .before .before .before .args in
+    let r = made-room 15 recordBytes (lineText recordLayout) (a .numbers .now) (length (a .numbers .now) / 15) (c .before .before .loop .records) (c .before .before .loop .i) (c .before .before .loop .inv .1) in
     omega arith
 
 write-row-requires : tie.Need-write-row-requires Inv-loop μ-loop
 unfolding layout recordLayout lineBytes
 write-row-requires c κs =
-    let r = made-room 15 recordBytes (lineText recordLayout) (c .before .before .before .before .before .before .args .numbers .now) (length (c .before .before .before .before .before .before .args .numbers .now) / 15) (c .before .before .before .loop .records) (c .before .before .before .loop .i) (c .before .before .before .loop .inv .1) in
+    let a = c .before .before .before .before .before .before .args in
+    let r = made-room 15 recordBytes (lineText recordLayout) (a .numbers .now) (length (a .numbers .now) / 15) (c .before .before .before .loop .records) (c .before .before .before .loop .i) (c .before .before .before .loop .inv .1) in
     (simp (length-take, length-drop) (omega arith), simp (length-take, length-drop) (omega arith))
-
-add-i : tie.Need-add-i Inv-loop μ-loop
-add-i c = search needs
-
-loop-less : tie.Need-loop-less Inv-loop μ-loop
-loop-less c = search needs
 
 loop-again : tie.Need-loop-again Inv-loop μ-loop
 unfolding layout
 loop-again c =
-    let r = made-room 15 recordBytes (lineText recordLayout) (c .before .before .before .before .before .before .before .before .before .args .numbers .now) (length (c .before .before .before .before .before .before .before .before .before .args .numbers .now) / 15) (c .before .before .before .before .before .before .loop .records) (c .before .before .before .before .before .before .loop .i) (c .before .before .before .before .before .before .loop .inv .1) in
+    let a = c .before .before .before .before .before .before .before .before .before .args in
+    let r = made-room 15 recordBytes (lineText recordLayout) (a .numbers .now) (length (a .numbers .now) / 15) (c .before .before .before .before .before .before .loop .records) (c .before .before .before .before .before .before .loop .i) (c .before .before .before .before .before .before .loop .inv .1) in
     let k : length (c .before .before .write-row .last .1 .1 .0) ≡ c .before .before .before .before .before .before .loop .i * recordBytes + recordBytes - c .before .before .before .before .before .before .loop .i * recordBytes =
     c .before .before .write-row .kept .1 .1 .0 ∙ simp (length-take, length-drop) (omega arith) in
     (c .before .before .before .before .before .before .loop .inv .0, made-next 15 recordBytes (lineText recordLayout) _ _ _ _ (c .before .before .before .before .before .before .loop .i) (c .before .before .before .before .before .loop-test .taken) k (c .before .before .write-row .ensures) (c .before .before .before .before .before .before .loop .inv .1))
 
 same-length : tie.Need-same-length Inv-loop μ-loop
 same-length c =
-    let r = made-room 15 recordBytes (lineText recordLayout) (c .before .before .before .before .args .numbers .now) (length (c .before .before .before .before .args .numbers .now) / 15) (c .before .loop .records) (c .before .loop .i) (c .before .loop .inv .1) in
+    let a = c .before .before .before .before .args in
+    let r = made-room 15 recordBytes (lineText recordLayout) (a .numbers .now) (length (a .numbers .now) / 15) (c .before .loop .records) (c .before .loop .i) (c .before .loop .inv .1) in
     omega arith
 
 returns : tie.Need-returns Inv-loop μ-loop
 unfolding rows
-returns c = made-last 15 recordBytes (lineText recordLayout) (c .before .before .before .before .args .numbers .now) (length (c .before .before .before .before .args .numbers .now) / 15) (c .before .loop .records) (c .before .loop .i) (c .loop-test .left) (c .before .loop .inv .1)
+returns c =
+    let a = c .before .before .before .before .args in
+    made-last 15 recordBytes (lineText recordLayout) (a .numbers .now) (length (a .numbers .now) / 15) (c .before .loop .records) (c .before .loop .i) (c .loop-test .left) (c .before .loop .inv .1)
 
 pub fill-records-spec : {M : Type 1} → statement M
 fill-records-spec =
@@ -92,20 +62,20 @@ fill-records-spec =
     Inv-loop
     μ-loop
     loop-holds
-    mul-from
-    add-end
-    mul-at
-    add-past
-    mul-write-row
-    sub-write-row
-    part-write-row-start
-    part-write-row-end
-    sub-write-row-2
-    part-write-row-start-2
+    (λ c. search needs)
+    (λ c. search needs)
+    (λ c. search needs)
+    (λ c. search needs)
+    (λ c. search needs)
+    (λ c. search needs)
+    (λ c. search needs)
+    (λ c. search needs)
+    (λ c. search needs)
+    (λ c. search needs)
     part-write-row-end-2
     write-row-requires
-    add-i
-    loop-less
+    (λ c. search needs)
+    (λ c. search needs)
     loop-again
     same-length
     returns)

@@ -5,9 +5,6 @@ use Rattle.numbers.specs.RowsPass.{accepted-rows}
 use Rattle.numbers.proofs.rows.rows_ok.Statement.{statement}
 use Rattle.numbers.proofs.rows.rows_ok.Tie as tie
 
-mul-if1 : tie.Need-mul-if1
-mul-if1 c = search needs
-
 returns : tie.Need-returns
 returns c = rw (accepted-rows, ne-eqb _ _ (c .if1 .taken))
 
@@ -17,12 +14,9 @@ returns-2 c = rw (accepted-rows, eq-eqb _ _ (c .before .if1 .left), lt-leb _ _ (
 returns-3 : tie.Need-returns-3
 returns-3 c = rw (accepted-rows, eq-eqb _ _ (c .before .before .if1 .left), le-leb _ _ (c .before .if2 .left), lt-leb _ _ (c .if3 .taken))
 
-rows-pass-requires : tie.Need-rows-pass-requires
-rows-pass-requires c κs = search needs
-
 returns-4 : tie.Need-returns-4
 returns-4 c = rw (accepted-rows, eq-eqb _ _ (c .before .before .before .if1 .left), le-leb _ _ (c .before .before .if2 .left), le-leb _ _ (c .before .if3 .left)) (c .rows-pass .ensures)
 
 pub rows-ok-spec : {M : Type 1} → statement M
 rows-ok-spec =
-    tie.close (tie.spec mul-if1 returns returns-2 returns-3 rows-pass-requires returns-4)
+    tie.close (tie.spec (λ c. search needs) returns returns-2 returns-3 (λ c κs. search needs) returns-4)

@@ -17,23 +17,11 @@ abbrev μ-loop : tie.MeasureT-loop
 loop-holds : tie.Need-loop-holds Inv-loop μ-loop
 loop-holds c = (refl, judge-first _)
 
-row-ok-requires : tie.Need-row-ok-requires Inv-loop μ-loop
-row-ok-requires c κs = search needs
-
 returns : tie.Need-returns Inv-loop μ-loop
 returns c = judge-bad (c .before .before .before .before .before .args .numbers .now) (c .before .before .before .loop .i) (c .before .before .loop-test .taken) (c .before .before .before .loop .inv .1) (sym (c .before .row-ok .ensures) ∙ not-true _ (c .if1 .taken))
 
-rises-requires : tie.Need-rises-requires Inv-loop μ-loop
-rises-requires c κs = search needs
-
 returns-2 : tie.Need-returns-2 Inv-loop μ-loop
 returns-2 c = judge-late (c .before .before .before .before .before .before .before .args .numbers .now) (c .before .before .before .before .before .loop .i) (c .before .before .before .before .loop-test .taken) (c .before .before .before .before .before .loop .inv .1) (sym (c .before .before .before .row-ok .ensures) ∙ not-false _ (c .before .before .if1 .left)) (sym (c .before .rises .ensures) ∙ not-true _ (c .if2 .taken))
-
-add-i : tie.Need-add-i Inv-loop μ-loop
-add-i c = search needs
-
-loop-less : tie.Need-loop-less Inv-loop μ-loop
-loop-less c = search needs
 
 loop-again : tie.Need-loop-again Inv-loop μ-loop
 loop-again c = (c .before .before .before .before .before .loop .inv .0, judge-next (c .before .before .before .before .before .before .before .args .numbers .now) (c .before .before .before .before .before .loop .i) (c .before .before .before .before .loop-test .taken) (c .before .before .before .before .before .loop .inv .1) (sym (c .before .before .before .row-ok .ensures) ∙ not-false _ (c .before .before .if1 .left)) (sym (c .before .rises .ensures) ∙ not-false _ (c .if2 .left)))
@@ -48,11 +36,11 @@ rows-pass-spec =
     Inv-loop
     μ-loop
     loop-holds
-    row-ok-requires
+    (λ c κs. search needs)
     returns
-    rises-requires
+    (λ c κs. search needs)
     returns-2
-    add-i
-    loop-less
+    (λ c. search needs)
+    (λ c. search needs)
     loop-again
     returns-3)

@@ -4,15 +4,9 @@ use Rattle.model.specs.Records.{absentRule}
 use Rattle.numbers.proofs.rules.absent_rule.Statement.{statement}
 use Rattle.numbers.proofs.rules.absent_rule.Tie as tie
 
-is-zero-requires : tie.Need-is-zero-requires
-is-zero-requires c κs = search needs
-
-is-zero-requires-2 : tie.Need-is-zero-requires-2
-is-zero-requires-2 c κs = search needs
-
 returns : tie.Need-returns
 unfolding absentRule
 returns c = rw (c .before .is-zero2 .ensures, c .before .before .is-zero .ensures)
 
 pub absent-rule-spec : {M : Type 1} → statement M
-absent-rule-spec = tie.close (tie.spec is-zero-requires is-zero-requires-2 returns)
+absent-rule-spec = tie.close (tie.spec (λ c κs. search needs) (λ c κs. search needs) returns)

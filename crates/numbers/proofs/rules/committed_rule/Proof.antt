@@ -4,12 +4,9 @@ use Rattle.model.specs.Records.{committedRule}
 use Rattle.numbers.proofs.rules.committed_rule.Statement.{statement}
 use Rattle.numbers.proofs.rules.committed_rule.Tie as tie
 
-is-zero-requires : tie.Need-is-zero-requires
-is-zero-requires c κs = search needs
-
 returns : tie.Need-returns
 unfolding committedRule
 returns c = rw (c .before .is-zero .ensures)
 
 pub committed-rule-spec : {M : Type 1} → statement M
-committed-rule-spec = tie.close (tie.spec is-zero-requires returns)
+committed-rule-spec = tie.close (tie.spec (λ c κs. search needs) returns)

@@ -6,24 +6,6 @@ use Rattle.model.specs.Records.{byState, absentRule, committedRule, preparedRul
 use Rattle.numbers.proofs.rules.state_rule.Statement.{statement}
 use Rattle.numbers.proofs.rules.state_rule.Tie as tie
 
-enum-told : tie.Need-enum-told
-enum-told c = search needs
-
-absent-rule-requires : tie.Need-absent-rule-requires
-absent-rule-requires c κs = search needs
-
-enum-told-2 : tie.Need-enum-told-2
-enum-told-2 c = search needs
-
-committed-rule-requires : tie.Need-committed-rule-requires
-committed-rule-requires c κs = search needs
-
-enum-told-3 : tie.Need-enum-told-3
-enum-told-3 c = search needs
-
-prepared-rule-requires : tie.Need-prepared-rule-requires
-prepared-rule-requires c κs = search needs
-
 returns : tie.Need-returns
 returns c =
     let r = c .before .before .before .args .r in
@@ -43,12 +25,12 @@ pub state-rule-spec : {M : Type 1} → statement M
 state-rule-spec =
     tie.close
     (tie.spec
-    enum-told
-    absent-rule-requires
-    enum-told-2
-    committed-rule-requires
-    enum-told-3
-    prepared-rule-requires
+    (λ c. search needs)
+    (λ c κs. search needs)
+    (λ c. search needs)
+    (λ c κs. search needs)
+    (λ c. search needs)
+    (λ c κs. search needs)
     returns
     returns-2
     returns-3)

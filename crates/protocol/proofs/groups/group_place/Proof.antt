@@ -18,23 +18,8 @@ Inv-loop letters t k n found₀ i₀ found i = TalliedTo t (countsAs (unitsIn le
 abbrev μ-loop : tie.MeasureT-loop
 μ-loop letters t k n found₀ i₀ found i = n - i
 
-cast-n : tie.Need-cast-n Inv-loop μ-loop
-cast-n c = search needs
-
 loop-holds : tie.Need-loop-holds Inv-loop μ-loop
 loop-holds c = tally-first _ _ (c .before .before .good .1 .0) (c .before .before .pre)
-
-counts-before-requires : tie.Need-counts-before-requires Inv-loop μ-loop
-counts-before-requires c κs = search needs
-
-tally-requires : tie.Need-tally-requires Inv-loop μ-loop
-tally-requires c κs = search needs
-
-add-i : tie.Need-add-i Inv-loop μ-loop
-add-i c = search needs
-
-loop-less : tie.Need-loop-less Inv-loop μ-loop
-loop-less c = search needs
 
 loop-again : tie.Need-loop-again Inv-loop μ-loop
 loop-again c = tally-next _ _ _ _ _ _ (c .before .before .before .loop .inv) (c .before .before .loop-test .taken) (rw (c .before .counts-before .ensures) at (c .tally .ensures))
@@ -49,11 +34,11 @@ group-place-spec =
     (tie.spec
     Inv-loop
     μ-loop
-    cast-n
+    (λ c. search needs)
     loop-holds
-    counts-before-requires
-    tally-requires
-    add-i
-    loop-less
+    (λ c κs. search needs)
+    (λ c κs. search needs)
+    (λ c. search needs)
+    (λ c. search needs)
     loop-again
     returns)

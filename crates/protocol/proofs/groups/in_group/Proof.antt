@@ -3,11 +3,8 @@ use borrow.Author.Needs.{needs}
 use Rattle.protocol.proofs.groups.in_group.Statement.{statement}
 use Rattle.protocol.proofs.groups.in_group.Tie as tie
 
-group-place-requires : tie.Need-group-place-requires
-group-place-requires c κs = search needs
-
 returns : tie.Need-returns
 returns c = rw (c .group-place .ensures)
 
 pub in-group-spec : {M : Type 1} → statement M
-in-group-spec = tie.close (tie.spec group-place-requires returns)
+in-group-spec = tie.close (tie.spec (λ c κs. search needs) returns)

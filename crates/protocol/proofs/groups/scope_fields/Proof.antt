@@ -8,17 +8,8 @@ use Rattle.protocol.proofs.groups.scope_fields.Tie as tie
 returns : tie.Need-returns
 returns c = unit-none _ _ (c .if1 .taken)
 
-cast-i : tie.Need-cast-i
-cast-i c = search needs
-
 returns-2 : tie.Need-returns-2
 returns-2 c = unit-past _ _ (c .before .if1 .left) (c .if2 .taken)
-
-shared-slice-read-unit-fields : tie.Need-shared-slice-read-unit-fields
-shared-slice-read-unit-fields c = search needs
-
-unit-fields-requires : tie.Need-unit-fields-requires
-unit-fields-requires c κs = search needs
 
 returns-3 : tie.Need-returns-3
 returns-3 c = c .unit-fields .ensures ∙ unit-at _ _ (c .before .before .before .if1 .left) (c .before .before .if2 .left)
@@ -28,8 +19,8 @@ scope-fields-spec =
     tie.close
     (tie.spec
     returns
-    cast-i
+    (λ c. search needs)
     returns-2
-    shared-slice-read-unit-fields
-    unit-fields-requires
+    (λ c. search needs)
+    (λ c κs. search needs)
     returns-3)

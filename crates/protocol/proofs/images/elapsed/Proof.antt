@@ -5,11 +5,8 @@ use Rattle.protocol.specs.Clocks.{elapsed-is}
 use Rattle.protocol.proofs.images.elapsed.Statement.{statement}
 use Rattle.protocol.proofs.images.elapsed.Tie as tie
 
-wrapping-sub-u32-requires : tie.Need-wrapping-sub-u32-requires
-wrapping-sub-u32-requires c κs = search needs
-
 returns : tie.Need-returns
 returns c = elapsed-is _ _ _ (omega arith) (omega arith) (c .wrapping-sub-u32 .ensures)
 
 pub elapsed-spec : {M : Type 1} → statement M
-elapsed-spec = tie.close (tie.spec wrapping-sub-u32-requires returns)
+elapsed-spec = tie.close (tie.spec (λ c κs. search needs) returns)

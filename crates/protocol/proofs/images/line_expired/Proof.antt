@@ -4,12 +4,9 @@ use Rattle.model.specs.Images.{lineExpired}
 use Rattle.protocol.proofs.images.line_expired.Statement.{statement}
 use Rattle.protocol.proofs.images.line_expired.Tie as tie
 
-elapsed-requires : tie.Need-elapsed-requires
-elapsed-requires c κs = search needs
-
 returns : tie.Need-returns
 unfolding lineExpired
 returns c = rw (c .elapsed .ensures)
 
 pub line-expired-spec : {M : Type 1} → statement M
-line-expired-spec = tie.close (tie.spec elapsed-requires returns)
+line-expired-spec = tie.close (tie.spec (λ c κs. search needs) returns)

@@ -4,12 +4,9 @@ use Rattle.model.specs.Images.{prepared}
 use Rattle.protocol.proofs.images.prepared.Statement.{statement}
 use Rattle.protocol.proofs.images.prepared.Tie as tie
 
-put-image-requires : tie.Need-put-image-requires
-put-image-requires c κs = search needs
-
 returns : tie.Need-returns
 unfolding prepared
 returns c = rw (c .put-image .ensures)
 
 pub prepared-spec : {M : Type 1} → statement M
-prepared-spec = tie.close (tie.spec put-image-requires returns)
+prepared-spec = tie.close (tie.spec (λ c κs. search needs) returns)

@@ -4,12 +4,9 @@ use Rattle.model.specs.Images.{preparedBy}
 use Rattle.protocol.proofs.images.prepared_by.Statement.{statement}
 use Rattle.protocol.proofs.images.prepared_by.Tie as tie
 
-is-prepared-requires : tie.Need-is-prepared-requires
-is-prepared-requires c κs = search needs
-
 returns : tie.Need-returns
 unfolding preparedBy
 returns c = rw (c .before .is-prepared .ensures)
 
 pub prepared-by-spec : {M : Type 1} → statement M
-prepared-by-spec = tie.close (tie.spec is-prepared-requires returns)
+prepared-by-spec = tie.close (tie.spec (λ c κs. search needs) returns)

@@ -6,24 +6,9 @@ use Rattle.model.specs.Images.{recovery}
 use Rattle.protocol.proofs.images.recovery.Statement.{statement}
 use Rattle.protocol.proofs.images.recovery.Tie as tie
 
-is-prepared-requires : tie.Need-is-prepared-requires
-is-prepared-requires c κs = search needs
-
 returns : tie.Need-returns
 unfolding recovery
 returns c = rw (sym (c .before .is-prepared .ensures) ∙ not-true _ (c .if1 .taken))
-
-enum-told : tie.Need-enum-told
-enum-told c = search needs
-
-enum-told-2 : tie.Need-enum-told-2
-enum-told-2 c = search needs
-
-enum-told-3 : tie.Need-enum-told-3
-enum-told-3 c = search needs
-
-undecided-requires : tie.Need-undecided-requires
-undecided-requires c κs = search needs
 
 returns-2 : tie.Need-returns-2
 unfolding recovery
@@ -41,12 +26,12 @@ pub recovery-spec : {M : Type 1} → statement M
 recovery-spec =
     tie.close
     (tie.spec
-    is-prepared-requires
+    (λ c κs. search needs)
     returns
-    enum-told
-    enum-told-2
-    enum-told-3
-    undecided-requires
+    (λ c. search needs)
+    (λ c. search needs)
+    (λ c. search needs)
+    (λ c κs. search needs)
     returns-2
     returns-3
     returns-4)

@@ -4,12 +4,9 @@ use Rattle.model.specs.Images.{rolledBack}
 use Rattle.protocol.proofs.images.rolled_back.Statement.{statement}
 use Rattle.protocol.proofs.images.rolled_back.Tie as tie
 
-before-state-requires : tie.Need-before-state-requires
-before-state-requires c κs = search needs
-
 returns : tie.Need-returns
 unfolding rolledBack
 returns c = rw (c .before-state .ensures)
 
 pub rolled-back-spec : {M : Type 1} → statement M
-rolled-back-spec = tie.close (tie.spec before-state-requires returns)
+rolled-back-spec = tie.close (tie.spec (λ c κs. search needs) returns)

@@ -4,12 +4,9 @@ use Rattle.model.specs.Images.{unchanged}
 use Rattle.protocol.proofs.images.unchanged.Statement.{statement}
 use Rattle.protocol.proofs.images.unchanged.Tie as tie
 
-is-prepared-requires : tie.Need-is-prepared-requires
-is-prepared-requires c κs = search needs
-
 returns : tie.Need-returns
 unfolding unchanged
 returns c = rw (c .before .before .before .before .is-prepared .ensures)
 
 pub unchanged-spec : {M : Type 1} → statement M
-unchanged-spec = tie.close (tie.spec is-prepared-requires returns)
+unchanged-spec = tie.close (tie.spec (λ c κs. search needs) returns)

@@ -7,9 +7,10 @@ use Rattle.protocol.proofs.keys.same_fields.Tie as tie
 returns : tie.Need-returns
 unfolding keyNumbers
 returns c =
-    let k = c .before .before .before .before .before .before .before .before .before .before .args .a in
-    let l = c .before .before .before .before .before .before .before .before .before .before .args .b in
-    same-first (k .storage) (k .namespace) (k .table) (k .partition) (k .clustering) (l .storage) (l .namespace) (l .table) (l .partition) (l .clustering) (c .before .before .before .before .before .before .before .before .before .before .args .n)
+    let a1 = c .before .before .before .before .before .before .before .before .before .before .args in
+    let k = a1 .a in
+    let l = a1 .b in
+    same-first (k .storage) (k .namespace) (k .table) (k .partition) (k .clustering) (l .storage) (l .namespace) (l .table) (l .partition) (l .clustering) (a1 .n)
 
 pub same-fields-spec : {M : Type 1} → statement M
 same-fields-spec = tie.close (tie.spec returns)

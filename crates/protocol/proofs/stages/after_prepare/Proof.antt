@@ -7,9 +7,6 @@ use Rattle.model.specs.Transactions.{isEmpty, toValidate}
 use Rattle.protocol.proofs.stages.after_prepare.Statement.{statement}
 use Rattle.protocol.proofs.stages.after_prepare.Tie as tie
 
-validates-requires : tie.Need-validates-requires
-validates-requires c κs = search needs
-
 returns : tie.Need-returns
 returns c = let e : isEmpty (toValidate (c .before .before .args .t)) ≡ false = not-true _ (sym (c .before .validates .ensures) ∙ c .if1 .taken) in rw e
 
@@ -17,4 +14,4 @@ returns-2 : tie.Need-returns-2
 returns-2 c = let e : isEmpty (toValidate (c .before .before .args .t)) ≡ true = not-false _ (sym (c .before .validates .ensures) ∙ c .if1 .left) in rw e
 
 pub after-prepare-spec : {M : Type 1} → statement M
-after-prepare-spec = tie.close (tie.spec validates-requires returns returns-2)
+after-prepare-spec = tie.close (tie.spec (λ c κs. search needs) returns returns-2)

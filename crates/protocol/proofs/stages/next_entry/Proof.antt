@@ -9,31 +9,16 @@ use Rattle.model.specs.Steps.{nextEntry}
 use Rattle.protocol.proofs.stages.next_entry.Statement.{statement}
 use Rattle.protocol.proofs.stages.next_entry.Tie as tie
 
-validate-count-requires : tie.Need-validate-count-requires
-validate-count-requires c κs = search needs
-
 add-next : tie.Need-add-next
 add-next c = omega (arith, c .before .validate-count .ok, c .before .validate-count .ensures, c .before .before .pre .1)
-
-moved-requires : tie.Need-moved-requires
-moved-requires c κs = search needs
 
 returns : tie.Need-returns
 unfolding nextEntry
 returns c = rw (lt-ltb _ _ (rw (c .before .before .before .validate-count .ensures) at (c .before .if1 .taken))) (c .moved .ensures)
 
-has-puts-requires : tie.Need-has-puts-requires
-has-puts-requires c κs = search needs
-
-commits-requires : tie.Need-commits-requires
-commits-requires c κs = search needs
-
 returns-2 : tie.Need-returns-2
 unfolding nextEntry
 returns-2 c = let e : isEmpty (puts (c .before .before .before .before .before .before .args .t)) ≡ true = not-false _ (sym (c .before .before .has-puts .ensures) ∙ not-true _ (c .before .if2 .taken)) in rw (le-ltb _ _ (rw (c .before .before .before .before .before .validate-count .ensures) at (c .before .before .before .if1 .left)), e) (c .commits .ensures)
-
-to-phase-requires : tie.Need-to-phase-requires
-to-phase-requires c κs = search needs
 
 returns-3 : tie.Need-returns-3
 unfolding nextEntry
@@ -43,12 +28,12 @@ pub next-entry-spec : {M : Type 1} → statement M
 next-entry-spec =
     tie.close
     (tie.spec
-    validate-count-requires
+    (λ c κs. search needs)
     add-next
-    moved-requires
+    (λ c κs. search needs)
     returns
-    has-puts-requires
-    commits-requires
+    (λ c κs. search needs)
+    (λ c κs. search needs)
     returns-2
-    to-phase-requires
+    (λ c κs. search needs)
     returns-3)

@@ -7,21 +7,12 @@ use Rattle.model.specs.Transactions.{isEmpty, puts}
 use Rattle.protocol.proofs.stages.withdrawn.Statement.{statement}
 use Rattle.protocol.proofs.stages.withdrawn.Tie as tie
 
-has-puts-requires : tie.Need-has-puts-requires
-has-puts-requires c κs = search needs
-
-moved-requires : tie.Need-moved-requires
-moved-requires c κs = search needs
-
 returns : tie.Need-returns
 returns c = let e : isEmpty (puts (c .before .before .before .args .t)) ≡ true = not-false _ (sym (c .before .before .has-puts .ensures) ∙ not-true _ (c .before .if1 .taken)) in rw e (c .moved .ensures)
-
-moved-requires-2 : tie.Need-moved-requires-2
-moved-requires-2 c κs = search needs
 
 returns-2 : tie.Need-returns-2
 returns-2 c = let e : isEmpty (puts (c .before .before .before .args .t)) ≡ false = not-true _ (sym (c .before .before .has-puts .ensures) ∙ not-false _ (c .before .if1 .left)) in rw e (c .moved2 .ensures)
 
 pub withdrawn-spec : {M : Type 1} → statement M
 withdrawn-spec =
-    tie.close (tie.spec has-puts-requires moved-requires returns moved-requires-2 returns-2)
+    tie.close (tie.spec (λ c κs. search needs) (λ c κs. search needs) returns (λ c κs. search needs) returns-2)

@@ -3,9 +3,6 @@ use borrow.Author.Needs.{needs}
 use Rattle.protocol.proofs.transactions.tally.Statement.{statement}
 use Rattle.protocol.proofs.transactions.tally.Tie as tie
 
-add-result : tie.Need-add-result
-add-result c = search needs
-
 returns : tie.Need-returns
 returns c = rw (c .if1 .taken)
 
@@ -13,4 +10,4 @@ returns-2 : tie.Need-returns-2
 returns-2 c = rw (c .if1 .left)
 
 pub tally-spec : {M : Type 1} → statement M
-tally-spec = tie.close (tie.spec add-result returns returns-2)
+tally-spec = tie.close (tie.spec (λ c. search needs) returns returns-2)

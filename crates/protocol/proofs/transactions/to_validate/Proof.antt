@@ -14,30 +14,12 @@ Inv-loop t place n ahead₀ i₀ ahead i = PassedTo t (keptAt (mustValidate t) a
 abbrev μ-loop : tie.MeasureT-loop
 μ-loop t place n ahead₀ i₀ ahead i = n - i
 
-cast-n : tie.Need-cast-n Inv-loop μ-loop
-cast-n c = search needs
-
 loop-holds : tie.Need-loop-holds Inv-loop μ-loop
 loop-holds c = pass-first _ _ (c .before .good .0) (c .before .pre)
-
-entry-at-requires : tie.Need-entry-at-requires Inv-loop μ-loop
-entry-at-requires c κs = search needs
-
-must-validate-requires : tie.Need-must-validate-requires Inv-loop μ-loop
-must-validate-requires c κs = search needs
 
 returns : tie.Need-returns Inv-loop μ-loop
 unfolding toValidate
 returns c = c .before .before .before .entry-at .ensures ∙ kept-met _ _ _ _ _ (c .before .before .before .before .before .loop .inv) (c .before .before .before .before .loop-test .taken) (rw (c .before .before .before .entry-at .ensures) at (sym (c .before .before .must-validate .ensures) ∙ c .before .if1 .taken)) (c .if2 .taken)
-
-sub-ahead : tie.Need-sub-ahead Inv-loop μ-loop
-sub-ahead c = search needs
-
-add-i : tie.Need-add-i Inv-loop μ-loop
-add-i c = search needs
-
-loop-less : tie.Need-loop-less Inv-loop μ-loop
-loop-less c = search needs
 
 loop-again : tie.Need-loop-again Inv-loop μ-loop
 loop-again c =
@@ -56,13 +38,13 @@ to-validate-spec =
     (tie.spec
     Inv-loop
     μ-loop
-    cast-n
+    (λ c. search needs)
     loop-holds
-    entry-at-requires
-    must-validate-requires
+    (λ c κs. search needs)
+    (λ c κs. search needs)
     returns
-    sub-ahead
-    add-i
-    loop-less
+    (λ c. search needs)
+    (λ c. search needs)
+    (λ c. search needs)
     loop-again
     returns-2)

@@ -15,26 +15,8 @@ Inv-loop t n found₀ i₀ found i = TalliedTo t (λ (e : Entry) (es : List Entr
 abbrev μ-loop : tie.MeasureT-loop
 μ-loop t n found₀ i₀ found i = n - i
 
-cast-n : tie.Need-cast-n Inv-loop μ-loop
-cast-n c = search needs
-
 loop-holds : tie.Need-loop-holds Inv-loop μ-loop
 loop-holds c = tally-first _ _ (c .before .good .0) (c .before .pre)
-
-entry-at-requires : tie.Need-entry-at-requires Inv-loop μ-loop
-entry-at-requires c κs = search needs
-
-must-validate-requires : tie.Need-must-validate-requires Inv-loop μ-loop
-must-validate-requires c κs = search needs
-
-tally-requires : tie.Need-tally-requires Inv-loop μ-loop
-tally-requires c κs = search needs
-
-add-i : tie.Need-add-i Inv-loop μ-loop
-add-i c = search needs
-
-loop-less : tie.Need-loop-less Inv-loop μ-loop
-loop-less c = search needs
 
 loop-again : tie.Need-loop-again Inv-loop μ-loop
 loop-again c = tally-next _ _ _ _ _ _ (c .before .before .before .before .loop .inv) (c .before .before .before .loop-test .taken) (rw (c .before .must-validate .ensures, c .before .before .entry-at .ensures) at (c .tally .ensures))
@@ -49,12 +31,12 @@ validate-count-spec =
     (tie.spec
     Inv-loop
     μ-loop
-    cast-n
+    (λ c. search needs)
     loop-holds
-    entry-at-requires
-    must-validate-requires
-    tally-requires
-    add-i
-    loop-less
+    (λ c κs. search needs)
+    (λ c κs. search needs)
+    (λ c κs. search needs)
+    (λ c. search needs)
+    (λ c. search needs)
     loop-again
     returns)

@@ -5,11 +5,8 @@ use borrow.Author.Needs.{needs}
 use Rattle.protocol.proofs.transactions.validates.Statement.{statement}
 use Rattle.protocol.proofs.transactions.validates.Tie as tie
 
-validate-count-requires : tie.Need-validate-count-requires
-validate-count-requires c κs = search needs
-
 returns : tie.Need-returns
 returns c = rw (c .validate-count .ensures) (some-counted (toValidate (c .before .args .t)))
 
 pub validates-spec : {M : Type 1} → statement M
-validates-spec = tie.close (tie.spec validate-count-requires returns)
+validates-spec = tie.close (tie.spec (λ c κs. search needs) returns)

@@ -15,23 +15,11 @@ Inv-loop t n i₀ i = PassedTo t distinctKeys (distinctKeys (held t)) i
 abbrev μ-loop : tie.MeasureT-loop
 μ-loop t n i₀ i = n - i
 
-cast-n : tie.Need-cast-n Inv-loop μ-loop
-cast-n c = search needs
-
 loop-holds : tie.Need-loop-holds Inv-loop μ-loop
 loop-holds c = pass-first _ _ (c .before .good .0) (c .before .pre)
 
-key-recurs-requires : tie.Need-key-recurs-requires Inv-loop μ-loop
-key-recurs-requires c κs = search needs
-
 returns : tie.Need-returns Inv-loop μ-loop
 returns c = distinct-not _ _ _ (c .before .before .before .loop .inv) (c .before .before .loop-test .taken) (sym (c .before .key-recurs .ensures) ∙ c .if1 .taken)
-
-add-i : tie.Need-add-i Inv-loop μ-loop
-add-i c = search needs
-
-loop-less : tie.Need-loop-less Inv-loop μ-loop
-loop-less c = search needs
 
 loop-again : tie.Need-loop-again Inv-loop μ-loop
 loop-again c = distinct-next _ _ _ (c .before .before .before .loop .inv) (c .before .before .loop-test .taken) (sym (c .before .key-recurs .ensures) ∙ c .if1 .left)
@@ -45,11 +33,11 @@ distinct-keys-spec =
     (tie.spec
     Inv-loop
     μ-loop
-    cast-n
+    (λ c. search needs)
     loop-holds
-    key-recurs-requires
+    (λ c κs. search needs)
     returns
-    add-i
-    loop-less
+    (λ c. search needs)
+    (λ c. search needs)
     loop-again
     returns-2)

@@ -16,26 +16,11 @@ Inv-loop issued t n i₀ i = PassedTo t (all (entryFormed issued)) (all (entryFo
 abbrev μ-loop : tie.MeasureT-loop
 μ-loop issued t n i₀ i = n - i
 
-cast-n : tie.Need-cast-n Inv-loop μ-loop
-cast-n c = search needs
-
 loop-holds : tie.Need-loop-holds Inv-loop μ-loop
 loop-holds c = pass-first _ _ (c .before .good .1 .0) (c .before .pre)
 
-entry-at-requires : tie.Need-entry-at-requires Inv-loop μ-loop
-entry-at-requires c κs = search needs
-
-entry-formed-requires : tie.Need-entry-formed-requires Inv-loop μ-loop
-entry-formed-requires c κs = search needs
-
 returns : tie.Need-returns Inv-loop μ-loop
 returns c = all-unmet _ _ _ _ (c .before .before .before .before .loop .inv) (c .before .before .before .loop-test .taken) (rw (c .before .before .entry-at .ensures) at (sym (c .before .entry-formed .ensures) ∙ not-true _ (c .if1 .taken)))
-
-add-i : tie.Need-add-i Inv-loop μ-loop
-add-i c = search needs
-
-loop-less : tie.Need-loop-less Inv-loop μ-loop
-loop-less c = search needs
 
 loop-again : tie.Need-loop-again Inv-loop μ-loop
 loop-again c = all-next _ _ _ _ (c .before .before .before .before .loop .inv) (c .before .before .before .loop-test .taken) (rw (c .before .before .entry-at .ensures) at (sym (c .before .entry-formed .ensures) ∙ not-false _ (c .if1 .left)))
@@ -49,12 +34,12 @@ entries-formed-spec =
     (tie.spec
     Inv-loop
     μ-loop
-    cast-n
+    (λ c. search needs)
     loop-holds
-    entry-at-requires
-    entry-formed-requires
+    (λ c κs. search needs)
+    (λ c κs. search needs)
     returns
-    add-i
-    loop-less
+    (λ c. search needs)
+    (λ c. search needs)
     loop-again
     returns-2)

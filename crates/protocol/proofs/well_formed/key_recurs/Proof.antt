@@ -15,32 +15,11 @@ Inv-loop t i n e first j₀ j = PassedTo t (any (sameKeyAs (entryAt t i))) (any 
 abbrev μ-loop : tie.MeasureT-loop
 μ-loop t i n e first j₀ j = n - j
 
-cast-n : tie.Need-cast-n Inv-loop μ-loop
-cast-n c = search needs
-
-entry-at-requires : tie.Need-entry-at-requires Inv-loop μ-loop
-entry-at-requires c κs = search needs
-
-add-first : tie.Need-add-first Inv-loop μ-loop
-add-first c = search needs
-
 loop-holds : tie.Need-loop-holds Inv-loop μ-loop
 loop-holds c = pass-from _ _ _ (c .before .before .good .0) (c .before .before .pre .0) (omega arith)
 
-entry-at-requires-2 : tie.Need-entry-at-requires-2 Inv-loop μ-loop
-entry-at-requires-2 c κs = search needs
-
-same-key-requires : tie.Need-same-key-requires Inv-loop μ-loop
-same-key-requires c κs = search needs
-
 returns : tie.Need-returns Inv-loop μ-loop
 returns c = any-met _ _ _ _ (c .before .before .before .before .loop .inv) (c .before .before .before .loop-test .taken) (rw (c .before .before .entry-at2 .ensures, c .before .before .before .before .before .entry-at .ensures) at (sym (c .before .same-key .ensures) ∙ c .if1 .taken))
-
-add-j : tie.Need-add-j Inv-loop μ-loop
-add-j c = search needs
-
-loop-less : tie.Need-loop-less Inv-loop μ-loop
-loop-less c = search needs
 
 loop-again : tie.Need-loop-again Inv-loop μ-loop
 loop-again c = any-next _ _ _ _ (c .before .before .before .before .loop .inv) (c .before .before .before .loop-test .taken) (rw (c .before .before .entry-at2 .ensures, c .before .before .before .before .before .entry-at .ensures) at (sym (c .before .same-key .ensures) ∙ c .if1 .left))
@@ -54,14 +33,14 @@ key-recurs-spec =
     (tie.spec
     Inv-loop
     μ-loop
-    cast-n
-    entry-at-requires
-    add-first
+    (λ c. search needs)
+    (λ c κs. search needs)
+    (λ c. search needs)
     loop-holds
-    entry-at-requires-2
-    same-key-requires
+    (λ c κs. search needs)
+    (λ c κs. search needs)
     returns
-    add-j
-    loop-less
+    (λ c. search needs)
+    (λ c. search needs)
     loop-again
     returns-2)

@@ -3,11 +3,8 @@ use borrow.Author.Needs.{needs}
 use Rattle.protocol.proofs.well_formed.phase_formed.Statement.{statement}
 use Rattle.protocol.proofs.well_formed.phase_formed.Tie as tie
 
-has-puts-requires : tie.Need-has-puts-requires
-has-puts-requires c κs = search needs
-
 returns : tie.Need-returns
 returns c = rw (c .before .before .has-puts .ensures)
 
 pub phase-formed-spec : {M : Type 1} → statement M
-phase-formed-spec = tie.close (tie.spec has-puts-requires returns)
+phase-formed-spec = tie.close (tie.spec (λ c κs. search needs) returns)

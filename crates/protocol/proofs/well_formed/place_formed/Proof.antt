@@ -5,18 +5,6 @@ use Rattle.protocol.specs.Phases.{phase-none}
 use Rattle.protocol.proofs.well_formed.place_formed.Statement.{statement}
 use Rattle.protocol.proofs.well_formed.place_formed.Tie as tie
 
-group-count-requires : tie.Need-group-count-requires
-group-count-requires c κs = search needs
-
-validate-count-requires : tie.Need-validate-count-requires
-validate-count-requires c κs = search needs
-
-group-count-requires-2 : tie.Need-group-count-requires-2
-group-count-requires-2 c κs = search needs
-
-group-count-requires-3 : tie.Need-group-count-requires-3
-group-count-requires-3 c κs = search needs
-
 returns : tie.Need-returns
 unfolding placeFormed
 returns c = rw (c .before .match .keys1)
@@ -57,10 +45,10 @@ pub place-formed-spec : {M : Type 1} → statement M
 place-formed-spec =
     tie.close
     (tie.spec
-    group-count-requires
-    validate-count-requires
-    group-count-requires-2
-    group-count-requires-3
+    (λ c κs. search needs)
+    (λ c κs. search needs)
+    (λ c κs. search needs)
+    (λ c κs. search needs)
     returns
     returns-2
     returns-3

@@ -4,12 +4,9 @@ use Rattle.model.specs.WellFormed.{putFits}
 use Rattle.protocol.proofs.well_formed.put_fits.Statement.{statement}
 use Rattle.protocol.proofs.well_formed.put_fits.Tie as tie
 
-columns-in-range-requires : tie.Need-columns-in-range-requires
-columns-in-range-requires c κs = search needs
-
 returns : tie.Need-returns
 unfolding putFits
 returns c = rw (c .columns-in-range .ensures)
 
 pub put-fits-spec : {M : Type 1} → statement M
-put-fits-spec = tie.close (tie.spec columns-in-range-requires returns)
+put-fits-spec = tie.close (tie.spec (λ c κs. search needs) returns)

@@ -7,17 +7,8 @@ use borrow.Author.Needs.{needs}
 use Rattle.script.proofs.scan.called.Statement.{statement}
 use Rattle.script.proofs.scan.called.Tie as tie
 
-bad-command-requires : tie.Need-bad-command-requires
-bad-command-requires c κs = search needs
-
 returns : tie.Need-returns
 returns c = let a = c .before .before .before .before .args in c .bad-command .ensures ∙ called-by (a .kind) (a .numbers) false _ (not-true _ (c .before .if1 .taken)) refl
-
-arity-requires : tie.Need-arity-requires
-arity-requires c κs = search needs
-
-bad-command-requires-2 : tie.Need-bad-command-requires-2
-bad-command-requires-2 c κs = search needs
 
 returns-2 : tie.Need-returns-2
 returns-2 c = let a = c .before .before .before .before .before .before .before .args in c .bad-command2 .ensures ∙ called-by (a .kind) (a .numbers) true false (not-false _ (c .before .before .before .before .if1 .left)) (ne-eqb _ _ (λ z. c .before .if2 .taken (z ∙ sym (c .before .before .before .arity .ensures))))
@@ -29,9 +20,9 @@ pub called-spec : {M : Type 1} → statement M
 called-spec =
     tie.close
     (tie.spec
-    bad-command-requires
+    (λ c κs. search needs)
     returns
-    arity-requires
-    bad-command-requires-2
+    (λ c κs. search needs)
+    (λ c κs. search needs)
     returns-2
     returns-3)

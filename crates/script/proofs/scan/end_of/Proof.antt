@@ -18,23 +18,20 @@ abbrev μ-loop : tie.MeasureT-loop
 loop-holds : tie.Need-loop-holds Inv-loop μ-loop
 loop-holds c = ((omega arith, c .pre), refl)
 
-shared-slice-read-if1 : tie.Need-shared-slice-read-if1 Inv-loop μ-loop
-shared-slice-read-if1 c = search needs
-
 returns : tie.Need-returns Inv-loop μ-loop
-returns c = let e = mark-here (c .before .before .before .before .args .mark) (c .before .before .before .before .args .s .now) (c .before .before .before .loop .i) (c .before .before .loop-test .taken) (c .if1 .taken) in ((omega arith, omega arith), omega arith)
-
-add-i : tie.Need-add-i Inv-loop μ-loop
-add-i c = search needs
-
-loop-less : tie.Need-loop-less Inv-loop μ-loop
-loop-less c = search needs
+returns c =
+    let a = c .before .before .before .before .args in
+    let e = mark-here (a .mark) (a .s .now) (c .before .before .before .loop .i) (c .before .before .loop-test .taken) (c .if1 .taken) in ((omega arith, omega arith), omega arith)
 
 loop-again : tie.Need-loop-again Inv-loop μ-loop
-loop-again c = let e = mark-later (c .before .before .before .before .args .mark) (c .before .before .before .before .args .s .now) (c .before .before .before .loop .i) (c .before .before .loop-test .taken) (c .if1 .left) in ((omega arith, omega arith), omega arith)
+loop-again c =
+    let a = c .before .before .before .before .args in
+    let e = mark-later (a .mark) (a .s .now) (c .before .before .before .loop .i) (c .before .before .loop-test .taken) (c .if1 .left) in ((omega arith, omega arith), omega arith)
 
 returns-2 : tie.Need-returns-2 Inv-loop μ-loop
-returns-2 c = let e = mark-none (c .before .before .args .mark) (c .before .before .args .s .now) (c .before .loop .i) (c .loop-test .left) in ((omega arith, omega arith), omega arith)
+returns-2 c =
+    let a = c .before .before .args in
+    let e = mark-none (a .mark) (a .s .now) (c .before .loop .i) (c .loop-test .left) in ((omega arith, omega arith), omega arith)
 
 pub end-of-spec : {M : Type 1} → statement M
 end-of-spec =
@@ -43,9 +40,9 @@ end-of-spec =
     Inv-loop
     μ-loop
     loop-holds
-    shared-slice-read-if1
+    (λ c. search needs)
     returns
-    add-i
-    loop-less
+    (λ c. search needs)
+    (λ c. search needs)
     loop-again
     returns-2)

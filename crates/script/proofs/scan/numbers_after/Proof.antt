@@ -19,27 +19,6 @@ abbrev μ-loop : tie.MeasureT-loop
 loop-holds : tie.Need-loop-holds Inv-loop μ-loop
 loop-holds c = (c .before .pre, refl)
 
-add-start : tie.Need-add-start Inv-loop μ-loop
-add-start c = search needs
-
-end-of-requires : tie.Need-end-of-requires Inv-loop μ-loop
-end-of-requires c κs = search needs
-
-sub-with-word : tie.Need-sub-with-word Inv-loop μ-loop
-sub-with-word c = search needs
-
-part-with-word-start : tie.Need-part-with-word-start Inv-loop μ-loop
-part-with-word-start c = search needs
-
-part-with-word-end : tie.Need-part-with-word-end Inv-loop μ-loop
-part-with-word-end c = search needs
-
-with-word-requires : tie.Need-with-word-requires Inv-loop μ-loop
-with-word-requires c κs = search needs
-
-loop-less : tie.Need-loop-less Inv-loop μ-loop
-loop-less c = search needs
-
 loop-again : tie.Need-loop-again Inv-loop μ-loop
 loop-again c = let s = c .before .before .before .before .before .before .args .line .now in
     let l = c .before .before .before .before .loop in
@@ -60,12 +39,12 @@ numbers-after-spec =
     Inv-loop
     μ-loop
     loop-holds
-    add-start
-    end-of-requires
-    sub-with-word
-    part-with-word-start
-    part-with-word-end
-    with-word-requires
-    loop-less
+    (λ c. search needs)
+    (λ c κs. search needs)
+    (λ c. search needs)
+    (λ c. search needs)
+    (λ c. search needs)
+    (λ c κs. search needs)
+    (λ c. search needs)
     loop-again
     returns)

@@ -7,20 +7,8 @@ use Rattle.script.specs.Lines.{called, upTo, said-read}
 use Rattle.script.proofs.scan.parse.Statement.{statement}
 use Rattle.script.proofs.scan.parse.Tie as tie
 
-end-of-requires : tie.Need-end-of-requires
-end-of-requires c κs = search needs
-
 slice-aggregate-kind-of : tie.Need-slice-aggregate-kind-of
 slice-aggregate-kind-of c = simp length-take (omega arith)
-
-kind-of-requires : tie.Need-kind-of-requires
-kind-of-requires c κs = search needs
-
-numbers-after-requires : tie.Need-numbers-after-requires
-numbers-after-requires c κs = search needs
-
-called-requires : tie.Need-called-requires
-called-requires c κs = search needs
 
 returns : tie.Need-returns
 returns c = let s = c .before .before .before .before .before .before .args .line .now in
@@ -32,9 +20,9 @@ pub parse-spec : {M : Type 1} → statement M
 parse-spec =
     tie.close
     (tie.spec
-    end-of-requires
+    (λ c κs. search needs)
     slice-aggregate-kind-of
-    kind-of-requires
-    numbers-after-requires
-    called-requires
+    (λ c κs. search needs)
+    (λ c κs. search needs)
+    (λ c κs. search needs)
     returns)

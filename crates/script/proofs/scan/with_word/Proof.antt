@@ -10,27 +10,6 @@ returns : tie.Need-returns
 unfolding withWord
 returns c = rw (le-leb 14 (c .before .before .before .args .numbers .count) (c .if1 .taken))
 
-read-requires : tie.Need-read-requires
-read-requires c κs = search needs
-
-enum-told : tie.Need-enum-told
-enum-told c = search needs
-
-enum-known-v : tie.Need-enum-known-v
-enum-known-v c = search needs
-
-mul-values : tie.Need-mul-values
-mul-values c = search needs
-
-array-write-values : tie.Need-array-write-values
-array-write-values c = search needs
-
-add-t12 : tie.Need-add-t12
-add-t12 c = search needs
-
-enum-told-2 : tie.Need-enum-told-2
-enum-told-2 c = search needs
-
 returns-2 : tie.Need-returns-2
 unfolding withWord withFigure
 returns-2 c = rw (lt-leb 14 (c .before .before .before .before .before .before .args .numbers .count) (c .before .before .before .if1 .left), sym (c .before .before .read .ensures) ∙ c .enum-told .given .1)
@@ -48,13 +27,13 @@ with-word-spec =
     tie.close
     (tie.spec
     returns
-    read-requires
-    enum-told
-    enum-known-v
-    mul-values
-    array-write-values
-    add-t12
-    enum-told-2
+    (λ c κs. search needs)
+    (λ c. search needs)
+    (λ c. search needs)
+    (λ c. search needs)
+    (λ c. search needs)
+    (λ c. search needs)
+    (λ c. search needs)
     returns-2
     returns-3
     returns-4)

@@ -26,29 +26,14 @@ abbrev μ-lines : tie.MeasureT-lines
 lines-holds : tie.Need-lines-holds Inv-loop μ-loop Inv-lines μ-lines
 lines-holds c = (refl, pass-first _ _)
 
-mul-at : tie.Need-mul-at Inv-loop μ-loop Inv-lines μ-lines
-mul-at c = search needs
-
 loop-holds : tie.Need-loop-holds Inv-loop μ-loop Inv-lines μ-lines
 loop-holds c = (refl, agree-first _ _ _)
-
-sub-f : tie.Need-sub-f Inv-loop μ-loop Inv-lines μ-lines
-sub-f c = search needs
 
 same-field-requires : tie.Need-same-field-requires Inv-loop μ-loop Inv-lines μ-lines
 same-field-requires c κs = (omega (arith, c .before .loop .inv .1 .place), (omega arith, c .before .before .before .before .before .before .pre))
 
-add-i : tie.Need-add-i Inv-loop μ-loop Inv-lines μ-lines
-add-i c = search needs
-
-lines-less : tie.Need-lines-less Inv-loop μ-loop Inv-lines μ-lines
-lines-less c = search needs
-
 lines-again : tie.Need-lines-again Inv-loop μ-loop Inv-lines μ-lines
 lines-again c = (c .before .before .before .before .before .lines .inv .0, rw (c .before .before .before .loop .inv .0) (pass-next _ _ _ (omega arith) (c .before .before .before .before .before .lines .inv .1) (c .before .before .before .loop .f - 1) (omega (arith, c .before .before .before .loop .inv .1 .place)) (sym (c .before .same-field .ensures) ∙ not-true _ (c .if1 .taken))))
-
-loop-less : tie.Need-loop-less Inv-loop μ-loop Inv-lines μ-lines
-loop-less c = search needs
 
 loop-again : tie.Need-loop-again Inv-loop μ-loop Inv-lines μ-lines
 loop-again c = (c .before .before .before .loop .inv .0, agree-next _ _ _ (c .before .before .before .loop .f) (c .before .before .before .loop .f - 1) (omega (arith, c .before .before .loop-test .taken)) (omega (arith, c .before .before .before .loop .inv .1 .place)) (sym (c .before .same-field .ensures) ∙ not-false _ (c .if1 .left)) (c .before .before .before .loop .inv .1))
@@ -79,14 +64,14 @@ find-line-spec =
     Inv-lines
     μ-lines
     lines-holds
-    mul-at
+    (λ c. search needs)
     loop-holds
-    sub-f
+    (λ c. search needs)
     same-field-requires
-    add-i
-    lines-less
+    (λ c. search needs)
+    (λ c. search needs)
     lines-again
-    loop-less
+    (λ c. search needs)
     loop-again
     returns
     returns-2)

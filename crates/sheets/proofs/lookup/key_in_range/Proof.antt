@@ -7,12 +7,6 @@ use Rattle.model.specs.Records.{keyInRange}
 use Rattle.sheets.proofs.lookup.key_in_range.Statement.{statement}
 use Rattle.sheets.proofs.lookup.key_in_range.Tie as tie
 
-numbers-of-requires : tie.Need-numbers-of-requires
-numbers-of-requires c κs = search needs
-
-slice-aggregate-row-good : tie.Need-slice-aggregate-row-good
-slice-aggregate-row-good c = search needs
-
 row-good-requires : tie.Need-row-good-requires
 unfolding layout keyLayout recordLayout
 row-good-requires c κs = search needs
@@ -23,4 +17,4 @@ returns c = c .row-good .ensures ∙ ap (rowGood keyLayout) (c .before .before .
 
 pub key-in-range-spec : {M : Type 1} → statement M
 key-in-range-spec =
-    tie.close (tie.spec numbers-of-requires slice-aggregate-row-good row-good-requires returns)
+    tie.close (tie.spec (λ c κs. search needs) (λ c. search needs) row-good-requires returns)

@@ -7,15 +7,6 @@ use Rattle.sheet_laws.specs.Lines.{lineBytes}
 use Rattle.sheets.proofs.lookup.key_line.Statement.{statement}
 use Rattle.sheets.proofs.lookup.key_line.Tie as tie
 
-numbers-of-requires : tie.Need-numbers-of-requires
-numbers-of-requires c κs = search needs
-
-slice-aggregate-write-row : tie.Need-slice-aggregate-write-row
-slice-aggregate-write-row c = search needs
-
-slice-aggregate-write-row-2 : tie.Need-slice-aggregate-write-row-2
-slice-aggregate-write-row-2 c = search needs
-
 write-row-requires : tie.Need-write-row-requires
 unfolding layout keyLayout recordLayout lineBytes
 write-row-requires c κs = search needs
@@ -28,8 +19,8 @@ pub key-line-spec : {M : Type 1} → statement M
 key-line-spec =
     tie.close
     (tie.spec
-    numbers-of-requires
-    slice-aggregate-write-row
-    slice-aggregate-write-row-2
+    (λ c κs. search needs)
+    (λ c. search needs)
+    (λ c. search needs)
     write-row-requires
     returns)

@@ -6,43 +6,39 @@ use Rattle.sheets.specs.Answers.{lookup-bad, lookup-out, lookup-none, lo
 use Rattle.sheets.proofs.lookup.lookup_refusal.Statement.{statement}
 use Rattle.sheets.proofs.lookup.lookup_refusal.Tie as tie
 
-records-ok-requires : tie.Need-records-ok-requires
-records-ok-requires c κs = search needs
-
 returns : tie.Need-returns
-returns c = lookup-bad (c .before .before .before .args .records .now) (c .before .before .before .args .key) (sym (c .before .records-ok .ensures) ∙ not-true _ (c .if1 .taken)) .1
-
-key-in-range-requires : tie.Need-key-in-range-requires
-key-in-range-requires c κs = search needs
+returns c =
+    let a = c .before .before .before .args in
+    lookup-bad (a .records .now) (a .key) (sym (c .before .records-ok .ensures) ∙ not-true _ (c .if1 .taken)) .1
 
 returns-2 : tie.Need-returns-2
-returns-2 c = lookup-out (c .before .before .before .before .before .args .records .now) (c .before .before .before .before .before .args .key) (sym (c .before .before .before .records-ok .ensures) ∙ not-false _ (c .before .before .if1 .left)) (sym (c .before .key-in-range .ensures) ∙ not-true _ (c .if2 .taken)) .1
+returns-2 c =
+    let a = c .before .before .before .before .before .args in
+    lookup-out (a .records .now) (a .key) (sym (c .before .before .before .records-ok .ensures) ∙ not-false _ (c .before .before .if1 .left)) (sym (c .before .key-in-range .ensures) ∙ not-true _ (c .if2 .taken)) .1
 
 find-requires : tie.Need-find-requires
 find-requires c κs = (sym (c .before .before .before .records-ok .ensures) ∙ not-false _ (c .before .before .if1 .left), sym (c .before .key-in-range .ensures) ∙ not-false _ (c .if2 .left))
 
-enum-told : tie.Need-enum-told
-enum-told c = search needs
-
-enum-told-2 : tie.Need-enum-told-2
-enum-told-2 c = search needs
-
 returns-3 : tie.Need-returns-3
-returns-3 c = lookup-met (c .before .before .before .before .before .before .before .before .args .records .now) (c .before .before .before .before .before .before .before .before .args .key) _ (sym (c .before .before .before .before .before .before .records-ok .ensures) ∙ not-false _ (c .before .before .before .before .before .if1 .left)) (sym (c .before .before .before .before .key-in-range .ensures) ∙ not-false _ (c .before .before .before .if2 .left)) (sym (c .before .before .find .ensures) ∙ c .enum-told .given .1) .1
+returns-3 c =
+    let a = c .before .before .before .before .before .before .before .before .args in
+    lookup-met (a .records .now) (a .key) _ (sym (c .before .before .before .before .before .before .records-ok .ensures) ∙ not-false _ (c .before .before .before .before .before .if1 .left)) (sym (c .before .before .before .before .key-in-range .ensures) ∙ not-false _ (c .before .before .before .if2 .left)) (sym (c .before .before .find .ensures) ∙ c .enum-told .given .1) .1
 
 returns-4 : tie.Need-returns-4
-returns-4 c = lookup-none (c .before .before .before .before .before .before .before .before .args .records .now) (c .before .before .before .before .before .before .before .before .args .key) (sym (c .before .before .before .before .before .before .records-ok .ensures) ∙ not-false _ (c .before .before .before .before .before .if1 .left)) (sym (c .before .before .before .before .key-in-range .ensures) ∙ not-false _ (c .before .before .before .if2 .left)) (sym (c .before .before .find .ensures) ∙ c .enum-told2 .given .1) .1
+returns-4 c =
+    let a = c .before .before .before .before .before .before .before .before .args in
+    lookup-none (a .records .now) (a .key) (sym (c .before .before .before .before .before .before .records-ok .ensures) ∙ not-false _ (c .before .before .before .before .before .if1 .left)) (sym (c .before .before .before .before .key-in-range .ensures) ∙ not-false _ (c .before .before .before .if2 .left)) (sym (c .before .before .find .ensures) ∙ c .enum-told2 .given .1) .1
 
 pub lookup-refusal-spec : {M : Type 1} → statement M
 lookup-refusal-spec =
     tie.close
     (tie.spec
-    records-ok-requires
+    (λ c κs. search needs)
     returns
-    key-in-range-requires
+    (λ c κs. search needs)
     returns-2
     find-requires
-    enum-told
-    enum-told-2
+    (λ c. search needs)
+    (λ c. search needs)
     returns-3
     returns-4)

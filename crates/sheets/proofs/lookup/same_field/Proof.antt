@@ -7,21 +7,6 @@ use Rattle.lists.specs.Bytes.{eqList}
 use Rattle.sheets.proofs.lookup.same_field.Statement.{statement}
 use Rattle.sheets.proofs.lookup.same_field.Tie as tie
 
-mul-from : tie.Need-mul-from
-mul-from c = search needs
-
-array-read-from : tie.Need-array-read-from
-array-read-from c = search needs
-
-add-to : tie.Need-add-to
-add-to c = search needs
-
-mul-to : tie.Need-mul-to
-mul-to c = search needs
-
-array-read-to : tie.Need-array-read-to
-array-read-to c = search needs
-
 add-a : tie.Need-add-a
 unfolding edge
 add-a c = let e = edges (c .before .before .args .f) (c .before .before .pre .0) in omega arith
@@ -54,24 +39,22 @@ part-same-end-2 : tie.Need-part-same-end-2
 unfolding edge
 part-same-end-2 c = let e = edges (c .before .before .before .args .f) (c .before .before .before .pre .0) in omega arith
 
-same-requires : tie.Need-same-requires
-same-requires c κs = search needs
-
 returns : tie.Need-returns
 unfolding edge
 returns c =
+    let a = c .before .before .before .before .before .args in
     c .same .ensures
-    ∙ ap (eqList (keyField (c .before .before .before .before .before .args .f) (c .before .before .before .before .before .args .at) (c .before .before .before .before .before .args .records .now))) (sym (field-of-text (c .before .before .before .before .before .args .text .now) (c .before .before .before .before .before .args .f)))
+    ∙ ap (eqList (keyField (a .f) (a .at) (a .records .now))) (sym (field-of-text (a .text .now) (a .f)))
 
 pub same-field-spec : {M : Type 1} → statement M
 same-field-spec =
     tie.close
     (tie.spec
-    mul-from
-    array-read-from
-    add-to
-    mul-to
-    array-read-to
+    (λ c. search needs)
+    (λ c. search needs)
+    (λ c. search needs)
+    (λ c. search needs)
+    (λ c. search needs)
     add-a
     add-e
     sub-same
@@ -80,5 +63,5 @@ same-field-spec =
     sub-same-2
     part-same-start-2
     part-same-end-2
-    same-requires
+    (λ c κs. search needs)
     returns)

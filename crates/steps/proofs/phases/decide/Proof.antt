@@ -7,47 +7,17 @@ use Rattle.model.specs.ByteCalls.{sheetsOf}
 use Rattle.steps.proofs.phases.decide.Statement.{statement}
 use Rattle.steps.proofs.phases.decide.Tie as tie
 
-decision-at-requires : tie.Need-decision-at-requires
-decision-at-requires c κs = search needs
-
-enum-told : tie.Need-enum-told
-enum-told c = search needs
-
-set-decision-requires : tie.Need-set-decision-requires
-set-decision-requires c κs = search needs
-
-moved-requires : tie.Need-moved-requires
-moved-requires c κs = search needs
-
-enum-told-2 : tie.Need-enum-told-2
-enum-told-2 c = search needs
-
-enum-told-3 : tie.Need-enum-told-3
-enum-told-3 c = search needs
-
-moved-requires-2 : tie.Need-moved-requires-2
-moved-requires-2 c κs = search needs
-
-same-length : tie.Need-same-length
-same-length c = search needs
-
 returns : tie.Need-returns
 returns c = record {
   beside = λ rs a. stepped-as (decide-commits _ (sheetsOf rs (c .before .before .before .before .before .before .before .before .before .before .args .coordinator .now)) (sym (c .before .before .before .before .before .before .before .decision-at .ensures) ∙ c .before .before .before .before .before .enum-told .given .1))
       (wrote-decision rs _ _ _ _ _ _ a (c .before .before .before .before .before .before .before .before .before .before .pre) (c .moved .ensures) (c .before .before .before .set-decision .ensures));
 }
 
-same-length-2 : tie.Need-same-length-2
-same-length-2 c = search needs
-
 returns-2 : tie.Need-returns-2
 returns-2 c = record {
   beside = λ rs a. stepped-as (decide-stays _ (sheetsOf rs (c .before .before .before .before .before .args .coordinator .now)) (sym (c .before .before .decision-at .ensures) ∙ c .enum-told2 .given .1))
       (wrote-nothing rs _ a (c .before .before .before .before .before .pre .accepted) _ _ refl);
 }
-
-same-length-3 : tie.Need-same-length-3
-same-length-3 c = search needs
 
 returns-3 : tie.Need-returns-3
 returns-3 c = record {
@@ -59,16 +29,16 @@ pub decide-spec : {M : Type 1} → statement M
 decide-spec =
     tie.close
     (tie.spec
-    decision-at-requires
-    enum-told
-    set-decision-requires
-    moved-requires
-    enum-told-2
-    enum-told-3
-    moved-requires-2
-    same-length
+    (λ c κs. search needs)
+    (λ c. search needs)
+    (λ c κs. search needs)
+    (λ c κs. search needs)
+    (λ c. search needs)
+    (λ c. search needs)
+    (λ c κs. search needs)
+    (λ c. search needs)
     returns
-    same-length-2
+    (λ c. search needs)
     returns-2
-    same-length-3
+    (λ c. search needs)
     returns-3)

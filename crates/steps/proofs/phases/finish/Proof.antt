@@ -14,12 +14,9 @@ forward-group-requires c κs = may-write _ _ _ _ (c .before .before .before .pre
 next-group-requires : tie.Need-next-group-requires
 next-group-requires c κs = (coordinator-accepted _ _ _ _ (c .before .before .before .before .before .before .pre .0), (few _ _ _ _ (c .before .before .before .before .before .before .pre .0), place-finish _ _ _ _ (c .before .before .before .before .before .before .pre .0) (c .before .before .before .before .before .before .pre .1)))
 
-same-length : tie.Need-same-length
-same-length c = search needs
-
 returns : tie.Need-returns
 unfolding finishStep decisionsAfter
 returns c = wrote-lines _ _ _ refl (coordinator-accepted _ _ _ _ (c .before .before .before .before .before .before .before .pre .0)) _ _ _ (c .next-group .ensures _) (c .before .before .before .forward-group .ensures)
 
 pub finish-spec : {M : Type 1} → statement M
-finish-spec = tie.close (tie.spec forward-group-requires next-group-requires same-length returns)
+finish-spec = tie.close (tie.spec forward-group-requires next-group-requires (λ c. search needs) returns)

@@ -12,15 +12,9 @@ group-count-requires c κs = (c .before .pre .0, c .before .pre .1 .0)
 add-next : tie.Need-add-next
 add-next c = omega (arith, c .before .group-count .ok, c .before .group-count .ensures, c .before .before .before .pre .1 .1)
 
-moved-requires : tie.Need-moved-requires
-moved-requires c κs = search needs
-
 returns : tie.Need-returns
 unfolding nextGroup
 returns c = λ rs. rw (lt-ltb _ _ (rw (c .before .before .before .group-count .ensures) at (c .before .if1 .taken))) (c .moved .ensures)
-
-to-phase-requires : tie.Need-to-phase-requires
-to-phase-requires c κs = search needs
 
 returns-2 : tie.Need-returns-2
 unfolding nextGroup
@@ -29,4 +23,4 @@ returns-2 c = λ rs. rw (le-ltb _ _ (rw (c .before .before .before .group-count 
 pub next-group-spec : {M : Type 1} → statement M
 next-group-spec =
     tie.close
-    (tie.spec group-count-requires add-next moved-requires returns to-phase-requires returns-2)
+    (tie.spec group-count-requires add-next (λ c κs. search needs) returns (λ c κs. search needs) returns-2)

@@ -14,22 +14,10 @@ group-holds-requires c κs = ((coordinator-accepted _ _ _ _ (c .before .before .
 commit-group-requires : tie.Need-commit-group-requires
 commit-group-requires c κs = (may-write _ _ _ _ (c .before .before .before .before .before .before .pre), sym (c .before .before .group-holds .ensures) ∙ c .before .if1 .taken)
 
-commits-requires : tie.Need-commits-requires
-commits-requires c κs = search needs
-
-same-length : tie.Need-same-length
-same-length c = search needs
-
 returns : tie.Need-returns
 unfolding decisionsAfter
 returns c = stepped-as (one-phase-commits _ _ (sym (c .before .before .before .before .before .before .group-holds .ensures) ∙ c .before .before .before .before .before .if1 .taken))
     (wrote-lines _ _ _ refl (coordinator-accepted _ _ _ _ (c .before .before .before .before .before .before .before .before .before .before .pre)) _ _ _ (c .commits .ensures) (c .before .before .before .commit-group .ensures))
-
-to-phase-requires : tie.Need-to-phase-requires
-to-phase-requires c κs = search needs
-
-same-length-2 : tie.Need-same-length-2
-same-length-2 c = search needs
 
 returns-2 : tie.Need-returns-2
 returns-2 c = stepped-as (one-phase-fails _ _ (sym (c .before .before .group-holds .ensures) ∙ c .before .if1 .left))
@@ -41,9 +29,9 @@ one-phase-spec =
     (tie.spec
     group-holds-requires
     commit-group-requires
-    commits-requires
-    same-length
+    (λ c κs. search needs)
+    (λ c. search needs)
     returns
-    to-phase-requires
-    same-length-2
+    (λ c κs. search needs)
+    (λ c. search needs)
     returns-2)

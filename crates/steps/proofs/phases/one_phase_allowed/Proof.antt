@@ -9,12 +9,9 @@ use Rattle.model.specs.Steps.{onePhaseAllowed}
 use Rattle.steps.proofs.phases.one_phase_allowed.Statement.{statement}
 use Rattle.steps.proofs.phases.one_phase_allowed.Tie as tie
 
-group-count-requires : tie.Need-group-count-requires
-group-count-requires c κs = search needs
-
 returns : tie.Need-returns
 unfolding onePhaseAllowed
 returns c = λ rs. ap (λ (n : ℕ). eqb n 1 && not (isSerializable (c .before .before .before .args .t))) (c .before .group-count .ensures)
 
 pub one-phase-allowed-spec : {M : Type 1} → statement M
-one-phase-allowed-spec = tie.close (tie.spec group-count-requires returns)
+one-phase-allowed-spec = tie.close (tie.spec (λ c κs. search needs) returns)

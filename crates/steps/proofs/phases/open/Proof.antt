@@ -14,15 +14,9 @@ has-puts-requires c κs = few _ _ _ _ (c .before .before .pre)
 validates-requires : tie.Need-validates-requires
 validates-requires c κs = few _ _ _ _ (c .before .before .before .before .pre)
 
-commits-requires : tie.Need-commits-requires
-commits-requires c κs = search needs
-
 returns : tie.Need-returns
 returns c = stepped-as (open-done _ _ (not-false _ (sym (c .before .before .before .before .has-puts .ensures) ∙ not-true _ (c .before .before .before .if1 .taken))) (not-false _ (sym (c .before .before .validates .ensures) ∙ not-true _ (c .before .if2 .taken))))
     (wrote-nothing _ _ (records-accepted _ _ _ _ (c .before .before .before .before .before .before .before .pre)) (coordinator-accepted _ _ _ _ (c .before .before .before .before .before .before .before .pre)) _ _ (c .commits .ensures))
-
-to-phase-requires : tie.Need-to-phase-requires
-to-phase-requires c κs = search needs
 
 returns-2 : tie.Need-returns-2
 returns-2 c = stepped-as (open-validates _ _ (not-false _ (sym (c .before .before .before .before .has-puts .ensures) ∙ not-true _ (c .before .before .before .if1 .taken))) (not-true _ (sym (c .before .before .validates .ensures) ∙ not-false _ (c .before .if2 .left))))
@@ -31,18 +25,12 @@ returns-2 c = stepped-as (open-validates _ _ (not-false _ (sym (c .before .befor
 one-phase-allowed-requires : tie.Need-one-phase-allowed-requires
 one-phase-allowed-requires c κs = (coordinator-accepted _ _ _ _ (c .before .before .before .before .pre), few _ _ _ _ (c .before .before .before .before .pre))
 
-to-phase-requires-2 : tie.Need-to-phase-requires-2
-to-phase-requires-2 c κs = search needs
-
 returns-3 : tie.Need-returns-3
 returns-3 c = stepped-as (open-prepares _ _ (not-true _ (sym (c .before .before .before .before .has-puts .ensures) ∙ not-false _ (c .before .before .before .if1 .left))) (sym (c .before .before .one-phase-allowed .ensures _) ∙ not-true _ (c .before .if3 .taken)))
     (wrote-nothing _ _ (records-accepted _ _ _ _ (c .before .before .before .before .before .before .before .pre)) (coordinator-accepted _ _ _ _ (c .before .before .before .before .before .before .before .pre)) _ _ (c .to-phase2 .ensures))
 
 one-phase-requires : tie.Need-one-phase-requires
 one-phase-requires c κs = c .before .before .before .before .before .before .before .pre
-
-same-length : tie.Need-same-length
-same-length c = search needs
 
 returns-4 : tie.Need-returns-4
 returns-4 c = stepped-as (open-one-phase _ _ (not-true _ (sym (c .before .before .before .before .before .before .before .has-puts .ensures) ∙ not-false _ (c .before .before .before .before .before .before .if1 .left))) (sym (c .before .before .before .before .before .one-phase-allowed .ensures _) ∙ not-false _ (c .before .before .before .before .if3 .left)))
@@ -54,13 +42,13 @@ open-spec =
     (tie.spec
     has-puts-requires
     validates-requires
-    commits-requires
+    (λ c κs. search needs)
     returns
-    to-phase-requires
+    (λ c κs. search needs)
     returns-2
     one-phase-allowed-requires
-    to-phase-requires-2
+    (λ c κs. search needs)
     returns-3
     one-phase-requires
-    same-length
+    (λ c. search needs)
     returns-4)

@@ -16,12 +16,6 @@ use Rattle.steps.proofs.phases.prepare.Tie as tie
 group-holds-requires : tie.Need-group-holds-requires
 group-holds-requires c κs = ((coordinator-accepted _ _ _ _ (c .before .before .before .pre .0), few _ _ _ _ (c .before .before .before .pre .0)), c .before .before .before .pre .0 .placed)
 
-to-phase-requires : tie.Need-to-phase-requires
-to-phase-requires c κs = search needs
-
-same-length : tie.Need-same-length
-same-length c = search needs
-
 returns : tie.Need-returns
 returns c = stepped-as (prepare-fails _ _ _ (sym (c .before .before .group-holds .ensures) ∙ not-true _ (c .before .if1 .taken)))
     (wrote-nothing _ _ (records-accepted _ _ _ _ (c .before .before .before .before .before .before .pre .0)) (coordinator-accepted _ _ _ _ (c .before .before .before .before .before .before .pre .0)) _ _ (c .to-phase .ensures))
@@ -35,25 +29,24 @@ after-prepare-requires c κs = few _ _ _ _ (c .before .before .before .before .b
 next-group-requires : tie.Need-next-group-requires
 next-group-requires c κs = (coordinator-accepted _ _ _ _ (c .before .before .before .before .before .before .before .before .before .before .pre .0), (few _ _ _ _ (c .before .before .before .before .before .before .before .before .before .before .pre .0), place-prepare _ _ _ _ (c .before .before .before .before .before .before .before .before .before .before .pre .0) (c .before .before .before .before .before .before .before .before .before .before .pre .1)))
 
-same-length-2 : tie.Need-same-length-2
-same-length-2 c = search needs
-
 returns-2 : tie.Need-returns-2
 unfolding decisionsAfter
-returns-2 c = stepped-as (prepare-writes _ _ _ (sym (c .before .before .before .before .before .before .before .group-holds .ensures) ∙ not-false _ (c .before .before .before .before .before .before .if1 .left)))
+returns-2 c =
+    let a = c .before .before .before .before .before .before .before .before .before .before .before .args in
+    stepped-as (prepare-writes _ _ _ (sym (c .before .before .before .before .before .before .before .group-holds .ensures) ∙ not-false _ (c .before .before .before .before .before .before .if1 .left)))
     (wrote-lines _ _ _ refl (coordinator-accepted _ _ _ _ (c .before .before .before .before .before .before .before .before .before .before .before .pre .0)) _ _ _
-    (c .next-group .ensures _ ∙ ap (λ (p : ℕ). nextGroup p (c .before .before .before .before .before .before .before .before .before .before .before .args .t) (sheetsOf (c .before .before .before .before .before .before .before .before .before .before .before .args .records .now) (c .before .before .before .before .before .before .before .before .before .before .before .args .coordinator .now))) (c .before .after-prepare .ensures)) (c .before .before .before .before .prepare-group .ensures))
+    (c .next-group .ensures _ ∙ ap (λ (p : ℕ). nextGroup p (a .t) (sheetsOf (a .records .now) (a .coordinator .now))) (c .before .after-prepare .ensures)) (c .before .before .before .before .prepare-group .ensures))
 
 pub prepare-spec : {M : Type 1} → statement M
 prepare-spec =
     tie.close
     (tie.spec
     group-holds-requires
-    to-phase-requires
-    same-length
+    (λ c κs. search needs)
+    (λ c. search needs)
     returns
     prepare-group-requires
     after-prepare-requires
     next-group-requires
-    same-length-2
+    (λ c. search needs)
     returns-2)

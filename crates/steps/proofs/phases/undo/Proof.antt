@@ -14,12 +14,9 @@ back-group-requires c κs = may-write _ _ _ _ (c .before .before .before .pre .0
 next-group-requires : tie.Need-next-group-requires
 next-group-requires c κs = (coordinator-accepted _ _ _ _ (c .before .before .before .before .before .before .pre .0), (few _ _ _ _ (c .before .before .before .before .before .before .pre .0), place-undo _ _ _ _ (c .before .before .before .before .before .before .pre .0) (c .before .before .before .before .before .before .pre .1)))
 
-same-length : tie.Need-same-length
-same-length c = search needs
-
 returns : tie.Need-returns
 unfolding undoStep decisionsAfter
 returns c = wrote-lines _ _ _ refl (coordinator-accepted _ _ _ _ (c .before .before .before .before .before .before .before .pre .0)) _ _ _ (c .next-group .ensures _) (c .before .before .before .back-group .ensures)
 
 pub undo-spec : {M : Type 1} → statement M
-undo-spec = tie.close (tie.spec back-group-requires next-group-requires same-length returns)
+undo-spec = tie.close (tie.spec back-group-requires next-group-requires (λ c. search needs) returns)

@@ -20,9 +20,6 @@ place-of-requires c κs = c .before .before .pre .0 .1 .0
 holds-requires : tie.Need-holds-requires
 holds-requires c κs = placed-in _ _ _ _ (c .before .before .before .pre .1) (rw (c .before .to-validate .ensures) (validate-held _ (c .before .before .before .pre .0 .1 .1))) ∙ ap At (sym (c .place-of .ensures))
 
-to-phase-requires : tie.Need-to-phase-requires
-to-phase-requires c κs = search needs
-
 returns : tie.Need-returns
 returns c = record {
   beside = λ cs a. stepped-as (validate-fails _ (sheetsOf (c .before .before .before .before .before .before .args .records .now) cs) (rw (c .before .before .before .before .to-validate .ensures) at (sym (c .before .before .holds .ensures) ∙ not-true _ (c .before .if1 .taken))))
@@ -45,7 +42,7 @@ validate-spec =
     to-validate-requires
     place-of-requires
     holds-requires
-    to-phase-requires
+    (λ c κs. search needs)
     returns
     next-entry-requires
     returns-2)

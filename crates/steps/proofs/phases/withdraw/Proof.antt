@@ -8,29 +8,11 @@ use Rattle.model.specs.ByteCalls.{sheetsOf}
 use Rattle.steps.proofs.phases.withdraw.Statement.{statement}
 use Rattle.steps.proofs.phases.withdraw.Tie as tie
 
-decision-at-requires : tie.Need-decision-at-requires
-decision-at-requires c κs = search needs
-
-enum-told : tie.Need-enum-told
-enum-told c = search needs
-
-set-decision-requires : tie.Need-set-decision-requires
-set-decision-requires c κs = search needs
-
 withdrawn-requires : tie.Need-withdrawn-requires
 withdrawn-requires c κs = c .before .before .before .before .before .before .before .before .before .pre .few
 
-enum-told-2 : tie.Need-enum-told-2
-enum-told-2 c = search needs
-
-enum-told-3 : tie.Need-enum-told-3
-enum-told-3 c = search needs
-
 withdrawn-requires-2 : tie.Need-withdrawn-requires-2
 withdrawn-requires-2 c κs = c .before .before .before .before .before .pre .few
-
-same-length : tie.Need-same-length
-same-length c = search needs
 
 returns : tie.Need-returns
 returns c = record {
@@ -38,17 +20,11 @@ returns c = record {
       (wrote-decision rs _ _ _ _ _ _ a (c .before .before .before .before .before .before .before .before .before .before .pre) (c .withdrawn .ensures) (c .before .before .before .set-decision .ensures));
 }
 
-same-length-2 : tie.Need-same-length-2
-same-length-2 c = search needs
-
 returns-2 : tie.Need-returns-2
 returns-2 c = record {
   beside = λ rs a. stepped-as (withdraw-stays _ (sheetsOf rs (c .before .before .before .before .before .args .coordinator .now)) (sym (c .before .before .decision-at .ensures) ∙ c .enum-told2 .given .1))
       (wrote-nothing rs _ a (c .before .before .before .before .before .pre .accepted) _ _ refl);
 }
-
-same-length-3 : tie.Need-same-length-3
-same-length-3 c = search needs
 
 returns-3 : tie.Need-returns-3
 returns-3 c = record {
@@ -60,16 +36,16 @@ pub withdraw-spec : {M : Type 1} → statement M
 withdraw-spec =
     tie.close
     (tie.spec
-    decision-at-requires
-    enum-told
-    set-decision-requires
+    (λ c κs. search needs)
+    (λ c. search needs)
+    (λ c κs. search needs)
     withdrawn-requires
-    enum-told-2
-    enum-told-3
+    (λ c. search needs)
+    (λ c. search needs)
     withdrawn-requires-2
-    same-length
+    (λ c. search needs)
     returns
-    same-length-2
+    (λ c. search needs)
     returns-2
-    same-length-3
+    (λ c. search needs)
     returns-3)

@@ -2,7 +2,7 @@
 use Prim.Native.Nat.{ℕ, _+_, _*_}
 use mathlib.Core.Path.{sym, ap, subst, _∙_}
 use native.Mathlib.Omega.{arith}
-use lib.ListN.{length, set}
+use lib.ListN.{length}
 use lib.Dec.{eqb}
 use borrow.Author.Tests.{not-true, not-false}
 use borrow.Author.Needs.{needs}
@@ -15,43 +15,29 @@ use Rattle.model.specs.Layouts.{recordBytes}
 returns : tie.Need-returns
 returns c = sym (short-unfit (c .before .before .args .input .now) (omega (arith, c .if1 .taken)))
 
-well-set-requires : tie.Need-well-set-requires
-well-set-requires c κs = search needs
-
 returns-2 : tie.Need-returns-2
 returns-2 c = sym (unset-unfit (c .before .before .before .before .args .input .now) (sym (c .before .well-set .ensures) ∙ not-true _ (c .if2 .taken)))
-
-numbers-requires : tie.Need-numbers-requires
-numbers-requires c κs = search needs
 
 records-from-requires : tie.Need-records-from-requires
 records-from-requires c κs = subst Small (sym (c .numbers .ensures)) (first-small (c .before .before .before .before .before .args .input .now))
 
-cast-result : tie.Need-cast-result
-cast-result c = search needs
-
-mul-result : tie.Need-mul-result
-mul-result c = search needs
-
-add-result : tie.Need-add-result
-add-result c = search needs
-
 returns-3 : tie.Need-returns-3
 returns-3 c =
-    ap (λ (n : ℕ). eqb (length (c .before .before .before .before .before .before .before .args .input .now)) (n + c .before .before .numbers .result .lines * recordBytes)) (c .before .records-from .ensures)
-    ∙ (ap (λ (f : FirstLine). eqb (length (c .before .before .before .before .before .before .before .args .input .now)) (placeOfRecords f + f .lines * recordBytes)) (c .before .before .numbers .ensures)
-    ∙ sym (set-fits (c .before .before .before .before .before .before .before .args .input .now) (sym (c .before .before .before .before .well-set .ensures) ∙ not-false _ (c .before .before .before .if2 .left))))
+    let a = c .before .before .before .before .before .before .before .args in
+    ap (λ (n : ℕ). eqb (length (a .input .now)) (n + c .before .before .numbers .result .lines * recordBytes)) (c .before .records-from .ensures)
+    ∙ (ap (λ (f : FirstLine). eqb (length (a .input .now)) (placeOfRecords f + f .lines * recordBytes)) (c .before .before .numbers .ensures)
+    ∙ sym (set-fits (a .input .now) (sym (c .before .before .before .before .well-set .ensures) ∙ not-false _ (c .before .before .before .if2 .left))))
 
 pub fits-spec : {M : Type 1} → statement M
 fits-spec =
     tie.close
     (tie.spec
     returns
-    well-set-requires
+    (λ c κs. search needs)
     returns-2
-    numbers-requires
+    (λ c κs. search needs)
     records-from-requires
-    cast-result
-    mul-result
-    add-result
+    (λ c. search needs)
+    (λ c. search needs)
+    (λ c. search needs)
     returns-3)

@@ -4,15 +4,6 @@ use Rattle.decimal.specs.Field.{isNumber}
 use Rattle.sweep.proofs.first_line.is_number.Statement.{statement}
 use Rattle.sweep.proofs.first_line.is_number.Tie as tie
 
-enum-told : tie.Need-enum-told
-enum-told c = search needs
-
-enum-told-2 : tie.Need-enum-told-2
-enum-told-2 c = search needs
-
-enum-told-3 : tie.Need-enum-told-3
-enum-told-3 c = search needs
-
 returns : tie.Need-returns
 unfolding isNumber
 returns c = search needs
@@ -26,4 +17,4 @@ unfolding isNumber
 returns-3 c = search needs
 
 pub is-number-spec : {M : Type 1} → statement M
-is-number-spec = tie.close (tie.spec enum-told enum-told-2 enum-told-3 returns returns-2 returns-3)
+is-number-spec = tie.close (tie.spec (λ c. search needs) (λ c. search needs) (λ c. search needs) returns returns-2 returns-3)

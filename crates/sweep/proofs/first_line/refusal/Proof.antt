@@ -11,9 +11,6 @@ use Rattle.sweep.specs.FirstLine.{Small, fit, placeOfRecords, place-with
 use Rattle.sweep.proofs.first_line.refusal.Statement.{statement}
 use Rattle.sweep.proofs.first_line.refusal.Tie as tie
 
-fits-requires : tie.Need-fits-requires
-fits-requires c κs = search needs
-
 returns : tie.Need-returns
 returns c = sym (unfit-refused (c .before .before .before .args .input .now) (sym (c .before .fits2 .ensures) ∙ not-true _ (c .if1 .taken)))
 
@@ -24,45 +21,41 @@ records-from-requires : tie.Need-records-from-requires
 records-from-requires c κs = subst Small (sym (c .numbers .ensures)) (first-small (c .before .before .before .before .args .input .now))
 
 sub-check : tie.Need-sub-check
-sub-check c = let w = place-within (c .before .before .before .before .before .args .input .now) (c .records-from .result) (c .records-from .ensures ∙ ap placeOfRecords (c .before .numbers .ensures)) (fit (c .before .before .before .before .before .args .input .now) (sym (c .before .before .before .fits2 .ensures) ∙ not-false _ (c .before .before .if1 .left))) in w .1
+sub-check c =
+    let a = c .before .before .before .before .before .args in
+    let w = place-within (a .input .now) (c .records-from .result) (c .records-from .ensures ∙ ap placeOfRecords (c .before .numbers .ensures)) (fit (a .input .now) (sym (c .before .before .before .fits2 .ensures) ∙ not-false _ (c .before .before .if1 .left))) in w .1
 
 part-check-start : tie.Need-part-check-start
-part-check-start c = let w = place-within (c .before .before .before .before .before .args .input .now) (c .records-from .result) (c .records-from .ensures ∙ ap placeOfRecords (c .before .numbers .ensures)) (fit (c .before .before .before .before .before .args .input .now) (sym (c .before .before .before .fits2 .ensures) ∙ not-false _ (c .before .before .if1 .left))) in omega arith
-
-part-check-end : tie.Need-part-check-end
-part-check-end c = search needs
-
-sub-check-2 : tie.Need-sub-check-2
-sub-check-2 c = search needs
-
-part-check-start-2 : tie.Need-part-check-start-2
-part-check-start-2 c = search needs
+part-check-start c =
+    let a = c .before .before .before .before .before .args in
+    let w = place-within (a .input .now) (c .records-from .result) (c .records-from .ensures ∙ ap placeOfRecords (c .before .numbers .ensures)) (fit (a .input .now) (sym (c .before .before .before .fits2 .ensures) ∙ not-false _ (c .before .before .if1 .left))) in omega arith
 
 part-check-end-2 : tie.Need-part-check-end-2
-part-check-end-2 c = let w = place-within (c .before .before .before .before .before .before .args .input .now) (c .before .records-from .result) (c .before .records-from .ensures ∙ ap placeOfRecords (c .before .before .numbers .ensures)) (fit (c .before .before .before .before .before .before .args .input .now) (sym (c .before .before .before .before .fits2 .ensures) ∙ not-false _ (c .before .before .before .if1 .left))) in omega arith
-
-check-requires : tie.Need-check-requires
-check-requires c κs = search needs
+part-check-end-2 c =
+    let a = c .before .before .before .before .before .before .args in
+    let w = place-within (a .input .now) (c .before .records-from .result) (c .before .records-from .ensures ∙ ap placeOfRecords (c .before .before .numbers .ensures)) (fit (a .input .now) (sym (c .before .before .before .before .fits2 .ensures) ∙ not-false _ (c .before .before .before .if1 .left))) in omega arith
 
 returns-2 : tie.Need-returns-2
-returns-2 c = let e = c .before .before .before .records-from .ensures ∙ ap placeOfRecords (c .before .before .before .before .numbers .ensures) in
+returns-2 c =
+    let a = c .before .before .before .before .before .before .before .before .args in
+    let e = c .before .before .before .records-from .ensures ∙ ap placeOfRecords (c .before .before .before .before .numbers .ensures) in
     c .check .ensures
-    ∙ (ap₂ (λ (rs cs : List ℕ). refusalOf (checkConditions rs cs)) (records-part (c .before .before .before .before .before .before .before .before .args .input .now) (c .before .before .before .records-from .result) e) (coordinator-part (c .before .before .before .before .before .before .before .before .args .input .now) (c .before .before .before .records-from .result) e)
-    ∙ sym (fit-refused (c .before .before .before .before .before .before .before .before .args .input .now) (sym (c .before .before .before .before .before .before .fits2 .ensures) ∙ not-false _ (c .before .before .before .before .before .if1 .left))))
+    ∙ (ap₂ (λ (rs cs : List ℕ). refusalOf (checkConditions rs cs)) (records-part (a .input .now) (c .before .before .before .records-from .result) e) (coordinator-part (a .input .now) (c .before .before .before .records-from .result) e)
+    ∙ sym (fit-refused (a .input .now) (sym (c .before .before .before .before .before .before .fits2 .ensures) ∙ not-false _ (c .before .before .before .before .before .if1 .left))))
 
 pub refusal-spec : {M : Type 1} → statement M
 refusal-spec =
     tie.close
     (tie.spec
-    fits-requires
+    (λ c κs. search needs)
     returns
     numbers-requires
     records-from-requires
     sub-check
     part-check-start
-    part-check-end
-    sub-check-2
-    part-check-start-2
+    (λ c. search needs)
+    (λ c. search needs)
+    (λ c. search needs)
     part-check-end-2
-    check-requires
+    (λ c κs. search needs)
     returns-2)

@@ -20,12 +20,6 @@ loop-holds c = (refl, (refl, sweep-first _ _ (c .before .before .pre)))
 pass-requires : tie.Need-pass-requires Inv-loop μ-loop
 pass-requires c κs = c .before .before .before .loop .inv .1 .1 .kept .passing
 
-add-turn : tie.Need-add-turn Inv-loop μ-loop
-add-turn c = search needs
-
-loop-less : tie.Need-loop-less Inv-loop μ-loop
-loop-less c = search needs
-
 loop-again : tie.Need-loop-again Inv-loop μ-loop
 loop-again c = (omega arith, (omega arith, sweep-next _ _ (both (c .before .before .before .before .before .before .before .before .loop .records) (c .before .before .before .before .before .before .before .before .loop .coordinator)) _ _ (omega arith) (omega (arith, c .before .before .before .before .before .before .before .loop-test .taken)) (c .before .before .before .before .before .before .before .before .loop .inv .1 .1) (c .before .before .before .before .pass .ensures)))
 
@@ -46,8 +40,8 @@ sweep-spec =
     μ-loop
     loop-holds
     pass-requires
-    add-turn
-    loop-less
+    (λ c. search needs)
+    (λ c. search needs)
     loop-again
     same-length
     same-length-2

@@ -8,23 +8,13 @@ use Rattle.sweep.specs.Passes.{both}
 use Rattle.sweep.proofs.passes.visit_place.Statement.{statement}
 use Rattle.sweep.proofs.passes.visit_place.Tie as tie
 
-record-at-requires : tie.Need-record-at-requires
-record-at-requires c κs = search needs
-
-visit-requires : tie.Need-visit-requires
-visit-requires c κs = search needs
-
-same-length : tie.Need-same-length
-same-length c = search needs
-
-same-length-2 : tie.Need-same-length-2
-same-length-2 c = search needs
-
 returns : tie.Need-returns
 unfolding afterOn
-returns c = (λ i. record { records = c .before .before .before .before .visit .ensures .1 .0 i; coordinator = c .before .before .before .before .visit .ensures .1 .1 i })
-    ∙ ap (λ (r : Record). afterOn (visit (r .key) (c .before .before .before .before .before .before .before .before .before .before .before .args .clock)) (both (c .before .before .before .before .before .before .before .before .before .before .before .args .records .now) (c .before .before .before .before .before .before .before .before .before .before .before .args .coordinator .now))) (c .before .before .before .before .before .before .before .record-at .ensures)
+returns c =
+    let a = c .before .before .before .before .before .before .before .before .before .before .before .args in
+    (λ i. record { records = c .before .before .before .before .visit .ensures .1 .0 i; coordinator = c .before .before .before .before .visit .ensures .1 .1 i })
+    ∙ ap (λ (r : Record). afterOn (visit (r .key) (a .clock)) (both (a .records .now) (a .coordinator .now))) (c .before .before .before .before .before .before .before .record-at .ensures)
 
 pub visit-place-spec : {M : Type 1} → statement M
 visit-place-spec =
-    tie.close (tie.spec record-at-requires visit-requires same-length same-length-2 returns)
+    tie.close (tie.spec (λ c κs. search needs) (λ c κs. search needs) (λ c. search needs) (λ c. search needs) returns)
