@@ -10,7 +10,7 @@ use lib.Seq.{set-getD}
 use borrow.Author.Tests.{ne-eqb}
 use Rattle.lists.specs.Each.{all}
 use Rattle.types.specs.declared.Transaction.{Transaction}
-use Rattle.model.specs.Refusals.{refusalOf}
+use Rattle.model.specs.Refusals.{refusalOf, lastRefusal}
 use Rattle.model.specs.Results.{Result, refused, made}
 use Rattle.model.specs.SheetCalls.{checkConditions}
 use Rattle.model.specs.ByteCalls.{advanceOn, recordsAfter, coordinatorAfter}
@@ -26,15 +26,15 @@ abbrev pub advanced : Transaction → Result Transaction → Advanced
 advanced t r = record { answer = advanceNumber r; transaction = leftWith t r }
 
 -- the refusal of an advance is at most 12, and its answer as one number is that of the result
-pub advance-numbered : (t : Transaction) (clock : ℕ) (rs cs : List ℕ) → (stepped t (advanceOn t clock rs cs) .refusal ≤ 12) × (record { answer = cond (eqb (stepped t (advanceOn t clock rs cs) .refusal) 0) 0 (1000 + stepped t (advanceOn t clock rs cs) .refusal); transaction = stepped t (advanceOn t clock rs cs) .transaction } ≡ advanced t (advanceOn t clock rs cs))
+pub advance-numbered : (t : Transaction) (clock : ℕ) (rs cs : List ℕ) → (stepped t (advanceOn t clock rs cs) .refusal ≤ lastRefusal) × (record { answer = cond (eqb (stepped t (advanceOn t clock rs cs) .refusal) 0) 0 (1000 + stepped t (advanceOn t clock rs cs) .refusal); transaction = stepped t (advanceOn t clock rs cs) .transaction } ≡ advanced t (advanceOn t clock rs cs))
 advance-numbered t clock rs cs = go (advanceOn t clock rs cs) (advance-sound t clock rs cs)
   where
-    go : (r : Result Transaction) → Sound r → (stepped t r .refusal ≤ 12) × (record { answer = cond (eqb (stepped t r .refusal) 0) 0 (1000 + stepped t r .refusal); transaction = stepped t r .transaction } ≡ advanced t r)
+    go : (r : Result Transaction) → Sound r → (stepped t r .refusal ≤ lastRefusal) × (record { answer = cond (eqb (stepped t r .refusal) 0) 0 (1000 + stepped t r .refusal); transaction = stepped t r .transaction } ≡ advanced t r)
     go r (sound-refused n l m) = let e : eqb n 0 ≡ false = ne-eqb n 0 (λ q. omega (arith, l, q)) in (m, rw e refl)
     go r (sound-made u w) = (omega arith, refl)
 
 -- the same of the check that an unlisted place comes after
-pub check-numbered : (rs cs : List ℕ) → (refusalOf (checkConditions rs cs) ≤ 12) × (cond (eqb (refusalOf (checkConditions rs cs)) 0) 1003 (1000 + refusalOf (checkConditions rs cs)) ≡ unlistedNumber rs cs)
+pub check-numbered : (rs cs : List ℕ) → (refusalOf (checkConditions rs cs) ≤ lastRefusal) × (cond (eqb (refusalOf (checkConditions rs cs)) 0) 1003 (1000 + refusalOf (checkConditions rs cs)) ≡ unlistedNumber rs cs)
 unfolding checkConditions all
 check-numbered rs cs = (small (checkConditions rs cs) refl, go (eqb (refusalOf (checkConditions rs cs)) 0))
   where

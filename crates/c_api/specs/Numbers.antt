@@ -12,7 +12,7 @@ use Rattle.types.specs.declared.Key.{Key}
 use Rattle.types.specs.declared.Recovery.{Recovery}
 use Rattle.types.specs.declared.Transaction.{Transaction}
 use Rattle.model.specs.Results.{begin, advance, visit, Result, refused, made, unless}
-use Rattle.model.specs.Refusals.{Condition, refusalOf}
+use Rattle.model.specs.Refusals.{Condition, refusalOf, lastRefusal}
 use Rattle.model.specs.SheetCalls.{checkConditions}
 use Rattle.model.specs.Writes.{Write}
 use Rattle.model.specs.Conditions.{conditions}
@@ -42,10 +42,10 @@ unlistedNumber rs cs = advanceNumber (unless (checkConditions rs cs) (refused 3)
 
 -- A result whose refusal is a number of the table.
 pub data Sound {A : Type 0} : Result A → Type 0 where
-  sound-refused : (n : ℕ) → 1 ≤ n → n ≤ 12 → Sound (refused n)
+  sound-refused : (n : ℕ) → 1 ≤ n → n ≤ lastRefusal → Sound (refused n)
   sound-made : (a : A) (w : Write) → Sound (made a w)
 
-sound-unless : {A : Type 0} (cs : List Condition) (r : Result A) → all (λ (c : Condition). leb (c .number) 12) cs ≡ true → Sound r → Sound (unless cs r)
+sound-unless : {A : Type 0} (cs : List Condition) (r : Result A) → all (λ (c : Condition). leb (c .number) lastRefusal) cs ≡ true → Sound r → Sound (unless cs r)
 sound-unless cs r h s =
     choose-by Sound (eqb (refusalOf cs) 0) (λ e. s)
     (λ e. sound-refused (refusalOf cs) (positive (refusalOf cs) (eqb-false (refusalOf cs) 0 e)) (small cs h))
@@ -66,16 +66,16 @@ unfolding advanceOn advanceResult checkConditions conditions all
 advance-sound t clock rs cs = sound-unless (checkConditions rs cs) _ refl (sound-unless (conditions (advance t clock) (sheetsOf rs cs)) _ refl (sound-made _ _))
 
 -- the refusal of an answer is at most 12, and its number is that of the result
-pub begin-numbered : (b : Bool) (rs cs : List ℕ) → (begun (beginOn b rs cs) .refusal ≤ 12) × (cond (eqb (begun (beginOn b rs cs) .refusal) 0) (begun (beginOn b rs cs) .transaction .number) (1000 + begun (beginOn b rs cs) .refusal) ≡ beginNumber (beginOn b rs cs))
+pub begin-numbered : (b : Bool) (rs cs : List ℕ) → (begun (beginOn b rs cs) .refusal ≤ lastRefusal) × (cond (eqb (begun (beginOn b rs cs) .refusal) 0) (begun (beginOn b rs cs) .transaction .number) (1000 + begun (beginOn b rs cs) .refusal) ≡ beginNumber (beginOn b rs cs))
 begin-numbered b rs cs = go (beginOn b rs cs) (begin-sound b rs cs)
   where
-    go : (r : Result Transaction) → Sound r → (begun r .refusal ≤ 12) × (cond (eqb (begun r .refusal) 0) (begun r .transaction .number) (1000 + begun r .refusal) ≡ beginNumber r)
+    go : (r : Result Transaction) → Sound r → (begun r .refusal ≤ lastRefusal) × (cond (eqb (begun r .refusal) 0) (begun r .transaction .number) (1000 + begun r .refusal) ≡ beginNumber r)
     go r (sound-refused n l m) = let e : eqb n 0 ≡ false = ne-eqb n 0 (λ q. omega (arith, l, q)) in (m, rw e refl)
     go r (sound-made t w) = (omega arith, refl)
 
-pub visit-numbered : (k : Key) (clock : ℕ) (rs cs : List ℕ) → (visited (visitOn k clock rs cs) .refusal ≤ 12) × (cond (eqb (visited (visitOn k clock rs cs) .refusal) 0) (visited (visitOn k clock rs cs) .reply) (1000 + visited (visitOn k clock rs cs) .refusal) ≡ visitNumber (visitOn k clock rs cs))
+pub visit-numbered : (k : Key) (clock : ℕ) (rs cs : List ℕ) → (visited (visitOn k clock rs cs) .refusal ≤ lastRefusal) × (cond (eqb (visited (visitOn k clock rs cs) .refusal) 0) (visited (visitOn k clock rs cs) .reply) (1000 + visited (visitOn k clock rs cs) .refusal) ≡ visitNumber (visitOn k clock rs cs))
 visit-numbered k clock rs cs = go (visitOn k clock rs cs) (visit-sound k clock rs cs)
   where
-    go : (r : Result Recovery) → Sound r → (visited r .refusal ≤ 12) × (cond (eqb (visited r .refusal) 0) (visited r .reply) (1000 + visited r .refusal) ≡ visitNumber r)
+    go : (r : Result Recovery) → Sound r → (visited r .refusal ≤ lastRefusal) × (cond (eqb (visited r .refusal) 0) (visited r .reply) (1000 + visited r .refusal) ≡ visitNumber r)
     go r (sound-refused n l m) = let e : eqb n 0 ≡ false = ne-eqb n 0 (λ q. omega (arith, l, q)) in (m, rw e refl)
     go r (sound-made v w) = (omega arith, refl)

@@ -3,7 +3,7 @@ ghost use mathlib.Core.Path.{_≡_};
 ghost use mathlib.Core.Bool.{false, cond};
 ghost use Prim.Native.Nat.{_+_, _≤_};
 ghost use lib.Dec.{eqb};
-ghost use Rattle.model.specs.Refusals.{refusalOf};
+ghost use Rattle.model.specs.Refusals.{refusalOf, lastRefusal};
 ghost use Rattle.model.specs.SheetCalls.{checkConditions};
 ghost use Rattle.model.specs.ByteCalls.{beginOn, visitOn, advanceOn, recordsAfter, coordinatorAfter};
 ghost use Rattle.model.specs.CallByPlace.{listed, advanceAtOn, listAfter};
@@ -25,7 +25,7 @@ pub extern "C" fn rapyheo_check(records: &[u8], coordinator: &[u8]) -> u32
 
 // An answer as one number: what an accepted call gives, or 1000 + the refusal.
 fn number(refusal: u32, accepted: u32) -> u32
-    requires { ⌜ refusal ≤ 12 ⌝ }
+    requires { ⌜ refusal ≤ lastRefusal ⌝ }
     ensures { λ r. ⌜ r ≡ cond (eqb refusal 0) accepted (1000 + refusal) ⌝ }
 {
     if refusal == 0 {

@@ -2,16 +2,17 @@
 -- place decides its first condition, and the others are those of the advance.
 use Prim.Native.Nat.{ℕ, _<_, _≤_}
 use mathlib.Core.Path.{_≡_, refl, sym, ap, _∙_, subst}
-use mathlib.Core.Bool.{Bool, true, false, _&&_}
-use mathlib.Core.List.{List, [], _∷_}
+use mathlib.Core.Bool.{Bool, true, false}
+use mathlib.Core.List.{List}
 use native.Mathlib.Omega.{arith}
 use lib.Dec.{eqb, leb, ltb}
 use lib.ListN.{length, length-set}
 use lib.Seq.{getD-set-same, getD-set-other}
 use borrow.Author.Tests.{ltb-true}
+use Rattle.lists.specs.Each.{all}
 use Rattle.lists.specs.Tests.{and-snd, choose-by}
 use Rattle.types.specs.declared.Transaction.{Transaction}
-use Rattle.model.specs.Refusals.{refusalOf, lowest}
+use Rattle.model.specs.Refusals.{refusalOf, placeIn, firstAsked}
 use Rattle.model.specs.SheetCalls.{checkConditions}
 use Rattle.model.specs.Writes.{Sheets}
 use Rattle.model.specs.Results.{Result, refused, made, unless}
@@ -21,7 +22,7 @@ use Rattle.model.specs.ByteCalls.{sheetsOf, advanceOn, recordsAfter, coordinato
 use Rattle.model.specs.CallByPlace.{listed, named, conditionsAt, allConditionsAt, advanceAtResult, advanceAtOn, listAfter}
 use Rattle.model.specs.Histories.{refusalIn, returned, answerOf}
 use Rattle.model.specs.ByteHistories.{Bytes, bytesAfter}
-use Rattle.call_laws.specs.Exactness.{risingFrom, first-is-lowest, refusal-by-rows, unmoved}
+use Rattle.call_laws.specs.Exactness.{risingFrom, row-first, refusal-by-rows, unmoved}
 
 -- the transaction that a result leaves with its client: as it came where the call is refused
 abbrev pub leftWith : Transaction → Result Transaction → Transaction
@@ -75,10 +76,10 @@ module _ (list : List Transaction) (place now : ℕ) (rs cs : List ℕ) where
   unfolding advanceAtOn advanceAtResult allConditionsAt checkConditions
   place-refusal-given = refusal-by-rows returned _ _ (conditionsAt list place now _) _ refl
 
-  -- "The lowest number that applies is given"
-  pub place-refusal-is-lowest : lowest (refusalOf (allConditionsAt list place now rs cs)) (allConditionsAt list place now rs cs) ≡ true
-  unfolding allConditionsAt checkConditions conditionsAt conditions risingFrom
-  place-refusal-is-lowest = first-is-lowest 1 (allConditionsAt list place now rs cs) (omega arith) refl
+  -- "The lowest number that applies is given": the first that is asked
+  pub place-refusal-is-first : firstAsked (refusalOf (allConditionsAt list place now rs cs)) (allConditionsAt list place now rs cs) ≡ true
+  unfolding allConditionsAt checkConditions conditionsAt conditions risingFrom all placeIn
+  place-refusal-is-first = row-first (allConditionsAt list place now rs cs) refl
 
 module _ (list : List Transaction) (place : ℕ) where
   pub list-keeps-length : (r : Result Transaction) → length (listAfter list place r) ≡ length list

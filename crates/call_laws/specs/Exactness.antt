@@ -1,5 +1,5 @@
--- T1: for each call the refusal given is the lowest of its row whose condition holds, and after it both sheets are as they were.
--- The first condition that holds is the lowest, since the numbers of each call's list rise.
+-- T1: for each call the refusal given is the first of its row whose condition holds, in the order of asking, and after it both sheets are as they were.
+-- The first condition that holds is the first of the order, since each call's list keeps it.
 use Prim.Native.Nat.{ℕ, _≤_}
 use mathlib.Core.Path.{_≡_, refl, sym, ap, _∙_}
 use mathlib.Core.Bool.{Bool, true, false, _&&_, _||_, not, cond}
@@ -8,12 +8,13 @@ use native.Mathlib.Omega.{arith}
 use lib.Dec.{eqb, leb}
 use borrow.Author.Tests.{eqb-true, eq-eqb, ne-eqb, le-leb, leb-true}
 use Rattle.lists.specs.Each.{all, any}
+use Rattle.lists.specs.All.{map-map, all-map, all-weaken}
 use Rattle.lists.specs.Tests.{and-fst, and-snd, and-both, choose-by}
 use Rattle.types.specs.declared.Record.{Record}
 use Rattle.types.specs.declared.Transaction.{Transaction}
 use Rattle.types.specs.declared.Recovery.{Recovery}
 use Rattle.types.specs.declared.Recovery.the-variants.{Stays, Forward, Back, Again, Busy}
-use Rattle.model.specs.Refusals.{Condition, refuse, refusalOf, noneBelow, lowest}
+use Rattle.model.specs.Refusals.{Condition, refuse, refusalOf, lastRefusal, askingOrder, placeIn, asked, noneBefore, firstAsked}
 use Rattle.model.specs.SheetCalls.{checkConditions}
 use Rattle.model.specs.Results.{Call, begin, read, put, advance, abort, visit, Result, refused, made, unless}
 use Rattle.model.specs.Conditions.{isNew, conditions, refusals}
@@ -37,42 +38,61 @@ unfoldable pub risingFrom : ℕ → List ℕ → Bool
 risingFrom n [] = true
 risingFrom n (m ∷ ms) = leb n m && risingFrom m ms
 
-abbrev numbers : List Condition → List ℕ
-numbers cs = map (λ (c : Condition). c .number) cs
+-- where each condition's number stands in the order of asking
+abbrev turns : List Condition → List ℕ
+turns cs = map (λ (c : Condition). asked (c .number)) cs
 
-none-below : (n m : ℕ) (cs : List Condition) → n ≤ m → risingFrom m (numbers cs) ≡ true → noneBelow n cs ≡ true
+none-before : (n m : ℕ) (cs : List Condition) → asked n ≤ m → risingFrom m (turns cs) ≡ true → noneBefore n cs ≡ true
 unfolding risingFrom all
-none-below n m [] l h = refl
-none-below n m (c ∷ cs) l h =
-    let a : m ≤ c .number = leb-true m (c .number) (and-fst (leb m (c .number)) (risingFrom (c .number) (numbers cs)) h) in
-    let b : leb n (c .number) ≡ true = le-leb n (c .number) (omega arith) in
+none-before n m [] l h = refl
+none-before n m (c ∷ cs) l h =
+    let a : m ≤ asked (c .number) = leb-true m (asked (c .number)) (and-fst (leb m (asked (c .number))) (risingFrom (asked (c .number)) (turns cs)) h) in
+    let b : leb (asked n) (asked (c .number)) ≡ true = le-leb (asked n) (asked (c .number)) (omega arith) in
     and-both (go (c .holds) b)
-    (none-below n (c .number) cs (omega arith) (and-snd (leb m (c .number)) (risingFrom (c .number) (numbers cs)) h))
+    (none-before n (asked (c .number)) cs (omega arith) (and-snd (leb m (asked (c .number))) (risingFrom (asked (c .number)) (turns cs)) h))
   where
-    go : (x : Bool) → leb n (c .number) ≡ true → (not x || leb n (c .number)) ≡ true
+    go : (x : Bool) → leb (asked n) (asked (c .number)) ≡ true → (not x || leb (asked n) (asked (c .number))) ≡ true
     go true b = b
     go false b = refl
 
--- one more condition in front: if it holds it is the lowest, else what was the lowest still is
-lowest-cons : (m : ℕ) (x : Bool) (cs : List Condition) → 1 ≤ m → risingFrom m (numbers cs) ≡ true → lowest (refusalOf cs) cs ≡ true → lowest (cond x m (refusalOf cs)) (refuse m x ∷ cs) ≡ true
+-- one more condition in front: if it holds it is the first, else what was the first still is
+first-cons : (m : ℕ) (x : Bool) (cs : List Condition) → 1 ≤ m → risingFrom (asked m) (turns cs) ≡ true → firstAsked (refusalOf cs) cs ≡ true → firstAsked (cond x m (refusalOf cs)) (refuse m x ∷ cs) ≡ true
 unfolding all any
-lowest-cons m true cs l h r =
+first-cons m true cs l h r =
     let z : eqb m 0 ≡ false = ne-eqb m 0 (λ e. omega (arith, e)) in
     let y : eqb m m ≡ true = eq-eqb m m refl in
-    let b : leb m m ≡ true = le-leb m m (omega arith) in
-    let f : noneBelow m cs ≡ true = none-below m m cs (omega arith) h in
+    let b : leb (asked m) (asked m) ≡ true = le-leb (asked m) (asked m) (omega arith) in
+    let f : noneBefore m cs ≡ true = none-before m (asked m) cs (omega arith) h in
     rw (z, y, b, f) refl
-lowest-cons m false cs l h r = r
+first-cons m false cs l h r = r
 
-pub first-is-lowest : (n : ℕ) (cs : List Condition) → 1 ≤ n → risingFrom n (numbers cs) ≡ true → lowest (refusalOf cs) cs ≡ true
+pub first-is-first : (n : ℕ) (cs : List Condition) → all (λ (c : Condition). leb 1 (c .number)) cs ≡ true → risingFrom n (turns cs) ≡ true → firstAsked (refusalOf cs) cs ≡ true
 unfolding risingFrom all any refusalOf
-first-is-lowest n [] l h = refl
-first-is-lowest n (c ∷ cs) l h =
-    let a : n ≤ c .number = leb-true n (c .number) (and-fst (leb n (c .number)) (risingFrom (c .number) (numbers cs)) h) in
-    let g : risingFrom (c .number) (numbers cs) ≡ true = and-snd (leb n (c .number)) (risingFrom (c .number) (numbers cs)) h in
-    lowest-cons (c .number) (c .holds) cs (omega arith) g (first-is-lowest (c .number) cs (omega arith) g)
+first-is-first n [] l h = refl
+first-is-first n (c ∷ cs) l h =
+    let g : risingFrom (asked (c .number)) (turns cs) ≡ true = and-snd (leb n (asked (c .number))) (risingFrom (asked (c .number)) (turns cs)) h in
+    let m : 1 ≤ c .number = leb-true 1 (c .number) (and-fst (leb 1 (c .number)) (all (λ (x : Condition). leb 1 (x .number)) cs) l) in
+    let k : all (λ (x : Condition). leb 1 (x .number)) cs ≡ true = and-snd (leb 1 (c .number)) (all (λ (x : Condition). leb 1 (x .number)) cs) l in
+    first-cons (c .number) (c .holds) cs m g (first-is-first (asked (c .number)) cs k g)
+
+-- the order of asking rises, so that the first of it is the lowest
+pub order-rises : risingFrom 1 askingOrder ≡ true
+unfolding risingFrom
+order-rises = refl
+
+-- no number is above the last
+pub small : (cs : List Condition) → all (λ (c : Condition). leb (c .number) lastRefusal) cs ≡ true → refusalOf cs ≤ lastRefusal
+unfolding all refusalOf
+small [] h = omega arith
+small (c ∷ cs) h =
+    choose-by (λ (n : ℕ). n ≤ lastRefusal) (c .holds)
+    (λ e. leb-true (c .number) lastRefusal (and-fst (leb (c .number) lastRefusal) _ h))
+    (λ e. small cs (and-snd (leb (c .number) lastRefusal) (all (λ (x : Condition). leb (x .number) lastRefusal) cs) h))
 
 -- The lists of the calls.
+
+abbrev numbers : List Condition → List ℕ
+numbers cs = map (λ (c : Condition). c .number) cs
 
 -- "conditions are those of the table's row"
 pub numbers-are : (call : Call) (rs cs : List ℕ) → numbers (allConditions call rs cs) ≡ refusals call
@@ -84,19 +104,50 @@ numbers-are (advance t now) rs cs = refl
 numbers-are (abort t) rs cs = refl
 numbers-are (visit k now) rs cs = refl
 
-rising-row : (call : Call) → risingFrom 1 (refusals call) ≡ true
-unfolding refusals risingFrom
-rising-row (begin b) = refl
-rising-row (read t k now) = refl
-rising-row (put t k c) = refl
-rising-row (advance t now) = refl
-rising-row (abort t) = refl
-rising-row (visit k now) = refl
+-- a row: its numbers are of the table, in the order of asking
+abbrev inOrder : List ℕ → Bool
+inOrder ns = risingFrom 0 (map asked ns) && all (λ (n : ℕ). leb 1 n && leb n lastRefusal) ns
 
--- "The lowest number that applies is given": of the conditions of the call's row.
-pub refusal-is-lowest : (call : Call) (rs cs : List ℕ) → lowest (refusalOf (allConditions call rs cs)) (allConditions call rs cs) ≡ true
-refusal-is-lowest call rs cs =
-    first-is-lowest 1 (allConditions call rs cs) (omega arith) (ap (risingFrom 1) (numbers-are call rs cs) ∙ rising-row call)
+row-in-order : (call : Call) → inOrder (refusals call) ≡ true
+unfolding refusals risingFrom all placeIn
+row-in-order (begin b) = refl
+row-in-order (read t k now) = refl
+row-in-order (put t k c) = refl
+row-in-order (advance t now) = refl
+row-in-order (abort t) = refl
+row-in-order (visit k now) = refl
+
+-- what a row says of the conditions that have its numbers
+module _ (cs : List Condition) (h : inOrder (numbers cs) ≡ true) where
+  row-turns : risingFrom 0 (turns cs) ≡ true
+  row-turns =
+      ap (risingFrom 0) (sym (map-map asked (λ (c : Condition). c .number) cs))
+      ∙ and-fst (risingFrom 0 (map asked (numbers cs))) (all (λ (n : ℕ). leb 1 n && leb n lastRefusal) (numbers cs)) h
+
+  row-within : all (λ (c : Condition). leb 1 (c .number) && leb (c .number) lastRefusal) cs ≡ true
+  row-within =
+      sym (all-map (λ (n : ℕ). leb 1 n && leb n lastRefusal) (λ (c : Condition). c .number) cs)
+      ∙ and-snd (risingFrom 0 (map asked (numbers cs))) (all (λ (n : ℕ). leb 1 n && leb n lastRefusal) (numbers cs)) h
+
+  pub row-first : firstAsked (refusalOf cs) cs ≡ true
+  row-first =
+      first-is-first 0 cs
+      (all-weaken (λ (c : Condition). leb 1 (c .number) && leb (c .number) lastRefusal) (λ (c : Condition). leb 1 (c .number))
+      (λ c e. and-fst (leb 1 (c .number)) (leb (c .number) lastRefusal) e) cs row-within)
+      row-turns
+
+  pub row-small : refusalOf cs ≤ lastRefusal
+  row-small =
+      small cs
+      (all-weaken (λ (c : Condition). leb 1 (c .number) && leb (c .number) lastRefusal) (λ (c : Condition). leb (c .number) lastRefusal)
+      (λ c e. and-snd (leb 1 (c .number)) (leb (c .number) lastRefusal) e) cs row-within)
+
+call-in-order : (call : Call) (rs cs : List ℕ) → inOrder (numbers (allConditions call rs cs)) ≡ true
+call-in-order call rs cs = ap inOrder (numbers-are call rs cs) ∙ row-in-order call
+
+-- "The lowest number that applies is given": of the conditions of the call's row the first that is asked.
+pub refusal-is-first : (call : Call) (rs cs : List ℕ) → firstAsked (refusalOf (allConditions call rs cs)) (allConditions call rs cs) ≡ true
+refusal-is-first call rs cs = row-first (allConditions call rs cs) (call-in-order call rs cs)
 
 -- What a call answers.
 
@@ -153,26 +204,9 @@ refused-unchanged (advance t now) b l = unmoved returned (λ a. refl) b _ l
 refused-unchanged (abort t) b l = unmoved returned (λ a. refl) b _ l
 refused-unchanged (visit k now) b l = unmoved visited (λ a. refl) b _ l
 
--- no number is above 12
-pub small : (cs : List Condition) → all (λ (c : Condition). leb (c .number) 12) cs ≡ true → refusalOf cs ≤ 12
-unfolding all refusalOf
-small [] h = omega arith
-small (c ∷ cs) h =
-    choose-by (λ (n : ℕ). n ≤ 12) (c .holds)
-    (λ e. leb-true (c .number) 12 (and-fst (leb (c .number) 12) _ h))
-    (λ e. small cs (and-snd (leb (c .number) 12) (all (λ (x : Condition). leb (x .number) 12) cs) h))
-
-small-row : (call : Call) (rs cs : List ℕ) → all (λ (c : Condition). leb (c .number) 12) (allConditions call rs cs) ≡ true
-unfolding all allConditions checkConditions conditions
-small-row (begin b) rs cs = refl
-small-row (read t k now) rs cs = refl
-small-row (put t k c) rs cs = refl
-small-row (advance t now) rs cs = refl
-small-row (abort t) rs cs = refl
-small-row (visit k now) rs cs = refl
-
-pub refusal-small : (call : Call) (b : Bytes) → refusalIn (answerOn call b) ≤ 12
+pub refusal-small : (call : Call) (b : Bytes) → refusalIn (answerOn call b) ≤ lastRefusal
 refusal-small call b =
     let e : refusalIn (answerOn call b) ≡ refusalOf (allConditions call (b .records) (b .coordinator)) = refusal-given call b in
-    let l : refusalOf (allConditions call (b .records) (b .coordinator)) ≤ 12 = small (allConditions call (b .records) (b .coordinator)) (small-row call (b .records) (b .coordinator)) in
+    let l : refusalOf (allConditions call (b .records) (b .coordinator)) ≤ lastRefusal =
+    row-small (allConditions call (b .records) (b .coordinator)) (call-in-order call (b .records) (b .coordinator)) in
     omega arith

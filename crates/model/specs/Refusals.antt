@@ -1,5 +1,5 @@
 -- Numbered refusals: a call lists its conditions in the order in which they are asked, and the first that holds is the answer.
-use Prim.Native.Nat.{ℕ}
+use Prim.Native.Nat.{ℕ, suc}
 use mathlib.Core.Bool.{Bool, _&&_, _||_, not, cond}
 use mathlib.Core.List.{List, [], _∷_}
 use lib.Dec.{eqb, leb}
@@ -18,19 +18,33 @@ unfoldable pub refusalOf : List Condition → ℕ
 refusalOf [] = 0
 refusalOf (c ∷ cs) = cond (c .holds) (c .number) (refusalOf cs)
 
--- "The lowest number that applies is given."
+-- the highest number of the table
+abbrev pub lastRefusal : ℕ
+lastRefusal = 12
+
+-- The one order in which all calls ask. "The lowest number that applies is given": the first of this order, which rises.
+abbrev pub askingOrder : List ℕ
+askingOrder = 1 ∷ 2 ∷ 3 ∷ 4 ∷ 5 ∷ 6 ∷ 7 ∷ 8 ∷ 9 ∷ 10 ∷ 11 ∷ 12 ∷ []
+
+-- how many numbers of an order come before this one
+unfoldable pub placeIn : List ℕ → ℕ → ℕ
+placeIn [] n = 0
+placeIn (m ∷ ms) n = cond (eqb m n) 0 (suc (placeIn ms n))
+
+abbrev pub asked : ℕ → ℕ
+asked n = placeIn askingOrder n
 
 -- a condition of this number holds
 abbrev pub applies : ℕ → List Condition → Bool
 applies n cs = any (λ (c : Condition). c .holds && eqb (c .number) n) cs
 
--- every condition that holds has this number or a higher one
-abbrev pub noneBelow : ℕ → List Condition → Bool
-noneBelow n cs = all (λ (c : Condition). not (c .holds) || leb n (c .number)) cs
+-- every condition that holds has this number or one that is asked later
+abbrev pub noneBefore : ℕ → List Condition → Bool
+noneBefore n cs = all (λ (c : Condition). not (c .holds) || leb (asked n) (asked (c .number))) cs
 
 abbrev pub noneHolds : List Condition → Bool
 noneHolds cs = all (λ (c : Condition). not (c .holds)) cs
 
--- n is the lowest number that applies, or 0 where none does
-abbrev pub lowest : ℕ → List Condition → Bool
-lowest n cs = cond (eqb n 0) (noneHolds cs) (applies n cs && noneBelow n cs)
+-- n is the first number of the order that applies, or 0 where none does
+abbrev pub firstAsked : ℕ → List Condition → Bool
+firstAsked n cs = cond (eqb n 0) (noneHolds cs) (applies n cs && noneBefore n cs)

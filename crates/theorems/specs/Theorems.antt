@@ -12,7 +12,7 @@ use Rattle.types.specs.declared.Transaction.{Transaction}
 use Rattle.types.specs.declared.Recovery.the-variants.{Forward}
 use Rattle.model.specs.Records.{records, recordsText, recordsGood, recordsAccepted, lineOf, hasLine}
 use Rattle.model.specs.Coordinator.{Coordinator, coordinatorOf, coordinatorText, coordinatorGood, coordinatorAccepted}
-use Rattle.model.specs.Refusals.{Condition, lowest}
+use Rattle.model.specs.Refusals.{Condition, askingOrder, firstAsked}
 use Rattle.model.specs.Images.{isPrepared, rolledForward}
 use Rattle.model.specs.Visits.{ownerDecision}
 use Rattle.model.specs.WellFormed.{wellFormed}
@@ -41,16 +41,19 @@ use Rattle.theorems.specs.Sample as Sample
 -- DEMAND 1: "a result or the one refusal that our table names for that input, and after a refusal it finds both sheets and its transaction unchanged".
 -- A call by value returns its transaction as it came where it is refused: `engine` Answers.
 
--- the refusal given is the lowest of the call's conditions that hold, 0 where none does
-pub refusal-exact : (c : Call) (b : Bytes) → lowest (refusalIn (answerOn c b)) (allConditions c (b .records) (b .coordinator)) ≡ true
+-- the refusal given is the first of the call's conditions that hold in the order of asking, 0 where none does; the order rises, so that it is the lowest
+pub refusal-exact : (c : Call) (b : Bytes) → firstAsked (refusalIn (answerOn c b)) (allConditions c (b .records) (b .coordinator)) ≡ true
 refusal-exact c b =
-    ap (λ (n : ℕ). lowest n (allConditions c (b .records) (b .coordinator))) (Exactness.refusal-given c b)
-    ∙ Exactness.refusal-is-lowest c (b .records) (b .coordinator)
+    ap (λ (n : ℕ). firstAsked n (allConditions c (b .records) (b .coordinator))) (Exactness.refusal-given c b)
+    ∙ Exactness.refusal-is-first c (b .records) (b .coordinator)
 
-pub refusal-exact-by-place : (list : List Transaction) (place now : ℕ) (rs cs : List ℕ) → lowest (refusalIn (answerOf returned (advanceAtOn list place now rs cs))) (allConditionsAt list place now rs cs) ≡ true
+pub refusal-exact-by-place : (list : List Transaction) (place now : ℕ) (rs cs : List ℕ) → firstAsked (refusalIn (answerOf returned (advanceAtOn list place now rs cs))) (allConditionsAt list place now rs cs) ≡ true
 refusal-exact-by-place list place now rs cs =
-    ap (λ (n : ℕ). lowest n (allConditionsAt list place now rs cs)) (ByPlace.place-refusal-given list place now rs cs)
-    ∙ ByPlace.place-refusal-is-lowest list place now rs cs
+    ap (λ (n : ℕ). firstAsked n (allConditionsAt list place now rs cs)) (ByPlace.place-refusal-given list place now rs cs)
+    ∙ ByPlace.place-refusal-is-first list place now rs cs
+
+pub order-rises : Exactness.risingFrom 1 askingOrder ≡ true
+order-rises = Exactness.order-rises
 
 -- and these are the conditions of the call's row of the table
 pub conditions-are-the-row : (c : Call) (rs cs : List ℕ) → map (λ (x : Condition). x .number) (allConditions c rs cs) ≡ refusals c

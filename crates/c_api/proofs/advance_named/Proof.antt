@@ -1,43 +1,37 @@
 -- The engine's answer is that of the definition, and its number is the definition's.
 use Prim.Native.Nat.{ℕ, _+_, _≤_}
-use mathlib.Core.Path.{_≡_, sym, ap, _∙_, subst}
+use mathlib.Core.Path.{sym, ap, _∙_, subst}
 use mathlib.Core.Bool.{cond}
 use lib.Dec.{eqb}
 use borrow.Author.Needs.{needs}
 use Rattle.types.specs.declared.Transaction.{Transaction}
+use Rattle.model.specs.Refusals.{lastRefusal}
 use Rattle.engine.specs.declared.Stepped.{Stepped}
 use Rattle.c_api.specs.declared.Advanced.{Advanced}
 use Rattle.c_api.specs.ByPlace.{advance-numbered}
 use Rattle.c_api.proofs.advance_named.Statement.{statement}
 use Rattle.c_api.proofs.advance_named.Tie as tie
 
-advance-requires : tie.Need-advance-requires
-advance-requires c κs = search needs
-
 number-requires : tie.Need-number-requires
 number-requires c κs =
-    subst (λ (s : Stepped). s .refusal ≤ 12) (sym (c .before .before .before .before .advance .ensures .0))
-    (advance-numbered (c .before .before .before .before .before .before .before .before .before .args .t) (c .before .before .before .before .before .before .before .before .before .args .clock) (c .before .before .before .before .before .before .before .before .before .args .records .now) (c .before .before .before .before .before .before .before .before .before .args .coordinator .now) .0)
-
-same-length : tie.Need-same-length
-same-length c = search needs
-
-same-length-2 : tie.Need-same-length-2
-same-length-2 c = search needs
+    let a = c .before .before .before .before .before .before .before .before .before .args in
+    subst (λ (s : Stepped). s .refusal ≤ lastRefusal) (sym (c .before .before .before .before .advance .ensures .0))
+    (advance-numbered (a .t) (a .clock) (a .records .now) (a .coordinator .now) .0)
 
 abbrev as-advanced : ℕ → Transaction → Advanced
 as-advanced n t = record { answer = n; transaction = t }
 
 returns : tie.Need-returns
-returns c = (
-  ap (λ (n : ℕ). as-advanced n (c .before .before .before .before .before .before .advance .result .transaction)) (c .before .number .ensures)
-      ∙ (ap (λ (s : Stepped). as-advanced (cond (eqb (s .refusal) 0) 0 (1000 + s .refusal)) (s .transaction)) (c .before .before .before .before .before .before .advance .ensures .0)
-      ∙ advance-numbered (c .before .before .before .before .before .before .before .before .before .before .before .args .t) (c .before .before .before .before .before .before .before .before .before .before .before .args .clock) (c .before .before .before .before .before .before .before .before .before .before .before .args .records .now) (c .before .before .before .before .before .before .before .before .before .before .before .args .coordinator .now) .1),
-  (
-    c .before .before .before .before .before .before .advance .ensures .1 .0,
-    c .before .before .before .before .before .before .advance .ensures .1 .1,
-  ),
-)
+returns c =
+    let a = c .before .before .before .before .before .before .before .before .before .before .before .args in (
+      ap (λ (n : ℕ). as-advanced n (c .before .before .before .before .before .before .advance .result .transaction)) (c .before .number .ensures)
+          ∙ (ap (λ (s : Stepped). as-advanced (cond (eqb (s .refusal) 0) 0 (1000 + s .refusal)) (s .transaction)) (c .before .before .before .before .before .before .advance .ensures .0)
+          ∙ advance-numbered (a .t) (a .clock) (a .records .now) (a .coordinator .now) .1),
+      (
+        c .before .before .before .before .before .before .advance .ensures .1 .0,
+        c .before .before .before .before .before .before .advance .ensures .1 .1,
+      ),
+    )
 
 pub advance-named-spec : {M : Type 1} → statement M
-advance-named-spec = tie.close (tie.spec advance-requires number-requires same-length same-length-2 returns)
+advance-named-spec = tie.close (tie.spec (λ c κs. search needs) number-requires (λ c. search needs) (λ c. search needs) returns)

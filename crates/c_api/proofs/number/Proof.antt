@@ -1,5 +1,5 @@
 -- The test decides the choice.
-use mathlib.Core.Path.{_≡_, refl}
+use mathlib.Core.Path.{_≡_}
 use mathlib.Core.Bool.{true, false}
 use lib.Dec.{eqb}
 use borrow.Author.Tests.{eq-eqb, ne-eqb}
@@ -8,13 +8,14 @@ use Rattle.c_api.proofs.number.Statement.{statement}
 use Rattle.c_api.proofs.number.Tie as tie
 
 returns : tie.Need-returns
-returns c = let e : eqb (c .before .args .refusal) 0 ≡ true = eq-eqb (c .before .args .refusal) 0 (c .if1 .taken) in rw e
-
-add-result : tie.Need-add-result
-add-result c = search needs
+returns c =
+    let a = c .before .args in
+    let e : eqb (a .refusal) 0 ≡ true = eq-eqb (a .refusal) 0 (c .if1 .taken) in rw e
 
 returns-2 : tie.Need-returns-2
-returns-2 c = let e : eqb (c .before .args .refusal) 0 ≡ false = ne-eqb (c .before .args .refusal) 0 (c .if1 .left) in rw e
+returns-2 c =
+    let a = c .before .args in
+    let e : eqb (a .refusal) 0 ≡ false = ne-eqb (a .refusal) 0 (c .if1 .left) in rw e
 
 pub number-spec : {M : Type 1} → statement M
-number-spec = tie.close (tie.spec returns add-result returns-2)
+number-spec = tie.close (tie.spec returns (λ c. search needs) returns-2)

@@ -2,7 +2,7 @@
 -- copy and what it returns is put in the element's place; if not, both sheets go to `unlisted`. Either way the sheets are given up to the call, which
 -- says their last bytes, and the laws of the call by place turn what was called into the contract.
 use mathlib.Core.Path.{_≡_, refl, sym, ap, subst, _∙_}
-use mathlib.Core.Bool.{Bool, true, false, not}
+use mathlib.Core.Bool.{Bool, true, false}
 use Prim.Native.Nat.{ℕ, _<_, _^_, _*_}
 use mathlib.Core.List.{[], _∷_, List}
 use lib.ListN.{length, set, getD, length-set}
