@@ -12,7 +12,7 @@ use borrow.Author.Tests.{ltb-true}
 use Rattle.lists.specs.Each.{all}
 use Rattle.lists.specs.Tests.{and-snd, choose-by}
 use Rattle.types.specs.declared.Transaction.{Transaction}
-use Rattle.model.specs.Refusals.{refusalOf, placeIn, firstAsked}
+use Rattle.model.specs.Refusals.{refusalOf, countBefore, firstAsked}
 use Rattle.model.specs.SheetCalls.{checkConditions}
 use Rattle.model.specs.Writes.{Sheets}
 use Rattle.model.specs.Results.{Result, refused, made, unless}
@@ -78,7 +78,7 @@ module _ (list : List Transaction) (place now : ℕ) (rs cs : List ℕ) where
 
   -- "The lowest number that applies is given": the first that is asked
   pub place-refusal-is-first : firstAsked (refusalOf (allConditionsAt list place now rs cs)) (allConditionsAt list place now rs cs) ≡ true
-  unfolding allConditionsAt checkConditions conditionsAt conditions risingFrom all placeIn
+  unfolding allConditionsAt checkConditions conditionsAt conditions risingFrom all countBefore
   place-refusal-is-first = row-first (allConditionsAt list place now rs cs) refl
 
 module _ (list : List Transaction) (place : ℕ) where

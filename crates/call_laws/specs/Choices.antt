@@ -70,22 +70,22 @@ not-first n false cs l h = (refl, h)
 
 -- the same by the condition's number, wherever it stands in the list
 
-abbrev numbered : Condition → Bool
-numbered c = leb 1 (c .number)
+abbrev hasNumber : Condition → Bool
+hasNumber c = leb 1 (c .number)
 
 unfoldable pub testOf : ℕ → List Condition → Bool
 testOf n [] = false
 testOf n (c ∷ cs) = cond (eqb (c .number) n) (c .holds) (testOf n cs)
 
-pub not-held : (n : ℕ) (cs : List Condition) → all numbered cs ≡ true → refusalOf cs ≡ 0 → testOf n cs ≡ false
+pub not-held : (n : ℕ) (cs : List Condition) → all hasNumber cs ≡ true → refusalOf cs ≡ 0 → testOf n cs ≡ false
 unfolding testOf all
 not-held n [] l h = refl
 not-held n (c ∷ cs) l h =
-    let p = not-first (c .number) (c .holds) cs (leb-true 1 (c .number) (and-fst (numbered c) (all numbered cs) l)) h in
+    let p = not-first (c .number) (c .holds) cs (leb-true 1 (c .number) (and-fst (hasNumber c) (all hasNumber cs) l)) h in
     choose-by (λ (x : Bool). x ≡ false) (eqb (c .number) n) (λ e. p .0)
-    (λ e. not-held n cs (and-snd (numbered c) (all numbered cs) l) (p .1))
+    (λ e. not-held n cs (and-snd (hasNumber c) (all hasNumber cs) l) (p .1))
 
-conditions-numbered : (c : Call) (s : Sheets) → all numbered (conditions c s) ≡ true
+conditions-numbered : (c : Call) (s : Sheets) → all hasNumber (conditions c s) ≡ true
 unfolding all conditions
 conditions-numbered (begin b) s = refl
 conditions-numbered (read t k now) s = refl

@@ -14,7 +14,7 @@ use Rattle.types.specs.declared.Record.{Record}
 use Rattle.types.specs.declared.Transaction.{Transaction}
 use Rattle.types.specs.declared.Recovery.{Recovery}
 use Rattle.types.specs.declared.Recovery.the-variants.{Stays, Forward, Back, Again, Busy}
-use Rattle.model.specs.Refusals.{Condition, refuse, refusalOf, lastRefusal, askingOrder, placeIn, asked, noneBefore, firstAsked}
+use Rattle.model.specs.Refusals.{Condition, refuse, refusalOf, lastRefusal, askingOrder, countBefore, asked, noneBefore, firstAsked}
 use Rattle.model.specs.SheetCalls.{checkConditions}
 use Rattle.model.specs.Results.{Call, begin, read, put, advance, abort, visit, Result, refused, made, unless}
 use Rattle.model.specs.Conditions.{isNew, conditions, refusals}
@@ -39,24 +39,24 @@ risingFrom n [] = true
 risingFrom n (m ∷ ms) = leb n m && risingFrom m ms
 
 -- where each condition's number stands in the order of asking
-abbrev turns : List Condition → List ℕ
-turns cs = map (λ (c : Condition). asked (c .number)) cs
+abbrev positions : List Condition → List ℕ
+positions cs = map (λ (c : Condition). asked (c .number)) cs
 
-none-before : (n m : ℕ) (cs : List Condition) → asked n ≤ m → risingFrom m (turns cs) ≡ true → noneBefore n cs ≡ true
+none-before : (n m : ℕ) (cs : List Condition) → asked n ≤ m → risingFrom m (positions cs) ≡ true → noneBefore n cs ≡ true
 unfolding risingFrom all
 none-before n m [] l h = refl
 none-before n m (c ∷ cs) l h =
-    let a : m ≤ asked (c .number) = leb-true m (asked (c .number)) (and-fst (leb m (asked (c .number))) (risingFrom (asked (c .number)) (turns cs)) h) in
+    let a : m ≤ asked (c .number) = leb-true m (asked (c .number)) (and-fst (leb m (asked (c .number))) (risingFrom (asked (c .number)) (positions cs)) h) in
     let b : leb (asked n) (asked (c .number)) ≡ true = le-leb (asked n) (asked (c .number)) (omega arith) in
     and-both (go (c .holds) b)
-    (none-before n (asked (c .number)) cs (omega arith) (and-snd (leb m (asked (c .number))) (risingFrom (asked (c .number)) (turns cs)) h))
+    (none-before n (asked (c .number)) cs (omega arith) (and-snd (leb m (asked (c .number))) (risingFrom (asked (c .number)) (positions cs)) h))
   where
     go : (x : Bool) → leb (asked n) (asked (c .number)) ≡ true → (not x || leb (asked n) (asked (c .number))) ≡ true
     go true b = b
     go false b = refl
 
 -- one more condition in front: if it holds it is the first, else what was the first still is
-first-cons : (m : ℕ) (x : Bool) (cs : List Condition) → 1 ≤ m → risingFrom (asked m) (turns cs) ≡ true → firstAsked (refusalOf cs) cs ≡ true → firstAsked (cond x m (refusalOf cs)) (refuse m x ∷ cs) ≡ true
+first-cons : (m : ℕ) (x : Bool) (cs : List Condition) → 1 ≤ m → risingFrom (asked m) (positions cs) ≡ true → firstAsked (refusalOf cs) cs ≡ true → firstAsked (cond x m (refusalOf cs)) (refuse m x ∷ cs) ≡ true
 unfolding all any
 first-cons m true cs l h r =
     let z : eqb m 0 ≡ false = ne-eqb m 0 (λ e. omega (arith, e)) in
@@ -66,11 +66,11 @@ first-cons m true cs l h r =
     rw (z, y, b, f) refl
 first-cons m false cs l h r = r
 
-pub first-is-first : (n : ℕ) (cs : List Condition) → all (λ (c : Condition). leb 1 (c .number)) cs ≡ true → risingFrom n (turns cs) ≡ true → firstAsked (refusalOf cs) cs ≡ true
+pub first-is-first : (n : ℕ) (cs : List Condition) → all (λ (c : Condition). leb 1 (c .number)) cs ≡ true → risingFrom n (positions cs) ≡ true → firstAsked (refusalOf cs) cs ≡ true
 unfolding risingFrom all any refusalOf
 first-is-first n [] l h = refl
 first-is-first n (c ∷ cs) l h =
-    let g : risingFrom (asked (c .number)) (turns cs) ≡ true = and-snd (leb n (asked (c .number))) (risingFrom (asked (c .number)) (turns cs)) h in
+    let g : risingFrom (asked (c .number)) (positions cs) ≡ true = and-snd (leb n (asked (c .number))) (risingFrom (asked (c .number)) (positions cs)) h in
     let m : 1 ≤ c .number = leb-true 1 (c .number) (and-fst (leb 1 (c .number)) (all (λ (x : Condition). leb 1 (x .number)) cs) l) in
     let k : all (λ (x : Condition). leb 1 (x .number)) cs ≡ true = and-snd (leb 1 (c .number)) (all (λ (x : Condition). leb 1 (x .number)) cs) l in
     first-cons (c .number) (c .holds) cs m g (first-is-first (asked (c .number)) cs k g)
@@ -105,11 +105,11 @@ numbers-are (abort t) rs cs = refl
 numbers-are (visit k now) rs cs = refl
 
 -- a row: its numbers are of the table, in the order of asking
-abbrev inOrder : List ℕ → Bool
-inOrder ns = risingFrom 0 (map asked ns) && all (λ (n : ℕ). leb 1 n && leb n lastRefusal) ns
+abbrev rowInOrder : List ℕ → Bool
+rowInOrder ns = risingFrom 0 (map asked ns) && all (λ (n : ℕ). leb 1 n && leb n lastRefusal) ns
 
-row-in-order : (call : Call) → inOrder (refusals call) ≡ true
-unfolding refusals risingFrom all placeIn
+row-in-order : (call : Call) → rowInOrder (refusals call) ≡ true
+unfolding refusals risingFrom all countBefore
 row-in-order (begin b) = refl
 row-in-order (read t k now) = refl
 row-in-order (put t k c) = refl
@@ -118,9 +118,9 @@ row-in-order (abort t) = refl
 row-in-order (visit k now) = refl
 
 -- what a row says of the conditions that have its numbers
-module _ (cs : List Condition) (h : inOrder (numbers cs) ≡ true) where
-  row-turns : risingFrom 0 (turns cs) ≡ true
-  row-turns =
+module _ (cs : List Condition) (h : rowInOrder (numbers cs) ≡ true) where
+  row-positions : risingFrom 0 (positions cs) ≡ true
+  row-positions =
       ap (risingFrom 0) (sym (map-map asked (λ (c : Condition). c .number) cs))
       ∙ and-fst (risingFrom 0 (map asked (numbers cs))) (all (λ (n : ℕ). leb 1 n && leb n lastRefusal) (numbers cs)) h
 
@@ -134,7 +134,7 @@ module _ (cs : List Condition) (h : inOrder (numbers cs) ≡ true) where
       first-is-first 0 cs
       (all-weaken (λ (c : Condition). leb 1 (c .number) && leb (c .number) lastRefusal) (λ (c : Condition). leb 1 (c .number))
       (λ c e. and-fst (leb 1 (c .number)) (leb (c .number) lastRefusal) e) cs row-within)
-      row-turns
+      row-positions
 
   pub row-small : refusalOf cs ≤ lastRefusal
   row-small =
@@ -142,8 +142,8 @@ module _ (cs : List Condition) (h : inOrder (numbers cs) ≡ true) where
       (all-weaken (λ (c : Condition). leb 1 (c .number) && leb (c .number) lastRefusal) (λ (c : Condition). leb (c .number) lastRefusal)
       (λ c e. and-snd (leb 1 (c .number)) (leb (c .number) lastRefusal) e) cs row-within)
 
-call-in-order : (call : Call) (rs cs : List ℕ) → inOrder (numbers (allConditions call rs cs)) ≡ true
-call-in-order call rs cs = ap inOrder (numbers-are call rs cs) ∙ row-in-order call
+call-in-order : (call : Call) (rs cs : List ℕ) → rowInOrder (numbers (allConditions call rs cs)) ≡ true
+call-in-order call rs cs = ap rowInOrder (numbers-are call rs cs) ∙ row-in-order call
 
 -- "The lowest number that applies is given": of the conditions of the call's row the first that is asked.
 pub refusal-is-first : (call : Call) (rs cs : List ℕ) → firstAsked (refusalOf (allConditions call rs cs)) (allConditions call rs cs) ≡ true
@@ -151,7 +151,7 @@ refusal-is-first call rs cs = row-first (allConditions call rs cs) (call-in-orde
 
 -- What a call answers.
 
--- an accepted result of an answer that turns nobody away
+-- an accepted result of an answer that positions nobody away
 abbrev Accepts : {A : Type 0} → (A → Answer) → Result A → Type 0
 Accepts f r = refusalIn (answerOf f r) ≡ 0
 

@@ -27,12 +27,12 @@ abbrev pub askingOrder : List ℕ
 askingOrder = 1 ∷ 2 ∷ 3 ∷ 4 ∷ 5 ∷ 6 ∷ 7 ∷ 8 ∷ 9 ∷ 10 ∷ 11 ∷ 12 ∷ []
 
 -- how many numbers of an order come before this one
-unfoldable pub placeIn : List ℕ → ℕ → ℕ
-placeIn [] n = 0
-placeIn (m ∷ ms) n = cond (eqb m n) 0 (suc (placeIn ms n))
+unfoldable pub countBefore : List ℕ → ℕ → ℕ
+countBefore [] n = 0
+countBefore (m ∷ ms) n = cond (eqb m n) 0 (suc (countBefore ms n))
 
 abbrev pub asked : ℕ → ℕ
-asked n = placeIn askingOrder n
+asked n = countBefore askingOrder n
 
 -- a condition of this number holds
 abbrev pub applies : ℕ → List Condition → Bool

@@ -81,15 +81,8 @@ pub struct Column {
     pub high: u32,
 }
 
-// Bytes of a record line and of a coordinator line, LF counted.
+// Bytes of a record line, LF counted.
 pub const RECORD_BYTES: usize = 98;
-
-pub const COORDINATOR_BYTES: usize = 15;
-
-// Numbers of a record, and of a coordinator's head.
-pub const RECORD_FIELDS: usize = 15;
-
-pub const HEAD_FIELDS: usize = 10;
 
 // The kinds of line. A key line is the first five fields of a record line.
 pub enum Layout {
