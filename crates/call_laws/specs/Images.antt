@@ -15,7 +15,7 @@ use Rattle.types.specs.declared.Image.{Image}
 use Rattle.types.specs.declared.Record.{Record}
 use Rattle.types.specs.declared.Entry.{Entry}
 use Rattle.model.specs.Records.{byState, isZero, absentRule, committedRule, preparedRule, stateRule, noImage}
-use Rattle.model.specs.Images.{isPrepared, putImage, prepared, committed, rolledForward, beforeState, rolledBack}
+use Rattle.model.specs.Images.{isPrepared, Change, writtenImage, prepared, committed, rolledForward, beforeState, rolledBack}
 use Rattle.model.specs.WellFormed.{imageInRange, columnsInRange}
 use Rattle.call_laws.specs.Ranges.{GoodParts, image-ranged, zeros-ranged}
 
@@ -67,21 +67,21 @@ back-rule k m h = go (eqb (m .version) 0) refl
     go false e = and-both (and-both (le-leb 1 (m .version) (omega (arith, eqb-false (m .version) 0 e))) zeros) refl
 
 -- What a put may be written over: a record that isn't prepared, under an issued number.
-pub record MayPut (issued n : ℕ) (e : Entry) (r : Record) : Type 0 where
+pub record MayPut (issued n : ℕ) (c : Change) (r : Record) : Type 0 where
   pub number : 1 ≤ n
   pub known : n ≤ issued
   pub few : issued ≤ 999
   pub version : r .image .version ≤ 99998
-  pub columns : columnsInRange (e .put) ≡ true
+  pub columns : columnsInRange c ≡ true
   pub free : isPrepared r ≡ false
 
-module _ (issued n : ℕ) (e : Entry) (r : Record) (good : GoodParts issued r) (may : MayPut issued n e r) where
-  put-ranged : imageInRange (putImage n e r) ≡ true
+module _ (issued n : ℕ) (c : Change) (r : Record) (good : GoodParts issued r) (may : MayPut issued n c r) where
+  put-ranged : imageInRange (writtenImage n c r) ≡ true
   put-ranged =
-      image-ranged (putImage n e r) (let v : r .image .version ≤ 99998 = may .version in omega arith)
+      image-ranged (writtenImage n c r) (let v : r .image .version ≤ 99998 = may .version in omega arith)
       (let l : n ≤ issued = may .known in let m : issued ≤ 999 = may .few in omega arith) (may .columns)
 
-  pub committed-fine : GoodParts issued (committed n e r)
+  pub committed-fine : GoodParts issued (committed n c r)
   unfolding committed committedRule
   committed-fine =
       record {
@@ -94,7 +94,7 @@ module _ (issued n : ℕ) (e : Entry) (r : Record) (good : GoodParts issued r) (
         before-txid = omega arith;
       }
 
-  pub prepared-fine : (now : ℕ) → now ≤ 4294967295 → GoodParts issued (prepared n now e r)
+  pub prepared-fine : (now : ℕ) → now ≤ 4294967295 → GoodParts issued (prepared n now c r)
   unfolding prepared preparedRule
   prepared-fine now l =
       record {
@@ -143,9 +143,9 @@ module _ (issued : ℕ) (r : Record) (good : GoodParts issued r) (pending : isPr
 -- Rolling a prepared record.
 
 -- rolling it forward gives what one phase would have written
-pub forward-is-commit : (n now : ℕ) (e : Entry) (r : Record) → rolledForward (prepared n now e r) ≡ committed n e r
+pub forward-is-commit : (n now : ℕ) (c : Change) (r : Record) → rolledForward (prepared n now c r) ≡ committed n c r
 unfolding rolledForward prepared committed
-forward-is-commit n now e r = refl
+forward-is-commit n now c r = refl
 
 zero-is : (m : Image) → isZero m ≡ true → m ≡ noImage
 unfolding isZero
@@ -182,9 +182,9 @@ settled r = go (r .state) refl
     go Prepared e p h = absurd (true≢false p)
 
 -- rolling it back gives the record that was there
-pub back-is-before : (n now : ℕ) (e : Entry) (r : Record) → isPrepared r ≡ false → stateRule r ≡ true → rolledBack (prepared n now e r) ≡ r
+pub back-is-before : (n now : ℕ) (c : Change) (r : Record) → isPrepared r ≡ false → stateRule r ≡ true → rolledBack (prepared n now c r) ≡ r
 unfolding rolledBack prepared
-back-is-before n now e r p h =
+back-is-before n now c r p h =
     let s : Settled r = settled r p h in
     λ i. record { key = r .key; state = s .state i; image = r .image; before = sym (s .before) i; clock = sym (s .clock) i }
 

@@ -14,7 +14,7 @@ use Rattle.types.specs.declared.Key.{Key}
 use Rattle.types.specs.declared.Record.{Record}
 use Rattle.types.specs.declared.Entry.{Entry}
 use Rattle.model.specs.Records.{keyNumbers, keyLess, inOrder, rising, sameKey, found, hasLine, absentAt, lineOf}
-use Rattle.model.specs.Images.{preparedBy, prepared, committed, rolledForward, rolledBack}
+use Rattle.model.specs.Images.{preparedBy, prepared, committed, rolledForward, rolledBack, changeOf}
 use Rattle.model.specs.Writes.{
   Write,
   nothing,
@@ -57,8 +57,8 @@ unfolding lineAfter prepared committed rolledForward rolledBack
 line-key nothing r = refl
 line-key issue r = refl
 line-key (decide n d) r = refl
-line-key (commit n es) r = entry-key (entryFor (r .key) es) r (λ (e : Entry). committed n e r) (λ e. refl)
-line-key (prepare n now es) r = entry-key (entryFor (r .key) es) r (λ (e : Entry). prepared n now e r) (λ e. refl)
+line-key (commit n es) r = entry-key (entryFor (r .key) es) r (λ (e : Entry). committed n (changeOf e) r) (λ e. refl)
+line-key (prepare n now es) r = entry-key (entryFor (r .key) es) r (λ (e : Entry). prepared n now (changeOf e) r) (λ e. refl)
 line-key (forward n ks) r = choose-by (λ (x : Record). x .key ≡ r .key) (isOf n ks r) (λ e. refl) (λ e. refl)
 line-key (back n ks) r = choose-by (λ (x : Record). x .key ≡ r .key) (isOf n ks r) (λ e. refl) (λ e. refl)
 

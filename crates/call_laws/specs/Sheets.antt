@@ -17,7 +17,7 @@ use Rattle.types.specs.declared.Record.{Record}
 use Rattle.types.specs.declared.Entry.{Entry}
 use Rattle.model.specs.Records.{goodAlone, rising, recordsGood, absentAt, lineOf}
 use Rattle.model.specs.Coordinator.{Coordinator, coordinatorGood, namesIssued, withDecision, withIssued}
-use Rattle.model.specs.Images.{isPrepared, preparedBy, prepared, committed}
+use Rattle.model.specs.Images.{isPrepared, preparedBy, prepared, committed, changeOf}
 use Rattle.model.specs.Writes.{
   Sheets,
   sheetsGood,
@@ -79,7 +79,7 @@ parts-good s g =
 -- the key of an entry has a line, over which the entry may be put
 abbrev pub MayPutAll : Sheets → ℕ → List Entry → Type 0
 MayPutAll s n es =
-    (k : Key) (e : Entry) → entryFor k es ≡ some e → (listsKey k (s .lines) ≡ true) × MayPut (s .coordinator .issued) n e (lineOf k (s .lines))
+    (k : Key) (e : Entry) → entryFor k es ≡ some e → (listsKey k (s .lines) ≡ true) × MayPut (s .coordinator .issued) n (changeOf e) (lineOf k (s .lines))
 
 -- keys without a line have no entry
 no-entry-there : (s : Sheets) (n : ℕ) (es : List Entry) → MayPutAll s n es → (k : Key) → listsKey k (s .lines) ≡ false → entryFor k es ≡ none
@@ -92,12 +92,12 @@ no-entry-there s n es m k h = go (entryFor k es) refl
 pub still-commit : (s : Sheets) (n : ℕ) (es : List Entry) → MayPutAll s n es → Still (s .lines) (commit n es)
 unfolding lineAfter
 still-commit s n es m k h =
-    ap (λ (o : Option Entry). byEntry o (absentAt k) (λ (e : Entry). committed n e (absentAt k))) (no-entry-there s n es m k h)
+    ap (λ (o : Option Entry). byEntry o (absentAt k) (λ (e : Entry). committed n (changeOf e) (absentAt k))) (no-entry-there s n es m k h)
 
 pub still-prepare : (s : Sheets) (n now : ℕ) (es : List Entry) → MayPutAll s n es → Still (s .lines) (prepare n now es)
 unfolding lineAfter
 still-prepare s n now es m k h =
-    ap (λ (o : Option Entry). byEntry o (absentAt k) (λ (e : Entry). prepared n now e (absentAt k))) (no-entry-there s n es m k h)
+    ap (λ (o : Option Entry). byEntry o (absentAt k) (λ (e : Entry). prepared n now (changeOf e) (absentAt k))) (no-entry-there s n es m k h)
 
 -- The writes that keep sheets good.
 pub data Fit (s : Sheets) : Write → Type 0 where
@@ -153,11 +153,11 @@ module _ (s : Sheets) (good : GoodSheets s) where
   line-fit (fit-decide n d l) r k e g =
       more-issued (s .coordinator .issued) (withDecision n d (s .coordinator) .issued) r (omega (arith, decided-issued n d (s .coordinator))) g
   line-fit (fit-commit n es m) r k e g =
-      entry-fine (s .coordinator .issued) r (entryFor (r .key) es) (λ (x : Entry). committed n x r) g
-      (λ x o. committed-fine (s .coordinator .issued) n x r g (subst (MayPut (s .coordinator .issued) n x) e (m (r .key) x o .1)))
+      entry-fine (s .coordinator .issued) r (entryFor (r .key) es) (λ (x : Entry). committed n (changeOf x) r) g
+      (λ x o. committed-fine (s .coordinator .issued) n (changeOf x) r g (subst (MayPut (s .coordinator .issued) n (changeOf x)) e (m (r .key) x o .1)))
   line-fit (fit-prepare n now es l m) r k e g =
-      entry-fine (s .coordinator .issued) r (entryFor (r .key) es) (λ (x : Entry). prepared n now x r) g
-      (λ x o. prepared-fine (s .coordinator .issued) n x r g (subst (MayPut (s .coordinator .issued) n x) e (m (r .key) x o .1)) now l)
+      entry-fine (s .coordinator .issued) r (entryFor (r .key) es) (λ (x : Entry). prepared n now (changeOf x) r) g
+      (λ x o. prepared-fine (s .coordinator .issued) n (changeOf x) r g (subst (MayPut (s .coordinator .issued) n (changeOf x)) e (m (r .key) x o .1)) now l)
   line-fit (fit-forward n ks) r k e g =
       choose-by (GoodParts (s .coordinator .issued)) (isOf n ks r)
       (λ h. forward-fine (s .coordinator .issued) r g (rolled n ks r h)) (λ h. g)

@@ -21,7 +21,7 @@ use Rattle.types.specs.declared.Entry.{Entry}
 use Rattle.model.specs.Records.{sameKey, lineOf}
 use Rattle.model.specs.Coordinator.{Coordinator, decision}
 use Rattle.model.specs.Groups.{scope, group}
-use Rattle.model.specs.Images.{preparedBy, prepared, committed, rolledForward, rolledBack}
+use Rattle.model.specs.Images.{preparedBy, prepared, committed, rolledForward, rolledBack, changeOf}
 use Rattle.model.specs.Writes.{Sheets, Write, nothing, issue, decide, commit, prepare, forward, back, byEntry, isOf, lineAfter, decisionsAfter}
 use Rattle.model.specs.Transactions.{puts, toValidate, isEmpty, noEntry}
 use Rattle.model.specs.Visits.{recoveryWrite, meeting, isAgain}
@@ -93,14 +93,14 @@ module _ (us : List AtomicityUnit) (es : List Entry) (i : ℕ) where
   unfolding lineAfter decisionsAfter
   commit-unit n =
       one-unit (groupScope (group us es i))
-      (λ r d. ap (λ (o : Option Entry). byEntry o r (λ (e : Entry). committed n e r)) (no-entry (r .key) (group us es i) (not-in r d)))
+      (λ r d. ap (λ (o : Option Entry). byEntry o r (λ (e : Entry). committed n (changeOf e) r)) (no-entry (r .key) (group us es i) (not-in r d)))
       (λ c. refl)
 
   pub prepare-unit : (n now : ℕ) → SingleUnit us (prepare n now (group us es i))
   unfolding lineAfter decisionsAfter
   prepare-unit n now =
       one-unit (groupScope (group us es i))
-      (λ r d. ap (λ (o : Option Entry). byEntry o r (λ (e : Entry). prepared n now e r)) (no-entry (r .key) (group us es i) (not-in r d)))
+      (λ r d. ap (λ (o : Option Entry). byEntry o r (λ (e : Entry). prepared n now (changeOf e) r)) (no-entry (r .key) (group us es i) (not-in r d)))
       (λ c. refl)
 
   -- none of the group's lines that the number has prepared

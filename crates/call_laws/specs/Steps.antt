@@ -37,7 +37,7 @@ use Rattle.model.specs.Transactions.{
   moved,
 }
 use Rattle.model.specs.Groups.{group}
-use Rattle.model.specs.Images.{isPrepared, unchanged}
+use Rattle.model.specs.Images.{isPrepared, unchanged, changeOf}
 use Rattle.model.specs.Writes.{Sheets, Write, nothing, prepare, forward, back}
 use Rattle.model.specs.WellFormed.{columnsInRange, putFits, entryFormed, placeFormed, verdictFormed}
 use Rattle.model.specs.Steps.{Step, holds, unitsOf, groupsOf, groupAt, keysOf, to, onePhaseAllowed, openWithoutPuts, onePhase, openStep, afterPrepare, nextGroup, prepareStep, nextEntry, validateStep, decideStep, withdrawn, withdrawStep, finishStep, undoStep, step}
@@ -109,7 +109,7 @@ module _ (s : Sheets) (good : GoodSheets s) (t : Transaction) (b : Body s t) whe
       (all-filter isPut (entryFormed (s .coordinator .issued)) (held t) (b .entries)) (filter-passes isPut (held t)))
 
   -- an entry whose condition holds, well formed and with a put, may be written over the line of its key
-  pub may-put-over : (e : Entry) → holds (s .lines) e ≡ true → (entryFormed (s .coordinator .issued) e && isPut e) ≡ true → MayPut (s .coordinator .issued) (t .number) e (lineOf (e .key) (s .lines))
+  pub may-put-over : (e : Entry) → holds (s .lines) e ≡ true → (entryFormed (s .coordinator .issued) e && isPut e) ≡ true → MayPut (s .coordinator .issued) (t .number) (changeOf e) (lineOf (e .key) (s .lines))
   unfolding holds unchanged
   may-put-over e c f =
       let i = s .coordinator .issued in
@@ -138,7 +138,7 @@ module _ (s : Sheets) (good : GoodSheets s) (t : Transaction) (b : Body s t) whe
       let c : holds (s .lines) e ≡ true = entry-passes (holds (s .lines)) k (groupAt t s) e h found in
       let l : hasLine (e .key) (s .lines) ≡ true = and-fst (hasLine (e .key) (s .lines)) (unchanged e (lineOf (e .key) (s .lines))) c in (
         ap (λ (x : Key). listsKey x (s .lines)) (sym same) ∙ (sym (has-line (e .key) (s .lines)) ∙ l),
-        subst (λ (x : Key). MayPut i (t .number) e (lineOf x (s .lines))) same
+        subst (λ (x : Key). MayPut i (t .number) (changeOf e) (lineOf x (s .lines))) same
             (may-put-over e c (entry-passes (λ (x : Entry). entryFormed i x && isPut x) k (groupAt t s) e group-formed found)),
       )
 

@@ -34,7 +34,7 @@ use Rattle.model.specs.Records.{
   lineOf,
 }
 use Rattle.model.specs.Coordinator.{namesIssued}
-use Rattle.model.specs.Images.{preparedBy, prepared, committed, rolledForward, rolledBack}
+use Rattle.model.specs.Images.{Change, changeOf, preparedBy, prepared, committed, rolledForward, rolledBack}
 use Rattle.model.specs.Writes.{Write, commit, prepare, forward, back, entryFor, byEntry, isOf, lineAfter, linesAfter}
 use Rattle.model.specs.WellFormed.{imageInRange}
 use Rattle.model.specs.Steps.{keysOf}
@@ -44,25 +44,25 @@ use Rattle.call_laws.specs.Lines.{lines-unmoved}
 use Rattle.call_laws.specs.Keys.{same-key, same-key-refl, same-key-flip, hasKey, no-entry}
 use Rattle.call_laws.specs.Places.{FoundAt, found-at, atKey, set-at-key, line-replaced}
 use Rattle.call_laws.specs.Ranges.{fine-parts}
-use Rattle.group_writes.specs.declared.changes.Change.{Change}
-use Rattle.group_writes.specs.declared.changes.Change.the-variants.{Commit, Prepare, Forward, Back}
+use Rattle.group_writes.specs.declared.changes.Effect.{Effect}
+use Rattle.group_writes.specs.declared.changes.Effect.the-variants.{Commit, Prepare, Forward, Back}
 
 -- the record changed for an entry under a number
-unfoldable pub changed : Change → ℕ → Entry → Record → Record
-changed Commit n e r = committed n e r
-changed (Prepare now) n e r = prepared n now e r
+unfoldable pub changed : Effect → ℕ → Entry → Record → Record
+changed Commit n e r = committed n (changeOf e) r
+changed (Prepare now) n e r = prepared n now (changeOf e) r
 changed Forward n e r = cond (preparedBy n r) (rolledForward r) r
 changed Back n e r = cond (preparedBy n r) (rolledBack r) r
 
 -- the changes for a group's entries, as the model's write
-unfoldable pub written : Change → ℕ → List Entry → Write
+unfoldable pub written : Effect → ℕ → List Entry → Write
 written Commit n es = commit n es
 written (Prepare now) n es = prepare n now es
 written Forward n es = forward n (keysOf es)
 written Back n es = back n (keysOf es)
 
 -- a change keeps the key
-pub changed-key : (c : Change) (n : ℕ) (e : Entry) (r : Record) → changed c n e r .key ≡ r .key
+pub changed-key : (c : Effect) (n : ℕ) (e : Entry) (r : Record) → changed c n e r .key ≡ r .key
 unfolding changed committed prepared rolledForward rolledBack
 changed-key Commit n e r = refl
 changed-key (Prepare now) n e r = refl
@@ -83,7 +83,7 @@ rolled-by-entry b x r k (e ∷ es) = go (sameKey (e .key) k) b (rolled-by-entry 
     go true false i = refl
     go false c i = i
 
-module _ (c : Change) (n : ℕ) where
+module _ (c : Effect) (n : ℕ) where
   -- what the changes for these entries make of a record
   abbrev byKey : List Entry → Record → Record
   byKey es r = byEntry (entryFor (r .key) es) r (λ (e : Entry). changed c n e r)
@@ -107,7 +107,7 @@ module _ (c : Change) (n : ℕ) where
           ap (λ (b : Bool). byEntry (cond b (some e) (entryFor (r .key) es)) r (λ (x : Entry). changed c n x r)) a
           ∙ sym (ap (λ (b : Bool). byKey es (cond b (changed c n e r) r)) h)
 
-by-key : (c : Change) (n : ℕ) (es : List Entry) (r : Record) → lineAfter (written c n es) r ≡ byKey c n es r
+by-key : (c : Effect) (n : ℕ) (es : List Entry) (r : Record) → lineAfter (written c n es) r ≡ byKey c n es r
 unfolding lineAfter written changed isOf
 by-key Commit n es r = refl
 by-key (Prepare now) n es r = refl
@@ -115,7 +115,7 @@ by-key Forward n es r = rolled-by-entry (preparedBy n r) (rolledForward r) r (r 
 by-key Back n es r = rolled-by-entry (preparedBy n r) (rolledBack r) r (r .key) es
 
 -- Lines under the changes for a group's entries.
-module _ (c : Change) (n : ℕ) where
+module _ (c : Effect) (n : ℕ) where
   pub lines-none : (rs : List Record) → linesAfter (written c n []) rs ≡ rs
   unfolding entryFor
   lines-none rs = lines-unmoved (written c n []) (λ r. by-key c n [] r) rs
@@ -148,7 +148,7 @@ module _ (k : Key) (f : Record → Record) (kept : (r : Record) → f r .key ≡
       go false h i = i
 
 -- what fits the lines fits them when the line of another key has changed
-pub fits-elsewhere : (c : Change) (n : ℕ) (e : Entry) (rs : List Record) (es : List Entry) → hasKey (e .key) es ≡ false → all (fits c n (map (atKey (e .key) (changed c n e)) rs)) es ≡ all (fits c n rs) es
+pub fits-elsewhere : (c : Effect) (n : ℕ) (e : Entry) (rs : List Record) (es : List Entry) → hasKey (e .key) es ≡ false → all (fits c n (map (atKey (e .key) (changed c n e)) rs)) es ≡ all (fits c n rs) es
 unfolding all any
 fits-elsewhere c n e rs [] h = refl
 fits-elsewhere c n e rs (x ∷ es) h =
@@ -169,22 +169,22 @@ good-version r g =
     search tests
 
 -- there is room for one more version where the changed record keeps the rules
-pub commit-room : (n : ℕ) (e : Entry) (r : Record) → goodAlone (committed n e r) ≡ true → r .image .version + 1 < 2 ^ 32
+pub commit-room : (n : ℕ) (c : Change) (r : Record) → goodAlone (committed n c r) ≡ true → r .image .version + 1 < 2 ^ 32
 unfolding committed
-commit-room n e r g = let v : r .image .version + 1 ≤ 99999 = good-version (committed n e r) g in omega arith
+commit-room n c r g = let v : r .image .version + 1 ≤ 99999 = good-version (committed n c r) g in omega arith
 
-pub prepare-room : (n now : ℕ) (e : Entry) (r : Record) → goodAlone (prepared n now e r) ≡ true → r .image .version + 1 < 2 ^ 32
+pub prepare-room : (n now : ℕ) (c : Change) (r : Record) → goodAlone (prepared n now c r) ≡ true → r .image .version + 1 < 2 ^ 32
 unfolding prepared
-prepare-room n now e r g = let v : r .image .version + 1 ≤ 99999 = good-version (prepared n now e r) g in omega arith
+prepare-room n now c r g = let v : r .image .version + 1 ≤ 99999 = good-version (prepared n now c r) g in omega arith
 
 -- the sheet is accepted, and the new line of the entry's key, at its place, keeps the rules
-pub record Due (c : Change) (n : ℕ) (e : Entry) (p : ℕ) (rs : List ℕ) : Type 0 where
+pub record Due (c : Effect) (n : ℕ) (e : Entry) (p : ℕ) (rs : List ℕ) : Type 0 where
   pub accepted : recordsAccepted rs ≡ true
   pub there : found (e .key) (records rs) ≡ At p
   pub fit : fits c n (records rs) e ≡ true
 
 -- the sheet after a change of the line of the entry's key
-pub record Wrote (c : Change) (n : ℕ) (e : Entry) (rs rs′ : List ℕ) : Type 0 where
+pub record Wrote (c : Effect) (n : ℕ) (e : Entry) (rs rs′ : List ℕ) : Type 0 where
   pub accepted : recordsAccepted rs′ ≡ true
   pub lines : records rs′ ≡ map (atKey (e .key) (changed c n e)) (records rs)
 
@@ -192,7 +192,7 @@ accepted-order : (s : List ℕ) → recordsAccepted s ≡ true → rising (recor
 unfolding recordsAccepted recordsGood
 accepted-order s a = search tests
 
-module _ (c : Change) (n : ℕ) (e : Entry) (i : ℕ) (rs : List ℕ) (due : Due c n e i rs) where
+module _ (c : Effect) (n : ℕ) (e : Entry) (i : ℕ) (rs : List ℕ) (due : Due c n e i rs) where
   -- the record at the place is the line of the key
   pub due-at : goodAlone (changed c n e (getD (records rs) i noRecord)) ≡ true
   due-at = ap (λ (r : Record). goodAlone (changed c n e r)) (found-at (e .key) (records rs) i (due .there) .line) ∙ due .fit

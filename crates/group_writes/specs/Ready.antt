@@ -14,7 +14,7 @@ use Rattle.types.specs.declared.Transaction.{Transaction}
 use Rattle.model.specs.Records.{records, goodAlone, hasLine, lineOf}
 use Rattle.model.specs.Coordinator.{namesIssued}
 use Rattle.model.specs.Transactions.{isPut, held}
-use Rattle.model.specs.Images.{isPrepared, preparedBy, unchanged}
+use Rattle.model.specs.Images.{changeOf, isPrepared, preparedBy, unchanged}
 use Rattle.model.specs.WellFormed.{entryFormed, linesHeld}
 use Rattle.model.specs.Steps.{holds, groupAt}
 use Rattle.model.specs.ByteCalls.{sheetsOf}
@@ -26,8 +26,8 @@ use Rattle.call_laws.specs.Transactions.{Body}
 use Rattle.call_laws.specs.Steps.{group-formed, may-put-over}
 use Rattle.model.specs.ByteHistories.{Passing}
 use Rattle.call_laws.specs.Lifting.{passing-parts, passing-good}
-use Rattle.group_writes.specs.declared.changes.Change.{Change}
-use Rattle.group_writes.specs.declared.changes.Change.the-variants.{Commit, Prepare, Forward, Back}
+use Rattle.group_writes.specs.declared.changes.Effect.{Effect}
+use Rattle.group_writes.specs.declared.changes.Effect.the-variants.{Commit, Prepare, Forward, Back}
 use Rattle.group_writes.specs.Groups.{ofGroup, group-in}
 use Rattle.group_writes.specs.Changes.{changed, fits}
 use Rattle.group_writes.specs.Placed.{Placed}
@@ -54,7 +54,7 @@ module _ (rs cs : List ℕ) (t : Transaction) (ps : List ℕ) (ready : Ready rs 
   fine-good : (r : Record) → GoodParts issued r → goodAlone r ≡ true
   fine-good r g = and-fst (goodAlone r) (namesIssued issued r) (parts-fine issued r g)
 
-  may-change : (c : Change) → all (fits c (t .number) (records rs)) (groupAt t (sheetsOf rs cs)) ≡ true → MayChange c rs cs t ps
+  may-change : (c : Effect) → all (fits c (t .number) (records rs)) (groupAt t (sheetsOf rs cs)) ≡ true → MayChange c rs cs t ps
   may-change c f =
       let p = passing-parts (record { records = rs; coordinator = cs }) (ready .passing) in
       record {
@@ -80,7 +80,7 @@ module _ (rs cs : List ℕ) (t : Transaction) (ps : List ℕ) (ready : Ready rs 
   has-its-line e h = and-fst (hasLine (e .key) (records rs)) (unchanged e (lineOf (e .key) (records rs))) h
 
   -- the puts of a group whose conditions hold, where a put over its line keeps the rules
-  may-put : (c : Change) → ((e : Entry) (r : Record) → GoodParts issued r → MayPut issued (t .number) e r → GoodParts issued (changed c (t .number) e r)) → all (holds (records rs)) (groupAt t (sheetsOf rs cs)) ≡ true → MayChange c rs cs t ps
+  may-put : (c : Effect) → ((e : Entry) (r : Record) → GoodParts issued r → MayPut issued (t .number) (changeOf e) r → GoodParts issued (changed c (t .number) e r)) → all (holds (records rs)) (groupAt t (sheetsOf rs cs)) ≡ true → MayChange c rs cs t ps
   may-put c keeps h =
       may-change c
       (all-weaken putOver (fits c (t .number) (records rs))
@@ -93,11 +93,11 @@ module _ (rs cs : List ℕ) (t : Transaction) (ps : List ℕ) (ready : Ready rs 
 
   pub may-commit : all (holds (records rs)) (groupAt t (sheetsOf rs cs)) ≡ true → MayChange Commit rs cs t ps
   unfolding changed
-  may-commit = may-put Commit (λ e r g m. committed-fine issued (t .number) e r g m)
+  may-commit = may-put Commit (λ e r g m. committed-fine issued (t .number) (changeOf e) r g m)
 
   pub may-prepare : (now : ℕ) → now ≤ 4294967295 → all (holds (records rs)) (groupAt t (sheetsOf rs cs)) ≡ true → MayChange (Prepare now) rs cs t ps
   unfolding changed
-  may-prepare now l = may-put (Prepare now) (λ e r g m. prepared-fine issued (t .number) e r g m now l)
+  may-prepare now l = may-put (Prepare now) (λ e r g m. prepared-fine issued (t .number) (changeOf e) r g m now l)
 
   -- Prepared lines rolled.
 
@@ -108,7 +108,7 @@ module _ (rs cs : List ℕ) (t : Transaction) (ps : List ℕ) (ready : Ready rs 
       ∙ all-filter (ofGroup cs t) (λ (e : Entry). hasLine (e .key) (records rs)) (held t) (ready .body .lines)
 
   -- the lines of the group, where a rolled line keeps the rules
-  may-roll : (c : Change) → ((e : Entry) (r : Record) → GoodParts issued r → GoodParts issued (changed c (t .number) e r)) → MayChange c rs cs t ps
+  may-roll : (c : Effect) → ((e : Entry) (r : Record) → GoodParts issued r → GoodParts issued (changed c (t .number) e r)) → MayChange c rs cs t ps
   may-roll c keeps =
       may-change c
       (all-weaken (λ (e : Entry). hasLine (e .key) (records rs)) (fits c (t .number) (records rs))

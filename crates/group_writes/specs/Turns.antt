@@ -27,13 +27,13 @@ use Rattle.sheet_laws.specs.Records.{sheet-written-read}
 use Rattle.call_laws.specs.Keys.{hasKey, kept-key}
 use Rattle.call_laws.specs.Places.{atKey}
 use Rattle.protocol.specs.Held.{PassedTo, entryAt, after, pass-first, pass-here, pass-next, pass-last}
-use Rattle.group_writes.specs.declared.changes.Change.{Change}
+use Rattle.group_writes.specs.declared.changes.Effect.{Effect}
 use Rattle.group_writes.specs.Groups.{ofGroup, groupIn, group-in}
 use Rattle.group_writes.specs.Changes.{changed, changed-key, written, lines-none, lines-first, at-key-kept, fits, fits-elsewhere, Wrote}
 use Rattle.group_writes.specs.Placed.{Placed, placed-kept}
 
 -- what a change of a whole group asks for
-pub record MayChange (c : Change) (rs cs : List ℕ) (t : Transaction) (ps : List ℕ) : Type 0 where
+pub record MayChange (c : Effect) (rs cs : List ℕ) (t : Transaction) (ps : List ℕ) : Type 0 where
   pub accepted : recordsAccepted rs ≡ true
   pub units : coordinatorAccepted cs ≡ true
   pub few : t .count ≤ 8
@@ -42,7 +42,7 @@ pub record MayChange (c : Change) (rs cs : List ℕ) (t : Transaction) (ps : Lis
   pub placed : Placed (records rs) t ps (t .count)
 
 -- what a turn for entry i asks for
-pub record Turn (c : Change) (t : Transaction) (i p : ℕ) (rs cs : List ℕ) : Type 0 where
+pub record Turn (c : Effect) (t : Transaction) (i p : ℕ) (rs cs : List ℕ) : Type 0 where
   pub accepted : recordsAccepted rs ≡ true
   pub units : coordinatorAccepted cs ≡ true
   pub few : t .count ≤ 8
@@ -51,15 +51,15 @@ pub record Turn (c : Change) (t : Transaction) (i p : ℕ) (rs cs : List ℕ) : 
   pub there : found (entryAt t i .key) (records rs) ≡ At p
 
 -- the sheet after a turn: the line of the entry's key changed, if the entry is of the group
-pub record Turned (c : Change) (cs : List ℕ) (t : Transaction) (e : Entry) (rs rs′ : List ℕ) : Type 0 where
+pub record Turned (c : Effect) (cs : List ℕ) (t : Transaction) (e : Entry) (rs rs′ : List ℕ) : Type 0 where
   pub accepted : recordsAccepted rs′ ≡ true
   pub lines : records rs′ ≡ cond (ofGroup cs t e) (map (atKey (e .key) (changed c (t .number) e)) (records rs)) (records rs)
 
-pub turned-not : (c : Change) (cs : List ℕ) (t : Transaction) (e : Entry) (rs : List ℕ) → recordsAccepted rs ≡ true → ofGroup cs t e ≡ false → Turned c cs t e rs rs
+pub turned-not : (c : Effect) (cs : List ℕ) (t : Transaction) (e : Entry) (rs : List ℕ) → recordsAccepted rs ≡ true → ofGroup cs t e ≡ false → Turned c cs t e rs rs
 turned-not c cs t e rs a h =
     record { accepted = a; lines = sym (ap (λ (b : Bool). cond b (map (atKey (e .key) (changed c (t .number) e)) (records rs)) (records rs)) h) }
 
-pub turned-own : (c : Change) (cs : List ℕ) (t : Transaction) (e : Entry) (rs rs′ : List ℕ) → ofGroup cs t e ≡ true → Wrote c (t .number) e rs rs′ → Turned c cs t e rs rs′
+pub turned-own : (c : Effect) (cs : List ℕ) (t : Transaction) (e : Entry) (rs rs′ : List ℕ) → ofGroup cs t e ≡ true → Wrote c (t .number) e rs rs′ → Turned c cs t e rs rs′
 turned-own c cs t e rs rs′ h w =
     record {
       accepted = w .accepted;
@@ -74,7 +74,7 @@ free-kept q k es h = go (hasKey k (filter q es)) refl
     go false e = refl
     go true e = absurd (true≢false (sym (kept-key q k es e) ∙ h))
 
-module _ (c : Change) (cs : List ℕ) (t : Transaction) where
+module _ (c : Effect) (cs : List ℕ) (t : Transaction) where
   -- the lines that the changes for the group among these entries leave
   abbrev pub leaves : List ℕ → List Entry → List Record
   leaves rs es = linesAfter (written c (t .number) (groupIn cs t es)) (records rs)

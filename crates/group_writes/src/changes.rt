@@ -21,7 +21,7 @@ use types::Record;
 use types::Transaction;
 
 // How a step changes the line of an entry: the put committed in one phase, or prepared at a clock reading, or the line rolled forward or back.
-enum Change {
+enum Effect {
     Commit,
     Prepare(u32),
     Forward,
@@ -29,20 +29,20 @@ enum Change {
 }
 
 // The record changed for an entry under a number; only what the number has prepared is rolled.
-fn changed(c: Change, n: u32, e: Entry, r: Record) -> Record
+fn changed(c: Effect, n: u32, e: Entry, r: Record) -> Record
     requires { ⌜ goodAlone (model.changed c n e r) ≡ true ⌝ }
     ensures { λ p. ⌜ p ≡ model.changed c n e r ⌝ }
 {
     match c {
-        Change::Commit => images::committed(n, e, r),
-        Change::Prepare(now) => images::prepared(n, now, e, r),
-        Change::Forward => {
+        Effect::Commit => images::committed(n, e.put, r),
+        Effect::Prepare(now) => images::prepared(n, now, e.put, r),
+        Effect::Forward => {
             if !images::prepared_by(n, r) {
                 return r;
             }
             images::rolled_forward(r)
         }
-        Change::Back => {
+        Effect::Back => {
             if !images::prepared_by(n, r) {
                 return r;
             }
@@ -52,7 +52,7 @@ fn changed(c: Change, n: u32, e: Entry, r: Record) -> Record
 }
 
 // The line of the entry's key changed, at its place.
-fn change_line(c: Change, n: u32, e: Entry, place: usize, records: &mut [u8])
+fn change_line(c: Effect, n: u32, e: Entry, place: usize, records: &mut [u8])
     requires { ⌜ Due c n e place (now records) ⌝ }
     ensures { λ u. ⌜ Wrote c n e (now (records .entry)) (now (records .exit)) ⌝ }
 {
@@ -62,7 +62,7 @@ fn change_line(c: Change, n: u32, e: Entry, place: usize, records: &mut [u8])
 
 // The line of entry i changed, if the entry is of the group.
 fn change_entry(
-    c: Change,
+    c: Effect,
     t: Transaction,
     i: usize,
     place: usize,
@@ -81,7 +81,7 @@ fn change_entry(
 
 // The lines of the group changed.
 fn change_group(
-    c: Change,
+    c: Effect,
     t: Transaction,
     places: [usize; 8],
     records: &mut [u8],
@@ -103,7 +103,7 @@ pub fn commit_group(t: Transaction, places: [usize; 8], records: &mut [u8], coor
     requires { ⌜ all (holds (sheet.records (now records))) (groupAt t (sheetsOf (now records) (now coordinator))) ≡ true ⌝ }
     ensures { λ u. ⌜ now (records .exit) ≡ recordsText (linesAfter (commit (t .number) (groupAt t (sheetsOf (now (records .entry)) (now (coordinator .entry))))) (sheet.records (now (records .entry)))) ⌝ }
 {
-    change_group(Change::Commit, t, places, records, coordinator);
+    change_group(Effect::Commit, t, places, records, coordinator);
 }
 
 // The puts of the group prepared at a clock reading.
@@ -118,7 +118,7 @@ pub fn prepare_group(
     requires { ⌜ all (holds (sheet.records (now records))) (groupAt t (sheetsOf (now records) (now coordinator))) ≡ true ⌝ }
     ensures { λ u. ⌜ now (records .exit) ≡ recordsText (linesAfter (prepare (t .number) clock (groupAt t (sheetsOf (now (records .entry)) (now (coordinator .entry))))) (sheet.records (now (records .entry)))) ⌝ }
 {
-    change_group(Change::Prepare(clock), t, places, records, coordinator);
+    change_group(Effect::Prepare(clock), t, places, records, coordinator);
 }
 
 // The lines of the group that the transaction has prepared rolled forward.
@@ -126,7 +126,7 @@ pub fn forward_group(t: Transaction, places: [usize; 8], records: &mut [u8], coo
     requires { ⌜ Ready (now records) (now coordinator) t places ⌝ }
     ensures { λ u. ⌜ now (records .exit) ≡ recordsText (linesAfter (forward (t .number) (keysOf (groupAt t (sheetsOf (now (records .entry)) (now (coordinator .entry)))))) (sheet.records (now (records .entry)))) ⌝ }
 {
-    change_group(Change::Forward, t, places, records, coordinator);
+    change_group(Effect::Forward, t, places, records, coordinator);
 }
 
 // The lines of the group that the transaction has prepared rolled back.
@@ -134,5 +134,5 @@ pub fn back_group(t: Transaction, places: [usize; 8], records: &mut [u8], coordi
     requires { ⌜ Ready (now records) (now coordinator) t places ⌝ }
     ensures { λ u. ⌜ now (records .exit) ≡ recordsText (linesAfter (back (t .number) (keysOf (groupAt t (sheetsOf (now (records .entry)) (now (coordinator .entry)))))) (sheet.records (now (records .entry)))) ⌝ }
 {
-    change_group(Change::Back, t, places, records, coordinator);
+    change_group(Effect::Back, t, places, records, coordinator);
 }

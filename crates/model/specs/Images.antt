@@ -7,6 +7,7 @@ use Rattle.types.specs.declared.State.the-variants.{Absent, Committed, Prepared
 use Rattle.types.specs.declared.Decision.{Decision}
 use Rattle.types.specs.declared.Decision.the-variants as Decided
 use Rattle.types.specs.declared.Image.{Image}
+use Rattle.types.specs.declared.Columns.{Columns}
 use Rattle.types.specs.declared.Record.{Record}
 use Rattle.types.specs.declared.Entry.{Entry}
 use Rattle.types.specs.declared.Recovery.{Recovery}
@@ -28,25 +29,36 @@ unchanged e r =
     && eqb (r .image .txid) (e .seen .txid)
     && eqb (r .image .version) (e .seen .version)
 
--- the put of an entry under a number: "version + 1"
-abbrev pub putImage : ℕ → Entry → Record → Image
-putImage n e r =
+-- What an entry does to its line: the columns of its put.
+abbrev pub Change : Type 0
+Change = Columns
+
+abbrev pub changeOf : Entry → Change
+changeOf e = e .put
+
+-- what a prepared line says is done once it is rolled forward
+abbrev pub changeIn : Record → Change
+changeIn r = record { column1 = r .image .column1; column2 = r .image .column2 }
+
+-- the image that a change writes under a number: "version + 1"
+abbrev pub writtenImage : ℕ → Change → Record → Image
+writtenImage n c r =
     record {
       version = r .image .version + 1;
       txid = n;
-      column1 = e .put .column1;
-      column2 = e .put .column2;
+      column1 = c .column1;
+      column2 = c .column2;
     }
 
 -- "write its lines PREPARED, old values to the before fields, version + 1, clock = now"
-unfoldable pub prepared : ℕ → ℕ → Entry → Record → Record
-prepared n now e r =
-    record { key = r .key; state = Prepared; image = putImage n e r; before = r .image; clock = now }
+unfoldable pub prepared : ℕ → ℕ → Change → Record → Record
+prepared n now c r =
+    record { key = r .key; state = Prepared; image = writtenImage n c r; before = r .image; clock = now }
 
 -- one-phase: "write the puts as COMMITTED under this number, version + 1"
-unfoldable pub committed : ℕ → Entry → Record → Record
-committed n e r =
-    record { key = r .key; state = Committed; image = putImage n e r; before = noImage; clock = 0 }
+unfoldable pub committed : ℕ → Change → Record → Record
+committed n c r =
+    record { key = r .key; state = Committed; image = writtenImage n c r; before = noImage; clock = 0 }
 
 -- "Forward: COMMITTED, before fields and clock 0."
 unfoldable pub rolledForward : Record → Record

@@ -8,10 +8,10 @@ use mathlib.Core.Option.{some}
 use Rattle.types.specs.declared.Decision.{Decision}
 use Rattle.types.specs.declared.Decision.the-variants.{Committed}
 use Rattle.types.specs.declared.Key.{Key}
-use Rattle.types.specs.declared.Columns.{Columns}
 use Rattle.types.specs.declared.Record.{Record}
 use Rattle.model.specs.Records.{records, recordsText}
 use Rattle.model.specs.Coordinator.{coordinatorOf, decision}
+use Rattle.model.specs.Images.{Change}
 use Rattle.model.specs.Writes.{Sheets}
 use Rattle.model.specs.Histories.{Event, leftBy}
 use Rattle.model.specs.ByteHistories.{Bytes, saying, answerOn, afterOn}
@@ -43,4 +43,4 @@ pub record Recovered (vs : List Visit) (xs : List Turn) (b : Bytes) : Type 0 whe
   -- "and each is, byte for byte, its line in document 01's plain book"
   pub lines : bytesRecovered vs xs b .records ≡ recordsText (map (λ (r : Record). modelOn xs b .line (r .key)) (records (b .records)))
   -- of the numbers begun in the history those that have put something
-  pub committed : (n : ℕ) → coordinatorOf (b .coordinator) .issued < n → (k : Key) (c : Columns) → modelOn xs b .writes n k ≡ some c → CommittedExactly (isCommitted n (modelOn xs b)) (decision n (coordinatorOf (bytesRecovered vs xs b .coordinator))) (onePhaseTurn turnAfterOn turnOnePhaseOn n xs b)
+  pub committed : (n : ℕ) → coordinatorOf (b .coordinator) .issued < n → (k : Key) (c : Change) → modelOn xs b .writes n k ≡ some c → CommittedExactly (isCommitted n (modelOn xs b)) (decision n (coordinatorOf (bytesRecovered vs xs b .coordinator))) (onePhaseTurn turnAfterOn turnOnePhaseOn n xs b)

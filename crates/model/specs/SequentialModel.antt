@@ -1,6 +1,6 @@
 -- The sequential model (document 01: the plain book): a line for each key and a write set (page) for each number. It is fed each call's arguments and
 -- its answer, and never sees the sheets.
-use Prim.Native.Nat.{ℕ, _+_}
+use Prim.Native.Nat.{ℕ}
 use mathlib.Core.Bool.{Bool, false, _&&_, cond}
 use mathlib.Core.List.{List, [], _∷_}
 use mathlib.Core.Option.{Option, none, some}
@@ -8,17 +8,17 @@ use lib.Dec.{eqb}
 use Rattle.lists.specs.Each.{any}
 use Rattle.types.specs.declared.State.the-variants.{Committed}
 use Rattle.types.specs.declared.Key.{Key}
-use Rattle.types.specs.declared.Columns.{Columns}
 use Rattle.types.specs.declared.Record.{Record}
 use Rattle.types.specs.declared.Transaction.{Transaction}
 use Rattle.model.specs.Records.{noImage, sameKey, lineOf}
+use Rattle.model.specs.Images.{Change, writtenImage}
 use Rattle.model.specs.Transactions.{noVerdict, committedVerdict}
 use Rattle.model.specs.Results.{Call, begin, read, put, advance, abort, visit}
 use Rattle.model.specs.Histories.{Event, Answer, turnedAway, returned, answered, visited}
 
--- the columns to be written to each key
+-- what is to be done to the line of each key
 abbrev pub WriteSet : Type 0
-WriteSet = Key → Option Columns
+WriteSet = Key → Option Change
 
 pub record Model : Type 0 where
   -- the line of each key
@@ -47,7 +47,7 @@ modelBegin n m =
     }
 
 -- "accepted put: key and columns go on that number's page, in place of earlier ones for the key"
-unfoldable pub modelPut : ℕ → Key → Columns → Model → Model
+unfoldable pub modelPut : ℕ → Key → Change → Model → Model
 modelPut n k c m =
     record {
       line = m .line;
@@ -56,22 +56,10 @@ modelPut n k c m =
     }
 
 -- "the book's line becomes COMMITTED, version + 1, TxID its number, the page's columns, before fields and clock 0"
-unfoldable pub overwritten : ℕ → Option Columns → Record → Record
+unfoldable pub overwritten : ℕ → Option Change → Record → Record
 overwritten n none r = r
 overwritten n (some c) r =
-    record {
-      key = r .key;
-      state = Committed;
-      image =
-          record {
-            version = r .image .version + 1;
-            txid = n;
-            column1 = c .column1;
-            column2 = c .column2;
-          };
-      before = noImage;
-      clock = 0;
-    }
+    record { key = r .key; state = Committed; image = writtenImage n c r; before = noImage; clock = 0 }
 
 -- "the transaction is committed", for each key on its page
 unfoldable pub modelCommit : ℕ → Model → Model

@@ -11,7 +11,7 @@ use Rattle.types.specs.declared.Record.{Record}
 use Rattle.types.specs.declared.Entry.{Entry}
 use Rattle.model.specs.Records.{sameKey, recordsGood}
 use Rattle.model.specs.Coordinator.{Coordinator, coordinatorGood, namesIssued, withDecision, withIssued}
-use Rattle.model.specs.Images.{preparedBy, prepared, committed, rolledForward, rolledBack}
+use Rattle.model.specs.Images.{changeOf, preparedBy, prepared, committed, rolledForward, rolledBack}
 
 -- both sheets, decoded
 pub record Sheets : Type 0 where
@@ -58,8 +58,8 @@ unfoldable pub lineAfter : Write → Record → Record
 lineAfter nothing r = r
 lineAfter issue r = r
 lineAfter (decide n d) r = r
-lineAfter (commit n es) r = byEntry (entryFor (r .key) es) r (λ (e : Entry). committed n e r)
-lineAfter (prepare n now es) r = byEntry (entryFor (r .key) es) r (λ (e : Entry). prepared n now e r)
+lineAfter (commit n es) r = byEntry (entryFor (r .key) es) r (λ (e : Entry). committed n (changeOf e) r)
+lineAfter (prepare n now es) r = byEntry (entryFor (r .key) es) r (λ (e : Entry). prepared n now (changeOf e) r)
 lineAfter (forward n ks) r = cond (isOf n ks r) (rolledForward r) r
 lineAfter (back n ks) r = cond (isOf n ks r) (rolledBack r) r
 

@@ -2,9 +2,10 @@
 ghost use mathlib.Core.Path.{_≡_};
 ghost use Prim.Native.Nat.{_+_, _^_, _<_};
 ghost use Rattle.model.specs.Images as model;
-ghost use Rattle.model.specs.Images.{isPrepared, preparedBy, rolledForward, rolledBack, beforeState, putImage, lineExpired};
+ghost use Rattle.model.specs.Images.{isPrepared, preparedBy, rolledForward, rolledBack, beforeState, writtenImage, lineExpired};
 ghost use mathlib.Core.Bool.{cond};
 ghost use Rattle.types.specs.declared.Recovery.the-variants.{Again, Busy};
+use types::Columns;
 use types::Decision;
 use types::Entry;
 use types::Image;
@@ -39,45 +40,45 @@ pub fn unchanged(e: Entry, r: Record) -> bool
     !is_prepared(r) & (r.image.txid == e.seen.txid) & (r.image.version == e.seen.version)
 }
 
-// The put of an entry under a number.
-fn put_image(n: u32, e: Entry, r: Record) -> Image
+// What a change writes under a number.
+fn written_image(n: u32, c: Columns, r: Record) -> Image
     requires { ⌜ r .image .version + 1 < 2 ^ 32 ⌝ }
-    ensures { λ m. ⌜ m ≡ putImage n e r ⌝ }
+    ensures { λ m. ⌜ m ≡ writtenImage n c r ⌝ }
 {
     Image {
         version: r.image.version + 1,
         txid: n,
-        column1: e.put.column1,
-        column2: e.put.column2,
+        column1: c.column1,
+        column2: c.column2,
     }
 }
 
-// The record with an entry's put prepared, and what it held before.
-pub fn prepared(n: u32, now: u32, e: Entry, r: Record) -> Record
+// The record with a change prepared, and what it held before.
+pub fn prepared(n: u32, now: u32, c: Columns, r: Record) -> Record
     requires { ⌜ r .image .version + 1 < 2 ^ 32 ⌝ }
-    ensures { λ p. ⌜ p ≡ model.prepared n now e r ⌝ }
+    ensures { λ p. ⌜ p ≡ model.prepared n now c r ⌝ }
 {
     let key = r.key;
     let before = r.image;
     Record {
         key,
         state: State::Prepared,
-        image: put_image(n, e, r),
+        image: written_image(n, c, r),
         before,
         clock: now,
     }
 }
 
-// The record with an entry's put committed in one phase.
-pub fn committed(n: u32, e: Entry, r: Record) -> Record
+// The record with a change committed in one phase.
+pub fn committed(n: u32, c: Columns, r: Record) -> Record
     requires { ⌜ r .image .version + 1 < 2 ^ 32 ⌝ }
-    ensures { λ p. ⌜ p ≡ model.committed n e r ⌝ }
+    ensures { λ p. ⌜ p ≡ model.committed n c r ⌝ }
 {
     let key = r.key;
     Record {
         key,
         state: State::Committed,
-        image: put_image(n, e, r),
+        image: written_image(n, c, r),
         before: NO_IMAGE,
         clock: 0,
     }

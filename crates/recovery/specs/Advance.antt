@@ -58,7 +58,7 @@ use Rattle.recovery.specs.Settling.{
 use Rattle.recovery.specs.View.{View, gentle-view}
 use Rattle.recovery.specs.Memory.{
   putIn,
-  preparedColumns,
+  preparedChange,
   doneAt,
   Memory,
   Away,
@@ -207,9 +207,9 @@ module _ (s : Sheets) (m : Model) (t : Transaction) (good : GoodSheets s) (view 
       let mem : Memory s t = known .memory (omega arith) in
       record {
         undone = λ e. mem .undone (ap (λ (x : ℕ). decision x (s .coordinator)) (sym n) ∙ e);
-        columns = λ e k. let u : decision (t .number) (s .coordinator) ≡ Undecided = ap (λ (x : ℕ). decision x (s .coordinator)) (sym n) ∙ e in
-            ap (λ (x : ℕ). preparedColumns x (lineOf k (apply (prepare (t .number) now (groupAt t s)) s .lines))) n
-            ∙ (prepare-columns s good t now may (λ j. mem .columns u j ∙ done-in-prepare (unitsOf s) t ph j) k ∙ sym (d k));
+        changes = λ e k. let u : decision (t .number) (s .coordinator) ≡ Undecided = ap (λ (x : ℕ). decision x (s .coordinator)) (sym n) ∙ e in
+            ap (λ (x : ℕ). preparedChange x (lineOf k (apply (prepare (t .number) now (groupAt t s)) s .lines))) n
+            ∙ (prepare-columns s good t now may (λ j. mem .changes u j ∙ done-in-prepare (unitsOf s) t ph j) k ∙ sym (d k));
       }
 
   prepare-moves : (now : ℕ) → t .phase ≡ 1 → StepMoves (prepareStep t now s)
@@ -278,7 +278,7 @@ module _ (s : Sheets) (m : Model) (t : Transaction) (good : GoodSheets s) (view 
       by-decision-of StepMoves (decision (t .number) (s .coordinator))
       (λ u. commits-it (decide (t .number) Committed) (moved finishPhase 0 committedVerdict t) (ap (λ (x : ℕ). eqb x 0 && true) v)
       (decide-view s good t m (known .sets) (body .number) (omega arith) u
-      (λ k. mem .columns u k ∙ done-in-decide (unitsOf s) t ph k) view)
+      (λ k. mem .changes u k ∙ done-in-decide (unitsOf s) t ph k) view)
       (λ j d. away-decide (t .number) Committed (λ e. d (sym e))) refl refl (omega arith) (λ q. absurd (true≢false (sym q))) by-decision)
       (λ u. stays)
       (λ u. moves undoPhase 0 abortedVerdict aborted-verdict (omega arith) (λ q. omega (arith, q)) (λ l. absurd (omega arith)))

@@ -64,7 +64,7 @@ use Rattle.recovery.specs.Settling.{
   undecided-committed,
 }
 use Rattle.recovery.specs.View.{own-txid, line-after, gentle-view}
-use Rattle.recovery.specs.Memory.{putIn, preparedColumns, Memory, other-owner, memory-kept, undecided-kept, Away, away-nothing, away-issue, away-abort, away-forward, away-back}
+use Rattle.recovery.specs.Memory.{putIn, preparedChange, Memory, other-owner, memory-kept, undecided-kept, Away, away-nothing, away-issue, away-abort, away-forward, away-back}
 use Rattle.recovery.specs.Advance.{never-both, afterStep, plain, withdraws, stays, step-moves, advance-live}
 use Rattle.recovery.specs.Puts.{put-in-more, put-in-replaced, take-set}
 use Rattle.recovery.specs.Stages.{memory-as, done-in-open}
@@ -188,8 +188,8 @@ module _ {base : ℕ} {one : ℕ → Bool} (s : Sheets) (es : List Event) (m : M
   begin-memory b =
       record {
         undone = λ e. undecided-committed (sym new-undecided ∙ (sym (issued-decision (s .coordinator .issued + 1) (s .coordinator .issued + 1) (s .coordinator)) ∙ e));
-        columns = λ e k. let x : lineOf k (s .lines) .image .txid ≤ s .coordinator .issued = own-txid s (inv .good) k in
-            ap (preparedColumns (s .coordinator .issued + 1)) (line-after s issue (still-issue (s .lines)) k)
+        changes = λ e k. let x : lineOf k (s .lines) .image .txid ≤ s .coordinator .issued = own-txid s (inv .good) k in
+            ap (preparedChange (s .coordinator .issued + 1)) (line-after s issue (still-issue (s .lines)) k)
             ∙ (other-owner (s .coordinator .issued + 1) (lineOf k (s .lines)) (λ q. omega (arith, x, q))
             ∙ sym (done-in-open (unitsOf (apply issue s)) (newTransaction (s .coordinator .issued + 1) b) refl k));
       }

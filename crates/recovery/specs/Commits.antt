@@ -9,8 +9,8 @@ use mathlib.Core.Option.{none, some, Option·none-ne-some}
 use Rattle.types.specs.declared.Decision.{Decision}
 use Rattle.types.specs.declared.Decision.the-variants.{Committed}
 use Rattle.types.specs.declared.Key.{Key}
-use Rattle.types.specs.declared.Columns.{Columns}
 use Rattle.types.specs.declared.Recovery.{Recovery}
+use Rattle.model.specs.Images.{Change}
 use Rattle.model.specs.Records.{lineOf}
 use Rattle.model.specs.Coordinator.{decision}
 use Rattle.model.specs.Writes.{Sheets, sheetsGood, isOnePhase, apply}
@@ -82,7 +82,7 @@ exactly-same {d = d} {e = e} {o = o} {p = p} f g h x =
     either (inl q) = inl (sym g ∙ q)
     either (inr q) = inr (sym h ∙ q)
 
-pub commits-exactly : (s : Sheets) → sheetsGood s ≡ true → nonePrepared (s .lines) ≡ true → (cs : List Call) → Legal answer after cs s [] → (vs : List Visit) (n : ℕ) → s .coordinator .issued < n → (k : Key) (c : Columns) → modelOf cs s .writes n k ≡ some c → Exactly n vs cs s
+pub commits-exactly : (s : Sheets) → sheetsGood s ≡ true → nonePrepared (s .lines) ≡ true → (cs : List Call) → Legal answer after cs s [] → (vs : List Visit) (n : ℕ) → s .coordinator .issued < n → (k : Key) (c : Change) → modelOf cs s .writes n k ≡ some c → Exactly n vs cs s
 unfolding modelAfter
 commits-exactly s g z cs legal vs n new k c put =
     record {

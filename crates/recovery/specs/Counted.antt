@@ -22,7 +22,7 @@ use Rattle.model.specs.Histories.{Event, returns, taken, Available}
 use Rattle.model.specs.SequentialModel.{Model, modelCommit, isCommitted}
 use Rattle.call_laws.specs.Keeping.{issued-grows}
 use Rattle.model.specs.Records.{lineOf}
-use Rattle.recovery.specs.Memory.{preparedColumns, Away, undecided-kept, none-prepared-kept}
+use Rattle.recovery.specs.Memory.{preparedChange, Away, undecided-kept, none-prepared-kept}
 use Rattle.recovery.specs.Settling.{
   Gentle,
   gentle-nothing,
@@ -45,7 +45,7 @@ oneAfter w one n = isOnePhase n w || one n
 -- a number that is undecided and has prepared no line
 pub record Silent (n : ℕ) (s : Sheets) : Type 0 where
   pub undecided : decision n (s .coordinator) ≡ Undecided
-  pub unprepared : (k : Key) → preparedColumns n (lineOf k (s .lines)) ≡ none
+  pub unprepared : (k : Key) → preparedChange n (lineOf k (s .lines)) ≡ none
 
 -- it stays so under the writes of others
 pub silent-kept : (n : ℕ) (s : Sheets) (w : Write) → Away s n w → Silent n s → Silent n (apply w s)

@@ -44,7 +44,7 @@ use Rattle.recovery.specs.Counted.{
   counted-begun,
 }
 use Rattle.recovery.specs.Stages.{done-in-open}
-use Rattle.recovery.specs.Memory.{putIn, preparedColumns, Memory, Away, memory-kept, undecided-kept}
+use Rattle.recovery.specs.Memory.{putIn, preparedChange, Memory, Away, memory-kept, undecided-kept}
 
 -- what is remembered of a state that may be handed on
 pub record Remembered (s : Sheets) (m : Model) (t : Transaction) : Type 0 where
@@ -88,9 +88,9 @@ number-fits s g t f =
     (b .number, b .known, bounds (s .coordinator) (g .decisions) .issued)
 
 -- in open nothing is prepared
-pub open-unprepared : (s : Sheets) (m : Model) (t : Transaction) → Remembered s m t → t .phase ≡ 0 → (k : Key) → preparedColumns (t .number) (lineOf k (s .lines)) ≡ none
+pub open-unprepared : (s : Sheets) (m : Model) (t : Transaction) → Remembered s m t → t .phase ≡ 0 → (k : Key) → preparedChange (t .number) (lineOf k (s .lines)) ≡ none
 open-unprepared s m t r e k =
-    r .memory (omega (arith, e)) .columns (r .open-undecided e) k ∙ done-in-open (s .coordinator .units) t e k
+    r .memory (omega (arith, e)) .changes (r .open-undecided e) k ∙ done-in-open (s .coordinator .units) t e k
 
 -- the state of another number
 other-kept : (s : Sheets) (w : Write) (m m′ : Model) (u : Transaction) → GoodSheets s → Away s (u .number) w → ((k : Key) → m′ .writes (u .number) k ≡ m .writes (u .number) k) → Remembered s m u → Remembered (apply w s) m′ u

@@ -14,7 +14,6 @@ use Rattle.types.specs.declared.AtomicityUnit.{AtomicityUnit}
 use Rattle.types.specs.declared.Decision.{Decision}
 use Rattle.types.specs.declared.Decision.the-variants.{Undecided, Committed, Aborted}
 use Rattle.types.specs.declared.Key.{Key}
-use Rattle.types.specs.declared.Columns.{Columns}
 use Rattle.types.specs.declared.Entry.{Entry}
 use Rattle.types.specs.declared.Record.{Record}
 use Rattle.types.specs.declared.Transaction.{Transaction}
@@ -22,7 +21,7 @@ use Rattle.model.specs.Records.{lineOf, sameKey}
 use Rattle.model.specs.Coordinator.{Coordinator, decision, withDecision}
 use Rattle.model.specs.Transactions.{byPhase, isPut, held, puts}
 use Rattle.model.specs.Groups.{groupCount, groupPlace}
-use Rattle.model.specs.Images.{isPrepared, preparedBy, prepared, committed, rolledForward, rolledBack}
+use Rattle.model.specs.Images.{isPrepared, preparedBy, prepared, committed, rolledForward, rolledBack, Change, changeOf, changeIn}
 use Rattle.model.specs.Writes.{
   Sheets,
   Write,
@@ -55,28 +54,28 @@ use Rattle.recovery.specs.Settling.{
 }
 use Rattle.recovery.specs.View.{own-key, line-after}
 
--- the columns put for a key, if any
-unfoldable pub putIn : Key → List Entry → Option Columns
+-- what is put for a key, if anything
+unfoldable pub putIn : Key → List Entry → Option Change
 putIn k [] = none
-putIn k (e ∷ es) = cond (isPut e && sameKey (e .key) k) (some (e .put)) (putIn k es)
+putIn k (e ∷ es) = cond (isPut e && sameKey (e .key) k) (some (changeOf e)) (putIn k es)
 
--- the columns that a number has prepared on a line, if any
-unfoldable pub preparedColumns : ℕ → Record → Option Columns
-preparedColumns n r =
-    cond (preparedBy n r) (some (record { column1 = r .image .column1; column2 = r .image .column2 })) none
+-- what a number has prepared on a line, if anything
+unfoldable pub preparedChange : ℕ → Record → Option Change
+preparedChange n r =
+    cond (preparedBy n r) (some (changeIn r)) none
 
 -- the groups done so far: none in open, those before the place in prepare, all in validate and decide
 unfoldable pub groupsDone : List AtomicityUnit → Transaction → ℕ
 groupsDone us t =
     byPhase (t .phase) 0 (t .place) (groupCount us (puts t)) (groupCount us (puts t)) 0 0 0 0 0
 
--- the columns of a key that is in a group done so far
-unfoldable pub doneAt : List AtomicityUnit → Transaction → Key → Option Columns
+-- what is put for a key that is in a group done so far
+unfoldable pub doneAt : List AtomicityUnit → Transaction → Key → Option Change
 doneAt us t k = cond (ltb (groupPlace us (puts t) k) (groupsDone us t)) (putIn k (held t)) none
 
 pub record Memory (s : Sheets) (t : Transaction) : Type 0 where
   pub undone : decision (t .number) (s .coordinator) ≡ Committed → ⊥
-  pub columns : decision (t .number) (s .coordinator) ≡ Undecided → (k : Key) → preparedColumns (t .number) (lineOf k (s .lines)) ≡ doneAt (unitsOf s) t k
+  pub changes : decision (t .number) (s .coordinator) ≡ Undecided → (k : Key) → preparedChange (t .number) (lineOf k (s .lines)) ≡ doneAt (unitsOf s) t k
 
 -- a line that a number has prepared
 pub record PreparedLine (s : Sheets) (j : ℕ) : Type 0 where
@@ -108,41 +107,41 @@ away-still s j w (away-back i ks h) = still-back (s .lines) i ks
 
 -- A line without a preparation of the number.
 
-pub not-prepared : (j : ℕ) (r : Record) → isPrepared r ≡ false → preparedColumns j r ≡ none
-unfolding preparedColumns preparedBy
+pub not-prepared : (j : ℕ) (r : Record) → isPrepared r ≡ false → preparedChange j r ≡ none
+unfolding preparedChange preparedBy
 not-prepared j r p = rw p
 
-pub other-owner : (j : ℕ) (r : Record) → (r .image .txid ≡ j → ⊥) → preparedColumns j r ≡ none
-unfolding preparedColumns preparedBy
+pub other-owner : (j : ℕ) (r : Record) → (r .image .txid ≡ j → ⊥) → preparedChange j r ≡ none
+unfolding preparedChange preparedBy
 other-owner j r n =
     let e : eqb (r .image .txid) j ≡ false = ne-eqb (r .image .txid) j n in
     rw (e, and-false (isPrepared r))
 
 -- The columns prepared on a line stay.
 module _ (s : Sheets) (j : ℕ) (u : decision j (s .coordinator) ≡ Undecided) (r : Record) (own : lineOf (r .key) (s .lines) ≡ r) where
-  put-away : (i : ℕ) (es : List Entry) (f : Entry → Record) → MayPutAll s i es → ((e : Entry) → preparedColumns j (f e) ≡ none) → preparedColumns j (byEntry (entryFor (r .key) es) r f) ≡ preparedColumns j r
+  put-away : (i : ℕ) (es : List Entry) (f : Entry → Record) → MayPutAll s i es → ((e : Entry) → preparedChange j (f e) ≡ none) → preparedChange j (byEntry (entryFor (r .key) es) r f) ≡ preparedChange j r
   put-away i es f m h = go (entryFor (r .key) es) refl
     where
-      go : (o : Option Entry) → entryFor (r .key) es ≡ o → preparedColumns j (byEntry o r f) ≡ preparedColumns j r
+      go : (o : Option Entry) → entryFor (r .key) es ≡ o → preparedChange j (byEntry o r f) ≡ preparedChange j r
       go none e = refl
       go (some x) e = h x ∙ sym (not-prepared j r (ap isPrepared (sym own) ∙ m (r .key) x e .1 .free))
 
-  roll-away : (i : ℕ) (ks : List Key) (r′ : Record) → (i ≡ j → ⊥) → isPrepared r′ ≡ false → preparedColumns j (cond (isOf i ks r) r′ r) ≡ preparedColumns j r
+  roll-away : (i : ℕ) (ks : List Key) (r′ : Record) → (i ≡ j → ⊥) → isPrepared r′ ≡ false → preparedChange j (cond (isOf i ks r) r′ r) ≡ preparedChange j r
   roll-away i ks r′ n p =
-      choose-by (λ (x : Record). preparedColumns j x ≡ preparedColumns j r) (isOf i ks r)
+      choose-by (λ (x : Record). preparedChange j x ≡ preparedChange j r) (isOf i ks r)
       (λ h. not-prepared j r′ p ∙ sym (other-owner j r (λ e. n (sym (own-line i ks r h .1) ∙ e))))
       (λ h. refl)
 
-  away-columns : (w : Write) → Away s j w → preparedColumns j (lineAfter w r) ≡ preparedColumns j r
+  away-columns : (w : Write) → Away s j w → preparedChange j (lineAfter w r) ≡ preparedChange j r
   unfolding lineAfter committed prepared
   away-columns w away-nothing = refl
   away-columns w away-issue = refl
   away-columns w (away-abort i x) = refl
   away-columns w (away-decide i d n) = refl
   away-columns w (away-commit i es m) =
-      put-away i es (λ (e : Entry). committed i e r) m (λ e. not-prepared j (committed i e r) refl)
+      put-away i es (λ (e : Entry). committed i (changeOf e) r) m (λ e. not-prepared j (committed i (changeOf e) r) refl)
   away-columns w (away-prepare i now es n m) =
-      put-away i es (λ (e : Entry). prepared i now e r) m (λ e. other-owner j (prepared i now e r) n)
+      put-away i es (λ (e : Entry). prepared i now (changeOf e) r) m (λ e. other-owner j (prepared i now (changeOf e) r) n)
   away-columns w (away-forward i ks h) =
       roll-away i ks (rolledForward r) (λ e. undecided-committed (sym u ∙ h e)) (forward-plain r)
   away-columns w (away-back i ks h) =
@@ -185,19 +184,19 @@ unfolding apply
 memory-kept s t w a m =
     record {
       undone = λ e. m .undone (away-stood Committed s (t .number) w (λ i. abort-commits-none (s .coordinator) i (t .number)) a e);
-      columns = λ e k. let u : decision (t .number) (s .coordinator) ≡ Undecided = away-stood Undecided s (t .number) w (λ i. abort-undecided (s .coordinator) i (t .number)) a e in
-          ap (preparedColumns (t .number)) (line-after s w (away-still s (t .number) w a) k)
+      changes = λ e k. let u : decision (t .number) (s .coordinator) ≡ Undecided = away-stood Undecided s (t .number) w (λ i. abort-undecided (s .coordinator) i (t .number)) a e in
+          ap (preparedChange (t .number)) (line-after s w (away-still s (t .number) w a) k)
           ∙ (away-columns s (t .number) u (lineOf k (s .lines)) (own-key s k) w a
-          ∙ (m .columns u k ∙ ap (λ (us : List AtomicityUnit). doneAt us t k) (sym (units-kept w (s .coordinator)))));
+          ∙ (m .changes u k ∙ ap (λ (us : List AtomicityUnit). doneAt us t k) (sym (units-kept w (s .coordinator)))));
     }
 
-owns-none : (s : Sheets) (j : ℕ) → ((k : Key) → preparedColumns j (lineOf k (s .lines)) ≡ none) → PreparedLine s j → ⊥
-unfolding preparedColumns
+owns-none : (s : Sheets) (j : ℕ) → ((k : Key) → preparedChange j (lineOf k (s .lines)) ≡ none) → PreparedLine s j → ⊥
+unfolding preparedChange
 owns-none s j n x =
     Option·none-ne-some _ (sym (n (x .key)) ∙ ap (λ (b : Bool). cond b (some (record { column1 = lineOf (x .key) (s .lines) .image .column1; column2 = lineOf (x .key) (s .lines) .image .column2 })) none) (x .by))
 
 -- Undecided as long as no line is prepared: nobody aborts a number that owns no line.
-pub undecided-kept : (s : Sheets) (j : ℕ) (w : Write) → Away s j w → ((k : Key) → preparedColumns j (lineOf k (s .lines)) ≡ none) → decision j (s .coordinator) ≡ Undecided → decision j (decisionsAfter w (s .coordinator)) ≡ Undecided
+pub undecided-kept : (s : Sheets) (j : ℕ) (w : Write) → Away s j w → ((k : Key) → preparedChange j (lineOf k (s .lines)) ≡ none) → decision j (s .coordinator) ≡ Undecided → decision j (decisionsAfter w (s .coordinator)) ≡ Undecided
 unfolding decisionsAfter
 undecided-kept s j w away-nothing n u = u
 undecided-kept s j w away-issue n u = issued-decision _ j (s .coordinator) ∙ u
@@ -209,7 +208,7 @@ undecided-kept s j w (away-forward i ks h) n u = u
 undecided-kept s j w (away-back i ks h) n u = u
 
 -- and none is prepared by the writes of others
-pub none-prepared-kept : (s : Sheets) (j : ℕ) (w : Write) → Away s j w → ((k : Key) → preparedColumns j (lineOf k (s .lines)) ≡ none) → decision j (s .coordinator) ≡ Undecided → (k : Key) → preparedColumns j (lineOf k (apply w s .lines)) ≡ none
+pub none-prepared-kept : (s : Sheets) (j : ℕ) (w : Write) → Away s j w → ((k : Key) → preparedChange j (lineOf k (s .lines)) ≡ none) → decision j (s .coordinator) ≡ Undecided → (k : Key) → preparedChange j (lineOf k (apply w s .lines)) ≡ none
 unfolding apply
 none-prepared-kept s j w a n u k =
-    ap (preparedColumns j) (line-after s w (away-still s j w a) k) ∙ (away-columns s j u (lineOf k (s .lines)) (own-key s k) w a ∙ n k)
+    ap (preparedChange j) (line-after s w (away-still s j w a) k) ∙ (away-columns s j u (lineOf k (s .lines)) (own-key s k) w a ∙ n k)

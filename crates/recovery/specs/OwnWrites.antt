@@ -14,7 +14,6 @@ use Rattle.types.specs.declared.State.the-variants as State
 use Rattle.types.specs.declared.AtomicityUnit.{AtomicityUnit}
 use Rattle.types.specs.declared.Decision.the-variants.{Undecided, Committed}
 use Rattle.types.specs.declared.Key.{Key}
-use Rattle.types.specs.declared.Columns.{Columns}
 use Rattle.types.specs.declared.Entry.{Entry}
 use Rattle.types.specs.declared.Record.{Record}
 use Rattle.types.specs.declared.Transaction.{Transaction}
@@ -22,7 +21,7 @@ use Rattle.model.specs.Records.{lineOf, preparedRule, noImage}
 use Rattle.model.specs.Coordinator.{Coordinator, decision, withDecision}
 use Rattle.model.specs.Transactions.{held, puts}
 use Rattle.model.specs.Groups.{groupCount, groupPlace}
-use Rattle.model.specs.Images.{isPrepared, preparedBy, prepared, committed, rolledForward, rolledBack}
+use Rattle.model.specs.Images.{isPrepared, preparedBy, prepared, committed, rolledForward, rolledBack, Change, changeOf, changeIn}
 use Rattle.model.specs.Writes.{Sheets, decide, commit, prepare, entryFor, byEntry, lineAfter, decisionsAfter, apply}
 use Rattle.model.specs.Steps.{unitsOf, groupAt}
 use Rattle.model.specs.SequentialModel.{Model, modelCommit, overwritten}
@@ -32,16 +31,16 @@ use Rattle.call_laws.specs.Lines.{line-of-key, still-decide}
 use Rattle.call_laws.specs.Sheets.{GoodSheets, MayPutAll, still-commit, still-prepare}
 use Rattle.recovery.specs.Settling.{settle, settled-plain, settled-by, settled-back, decided-own, decided-other, undecided-committed}
 use Rattle.recovery.specs.View.{View, own-key, own-rule, line-after}
-use Rattle.recovery.specs.Memory.{putIn, preparedColumns}
+use Rattle.recovery.specs.Memory.{putIn, preparedChange}
 use Rattle.recovery.specs.Puts.{putOf, put-in-puts, entry-in-group, found-has-key}
 
 -- the columns of a key that is in one of the first p groups
-abbrev pub doneTo : List AtomicityUnit → Transaction → ℕ → Key → Option Columns
+abbrev pub doneTo : List AtomicityUnit → Transaction → ℕ → Key → Option Change
 doneTo us t p k = cond (ltb (groupPlace us (puts t) k) p) (putIn k (held t)) none
 
 pub no-put : (us : List AtomicityUnit) (t : Transaction) (p : ℕ) (k : Key) → putIn k (held t) ≡ none → doneTo us t p k ≡ none
 no-put us t p k e =
-    choose-by (λ (x : Option Columns). x ≡ none) (ltb (groupPlace us (puts t) k) p) (λ b. e) (λ b. refl)
+    choose-by (λ (x : Option Change). x ≡ none) (ltb (groupPlace us (puts t) k) p) (λ b. e) (λ b. refl)
 
 -- a key with a put is in one of the groups
 pub all-done : (us : List AtomicityUnit) (t : Transaction) (k : Key) → doneTo us t (groupCount us (puts t)) k ≡ putIn k (held t)
@@ -58,9 +57,9 @@ all-done us t k = go (entryFor k (puts t)) refl
 
 -- Preparing a group.
 
-prepared-own : (n now : ℕ) (e : Entry) (r : Record) → preparedColumns n (prepared n now e r) ≡ some (e .put)
-unfolding preparedColumns preparedBy prepared
-prepared-own n now e r = let q : eqb n n ≡ true = eq-eqb n n refl in rw q refl
+prepared-own : (n now : ℕ) (c : Change) (r : Record) → preparedChange n (prepared n now c r) ≡ some c
+unfolding preparedChange preparedBy prepared
+prepared-own n now c r = let q : eqb n n ≡ true = eq-eqb n n refl in rw q refl
 
 either-way : {A : Type 0} (b : Bool) (x : A) → cond b x x ≡ x
 either-way true x = refl
@@ -78,16 +77,16 @@ one-further g p n = go (ltb g p) refl
         apart : p ≤ g → p + 1 ≤ g
         apart l = omega (arith, l, n)
 
-prepared-some : (n : ℕ) (r : Record) → preparedBy n r ≡ true → preparedColumns n r ≡ some (record { column1 = r .image .column1; column2 = r .image .column2 })
-unfolding preparedColumns
+prepared-some : (n : ℕ) (r : Record) → preparedBy n r ≡ true → preparedChange n r ≡ some (changeIn r)
+unfolding preparedChange
 prepared-some n r q = rw q
 
-prepared-none : (n : ℕ) (r : Record) → preparedBy n r ≡ false → preparedColumns n r ≡ none
-unfolding preparedColumns
+prepared-none : (n : ℕ) (r : Record) → preparedBy n r ≡ false → preparedChange n r ≡ none
+unfolding preparedChange
 prepared-none n r q = rw q
 
 -- rolling a prepared line forward is writing its columns over the line that was there
-forward-overwrites : (n : ℕ) (r : Record) → preparedRule r ≡ true → r .image .txid ≡ n → rolledForward r ≡ overwritten n (some (record { column1 = r .image .column1; column2 = r .image .column2 })) (rolledBack r)
+forward-overwrites : (n : ℕ) (r : Record) → preparedRule r ≡ true → r .image .txid ≡ n → rolledForward r ≡ overwritten n (some (changeIn r)) (rolledBack r)
 unfolding rolledForward rolledBack overwritten preparedRule
 forward-overwrites n r h o =
     let v : r .image .version ≡ r .before .version + 1 = search tests in
@@ -122,14 +121,14 @@ module _ (s : Sheets) (good : GoodSheets s) (t : Transaction) where
   put-is k = put-in-puts k (held t)
 
   -- the line of a key after its group was prepared
-  pub prepare-columns : (now : ℕ) → MayPutAll s (t .number) (groupAt t s) → ((k : Key) → preparedColumns (t .number) (lineOf k (s .lines)) ≡ doneTo (unitsOf s) t (t .place) k) → (k : Key) → preparedColumns (t .number) (lineOf k (apply (prepare (t .number) now (groupAt t s)) s .lines)) ≡ doneTo (unitsOf s) t (t .place + 1) k
+  pub prepare-columns : (now : ℕ) → MayPutAll s (t .number) (groupAt t s) → ((k : Key) → preparedChange (t .number) (lineOf k (s .lines)) ≡ doneTo (unitsOf s) t (t .place) k) → (k : Key) → preparedChange (t .number) (lineOf k (apply (prepare (t .number) now (groupAt t s)) s .lines)) ≡ doneTo (unitsOf s) t (t .place + 1) k
   unfolding lineAfter apply
   prepare-columns now may before k =
       let w = prepare (t .number) now (groupAt t s) in
       let o : entryFor (lineOf k (s .lines) .key) (groupAt t s) ≡ cond (eqb (groupPlace (unitsOf s) (puts t) k) (t .place)) (entryFor k (puts t)) none =
       ap (λ (x : Key). entryFor x (groupAt t s)) (line-of-key k (s .lines)) ∙ group-entry k in
-      ap (preparedColumns (t .number)) (line-after s w (still-prepare s (t .number) now (groupAt t s) may) k)
-      ∙ (ap (λ (x : Option Entry). preparedColumns (t .number) (byEntry x (lineOf k (s .lines)) (λ (e : Entry). prepared (t .number) now e (lineOf k (s .lines))))) o
+      ap (preparedChange (t .number)) (line-after s w (still-prepare s (t .number) now (groupAt t s) may) k)
+      ∙ (ap (λ (x : Option Entry). preparedChange (t .number) (byEntry x (lineOf k (s .lines)) (λ (e : Entry). prepared (t .number) now (changeOf e) (lineOf k (s .lines))))) o
       ∙ go (eqb (groupPlace (unitsOf s) (puts t) k) (t .place)) refl (entryFor k (puts t)) refl)
     where
       r : Record
@@ -138,7 +137,7 @@ module _ (s : Sheets) (good : GoodSheets s) (t : Transaction) where
       g : ℕ
       g = groupPlace (unitsOf s) (puts t) k
 
-      go : (b : Bool) → eqb g (t .place) ≡ b → (x : Option Entry) → entryFor k (puts t) ≡ x → preparedColumns (t .number) (byEntry (cond b x none) r (λ (e : Entry). prepared (t .number) now e r)) ≡ doneTo (unitsOf s) t (t .place + 1) k
+      go : (b : Bool) → eqb g (t .place) ≡ b → (x : Option Entry) → entryFor k (puts t) ≡ x → preparedChange (t .number) (byEntry (cond b x none) r (λ (e : Entry). prepared (t .number) now (changeOf e) r)) ≡ doneTo (unitsOf s) t (t .place + 1) k
       go true q none e =
           let n : putIn k (held t) ≡ none = put-is k ∙ ap putOf e in
           before k ∙ (no-put (unitsOf s) t (t .place) k n ∙ sym (no-put (unitsOf s) t (t .place + 1) k n))
@@ -146,7 +145,7 @@ module _ (s : Sheets) (good : GoodSheets s) (t : Transaction) where
           let n : putIn k (held t) ≡ some (x .put) = put-is k ∙ ap putOf e in
           let p : g ≡ t .place = eqb-true g (t .place) q in
           let l : ltb g (t .place + 1) ≡ true = lt-ltb g (t .place + 1) (omega arith) in
-          prepared-own (t .number) now x r ∙ sym (ap₂ (λ (b : Bool) (c : Option Columns). cond b c none) l n)
+          prepared-own (t .number) now (changeOf x) r ∙ sym (ap₂ (λ (b : Bool) (c : Option Change). cond b c none) l n)
       go false q x e = before k ∙ ap (λ (b : Bool). cond b (putIn k (held t)) none) (one-further g (t .place) (eqb-false g (t .place) q))
 
   -- The model's commit.
@@ -160,13 +159,13 @@ module _ (s : Sheets) (good : GoodSheets s) (t : Transaction) where
       ap (λ (x : Key). entryFor x (groupAt t s)) (line-of-key k (s .lines)) ∙ group-entry k in
       ap (settle (s .coordinator)) (line-after s w (still-commit s (t .number) (groupAt t s) may) k)
       ∙ (go (entryFor k (puts t)) refl (eqb (groupPlace (unitsOf s) (puts t) k) (t .place)) refl o
-      ∙ ap (λ (x : Option Columns). overwritten (t .number) x (m .line k)) (sym (sets k)))
+      ∙ ap (λ (x : Option Change). overwritten (t .number) x (m .line k)) (sym (sets k)))
     where
       r : Record
       r = lineOf k (s .lines)
 
       after : Option Entry → Record
-      after x = byEntry x r (λ (e : Entry). committed (t .number) e r)
+      after x = byEntry x r (λ (e : Entry). committed (t .number) (changeOf e) r)
 
       go : (x : Option Entry) → entryFor k (puts t) ≡ x → (b : Bool) → eqb (groupPlace (unitsOf s) (puts t) k) (t .place) ≡ b → entryFor (r .key) (groupAt t s) ≡ cond (eqb (groupPlace (unitsOf s) (puts t) k) (t .place)) (entryFor k (puts t)) none → settle (s .coordinator) (after (entryFor (r .key) (groupAt t s))) ≡ overwritten (t .number) (putIn k (held t)) (m .line k)
       go none e b q o =
@@ -174,15 +173,15 @@ module _ (s : Sheets) (good : GoodSheets s) (t : Transaction) where
           let i : entryFor (r .key) (groupAt t s) ≡ none =
           o ∙ (ap (λ (y : Option Entry). cond (eqb (groupPlace (unitsOf s) (puts t) k) (t .place)) y none) e ∙ either-way (eqb (groupPlace (unitsOf s) (puts t) k) (t .place)) none) in
           ap (λ (y : Option Entry). settle (s .coordinator) (after y)) i
-          ∙ (v k ∙ ap (λ (y : Option Columns). overwritten (t .number) y (m .line k)) (sym n))
+          ∙ (v k ∙ ap (λ (y : Option Change). overwritten (t .number) y (m .line k)) (sym n))
       go (some x) e true q o =
           let n : putIn k (held t) ≡ some (x .put) = put-is k ∙ ap putOf e in
           let i : entryFor (r .key) (groupAt t s) ≡ some x = o ∙ (ap₂ (λ (c : Bool) (y : Option Entry). cond c y none) q e) in
           let f : isPrepared r ≡ false = ap isPrepared (sym (own-key s k)) ∙ may (r .key) x i .1 .free in
           let b : m .line k ≡ r = sym (v k) ∙ settled-plain (s .coordinator) r f in
           ap (λ (y : Option Entry). settle (s .coordinator) (after y)) i
-          ∙ (settled-plain (s .coordinator) (committed (t .number) x r) refl
-          ∙ ap₂ (λ (y : Option Columns) (z : Record). overwritten (t .number) y z) (sym n) (sym b))
+          ∙ (settled-plain (s .coordinator) (committed (t .number) (changeOf x) r) refl
+          ∙ ap₂ (λ (y : Option Change) (z : Record). overwritten (t .number) y z) (sym n) (sym b))
       go (some x) e false q o =
           let p : groupPlace (unitsOf s) (puts t) k < groupCount (unitsOf s) (puts t) = place-below (unitsOf s) (puts t) k (found-has-key k (puts t) x e) in
           absurd (eqb-false (groupPlace (unitsOf s) (puts t) k) (t .place) q (omega arith))
@@ -190,14 +189,14 @@ module _ (s : Sheets) (good : GoodSheets s) (t : Transaction) where
   -- a transaction without puts commits nothing
   pub empty-view : (m : Model) → ((k : Key) → m .writes (t .number) k ≡ none) → View s m → View s (modelCommit (t .number) m)
   unfolding modelCommit overwritten
-  empty-view m sets v k = v k ∙ sym (ap (λ (x : Option Columns). overwritten (t .number) x (m .line k)) (sets k))
+  empty-view m sets v k = v k ∙ sym (ap (λ (x : Option Change). overwritten (t .number) x (m .line k)) (sets k))
 
   -- the decision: every put is prepared, and rolling it forward is what the model writes
-  pub decide-view : (m : Model) → ((k : Key) → m .writes (t .number) k ≡ putIn k (held t)) → 1 ≤ t .number → t .number ≤ length (s .coordinator .decisions) → decision (t .number) (s .coordinator) ≡ Undecided → ((k : Key) → preparedColumns (t .number) (lineOf k (s .lines)) ≡ putIn k (held t)) → View s m → View (apply (decide (t .number) Committed) s) (modelCommit (t .number) m)
+  pub decide-view : (m : Model) → ((k : Key) → m .writes (t .number) k ≡ putIn k (held t)) → 1 ≤ t .number → t .number ≤ length (s .coordinator .decisions) → decision (t .number) (s .coordinator) ≡ Undecided → ((k : Key) → preparedChange (t .number) (lineOf k (s .lines)) ≡ putIn k (held t)) → View s m → View (apply (decide (t .number) Committed) s) (modelCommit (t .number) m)
   unfolding lineAfter decisionsAfter modelCommit apply overwritten preparedBy
   decide-view m sets one known u done v k =
       ap (settle (withDecision (t .number) Committed (s .coordinator))) (line-after s (decide (t .number) Committed) (still-decide (s .lines) (t .number) Committed) k)
-      ∙ (go (preparedBy (t .number) r) refl ∙ ap (λ (x : Option Columns). overwritten (t .number) x (m .line k)) (sym (sets k)))
+      ∙ (go (preparedBy (t .number) r) refl ∙ ap (λ (x : Option Change). overwritten (t .number) x (m .line k)) (sym (sets k)))
     where
       n : ℕ
       n = t .number
@@ -213,12 +212,12 @@ module _ (s : Sheets) (good : GoodSheets s) (t : Transaction) where
           ap (λ (x : ℕ). decision x (withDecision n Committed (s .coordinator))) o ∙ decided-own n Committed (s .coordinator) one known in
           let b : m .line k ≡ rolledBack r =
           sym (v k) ∙ settled-back (s .coordinator) r p (λ e. undecided-committed (sym u ∙ (ap (λ (x : ℕ). decision x (s .coordinator)) (sym o) ∙ e))) in
-          let c : putIn k (held t) ≡ some (record { column1 = r .image .column1; column2 = r .image .column2 }) =
+          let c : putIn k (held t) ≡ some (changeIn r) =
           sym (done k) ∙ prepared-some n r q in
           settled-by (withDecision n Committed (s .coordinator)) r Committed p d
           ∙ (forward-overwrites n r (when-prepared r p (own-rule s good k)) o
-          ∙ ap₂ (λ (y : Option Columns) (z : Record). overwritten n y z) (sym c) (sym b))
+          ∙ ap₂ (λ (y : Option Change) (z : Record). overwritten n y z) (sym c) (sym b))
       go false q =
           let c : putIn k (held t) ≡ none = sym (done k) ∙ prepared-none n r q in
           other-decided n r q (s .coordinator)
-          ∙ (v k ∙ ap (λ (y : Option Columns). overwritten n y (m .line k)) (sym c))
+          ∙ (v k ∙ ap (λ (y : Option Change). overwritten n y (m .line k)) (sym c))

@@ -13,8 +13,8 @@ use Rattle.lists.specs.Chosen.{or-left, or-right}
 use Rattle.lists.specs.Tests.{and-fst, and-snd, choose-by}
 use Rattle.types.specs.declared.AtomicityUnit.{AtomicityUnit}
 use Rattle.types.specs.declared.Key.{Key}
-use Rattle.types.specs.declared.Columns.{Columns}
 use Rattle.types.specs.declared.Entry.{Entry}
+use Rattle.model.specs.Images.{Change}
 use Rattle.model.specs.Records.{sameKey}
 use Rattle.model.specs.Transactions.{isPut, isEmpty}
 use Rattle.model.specs.Groups.{groupPlace, group}
@@ -23,7 +23,7 @@ use Rattle.model.specs.WellFormed.{distinctKeys}
 use Rattle.call_laws.specs.Keys.{same-key, same-key-refl, other-key, hasKey}
 use Rattle.recovery.specs.Memory.{putIn}
 
-abbrev pub putOf : Option Entry → Option Columns
+abbrev pub putOf : Option Entry → Option Change
 putOf none = none
 putOf (some e) = some (e .put)
 

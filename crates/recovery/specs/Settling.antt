@@ -18,7 +18,7 @@ use Rattle.types.specs.declared.Entry.{Entry}
 use Rattle.types.specs.declared.Record.{Record}
 use Rattle.model.specs.Records.{lineOf, stateRule}
 use Rattle.model.specs.Coordinator.{Coordinator, decisionNumber, decision, withDecision, withIssued}
-use Rattle.model.specs.Images.{isPrepared, preparedBy, prepared, rolledForward, rolledBack, byDecision}
+use Rattle.model.specs.Images.{isPrepared, preparedBy, prepared, rolledForward, rolledBack, byDecision, Change, changeOf}
 use Rattle.model.specs.Writes.{Sheets, Write, nothing, issue, decide, prepare, forward, back, entryFor, byEntry, isOf, lineAfter, decisionsAfter}
 use Rattle.model.specs.Visits.{ownerDecision}
 use Rattle.call_laws.specs.Images.{forward-plain, back-plain, back-is-before}
@@ -135,10 +135,10 @@ rolled-settled d c n ks r x p q e =
     (λ h. refl)
 
 -- a line that is prepared by a number without COMMITTED still counts as it was
-prepare-settled : (c : Coordinator) (n now : ℕ) (e : Entry) (r : Record) → stateRule r ≡ true → isPrepared r ≡ false → (decision n c ≡ Committed → ⊥) → settle c (prepared n now e r) ≡ settle c r
+prepare-settled : (c : Coordinator) (n now : ℕ) (x : Change) (r : Record) → stateRule r ≡ true → isPrepared r ≡ false → (decision n c ≡ Committed → ⊥) → settle c (prepared n now x r) ≡ settle c r
 unfolding prepared
-prepare-settled c n now e r g f d =
-    settled-back c (prepared n now e r) refl d ∙ (back-is-before n now e r f g ∙ sym (settled-plain c r f))
+prepare-settled c n now x r g f d =
+    settled-back c (prepared n now x r) refl d ∙ (back-is-before n now x r f g ∙ sym (settled-plain c r f))
 
 -- one more number decides nothing
 pub issued-decision : (n j : ℕ) (c : Coordinator) → decision j (withIssued n c) ≡ decision j c
@@ -161,9 +161,9 @@ gentle-settled s w (gentle-forward i ks d) r l g = rolled-settled Committed (s .
 gentle-settled s w (gentle-back i ks d) r l g = rolled-settled Aborted (s .coordinator) i ks r (rolledBack r) (back-plain r) refl d
 gentle-settled s w (gentle-prepare n now es d m) r l g = go (entryFor (r .key) es) refl
   where
-    go : (o : Option Entry) → entryFor (r .key) es ≡ o → settle (s .coordinator) (byEntry o r (λ (e : Entry). prepared n now e r)) ≡ settle (s .coordinator) r
+    go : (o : Option Entry) → entryFor (r .key) es ≡ o → settle (s .coordinator) (byEntry o r (λ (e : Entry). prepared n now (changeOf e) r)) ≡ settle (s .coordinator) r
     go none e = refl
-    go (some x) e = prepare-settled (s .coordinator) n now x r g (ap isPrepared (sym l) ∙ m (r .key) x e .1 .free) d
+    go (some x) e = prepare-settled (s .coordinator) n now (changeOf x) r g (ap isPrepared (sym l) ∙ m (r .key) x e .1 .free) d
 
 -- and leaves keys without a line as they are
 pub gentle-still : (s : Sheets) (w : Write) → Gentle s w → Still (s .lines) w

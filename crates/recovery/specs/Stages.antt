@@ -15,7 +15,7 @@ use Rattle.model.specs.Transactions.{held, puts, moved}
 use Rattle.model.specs.Groups.{groupCount, groupPlace}
 use Rattle.model.specs.Writes.{Sheets}
 use Rattle.model.specs.Steps.{unitsOf}
-use Rattle.recovery.specs.Memory.{putIn, preparedColumns, groupsDone, doneAt, Memory}
+use Rattle.recovery.specs.Memory.{putIn, preparedChange, groupsDone, doneAt, Memory}
 use Rattle.recovery.specs.OwnWrites.{doneTo, all-done}
 
 -- a state of the same number with the same columns done
@@ -23,8 +23,8 @@ pub memory-as : (s : Sheets) (t t′ : Transaction) → t′ .number ≡ t .numb
 memory-as s t t′ n d m =
     record {
       undone = λ e. m .undone (ap (λ (x : ℕ). decision x (s .coordinator)) (sym n) ∙ e);
-      columns = λ e k. ap (λ (x : ℕ). preparedColumns x (lineOf k (s .lines))) n
-          ∙ (m .columns (ap (λ (x : ℕ). decision x (s .coordinator)) (sym n) ∙ e) k ∙ sym (d k));
+      changes = λ e k. ap (λ (x : ℕ). preparedChange x (lineOf k (s .lines))) n
+          ∙ (m .changes (ap (λ (x : ℕ). decision x (s .coordinator)) (sym n) ∙ e) k ∙ sym (d k));
     }
 
 module _ (us : List AtomicityUnit) (t : Transaction) where

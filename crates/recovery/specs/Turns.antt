@@ -8,9 +8,9 @@ use mathlib.Core.List.{List, [], _∷_, _++_, map}
 use mathlib.Core.Option.{some, Option·none-ne-some}
 use lib.ListN.{length}
 use Rattle.types.specs.declared.Key.{Key}
-use Rattle.types.specs.declared.Columns.{Columns}
 use Rattle.types.specs.declared.Record.{Record}
 use Rattle.types.specs.declared.Transaction.{Transaction}
+use Rattle.model.specs.Images.{Change}
 use Rattle.model.specs.Coordinator.{decision}
 use Rattle.model.specs.Writes.{Sheets, sheetsGood, isOnePhase, apply}
 use Rattle.model.specs.Results.{Call, advance, Result, writeOf}
@@ -177,7 +177,7 @@ modelOfTurns xs s = modelAfterTurns (λ (y : Sheets). y) turnAfter turnEvent xs 
 pub record RecoveredSheets (vs : List Visit) (xs : List Turn) (s : Sheets) : Type 0 where
   pub unprepared : nonePrepared (recoveredAfter vs xs s .lines) ≡ true
   pub lines : recoveredAfter vs xs s .lines ≡ map (λ (r : Record). modelOfTurns xs s .line (r .key)) (s .lines)
-  pub committed : (n : ℕ) → s .coordinator .issued < n → (k : Key) (c : Columns) → modelOfTurns xs s .writes n k ≡ some c → CommittedExactly (isCommitted n (modelOfTurns xs s)) (decision n (recoveredAfter vs xs s .coordinator)) (onePhaseTurn turnAfter turnOnePhase n xs s)
+  pub committed : (n : ℕ) → s .coordinator .issued < n → (k : Key) (c : Change) → modelOfTurns xs s .writes n k ≡ some c → CommittedExactly (isCommitted n (modelOfTurns xs s)) (decision n (recoveredAfter vs xs s .coordinator)) (onePhaseTurn turnAfter turnOnePhase n xs s)
 
 pub turns-recover : (s : Sheets) → sheetsGood s ≡ true → nonePrepared (s .lines) ≡ true → (xs : List Turn) → LegalTurns turnAfter turnEvent xs s [] → (vs : List Visit) → Closing (λ (y : Sheets). y) after vs (turnsLeft turnAfter xs s) → RecoveredSheets vs xs s
 unfolding modelAfter
