@@ -5,7 +5,8 @@ ghost use Prim.Native.Nat.{_+_, _≤_};
 ghost use lib.Dec.{eqb};
 ghost use Rattle.model.specs.Refusals.{refusalOf, lastRefusal};
 ghost use Rattle.model.specs.SheetCalls.{checkConditions};
-ghost use Rattle.model.specs.ByteCalls.{beginOn, visitOn, advanceOn, recordsAfter, coordinatorAfter};
+ghost use Rattle.model.specs.Results.{begin, visit, advance};
+ghost use Rattle.model.specs.ByteCalls.{resultOn, recordsAfter, coordinatorAfter};
 ghost use Rattle.model.specs.CallByPlace.{listed, advanceAtOn, listAfter};
 ghost use Rattle.c_api.specs.Numbers.{beginNumber, visitNumber, advanceNumber, unlistedNumber};
 ghost use Rattle.c_api.specs.ByPlace.{advanced};
@@ -37,10 +38,10 @@ fn number(refusal: u32, accepted: u32) -> u32
 // The number given, 1 to 999, or 1000 + the refusal.
 #[no_mangle]
 pub extern "C" fn rapyheo_begin(records: &[u8], coordinator: &mut [u8]) -> u32
-    ensures answer { λ r. ⌜ r ≡ beginNumber (beginOn false (now (records .entry)) (now (coordinator .entry))) ⌝ }
-    ensures decisions { λ r. ⌜ now (coordinator .exit) ≡ coordinatorAfter (now (records .entry)) (now (coordinator .entry)) (beginOn false (now (records .entry)) (now (coordinator .entry))) ⌝ }
+    ensures answer { λ r. ⌜ r ≡ beginNumber (resultOn (begin false) (now (records .entry)) (now (coordinator .entry))) ⌝ }
+    ensures decisions { λ r. ⌜ now (coordinator .exit) ≡ coordinatorAfter (now (records .entry)) (now (coordinator .entry)) (resultOn (begin false) (now (records .entry)) (now (coordinator .entry))) ⌝ }
 {
-    let begun = engine::begin::begin(false, records, coordinator);
+    let begun = engine::begin(false, records, coordinator);
     let n = begun.transaction.number;
     number(begun.refusal, n)
 }
@@ -57,9 +58,9 @@ pub extern "C" fn rapyheo_visit(
     clustering: u32,
     clock: u32,
 ) -> u32
-    ensures answer { λ r. ⌜ r ≡ visitNumber (visitOn (record { storage = storage; namespace = namespace; table = table; partition = partition; clustering = clustering }) clock (now (records .entry)) (now (coordinator .entry))) ⌝ }
-    ensures lines { λ r. ⌜ now (records .exit) ≡ recordsAfter (now (records .entry)) (now (coordinator .entry)) (visitOn (record { storage = storage; namespace = namespace; table = table; partition = partition; clustering = clustering }) clock (now (records .entry)) (now (coordinator .entry))) ⌝ }
-    ensures decisions { λ r. ⌜ now (coordinator .exit) ≡ coordinatorAfter (now (records .entry)) (now (coordinator .entry)) (visitOn (record { storage = storage; namespace = namespace; table = table; partition = partition; clustering = clustering }) clock (now (records .entry)) (now (coordinator .entry))) ⌝ }
+    ensures answer { λ r. ⌜ r ≡ visitNumber (resultOn (visit (record { storage = storage; namespace = namespace; table = table; partition = partition; clustering = clustering }) clock) (now (records .entry)) (now (coordinator .entry))) ⌝ }
+    ensures lines { λ r. ⌜ now (records .exit) ≡ recordsAfter (now (records .entry)) (now (coordinator .entry)) (resultOn (visit (record { storage = storage; namespace = namespace; table = table; partition = partition; clustering = clustering }) clock) (now (records .entry)) (now (coordinator .entry))) ⌝ }
+    ensures decisions { λ r. ⌜ now (coordinator .exit) ≡ coordinatorAfter (now (records .entry)) (now (coordinator .entry)) (resultOn (visit (record { storage = storage; namespace = namespace; table = table; partition = partition; clustering = clustering }) clock) (now (records .entry)) (now (coordinator .entry))) ⌝ }
 {
     let key = Key {
         storage,
@@ -68,7 +69,7 @@ pub extern "C" fn rapyheo_visit(
         partition,
         clustering,
     };
-    let visited = engine::visit::visit(key, clock, records, coordinator);
+    let visited = engine::visit(key, clock, records, coordinator);
     number(visited.refusal, visited.reply)
 }
 
@@ -87,13 +88,13 @@ struct Advanced {
 
 // The engine's advance, with the parameters in the order of the call by place.
 fn advance_named(t: Transaction, records: &mut [u8], coordinator: &mut [u8], clock: u32) -> Advanced
-    ensures answer { λ r. ⌜ r ≡ advanced t (advanceOn t clock (now (records .entry)) (now (coordinator .entry))) ⌝ }
-    ensures lines { λ r. ⌜ now (records .exit) ≡ recordsAfter (now (records .entry)) (now (coordinator .entry)) (advanceOn t clock (now (records .entry)) (now (coordinator .entry))) ⌝ }
-    ensures decisions { λ r. ⌜ now (coordinator .exit) ≡ coordinatorAfter (now (records .entry)) (now (coordinator .entry)) (advanceOn t clock (now (records .entry)) (now (coordinator .entry))) ⌝ }
+    ensures answer { λ r. ⌜ r ≡ advanced t (resultOn (advance t clock) (now (records .entry)) (now (coordinator .entry))) ⌝ }
+    ensures lines { λ r. ⌜ now (records .exit) ≡ recordsAfter (now (records .entry)) (now (coordinator .entry)) (resultOn (advance t clock) (now (records .entry)) (now (coordinator .entry))) ⌝ }
+    ensures decisions { λ r. ⌜ now (coordinator .exit) ≡ coordinatorAfter (now (records .entry)) (now (coordinator .entry)) (resultOn (advance t clock) (now (records .entry)) (now (coordinator .entry))) ⌝ }
 {
-    let stepped = engine::advance::advance(t, clock, records, coordinator);
-    let answer = number(stepped.refusal, 0);
-    let transaction = stepped.transaction;
+    let returned = engine::advance(t, clock, records, coordinator);
+    let answer = number(returned.refusal, 0);
+    let transaction = returned.transaction;
     Advanced {
         answer,
         transaction,

@@ -4,7 +4,6 @@ use Prim.Native.Nat.{ℕ, _<_, _≤_}
 use mathlib.Core.Path.{_≡_, refl, sym, ap, _∙_, subst}
 use mathlib.Core.Bool.{Bool, true, false}
 use mathlib.Core.List.{List}
-use native.Mathlib.Omega.{arith}
 use lib.Dec.{eqb, leb, ltb}
 use lib.ListN.{length, length-set}
 use lib.Seq.{getD-set-same, getD-set-other}
@@ -15,19 +14,18 @@ use Rattle.types.specs.declared.Transaction.{Transaction}
 use Rattle.model.specs.Refusals.{refusalOf, countBefore, firstAsked}
 use Rattle.model.specs.SheetCalls.{checkConditions}
 use Rattle.model.specs.Writes.{Sheets}
-use Rattle.model.specs.Results.{Result, refused, made, unless}
+use Rattle.model.specs.Results.{advance, Answer, refusalIn, Result, refused, made, unless, answerOf, heldAfter}
 use Rattle.model.specs.Conditions.{conditions}
-use Rattle.model.specs.Calls.{advanceResult}
-use Rattle.model.specs.ByteCalls.{sheetsOf, advanceOn, recordsAfter, coordinatorAfter}
+use Rattle.model.specs.Calls.{outcome, result}
+use Rattle.model.specs.ByteCalls.{sheetsOf, resultOn, recordsAfter, coordinatorAfter}
 use Rattle.model.specs.CallByPlace.{listed, named, conditionsAt, allConditionsAt, advanceAtResult, advanceAtOn, listAfter}
-use Rattle.model.specs.Histories.{refusalIn, returned, answerOf}
-use Rattle.model.specs.ByteHistories.{Bytes, bytesAfter}
-use Rattle.call_laws.specs.Exactness.{risingFrom, row-first, refusal-by-rows, unmoved}
+use Rattle.model.specs.ByteHistories.{Bytes, saying, bytesAfter}
+use Rattle.call_laws.specs.Exactness.{risingFrom, row-first, outcome-accepts, refusal-by-rows, when-refused}
 
 -- the transaction that a result leaves with its client: as it came where the call is refused
-abbrev pub leftWith : Transaction → Result Transaction → Transaction
+abbrev pub leftWith : Transaction → Result Answer → Transaction
 leftWith t (refused n) = t
-leftWith t (made u w) = u
+leftWith t (made a w) = heldAfter t a
 
 pub listed-within : (n place : ℕ) → listed n place ≡ true → place < n
 unfolding listed
@@ -35,8 +33,8 @@ listed-within n place e = ltb-true place n (and-snd (leb n 16) (ltb place n) e)
 
 -- over decoded sheets
 module _ (list : List Transaction) (place now : ℕ) (s : Sheets) where
-  pub named-result : listed (length list) place ≡ true → advanceAtResult list place now s ≡ advanceResult (named list place) now s
-  unfolding advanceAtResult conditionsAt advanceResult refusalOf
+  pub named-result : listed (length list) place ≡ true → advanceAtResult list place now s ≡ result (advance (named list place) now) s
+  unfolding advanceAtResult conditionsAt result refusalOf
   named-result e = rw e refl
 
   pub unlisted-result : listed (length list) place ≡ false → advanceAtResult list place now s ≡ refused 3
@@ -44,7 +42,7 @@ module _ (list : List Transaction) (place now : ℕ) (s : Sheets) where
   unlisted-result e = rw e refl
 
   -- what holds of the advance of the one named, and of refusal 3, holds of the call by place
-  pub by-place : (P : Result Transaction → Type 0) → P (advanceResult (named list place) now s) → P (refused 3) → P (advanceAtResult list place now s)
+  pub by-place : (P : Result Answer → Type 0) → P (result (advance (named list place) now) s) → P (refused 3) → P (advanceAtResult list place now s)
   by-place P a r = go (listed (length list) place) refl
     where
       go : (b : Bool) → listed (length list) place ≡ b → P (advanceAtResult list place now s)
@@ -52,8 +50,8 @@ module _ (list : List Transaction) (place now : ℕ) (s : Sheets) where
       go false e = subst P (sym (unlisted-result e)) r
 
 module _ (list : List Transaction) (place now : ℕ) (rs cs : List ℕ) where
-  pub named-advances : listed (length list) place ≡ true → advanceAtOn list place now rs cs ≡ advanceOn (named list place) now rs cs
-  unfolding advanceAtOn advanceOn
+  pub named-advances : listed (length list) place ≡ true → advanceAtOn list place now rs cs ≡ resultOn (advance (named list place) now) rs cs
+  unfolding advanceAtOn resultOn
   named-advances e = ap (unless (checkConditions rs cs)) (named-result list place now (sheetsOf rs cs) e)
 
   -- 1 and 2 come first
@@ -64,17 +62,17 @@ module _ (list : List Transaction) (place now : ℕ) (rs cs : List ℕ) where
   -- and the list and both sheets are as they were
   pub unlisted-leaves : listed (length list) place ≡ false → (listAfter list place (advanceAtOn list place now rs cs) ≡ list) × ((recordsAfter rs cs (advanceAtOn list place now rs cs) ≡ rs) × (coordinatorAfter rs cs (advanceAtOn list place now rs cs) ≡ cs))
   unfolding listAfter recordsAfter coordinatorAfter
-  unlisted-leaves e = (leaves (λ (r : Result Transaction). listAfter list place r) (λ n. refl), (leaves (λ (r : Result Transaction). recordsAfter rs cs r) (λ n. refl), leaves (λ (r : Result Transaction). coordinatorAfter rs cs r) (λ n. refl)))
+  unlisted-leaves e = (leaves (λ (r : Result Answer). listAfter list place r) (λ n. refl), (leaves (λ (r : Result Answer). recordsAfter rs cs r) (λ n. refl), leaves (λ (r : Result Answer). coordinatorAfter rs cs r) (λ n. refl)))
     where
-      leaves : {A : Type 0} {a : A} (f : Result Transaction → A) → ((n : ℕ) → f (refused n) ≡ a) → f (advanceAtOn list place now rs cs) ≡ a
+      leaves : {A : Type 0} {a : A} (f : Result Answer → A) → ((n : ℕ) → f (refused n) ≡ a) → f (advanceAtOn list place now rs cs) ≡ a
       leaves {a = a} f k =
           ap f (unlisted-refused e)
-          ∙ choose-by (λ (r : Result Transaction). f r ≡ a) (eqb (refusalOf (checkConditions rs cs)) 0) (λ b. k 3) (λ b. k (refusalOf (checkConditions rs cs)))
+          ∙ choose-by (λ (r : Result Answer). f r ≡ a) (eqb (refusalOf (checkConditions rs cs)) 0) (λ b. k 3) (λ b. k (refusalOf (checkConditions rs cs)))
 
   -- an answer's refusal is that of its conditions
-  pub place-refusal-given : refusalIn (answerOf returned (advanceAtOn list place now rs cs)) ≡ refusalOf (allConditionsAt list place now rs cs)
+  pub place-refusal-given : refusalIn (answerOf (advanceAtOn list place now rs cs)) ≡ refusalOf (allConditionsAt list place now rs cs)
   unfolding advanceAtOn advanceAtResult allConditionsAt checkConditions
-  place-refusal-given = refusal-by-rows returned _ _ (conditionsAt list place now _) _ refl
+  place-refusal-given = refusal-by-rows _ _ (conditionsAt list place now _) _ (outcome-accepts (advance (named list place) now) _)
 
   -- "The lowest number that applies is given": the first that is asked
   pub place-refusal-is-first : firstAsked (refusalOf (allConditionsAt list place now rs cs)) (allConditionsAt list place now rs cs) ≡ true
@@ -82,29 +80,31 @@ module _ (list : List Transaction) (place now : ℕ) (rs cs : List ℕ) where
   place-refusal-is-first = row-first (allConditionsAt list place now rs cs) refl
 
 module _ (list : List Transaction) (place : ℕ) where
-  pub list-keeps-length : (r : Result Transaction) → length (listAfter list place r) ≡ length list
+  pub list-keeps-length : (r : Result Answer) → length (listAfter list place r) ≡ length list
   unfolding listAfter
   list-keeps-length (refused n) = refl
-  list-keeps-length (made t w) = length-set list place t
+  list-keeps-length (made a w) = length-set list place (heldAfter (named list place) a)
 
-  pub others-stay : (j : ℕ) → (j ≡ place → ⊥) → (r : Result Transaction) → named (listAfter list place r) j ≡ named list j
+  pub others-stay : (j : ℕ) → (j ≡ place → ⊥) → (r : Result Answer) → named (listAfter list place r) j ≡ named list j
   unfolding listAfter
   others-stay j d (refused n) = refl
-  others-stay j d (made t w) = getD-set-other list place j t _ d
+  others-stay j d (made a w) = getD-set-other list place j (heldAfter (named list place) a) _ d
 
-  pub named-replaced : place < length list → (r : Result Transaction) → named (listAfter list place r) place ≡ leftWith (named list place) r
+  pub named-replaced : place < length list → (r : Result Answer) → named (listAfter list place r) place ≡ leftWith (named list place) r
   unfolding listAfter
   named-replaced l (refused n) = refl
-  named-replaced l (made t w) = getD-set-same list place t _ l
+  named-replaced l (made a w) = getD-set-same list place (heldAfter (named list place) a) _ l
 
-  -- "after a refusal": the list and both sheets are as they were
-  pub refused-leaves : (b : Bytes) (r : Result Transaction) → 1 ≤ refusalIn (answerOf returned r) → (listAfter list place r ≡ list) × (bytesAfter b r ≡ b)
-  unfolding listAfter
-  refused-leaves b (refused n) l = (refl, unmoved returned (λ a. refl) b (refused n) l)
-  refused-leaves b (made t w) l = absurd (omega arith)
+-- "after a refusal": the list and both sheets are as they were
+pub refused-leaves : (list : List Transaction) (place now : ℕ) (b : Bytes) → 1 ≤ refusalIn (answerOf (advanceAtOn list place now (b .records) (b .coordinator))) → (listAfter list place (advanceAtOn list place now (b .records) (b .coordinator)) ≡ list) × (bytesAfter b (advanceAtOn list place now (b .records) (b .coordinator)) ≡ b)
+unfolding listAfter advanceAtOn advanceAtResult recordsAfter coordinatorAfter
+refused-leaves list place now b =
+    when-refused (λ (x : Result Answer). (listAfter list place x ≡ list) × (bytesAfter b x ≡ b)) (λ n. (refl, refl))
+    (checkConditions (b .records) (b .coordinator)) (conditionsAt list place now (saying b))
+    (outcome (advance (named list place) now) (saying b)) (outcome-accepts (advance (named list place) now) (saying b))
 
 -- What the call by place does, beside what the advance of the one named would do.
-pub record AsNamed (list : List Transaction) (place : ℕ) (rs cs : List ℕ) (byPlace byName : Result Transaction) : Type 0 where
+pub record AsNamed (list : List Transaction) (place : ℕ) (rs cs : List ℕ) (byPlace byName : Result Answer) : Type 0 where
   pub answer : byPlace ≡ byName
   pub lines : recordsAfter rs cs byPlace ≡ recordsAfter rs cs byName
   pub decisions : coordinatorAfter rs cs byPlace ≡ coordinatorAfter rs cs byName
@@ -113,7 +113,7 @@ pub record AsNamed (list : List Transaction) (place : ℕ) (rs cs : List ℕ) (b
   pub size : length (listAfter list place byPlace) ≡ length list
 
 -- "advance (by place too, taking and returning the one named)"
-pub by-place-is-advance : (list : List Transaction) (place now : ℕ) (rs cs : List ℕ) → listed (length list) place ≡ true → AsNamed list place rs cs (advanceAtOn list place now rs cs) (advanceOn (named list place) now rs cs)
+pub by-place-is-advance : (list : List Transaction) (place now : ℕ) (rs cs : List ℕ) → listed (length list) place ≡ true → AsNamed list place rs cs (advanceAtOn list place now rs cs) (resultOn (advance (named list place) now) rs cs)
 by-place-is-advance list place now rs cs e =
     record {
       answer = same;
@@ -124,5 +124,5 @@ by-place-is-advance list place now rs cs e =
       size = list-keeps-length list place (advanceAtOn list place now rs cs);
     }
   where
-    same : advanceAtOn list place now rs cs ≡ advanceOn (named list place) now rs cs
+    same : advanceAtOn list place now rs cs ≡ resultOn (advance (named list place) now) rs cs
     same = named-advances list place now rs cs e

@@ -18,7 +18,7 @@ use Rattle.model.specs.Records.{records, recordsText, recordIn, recordText, rec
 use Rattle.model.specs.Coordinator.{coordinatorText}
 use Rattle.model.specs.SheetCalls.{lineAt}
 use Rattle.model.specs.Writes.{Write, sheetsGood, lineAfter, linesAfter, apply}
-use Rattle.model.specs.Results.{Call, advance, Result, writeOf}
+use Rattle.model.specs.Results.{Call, advance, Result, writeOf, Answer}
 use Rattle.model.specs.CallByPlace.{named, advanceAtResult}
 use Rattle.model.specs.Histories.{written, after, ClockFits}
 use Rattle.model.specs.ByteHistories.{Bytes, saying, Passing, afterOn}
@@ -112,5 +112,5 @@ unfolding turnAfter turnEvent written
 place-unit list place now b l p =
     subst (OneUnit b) (sym (turn-bytes (advanceAt list place now) b p))
     (write-unit b p (writeOf (advanceAtResult list place now (saying b))) (turn-stays-good (advanceAt list place now) (saying b) l (passing-good b p))
-    (by-place list place now (saying b) (λ (r : Result Transaction). Single (saying b) (writeOf r)) (single-unit (advance (named list place) now) (saying b))
+    (by-place list place now (saying b) (λ (r : Result Answer). Single (saying b) (writeOf r)) (single-unit (advance (named list place) now) (saying b))
     (nothing-unit (saying b .coordinator .units))))

@@ -5,20 +5,25 @@ use mathlib.Core.Bool.{Bool, true, false, cond}
 use mathlib.Core.List.{List, [], _∷_}
 use native.Mathlib.Omega.{arith}
 use lib.Dec.{eqb, leb}
-use borrow.Author.Tests.{eqb-true, leb-true}
+use borrow.Author.Tests.{eqb-true, eqb-false, leb-true}
 use Rattle.lists.specs.Each.{all}
 use Rattle.lists.specs.Tests.{and-fst, and-snd, choose-by}
 use Rattle.types.specs.declared.Decision.{Decision}
 use Rattle.types.specs.declared.Decision.the-variants.{Undecided, Committed, Aborted}
+use Rattle.types.specs.declared.Key.{Key}
 use Rattle.types.specs.declared.Record.{Record}
 use Rattle.types.specs.declared.Recovery.{Recovery}
 use Rattle.types.specs.declared.Recovery.the-variants.{Stays, Forward, Back, Again, Busy}
+use Rattle.model.specs.Records.{lineOf}
 use Rattle.model.specs.Refusals.{Condition, refuse, refusalOf}
 use Rattle.model.specs.Transactions.{byPhase}
 use Rattle.model.specs.Images.{isPrepared, byDecision, recovery}
-use Rattle.model.specs.Writes.{Sheets}
-use Rattle.model.specs.Results.{Call, begin, read, put, advance, abort, visit, Result, refused, unless}
+use Rattle.model.specs.Writes.{Sheets, Write, nothing}
+use Rattle.model.specs.Visits.{meeting, recoveryWrite}
+use Rattle.model.specs.Results.{Call, begin, read, put, advance, abort, visit, Answer, Result, refused, unless, writeOf}
 use Rattle.model.specs.Conditions.{conditions}
+use Rattle.model.specs.Calls.{outcome, result}
+use Rattle.model.specs.Histories.{written}
 
 pub by-phase {ℓ κ} : {A : Type ℓ} (P : A → Type κ) (p : ℕ) {o r v d w f u e x : A} → P o → P r → P v → P d → P w → P f → P u → P e → P x → P (byPhase p o r v d w f u e x)
 by-phase P p o r v d w f u e x =
@@ -58,9 +63,12 @@ by-decision P Undecided x y z = x
 by-decision P Committed x y z = y
 by-decision P Aborted x y z = z
 
--- a result, refused or not: an accepted one has no condition that holds
+-- a result, refused or not: a refused one has a condition that holds, an accepted one has none
+pub unless-of {κ} : {A : Type 0} (P : Result A → Type κ) (cs : List Condition) {r : Result A} → ((refusalOf cs ≡ 0 → ⊥) → P (refused (refusalOf cs))) → (refusalOf cs ≡ 0 → P r) → P (unless cs r)
+unless-of P cs n h = choose-by P (eqb (refusalOf cs) 0) (λ e. h (eqb-true (refusalOf cs) 0 e)) (λ e. n (eqb-false (refusalOf cs) 0 e))
+
 pub unless-by {κ} : {A : Type 0} (P : Result A → Type κ) (cs : List Condition) {r : Result A} → P (refused (refusalOf cs)) → (refusalOf cs ≡ 0 → P r) → P (unless cs r)
-unless-by P cs n h = choose-by P (eqb (refusalOf cs) 0) (λ e. h (eqb-true (refusalOf cs) 0 e)) (λ e. n)
+unless-by P cs n h = unless-of P cs (λ z. n) h
 
 -- what an accepted call knows: none of its conditions holds
 pub not-first : (n : ℕ) (x : Bool) (cs : List Condition) → 1 ≤ n → refusalOf (refuse n x ∷ cs) ≡ 0 → (x ≡ false) × (refusalOf cs ≡ 0)
@@ -70,7 +78,7 @@ not-first n false cs l h = (refl, h)
 
 -- the same by the condition's number, wherever it stands in the list
 
-abbrev hasNumber : Condition → Bool
+abbrev pub hasNumber : Condition → Bool
 hasNumber c = leb 1 (c .number)
 
 unfoldable pub testOf : ℕ → List Condition → Bool
@@ -97,3 +105,13 @@ conditions-numbered (visit k now) s = refl
 -- of a call that is accepted
 pub accepted : (n : ℕ) (c : Call) (s : Sheets) → refusalOf (conditions c s) ≡ 0 → testOf n (conditions c s) ≡ false
 accepted n c s z = not-held n (conditions c s) (conditions-numbered c s) z
+
+-- what a call writes: nothing where it is refused
+pub by-written {κ} : (P : Write → Type κ) (c : Call) (s : Sheets) → P nothing → (refusalOf (conditions c s) ≡ 0 → P (writeOf (outcome c s))) → P (written c s)
+unfolding written result
+by-written P c s n h = unless-by (λ (x : Result Answer). P (writeOf x)) (conditions c s) n h
+
+-- what a visit writes
+pub by-visit {κ} : (P : Write → Type κ) (k : Key) (now : ℕ) (s : Sheets) → P nothing → P (recoveryWrite (meeting now (s .coordinator) (lineOf k (s .lines))) (lineOf k (s .lines))) → P (written (visit k now) s)
+unfolding outcome
+by-visit P k now s n h = by-written P (visit k now) s n (λ z. h)

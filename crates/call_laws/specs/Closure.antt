@@ -38,11 +38,12 @@ use Rattle.model.specs.WellFormed.{
   wellFormed,
 }
 use Rattle.model.specs.Visits.{meeting, isAgain, isBusy, recovered, recoveryWrite}
-use Rattle.model.specs.Results.{Call, begin, read, put, advance, abort, visit}
+use Rattle.model.specs.Refusals.{refusalOf}
+use Rattle.model.specs.Results.{Call, begin, read, put, advance, abort, visit, returned, returns}
 use Rattle.model.specs.Conditions.{isNew, heldEntry, busy, cannotAbort, conditions}
 use Rattle.model.specs.Steps.{unitsOf, step}
-use Rattle.model.specs.Calls.{newTransaction, readNew, holding, afterPut, beginResult, readResult, putResult, advanceResult, abortResult, visitResult}
-use Rattle.model.specs.Histories.{returned, visited, readAnswered, answer, written, after, returns, ClockFits}
+use Rattle.model.specs.Calls.{newTransaction, readNew, holding, afterPut, outcome, result}
+use Rattle.model.specs.Histories.{answer, written, after, ClockFits}
 use Rattle.sheet_laws.specs.Search.{first-by}
 use Rattle.sheet_laws.specs.Coordinator.{bounds}
 use Rattle.call_laws.specs.Choices.{by-phase-of, unless-by, testOf, accepted, by-meeting}
@@ -76,26 +77,24 @@ module _ (s : Sheets) (good : GoodSheets s) where
   unfolding placeFormed verdictFormed
   begin-stage us n b = record { decides = refl; validates = refl; place = refl; verdict = refl }
 
-  begin-keeps : (b : Bool) → Keeps s returned (beginResult b s)
-  unfolding beginResult conditions returns testOf
-  begin-keeps b =
-      unless-by (Keeps s returned) (conditions (begin b) s) (keeps-refused s returned _)
-      (λ z. let n : eqb (s .coordinator .issued) (length (s .coordinator .decisions)) ≡ false = accepted 8 (begin b) s z in
+  begin-keeps : (b : Bool) → refusalOf (conditions (begin b) s) ≡ 0 → Keeps s (outcome (begin b) s)
+  unfolding outcome conditions returns testOf
+  begin-keeps b z =
+      let n : eqb (s .coordinator .issued) (length (s .coordinator .decisions)) ≡ false = accepted 8 (begin b) s z in
       let m : s .coordinator .issued ≤ length (s .coordinator .decisions) = bounds (s .coordinator) (good .decisions) .issued in
       let l : s .coordinator .issued < length (s .coordinator .decisions) = strictly (s .coordinator .issued) (length (s .coordinator .decisions)) m n in
-      keeps-made s returned (newTransaction (s .coordinator .issued + 1) b) issue (newTransaction (s .coordinator .issued + 1) b) refl (fit-issue l)
-      (parts-well-formed (apply issue s) (newTransaction (s .coordinator .issued + 1) b) (begin-body b) (begin-stage _ (s .coordinator .issued + 1) b)))
+      keeps-made s (returned (newTransaction (s .coordinator .issued + 1) b)) issue (newTransaction (s .coordinator .issued + 1) b) refl (fit-issue l)
+      (parts-well-formed (apply issue s) (newTransaction (s .coordinator .issued + 1) b) (begin-body b) (begin-stage _ (s .coordinator .issued + 1) b))
 
   -- Advance and abort.
 
-  advance-keeps : (t : Transaction) (now : ℕ) → now < 2 ^ 32 → Keeps s returned (advanceResult t now s)
-  unfolding advanceResult conditions returns
-  advance-keeps t now l =
-      unless-by (Keeps s returned) (conditions (advance t now) s) (keeps-refused s returned _)
-      (λ z. let p = taken-parts s t _ z in
+  advance-keeps : (t : Transaction) (now : ℕ) → now < 2 ^ 32 → refusalOf (conditions (advance t now) s) ≡ 0 → Keeps s (outcome (advance t now) s)
+  unfolding outcome conditions returns
+  advance-keeps t now l z =
+      let p = taken-parts s t _ z in
       let c : Closed s (step t now s) = step-closed s good t (p .0) (p .1) now (omega arith) in
-      keeps-made s returned (step t now s .transaction) (step t now s .write) (step t now s .transaction) refl (c .fits)
-      (formed-after s (step t now s .write) (step t now s .transaction) (c .body) (c .stage)))
+      keeps-made s (returned (step t now s .transaction)) (step t now s .write) (step t now s .transaction) refl (c .fits)
+      (formed-after s (step t now s .write) (step t now s .transaction) (c .body) (c .stage))
 
   abort-verdict : (t : Transaction) → Stage (unitsOf s) t → cannotAbort t ≡ false → t .verdict ≡ noVerdict
   unfolding cannotAbort verdictFormed
@@ -111,15 +110,14 @@ module _ (s : Sheets) (good : GoodSheets s) where
       (λ e h. absurd (true≢false h))
       (λ h. absurd (true≢false h))
 
-  abort-keeps : (t : Transaction) → Keeps s returned (abortResult t s)
-  unfolding abortResult conditions returns testOf
-  abort-keeps t =
-      unless-by (Keeps s returned) (conditions (abort t) s) (keeps-refused s returned _)
-      (λ z. let p = taken-parts s t _ z in
+  abort-keeps : (t : Transaction) → refusalOf (conditions (abort t) s) ≡ 0 → Keeps s (outcome (abort t) s)
+  unfolding outcome conditions returns testOf
+  abort-keeps t z =
+      let p = taken-parts s t _ z in
       let c : cannotAbort t ≡ false = accepted 4 (abort t) s z in
-      keeps-made s returned (moved withdrawPhase 0 (t .verdict) t) nothing (moved withdrawPhase 0 (t .verdict) t) refl fit-nothing
+      keeps-made s (returned (moved withdrawPhase 0 (t .verdict) t)) nothing (moved withdrawPhase 0 (t .verdict) t) refl fit-nothing
       (formed-after s nothing (moved withdrawPhase 0 (t .verdict) t) (body-moved s t withdrawPhase 0 (t .verdict) (p .0))
-      (to-withdraw (unitsOf s) t (abort-verdict t (p .1) c))))
+      (to-withdraw (unitsOf s) t (abort-verdict t (p .1) c)))
 
   -- Visit.
 
@@ -137,15 +135,14 @@ module _ (s : Sheets) (good : GoodSheets s) where
       any-fits Again = fit-decide _ _ known
       any-fits Busy = fit-nothing
 
-  visit-keeps : (k : Key) (now : ℕ) → Keeps s visited (visitResult k now s)
-  unfolding visitResult conditions returns testOf
-  visit-keeps k now =
-      unless-by (Keeps s visited) (conditions (visit k now) s) (keeps-refused s visited _)
-      (λ z. let c6 : not (hasLine k (s .lines)) ≡ false = accepted 6 (visit k now) s z in
+  visit-keeps : (k : Key) (now : ℕ) → refusalOf (conditions (visit k now) s) ≡ 0 → Keeps s (outcome (visit k now) s)
+  unfolding outcome conditions returns testOf
+  visit-keeps k now z =
+      let c6 : not (hasLine k (s .lines)) ≡ false = accepted 6 (visit k now) s z in
       record {
         fits = visit-fits k now (not-false (hasLine k (s .lines)) c6);
         formed = λ t e. absurd (Option·none-ne-some t e);
-      })
+      }
 
   -- Read.
 
@@ -189,11 +186,10 @@ module _ (s : Sheets) (good : GoodSheets s) where
               ∙ all-more (λ (x : Entry). hasLine (x .key) (s .lines)) e (t .count) (t .entries) (b .lines) h;
         }
 
-  read-keeps : (t : Transaction) (k : Key) (now : ℕ) → Keeps s readAnswered (readResult t k now s)
-  unfolding readResult conditions returns readNew testOf
-  read-keeps t k now =
-      unless-by (Keeps s readAnswered) (conditions (read t k now) s) (keeps-refused s readAnswered _)
-      (λ z. let p = taken-parts s t _ z in
+  read-keeps : (t : Transaction) (k : Key) (now : ℕ) → refusalOf (conditions (read t k now) s) ≡ 0 → Keeps s (outcome (read t k now) s)
+  unfolding outcome conditions returns readNew testOf
+  read-keeps t k now z =
+      let p = taken-parts s t _ z in
       let r = lineOf k (s .lines) in
       let v = meeting now (s .coordinator) r in
       let c4 : not (eqb (t .phase) 0) ≡ false = accepted 4 (read t k now) s z in
@@ -202,9 +198,9 @@ module _ (s : Sheets) (good : GoodSheets s) where
       let c12 : (isNew k t && busy k now s) ≡ false = accepted 12 (read t k now) s z in
       let h : hasLine k (s .lines) ≡ true = not-false (hasLine k (s .lines)) c6 in
       let ph : t .phase ≡ 0 = eqb-true (t .phase) 0 (not-false (eqb (t .phase) 0) c4) in
-      choose-by (Keeps s readAnswered) (isNew k t)
-      (λ n. choose-by (Keeps s readAnswered) (isAgain v)
-      (λ a. keeps-made s readAnswered _ (recoveryWrite v r) t refl (visit-fits k now h) (formed-after s (recoveryWrite v r) t (p .0) (p .1)))
+      choose-by (Keeps s) (isNew k t)
+      (λ n. choose-by (Keeps s) (isAgain v)
+      (λ a. keeps-made s _ (recoveryWrite v r) t refl (visit-fits k now h) (formed-after s (recoveryWrite v r) t (p .0) (p .1)))
       (λ a. let u = visited-good k now h a (ap (λ (x : Bool). x && busy k now s) (sym n) ∙ c12) in
       let e = entryAs (r .key) (recovered v r .image) in
       let l : leb 8 (t .count) ≡ false = ap (λ (x : Bool). x && leb 8 (t .count)) (sym n) ∙ c9 in
@@ -212,9 +208,9 @@ module _ (s : Sheets) (good : GoodSheets s) where
       let body : Body s (holding e t) =
       holding-body t (p .0) e (less-than-eight (t .count) l) (ap (λ (x : Key). hasKey x (held t)) kk ∙ not-held k t n)
       (entry-of-line (r .key) (recovered v r) (u .0) (u .1)) (ap (λ (x : Key). hasLine x (s .lines)) kk ∙ h) in
-      keeps-made s readAnswered _ (recoveryWrite v r) (holding e t) refl (visit-fits k now h)
+      keeps-made s _ (recoveryWrite v r) (holding e t) refl (visit-fits k now h)
       (formed-after s (recoveryWrite v r) (holding e t) body (open-again (unitsOf s) t (p .1) ph (t .count + 1) (t .count) e))))
-      (λ n. keeps-made s readAnswered _ nothing t refl fit-nothing (formed-after s nothing t (p .0) (p .1))))
+      (λ n. keeps-made s _ nothing t refl fit-nothing (formed-after s nothing t (p .0) (p .1)))
 
   -- Put.
 
@@ -260,36 +256,39 @@ module _ (s : Sheets) (good : GoodSheets s) where
         (λ m x v. formed-after s nothing (withEntry (t .count) m (withPut c (getD (t .entries) m noEntry)) t) (put-body m (x .within) r v)
         (open-again (unitsOf s) t g ph (t .count) m (withPut c (getD (t .entries) m noEntry))))
 
-  put-keeps : (t : Transaction) (k : Key) (c : Columns) → Keeps s returned (putResult t k c s)
-  unfolding putResult conditions returns testOf
-  put-keeps t k c =
-      unless-by (Keeps s returned) (conditions (put t k c) s) (keeps-refused s returned _)
-      (λ z. let p = taken-parts s t _ z in
+  put-keeps : (t : Transaction) (k : Key) (c : Columns) → refusalOf (conditions (put t k c) s) ≡ 0 → Keeps s (outcome (put t k c) s)
+  unfolding outcome conditions returns testOf
+  put-keeps t k c z =
+      let p = taken-parts s t _ z in
       let c4 : not (eqb (t .phase) 0) ≡ false = accepted 4 (put t k c) s z in
       let c7 : not (columnsInRange c) ≡ false = accepted 7 (put t k c) s z in
       let c11 : leb 99999 (heldEntry k t .seen .version) ≡ false = accepted 11 (put t k c) s z in
       let ph : t .phase ≡ 0 = eqb-true (t .phase) 0 (not-false (eqb (t .phase) 0) c4) in
-      keeps-made s returned (afterPut t k c) nothing (afterPut t k c) refl fit-nothing
-      (put-formed t (p .0) c k (p .1) ph (not-false (columnsInRange c) c7) c11))
+      keeps-made s (returned (afterPut t k c)) nothing (afterPut t k c) refl fit-nothing
+      (put-formed t (p .0) c k (p .1) ph (not-false (columnsInRange c) c7) c11)
 
 -- Every call.
 
-kept : (c : Call) (s : Sheets) → GoodSheets s → ClockFits c → Fit s (written c s) × ((t : Transaction) → returns (answer c s) ≡ some t → wellFormed (after c s) t ≡ true)
-unfolding written answer after
-kept (begin b) s g l = let k = begin-keeps s g b in (k .fits, k .formed)
-kept (read t k now) s g l = let x = read-keeps s g t k now in (x .fits, x .formed)
-kept (put t k c) s g l = let x = put-keeps s g t k c in (x .fits, x .formed)
-kept (advance t now) s g l = let x = advance-keeps s g t now l in (x .fits, x .formed)
-kept (abort t) s g l = let x = abort-keeps s g t in (x .fits, x .formed)
-kept (visit k now) s g l = let x = visit-keeps s g k now in (x .fits, x .formed)
+accepted-keeps : (c : Call) (s : Sheets) → GoodSheets s → ClockFits c → refusalOf (conditions c s) ≡ 0 → Keeps s (outcome c s)
+accepted-keeps (begin b) s g l = begin-keeps s g b
+accepted-keeps (read t k now) s g l = read-keeps s g t k now
+accepted-keeps (put t k c) s g l = put-keeps s g t k c
+accepted-keeps (advance t now) s g l = advance-keeps s g t now l
+accepted-keeps (abort t) s g l = abort-keeps s g t
+accepted-keeps (visit k now) s g l = visit-keeps s g k now
+
+kept : (c : Call) (s : Sheets) → GoodSheets s → ClockFits c → Keeps s (result c s)
+unfolding result
+kept c s g l = unless-by (Keeps s) (conditions c s) (keeps-refused s _) (accepted-keeps c s g l)
 
 -- the sheets after any call are good if they were
 pub sheets-stay-good : (c : Call) (s : Sheets) → ClockFits c → sheetsGood s ≡ true → sheetsGood (after c s) ≡ true
-unfolding after
+unfolding after written
 sheets-stay-good c s l h =
     let g : GoodSheets s = good-parts s h in
-    parts-good (after c s) (write-closed s g (kept c s g l .0))
+    parts-good (after c s) (write-closed s g (kept c s g l .fits))
 
 -- the transaction that a call returns is well formed, on the sheets that it leaves
 pub returned-well-formed : (c : Call) (s : Sheets) (t : Transaction) → ClockFits c → sheetsGood s ≡ true → returns (answer c s) ≡ some t → wellFormed (after c s) t ≡ true
-returned-well-formed c s t l h e = kept c s (good-parts s h) l .1 t e
+unfolding answer after written
+returned-well-formed c s t l h e = kept c s (good-parts s h) l .formed t e

@@ -10,28 +10,17 @@ use borrow.Author.Tests.{eqb-true, eq-eqb, ne-eqb, le-leb, leb-true}
 use Rattle.lists.specs.Each.{all, any}
 use Rattle.lists.specs.All.{map-map, all-map, all-weaken}
 use Rattle.lists.specs.Tests.{and-fst, and-snd, and-both, choose-by}
-use Rattle.types.specs.declared.Record.{Record}
-use Rattle.types.specs.declared.Transaction.{Transaction}
-use Rattle.types.specs.declared.Recovery.{Recovery}
-use Rattle.types.specs.declared.Recovery.the-variants.{Stays, Forward, Back, Again, Busy}
 use Rattle.model.specs.Refusals.{Condition, refuse, refusalOf, lastRefusal, askingOrder, countBefore, asked, noneBefore, firstAsked}
 use Rattle.model.specs.SheetCalls.{checkConditions}
-use Rattle.model.specs.Results.{Call, begin, read, put, advance, abort, visit, Result, refused, made, unless}
+use Rattle.model.specs.Records.{lineOf}
+use Rattle.model.specs.Writes.{Sheets, Write}
+use Rattle.model.specs.Visits.{meeting, isAgain}
+use Rattle.model.specs.Results.{Call, begin, read, put, advance, abort, visit, Answer, refusalIn, Result, refused, made, answerOf, unless}
 use Rattle.model.specs.Conditions.{isNew, conditions, refusals}
-use Rattle.model.specs.Calls.{readNew, beginResult, readResult, putResult, advanceResult, abortResult, visitResult}
-use Rattle.model.specs.ByteCalls.{
-  allConditions,
-  beginOn,
-  readOn,
-  putOn,
-  advanceOn,
-  abortOn,
-  visitOn,
-  recordsAfter,
-  coordinatorAfter,
-}
-use Rattle.model.specs.Histories.{Answer, refusalIn, returned, visited, answerOf, readAnswered}
-use Rattle.model.specs.ByteHistories.{Bytes, bytesAfter, answerOn, afterOn}
+use Rattle.model.specs.Calls.{readNew, outcome, result}
+use Rattle.model.specs.ByteCalls.{sheetsOf, allConditions, resultOn, recordsAfter, coordinatorAfter}
+use Rattle.model.specs.ByteHistories.{Bytes, saying, bytesAfter, answerOn, afterOn}
+use Rattle.call_laws.specs.Choices.{unless-by, unless-of}
 
 -- from n on the numbers rise
 unfoldable pub risingFrom : ℕ → List ℕ → Bool
@@ -151,58 +140,62 @@ refusal-is-first call rs cs = row-first (allConditions call rs cs) (call-in-orde
 
 -- What a call answers.
 
--- an accepted result of an answer that positions nobody away
-abbrev Accepts : {A : Type 0} → (A → Answer) → Result A → Type 0
-Accepts f r = refusalIn (answerOf f r) ≡ 0
+-- a result that turns nobody away
+abbrev Accepts : Result Answer → Type 0
+Accepts r = refusalIn (answerOf r) ≡ 0
 
-accepts-either : {A : Type 0} (f : A → Answer) (b : Bool) (p q : Result A) → Accepts f p → Accepts f q → Accepts f (cond b p q)
-accepts-either f true p q g h = g
-accepts-either f false p q g h = h
+-- what an accepted call comes to is made, and turns nobody away
+data Made : Result Answer → Type 0 where
+  is-made : (a : Answer) (w : Write) → refusalIn a ≡ 0 → Made (made a w)
 
-read-new-accepts : (t : Transaction) (v : Recovery) (r : Record) → Accepts readAnswered (readNew t v r)
-unfolding readNew
-read-new-accepts t Stays r = refl
-read-new-accepts t Forward r = refl
-read-new-accepts t Back r = refl
-read-new-accepts t Again r = refl
-read-new-accepts t Busy r = refl
+outcome-made : (c : Call) (s : Sheets) → Made (outcome c s)
+unfolding outcome readNew
+outcome-made (begin b) s = is-made _ _ refl
+outcome-made (read t k now) s =
+    choose-by Made (isNew k t)
+    (λ n. choose-by Made (isAgain (meeting now (s .coordinator) (lineOf k (s .lines)))) (λ a. is-made _ _ refl) (λ a. is-made _ _ refl))
+    (λ n. is-made _ _ refl)
+outcome-made (put t k c) s = is-made _ _ refl
+outcome-made (advance t now) s = is-made _ _ refl
+outcome-made (abort t) s = is-made _ _ refl
+outcome-made (visit k now) s = is-made _ _ refl
 
-pub refusal-by-rows : {A : Type 0} (f : A → Answer) (x y : Bool) (cs : List Condition) (r : Result A) → Accepts f r → refusalIn (answerOf f (unless (refuse 1 x ∷ refuse 2 y ∷ []) (unless cs r))) ≡ refusalOf (refuse 1 x ∷ refuse 2 y ∷ cs)
+pub outcome-accepts : (c : Call) (s : Sheets) → Accepts (outcome c s)
+outcome-accepts c s = go (outcome c s) (outcome-made c s)
+  where
+    go : (r : Result Answer) → Made r → Accepts r
+    go r (is-made a w e) = e
+
+pub refusal-by-rows : (x y : Bool) (cs : List Condition) (r : Result Answer) → Accepts r → refusalIn (answerOf (unless (refuse 1 x ∷ refuse 2 y ∷ []) (unless cs r))) ≡ refusalOf (refuse 1 x ∷ refuse 2 y ∷ cs)
 unfolding refusalOf
-refusal-by-rows f true y cs r h = refl
-refusal-by-rows f false true cs r h = refl
-refusal-by-rows f false false cs r h =
+refusal-by-rows true y cs r h = refl
+refusal-by-rows false true cs r h = refl
+refusal-by-rows false false cs r h =
     go (eqb (refusalOf cs) 0) refl
   where
-    go : (b : Bool) → eqb (refusalOf cs) 0 ≡ b → refusalIn (answerOf f (cond b r (refused (refusalOf cs)))) ≡ refusalOf cs
+    go : (b : Bool) → eqb (refusalOf cs) 0 ≡ b → refusalIn (answerOf (cond b r (refused (refusalOf cs)))) ≡ refusalOf cs
     go true e = h ∙ sym (eqb-true (refusalOf cs) 0 e)
     go false e = refl
 
 -- an answer's refusal is that of the call's conditions
 pub refusal-given : (call : Call) (b : Bytes) → refusalIn (answerOn call b) ≡ refusalOf (allConditions call (b .records) (b .coordinator))
-unfolding answerOn allConditions checkConditions beginOn readOn putOn advanceOn abortOn visitOn beginResult readResult putResult advanceResult abortResult visitResult
-refusal-given (begin s) b = refusal-by-rows returned _ _ (conditions (begin s) _) _ refl
-refusal-given (read t k now) b = refusal-by-rows readAnswered _ _ (conditions (read t k now) _) _
-    (accepts-either readAnswered (isNew k t) _ _ (read-new-accepts t _ _) refl)
-refusal-given (put t k c) b = refusal-by-rows returned _ _ (conditions (put t k c) _) _ refl
-refusal-given (advance t now) b = refusal-by-rows returned _ _ (conditions (advance t now) _) _ refl
-refusal-given (abort t) b = refusal-by-rows returned _ _ (conditions (abort t) _) _ refl
-refusal-given (visit k now) b = refusal-by-rows visited _ _ (conditions (visit k now) _) _ refl
+unfolding answerOn allConditions checkConditions resultOn result
+refusal-given call b = refusal-by-rows _ _ (conditions call (saying b)) (outcome call (saying b)) (outcome-accepts call (saying b))
+
+-- what holds of every refused result holds where a client is turned away
+pub when-refused : (P : Result Answer → Type 0) → ((n : ℕ) → P (refused n)) → (ps cs : List Condition) (r : Result Answer) → Accepts r → 1 ≤ refusalIn (answerOf (unless ps (unless cs r))) → P (unless ps (unless cs r))
+when-refused P n ps cs r a =
+    unless-by Turned ps (λ l. n (refusalOf ps)) (λ p. unless-by Turned cs (λ l. n (refusalOf cs)) (λ q l. absurd (omega (arith, a, l))))
+  where
+    Turned : Result Answer → Type 0
+    Turned x = 1 ≤ refusalIn (answerOf x) → P x
 
 -- "after a refusal it finds both sheets .. unchanged"
-pub unmoved : {A : Type 0} (f : A → Answer) → ((a : A) → refusalIn (f a) ≡ 0) → (b : Bytes) (r : Result A) → 1 ≤ refusalIn (answerOf f r) → bytesAfter b r ≡ b
-unfolding recordsAfter coordinatorAfter
-unmoved f z b (refused n) l = refl
-unmoved f z b (made a w) l = let e : refusalIn (f a) ≡ 0 = z a in absurd (omega arith)
-
 pub refused-unchanged : (call : Call) (b : Bytes) → 1 ≤ refusalIn (answerOn call b) → afterOn call b ≡ b
-unfolding answerOn afterOn
-refused-unchanged (begin s) b l = unmoved returned (λ a. refl) b _ l
-refused-unchanged (read t k now) b l = unmoved readAnswered (λ a. refl) b _ l
-refused-unchanged (put t k c) b l = unmoved returned (λ a. refl) b _ l
-refused-unchanged (advance t now) b l = unmoved returned (λ a. refl) b _ l
-refused-unchanged (abort t) b l = unmoved returned (λ a. refl) b _ l
-refused-unchanged (visit k now) b l = unmoved visited (λ a. refl) b _ l
+unfolding answerOn afterOn resultOn result recordsAfter coordinatorAfter
+refused-unchanged call b =
+    when-refused (λ (x : Result Answer). bytesAfter b x ≡ b) (λ n. refl) (checkConditions (b .records) (b .coordinator)) (conditions call (saying b))
+    (outcome call (saying b)) (outcome-accepts call (saying b))
 
 pub refusal-small : (call : Call) (b : Bytes) → refusalIn (answerOn call b) ≤ lastRefusal
 refusal-small call b =
@@ -210,3 +203,32 @@ refusal-small call b =
     let l : refusalOf (allConditions call (b .records) (b .coordinator)) ≤ lastRefusal =
     row-small (allConditions call (b .records) (b .coordinator)) (call-in-order call (b .records) (b .coordinator)) in
     omega arith
+
+-- A result whose refusal is a number of the table, and whose answer turns nobody away.
+pub data Sound : Result Answer → Type 0 where
+  sound-refused : (n : ℕ) → 1 ≤ n → n ≤ lastRefusal → Sound (refused n)
+  sound-made : (a : Answer) (w : Write) → refusalIn a ≡ 0 → Sound (made a w)
+
+sound-unless : (cs : List Condition) (r : Result Answer) → all (λ (c : Condition). leb (c .number) lastRefusal) cs ≡ true → Sound r → Sound (unless cs r)
+sound-unless cs r h s = unless-of Sound cs (λ z. sound-refused (refusalOf cs) (positive (refusalOf cs) z) (small cs h)) (λ z. s)
+  where
+    positive : (n : ℕ) → (n ≡ 0 → ⊥) → 1 ≤ n
+    positive n d = omega (arith, d)
+
+conditions-small : (call : Call) (s : Sheets) → all (λ (c : Condition). leb (c .number) lastRefusal) (conditions call s) ≡ true
+unfolding all conditions
+conditions-small (begin b) s = refl
+conditions-small (read t k now) s = refl
+conditions-small (put t k c) s = refl
+conditions-small (advance t now) s = refl
+conditions-small (abort t) s = refl
+conditions-small (visit k now) s = refl
+
+pub result-sound : (call : Call) (rs cs : List ℕ) → Sound (resultOn call rs cs)
+unfolding resultOn result checkConditions all
+result-sound call rs cs =
+    sound-unless (checkConditions rs cs) _ refl
+    (sound-unless (conditions call (sheetsOf rs cs)) _ (conditions-small call (sheetsOf rs cs)) (go (outcome call (sheetsOf rs cs)) (outcome-made call (sheetsOf rs cs))))
+  where
+    go : (r : Result Answer) → Made r → Sound r
+    go r (is-made a w e) = sound-made a w e

@@ -13,7 +13,6 @@ use Rattle.types.specs.declared.State.the-variants.{Absent, Committed, Prepared
 use Rattle.types.specs.declared.Key.{Key}
 use Rattle.types.specs.declared.Image.{Image}
 use Rattle.types.specs.declared.Record.{Record}
-use Rattle.types.specs.declared.Entry.{Entry}
 use Rattle.model.specs.Records.{byState, isZero, absentRule, committedRule, preparedRule, stateRule, noImage}
 use Rattle.model.specs.Images.{isPrepared, Change, writtenImage, prepared, committed, rolledForward, beforeState, rolledBack}
 use Rattle.model.specs.WellFormed.{imageInRange, columnsInRange}

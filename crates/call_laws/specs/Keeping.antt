@@ -19,10 +19,9 @@ use Rattle.model.specs.Refusals.{Condition, refuse, refusalOf}
 use Rattle.model.specs.Transactions.{held, heldAt, withEntry}
 use Rattle.model.specs.Writes.{Sheets, Write, nothing, issue, decide, commit, prepare, forward, back, linesAfter, decisionsAfter, apply}
 use Rattle.model.specs.WellFormed.{entryFormed, placeFormed, verdictFormed, linesHeld, wellFormed}
-use Rattle.model.specs.Results.{Result, refused, made, writeOf}
+use Rattle.model.specs.Results.{Result, refused, made, writeOf, Answer, returns, answerOf}
 use Rattle.model.specs.Conditions.{isNew}
 use Rattle.model.specs.Steps.{unitsOf}
-use Rattle.model.specs.Histories.{Answer, answerOf, returns}
 use Rattle.sheet_laws.specs.Search.{some-found}
 use Rattle.call_laws.specs.Choices.{not-first}
 use Rattle.call_laws.specs.Keys.{hasKey}
@@ -88,16 +87,16 @@ formed-after s w t b g =
     (subst (λ (us : List AtomicityUnit). Stage us t) (sym (units-kept w (s .coordinator))) g)
 
 -- What is asked of a call's result.
-pub record Keeps {A : Type 0} (s : Sheets) (f : A → Answer) (r : Result A) : Type 0 where
+pub record Keeps (s : Sheets) (r : Result Answer) : Type 0 where
   pub fits : Fit s (writeOf r)
-  pub formed : (t : Transaction) → returns (answerOf f r) ≡ some t → wellFormed (apply (writeOf r) s) t ≡ true
+  pub formed : (t : Transaction) → returns (answerOf r) ≡ some t → wellFormed (apply (writeOf r) s) t ≡ true
 
-pub keeps-refused : {A : Type 0} (s : Sheets) (f : A → Answer) (n : ℕ) → Keeps s f (refused n)
+pub keeps-refused : (s : Sheets) (n : ℕ) → Keeps s (refused n)
 unfolding returns
-keeps-refused s f n = record { fits = fit-nothing; formed = λ t e. absurd (Option·none-ne-some t e) }
+keeps-refused s n = record { fits = fit-nothing; formed = λ t e. absurd (Option·none-ne-some t e) }
 
-pub keeps-made : {A : Type 0} (s : Sheets) (f : A → Answer) (a : A) (w : Write) (t : Transaction) → returns (f a) ≡ some t → Fit s w → wellFormed (apply w s) t ≡ true → Keeps s f (made a w)
-keeps-made s f a w t e g h =
+pub keeps-made : (s : Sheets) (a : Answer) (w : Write) (t : Transaction) → returns a ≡ some t → Fit s w → wellFormed (apply w s) t ≡ true → Keeps s (made a w)
+keeps-made s a w t e g h =
     record {
       fits = g;
       formed = λ u q. ap (wellFormed (apply w s)) (Option·some-injective u t (sym q ∙ e)) ∙ h;

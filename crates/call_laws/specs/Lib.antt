@@ -15,6 +15,7 @@ pub mod Entries
 pub mod Keeping
 pub mod Closure
 pub mod Lifting
+pub mod Accepted
 pub mod ByPlace
 pub mod Turns
 pub mod ByteUnits

@@ -15,10 +15,10 @@ use Rattle.model.specs.Coordinator.{coordinatorText, coordinatorGood, coordinat
 use Rattle.model.specs.Refusals.{refusalOf}
 use Rattle.model.specs.SheetCalls.{allIssued, checkConditions}
 use Rattle.model.specs.Writes.{Sheets, sheetsGood, nothing, lineAfter, decisionsAfter, apply}
-use Rattle.model.specs.Results.{Call, begin, read, put, advance, abort, visit, Result, refused, made, writeOf}
-use Rattle.model.specs.Calls.{beginResult, readResult, putResult, advanceResult, abortResult, visitResult}
-use Rattle.model.specs.ByteCalls.{onSheets, beginOn, readOn, putOn, advanceOn, abortOn, visitOn, recordsAfter, coordinatorAfter}
-use Rattle.model.specs.Histories.{returned, visited, answerOf, readAnswered, answer, written, after, ClockFits}
+use Rattle.model.specs.Results.{Call, Result, refused, made, writeOf, answerOf}
+use Rattle.model.specs.Calls.{result}
+use Rattle.model.specs.ByteCalls.{onSheets, resultOn, recordsAfter, coordinatorAfter}
+use Rattle.model.specs.Histories.{answer, written, after, ClockFits}
 use Rattle.model.specs.ByteHistories.{Bytes, saying, Passing, bytesAfter, answerOn, afterOn}
 use Rattle.sheet_laws.specs.Records.{records-read-written, sheet-written-read}
 use Rattle.sheet_laws.specs.Coordinator.{coordinator-read-written, coordinator-written-read}
@@ -67,14 +67,13 @@ pub on-passing : {A : Type 0} (b : Bytes) (call : Sheets → Result A) → Passi
 on-passing b call h =
     ap (λ (n : ℕ). cond (eqb n 0) (call (saying b)) (refused n)) h
 
+pub same-result : (c : Call) (b : Bytes) → Passing b → resultOn c (b .records) (b .coordinator) ≡ result c (saying b)
+unfolding resultOn
+same-result c b h = on-passing b (result c) h
+
 pub same-answer : (c : Call) (b : Bytes) → Passing b → answerOn c b ≡ answer c (saying b)
-unfolding answerOn answer beginOn readOn putOn advanceOn abortOn visitOn
-same-answer (begin x) b h = ap (answerOf returned) (on-passing b (beginResult x) h)
-same-answer (read t k now) b h = ap (answerOf readAnswered) (on-passing b (readResult t k now) h)
-same-answer (put t k c) b h = ap (answerOf returned) (on-passing b (putResult t k c) h)
-same-answer (advance t now) b h = ap (answerOf returned) (on-passing b (advanceResult t now) h)
-same-answer (abort t) b h = ap (answerOf returned) (on-passing b (abortResult t) h)
-same-answer (visit k now) b h = ap (answerOf visited) (on-passing b (visitResult k now) h)
+unfolding answerOn answer
+same-answer c b h = ap answerOf (same-result c b h)
 
 pub apply-nothing : (s : Sheets) → apply nothing s ≡ s
 unfolding apply lineAfter decisionsAfter
@@ -96,13 +95,8 @@ bytes-of-result b (made a w) h = refl
 bytes-of-result b (refused n) h = sym (ap encoded (apply-nothing (saying b)) ∙ passing-encoded b h)
 
 pub same-bytes : (c : Call) (b : Bytes) → Passing b → afterOn c b ≡ encoded (after c (saying b))
-unfolding afterOn after written beginOn readOn putOn advanceOn abortOn visitOn
-same-bytes (begin x) b h = ap (bytesAfter b) (on-passing b (beginResult x) h) ∙ bytes-of-result b (beginResult x (saying b)) h
-same-bytes (read t k now) b h = ap (bytesAfter b) (on-passing b (readResult t k now) h) ∙ bytes-of-result b (readResult t k now (saying b)) h
-same-bytes (put t k c) b h = ap (bytesAfter b) (on-passing b (putResult t k c) h) ∙ bytes-of-result b (putResult t k c (saying b)) h
-same-bytes (advance t now) b h = ap (bytesAfter b) (on-passing b (advanceResult t now) h) ∙ bytes-of-result b (advanceResult t now (saying b)) h
-same-bytes (abort t) b h = ap (bytesAfter b) (on-passing b (abortResult t) h) ∙ bytes-of-result b (abortResult t (saying b)) h
-same-bytes (visit k now) b h = ap (bytesAfter b) (on-passing b (visitResult k now) h) ∙ bytes-of-result b (visitResult k now (saying b)) h
+unfolding afterOn after written
+same-bytes c b h = ap (bytesAfter b) (same-result c b h) ∙ bytes-of-result b (result c (saying b)) h
 
 -- T4 on bytes: the sheets after any call pass, and say what the call leaves
 pub bytes-stay-passing : (c : Call) (b : Bytes) → ClockFits c → Passing b → (saying (afterOn c b) ≡ after c (saying b)) × Passing (afterOn c b)

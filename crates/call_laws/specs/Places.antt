@@ -82,6 +82,20 @@ found-at k rs i e =
       key = m;
     }
 
+-- on a sheet in order each line is the line of its key
+own-line : (rs : List Record) (i : ℕ) → rising rs ≡ true → i < length rs → getD rs i noRecord ≡ lineOf (getD rs i noRecord .key) rs
+unfolding rising lineOf
+own-line [] i h l = absurd (omega arith)
+own-line (r ∷ rs) zero h l = rw (same-key-refl (r .key))
+own-line (r ∷ rs) (suc i) h l =
+    let k = getD rs i noRecord .key in
+    let e : sameKey (r .key) k ≡ false = apart r rs k h (lists-at k rs i (omega arith) refl) in
+    rw e (own-line rs i (and-snd (inOrder r rs) (rising rs) h) (omega arith))
+
+pub found-own : (rs : List Record) (i : ℕ) → rising rs ≡ true → i < length rs → FoundAt (getD rs i noRecord .key) rs i
+found-own rs i h l =
+    record { within = l; line = own-line rs i h l; listed = lists-at (getD rs i noRecord .key) rs i l refl; key = refl }
+
 -- a map that changes only the line of one key
 abbrev pub atKey : Key → (Record → Record) → Record → Record
 atKey k f r = cond (sameKey (r .key) k) (f r) r

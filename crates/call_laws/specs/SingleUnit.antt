@@ -43,20 +43,11 @@ use Rattle.model.specs.Steps.{
   undoStep,
   step,
 }
-use Rattle.model.specs.Results.{Call, begin, read, put, advance, abort, visit, Result, writeOf}
-use Rattle.model.specs.Conditions.{isNew, conditions}
-use Rattle.model.specs.Calls.{
-  ReadAnswer,
-  readNew,
-  beginResult,
-  readResult,
-  putResult,
-  advanceResult,
-  abortResult,
-  visitResult,
-}
+use Rattle.model.specs.Results.{Call, begin, read, put, advance, abort, visit, Answer, Result, writeOf}
+use Rattle.model.specs.Conditions.{isNew}
+use Rattle.model.specs.Calls.{readNew, outcome}
 use Rattle.model.specs.Histories.{written}
-use Rattle.call_laws.specs.Choices.{by-phase, by-decision, unless-by}
+use Rattle.call_laws.specs.Choices.{by-phase, by-decision, by-written}
 use Rattle.call_laws.specs.Keys.{other-key, same-key-refl, hasKey, no-entry}
 use Rattle.call_laws.specs.Groups.{InGroup, in-group, one-scope}
 
@@ -198,20 +189,20 @@ step-single t now s =
     none : Single s nothing
     none = nothing-unit (unitsOf s)
 
--- "writes to at most one unit or the coordinator sheet", whatever the call, its arguments and the sheets
-pub single-unit : (c : Call) (s : Sheets) → Single s (written c s)
-unfolding written beginResult readResult putResult advanceResult abortResult visitResult readNew
-single-unit (begin b) s = unless-by (λ (x : Result Transaction). Single s (writeOf x)) (conditions (begin b) s) (nothing-unit (unitsOf s)) (λ z. issue-unit (unitsOf s))
-single-unit (read t k now) s =
-    unless-by (λ (x : Result ReadAnswer). Single s (writeOf x)) (conditions (read t k now) s) (nothing-unit (unitsOf s))
-    (λ z. choose-by (λ (x : Result ReadAnswer). Single s (writeOf x)) (isNew k t)
-    (λ e. choose-by (λ (x : Result ReadAnswer). Single s (writeOf x)) (isAgain (meeting now (s .coordinator) (lineOf k (s .lines))))
+outcome-single : (c : Call) (s : Sheets) → Single s (writeOf (outcome c s))
+unfolding outcome readNew
+outcome-single (begin b) s = issue-unit (unitsOf s)
+outcome-single (read t k now) s =
+    choose-by (λ (x : Result Answer). Single s (writeOf x)) (isNew k t)
+    (λ e. choose-by (λ (x : Result Answer). Single s (writeOf x)) (isAgain (meeting now (s .coordinator) (lineOf k (s .lines))))
     (λ f. visit-unit (unitsOf s) (meeting now (s .coordinator) (lineOf k (s .lines))) (lineOf k (s .lines)))
     (λ f. visit-unit (unitsOf s) (meeting now (s .coordinator) (lineOf k (s .lines))) (lineOf k (s .lines))))
-    (λ e. nothing-unit (unitsOf s)))
-single-unit (put t k c) s = unless-by (λ (x : Result Transaction). Single s (writeOf x)) (conditions (put t k c) s) (nothing-unit (unitsOf s)) (λ z. nothing-unit (unitsOf s))
-single-unit (advance t now) s = unless-by (λ (x : Result Transaction). Single s (writeOf x)) (conditions (advance t now) s) (nothing-unit (unitsOf s)) (λ z. step-single t now s)
-single-unit (abort t) s = unless-by (λ (x : Result Transaction). Single s (writeOf x)) (conditions (abort t) s) (nothing-unit (unitsOf s)) (λ z. nothing-unit (unitsOf s))
-single-unit (visit k now) s =
-    unless-by (λ (x : Result Recovery). Single s (writeOf x)) (conditions (visit k now) s) (nothing-unit (unitsOf s))
-    (λ z. visit-unit (unitsOf s) (meeting now (s .coordinator) (lineOf k (s .lines))) (lineOf k (s .lines)))
+    (λ e. nothing-unit (unitsOf s))
+outcome-single (put t k c) s = nothing-unit (unitsOf s)
+outcome-single (advance t now) s = step-single t now s
+outcome-single (abort t) s = nothing-unit (unitsOf s)
+outcome-single (visit k now) s = visit-unit (unitsOf s) (meeting now (s .coordinator) (lineOf k (s .lines))) (lineOf k (s .lines))
+
+-- "writes to at most one unit or the coordinator sheet", whatever the call, its arguments and the sheets
+pub single-unit : (c : Call) (s : Sheets) → Single s (written c s)
+single-unit c s = by-written (Single s) c s (nothing-unit (unitsOf s)) (λ z. outcome-single c s)

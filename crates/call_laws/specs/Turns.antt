@@ -5,10 +5,10 @@ use mathlib.Core.Bool.{true}
 use mathlib.Core.Option.{some, Option·none-ne-some}
 use Rattle.types.specs.declared.Transaction.{Transaction}
 use Rattle.model.specs.Writes.{Sheets, sheetsGood, apply}
-use Rattle.model.specs.Results.{advance, Result, writeOf}
+use Rattle.model.specs.Results.{advance, Result, writeOf, Answer, returns, answerOf}
 use Rattle.model.specs.CallByPlace.{named, advanceAtResult, advanceAtOn}
 use Rattle.model.specs.WellFormed.{wellFormed}
-use Rattle.model.specs.Histories.{Event, Answer, returned, answerOf, answer, returns, written, after, ClockFits}
+use Rattle.model.specs.Histories.{Event, answer, written, after, ClockFits}
 use Rattle.model.specs.ByteHistories.{Bytes, saying, Passing, bytesAfter}
 use Rattle.model.specs.Turns.{Turn, single, advanceAt, turnEvent, turnAfter, turnEventOn, turnAfterOn}
 use Rattle.call_laws.specs.Closure.{sheets-stay-good, returned-well-formed}
@@ -20,7 +20,7 @@ pub turn-stays-good : (x : Turn) (s : Sheets) → ClockFits (turnEvent x s .call
 unfolding turnEvent turnAfter after written
 turn-stays-good (single c) s l g = sheets-stay-good c s l g
 turn-stays-good (advanceAt list place now) s l g =
-    by-place list place now s (λ (r : Result Transaction). sheetsGood (apply (writeOf r) s) ≡ true)
+    by-place list place now s (λ (r : Result Answer). sheetsGood (apply (writeOf r) s) ≡ true)
     (sheets-stay-good (advance (named list place) now) s l g)
     (ap sheetsGood (apply-nothing s) ∙ g)
 
@@ -28,7 +28,7 @@ pub same-event : (x : Turn) (b : Bytes) → Passing b → turnEventOn x b ≡ tu
 unfolding turnEventOn turnEvent advanceAtOn
 same-event (single c) b h = ap (λ (a : Answer). record { call = c; answer = a }) (same-answer c b h)
 same-event (advanceAt list place now) b h =
-    ap (λ (r : Result Transaction). record { call = advance (named list place) now; answer = answerOf returned r })
+    ap (λ (r : Result Answer). record { call = advance (named list place) now; answer = answerOf r })
     (on-passing b (advanceAtResult list place now) h)
 
 pub turn-bytes : (x : Turn) (b : Bytes) → Passing b → turnAfterOn x b ≡ encoded (turnAfter x (saying b))
@@ -50,7 +50,7 @@ pub turn-returns-formed : (x : Turn) (s : Sheets) (t : Transaction) → ClockFit
 unfolding turnEvent turnAfter answer after written returns
 turn-returns-formed (single c) s t l g = returned-well-formed c s t l g
 turn-returns-formed (advanceAt list place now) s t l g =
-    by-place list place now s (λ (r : Result Transaction). returns (answerOf returned r) ≡ some t → wellFormed (apply (writeOf r) s) t ≡ true)
+    by-place list place now s (λ (r : Result Answer). returns (answerOf r) ≡ some t → wellFormed (apply (writeOf r) s) t ≡ true)
     (returned-well-formed (advance (named list place) now) s t l g)
     (λ e. absurd (Option·none-ne-some t e))
 

@@ -1,42 +1,92 @@
-// The calls on two lent sheets. A refusal leaves both sheets as they were.
-pub mod abort;
-mod admission;
-pub mod advance;
-pub mod begin;
-pub mod put;
-pub mod read;
-mod recover;
-pub mod visit;
-
+// The calls on two lent sheets, for every input: refusals 1 and 2 by the check, the others and what is done by the call on accepted sheets. A refusal leaves
+// both sheets as they were.
+ghost use mathlib.Core.Path.{_≡_};
+ghost use Rattle.model.specs.Results as model;
+ghost use Rattle.model.specs.ByteCalls.{resultOn, recordsAfter, coordinatorAfter};
+ghost use Rattle.cores.specs.Answers.{toBegun, toReturned, toFetched, toVisited};
+use cores::Fetched;
+use cores::Returned;
+use cores::Visited;
+use sheets::check;
 use types::Columns;
+use types::Key;
 use types::Transaction;
 
-// What begin answers: a refusal or 0, and the new transaction.
-#[repr(C)]
-pub struct Begun {
-    pub refusal: u32,
-    pub transaction: Transaction,
+pub fn begin(serializable: bool, records: &[u8], coordinator: &mut [u8]) -> Returned
+    ensures answer { λ r. ⌜ r ≡ toBegun (resultOn (model.begin serializable) (now (records .entry)) (now (coordinator .entry))) ⌝ }
+    ensures decisions { λ r. ⌜ now (coordinator .exit) ≡ coordinatorAfter (now (records .entry)) (now (coordinator .entry)) (resultOn (model.begin serializable) (now (records .entry)) (now (coordinator .entry))) ⌝ }
+{
+    let checked = check::check(records, coordinator);
+    if checked != 0 {
+        return cores::begin::refusal(checked);
+    }
+    cores::begin::begin(serializable, coordinator)
 }
 
-// What a visit answers: a refusal or 0, and what became of the line: 0 stays, 1 forward, 2 back, 3 again.
-#[repr(C)]
-pub struct Visited {
-    pub refusal: u32,
-    pub reply: u32,
+pub fn read(
+    t: Transaction,
+    key: Key,
+    clock: u32,
+    records: &mut [u8],
+    coordinator: &mut [u8],
+) -> Fetched
+    ensures answer { λ r. ⌜ r ≡ toFetched t (resultOn (model.read t key clock) (now (records .entry)) (now (coordinator .entry))) ⌝ }
+    ensures lines { λ r. ⌜ now (records .exit) ≡ recordsAfter (now (records .entry)) (now (coordinator .entry)) (resultOn (model.read t key clock) (now (records .entry)) (now (coordinator .entry))) ⌝ }
+    ensures decisions { λ r. ⌜ now (coordinator .exit) ≡ coordinatorAfter (now (records .entry)) (now (coordinator .entry)) (resultOn (model.read t key clock) (now (records .entry)) (now (coordinator .entry))) ⌝ }
+{
+    let checked = check::check(records, coordinator);
+    if checked != 0 {
+        return cores::read::refusal(checked, t);
+    }
+    cores::read::read(t, key, clock, records, coordinator)
 }
 
-// What put, advance and abort answer: a refusal or 0, and the transaction, as it came where the call is refused.
-#[repr(C)]
-pub struct Stepped {
-    pub refusal: u32,
-    pub transaction: Transaction,
+pub fn put(
+    t: Transaction,
+    key: Key,
+    columns: Columns,
+    records: &[u8],
+    coordinator: &[u8],
+) -> Returned
+    ensures { λ r. ⌜ r ≡ toReturned t (resultOn (model.put t key columns) (now (records .entry)) (now (coordinator .entry))) ⌝ }
+{
+    let checked = check::check(records, coordinator);
+    if checked != 0 {
+        return cores::refusal(checked, t);
+    }
+    cores::put::put(t, key, columns, records, coordinator)
 }
 
-// What a read answers: a refusal or 0, what was read (0 absent, 1 a value, 2 again), its columns, and the transaction.
-#[repr(C)]
-pub struct Fetched {
-    pub refusal: u32,
-    pub reply: u32,
-    pub columns: Columns,
-    pub transaction: Transaction,
+pub fn advance(t: Transaction, clock: u32, records: &mut [u8], coordinator: &mut [u8]) -> Returned
+    ensures answer { λ r. ⌜ r ≡ toReturned t (resultOn (model.advance t clock) (now (records .entry)) (now (coordinator .entry))) ⌝ }
+    ensures lines { λ r. ⌜ now (records .exit) ≡ recordsAfter (now (records .entry)) (now (coordinator .entry)) (resultOn (model.advance t clock) (now (records .entry)) (now (coordinator .entry))) ⌝ }
+    ensures decisions { λ r. ⌜ now (coordinator .exit) ≡ coordinatorAfter (now (records .entry)) (now (coordinator .entry)) (resultOn (model.advance t clock) (now (records .entry)) (now (coordinator .entry))) ⌝ }
+{
+    let checked = check::check(records, coordinator);
+    if checked != 0 {
+        return cores::refusal(checked, t);
+    }
+    cores::advance::advance(t, clock, records, coordinator)
+}
+
+pub fn abort(t: Transaction, records: &[u8], coordinator: &[u8]) -> Returned
+    ensures { λ r. ⌜ r ≡ toReturned t (resultOn (model.abort t) (now (records .entry)) (now (coordinator .entry))) ⌝ }
+{
+    let checked = check::check(records, coordinator);
+    if checked != 0 {
+        return cores::refusal(checked, t);
+    }
+    cores::abort::abort(t, records, coordinator)
+}
+
+pub fn visit(key: Key, clock: u32, records: &mut [u8], coordinator: &mut [u8]) -> Visited
+    ensures answer { λ r. ⌜ r ≡ toVisited (resultOn (model.visit key clock) (now (records .entry)) (now (coordinator .entry))) ⌝ }
+    ensures lines { λ r. ⌜ now (records .exit) ≡ recordsAfter (now (records .entry)) (now (coordinator .entry)) (resultOn (model.visit key clock) (now (records .entry)) (now (coordinator .entry))) ⌝ }
+    ensures decisions { λ r. ⌜ now (coordinator .exit) ≡ coordinatorAfter (now (records .entry)) (now (coordinator .entry)) (resultOn (model.visit key clock) (now (records .entry)) (now (coordinator .entry))) ⌝ }
+{
+    let checked = check::check(records, coordinator);
+    if checked != 0 {
+        return cores::visit::refusal(checked);
+    }
+    cores::visit::visit(key, clock, records, coordinator)
 }

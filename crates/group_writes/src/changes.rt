@@ -1,7 +1,6 @@
 // What a step writes to the lines of a group, entry by entry.
 ghost use mathlib.Core.Path.{_≡_};
 ghost use mathlib.Core.Bool.{true};
-ghost use mathlib.Core.List.{map};
 ghost use Rattle.lists.specs.Each.{all};
 ghost use Rattle.model.specs.Records.{goodAlone, recordsText};
 ghost use Rattle.model.specs.Records as sheet;

@@ -1,27 +1,14 @@
 -- The calls on the bytes of two sheets: refusals 1 and 2 first, then the call on the decoded sheets, and what it writes encoded again.
 use Prim.Native.Nat.{ℕ}
-use mathlib.Core.Bool.{Bool}
 use mathlib.Core.List.{List, _++_}
-use Rattle.types.specs.declared.Key.{Key}
-use Rattle.types.specs.declared.Columns.{Columns}
-use Rattle.types.specs.declared.Transaction.{Transaction}
-use Rattle.types.specs.declared.Recovery.{Recovery}
 use Rattle.model.specs.Records.{records, recordsText}
 use Rattle.model.specs.Coordinator.{coordinatorOf, coordinatorText}
 use Rattle.model.specs.Refusals.{Condition}
 use Rattle.model.specs.SheetCalls.{checkConditions}
 use Rattle.model.specs.Writes.{Sheets, apply}
-use Rattle.model.specs.Results.{Call, Result, refused, made, unless}
+use Rattle.model.specs.Results.{Call, Answer, Result, refused, made, unless}
 use Rattle.model.specs.Conditions.{conditions}
-use Rattle.model.specs.Calls.{
-  ReadAnswer,
-  beginResult,
-  readResult,
-  putResult,
-  advanceResult,
-  abortResult,
-  visitResult,
-}
+use Rattle.model.specs.Calls.{result}
 
 -- what two sheets say, whatever their bytes
 abbrev pub sheetsOf : List ℕ → List ℕ → Sheets
@@ -35,23 +22,8 @@ allConditions call rs cs = checkConditions rs cs ++ conditions call (sheetsOf rs
 abbrev pub onSheets : {A : Type 0} → List ℕ → List ℕ → (Sheets → Result A) → Result A
 onSheets rs cs call = unless (checkConditions rs cs) (call (sheetsOf rs cs))
 
-unfoldable pub beginOn : Bool → List ℕ → List ℕ → Result Transaction
-beginOn b rs cs = onSheets rs cs (beginResult b)
-
-unfoldable pub readOn : Transaction → Key → ℕ → List ℕ → List ℕ → Result ReadAnswer
-readOn t k now rs cs = onSheets rs cs (readResult t k now)
-
-unfoldable pub putOn : Transaction → Key → Columns → List ℕ → List ℕ → Result Transaction
-putOn t k c rs cs = onSheets rs cs (putResult t k c)
-
-unfoldable pub advanceOn : Transaction → ℕ → List ℕ → List ℕ → Result Transaction
-advanceOn t now rs cs = onSheets rs cs (advanceResult t now)
-
-unfoldable pub abortOn : Transaction → List ℕ → List ℕ → Result Transaction
-abortOn t rs cs = onSheets rs cs (abortResult t)
-
-unfoldable pub visitOn : Key → ℕ → List ℕ → List ℕ → Result Recovery
-visitOn k now rs cs = onSheets rs cs (visitResult k now)
+unfoldable pub resultOn : Call → List ℕ → List ℕ → Result Answer
+resultOn c rs cs = onSheets rs cs (result c)
 
 -- the record sheet after a call: as it was, where the call is refused
 unfoldable pub recordsAfter : {A : Type 0} → List ℕ → List ℕ → Result A → List ℕ

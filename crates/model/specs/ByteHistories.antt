@@ -5,19 +5,9 @@ use mathlib.Core.List.{List}
 use Rattle.model.specs.Refusals.{refusalOf}
 use Rattle.model.specs.SheetCalls.{checkConditions}
 use Rattle.model.specs.Writes.{Sheets, Write}
-use Rattle.model.specs.Results.{Call, begin, read, put, advance, abort, visit, Result}
-use Rattle.model.specs.ByteCalls.{
-  sheetsOf,
-  beginOn,
-  readOn,
-  putOn,
-  advanceOn,
-  abortOn,
-  visitOn,
-  recordsAfter,
-  coordinatorAfter,
-}
-use Rattle.model.specs.Histories.{written, Answer, returned, visited, answerOf, readAnswered}
+use Rattle.model.specs.Results.{Call, Answer, Result, answerOf}
+use Rattle.model.specs.ByteCalls.{sheetsOf, resultOn, recordsAfter, coordinatorAfter}
+use Rattle.model.specs.Histories.{written}
 
 -- the bytes of both sheets
 pub record Bytes : Type 0 where
@@ -41,21 +31,11 @@ bytesAfter b r =
 
 -- what the call answers, made with these bytes
 unfoldable pub answerOn : Call → Bytes → Answer
-answerOn (begin s) b = answerOf returned (beginOn s (b .records) (b .coordinator))
-answerOn (read t k now) b = answerOf readAnswered (readOn t k now (b .records) (b .coordinator))
-answerOn (put t k c) b = answerOf returned (putOn t k c (b .records) (b .coordinator))
-answerOn (advance t now) b = answerOf returned (advanceOn t now (b .records) (b .coordinator))
-answerOn (abort t) b = answerOf returned (abortOn t (b .records) (b .coordinator))
-answerOn (visit k now) b = answerOf visited (visitOn k now (b .records) (b .coordinator))
+answerOn c b = answerOf (resultOn c (b .records) (b .coordinator))
 
 -- the bytes as the call leaves them
 unfoldable pub afterOn : Call → Bytes → Bytes
-afterOn (begin s) b = bytesAfter b (beginOn s (b .records) (b .coordinator))
-afterOn (read t k now) b = bytesAfter b (readOn t k now (b .records) (b .coordinator))
-afterOn (put t k c) b = bytesAfter b (putOn t k c (b .records) (b .coordinator))
-afterOn (advance t now) b = bytesAfter b (advanceOn t now (b .records) (b .coordinator))
-afterOn (abort t) b = bytesAfter b (abortOn t (b .records) (b .coordinator))
-afterOn (visit k now) b = bytesAfter b (visitOn k now (b .records) (b .coordinator))
+afterOn c b = bytesAfter b (resultOn c (b .records) (b .coordinator))
 
 -- what the call writes, made with these bytes
 abbrev pub writtenOn : Call → Bytes → Write

@@ -8,10 +8,9 @@ use Rattle.types.specs.declared.Transaction.{Transaction}
 use Rattle.model.specs.Refusals.{Condition, refuse}
 use Rattle.model.specs.SheetCalls.{checkConditions}
 use Rattle.model.specs.Writes.{Sheets}
-use Rattle.model.specs.Results.{advance, Result, refused, made, unless}
+use Rattle.model.specs.Results.{advance, Answer, heldAfter, Result, refused, made, unless}
 use Rattle.model.specs.Conditions.{conditions}
-use Rattle.model.specs.Steps.{step}
-use Rattle.model.specs.Calls.{newTransaction}
+use Rattle.model.specs.Calls.{newTransaction, outcome}
 use Rattle.model.specs.ByteCalls.{sheetsOf, onSheets}
 
 -- "a lent list of up to 16 structs": a list of n is not over 16, and has the place
@@ -32,15 +31,14 @@ unfoldable pub allConditionsAt : List Transaction → ℕ → ℕ → List ℕ �
 allConditionsAt list place now rs cs = checkConditions rs cs ++ conditionsAt list place now (sheetsOf rs cs)
 
 -- "taking and returning the one named"
-unfoldable pub advanceAtResult : List Transaction → ℕ → ℕ → Sheets → Result Transaction
+unfoldable pub advanceAtResult : List Transaction → ℕ → ℕ → Sheets → Result Answer
 advanceAtResult list place now s =
-    unless (conditionsAt list place now s)
-    (made (step (named list place) now s .transaction) (step (named list place) now s .write))
+    unless (conditionsAt list place now s) (outcome (advance (named list place) now) s)
 
-unfoldable pub advanceAtOn : List Transaction → ℕ → ℕ → List ℕ → List ℕ → Result Transaction
+unfoldable pub advanceAtOn : List Transaction → ℕ → ℕ → List ℕ → List ℕ → Result Answer
 advanceAtOn list place now rs cs = onSheets rs cs (advanceAtResult list place now)
 
 -- the list after the call: the one named is replaced, or the list is as it was where the call is refused
-unfoldable pub listAfter : List Transaction → ℕ → Result Transaction → List Transaction
+unfoldable pub listAfter : List Transaction → ℕ → Result Answer → List Transaction
 listAfter list place (refused n) = list
-listAfter list place (made t w) = set list place t
+listAfter list place (made a w) = set list place (heldAfter (named list place) a)

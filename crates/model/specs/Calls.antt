@@ -1,4 +1,4 @@
--- The six calls over decoded sheets: refused by the first condition that holds, or an answer and a write. Document 01, "Transaction".
+-- The calls over decoded sheets: refused by the first condition that holds, or an answer and a write. Document 01, "Transaction".
 use Prim.Native.Nat.{ℕ, _+_}
 use mathlib.Core.Bool.{Bool, cond}
 use lib.ListN.{getD, replicate}
@@ -7,7 +7,6 @@ use Rattle.types.specs.declared.Columns.{Columns}
 use Rattle.types.specs.declared.Record.{Record}
 use Rattle.types.specs.declared.Entry.{Entry}
 use Rattle.types.specs.declared.Transaction.{Transaction}
-use Rattle.types.specs.declared.Reading.{Reading}
 use Rattle.types.specs.declared.Reading.the-variants.{Again}
 use Rattle.types.specs.declared.Recovery.{Recovery}
 use Rattle.model.specs.Records.{lineOf, byFound}
@@ -25,7 +24,7 @@ use Rattle.model.specs.Transactions.{
 }
 use Rattle.model.specs.Writes.{Sheets, nothing, issue}
 use Rattle.model.specs.Visits.{meeting, isAgain, recovered, recoveryWrite}
-use Rattle.model.specs.Results.{begin, read, put, advance, abort, visit, Result, made, unless}
+use Rattle.model.specs.Results.{Call, begin, read, put, advance, abort, visit, Answer, returned, answered, visited, Result, made, unless}
 use Rattle.model.specs.Conditions.{isNew, heldEntry, conditions}
 use Rattle.model.specs.Steps.{step}
 
@@ -42,59 +41,42 @@ newTransaction n serializable =
       entries = replicate 8 noEntry;
     }
 
--- "Begin raises the issued count by one"
-unfoldable pub beginResult : Bool → Sheets → Result Transaction
-beginResult b s =
-    unless (conditions (begin b) s) (made (newTransaction (s .coordinator .issued + 1) b) issue)
-
--- what a read answers, and the transaction
-pub record ReadAnswer : Type 0 where
-  pub value : Reading
-  pub transaction : Transaction
-
 -- a held key: "as last put, else as first read"
-abbrev pub readHeld : Transaction → Entry → Result ReadAnswer
-readHeld t e = made (record { value = reading e; transaction = t }) nothing
+abbrev pub readHeld : Transaction → Entry → Result Answer
+readHeld t e = made (answered (reading e) t) nothing
 
 -- the transaction with one more entry
 abbrev pub holding : Entry → Transaction → Transaction
 holding e t = withEntry (t .count + 1) (t .count) e t
 
 -- "a new key is visited and then held"; "answer *again* (read too, holding no entry)"
-unfoldable pub readNew : Transaction → Recovery → Record → Result ReadAnswer
+unfoldable pub readNew : Transaction → Recovery → Record → Result Answer
 readNew t v r =
-    cond (isAgain v) (made (record { value = Again; transaction = t }) (recoveryWrite v r))
+    cond (isAgain v) (made (answered Again t) (recoveryWrite v r))
     (made
-    (record {
-      value = reading (entryAs (r .key) (recovered v r .image));
-      transaction = holding (entryAs (r .key) (recovered v r .image)) t;
-    })
+    (answered (reading (entryAs (r .key) (recovered v r .image))) (holding (entryAs (r .key) (recovered v r .image)) t))
     (recoveryWrite v r))
-
-unfoldable pub readResult : Transaction → Key → ℕ → Sheets → Result ReadAnswer
-readResult t k now s =
-    unless (conditions (read t k now) s)
-    (cond (isNew k t) (readNew t (meeting now (s .coordinator) (lineOf k (s .lines))) (lineOf k (s .lines)))
-    (readHeld t (heldEntry k t)))
 
 -- "Put replaces an earlier put."
 unfoldable pub afterPut : Transaction → Key → Columns → Transaction
 afterPut t k c =
     byFound (heldAt k t) t (λ (i : ℕ). withEntry (t .count) i (withPut c (getD (t .entries) i noEntry)) t)
 
-unfoldable pub putResult : Transaction → Key → Columns → Sheets → Result Transaction
-putResult t k c s = unless (conditions (put t k c) s) (made (afterPut t k c) nothing)
-
-unfoldable pub advanceResult : Transaction → ℕ → Sheets → Result Transaction
-advanceResult t now s =
-    unless (conditions (advance t now) s) (made (step t now s .transaction) (step t now s .write))
-
+-- What an accepted call comes to, whether or not it would be refused.
+unfoldable pub outcome : Call → Sheets → Result Answer
+-- "Begin raises the issued count by one"
+outcome (begin b) s = made (returned (newTransaction (s .coordinator .issued + 1) b)) issue
+outcome (read t k now) s =
+    cond (isNew k t) (readNew t (meeting now (s .coordinator) (lineOf k (s .lines))) (lineOf k (s .lines)))
+    (readHeld t (heldEntry k t))
+outcome (put t k c) s = made (returned (afterPut t k c)) nothing
+outcome (advance t now) s = made (returned (step t now s .transaction)) (step t now s .write)
 -- "Abort turns open, prepare, check or decide into withdraw."
-unfoldable pub abortResult : Transaction → Sheets → Result Transaction
-abortResult t s = unless (conditions (abort t) s) (made (moved withdrawPhase 0 (t .verdict) t) nothing)
+outcome (abort t) s = made (returned (moved withdrawPhase 0 (t .verdict) t)) nothing
+outcome (visit k now) s =
+    made (visited (meeting now (s .coordinator) (lineOf k (s .lines))))
+    (recoveryWrite (meeting now (s .coordinator) (lineOf k (s .lines))) (lineOf k (s .lines)))
 
-unfoldable pub visitResult : Key → ℕ → Sheets → Result Recovery
-visitResult k now s =
-    unless (conditions (visit k now) s)
-    (made (meeting now (s .coordinator) (lineOf k (s .lines)))
-    (recoveryWrite (meeting now (s .coordinator) (lineOf k (s .lines))) (lineOf k (s .lines))))
+-- Every call: refused by the first of its conditions that holds, or what an accepted one comes to.
+unfoldable pub result : Call → Sheets → Result Answer
+result c s = unless (conditions c s) (outcome c s)

@@ -6,64 +6,22 @@ use mathlib.Core.Bool.{Bool, false, _||_}
 use mathlib.Core.List.{List, [], _∷_}
 use mathlib.Core.Option.{Option, none, some}
 use Rattle.types.specs.declared.Transaction.{Transaction}
-use Rattle.types.specs.declared.Reading.{Reading}
-use Rattle.types.specs.declared.Recovery.{Recovery}
 use Rattle.model.specs.Writes.{Sheets, Write, isOnePhase, apply}
-use Rattle.model.specs.Results.{Call, begin, read, put, advance, abort, visit, Result, refused, made, writeOf}
-use Rattle.model.specs.Calls.{
-  ReadAnswer,
-  beginResult,
-  readResult,
-  putResult,
-  advanceResult,
-  abortResult,
-  visitResult,
-}
-
--- What a call answers to its client.
-pub data Answer : Type 0 where
-  turnedAway : ℕ → Answer
-  returned : Transaction → Answer
-  answered : Reading → Transaction → Answer
-  visited : Recovery → Answer
+use Rattle.model.specs.Results.{Call, begin, read, put, advance, abort, visit, Answer, turnedAway, returned, answered, visited, returns, writeOf, answerOf}
+use Rattle.model.specs.Calls.{result}
 
 -- a call made, and its answer
 pub record Event : Type 0 where
   pub call : Call
   pub answer : Answer
 
--- the number that an answer turns away with, 0 where it doesn't
-abbrev pub refusalIn : Answer → ℕ
-refusalIn (turnedAway n) = n
-refusalIn (returned t) = 0
-refusalIn (answered v t) = 0
-refusalIn (visited v) = 0
-
--- the answer of a result, by what it makes of an accepted one
-abbrev pub answerOf : {A : Type 0} → (A → Answer) → Result A → Answer
-answerOf f (refused n) = turnedAway n
-answerOf f (made a w) = f a
-
-abbrev pub readAnswered : ReadAnswer → Answer
-readAnswered a = answered (a .value) (a .transaction)
-
 -- what the call answers, made with these sheets
 unfoldable pub answer : Call → Sheets → Answer
-answer (begin b) s = answerOf returned (beginResult b s)
-answer (read t k now) s = answerOf readAnswered (readResult t k now s)
-answer (put t k c) s = answerOf returned (putResult t k c s)
-answer (advance t now) s = answerOf returned (advanceResult t now s)
-answer (abort t) s = answerOf returned (abortResult t s)
-answer (visit k now) s = answerOf visited (visitResult k now s)
+answer c s = answerOf (result c s)
 
 -- what the call writes, made with these sheets
 unfoldable pub written : Call → Sheets → Write
-written (begin b) s = writeOf (beginResult b s)
-written (read t k now) s = writeOf (readResult t k now s)
-written (put t k c) s = writeOf (putResult t k c s)
-written (advance t now) s = writeOf (advanceResult t now s)
-written (abort t) s = writeOf (abortResult t s)
-written (visit k now) s = writeOf (visitResult k now s)
+written c s = writeOf (result c s)
 
 -- the sheets as the call leaves them
 unfoldable pub after : Call → Sheets → Sheets
@@ -77,13 +35,6 @@ given (put t k c) = some t
 given (advance t now) = some t
 given (abort t) = some t
 given (visit k now) = none
-
--- the transaction that an accepted call returns, begin's included; "a transaction that a refusal leaves unchanged isn't returned by it"
-unfoldable pub returns : Answer → Option Transaction
-returns (turnedAway n) = none
-returns (returned t) = some t
-returns (answered v t) = some t
-returns (visited v) = none
 
 -- the transaction that an accepted call takes; a refused call takes none
 abbrev pub takenBy : Call → Answer → Option Transaction

@@ -2,10 +2,13 @@
 use Prim.Native.Nat.{ℕ}
 use mathlib.Core.Bool.{Bool, cond}
 use mathlib.Core.List.{List}
+use mathlib.Core.Option.{Option, none, some}
 use lib.Dec.{eqb}
 use Rattle.types.specs.declared.Key.{Key}
 use Rattle.types.specs.declared.Columns.{Columns}
 use Rattle.types.specs.declared.Transaction.{Transaction}
+use Rattle.types.specs.declared.Reading.{Reading}
+use Rattle.types.specs.declared.Recovery.{Recovery}
 use Rattle.model.specs.Refusals.{Condition, refusalOf}
 use Rattle.model.specs.Writes.{Write, nothing}
 
@@ -17,6 +20,27 @@ pub data Call : Type 0 where
   advance : Transaction → ℕ → Call
   abort : Transaction → Call
   visit : Key → ℕ → Call
+
+-- What a call answers to its client.
+pub data Answer : Type 0 where
+  turnedAway : ℕ → Answer
+  returned : Transaction → Answer
+  answered : Reading → Transaction → Answer
+  visited : Recovery → Answer
+
+-- the number that an answer turns away with, 0 where it doesn't
+abbrev pub refusalIn : Answer → ℕ
+refusalIn (turnedAway n) = n
+refusalIn (returned t) = 0
+refusalIn (answered v t) = 0
+refusalIn (visited v) = 0
+
+-- the transaction that an accepted call returns, begin's included; "a transaction that a refusal leaves unchanged isn't returned by it"
+unfoldable pub returns : Answer → Option Transaction
+returns (turnedAway n) = none
+returns (returned t) = some t
+returns (answered v t) = some t
+returns (visited v) = none
 
 -- A result: refused with a number, or an answer and what is written.
 pub data Result (A : Type 0) : Type 0 where
@@ -31,3 +55,15 @@ unless cs r = cond (eqb (refusalOf cs) 0) r (refused (refusalOf cs))
 abbrev pub writeOf : {A : Type 0} → Result A → Write
 writeOf (refused n) = nothing
 writeOf (made a w) = w
+
+-- what a result says to the client
+abbrev pub answerOf : Result Answer → Answer
+answerOf (refused n) = turnedAway n
+answerOf (made a w) = a
+
+-- the transaction that an answer leaves with its client: the one returned, or the one that it had
+abbrev pub heldAfter : Transaction → Answer → Transaction
+heldAfter t (turnedAway n) = t
+heldAfter t (returned u) = u
+heldAfter t (answered v u) = u
+heldAfter t (visited v) = t

@@ -13,8 +13,8 @@ use Rattle.types.specs.declared.Transaction.{Transaction}
 use Rattle.model.specs.Records.{noImage, sameKey, lineOf}
 use Rattle.model.specs.Images.{Change, writtenImage}
 use Rattle.model.specs.Transactions.{noVerdict, committedVerdict}
-use Rattle.model.specs.Results.{Call, begin, read, put, advance, abort, visit}
-use Rattle.model.specs.Histories.{Event, Answer, turnedAway, returned, answered, visited}
+use Rattle.model.specs.Results.{Call, begin, read, put, advance, abort, visit, Answer, turnedAway, returned, answered, visited}
+use Rattle.model.specs.Histories.{Event}
 
 -- what is to be done to the line of each key
 abbrev pub WriteSet : Type 0

@@ -5,9 +5,9 @@ use mathlib.Core.Bool.{Bool, false, _||_}
 use mathlib.Core.List.{List, [], _∷_}
 use Rattle.types.specs.declared.Transaction.{Transaction}
 use Rattle.model.specs.Writes.{Sheets, isOnePhase, apply}
-use Rattle.model.specs.Results.{Call, advance, writeOf}
+use Rattle.model.specs.Results.{Call, advance, writeOf, answerOf}
 use Rattle.model.specs.CallByPlace.{named, advanceAtResult, advanceAtOn}
-use Rattle.model.specs.Histories.{Event, returned, answerOf, answer, written, after, Permitted, event}
+use Rattle.model.specs.Histories.{Event, answer, written, after, Permitted, event}
 use Rattle.model.specs.ByteHistories.{Bytes, saying, bytesAfter, answerOn, afterOn}
 
 pub data Turn : Type 0 where
@@ -23,7 +23,7 @@ turnEvent (single c) s = event answer after c s
 turnEvent (advanceAt list place now) s =
     record {
       call = advance (named list place) now;
-      answer = answerOf returned (advanceAtResult list place now s);
+      answer = answerOf (advanceAtResult list place now s);
     }
 
 -- the sheets as the turn leaves them
@@ -43,7 +43,7 @@ turnEventOn (single c) b = event answerOn afterOn c b
 turnEventOn (advanceAt list place now) b =
     record {
       call = advance (named list place) now;
-      answer = answerOf returned (advanceAtOn list place now (b .records) (b .coordinator));
+      answer = answerOf (advanceAtOn list place now (b .records) (b .coordinator));
     }
 
 unfoldable pub turnAfterOn : Turn → Bytes → Bytes

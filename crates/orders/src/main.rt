@@ -32,7 +32,7 @@ fn show(title: &[u8], records: &[u8], coordinator: &[u8]) {
 }
 
 fn begin(records: &[u8], coordinator: &mut [u8]) -> Transaction {
-    let begun = engine::begin::begin(false, records, coordinator);
+    let begun = engine::begin(false, records, coordinator);
     show(b"begin\n", records, coordinator);
     begun.transaction
 }
@@ -45,12 +45,12 @@ fn put(
     records: &mut [u8],
     coordinator: &mut [u8],
 ) -> Transaction {
-    let read = engine::read::read(t, key(storage), 1000, records, coordinator);
+    let read = engine::read(t, key(storage), 1000, records, coordinator);
     let columns = Columns {
         column1: column,
         column2: column,
     };
-    let after = engine::put::put(
+    let after = engine::put(
         read.transaction,
         key(storage),
         columns,
@@ -67,7 +67,7 @@ fn advance(
     records: &mut [u8],
     coordinator: &mut [u8],
 ) -> Transaction {
-    let after = engine::advance::advance(t, clock, records, coordinator);
+    let after = engine::advance(t, clock, records, coordinator);
     show(title, records, coordinator);
     after.transaction
 }

@@ -11,7 +11,7 @@ ghost use Rattle.model.specs.Records.{recordsAccepted};
 ghost use Rattle.places.specs.Parts.{partsOk};
 ghost use Rattle.record_check.specs.Figures.{figureAt};
 ghost use Rattle.record_check.specs.States.{kindParts, kindWords};
-ghost use Rattle.record_check.specs.Relations.{highestClock, clockFits, follows};
+ghost use Rattle.record_check.specs.Relations.{highestClock, follows};
 ghost use Rattle.record_check.specs.Line.{lineGood, kindOf};
 ghost use Rattle.record_check.specs.Sheet.{keyBefore, linesPass};
 ghost use Rattle.record_check.specs.Tables.{tables};

@@ -22,29 +22,19 @@ use Rattle.types.specs.declared.Transaction.{Transaction}
 use Rattle.types.specs.declared.Found.{Found}
 use Rattle.types.specs.declared.Found.the-variants.{Nothing}
 use Rattle.types.specs.declared.Recovery.{Recovery}
+use Rattle.model.specs.Refusals.{refusalOf}
 use Rattle.model.specs.Records.{sameKey, lineOf, isMissing, byFound}
 use Rattle.model.specs.Coordinator.{Coordinator, decision, isUndecided, coordinatorGood}
 use Rattle.model.specs.Images.{preparedBy}
 use Rattle.model.specs.Writes.{Sheets, Write, nothing, issue, lineAfter, decisionsAfter, apply}
 use Rattle.model.specs.WellFormed.{wellFormed}
 use Rattle.model.specs.Visits.{ownerDecision, ownerExpired, meeting, isAgain, recovered, recoveryWrite}
-use Rattle.model.specs.Results.{Call, begin, read, put, advance, abort, visit, Result, refused, writeOf}
+use Rattle.model.specs.Results.{Call, begin, read, put, advance, abort, visit, Result, refused, writeOf, Answer, returns, answerOf}
 use Rattle.model.specs.Transactions.{withdrawPhase, isPut, held, noEntry, heldAt, entryAs, withPut, moved, withEntry}
 use Rattle.model.specs.Conditions.{isNew, cannotAdvance, cannotAbort, conditions}
 use Rattle.model.specs.Steps.{unitsOf, step}
-use Rattle.model.specs.Calls.{
-  newTransaction,
-  readNew,
-  holding,
-  afterPut,
-  beginResult,
-  readResult,
-  putResult,
-  advanceResult,
-  abortResult,
-  visitResult,
-}
-use Rattle.model.specs.Histories.{Event, Answer, returned, visited, answerOf, readAnswered, given, returns, takenBy, Available}
+use Rattle.model.specs.Calls.{newTransaction, readNew, holding, afterPut, outcome, result}
+use Rattle.model.specs.Histories.{Event, given, takenBy, Available}
 use Rattle.model.specs.SequentialModel.{Model, modelBegin, modelPut, modelCommit, modelCall, modelStep}
 use Rattle.sheet_laws.specs.Search.{FirstAt, first-by}
 use Rattle.call_laws.specs.Choices.{by-phase-of, unless-by, testOf, accepted, by-meeting}
@@ -134,44 +124,41 @@ unfolding isMissing
 missing-none q = true≢false q
 
 module _ {base : ℕ} {one : ℕ → Bool} (s : Sheets) (es : List Event) (m : Model) (inv : Inv base one s es m) where
-  abbrev eventOf : {A : Type 0} → Call → (A → Answer) → Result A → Event
-  eventOf c f r = record { call = c; answer = answerOf f r }
+  abbrev eventOf : Call → Result Answer → Event
+  eventOf c r = record { call = c; answer = answerOf r }
 
   -- A result keeps the invariant, if it leaves good sheets and a well-formed transaction, and takes a state that may be handed on.
-  abbrev pub Kept : {A : Type 0} → Call → (A → Answer) → Result A → Type 0
-  Kept c f r =
+  abbrev pub Kept : Call → Result Answer → Type 0
+  Kept c r =
       GoodSheets (apply (writeOf r) s)
-      → ((u : Transaction) → returns (answerOf f r) ≡ some u → wellFormed (apply (writeOf r) s) u ≡ true)
-      → ((u : Transaction) → takenBy c (answerOf f r) ≡ some u → Available u es)
-      → Inv base (oneAfter (writeOf r) one) (apply (writeOf r) s) (eventOf c f r ∷ es) (modelStep (eventOf c f r) m)
+      → ((u : Transaction) → returns (answerOf r) ≡ some u → wellFormed (apply (writeOf r) s) u ≡ true)
+      → ((u : Transaction) → takenBy c (answerOf r) ≡ some u → Available u es)
+      → Inv base (oneAfter (writeOf r) one) (apply (writeOf r) s) (eventOf c r ∷ es) (modelStep (eventOf c r) m)
 
-  pub kept-refused : {A : Type 0} (c : Call) (f : A → Answer) (n : ℕ) → Kept c f (refused n)
+  kept-refused : (c : Call) (n : ℕ) → Kept c (refused n)
   unfolding modelStep returns
-  kept-refused c f n g w a =
+  kept-refused c n g w a =
       inv-free s es m nothing _ inv refl g gentle-nothing (λ j. away-nothing)
 
-  pub visit-kept : (k : Key) (now : ℕ) → Kept (visit k now) visited (visitResult k now s)
-  unfolding visitResult conditions testOf modelStep returns
-  visit-kept k now =
-      unless-by (Kept (visit k now) visited) (conditions (visit k now) s) (kept-refused (visit k now) visited _)
-      (λ z g w a. inv-free s es m (recoveryWrite (meeting now (s .coordinator) (lineOf k (s .lines))) (lineOf k (s .lines))) _ inv refl g
-      (visit-gentle s now (lineOf k (s .lines))) (visit-away s now k))
+  visit-kept : (k : Key) (now : ℕ) → refusalOf (conditions (visit k now) s) ≡ 0 → Kept (visit k now) (outcome (visit k now) s)
+  unfolding outcome conditions testOf modelStep returns
+  visit-kept k now z g w a =
+      inv-free s es m (recoveryWrite (meeting now (s .coordinator) (lineOf k (s .lines))) (lineOf k (s .lines))) _ inv refl g
+      (visit-gentle s now (lineOf k (s .lines))) (visit-away s now k)
 
-  pub advance-kept : (t : Transaction) (now : ℕ) → Kept (advance t now) returned (advanceResult t now s)
-  unfolding advanceResult conditions testOf modelStep modelCall returns given afterStep
-  advance-kept t now =
-      unless-by (Kept (advance t now) returned) (conditions (advance t now) s) (kept-refused (advance t now) returned _)
-      (λ z g w a. let ok : cannotAdvance t s ≡ false = accepted 4 (advance t now) s z in
+  advance-kept : (t : Transaction) (now : ℕ) → refusalOf (conditions (advance t now) s) ≡ 0 → Kept (advance t now) (outcome (advance t now) s)
+  unfolding outcome conditions testOf modelStep modelCall returns given afterStep
+  advance-kept t now z g w a =
+      let ok : cannotAdvance t s ≡ false = accepted 4 (advance t now) s z in
       inv-taken s es m _ t (step t now s .transaction) (step t now s .write) _ inv (a t refl) refl refl (advance-live t s ok) g (w (step t now s .transaction) refl)
-      (step-moves s m t (inv .good) (inv .view) (inv .known t (a t refl)) now ok))
+      (step-moves s m t (inv .good) (inv .view) (inv .known t (a t refl)) now ok)
 
-  pub abort-kept : (t : Transaction) → Kept (abort t) returned (abortResult t s)
-  unfolding abortResult conditions testOf modelStep modelCall returns given afterStep
-  abort-kept t =
-      unless-by (Kept (abort t) returned) (conditions (abort t) s) (kept-refused (abort t) returned _)
-      (λ z g w a. let early : t .phase ≤ 4 = early-abort t (accepted 4 (abort t) s z) in
+  abort-kept : (t : Transaction) → refusalOf (conditions (abort t) s) ≡ 0 → Kept (abort t) (outcome (abort t) s)
+  unfolding outcome conditions testOf modelStep modelCall returns given afterStep
+  abort-kept t z g w a =
+      let early : t .phase ≤ 4 = early-abort t (accepted 4 (abort t) s z) in
       inv-taken s es m _ t (moved withdrawPhase 0 (t .verdict) t) nothing _ inv (a t refl) refl refl (omega arith) g (w (moved withdrawPhase 0 (t .verdict) t) refl)
-      (withdraws s m t (inv .good) (inv .view) (inv .known t (a t refl)) early))
+      (withdraws s m t (inv .good) (inv .view) (inv .known t (a t refl)) early)
 
   -- Begin.
 
@@ -199,11 +186,10 @@ module _ {base : ℕ} {one : ℕ → Bool} (s : Sheets) (es : List Event) (m : M
   begin-sets b k =
       ap (λ (x : Bool). cond x (λ (i : Key). none) (m .writes (s .coordinator .issued + 1)) k) (eq-eqb (s .coordinator .issued + 1) (s .coordinator .issued + 1) refl)
 
-  pub begin-kept : (b : Bool) → Kept (begin b) returned (beginResult b s)
-  unfolding beginResult modelStep modelCall modelBegin returns
-  begin-kept b =
-      unless-by (Kept (begin b) returned) (conditions (begin b) s) (kept-refused (begin b) returned _)
-      (λ z g w a. inv-begun s es m (modelBegin (s .coordinator .issued + 1) m) (newTransaction (s .coordinator .issued + 1) b) issue _ inv (omega arith) refl g gentle-issue
+  begin-kept : (b : Bool) → refusalOf (conditions (begin b) s) ≡ 0 → Kept (begin b) (outcome (begin b) s)
+  unfolding outcome modelStep modelCall modelBegin returns
+  begin-kept b z g w a =
+      inv-begun s es m (modelBegin (s .coordinator .issued + 1) m) (newTransaction (s .coordinator .issued + 1) b) issue _ inv (omega arith) refl g gentle-issue
       (gentle-view s m issue (inv .good) gentle-issue (inv .view)) (λ j. away-issue)
       (λ j k d. let e : eqb j (s .coordinator .issued + 1) ≡ false = ne-eqb j (s .coordinator .issued + 1) d in
       ap (λ (x : Bool). cond x (λ (i : Key). none) (m .writes j) k) e)
@@ -213,7 +199,7 @@ module _ {base : ℕ} {one : ℕ → Bool} (s : Sheets) (es : List Event) (m : M
         sets = begin-sets b;
         memory = λ l. begin-memory b;
         open-undecided = λ e. begin-undecided;
-      }))
+      })
 
   -- Put.
 
@@ -241,11 +227,10 @@ module _ {base : ℕ} {one : ℕ → Bool} (s : Sheets) (es : List Event) (m : M
         effect = quiet gentle-nothing refl (λ l. absurd (omega (arith, l, ph)));
       }
 
-  pub put-kept : (t : Transaction) (k : Key) (c : Columns) → Kept (put t k c) returned (putResult t k c s)
-  unfolding putResult conditions testOf modelStep modelCall returns given afterPut heldAt
-  put-kept t k c =
-      unless-by (Kept (put t k c) returned) (conditions (put t k c) s) (kept-refused (put t k c) returned _)
-      (λ z g w a. let c4 : not (eqb (t .phase) 0) ≡ false = accepted 4 (put t k c) s z in
+  put-kept : (t : Transaction) (k : Key) (c : Columns) → refusalOf (conditions (put t k c) s) ≡ 0 → Kept (put t k c) (outcome (put t k c) s)
+  unfolding outcome conditions testOf modelStep modelCall returns given afterPut heldAt
+  put-kept t k c z g w a =
+      let c4 : not (eqb (t .phase) 0) ≡ false = accepted 4 (put t k c) s z in
       let c10 : isNew k t ≡ false = accepted 10 (put t k c) s z in
       let ph : t .phase ≡ 0 = eqb-true (t .phase) 0 (not-false (eqb (t .phase) 0) c4) in
       inv-taken s es m _ t (afterPut t k c) nothing _ inv (a t refl) refl refl (omega arith) g (w (afterPut t k c) refl)
@@ -254,7 +239,7 @@ module _ {base : ℕ} {one : ℕ → Bool} (s : Sheets) (es : List Event) (m : M
       (held t) noEntry
       (λ n q. absurd (missing-none q))
       (λ i x q. put-moves t k c i (inv .known t (a t refl)) ph x)
-      c10))
+      c10)
 
   -- Read.
 
@@ -276,18 +261,17 @@ module _ {base : ℕ} {one : ℕ → Bool} (s : Sheets) (es : List Event) (m : M
         effect = quiet gentle refl (λ l. absurd (omega (arith, l, ph)));
       })
 
-  pub read-kept : (t : Transaction) (k : Key) (now : ℕ) → Kept (read t k now) readAnswered (readResult t k now s)
-  unfolding readResult conditions testOf readNew modelStep modelCall returns given afterStep
-  read-kept t k now =
-      unless-by (Kept (read t k now) readAnswered) (conditions (read t k now) s) (kept-refused (read t k now) readAnswered _)
-      (λ z. let c4 : not (eqb (t .phase) 0) ≡ false = accepted 4 (read t k now) s z in
+  read-kept : (t : Transaction) (k : Key) (now : ℕ) → refusalOf (conditions (read t k now) s) ≡ 0 → Kept (read t k now) (outcome (read t k now) s)
+  unfolding outcome conditions testOf readNew modelStep modelCall returns given afterStep
+  read-kept t k now z =
+      let c4 : not (eqb (t .phase) 0) ≡ false = accepted 4 (read t k now) s z in
       let ph : t .phase ≡ 0 = eqb-true (t .phase) 0 (not-false (eqb (t .phase) 0) c4) in
       let r = lineOf k (s .lines) in
       let v = meeting now (s .coordinator) r in
       let gentle : Gentle s (recoveryWrite v r) = visit-gentle s now r in
       let away : (j : ℕ) → Away s j (recoveryWrite v r) = visit-away s now k in
-      choose-by (Kept (read t k now) readAnswered) (isNew k t)
-      (λ n. choose-by (Kept (read t k now) readAnswered) (isAgain v)
+      choose-by (Kept (read t k now)) (isNew k t)
+      (λ n. choose-by (Kept (read t k now)) (isAgain v)
       (λ x g w a. inv-taken s es m _ t t (recoveryWrite v r) _ inv (a t refl) refl refl (omega arith) g (w t refl)
       (plain s m t (inv .good) (inv .view) (inv .known t (a t refl)) (recoveryWrite v r) t (never-both (t .verdict)) gentle (λ j d. away j) refl refl (λ l. l)
       (λ l. undecided-kept s (t .number) (recoveryWrite v r) (away (t .number)) (open-unprepared s m t (inv .known t (a t refl)) ph) (inv .known t (a t refl) .open-undecided ph))
@@ -296,4 +280,18 @@ module _ {base : ℕ} {one : ℕ → Bool} (s : Sheets) (es : List Event) (m : M
       inv-taken s es m _ t (holding e t) (recoveryWrite v r) _ inv (a t refl) refl refl (omega arith) g (w (holding e t) refl)
       (read-moves t e (recoveryWrite v r) (inv .known t (a t refl)) ph refl gentle away)))
       (λ n g w a. inv-taken s es m _ t t nothing _ inv (a t refl) refl refl (omega arith) g (w t refl)
-      (stays s m t (inv .good) (inv .view) (inv .known t (a t refl)))))
+      (stays s m t (inv .good) (inv .view) (inv .known t (a t refl))))
+
+  -- Every call.
+
+  accepted-kept : (c : Call) → refusalOf (conditions c s) ≡ 0 → Kept c (outcome c s)
+  accepted-kept (begin b) = begin-kept b
+  accepted-kept (read t k now) = read-kept t k now
+  accepted-kept (put t k c) = put-kept t k c
+  accepted-kept (advance t now) = advance-kept t now
+  accepted-kept (abort t) = abort-kept t
+  accepted-kept (visit k now) = visit-kept k now
+
+  pub result-kept : (c : Call) → Kept c (result c s)
+  unfolding result
+  result-kept c = unless-by (Kept c) (conditions c s) (kept-refused c (refusalOf (conditions c s))) (accepted-kept c)

@@ -9,19 +9,16 @@ use mathlib.Core.Option.{none, some, Option·none-ne-some}
 use Rattle.types.specs.declared.Decision.{Decision}
 use Rattle.types.specs.declared.Decision.the-variants.{Committed}
 use Rattle.types.specs.declared.Key.{Key}
-use Rattle.types.specs.declared.Recovery.{Recovery}
 use Rattle.model.specs.Images.{Change}
 use Rattle.model.specs.Records.{lineOf}
 use Rattle.model.specs.Coordinator.{decision}
 use Rattle.model.specs.Writes.{Sheets, sheetsGood, isOnePhase, apply}
-use Rattle.model.specs.Results.{Call, Result, writeOf}
-use Rattle.model.specs.Conditions.{conditions}
-use Rattle.model.specs.Calls.{visitResult}
+use Rattle.model.specs.Results.{Call}
 use Rattle.model.specs.Histories.{answer, written, after, eventsAfter, leftBy, Legal, onePhaseIn}
 use Rattle.model.specs.SequentialModel.{firstModel, modelAfter, isCommitted}
 use Rattle.model.specs.RecoveryPass.{Visit, visitCall, nonePrepared}
 use Rattle.model.specs.Recovered.{CommittedExactly}
-use Rattle.call_laws.specs.Choices.{unless-by}
+use Rattle.call_laws.specs.Choices.{by-visit}
 use Rattle.recovery.specs.Settling.{Gentle, gentle-nothing}
 use Rattle.recovery.specs.Counted.{Counted, oneAfter, gentle-before, gentle-later}
 use Rattle.recovery.specs.Calls.{visit-gentle}
@@ -31,10 +28,7 @@ use Rattle.recovery.specs.Theorem.{modelOf, recoveredBy}
 -- Visits make no COMMITTED and take none away.
 
 call-gentle : (v : Visit) (s : Sheets) → Gentle s (written (visitCall v) s)
-unfolding written visitResult
-call-gentle v s =
-    unless-by (λ (x : Result Recovery). Gentle s (writeOf x)) (conditions (visitCall v) s) gentle-nothing
-    (λ z. visit-gentle s (v .clock) (lineOf (v .key) (s .lines)))
+call-gentle v s = by-visit (Gentle s) (v .key) (v .clock) s gentle-nothing (visit-gentle s (v .clock) (lineOf (v .key) (s .lines)))
 
 pub visits-before : (vs : List Visit) (s : Sheets) (n : ℕ) → decision n (leftBy answer after (map visitCall vs) s .coordinator) ≡ Committed → decision n (s .coordinator) ≡ Committed
 unfolding leftBy after apply

@@ -11,14 +11,11 @@ use Rattle.model.specs.Coordinator.{decision}
 use Rattle.model.specs.Images.{isPrepared, rolledBack}
 use Rattle.model.specs.Writes.{Sheets, sheetsGood}
 use Rattle.model.specs.Visits.{ownerDecision}
-use Rattle.model.specs.Results.{Call, Result, writeOf}
-use Rattle.model.specs.Conditions.{conditions}
-use Rattle.model.specs.Calls.{visitResult}
+use Rattle.model.specs.Results.{Call}
 use Rattle.model.specs.Histories.{answer, written, after, eventsAfter, leftBy, Legal, onePhaseIn}
 use Rattle.model.specs.SequentialModel.{firstModel, modelAfter, isCommitted}
 use Rattle.model.specs.RecoveryPass.{Visit, visitCall, nonePrepared, Expiring, Closing}
-use Rattle.types.specs.declared.Recovery.{Recovery}
-use Rattle.call_laws.specs.Choices.{unless-by}
+use Rattle.call_laws.specs.Choices.{by-visit}
 use Rattle.call_laws.specs.Sheets.{parts-good}
 use Rattle.call_laws.specs.Closure.{sheets-stay-good}
 use Rattle.recovery.specs.Settling.{settled-back}
@@ -32,12 +29,9 @@ use Rattle.recovery.specs.Commits.{visits-later, ones-are}
 
 -- a visit keeps a number silent
 visit-silent : (n : ℕ) (v : Visit) (s : Sheets) → Silent n s → Silent n (after (visitCall v) s)
-unfolding after written visitResult
+unfolding after
 visit-silent n v s x =
-    silent-kept n s (written (visitCall v) s)
-    (unless-by (λ (r : Result Recovery). Away s n (writeOf r)) (conditions (visitCall v) s) away-nothing
-    (λ z. visit-away s (v .clock) (v .key) n))
-    x
+    silent-kept n s (written (visitCall v) s) (by-visit (Away s n) (v .key) (v .clock) s away-nothing (visit-away s (v .clock) (v .key) n)) x
 
 visits-silent : (n : ℕ) (vs : List Visit) (s : Sheets) → sheetsGood s ≡ true → Expiring (λ (y : Sheets). y) after vs s → Silent n s → Silent n (leftBy answer after (map visitCall vs) s)
 unfolding leftBy

@@ -16,9 +16,10 @@ use Rattle.types.specs.declared.Decision.the-variants.{Undecided, Committed, Ab
 use Rattle.types.specs.declared.Key.{Key}
 use Rattle.types.specs.declared.Entry.{Entry}
 use Rattle.types.specs.declared.Transaction.{Transaction}
+use Rattle.model.specs.Results.{returns}
 use Rattle.model.specs.Coordinator.{decision}
 use Rattle.model.specs.Writes.{Sheets, Write, nothing, decide, commit, decisionsAfter, apply, isOnePhase}
-use Rattle.model.specs.Histories.{Event, returns, taken, Available}
+use Rattle.model.specs.Histories.{Event, taken, Available}
 use Rattle.model.specs.SequentialModel.{Model, modelCommit, isCommitted}
 use Rattle.call_laws.specs.Keeping.{issued-grows}
 use Rattle.model.specs.Records.{lineOf}

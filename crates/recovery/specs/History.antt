@@ -13,8 +13,8 @@ use Rattle.model.specs.Records.{lineOf}
 use Rattle.model.specs.Images.{isPrepared}
 use Rattle.model.specs.Writes.{Sheets, sheetsGood}
 use Rattle.model.specs.WellFormed.{wellFormed}
-use Rattle.model.specs.Results.{Call, begin, read, put, advance, abort, visit}
-use Rattle.model.specs.Histories.{Event, answer, returns, written, after, Permitted, event, eventsAfter, leftBy, Legal}
+use Rattle.model.specs.Results.{Call, returns}
+use Rattle.model.specs.Histories.{Event, answer, written, after, Permitted, event, eventsAfter, leftBy, Legal}
 use Rattle.model.specs.SequentialModel.{Model, firstModel, modelStep, modelAfter}
 use Rattle.model.specs.RecoveryPass.{nonePrepared}
 use Rattle.call_laws.specs.Lines.{line-passes}
@@ -24,7 +24,7 @@ use Rattle.recovery.specs.Settling.{settled-plain, undecided-committed}
 use Rattle.recovery.specs.View.{by-line}
 use Rattle.recovery.specs.Counted.{oneAfter}
 use Rattle.recovery.specs.Invariant.{Inv}
-use Rattle.recovery.specs.Calls.{above-undecided, begin-kept, read-kept, put-kept, advance-kept, abort-kept, visit-kept}
+use Rattle.recovery.specs.Calls.{above-undecided, result-kept}
 
 none-pending : (k : Key) (rs : List Record) → nonePrepared rs ≡ true → isPrepared (lineOf k rs) ≡ false
 none-pending k rs n =
@@ -57,18 +57,7 @@ formed-after-call c s inv p u e = returned-well-formed c s u (p .clock) (parts-g
 
 pub call-kept : {base : ℕ} {one : ℕ → Bool} (c : Call) (s : Sheets) (es : List Event) (m : Model) → Inv base one s es m → Permitted c (answer c s) es → Inv base (oneAfter (written c s) one) (after c s) (event answer after c s ∷ es) (modelStep (event answer after c s) m)
 unfolding answer after written
-call-kept (begin b) s es m inv p =
-    begin-kept s es m inv b (good-after (begin b) s inv p) (λ u e. formed-after-call (begin b) s inv p u e) (p .state)
-call-kept (read t k now) s es m inv p =
-    read-kept s es m inv t k now (good-after (read t k now) s inv p) (λ u e. formed-after-call (read t k now) s inv p u e) (p .state)
-call-kept (put t k c) s es m inv p =
-    put-kept s es m inv t k c (good-after (put t k c) s inv p) (λ u e. formed-after-call (put t k c) s inv p u e) (p .state)
-call-kept (advance t now) s es m inv p =
-    advance-kept s es m inv t now (good-after (advance t now) s inv p) (λ u e. formed-after-call (advance t now) s inv p u e) (p .state)
-call-kept (abort t) s es m inv p =
-    abort-kept s es m inv t (good-after (abort t) s inv p) (λ u e. formed-after-call (abort t) s inv p u e) (p .state)
-call-kept (visit k now) s es m inv p =
-    visit-kept s es m inv k now (good-after (visit k now) s inv p) (λ u e. formed-after-call (visit k now) s inv p u e) (p .state)
+call-kept c s es m inv p = result-kept s es m inv c (good-after c s inv p) (formed-after-call c s inv p) (p .state)
 
 -- the numbers whose one-phase write is made in a history
 unfoldable pub onesAfter : List Call → Sheets → (ℕ → Bool) → ℕ → Bool

@@ -13,12 +13,13 @@ use Rattle.lists.specs.Chosen.{or-else}
 use Rattle.types.specs.declared.Decision.the-variants.{Undecided}
 use Rattle.types.specs.declared.Key.{Key}
 use Rattle.types.specs.declared.Transaction.{Transaction}
+use Rattle.model.specs.Results.{returns}
 use Rattle.model.specs.Records.{lineOf}
 use Rattle.model.specs.Coordinator.{decision}
 use Rattle.model.specs.Transactions.{held}
 use Rattle.model.specs.Writes.{Sheets, Write, commit, decisionsAfter, apply, isOnePhase}
 use Rattle.model.specs.WellFormed.{wellFormed}
-use Rattle.model.specs.Histories.{Event, returns, taken, Available}
+use Rattle.model.specs.Histories.{Event, taken, Available}
 use Rattle.model.specs.SequentialModel.{Model}
 use Rattle.call_laws.specs.Sheets.{GoodSheets}
 use Rattle.call_laws.specs.Transactions.{well-formed-parts}

@@ -5,8 +5,8 @@ use mathlib.Core.Path.{_≡_, refl, sym, ap, ap₂, _∙_, subst}
 use mathlib.Core.Bool.{Bool, true, _||_}
 use mathlib.Core.List.{List, [], _∷_, map}
 use Rattle.model.specs.Writes.{Sheets, sheetsGood}
-use Rattle.model.specs.Results.{Call}
-use Rattle.model.specs.Histories.{Event, Answer, answer, after, ClockFits, Permitted, leftBy}
+use Rattle.model.specs.Results.{Call, Answer}
+use Rattle.model.specs.Histories.{Event, answer, after, ClockFits, Permitted, leftBy}
 use Rattle.model.specs.SequentialModel.{firstModel, modelAfter}
 use Rattle.model.specs.RecoveryPass.{Visit, visitCall, nonePrepared, Expiring, Closing}
 use Rattle.model.specs.Turns.{Turn, turnEvent, turnAfter, turnOnePhase, turnsLeft, onePhaseTurn, turnEvents, LegalTurns}

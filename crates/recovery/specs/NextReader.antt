@@ -4,7 +4,6 @@ use Prim.Native.Nat.{ℕ, _^_, _<_}
 use mathlib.Core.Path.{_≡_, refl, sym, ap, ap₂, _∙_}
 use mathlib.Core.Bool.{Bool, true, false, _&&_, cond, true≢false}
 use mathlib.Core.List.{[], _∷_}
-use lib.Dec.{eqb}
 use Rattle.lists.specs.Tests.{choose-by}
 use Rattle.types.specs.declared.Decision.{Decision}
 use Rattle.types.specs.declared.Decision.the-variants.{Committed}
@@ -15,16 +14,16 @@ use Rattle.types.specs.declared.Recovery.{Recovery}
 use Rattle.types.specs.declared.Recovery.the-variants.{Stays, Forward, Back, Again, Busy}
 use Rattle.model.specs.Records.{records, lineOf, hasLine}
 use Rattle.model.specs.Coordinator.{coordinatorOf, isUndecided}
-use Rattle.model.specs.Refusals.{refusalOf}
 use Rattle.model.specs.Images.{isPrepared, byDecision, rolledForward, recovery}
 use Rattle.model.specs.Writes.{Sheets, Write, forward, lineAfter, apply}
 use Rattle.model.specs.Visits.{ownerDecision, ownerExpired, meeting, isAgain, recoveryWrite}
-use Rattle.model.specs.Results.{read, visit, Result, refused, writeOf}
+use Rattle.model.specs.Results.{read, visit, Result, writeOf, visited, refusalIn, answerOf, Answer}
 use Rattle.model.specs.Conditions.{isNew, heldEntry, conditions}
-use Rattle.model.specs.Calls.{ReadAnswer, readHeld, readNew, readResult}
-use Rattle.model.specs.Histories.{refusalIn, visited, answerOf, readAnswered, answer, written, after}
+use Rattle.model.specs.Calls.{readHeld, readNew, outcome, result}
+use Rattle.model.specs.Histories.{answer, written, after}
 use Rattle.model.specs.ByteHistories.{Bytes, saying, Passing, answerOn, afterOn}
 use Rattle.model.specs.RecoveryPass.{lineUndecided}
+use Rattle.call_laws.specs.Choices.{unless-of}
 use Rattle.call_laws.specs.Lines.{listsKey, has-line, still-forward}
 use Rattle.call_laws.specs.Sheets.{GoodSheets, good-parts}
 use Rattle.call_laws.specs.Lifting.{passing-good, same-answer, bytes-stay-passing}
@@ -53,12 +52,15 @@ module _ (s : Sheets) (good : GoodSheets s) (k : Key) (now : ℕ) (listed : list
   unfolding answer after written
   visit-finishes =
       let m = visit-made s good k now listed decided in
-      (ap (answerOf visited) m ∙ ap visited meets-forward, finished (written (visit k now) s) (ap writeOf m))
+      (ap answerOf m ∙ ap visited meets-forward, finished (written (visit k now) s) (ap writeOf m))
 
   -- a read that is accepted, of a key that is not held
   pub read-finishes : (t : Transaction) → isNew k t ≡ true → refusalIn (answer (read t k now) s) ≡ 0 → lineOf k (after (read t k now) s .lines) ≡ rolledForward (lineOf k (s .lines))
-  unfolding answer after written readResult readNew
-  read-finishes t new = go (eqb (refusalOf (conditions (read t k now) s)) 0) refl
+  unfolding answer after written result outcome readNew
+  read-finishes t new =
+      unless-of (λ (x : Result Answer). refusalIn (answerOf x) ≡ 0 → lineOf k (apply (writeOf x) s .lines) ≡ rolledForward (lineOf k (s .lines))) (conditions (read t k now) s)
+      (λ z a. absurd (z a))
+      (λ z a. finished (writeOf (outcome (read t k now) s)) writes)
     where
       r : Record
       r = lineOf k (s .lines)
@@ -66,17 +68,10 @@ module _ (s : Sheets) (good : GoodSheets s) (k : Key) (now : ℕ) (listed : list
       v : Recovery
       v = meeting now (s .coordinator) r
 
-      met : Result ReadAnswer
-      met = cond (isNew k t) (readNew t v r) (readHeld t (heldEntry k t))
-
-      writes : writeOf met ≡ recoveryWrite v r
+      writes : writeOf (outcome (read t k now) s) ≡ recoveryWrite v r
       writes =
           ap (λ (b : Bool). writeOf (cond b (readNew t v r) (readHeld t (heldEntry k t)))) new
-          ∙ choose-by (λ (x : Result ReadAnswer). writeOf x ≡ recoveryWrite v r) (isAgain v) (λ e. refl) (λ e. refl)
-
-      go : (b : Bool) → eqb (refusalOf (conditions (read t k now) s)) 0 ≡ b → refusalIn (answerOf readAnswered (cond b met (refused (refusalOf (conditions (read t k now) s))))) ≡ 0 → lineOf k (apply (writeOf (cond b met (refused (refusalOf (conditions (read t k now) s))))) s .lines) ≡ rolledForward (lineOf k (s .lines))
-      go true e a = finished (writeOf met) writes
-      go false e a = absurd (true≢false (sym (ap (λ (n : ℕ). eqb n 0) a) ∙ e))
+          ∙ choose-by (λ (x : Result Answer). writeOf x ≡ recoveryWrite v r) (isAgain v) (λ e. refl) (λ e. refl)
 
 -- Over bytes.
 module _ (b : Bytes) (passing : Passing b) (k : Key) (now : ℕ) (fits : now < 2 ^ 32) (has : hasLine k (records (b .records)) ≡ true) (pending : isPrepared (lineOf k (records (b .records))) ≡ true) (owner : ownerDecision (lineOf k (records (b .records))) (coordinatorOf (b .coordinator)) ≡ Committed) where

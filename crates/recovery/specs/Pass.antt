@@ -16,6 +16,7 @@ use Rattle.types.specs.declared.Key.{Key}
 use Rattle.types.specs.declared.Record.{Record}
 use Rattle.types.specs.declared.Recovery.{Recovery}
 use Rattle.types.specs.declared.Recovery.the-variants.{Stays, Forward, Back, Again, Busy}
+use Rattle.model.specs.Calls.{outcome, result}
 use Rattle.model.specs.Records.{sameKey, lineOf, hasLine, keyInRange, preparedRule}
 use Rattle.model.specs.Coordinator.{decision, withDecision, isUndecided}
 use Rattle.model.specs.Images.{isPrepared, preparedBy, rolledForward, rolledBack}
@@ -33,13 +34,12 @@ use Rattle.model.specs.Writes.{
 }
 use Rattle.model.specs.Visits.{ownerDecision, ownerExpired, meeting, isBusy, recoveryWrite}
 use Rattle.model.specs.Refusals.{refusalOf}
-use Rattle.model.specs.Results.{Call, visit, Result, made, writeOf}
+use Rattle.model.specs.Results.{Call, visit, made, writeOf, visited}
 use Rattle.model.specs.Conditions.{conditions}
-use Rattle.model.specs.Calls.{visitResult}
 use Rattle.model.specs.Histories.{answer, written, after, leftBy}
 use Rattle.model.specs.RecoveryPass.{Visit, visitCall, lineUndecided, timesVisited, Expiring, Closing}
 use Rattle.model.specs.SequentialModel.{Model}
-use Rattle.call_laws.specs.Choices.{unless-by, by-meeting}
+use Rattle.call_laws.specs.Choices.{by-meeting, by-visit}
 use Rattle.sheet_laws.specs.Coordinator.{bounds}
 use Rattle.call_laws.specs.Keys.{same-key, same-key-refl}
 use Rattle.call_laws.specs.Images.{forward-plain, back-plain, when-prepared}
@@ -73,9 +73,7 @@ recovery-visiting Again r = visiting-abort _
 recovery-visiting Busy r = visiting-nothing
 
 pub visit-visiting : (k : Key) (now : ℕ) (s : Sheets) → Visiting (written (visit k now) s)
-unfolding written visitResult
-visit-visiting k now s =
-    unless-by (λ (x : Result Recovery). Visiting (writeOf x)) (conditions (visit k now) s) visiting-nothing (λ z. recovery-visiting _ _)
+visit-visiting k now s = by-visit Visiting k now s visiting-nothing (recovery-visiting _ _)
 
 pub visiting-still : (rs : List Record) (w : Write) → Visiting w → Still rs w
 visiting-still rs w visiting-nothing = still-nothing rs
@@ -135,8 +133,8 @@ module _ (s : Sheets) (good : GoodSheets s) (k : Key) (now : ℕ) (listed : list
       (λ p d x. absurd (no-busy p d x))
 
   -- it is accepted
-  pub visit-made : visitResult k now s ≡ made (meeting now (s .coordinator) (lineOf k (s .lines))) (recoveryWrite (meeting now (s .coordinator) (lineOf k (s .lines))) (lineOf k (s .lines)))
-  unfolding visitResult conditions refusalOf
+  pub visit-made : result (visit k now) s ≡ made (visited (meeting now (s .coordinator) (lineOf k (s .lines)))) (recoveryWrite (meeting now (s .coordinator) (lineOf k (s .lines))) (lineOf k (s .lines)))
+  unfolding result outcome conditions refusalOf
   visit-made =
       let i : keyInRange k ≡ true = ap keyInRange (sym (line-of-key k (s .lines))) ∙ listed-good s good k listed .key in
       let h : hasLine k (s .lines) ≡ true = has-line k (s .lines) ∙ listed in
@@ -243,11 +241,10 @@ module _ (m : Model) (v : Visit) (fits : v .clock < 2 ^ 32) (s : Sheets) (good :
   visit-good = good-parts (after (visitCall v) s) (sheets-stay-good (visitCall v) s fits (parts-good s good))
 
   visit-view : View s m → View (after (visitCall v) s) m
-  unfolding after written visitResult
+  unfolding after
   visit-view w =
-      unless-by (λ (x : Result Recovery). View (apply (writeOf x) s) m) (conditions (visitCall v) s)
-      (gentle-view s m nothing good gentle-nothing w)
-      (λ z. gentle-view s m _ good (visit-gentle s (v .clock) (lineOf (v .key) (s .lines))) w)
+      by-visit (λ (x : Write). View (apply x s) m) (v .key) (v .clock) s (gentle-view s m nothing good gentle-nothing w)
+      (gentle-view s m _ good (visit-gentle s (v .clock) (lineOf (v .key) (s .lines))) w)
 
 pub call-lists : (c : Call) (s : Sheets) (k : Key) → listsKey k (after c s .lines) ≡ listsKey k (s .lines)
 unfolding after apply

@@ -10,13 +10,13 @@ use lib.ListN.{length}
 use Rattle.types.specs.declared.Key.{Key}
 use Rattle.types.specs.declared.Record.{Record}
 use Rattle.types.specs.declared.Transaction.{Transaction}
+use Rattle.model.specs.Calls.{result}
 use Rattle.model.specs.Images.{Change}
 use Rattle.model.specs.Coordinator.{decision}
 use Rattle.model.specs.Writes.{Sheets, sheetsGood, isOnePhase, apply}
-use Rattle.model.specs.Results.{Call, advance, Result, writeOf}
-use Rattle.model.specs.Calls.{advanceResult}
+use Rattle.model.specs.Results.{Call, advance, Result, writeOf, turnedAway, returns, answerOf, Answer}
 use Rattle.model.specs.CallByPlace.{listed, named, advanceAtResult}
-use Rattle.model.specs.Histories.{Event, turnedAway, returned, answerOf, answer, returns, written, after, Available, Permitted, event, eventsAfter, leftBy, Legal, onePhaseIn}
+use Rattle.model.specs.Histories.{Event, answer, written, after, Available, Permitted, event, eventsAfter, leftBy, Legal, onePhaseIn}
 use Rattle.model.specs.SequentialModel.{Model, firstModel, modelStep, modelAfter, isCommitted}
 use Rattle.model.specs.RecoveryPass.{Visit, visitCall, nonePrepared, Closing}
 use Rattle.model.specs.Turns.{
@@ -112,11 +112,11 @@ module _ (s : Sheets) (es es′ : List Event) (handed-on : (t : Transaction) →
       handed t (inr b) = handed-on t (b .1)
 
   module _ (list : List Transaction) (place now : ℕ) where
-    abbrev Come : List Call → Result Transaction → Type 0
-    Come cs r = Comes cs (record { call = advance (named list place) now; answer = answerOf returned r }) s (apply (writeOf r) s) (λ (n : ℕ). isOnePhase n (writeOf r)) es es′
+    abbrev Come : List Call → Result Answer → Type 0
+    Come cs r = Comes cs (record { call = advance (named list place) now; answer = answerOf r }) s (apply (writeOf r) s) (λ (n : ℕ). isOnePhase n (writeOf r)) es es′
 
-    abbrev May : Result Transaction → Type 0
-    May r = Permitted (advance (named list place) now) (answerOf returned r) es
+    abbrev May : Result Answer → Type 0
+    May r = Permitted (advance (named list place) now) (answerOf r) es
 
     by-place-comes : May (advanceAtResult list place now s) → Come (cond (listed (length list) place) (advance (named list place) now ∷ []) []) (advanceAtResult list place now s)
     unfolding answer after written isOnePhase
@@ -124,7 +124,7 @@ module _ (s : Sheets) (es es′ : List Event) (handed-on : (t : Transaction) →
       where
         go : (b : Bool) → listed (length list) place ≡ b → Come (cond b (advance (named list place) now ∷ []) []) (advanceAtResult list place now s)
         go true e =
-            let q : advanceAtResult list place now s ≡ advanceResult (named list place) now s = named-result list place now s e in
+            let q : advanceAtResult list place now s ≡ result (advance (named list place) now) s = named-result list place now s e in
             subst (Come (advance (named list place) now ∷ [])) (sym q) (single-comes (advance (named list place) now) (subst May q p))
         go false e =
             subst (Come []) (sym (unlisted-result list place now s e))

@@ -58,7 +58,7 @@ fn visit_form(reply: u32) -> Form {
 pub fn visit(n: [u32; 14], records: &mut [u8], coordinator: &mut [u8]) -> Reply
     ensures { λ r. ⌜ r .count ≤ 102 ⌝ }
 {
-    let visited = engine::visit::visit(key_at(n, 0), n[5], records, coordinator);
+    let visited = engine::visit(key_at(n, 0), n[5], records, coordinator);
     let form = visit_form(visited.reply);
     reply::unless_refused(visited.refusal, reply::answer(form, 0, 0, 0, 0))
 }
@@ -120,7 +120,7 @@ fn begin(n: [u32; 14], t: Transaction, records: &[u8], coordinator: &mut [u8]) -
             reply,
         };
     }
-    let begun = engine::begin::begin(n[1] == 1, records, coordinator);
+    let begun = engine::begin(n[1] == 1, records, coordinator);
     if begun.refusal != 0 {
         let reply = reply::refused(begun.refusal);
         return Done {
@@ -147,7 +147,7 @@ fn reading(reply: u32, columns: Columns) -> Reply
 fn read(n: [u32; 14], t: Transaction, records: &mut [u8], coordinator: &mut [u8]) -> Done
     ensures { λ r. ⌜ r .reply .count ≤ 102 ⌝ }
 {
-    let fetched = engine::read::read(t, key_at(n, 1), n[6], records, coordinator);
+    let fetched = engine::read(t, key_at(n, 1), n[6], records, coordinator);
     let transaction = fetched.transaction;
     let columns = fetched.columns;
     let reply = reply::unless_refused(fetched.refusal, reading(fetched.reply, columns));
@@ -161,7 +161,7 @@ fn put(n: [u32; 14], t: Transaction, records: &[u8], coordinator: &[u8]) -> Done
         column1: n[6],
         column2: n[7],
     };
-    let stepped = engine::put::put(t, key_at(n, 1), columns, records, coordinator);
+    let stepped = engine::put(t, key_at(n, 1), columns, records, coordinator);
     let transaction = stepped.transaction;
     let reply = reply::unless_refused(stepped.refusal, ok());
     Done { transaction, reply }
@@ -170,7 +170,7 @@ fn put(n: [u32; 14], t: Transaction, records: &[u8], coordinator: &[u8]) -> Done
 fn advance(n: [u32; 14], t: Transaction, records: &mut [u8], coordinator: &mut [u8]) -> Done
     ensures { λ r. ⌜ r .reply .count ≤ 102 ⌝ }
 {
-    let stepped = engine::advance::advance(t, n[1], records, coordinator);
+    let stepped = engine::advance(t, n[1], records, coordinator);
     let transaction = stepped.transaction;
     let u = transaction;
     let stands = reply::answer(Form::Made, 3, u.phase, u.place, u.verdict);
@@ -181,7 +181,7 @@ fn advance(n: [u32; 14], t: Transaction, records: &mut [u8], coordinator: &mut [
 fn abort(t: Transaction, records: &[u8], coordinator: &[u8]) -> Done
     ensures { λ r. ⌜ r .reply .count ≤ 102 ⌝ }
 {
-    let stepped = engine::abort::abort(t, records, coordinator);
+    let stepped = engine::abort(t, records, coordinator);
     let transaction = stepped.transaction;
     let reply = reply::unless_refused(stepped.refusal, ok());
     Done { transaction, reply }

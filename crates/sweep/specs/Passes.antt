@@ -1,4 +1,4 @@
--- The keys of a sheet visited one after another: a visit keeps the keys, so that the key at a place is that of the sheet at first.
+-- The keys of a sheet visited one after another: a visit keeps the keys, so that the key of a line is that of the sheet at first.
 use Prim.Native.Nat.{ℕ, zero, suc, _+_, _/_, _^_, _≤_, _<_}
 use mathlib.Core.Path.{_≡_, refl, sym, ap, ap₂, subst, _∙_}
 use mathlib.Core.List.{List, [], _∷_, _++_, map}
@@ -16,14 +16,34 @@ use Rattle.model.specs.Histories.{written, after}
 use Rattle.model.specs.ByteHistories.{Bytes, saying, Passing, afterOn}
 use Rattle.model.specs.Visitor.{visitedAll, keysIn, swept}
 use Rattle.sheet_laws.specs.Places.{length-records}
+use Rattle.model.specs.Calls.{result}
+use Rattle.model.specs.ByteCalls.{sheetsOf}
 use Rattle.call_laws.specs.Lines.{keys-after}
+use Rattle.call_laws.specs.Places.{found-own}
 use Rattle.call_laws.specs.Lifting.{bytes-stay-passing}
+use Rattle.call_laws.specs.Accepted.{Outcome, accepted, let-pass}
+use Rattle.recover.specs.Recovering.{Standing}
+use Rattle.cores.specs.declared.Visited.{Visited}
+use Rattle.cores.specs.Answers.{toVisited}
 
 abbrev pub both : List ℕ → List ℕ → Bytes
 both rs cs = record { records = rs; coordinator = cs }
 
 abbrev pub keyAt : List ℕ → ℕ → Key
 keyAt rs i = getD (records rs) i noRecord .key
+
+-- a line of sheets that pass may be visited where it stands
+pub line-stands : (rs cs : List ℕ) (i : ℕ) → Passing (both rs cs) → i < length rs / recordBytes → Standing rs cs i
+line-stands rs cs i h l =
+    let a = accepted rs cs h in
+    record { accepted = a; place = found-own (records rs) i (a .good .order) (omega (arith, length-records rs)) }
+
+-- and its visit leaves what the definition says
+pub line-visited : (rs cs : List ℕ) (i now : ℕ) {answer : Visited} {rs′ cs′ : List ℕ} → Passing (both rs cs) → Outcome toVisited (result (visit (keyAt rs i) now) (sheetsOf rs cs)) rs cs answer rs′ cs′ → both rs′ cs′ ≡ afterOn (visit (keyAt rs i) now) (both rs cs)
+unfolding afterOn
+line-visited rs cs i now h o =
+    let p = let-pass toVisited (visit (keyAt rs i) now) rs cs h o in
+    λ j. record { records = p .lines j; coordinator = p .decisions j }
 
 -- sheets that pass, and that have these keys
 pub record Kept (ks : List Key) (b : Bytes) : Type 0 where
@@ -51,7 +71,7 @@ unfolding visitedAll
 visited-append now [] ls b = refl
 visited-append now (k ∷ ks) ls b = visited-append now ks ls (afterOn (visit k now) b)
 
--- A pass that has visited the keys before place i.
+-- A pass that has visited the keys before line i.
 pub record VisitedTo (now : ℕ) (first b : Bytes) (i : ℕ) : Type 0 where
   pub place : i ≤ length (keysIn first)
   pub kept : Kept (keysIn first) b

@@ -32,9 +32,9 @@ use Rattle.model.specs.Transactions.{
   withEntry,
 }
 use Rattle.model.specs.Calls.{newTransaction}
-use Rattle.model.specs.Results.{Call, begin, read, put, advance}
+use Rattle.model.specs.Results.{Call, begin, read, put, advance, Answer, turnedAway, returned, answered}
 use Rattle.model.specs.CallByPlace.{named}
-use Rattle.model.specs.Histories.{Event, Answer, turnedAway, returned, answered, Permitted, leftBy}
+use Rattle.model.specs.Histories.{Event, Permitted, leftBy}
 use Rattle.model.specs.SequentialModel.{firstModel, modelBegin, modelPut, modelCommit, modelCall, modelStep, modelAfter}
 use Rattle.model.specs.RecoveryPass.{Visit, visitCall, nonePrepared, Closing}
 use Rattle.model.specs.ByteHistories.{Bytes, saying, Passing, answerOn, afterOn}
@@ -63,6 +63,7 @@ use Rattle.model.specs.Steps as Steps
 use Rattle.model.specs.Calls as Calls
 use Rattle.model.specs.CallByPlace as CallByPlace
 use Rattle.model.specs.ByteCalls as ByteCalls
+use Rattle.model.specs.Results as Results
 use Rattle.model.specs.Histories as Histories
 use Rattle.model.specs.ByteHistories as ByteHistories
 use Rattle.model.specs.Turns as Turns
@@ -291,7 +292,7 @@ record Computed : Type 0 where
   pub recovered : leftBy answerOn afterOn (map visitCall sampleVisits) lastBytes ≡ recoveredBytes
 
 computed : Computed
-unfolding told recoveryPass leftBy Texts.bytes Texts.eqList Each.all Each.any Each.filter Each.count Each.joined Each.pieces Each.less Field.stepped Field.scanned Field.within Field.figure Field.number Field.isNumber Field.ahead Field.fieldText Layouts.words Layouts.recordLayout Layouts.keyLayout Layouts.imageLayout Layouts.columnsLayout Layouts.headLayout Layouts.lineLayout Lines.wordFrom Lines.fieldValue Lines.fieldBytes Lines.inRange Lines.rowOf Lines.lineSet Lines.lineText Lines.rowGood Lines.linesOf Lines.linesSet Records.stateNumber Records.stateOf Records.keyNumbers Records.imageNumbers Records.keyOf Records.imageFrom Records.recordOf Records.recordNumbers Records.isZero Records.absentRule Records.committedRule Records.preparedRule Records.goodAlone Records.keyLess Records.inOrder Records.rising Records.recordsGood Records.recordIn Records.recordText Records.records Records.recordsText Records.recordsAccepted Records.keyInRange Records.sameKey Search.firstFrom Records.found Records.isMissing Records.lineOf Coordinator.decisionNumber Coordinator.decisionOf Coordinator.unitNumber Coordinator.unitOf Coordinator.isUndecided Coordinator.decision Coordinator.withDecision Coordinator.withIssued Coordinator.coordinatorGood Coordinator.decisionIn Coordinator.coordinatorOf Coordinator.numbered Coordinator.coordinatorAccepted Coordinator.namesIssued Coordinator.decisionTexts Coordinator.headNumbers Coordinator.coordinatorText Refusals.refusalOf SheetCalls.allIssued SheetCalls.checkConditions Transactions.held Transactions.puts Transactions.toValidate Transactions.heldAt Transactions.reading Groups.unitFields Groups.unitFor Groups.scope Groups.addScope Groups.scopes Groups.groupCount Groups.groupPlace Groups.group Images.preparedBy Images.unchanged Images.prepared Images.committed Images.rolledForward Images.rolledBack Images.elapsed Images.lineExpired Images.recovery Writes.entryFor Writes.isOf Writes.lineAfter Writes.linesAfter Writes.decisionsAfter Writes.apply WellFormed.imageInRange WellFormed.columnsInRange WellFormed.putFits WellFormed.entryFormed WellFormed.distinctKeys WellFormed.placeFormed WellFormed.verdictFormed WellFormed.formed WellFormed.linesHeld WellFormed.wellFormed Visits.meeting Visits.recovered Visits.recoveryWrite Conditions.cannotAdvance Conditions.conditions Steps.holds Steps.onePhaseAllowed Steps.onePhase Steps.openStep Steps.nextGroup Steps.prepareStep Steps.validateStep Steps.nextEntry Steps.decideStep Steps.finishStep Steps.undoStep Steps.step Calls.beginResult Calls.readNew Calls.readResult Calls.afterPut Calls.putResult Calls.advanceResult Calls.visitResult CallByPlace.listed CallByPlace.conditionsAt CallByPlace.advanceAtResult CallByPlace.advanceAtOn ByteCalls.beginOn ByteCalls.readOn ByteCalls.putOn ByteCalls.advanceOn ByteCalls.visitOn ByteCalls.recordsAfter ByteCalls.coordinatorAfter ByteHistories.answerOn ByteHistories.afterOn Turns.turnEventOn Turns.turnAfterOn
+unfolding told recoveryPass leftBy Texts.bytes Texts.eqList Each.all Each.any Each.filter Each.count Each.joined Each.pieces Each.less Field.stepped Field.scanned Field.within Field.figure Field.number Field.isNumber Field.ahead Field.fieldText Layouts.words Layouts.recordLayout Layouts.keyLayout Layouts.imageLayout Layouts.columnsLayout Layouts.headLayout Layouts.lineLayout Lines.wordFrom Lines.fieldValue Lines.fieldBytes Lines.inRange Lines.rowOf Lines.lineSet Lines.lineText Lines.rowGood Lines.linesOf Lines.linesSet Records.stateNumber Records.stateOf Records.keyNumbers Records.imageNumbers Records.keyOf Records.imageFrom Records.recordOf Records.recordNumbers Records.isZero Records.absentRule Records.committedRule Records.preparedRule Records.goodAlone Records.keyLess Records.inOrder Records.rising Records.recordsGood Records.recordIn Records.recordText Records.records Records.recordsText Records.recordsAccepted Records.keyInRange Records.sameKey Search.firstFrom Records.found Records.isMissing Records.lineOf Coordinator.decisionNumber Coordinator.decisionOf Coordinator.unitNumber Coordinator.unitOf Coordinator.isUndecided Coordinator.decision Coordinator.withDecision Coordinator.withIssued Coordinator.coordinatorGood Coordinator.decisionIn Coordinator.coordinatorOf Coordinator.numbered Coordinator.coordinatorAccepted Coordinator.namesIssued Coordinator.decisionTexts Coordinator.headNumbers Coordinator.coordinatorText Refusals.refusalOf SheetCalls.allIssued SheetCalls.checkConditions Transactions.held Transactions.puts Transactions.toValidate Transactions.heldAt Transactions.reading Groups.unitFields Groups.unitFor Groups.scope Groups.addScope Groups.scopes Groups.groupCount Groups.groupPlace Groups.group Images.preparedBy Images.unchanged Images.prepared Images.committed Images.rolledForward Images.rolledBack Images.elapsed Images.lineExpired Images.recovery Writes.entryFor Writes.isOf Writes.lineAfter Writes.linesAfter Writes.decisionsAfter Writes.apply WellFormed.imageInRange WellFormed.columnsInRange WellFormed.putFits WellFormed.entryFormed WellFormed.distinctKeys WellFormed.placeFormed WellFormed.verdictFormed WellFormed.formed WellFormed.linesHeld WellFormed.wellFormed Visits.meeting Visits.recovered Visits.recoveryWrite Conditions.cannotAdvance Conditions.conditions Steps.holds Steps.onePhaseAllowed Steps.onePhase Steps.openStep Steps.nextGroup Steps.prepareStep Steps.validateStep Steps.nextEntry Steps.decideStep Steps.finishStep Steps.undoStep Steps.step Calls.outcome Calls.result ByteCalls.resultOn Calls.readNew Calls.afterPut CallByPlace.listed CallByPlace.conditionsAt CallByPlace.advanceAtResult CallByPlace.advanceAtOn ByteCalls.recordsAfter ByteCalls.coordinatorAfter ByteHistories.answerOn ByteHistories.afterOn Turns.turnEventOn Turns.turnAfterOn
 computed = record { passes = refl; unprepared = refl; true-story = refl; visits = refl; recovered = refl }
 
 -- From the table to the history.
@@ -354,7 +355,7 @@ untaken {t} f = Option·none-ne-some t f
 
 -- Each turn takes nothing, or a state that an earlier turn returned, and the turns since took none or one of another number.
 story-legal : LegalRows story []
-unfolding Histories.given Histories.returns
+unfolding Histories.given Results.returns
 story-legal = (
   record { clock = tt; state = λ t e. absurd (untaken e) },
   (

@@ -16,11 +16,11 @@ use Rattle.model.specs.Refusals.{Condition, askingOrder, firstAsked}
 use Rattle.model.specs.Images.{isPrepared, rolledForward}
 use Rattle.model.specs.Visits.{ownerDecision}
 use Rattle.model.specs.WellFormed.{wellFormed}
-use Rattle.model.specs.Results.{Call, read, visit}
+use Rattle.model.specs.Results.{Call, read, visit, visited, refusalIn, returns, answerOf}
 use Rattle.model.specs.Conditions.{isNew, refusals}
 use Rattle.model.specs.ByteCalls.{allConditions}
 use Rattle.model.specs.CallByPlace.{allConditionsAt, advanceAtOn, listAfter}
-use Rattle.model.specs.Histories.{refusalIn, returned, visited, answerOf, returns, ClockFits}
+use Rattle.model.specs.Histories.{ClockFits}
 use Rattle.model.specs.ByteHistories.{Bytes, saying, Passing, bytesAfter, answerOn, afterOn}
 use Rattle.model.specs.AtomicWrites.{OneUnit}
 use Rattle.model.specs.RecoveryPass.{Visit, nonePrepared, Closing}
@@ -39,7 +39,7 @@ use Rattle.recovery.specs.Bytes as Recovery
 use Rattle.theorems.specs.Sample as Sample
 
 -- DEMAND 1: "a result or the one refusal that our table names for that input, and after a refusal it finds both sheets and its transaction unchanged".
--- A call by value returns its transaction as it came where it is refused: `engine` Answers.
+-- A call by value returns its transaction as it came where it is refused: `cores` Answers.
 
 -- the refusal given is the first of the call's conditions that hold in the order of asking, 0 where none does; the order rises, so that it is the lowest
 pub refusal-exact : (c : Call) (b : Bytes) → firstAsked (refusalIn (answerOn c b)) (allConditions c (b .records) (b .coordinator)) ≡ true
@@ -47,7 +47,7 @@ refusal-exact c b =
     ap (λ (n : ℕ). firstAsked n (allConditions c (b .records) (b .coordinator))) (Exactness.refusal-given c b)
     ∙ Exactness.refusal-is-first c (b .records) (b .coordinator)
 
-pub refusal-exact-by-place : (list : List Transaction) (place now : ℕ) (rs cs : List ℕ) → firstAsked (refusalIn (answerOf returned (advanceAtOn list place now rs cs))) (allConditionsAt list place now rs cs) ≡ true
+pub refusal-exact-by-place : (list : List Transaction) (place now : ℕ) (rs cs : List ℕ) → firstAsked (refusalIn (answerOf (advanceAtOn list place now rs cs))) (allConditionsAt list place now rs cs) ≡ true
 refusal-exact-by-place list place now rs cs =
     ap (λ (n : ℕ). firstAsked n (allConditionsAt list place now rs cs)) (ByPlace.place-refusal-given list place now rs cs)
     ∙ ByPlace.place-refusal-is-first list place now rs cs
@@ -62,8 +62,8 @@ conditions-are-the-row c rs cs = Exactness.numbers-are c rs cs
 pub refused-unchanged : (c : Call) (b : Bytes) → 1 ≤ refusalIn (answerOn c b) → afterOn c b ≡ b
 refused-unchanged c b l = Exactness.refused-unchanged c b l
 
-pub refused-unchanged-by-place : (list : List Transaction) (place now : ℕ) (b : Bytes) → 1 ≤ refusalIn (answerOf returned (advanceAtOn list place now (b .records) (b .coordinator))) → (listAfter list place (advanceAtOn list place now (b .records) (b .coordinator)) ≡ list) × (bytesAfter b (advanceAtOn list place now (b .records) (b .coordinator)) ≡ b)
-refused-unchanged-by-place list place now b l = ByPlace.refused-leaves list place b _ l
+pub refused-unchanged-by-place : (list : List Transaction) (place now : ℕ) (b : Bytes) → 1 ≤ refusalIn (answerOf (advanceAtOn list place now (b .records) (b .coordinator))) → (listAfter list place (advanceAtOn list place now (b .records) (b .coordinator)) ≡ list) × (bytesAfter b (advanceAtOn list place now (b .records) (b .coordinator)) ≡ b)
+refused-unchanged-by-place list place now b l = ByPlace.refused-leaves list place now b l
 
 -- DEMAND 2: the answer, the transaction and the lines are the contracts' own equations. What holds of all of them:
 

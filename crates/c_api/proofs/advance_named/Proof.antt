@@ -6,7 +6,7 @@ use lib.Dec.{eqb}
 use borrow.Author.Needs.{needs}
 use Rattle.types.specs.declared.Transaction.{Transaction}
 use Rattle.model.specs.Refusals.{lastRefusal}
-use Rattle.engine.specs.declared.Stepped.{Stepped}
+use Rattle.cores.specs.declared.Returned.{Returned}
 use Rattle.c_api.specs.declared.Advanced.{Advanced}
 use Rattle.c_api.specs.ByPlace.{advance-numbered}
 use Rattle.c_api.proofs.advance_named.Statement.{statement}
@@ -15,7 +15,7 @@ use Rattle.c_api.proofs.advance_named.Tie as tie
 number-requires : tie.Need-number-requires
 number-requires c κs =
     let a = c .before .before .before .before .before .before .before .before .before .args in
-    subst (λ (s : Stepped). s .refusal ≤ lastRefusal) (sym (c .before .before .before .before .advance .ensures .0))
+    subst (λ (s : Returned). s .refusal ≤ lastRefusal) (sym (c .before .before .before .before .advance .ensures .0))
     (advance-numbered (a .t) (a .clock) (a .records .now) (a .coordinator .now) .0)
 
 abbrev as-advanced : ℕ → Transaction → Advanced
@@ -25,7 +25,7 @@ returns : tie.Need-returns
 returns c =
     let a = c .before .before .before .before .before .before .before .before .before .before .before .args in (
       ap (λ (n : ℕ). as-advanced n (c .before .before .before .before .before .before .advance .result .transaction)) (c .before .number .ensures)
-          ∙ (ap (λ (s : Stepped). as-advanced (cond (eqb (s .refusal) 0) 0 (1000 + s .refusal)) (s .transaction)) (c .before .before .before .before .before .before .advance .ensures .0)
+          ∙ (ap (λ (s : Returned). as-advanced (cond (eqb (s .refusal) 0) 0 (1000 + s .refusal)) (s .transaction)) (c .before .before .before .before .before .before .advance .ensures .0)
           ∙ advance-numbered (a .t) (a .clock) (a .records .now) (a .coordinator .now) .1),
       (
         c .before .before .before .before .before .before .advance .ensures .1 .0,

@@ -51,7 +51,8 @@ use Rattle.types.proofs.Transaction.Laws as T′
 use Rattle.c_api.proofs.Advanced as O
 use Rattle.c_api.proofs.Advanced.Laws as O′
 use Rattle.model.specs.Calls.{newTransaction}
-use Rattle.model.specs.ByteCalls.{advanceOn, recordsAfter, coordinatorAfter}
+use Rattle.model.specs.Results.{advance}
+use Rattle.model.specs.ByteCalls.{resultOn, recordsAfter, coordinatorAfter}
 use Rattle.model.specs.CallByPlace.{listed}
 use Rattle.call_laws.specs.ByPlace.{listed-within}
 use Rattle.c_api.specs.Numbers.{unlistedNumber}
@@ -234,8 +235,8 @@ module _ {M : Type 1} (𝓤 : URA M) (H : Heap 𝓤) (A : Atoms 𝓤) (W : Given
         -- [what `advance_named` asks; place's; list[place]; the others; the open borrow; obs; auth; list's fact; the last local; …]
         calls-at ! fm (Core 𝓤 H A mem run) known-core to-core (and-then ! (load ! (from ! (stop !)) (look ! 40 refl)) (and-then ! (load ! (from ! (stop !)) (look ! 22 refl)) (and-then ! (load ! (from ! (stop !)) (look ! 18 refl)) (and-then ! (load ! (from ! (stop !)) (look ! 42 refl)) (no-more !))))) (λ v′.
         use1 W (later (some (λ (r : Advanced). ((‵ (flft κ0 q0) ⊛ (‵ (flft κ1 q1) ⊛ ‵ ftrue)) ⊛ ‵ (O.the-row .own r (v′ ∷ []))) ⊛ raw (ensured 𝓤 H A core.ended (core.clauses 𝓤 H A mem run) (κ0, (κ1, tt)) (t, (bytes0, (bytes1, (m2, tt)))) tt r)))) (id⊢ 𝓤 _) $ await ! tt $ pick ! (λ r.
-        split ! $ move ! (1 ∷ []) $ use1 W (some (λ (zs : (Unit {0} × (List ℕ × (List ℕ × (Unit {0} × Unit {0}))))). ‵ (lasts core.ended (κ0, (κ1, tt)) (t, (bytes0, (bytes1, (m2, tt)))) zs) ⊛ raw (sep 𝓤 (fact 𝓤 (r ≡ advanced t (advanceOn t m2 x0 x1))) (sep 𝓤 (fact 𝓤 (zs .1 .0 ≡ recordsAfter x0 x1 (advanceOn t m2 x0 x1))) (fact 𝓤 (zs .1 .1 .0 ≡ coordinatorAfter x0 x1 (advanceOn t m2 x0 x1))))))) (id⊢ 𝓤 _) $ pick ! (λ zs.
-        split ! $ move ! (1 ∷ []) $ use1 W (raw (fact 𝓤 ((r ≡ advanced t (advanceOn t m2 x0 x1)) × ((zs .1 .0 ≡ recordsAfter x0 x1 (advanceOn t m2 x0 x1)) × (zs .1 .1 .0 ≡ coordinatorAfter x0 x1 (advanceOn t m2 x0 x1)))))) (three 𝓤) $ heard ! (((r ≡ advanced t (advanceOn t m2 x0 x1)) × ((zs .1 .0 ≡ recordsAfter x0 x1 (advanceOn t m2 x0 x1)) × (zs .1 .1 .0 ≡ coordinatorAfter x0 x1 (advanceOn t m2 x0 x1))))) (λ e. fsplit ! $
+        split ! $ move ! (1 ∷ []) $ use1 W (some (λ (zs : (Unit {0} × (List ℕ × (List ℕ × (Unit {0} × Unit {0}))))). ‵ (lasts core.ended (κ0, (κ1, tt)) (t, (bytes0, (bytes1, (m2, tt)))) zs) ⊛ raw (sep 𝓤 (fact 𝓤 (r ≡ advanced t (resultOn (advance t m2) x0 x1))) (sep 𝓤 (fact 𝓤 (zs .1 .0 ≡ recordsAfter x0 x1 (resultOn (advance t m2) x0 x1))) (fact 𝓤 (zs .1 .1 .0 ≡ coordinatorAfter x0 x1 (resultOn (advance t m2) x0 x1))))))) (id⊢ 𝓤 _) $ pick ! (λ zs.
+        split ! $ move ! (1 ∷ []) $ use1 W (raw (fact 𝓤 ((r ≡ advanced t (resultOn (advance t m2) x0 x1)) × ((zs .1 .0 ≡ recordsAfter x0 x1 (resultOn (advance t m2) x0 x1)) × (zs .1 .1 .0 ≡ coordinatorAfter x0 x1 (resultOn (advance t m2) x0 x1)))))) (three 𝓤) $ heard ! (((r ≡ advanced t (resultOn (advance t m2) x0 x1)) × ((zs .1 .0 ≡ recordsAfter x0 x1 (resultOn (advance t m2) x0 x1)) × (zs .1 .1 .0 ≡ coordinatorAfter x0 x1 (resultOn (advance t m2) x0 x1))))) (λ e. fsplit ! $
         move ! (1 ∷ []) $ fsplit ! $ fsplit ! $ move ! (1 ∷ []) $ feqL ! (λ l0.
         move ! (1 ∷ []) $ fsplit ! $ fsplit ! $ move ! (1 ∷ []) $ feqL ! (λ l1.
         -- [the last parameter's last value; …; the tokens and the result; place's; list[place]; …]

@@ -5,7 +5,7 @@ use mathlib.Core.Bool.{false, cond}
 use lib.Dec.{eqb}
 use borrow.Author.Needs.{needs}
 use Rattle.model.specs.Refusals.{lastRefusal}
-use Rattle.engine.specs.declared.Begun.{Begun}
+use Rattle.cores.specs.declared.Returned.{Returned}
 use Rattle.c_api.specs.Numbers.{begin-numbered}
 use Rattle.c_api.proofs.rapyheo_begin.Statement.{statement}
 use Rattle.c_api.proofs.rapyheo_begin.Tie as tie
@@ -13,14 +13,14 @@ use Rattle.c_api.proofs.rapyheo_begin.Tie as tie
 number-requires : tie.Need-number-requires
 number-requires c κs =
     let a = c .before .before .before .before .before .before .args in
-    subst (λ (b : Begun). b .refusal ≤ lastRefusal) (sym (c .before .before .begin .ensures .0))
+    subst (λ (b : Returned). b .refusal ≤ lastRefusal) (sym (c .before .before .begin .ensures .0))
     (begin-numbered false (a .records .now) (a .coordinator .now) .0)
 
 returns : tie.Need-returns
 returns c =
     let a = c .before .before .before .before .before .before .before .args in (
       c .number .ensures
-          ∙ (ap (λ (b : Begun). cond (eqb (b .refusal) 0) (b .transaction .number) (1000 + b .refusal)) (c .before .before .before .begin .ensures .0)
+          ∙ (ap (λ (b : Returned). cond (eqb (b .refusal) 0) (b .transaction .number) (1000 + b .refusal)) (c .before .before .before .begin .ensures .0)
           ∙ begin-numbered false (a .records .now) (a .coordinator .now) .1),
       c .before .before .before .begin .ensures .1,
     )

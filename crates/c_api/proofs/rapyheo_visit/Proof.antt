@@ -5,7 +5,7 @@ use mathlib.Core.Bool.{cond}
 use lib.Dec.{eqb}
 use borrow.Author.Needs.{needs}
 use Rattle.model.specs.Refusals.{lastRefusal}
-use Rattle.engine.specs.declared.Visited.{Visited}
+use Rattle.cores.specs.declared.Visited.{Visited}
 use Rattle.c_api.specs.Numbers.{visit-numbered}
 use Rattle.c_api.proofs.rapyheo_visit.Statement.{statement}
 use Rattle.c_api.proofs.rapyheo_visit.Tie as tie

@@ -1,4 +1,4 @@
--- The keys from place i on, visited from the sheets as they now are, come to what all keys come to from the first sheets.
+-- The keys from line i on, visited from the sheets as they now are, come to what all keys come to from the first sheets.
 use Prim.Native.Nat.{_-_, _/_, _<_}
 use mathlib.Core.Path.{_≡_, refl}
 use native.Mathlib.Omega.{arith}
@@ -18,9 +18,14 @@ abbrev μ-loop : tie.MeasureT-loop
 loop-holds : tie.Need-loop-holds Inv-loop μ-loop
 loop-holds c = (refl, (refl, pass-first _ _ (c .before .before .before .before .pre)))
 
+visit-line-requires : tie.Need-visit-line-requires Inv-loop μ-loop
+visit-line-requires c κs =
+    let v = c .before .before .before .loop .inv .1 .1 in
+    (v .kept .passing, omega (arith, c .before .before .before .loop .inv .0, c .before .before .loop-test .taken, c .before .before .before .before .count .ensures))
+
 loop-again : tie.Need-loop-again Inv-loop μ-loop
 loop-again c = let l : c .before .before .before .before .before .before .before .before .loop .i < length (c .before .before .before .before .before .before .before .before .before .before .before .before .before .args .records .now) / recordBytes = omega (arith, c .before .before .before .before .before .before .before .loop-test .taken, c .before .before .before .before .before .before .before .before .before .count .ensures) in
-    (omega arith, (omega arith, pass-next _ _ (both (c .before .before .before .before .before .before .before .before .loop .records) (c .before .before .before .before .before .before .before .before .loop .coordinator)) _ _ (omega arith) l (c .before .before .before .before .before .before .before .before .loop .inv .1 .1) (c .before .before .before .before .visit-place .ensures)))
+    (omega arith, (omega arith, pass-next _ _ (both (c .before .before .before .before .before .before .before .before .loop .records) (c .before .before .before .before .before .before .before .before .loop .coordinator)) _ _ (omega arith) l (c .before .before .before .before .before .before .before .before .loop .inv .1 .1) (c .before .before .before .before .visit-line .ensures)))
 
 same-length : tie.Need-same-length Inv-loop μ-loop
 same-length c = c .before .loop .inv .0
@@ -39,7 +44,7 @@ pass-spec =
     μ-loop
     (λ c κs. search needs)
     loop-holds
-    (λ c κs. search needs)
+    visit-line-requires
     (λ c. search needs)
     (λ c. search needs)
     loop-again

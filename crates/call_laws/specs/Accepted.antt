@@ -1,0 +1,145 @@
+-- What is known of two sheets once the check has let them pass, and what a call on such sheets answers and leaves, as one statement about its result: refused,
+-- or made with a write.
+use Prim.Native.Nat.{ℕ, _≤_}
+use mathlib.Core.Path.{_≡_, refl, sym, ap, _∙_, subst}
+use mathlib.Core.Bool.{Bool, true, false, cond}
+use mathlib.Core.List.{List, [], _∷_, _++_}
+use lib.Dec.{eqb}
+use borrow.Author.Tests.{ne-eqb, leb-true}
+use Rattle.lists.specs.Each.{all}
+use Rattle.lists.specs.Tests.{and-fst, and-snd}
+use Rattle.types.specs.declared.Record.{Record}
+use Rattle.model.specs.Records.{records, recordsText, recordsAccepted}
+use Rattle.model.specs.Coordinator.{Coordinator, coordinatorOf, coordinatorText, coordinatorAccepted}
+use Rattle.model.specs.Refusals.{Condition, refusalOf}
+use Rattle.model.specs.SheetCalls.{checkConditions}
+use Rattle.model.specs.Writes.{Write, nothing, lineAfter, decisionsAfter, apply}
+use Rattle.model.specs.Results.{Call, Answer, Result, refused, made, unless}
+use Rattle.model.specs.Calls.{result}
+use Rattle.model.specs.ByteCalls.{sheetsOf, resultOn, recordsAfter, coordinatorAfter}
+use Rattle.model.specs.ByteHistories.{Bytes}
+use Rattle.sheet_laws.specs.Records.{sheet-written-read}
+use Rattle.sheet_laws.specs.Coordinator.{coordinator-written-read}
+use Rattle.call_laws.specs.Choices.{hasNumber, not-first}
+use Rattle.call_laws.specs.Lines.{lines-unmoved}
+use Rattle.call_laws.specs.Sheets.{GoodSheets, good-parts}
+use Rattle.call_laws.specs.Lifting.{passing-parts, passing-good}
+
+-- The bytes after a write are those of the decoded sheets after it.
+pub record Written (w : Write) (rs cs rs′ cs′ : List ℕ) : Type 0 where
+  pub lines : rs′ ≡ recordsText (apply w (sheetsOf rs cs) .lines)
+  pub decisions : cs′ ≡ coordinatorText (apply w (sheetsOf rs cs) .coordinator)
+
+-- The answer and the bytes are those of a result.
+pub record Outcome {B : Type 0} (f : Result Answer → B) (result : Result Answer) (rs cs : List ℕ) (answer : B) (rs′ cs′ : List ℕ) : Type 0 where
+  pub said : answer ≡ f result
+  pub lines : rs′ ≡ recordsAfter rs cs result
+  pub decisions : cs′ ≡ coordinatorAfter rs cs result
+
+module _ {B : Type 0} (f : Result Answer → B) (rs cs : List ℕ) {result : Result Answer} {answer : B} where
+  pub outcome-refused : (n : ℕ) → result ≡ refused n → answer ≡ f (refused n) → Outcome f result rs cs answer rs cs
+  unfolding recordsAfter coordinatorAfter
+  outcome-refused n e a =
+      record {
+        said = a ∙ ap f (sym e);
+        lines = ap (recordsAfter rs cs) (sym e);
+        decisions = ap (coordinatorAfter rs cs) (sym e);
+      }
+
+  pub outcome-made : (x : Answer) (w : Write) {rs′ cs′ : List ℕ} → result ≡ made x w → answer ≡ f (made x w) → Written w rs cs rs′ cs′ → Outcome f result rs cs answer rs′ cs′
+  unfolding recordsAfter coordinatorAfter
+  outcome-made x w e a h =
+      record {
+        said = a ∙ ap f (sym e);
+        lines = h .lines ∙ ap (recordsAfter rs cs) (sym e);
+        decisions = h .decisions ∙ ap (coordinatorAfter rs cs) (sym e);
+      }
+
+-- Results by their conditions.
+
+pub unless-held : {A : Type 0} (cs : List Condition) (r : Result A) (n : ℕ) → refusalOf cs ≡ n → (n ≡ 0 → ⊥) → unless cs r ≡ refused n
+unless-held cs r n e z =
+    ap (λ (m : ℕ). cond (eqb m 0) r (refused m)) e ∙ ap (λ (b : Bool). cond b r (refused n)) (ne-eqb n 0 z)
+
+pub unless-free : {A : Type 0} (cs : List Condition) (r : Result A) → refusalOf cs ≡ 0 → unless cs r ≡ r
+unless-free cs r e = ap (λ (m : ℕ). cond (eqb m 0) r (refused m)) e
+
+-- a refusal is not changed by what is asked later
+refusal-front : (ps qs : List Condition) (n : ℕ) → n ≡ refusalOf ps → (n ≡ 0 → ⊥) → n ≡ refusalOf (ps ++ qs)
+unfolding refusalOf
+refusal-front [] qs n e z = absurd (z e)
+refusal-front (c ∷ ps) qs n e z = go (c .holds) e (λ h. refusal-front ps qs n h z)
+  where
+    go : (b : Bool) → n ≡ cond b (c .number) (refusalOf ps) → (n ≡ refusalOf ps → n ≡ refusalOf (ps ++ qs)) → n ≡ cond b (c .number) (refusalOf (ps ++ qs))
+    go true h f = h
+    go false h f = f h
+
+-- nor by what is asked earlier, where that does not apply
+refusal-past : (ps qs : List Condition) → all hasNumber ps ≡ true → refusalOf ps ≡ 0 → refusalOf (ps ++ qs) ≡ refusalOf qs
+unfolding refusalOf all
+refusal-past [] qs l h = refl
+refusal-past (c ∷ ps) qs l h =
+    let n : 1 ≤ c .number = leb-true 1 (c .number) (and-fst (hasNumber c) (all hasNumber ps) l) in
+    let p = not-first (c .number) (c .holds) ps n h in
+    ap (λ (b : Bool). cond b (c .number) (refusalOf (ps ++ qs))) (p .0) ∙ refusal-past ps qs (and-snd (hasNumber c) (all hasNumber ps) l) (p .1)
+
+-- a call by the conditions that it asks first
+module _ {A : Type 0} (ps qs : List Condition) (r : Result A) where
+  pub unless-front : (n : ℕ) → n ≡ refusalOf ps → (n ≡ 0 → ⊥) → unless (ps ++ qs) r ≡ refused n
+  unless-front n e z = unless-held (ps ++ qs) r n (sym (refusal-front ps qs n e z)) z
+
+  pub unless-past : all hasNumber ps ≡ true → refusalOf ps ≡ 0 → unless (ps ++ qs) r ≡ unless qs r
+  unless-past l h = ap (λ (n : ℕ). cond (eqb n 0) r (refused n)) (refusal-past ps qs l h)
+
+-- What the check tells of two sheets that it lets pass.
+pub record Accepted (rs cs : List ℕ) : Type 0 where
+  pub passing : refusalOf (checkConditions rs cs) ≡ 0
+  pub lines : recordsAccepted rs ≡ true
+  pub decisions : coordinatorAccepted cs ≡ true
+  pub good : GoodSheets (sheetsOf rs cs)
+
+pub accepted : (rs cs : List ℕ) → refusalOf (checkConditions rs cs) ≡ 0 → Accepted rs cs
+accepted rs cs h =
+    let b : Bytes = record { records = rs; coordinator = cs } in
+    let p = passing-parts b h in
+    record {
+      passing = h;
+      lines = p .0;
+      decisions = p .1 .0;
+      good = good-parts (sheetsOf rs cs) (passing-good b h);
+    }
+
+-- Every call: refused by the check, or what it comes to on the decoded sheets.
+module _ {B : Type 0} (f : Result Answer → B) (c : Call) (rs cs : List ℕ) {answer : B} where
+  pub turned-away : (n : ℕ) → n ≡ refusalOf (checkConditions rs cs) → (n ≡ 0 → ⊥) → answer ≡ f (refused n) → Outcome f (resultOn c rs cs) rs cs answer rs cs
+  unfolding resultOn
+  turned-away n e z a = outcome-refused f rs cs n (unless-held (checkConditions rs cs) (result c (sheetsOf rs cs)) n (sym e) z) a
+
+  pub let-pass : {rs′ cs′ : List ℕ} → refusalOf (checkConditions rs cs) ≡ 0 → Outcome f (result c (sheetsOf rs cs)) rs cs answer rs′ cs′ → Outcome f (resultOn c rs cs) rs cs answer rs′ cs′
+  unfolding resultOn
+  let-pass {rs′} {cs′} e h =
+      subst (λ (r : Result Answer). Outcome f r rs cs answer rs′ cs′) (sym (unless-free (checkConditions rs cs) (result c (sheetsOf rs cs)) e)) h
+
+  pub passed-answer : refusalOf (checkConditions rs cs) ≡ 0 → answer ≡ f (result c (sheetsOf rs cs)) → answer ≡ f (resultOn c rs cs)
+  unfolding resultOn
+  passed-answer e h = h ∙ ap f (sym (unless-free (checkConditions rs cs) (result c (sheetsOf rs cs)) e))
+
+-- Writes that leave a sheet alone.
+
+module _ (rs cs : List ℕ) (a : Accepted rs cs) (w : Write) where
+  pub lines-kept : ((r : Record) → lineAfter w r ≡ r) → rs ≡ recordsText (apply w (sheetsOf rs cs) .lines)
+  unfolding apply
+  lines-kept h = sym (ap recordsText (lines-unmoved w h (records rs)) ∙ sheet-written-read rs (a .lines))
+
+  pub decisions-kept : ((c : Coordinator) → decisionsAfter w c ≡ c) → cs ≡ coordinatorText (apply w (sheetsOf rs cs) .coordinator)
+  unfolding apply
+  decisions-kept h = sym (ap coordinatorText (h (coordinatorOf cs)) ∙ coordinator-written-read cs (a .decisions))
+
+module _ (rs cs : List ℕ) (a : Accepted rs cs) where
+  pub written-nothing : Written nothing rs cs rs cs
+  unfolding lineAfter decisionsAfter
+  written-nothing =
+      record {
+        lines = lines-kept rs cs a nothing (λ r. refl);
+        decisions = decisions-kept rs cs a nothing (λ c. refl);
+      }

@@ -1,0 +1,12 @@
+-- The count is that of the lines after the head.
+use mathlib.Core.Path.{ap}
+use lib.Dec.{eqb}
+use borrow.Author.Needs.{needs}
+use Rattle.cores.proofs.begin.all_spent.Statement.{statement}
+use Rattle.cores.proofs.begin.all_spent.Tie as tie
+
+returns : tie.Need-returns
+returns c = ap (eqb (c .before .before .args .issued)) (c .count .ensures)
+
+pub all-spent-spec : {M : Type 1} → statement M
+all-spent-spec = tie.close (tie.spec (λ c κs. search needs) returns)

@@ -1,0 +1,16 @@
+-- A refusal beside the transaction of number 0.
+
+use borrow.Author.Needs.{needs}
+use Rattle.cores.proofs.begin.refusal.Statement.{statement}
+use Rattle.cores.proofs.begin.refusal.Tie as tie
+
+returns : tie.Need-returns
+returns c = rw (c .before .new-transaction .ensures) at (c .refusal .ensures)
+
+pub refusal-spec : {M : Type 1} → statement M
+refusal-spec =
+    tie.close
+    (tie.spec
+    (λ c κs. search needs)
+    (λ c κs. search needs)
+    returns)

@@ -1,0 +1,20 @@
+-- The new entry is what the record shows.
+use mathlib.Core.Path.{_∙_, ap₂}
+use borrow.Author.Needs.{needs}
+use Rattle.cores.specs.Answers.{fetchedAs}
+use Rattle.cores.proofs.read.hold.Statement.{statement}
+use Rattle.cores.proofs.read.hold.Tie as tie
+
+returns : tie.Need-returns
+returns c = c .answer .ensures ∙ ap₂ fetchedAs (c .before .reading .ensures) (c .before .before .with-entry .ensures)
+
+pub hold-spec : {M : Type 1} → statement M
+hold-spec =
+    tie.close
+    (tie.spec
+    (λ c. search needs)
+    (λ c. search needs)
+    (λ c κs. search needs)
+    (λ c κs. search needs)
+    (λ c κs. search needs)
+    returns)

@@ -1,0 +1,78 @@
+-- What the calls answer, as numbers: a refusal or 0, and what an accepted call gives.
+use Prim.Native.Nat.{ℕ}
+use mathlib.Core.Path.{_≡_, ap}
+use mathlib.Core.Bool.{false}
+use Rattle.types.specs.declared.Columns.{Columns}
+use Rattle.types.specs.declared.Reading.{Reading}
+use Rattle.types.specs.declared.Reading.the-variants.{Absent, Value, Again}
+use Rattle.types.specs.declared.Recovery.{Recovery}
+use Rattle.types.specs.declared.Recovery.the-variants.{Stays}
+use Rattle.types.specs.declared.Transaction.{Transaction}
+use Rattle.model.specs.Images.{byRecovery}
+use Rattle.model.specs.Writes.{Write}
+use Rattle.model.specs.Results.{Answer, turnedAway, returned, answered, visited, heldAfter, Result, refused, made}
+use Rattle.model.specs.Calls.{newTransaction}
+use Rattle.cores.specs.declared.Fetched.{Fetched}
+use Rattle.cores.specs.declared.Returned.{Returned}
+use Rattle.cores.specs.declared.Visited.{Visited}
+
+-- "No field of any lent memory changes": a refused call returns the transaction as it came.
+abbrev pub toReturned : Transaction → Result Answer → Returned
+toReturned t (refused n) = record { refusal = n; transaction = t }
+toReturned t (made a w) = record { refusal = 0; transaction = heldAfter t a }
+
+pub returned-made : (t : Transaction) {u x : Transaction} (w : Write) → u ≡ x → record { refusal = 0; transaction = u } ≡ toReturned t (made (returned x) w)
+returned-made t w e = ap (λ (y : Transaction). toReturned t (made (returned y) w)) e
+
+-- A refused begin has no transaction to give: it returns one of number 0, which is not well formed.
+abbrev pub toBegun : Result Answer → Returned
+toBegun r = toReturned (newTransaction 0 false) r
+
+-- what a visit came to; of another answer, that the line stays
+abbrev pub recoveryIn : Answer → Recovery
+recoveryIn (turnedAway n) = Stays
+recoveryIn (returned t) = Stays
+recoveryIn (answered v t) = Stays
+recoveryIn (visited v) = v
+
+-- 0 stays, 1 forward, 2 back, 3 again. A busy line is refused and has no number of its own.
+abbrev pub replyNumber : Recovery → ℕ
+replyNumber v = byRecovery v 0 1 2 3 0
+
+abbrev pub toVisited : Result Answer → Visited
+toVisited (refused n) = record { refusal = n; reply = 0 }
+toVisited (made a w) = record { refusal = 0; reply = replyNumber (recoveryIn a) }
+
+-- by what the visit of a line comes to: 12 if it is busy
+abbrev pub visitedBy : Recovery → Visited
+visitedBy v = record { refusal = byRecovery v 0 0 0 0 12; reply = replyNumber v }
+
+-- 0 absent, 1 a value, 2 again
+abbrev pub readingNumber : Reading → ℕ
+readingNumber Absent = 0
+readingNumber (Value c) = 1
+readingNumber Again = 2
+
+abbrev pub noColumns : Columns
+noColumns = record { column1 = 0; column2 = 0 }
+
+-- the columns of a value, zeros where there is none
+abbrev pub readingColumns : Reading → Columns
+readingColumns Absent = noColumns
+readingColumns (Value c) = c
+readingColumns Again = noColumns
+
+-- what was read; of another answer, nothing
+abbrev pub readingIn : Answer → Reading
+readingIn (turnedAway n) = Absent
+readingIn (returned t) = Absent
+readingIn (answered v t) = v
+readingIn (visited v) = Absent
+
+-- what was read, with the transaction as it now is
+abbrev pub fetchedAs : Reading → Transaction → Fetched
+fetchedAs v t = record { refusal = 0; reply = readingNumber v; columns = readingColumns v; transaction = t }
+
+abbrev pub toFetched : Transaction → Result Answer → Fetched
+toFetched t (refused n) = record { refusal = n; reply = 0; columns = noColumns; transaction = t }
+toFetched t (made a w) = fetchedAs (readingIn a) (heldAfter t a)

@@ -1,0 +1,76 @@
+-- Begin, case by case in the order of its conditions; it leaves the record sheet alone.
+use Prim.Native.Nat.{ℕ, _+_, _/_, _≤_, _<_}
+use mathlib.Core.Path.{_≡_, refl, sym, ap, _∙_}
+use mathlib.Core.Bool.{Bool, true, false, cond}
+use mathlib.Core.List.{List}
+use native.Mathlib.Omega.{arith}
+use native.Mathlib.Numerals.{add-one}
+use lib.ListN.{length, drop}
+use lib.Dec.{eqb, leb}
+use borrow.Author.Tests.{le-leb}
+use Rattle.lists.specs.Pieces.{over}
+use Rattle.decimal.specs.Field.{fieldText}
+use Rattle.types.specs.declared.Transaction.{Transaction}
+use Rattle.model.specs.Coordinator.{coordinatorOf, coordinatorText, coordinatorAccepted, withIssued}
+use Rattle.model.specs.Refusals.{refusalOf}
+use Rattle.model.specs.Writes.{issue, lineAfter, decisionsAfter, apply}
+use Rattle.model.specs.Results.{begin, returned, refused, made}
+use Rattle.model.specs.Conditions.{conditions}
+use Rattle.model.specs.Calls.{newTransaction, outcome, result}
+use Rattle.model.specs.ByteCalls.{sheetsOf}
+use Rattle.sheet_laws.specs.Coordinator.{bounds}
+use Rattle.sheet_laws.specs.Decisions.{length-decisions, accepted-length, accepted-parts}
+use Rattle.call_laws.specs.Keeping.{strictly}
+use Rattle.call_laws.specs.Places.{count-raised}
+use Rattle.call_laws.specs.Accepted.{Written, Outcome, outcome-refused, outcome-made, Accepted, lines-kept}
+use Rattle.cores.specs.declared.Returned.{Returned}
+use Rattle.cores.specs.Answers.{toBegun, returned-made}
+
+-- what begin gives and leaves, whatever accepted record sheet lies beside the coordinator sheet
+pub record Begins (b : Bool) (cs : List ℕ) (r : Returned) (cs′ : List ℕ) : Type 0 where
+  pub beside : (rs : List ℕ) → Accepted rs cs → Outcome toBegun (result (begin b) (sheetsOf rs cs)) rs cs r rs cs′
+
+module _ (b : Bool) (cs : List ℕ) (a : coordinatorAccepted cs ≡ true) where
+  pub begin-spent : eqb (coordinatorOf cs .issued) (length (drop 15 cs) / 15) ≡ true → (r : Returned) → r ≡ toBegun (refused 8) → Begins b cs r cs
+  unfolding result conditions refusalOf
+  begin-spent spent r e =
+      record { beside = λ rs h. outcome-refused toBegun rs cs 8 (rw (length-decisions cs, spent)) e }
+
+  module _ (left : eqb (coordinatorOf cs .issued) (length (drop 15 cs) / 15) ≡ false) where
+    issued-below : coordinatorOf cs .issued < length (coordinatorOf cs .decisions)
+    issued-below =
+        strictly (coordinatorOf cs .issued) (length (coordinatorOf cs .decisions)) (bounds (coordinatorOf cs) (accepted-parts cs a .good) .issued)
+        (ap (eqb (coordinatorOf cs .issued)) (length-decisions cs) ∙ left)
+
+    pub number-fits : coordinatorOf cs .issued < 999
+    number-fits =
+        let l : coordinatorOf cs .issued < length (coordinatorOf cs .decisions) = issued-below in
+        let m : length (coordinatorOf cs .decisions) ≤ 999 = bounds (coordinatorOf cs) (accepted-parts cs a .good) .few in
+        omega arith
+
+    begin-made : (rs : List ℕ) → result (begin b) (sheetsOf rs cs) ≡ made (returned (newTransaction (coordinatorOf cs .issued + 1) b)) issue
+    unfolding result outcome conditions refusalOf
+    begin-made rs = rw (length-decisions cs, left)
+
+    begin-written : (rs : List ℕ) → Accepted rs cs → {cs′ : List ℕ} → cs′ ≡ cond (leb 4 (length cs)) (over cs 0 (fieldText 4 (coordinatorOf cs .issued + 1))) cs → Written issue rs cs rs cs′
+    unfolding lineAfter decisionsAfter apply
+    begin-written rs h e =
+        let n = coordinatorOf cs .issued in
+        let l : 15 ≤ length cs = accepted-length cs a in
+        let m : leb 4 (length cs) ≡ true = le-leb 4 (length cs) (omega arith) in
+        record {
+          lines = lines-kept rs cs h issue (λ r. refl);
+          decisions =
+              e
+              ∙ (ap (λ (x : Bool). cond x (over cs 0 (fieldText 4 (n + 1))) cs) m
+              ∙ (ap (λ (i : ℕ). over cs 0 (fieldText 4 i)) (add-one n)
+              ∙ (count-raised cs a issued-below .0
+              ∙ ap (λ (i : ℕ). coordinatorText (withIssued i (coordinatorOf cs))) (sym (add-one n)))));
+        }
+
+    pub begin-issues : (t : Transaction) (cs′ : List ℕ) → t ≡ newTransaction (coordinatorOf cs .issued + 1) b → cs′ ≡ cond (leb 4 (length cs)) (over cs 0 (fieldText 4 (coordinatorOf cs .issued + 1))) cs → Begins b cs (record { refusal = 0; transaction = t }) cs′
+    begin-issues t cs′ e w =
+        record {
+          beside = λ rs h. outcome-made toBegun rs cs (returned (newTransaction (coordinatorOf cs .issued + 1) b)) issue (begin-made rs)
+              (returned-made (newTransaction 0 false) issue e) (begin-written rs h w);
+        }
