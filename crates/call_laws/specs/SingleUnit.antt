@@ -163,7 +163,7 @@ open-single : (t : Transaction) (s : Sheets) → Single s (openStep t s .write)
 unfolding openStep openWithoutPuts onePhase
 open-single t s =
     choose-by P (isEmpty (puts t))
-    (λ e. choose-by P (isEmpty (toValidate t)) (λ f. nothing-unit (unitsOf s)) (λ f. nothing-unit (unitsOf s)))
+    (λ e. choose-by P (isEmpty (toValidate (unitsOf s) t)) (λ f. nothing-unit (unitsOf s)) (λ f. nothing-unit (unitsOf s)))
     (λ e. choose-by P (onePhaseAllowed t s)
     (λ f. choose-by P (all (holds (s .lines)) (groupAt t s))
     (λ g. commit-unit (unitsOf s) (puts t) (t .place) (t .number))
@@ -179,7 +179,7 @@ step-single t now s =
     by-phase (λ (x : Step). Single s (x .write)) (t .phase)
     (open-single t s)
     (prepare-single t now s)
-    (choose-by (λ (x : Step). Single s (x .write)) (holds (s .lines) (getD (toValidate t) (t .place) noEntry)) (λ e. none) (λ e. none))
+    (choose-by (λ (x : Step). Single s (x .write)) (holds (s .lines) (getD (toValidate (unitsOf s) t) (t .place) noEntry)) (λ e. none) (λ e. none))
     (by-decision (λ (x : Step). Single s (x .write)) (decision (t .number) (s .coordinator)) (decide-unit (unitsOf s) (t .number) Committed) none none)
     (by-decision (λ (x : Step). Single s (x .write)) (decision (t .number) (s .coordinator)) (decide-unit (unitsOf s) (t .number) Aborted) none none)
     (forward-unit (unitsOf s) (puts t) (t .place) (t .number))

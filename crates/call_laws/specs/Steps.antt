@@ -153,7 +153,7 @@ module _ (s : Sheets) (good : GoodSheets s) (t : Transaction) (b : Body s t) whe
   unfolding openStep openWithoutPuts onePhase
   open-closed v =
       choose-by (Closed s) (isEmpty (puts t))
-      (λ e. choose-by (Closed s) (isEmpty (toValidate t))
+      (λ e. choose-by (Closed s) (isEmpty (toValidate (unitsOf s) t))
       (λ f. moves donePhase 0 committedVerdict (to-done-committed (unitsOf s) t))
       (λ f. moves validatePhase 0 (t .verdict) (to-validate (unitsOf s) t v f)))
       (λ e. choose-by (Closed s) (onePhaseAllowed t s)
@@ -189,9 +189,9 @@ module _ (s : Sheets) (good : GoodSheets s) (t : Transaction) (b : Body s t) whe
         let v : t .verdict ≡ noVerdict = eqb-true (t .verdict) 0 (verdict-at (unitsOf s) t g 1 e) in
         let n : isEmpty (puts t) ≡ false = some-puts (place-at (unitsOf s) t g 1 e) in
         choose-by (Closed s) (all (holds (s .lines)) (groupAt t s))
-        (λ h. next-closed 1 (afterPrepare t) (prepare (t .number) now (groupAt t s)) e (fit-prepare (t .number) now (groupAt t s) l (may-put h))
+        (λ h. next-closed 1 (afterPrepare (unitsOf s) t) (prepare (t .number) now (groupAt t s)) e (fit-prepare (t .number) now (groupAt t s) l (may-put h))
         (λ m. next-prepare (unitsOf s) t v m)
-        (choose-by (λ (p : ℕ). Stage (unitsOf s) (moved p 0 (t .verdict) t)) (isEmpty (toValidate t))
+        (choose-by (λ (p : ℕ). Stage (unitsOf s) (moved p 0 (t .verdict) t)) (isEmpty (toValidate (unitsOf s) t))
         (λ f. to-decide (unitsOf s) t v n)
         (λ f. to-validate (unitsOf s) t v f)))
         (λ h. withdraws v)
@@ -200,8 +200,8 @@ module _ (s : Sheets) (good : GoodSheets s) (t : Transaction) (b : Body s t) whe
     unfolding validateStep nextEntry verdictFormed placeFormed
     validate-closed e =
         let v : t .verdict ≡ noVerdict = eqb-true (t .verdict) 0 (verdict-at (unitsOf s) t g 2 e) in
-        choose-by (Closed s) (holds (s .lines) (getD (toValidate t) (t .place) noEntry))
-        (λ h. choose-by (λ (u : Transaction). Closed s (record { transaction = u; write = nothing })) (ltb (t .place + 1) (length (toValidate t)))
+        choose-by (Closed s) (holds (s .lines) (getD (toValidate (unitsOf s) t) (t .place) noEntry))
+        (λ h. choose-by (λ (u : Transaction). Closed s (record { transaction = u; write = nothing })) (ltb (t .place + 1) (length (toValidate (unitsOf s) t)))
         (λ l. moves validatePhase (t .place + 1) (t .verdict) (next-validate (unitsOf s) t v l))
         (λ l. choose-by (λ (u : Transaction). Closed s (record { transaction = u; write = nothing })) (isEmpty (puts t))
         (λ f. moves donePhase 0 committedVerdict (to-done-committed (unitsOf s) t))

@@ -180,14 +180,14 @@ filter-never p h [] = refl
 filter-never p h (e ∷ es) = ap (λ (b : Bool). cond b (e ∷ filter p es) (filter p es)) (h e) ∙ filter-never p h es
 
 -- only a serializable transaction has entries to validate
-validates-serializable : (t : Transaction) → isEmpty (toValidate t) ≡ false → isSerializable t ≡ true
+validates-serializable : (us : List AtomicityUnit) (t : Transaction) → isEmpty (toValidate us t) ≡ false → isSerializable t ≡ true
 unfolding toValidate
-validates-serializable t h = go (isSerializable t) refl
+validates-serializable us t h = go (isSerializable t) refl
   where
     go : (b : Bool) → isSerializable t ≡ b → b ≡ true
     go true e = refl
     go false e =
-        let n : filter (mustValidate t) (held t) ≡ [] = filter-never (mustValidate t) (λ x. ap (λ (b : Bool). b && not (isPut x)) e) (held t) in
+        let n : filter (mustValidate us t) (held t) ≡ [] = filter-never (mustValidate us t) (λ x. ap (λ (b : Bool). b && not (isPut x)) e) (held t) in
         absurd (true≢false (sym (ap isEmpty n) ∙ h))
 
 -- The stages that steps lead to. A new phase starts at place 0.
@@ -206,13 +206,13 @@ module _ (us : List AtomicityUnit) (t : Transaction) where
         verdict = eq-eqb (t .verdict) 0 v;
       }
 
-  pub to-validate : t .verdict ≡ noVerdict → isEmpty (toValidate t) ≡ false → Stage us (moved validatePhase 0 (t .verdict) t)
+  pub to-validate : t .verdict ≡ noVerdict → isEmpty (toValidate us t) ≡ false → Stage us (moved validatePhase 0 (t .verdict) t)
   unfolding placeFormed verdictFormed toValidate held
   to-validate v n =
       record {
         decides = refl;
-        validates = validates-serializable t n;
-        place = lt-ltb 0 (length (toValidate t)) (length-some (toValidate t) n);
+        validates = validates-serializable us t n;
+        place = lt-ltb 0 (length (toValidate us t)) (length-some (toValidate us t) n);
         verdict = eq-eqb (t .verdict) 0 v;
       }
 
@@ -254,12 +254,12 @@ module _ (us : List AtomicityUnit) (t : Transaction) where
   unfolding placeFormed verdictFormed puts held
   next-prepare v l = record { decides = refl; validates = refl; place = l; verdict = eq-eqb (t .verdict) 0 v }
 
-  pub next-validate : t .verdict ≡ noVerdict → ltb (t .place + 1) (length (toValidate t)) ≡ true → Stage us (moved validatePhase (t .place + 1) (t .verdict) t)
+  pub next-validate : t .verdict ≡ noVerdict → ltb (t .place + 1) (length (toValidate us t)) ≡ true → Stage us (moved validatePhase (t .place + 1) (t .verdict) t)
   unfolding placeFormed verdictFormed toValidate held
   next-validate v l =
       record {
         decides = refl;
-        validates = validates-serializable t (length-none (toValidate t) (t .place + 1) (ltb-true (t .place + 1) (length (toValidate t)) l));
+        validates = validates-serializable us t (length-none (toValidate us t) (t .place + 1) (ltb-true (t .place + 1) (length (toValidate us t)) l));
         place = l;
         verdict = eq-eqb (t .verdict) 0 v;
       }

@@ -74,9 +74,9 @@ unfoldable pub onePhaseAllowed : Transaction → Sheets → Bool
 onePhaseAllowed t s = eqb (groupsOf t s) 1 && not (isSerializable t)
 
 -- "no puts: to check if checked with entries, else done, committed"
-unfoldable pub openWithoutPuts : Transaction → Step
-openWithoutPuts t =
-    cond (isEmpty (toValidate t)) (record { transaction = commits t; write = nothing }) (to validatePhase t)
+unfoldable pub openWithoutPuts : List AtomicityUnit → Transaction → Step
+openWithoutPuts us t =
+    cond (isEmpty (toValidate us t)) (record { transaction = commits t; write = nothing }) (to validatePhase t)
 
 -- "if all conditions in the group hold, write the puts as COMMITTED under this number, version + 1, to done, committed (one-phase); if not, to withdraw"
 unfoldable pub onePhase : Transaction → Sheets → Step
@@ -87,11 +87,11 @@ onePhase t s =
 
 unfoldable pub openStep : Transaction → Sheets → Step
 openStep t s =
-    cond (isEmpty (puts t)) (openWithoutPuts t) (cond (onePhaseAllowed t s) (onePhase t s) (to preparePhase t))
+    cond (isEmpty (puts t)) (openWithoutPuts (unitsOf s) t) (cond (onePhaseAllowed t s) (onePhase t s) (to preparePhase t))
 
 -- "after the last check (if checked with entries not put) or decide"
-abbrev pub afterPrepare : Transaction → ℕ
-afterPrepare t = cond (isEmpty (toValidate t)) decidePhase validatePhase
+abbrev pub afterPrepare : List AtomicityUnit → Transaction → ℕ
+afterPrepare us t = cond (isEmpty (toValidate us t)) decidePhase validatePhase
 
 -- the next group, or after the last another phase and its verdict
 unfoldable pub nextGroup : ℕ → Transaction → Sheets → Transaction
@@ -104,22 +104,22 @@ unfoldable pub prepareStep : Transaction → ℕ → Sheets → Step
 prepareStep t now s =
     cond (all (holds (s .lines)) (groupAt t s))
     (record {
-      transaction = nextGroup (afterPrepare t) t s;
+      transaction = nextGroup (afterPrepare (unitsOf s) t) t s;
       write = prepare (t .number) now (groupAt t s);
     })
     (to withdrawPhase t)
 
 -- "next, after the last decide, or done, committed, without puts"
-unfoldable pub nextEntry : Transaction → Transaction
-nextEntry t =
-    cond (ltb (t .place + 1) (length (toValidate t))) (moved validatePhase (t .place + 1) (t .verdict) t)
+unfoldable pub nextEntry : List AtomicityUnit → Transaction → Transaction
+nextEntry us t =
+    cond (ltb (t .place + 1) (length (toValidate us t))) (moved validatePhase (t .place + 1) (t .verdict) t)
     (cond (isEmpty (puts t)) (commits t) (moved decidePhase 0 (t .verdict) t))
 
 -- "one entry without put, in the order read; its condition holds: next .. Fails: withdraw."
 unfoldable pub validateStep : Transaction → Sheets → Step
 validateStep t s =
-    cond (holds (s .lines) (getD (toValidate t) (t .place) noEntry))
-    (record { transaction = nextEntry t; write = nothing })
+    cond (holds (s .lines) (getD (toValidate (unitsOf s) t) (t .place) noEntry))
+    (record { transaction = nextEntry (unitsOf s) t; write = nothing })
     (to withdrawPhase t)
 
 -- "own line `-`: write COMMITTED, to finish. ABORTED: to undo, aborted."

@@ -5,6 +5,7 @@ use mathlib.Core.List.{List, [], _∷_}
 use lib.ListN.{take, set}
 use lib.Dec.{eqb}
 use Rattle.lists.specs.Each.{filter}
+use Rattle.types.specs.declared.AtomicityUnit.{AtomicityUnit}
 use Rattle.types.specs.declared.Key.{Key}
 use Rattle.types.specs.declared.Image.{Image}
 use Rattle.types.specs.declared.Columns.{Columns}
@@ -79,12 +80,12 @@ isPut e = eqb (e .wrote) 1
 unfoldable pub puts : Transaction → List Entry
 puts t = filter isPut (held t)
 
--- an entry that must be validated before the transaction may commit: one without a put, if the transaction is serializable
-abbrev pub mustValidate : Transaction → Entry → Bool
-mustValidate t e = isSerializable t && not (isPut e)
+-- an entry that must be validated before the transaction may commit: one without a put, if the transaction is serializable, whatever the units
+abbrev pub mustValidate : List AtomicityUnit → Transaction → Entry → Bool
+mustValidate us t e = isSerializable t && not (isPut e)
 
-unfoldable pub toValidate : Transaction → List Entry
-toValidate t = filter (mustValidate t) (held t)
+unfoldable pub toValidate : List AtomicityUnit → Transaction → List Entry
+toValidate us t = filter (mustValidate us t) (held t)
 
 abbrev pub noEntry : Entry
 noEntry =

@@ -60,7 +60,7 @@ distinctKeys (e ∷ es) = not (any (λ (f : Entry). sameKey (f .key) (e .key)) e
 -- "place is below the number of groups (prepare, finish, undo) or of entries without put (check), else 0"; a number that is no phase has no place
 unfoldable pub placeFormed : List AtomicityUnit → Transaction → Bool
 placeFormed us t =
-    byPhase (t .phase) (eqb (t .place) 0) (ltb (t .place) (groupCount us (puts t))) (ltb (t .place) (length (toValidate t)))
+    byPhase (t .phase) (eqb (t .place) 0) (ltb (t .place) (groupCount us (puts t))) (ltb (t .place) (length (toValidate us t)))
     (eqb (t .place) 0) (eqb (t .place) 0) (ltb (t .place) (groupCount us (puts t))) (ltb (t .place) (groupCount us (puts t)))
     (eqb (t .place) 0) false
 

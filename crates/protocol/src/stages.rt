@@ -5,6 +5,7 @@ ghost use lib.ListN.{length};
 ghost use Rattle.model.specs.Transactions.{toValidate};
 ghost use Rattle.model.specs.Steps as model;
 ghost use Rattle.model.specs.Steps.{to, afterPrepare, nextEntry};
+ghost use Rattle.protocol.specs.Units.{unitsIn};
 use crate::transactions;
 use types::Transaction;
 
@@ -42,22 +43,22 @@ pub fn commits(t: Transaction) -> Transaction
 }
 
 // The phase after the last group is prepared: validate if there is an entry to validate, else decide.
-pub fn after_prepare(t: Transaction) -> u32
+pub fn after_prepare(letters: &[u8], t: Transaction) -> u32
     requires { ⌜ t .count ≤ 8 ⌝ }
-    ensures { λ r. ⌜ r ≡ afterPrepare t ⌝ }
+    ensures { λ r. ⌜ r ≡ afterPrepare (unitsIn (now (letters .entry))) t ⌝ }
 {
-    if transactions::validates(t) {
+    if transactions::validates(letters, t) {
         return VALIDATE;
     }
     DECIDE
 }
 
 // Past a validated entry: to the next, after the last to decide, or to done, committed, without puts.
-pub fn next_entry(t: Transaction) -> Transaction
-    requires { ⌜ (t .count ≤ 8) × (t .place < length (toValidate t)) ⌝ }
-    ensures { λ r. ⌜ r ≡ nextEntry t ⌝ }
+pub fn next_entry(letters: &[u8], t: Transaction) -> Transaction
+    requires { ⌜ (t .count ≤ 8) × (t .place < length (toValidate (unitsIn (now letters)) t)) ⌝ }
+    ensures { λ r. ⌜ r ≡ nextEntry (unitsIn (now (letters .entry))) t ⌝ }
 {
-    let count = transactions::validate_count(t);
+    let count = transactions::validate_count(letters, t);
     let next = t.place + 1;
     if next < count {
         return transactions::moved(VALIDATE, next, t.verdict, t);

@@ -7,6 +7,7 @@ ghost use Rattle.model.specs.Transactions as model;
 ghost use Rattle.model.specs.Transactions.{isEmpty, puts, toValidate, mustValidate, noEntry, heldAt, withEntry};
 ghost use Rattle.model.specs.Calls.{newTransaction};
 ghost use Rattle.protocol.specs.Held.{entryAt};
+ghost use Rattle.protocol.specs.Units.{unitsIn};
 use crate::keys;
 use types::Columns;
 use types::Entry;
@@ -118,9 +119,9 @@ pub fn has_puts(t: Transaction) -> bool
     false
 }
 
-// An entry to be validated: one without a put, if the transaction is serializable.
-fn must_validate(t: Transaction, e: Entry) -> bool
-    ensures { λ r. ⌜ r ≡ mustValidate t e ⌝ }
+// An entry to be validated: one without a put, if the transaction is serializable, whatever the letters.
+fn must_validate(letters: &[u8], t: Transaction, e: Entry) -> bool
+    ensures { λ r. ⌜ r ≡ mustValidate (unitsIn (now (letters .entry))) t e ⌝ }
 {
     (t.serializable == 1) & !(e.wrote == 1)
 }
@@ -137,37 +138,37 @@ pub fn tally(n: u32, counts: bool) -> u32
 }
 
 // How many entries are to be validated.
-pub fn validate_count(t: Transaction) -> u32
+pub fn validate_count(letters: &[u8], t: Transaction) -> u32
     requires { ⌜ t .count ≤ 8 ⌝ }
-    ensures { λ r. ⌜ r ≡ length (toValidate t) ⌝ }
+    ensures { λ r. ⌜ r ≡ length (toValidate (unitsIn (now (letters .entry))) t) ⌝ }
 {
     let n = t.count as usize;
     let mut found = 0;
     for i in 0..n {
         let e = entry_at(t, i);
-        found = tally(found, must_validate(t, e));
+        found = tally(found, must_validate(letters, t, e));
     }
     found
 }
 
 // Some entry is to be validated.
-pub fn validates(t: Transaction) -> bool
+pub fn validates(letters: &[u8], t: Transaction) -> bool
     requires { ⌜ t .count ≤ 8 ⌝ }
-    ensures { λ r. ⌜ r ≡ not (isEmpty (toValidate t)) ⌝ }
+    ensures { λ r. ⌜ r ≡ not (isEmpty (toValidate (unitsIn (now (letters .entry))) t)) ⌝ }
 {
-    0 < validate_count(t)
+    0 < validate_count(letters, t)
 }
 
 // The entry to be validated at a place, an empty one past the last.
-pub fn to_validate(t: Transaction, place: u32) -> Entry
+pub fn to_validate(letters: &[u8], t: Transaction, place: u32) -> Entry
     requires { ⌜ t .count ≤ 8 ⌝ }
-    ensures { λ r. ⌜ r ≡ getD (toValidate t) place noEntry ⌝ }
+    ensures { λ r. ⌜ r ≡ getD (toValidate (unitsIn (now (letters .entry))) t) place noEntry ⌝ }
 {
     let n = t.count as usize;
     let mut ahead = place;
     for i in 0..n {
         let e = entry_at(t, i);
-        if must_validate(t, e) {
+        if must_validate(letters, t, e) {
             if ahead == 0 {
                 return e;
             }

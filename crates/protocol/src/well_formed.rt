@@ -127,7 +127,7 @@ fn place_formed(letters: &[u8], t: Transaction) -> bool
     match phase {
         0 => t.place == 0,
         1 => t.place < groups::group_count(letters, t),
-        2 => t.place < transactions::validate_count(t),
+        2 => t.place < transactions::validate_count(letters, t),
         3 => t.place == 0,
         4 => t.place == 0,
         5 => t.place < groups::group_count(letters, t),

@@ -177,7 +177,7 @@ module _ (s : Sheets) (m : Model) (t : Transaction) (good : GoodSheets s) (view 
       let z : t .place ≡ 0 = eqb-true (t .place) 0 (place-at (unitsOf s) t stage 0 ph) in
       let early : t .phase ≤ 3 = omega arith in
       choose-by StepMoves (isEmpty (puts t))
-      (λ e. choose-by StepMoves (isEmpty (toValidate t))
+      (λ e. choose-by StepMoves (isEmpty (toValidate (unitsOf s) t))
       (λ f. commits-nothing v e)
       (λ f. moves validatePhase 0 (t .verdict) (never-both (t .verdict)) (omega arith) (λ q. omega (arith, q))
       (λ l. memory-at validatePhase 0 (t .verdict) early
@@ -228,7 +228,7 @@ module _ (s : Sheets) (m : Model) (t : Transaction) (good : GoodSheets s) (view 
       (λ q. prepared-memory now may ph (moved (t .phase) (t .place + 1) (t .verdict) t) refl
       (λ k. done-in-prepare (unitsOf s) (moved (t .phase) (t .place + 1) (t .verdict) t) ph k)))
       (λ l. let last : groupCount (unitsOf s) (puts t) ≡ t .place + 1 = let x : groupsOf t s ≤ t .place + 1 = ltb-false (t .place + 1) (groupsOf t s) l in omega arith in
-      choose-by (λ (p : ℕ). StepMoves (record { transaction = moved p 0 (t .verdict) t; write = w })) (isEmpty (toValidate t))
+      choose-by (λ (p : ℕ). StepMoves (record { transaction = moved p 0 (t .verdict) t; write = w })) (isEmpty (toValidate (unitsOf s) t))
       (λ e. plain w (moved decidePhase 0 (t .verdict) t) (never-both (t .verdict)) gentle
       (λ j d. away-prepare (t .number) now (groupAt t s) (λ q. d (sym q)) may) refl refl (λ q. absurd (omega (arith, q, ph))) (λ q. absurd (omega (arith, q)))
       (λ q. prepared-memory now may ph (moved decidePhase 0 (t .verdict) t) refl
@@ -248,8 +248,8 @@ module _ (s : Sheets) (m : Model) (t : Transaction) (good : GoodSheets s) (view 
   validate-moves ph =
       let v : t .verdict ≡ noVerdict = eqb-true (t .verdict) 0 (verdict-at (unitsOf s) t stage 2 ph) in
       let early : t .phase ≤ 3 = omega arith in
-      choose-by StepMoves (holds (s .lines) (getD (toValidate t) (t .place) noEntry))
-      (λ h. choose-by (λ (u : Transaction). StepMoves (record { transaction = u; write = nothing })) (ltb (t .place + 1) (length (toValidate t)))
+      choose-by StepMoves (holds (s .lines) (getD (toValidate (unitsOf s) t) (t .place) noEntry))
+      (λ h. choose-by (λ (u : Transaction). StepMoves (record { transaction = u; write = nothing })) (ltb (t .place + 1) (length (toValidate (unitsOf s) t)))
       (λ l. moves validatePhase (t .place + 1) (t .verdict) (never-both (t .verdict)) (omega arith) (λ q. omega (arith, q))
       (λ q. memory-at validatePhase (t .place + 1) (t .verdict) early
       (λ k. done-in-validate (unitsOf s) (moved validatePhase (t .place + 1) (t .verdict) t) refl k ∙ sym (done-in-validate (unitsOf s) t ph k))))

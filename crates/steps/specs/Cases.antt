@@ -13,7 +13,7 @@ use Rattle.types.specs.declared.Transaction.{Transaction}
 use Rattle.model.specs.Coordinator.{decision}
 use Rattle.model.specs.Transactions.{byPhase, isEmpty, puts, toValidate, noEntry, moved}
 use Rattle.model.specs.Writes.{Sheets, nothing, decide, commit, prepare}
-use Rattle.model.specs.Steps.{Step, holds, groupAt, to, noStep, commits, onePhaseAllowed, openWithoutPuts, onePhase, openStep, afterPrepare, nextGroup, prepareStep, nextEntry, validateStep, decideStep, withdrawn, withdrawStep, finishStep, undoStep, step}
+use Rattle.model.specs.Steps.{Step, holds, unitsOf, groupAt, to, noStep, commits, onePhaseAllowed, openWithoutPuts, onePhase, openStep, afterPrepare, nextGroup, prepareStep, nextEntry, validateStep, decideStep, withdrawn, withdrawStep, finishStep, undoStep, step}
 use Rattle.steps.specs.Stepped.{Stepped}
 
 -- what has been stepped by a step has been stepped by an equal one
@@ -31,11 +31,11 @@ rest p o r v d w f u x n =
     (choose-by (λ (y : Step). y ≡ x) (eqb p 7) (λ e. refl) (λ e. refl))
 
 module _ (t : Transaction) (s : Sheets) where
-  pub open-done : isEmpty (puts t) ≡ true → isEmpty (toValidate t) ≡ true → openStep t s ≡ record { transaction = commits t; write = nothing }
+  pub open-done : isEmpty (puts t) ≡ true → isEmpty (toValidate (unitsOf s) t) ≡ true → openStep t s ≡ record { transaction = commits t; write = nothing }
   unfolding openStep openWithoutPuts
   open-done e f = rw (e, f)
 
-  pub open-validates : isEmpty (puts t) ≡ true → isEmpty (toValidate t) ≡ false → openStep t s ≡ to 2 t
+  pub open-validates : isEmpty (puts t) ≡ true → isEmpty (toValidate (unitsOf s) t) ≡ false → openStep t s ≡ to 2 t
   unfolding openStep openWithoutPuts
   open-validates e f = rw (e, f)
 
@@ -59,15 +59,15 @@ module _ (t : Transaction) (s : Sheets) where
   unfolding prepareStep
   prepare-fails now h = rw h
 
-  pub prepare-writes : (now : ℕ) → all (holds (s .lines)) (groupAt t s) ≡ true → prepareStep t now s ≡ record { transaction = nextGroup (afterPrepare t) t s; write = prepare (t .number) now (groupAt t s) }
+  pub prepare-writes : (now : ℕ) → all (holds (s .lines)) (groupAt t s) ≡ true → prepareStep t now s ≡ record { transaction = nextGroup (afterPrepare (unitsOf s) t) t s; write = prepare (t .number) now (groupAt t s) }
   unfolding prepareStep
   prepare-writes now h = rw h
 
-  pub validate-fails : holds (s .lines) (getD (toValidate t) (t .place) noEntry) ≡ false → validateStep t s ≡ to 4 t
+  pub validate-fails : holds (s .lines) (getD (toValidate (unitsOf s) t) (t .place) noEntry) ≡ false → validateStep t s ≡ to 4 t
   unfolding validateStep
   validate-fails h = rw h
 
-  pub validate-passes : holds (s .lines) (getD (toValidate t) (t .place) noEntry) ≡ true → validateStep t s ≡ record { transaction = nextEntry t; write = nothing }
+  pub validate-passes : holds (s .lines) (getD (toValidate (unitsOf s) t) (t .place) noEntry) ≡ true → validateStep t s ≡ record { transaction = nextEntry (unitsOf s) t; write = nothing }
   unfolding validateStep
   validate-passes h = rw h
 

@@ -4,11 +4,12 @@ use mathlib.Core.Path.{_≡_, refl, sym, ap, _∙_}
 use mathlib.Core.Bool.{Bool, true, _||_}
 use mathlib.Core.List.{List, [], _∷_}
 use native.Mathlib.Omega.{arith}
-use lib.ListN.{length, getD}
+use lib.ListN.{length, getD, take, drop}
 use lib.Dec.{ltb}
 use borrow.Author.Tests.{ltb-true}
 use Rattle.lists.specs.Each.{any}
 use Rattle.lists.specs.Chosen.{or-right}
+use Rattle.types.specs.declared.AtomicityUnit.{AtomicityUnit}
 use Rattle.types.specs.declared.Entry.{Entry}
 use Rattle.types.specs.declared.Transaction.{Transaction}
 use Rattle.model.specs.Records.{records, recordsAccepted, sameKey}
@@ -21,6 +22,7 @@ use Rattle.call_laws.specs.Keys.{hasKey, kept-key, same-key-refl}
 use Rattle.call_laws.specs.Transactions.{Body, Stage, well-formed-parts, place-at}
 use Rattle.model.specs.ByteHistories.{Passing}
 use Rattle.call_laws.specs.Lifting.{passing-parts}
+use Rattle.protocol.specs.Units.{unitsIn, units-said}
 use Rattle.group_writes.specs.Placed.{Placed}
 use Rattle.group_writes.specs.Ready.{Ready as MayWrite}
 
@@ -45,9 +47,9 @@ key-at (e ∷ es) zero l = ap (λ (b : Bool). b || hasKey (e .key) es) (same-key
 key-at (e ∷ es) (suc i) l = or-right (sameKey (e .key) (getD es i noEntry .key)) (hasKey (getD es i noEntry .key) es) (key-at es i (omega arith))
 
 -- the entry to be validated is one that the transaction holds
-pub validate-held : (t : Transaction) → t .place < length (toValidate t) → hasKey (getD (toValidate t) (t .place) noEntry .key) (held t) ≡ true
+pub validate-held : (us : List AtomicityUnit) (t : Transaction) → t .place < length (toValidate us t) → hasKey (getD (toValidate us t) (t .place) noEntry .key) (held t) ≡ true
 unfolding toValidate
-validate-held t l = kept-key (mustValidate t) (getD (toValidate t) (t .place) noEntry .key) (held t) (key-at (toValidate t) (t .place) l)
+validate-held us t l = kept-key (mustValidate us t) (getD (toValidate us t) (t .place) noEntry .key) (held t) (key-at (toValidate us t) (t .place) l)
 
 module _ (rs cs : List ℕ) (t : Transaction) (ps : List ℕ) (ready : Ready rs cs t ps) where
   body : Body (sheetsOf rs cs) t
@@ -61,6 +63,10 @@ module _ (rs cs : List ℕ) (t : Transaction) (ps : List ℕ) (ready : Ready rs 
 
   pub coordinator-accepted : coordinatorAccepted cs ≡ true
   coordinator-accepted = passing-parts (record { records = rs; coordinator = cs }) (ready .passing) .1 .0
+
+  -- the letters of the head say the units
+  pub units : unitsIn (take 9 (drop 5 cs)) ≡ coordinatorOf cs .units
+  units = units-said cs coordinator-accepted
 
   pub few : t .count ≤ 8
   few = body .few
@@ -90,9 +96,9 @@ module _ (rs cs : List ℕ) (t : Transaction) (ps : List ℕ) (ready : Ready rs 
   unfolding placeFormed puts held
   place-prepare e = place-below 1 (groupCount (coordinatorOf cs .units) (puts t)) refl e
 
-  pub place-validate : t .phase ≡ 2 → t .place < length (toValidate t)
+  pub place-validate : t .phase ≡ 2 → t .place < length (toValidate (coordinatorOf cs .units) t)
   unfolding placeFormed toValidate held
-  place-validate e = place-below 2 (length (toValidate t)) refl e
+  place-validate e = place-below 2 (length (toValidate (coordinatorOf cs .units) t)) refl e
 
   pub place-finish : t .phase ≡ 5 → InGroups
   unfolding placeFormed puts held

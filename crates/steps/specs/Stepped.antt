@@ -29,10 +29,6 @@ pub record Stepped (s : Sheets) (x : Step) (t : Transaction) (rs cs : List ℕ) 
   pub records : rs ≡ recordsText (apply (x .write) s .lines)
   pub coordinator : cs ≡ coordinatorText (apply (x .write) s .coordinator)
 
--- a step that looks at the record sheet only and writes nothing, whatever accepted coordinator sheet lies beside it
-pub record ByRecords (f : Sheets → Step) (rs : List ℕ) (t : Transaction) : Type 0 where
-  pub beside : (cs : List ℕ) → coordinatorAccepted cs ≡ true → Stepped (sheetsOf rs cs) (f (sheetsOf rs cs)) t rs cs
-
 -- a step that looks at the coordinator sheet only, whatever accepted record sheet lies beside it
 pub record ByCoordinator (f : Sheets → Step) (cs : List ℕ) (t : Transaction) (cs′ : List ℕ) : Type 0 where
   pub beside : (rs : List ℕ) → recordsAccepted rs ≡ true → Stepped (sheetsOf rs cs) (f (sheetsOf rs cs)) t rs cs′

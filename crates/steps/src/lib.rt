@@ -23,7 +23,7 @@ pub fn step(
     match phase {
         0 => phases::open(t, places, records, coordinator),
         1 => phases::prepare(t, places, clock, records, coordinator),
-        2 => phases::validate(t, places, records),
+        2 => phases::validate(t, places, records, coordinator),
         3 => phases::decide(t, coordinator),
         4 => phases::withdraw(t, coordinator),
         5 => phases::finish(t, places, records, coordinator),

@@ -3,17 +3,13 @@ ghost use mathlib.Core.Path.{_≡_};
 ghost use mathlib.Core.Bool.{true};
 ghost use mathlib.Core.List.{List};
 ghost use Prim.Native.Nat.{ℕ, _≤_, _<_};
-ghost use lib.ListN.{length};
-ghost use Rattle.model.specs.Records.{recordsAccepted};
-ghost use Rattle.model.specs.Records as sheet;
 ghost use Rattle.model.specs.Coordinator.{coordinatorOf, coordinatorAccepted};
-ghost use Rattle.model.specs.Transactions.{puts, toValidate};
+ghost use Rattle.model.specs.Transactions.{puts};
 ghost use Rattle.model.specs.Groups.{groupCount};
 ghost use Rattle.model.specs.Steps.{onePhaseAllowed, openStep, onePhase, nextGroup, prepareStep, validateStep, decideStep, withdrawStep, finishStep, undoStep};
 ghost use Rattle.model.specs.ByteCalls.{sheetsOf};
-ghost use Rattle.group_writes.specs.Placed.{Placed};
 ghost use Rattle.steps.specs.Ready.{Ready, Known};
-ghost use Rattle.steps.specs.Stepped.{Stepped, ByRecords, ByCoordinator};
+ghost use Rattle.steps.specs.Stepped.{Stepped, ByCoordinator};
 use group_writes::changes;
 use group_writes::groups;
 use group_writes::lines;
@@ -58,7 +54,7 @@ pub fn open(
     ensures { λ r. ⌜ Stepped (sheetsOf (now (records .entry)) (now (coordinator .entry))) (openStep t (sheetsOf (now (records .entry)) (now (coordinator .entry)))) r (now (records .exit)) (now (coordinator .entry)) ⌝ }
 {
     if !transactions::has_puts(t) {
-        if !transactions::validates(t) {
+        if !transactions::validates(&coordinator[5..14], t) {
             return stages::commits(t);
         }
         return stages::to_phase(stages::VALIDATE, t);
@@ -98,21 +94,31 @@ pub fn prepare(
         return stages::to_phase(stages::WITHDRAW, t);
     }
     changes::prepare_group(t, places, clock, records, coordinator);
-    next_group(stages::after_prepare(t), t, coordinator)
+    next_group(
+        stages::after_prepare(&coordinator[5..14], t),
+        t,
+        coordinator,
+    )
 }
 
 // One entry without a put.
-pub fn validate(t: Transaction, places: [usize; 8], records: &[u8]) -> Transaction
-    requires { ⌜ (recordsAccepted (now records) ≡ true) × ((t .count ≤ 8) × (t .place < length (toValidate t))) ⌝ }
-    requires { ⌜ Placed (sheet.records (now records)) t places (t .count) ⌝ }
-    ensures { λ r. ⌜ ByRecords (validateStep t) (now (records .entry)) r ⌝ }
+pub fn validate(
+    t: Transaction,
+    places: [usize; 8],
+    records: &[u8],
+    coordinator: &[u8],
+) -> Transaction
+    requires { ⌜ Ready (now records) (now coordinator) t places ⌝ }
+    requires { ⌜ t .phase ≡ 2 ⌝ }
+    ensures { λ r. ⌜ Stepped (sheetsOf (now (records .entry)) (now (coordinator .entry))) (validateStep t (sheetsOf (now (records .entry)) (now (coordinator .entry)))) r (now (records .entry)) (now (coordinator .entry)) ⌝ }
 {
-    let e = transactions::to_validate(t, t.place);
+    let letters = &coordinator[5..14];
+    let e = transactions::to_validate(letters, t, t.place);
     let place = lines::place_of(e.key, t, places);
     if !lines::holds(records, e, place) {
         return stages::to_phase(stages::WITHDRAW, t);
     }
-    stages::next_entry(t)
+    stages::next_entry(letters, t)
 }
 
 // The commit point: the transaction's own line, if no visit has aborted it. One that is committed already has been refused.

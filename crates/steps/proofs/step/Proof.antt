@@ -1,7 +1,7 @@
 -- By the phase; in done, or in no phase, nothing is done.
 use mathlib.Core.Path.{refl}
 use borrow.Author.Needs.{needs}
-use Rattle.steps.specs.Ready.{records-accepted, coordinator-accepted, few, known, place-validate}
+use Rattle.steps.specs.Ready.{records-accepted, coordinator-accepted, known}
 use Rattle.steps.specs.Stepped.{wrote-nothing}
 use Rattle.steps.specs.Cases.{stepped-as, step-at, step-none}
 use Rattle.steps.proofs.step.Statement.{statement}
@@ -14,10 +14,7 @@ prepare-requires : tie.Need-prepare-requires
 prepare-requires c κs = (c .before .before .before .before .before .pre, c .before .before .match .keys2)
 
 validate-requires : tie.Need-validate-requires
-validate-requires c κs = (
-  (records-accepted _ _ _ _ (c .before .before .before .before .pre), (few _ _ _ _ (c .before .before .before .before .pre), place-validate _ _ _ _ (c .before .before .before .before .pre) (c .before .match .keys3))),
-  c .before .before .before .before .pre .placed,
-)
+validate-requires c κs = (c .before .before .before .before .before .pre, c .before .before .match .keys3)
 
 decide-requires : tie.Need-decide-requires
 decide-requires c κs = known _ _ _ _ (c .before .before .before .before .pre)
@@ -38,7 +35,7 @@ returns-2 : tie.Need-returns-2
 returns-2 c = stepped-as (step-at _ _ _ 1 (c .before .before .before .before .before .match .keys2)) (c .before .before .prepare .ensures)
 
 returns-3 : tie.Need-returns-3
-returns-3 c = stepped-as (step-at _ _ _ 2 (c .before .before .match .keys3)) (c .validate .ensures .beside _ (coordinator-accepted _ _ _ _ (c .before .before .before .before .before .pre)))
+returns-3 c = stepped-as (step-at _ _ _ 2 (c .before .before .before .match .keys3)) (c .validate .ensures)
 
 returns-4 : tie.Need-returns-4
 returns-4 c = stepped-as (step-at _ _ _ 3 (c .before .before .before .before .match .keys4)) (c .before .before .decide .ensures .beside _ (records-accepted _ _ _ _ (c .before .before .before .before .before .before .before .pre)))
@@ -76,6 +73,7 @@ step-spec =
     (λ c. search needs)
     (λ c. search needs)
     returns-2
+    (λ c. search needs)
     (λ c. search needs)
     returns-3
     (λ c. search needs)

@@ -10,7 +10,7 @@ use Rattle.protocol.proofs.stages.next_entry.Statement.{statement}
 use Rattle.protocol.proofs.stages.next_entry.Tie as tie
 
 add-next : tie.Need-add-next
-add-next c = omega (arith, c .before .validate-count .ok, c .before .validate-count .ensures, c .before .before .pre .1)
+add-next c = omega (arith, c .before .validate-count .ok, c .before .validate-count .ensures, c .before .before .before .pre .1)
 
 returns : tie.Need-returns
 unfolding nextEntry
@@ -18,11 +18,11 @@ returns c = rw (lt-ltb _ _ (rw (c .before .before .before .validate-count .ensur
 
 returns-2 : tie.Need-returns-2
 unfolding nextEntry
-returns-2 c = let e : isEmpty (puts (c .before .before .before .before .before .before .args .t)) ≡ true = not-false _ (sym (c .before .before .has-puts .ensures) ∙ not-true _ (c .before .if2 .taken)) in rw (le-ltb _ _ (rw (c .before .before .before .before .before .validate-count .ensures) at (c .before .before .before .if1 .left)), e) (c .commits .ensures)
+returns-2 c = let e : isEmpty (puts (c .before .before .before .before .before .before .before .args .t)) ≡ true = not-false _ (sym (c .before .before .has-puts .ensures) ∙ not-true _ (c .before .if2 .taken)) in rw (le-ltb _ _ (rw (c .before .before .before .before .before .validate-count .ensures) at (c .before .before .before .if1 .left)), e) (c .commits .ensures)
 
 returns-3 : tie.Need-returns-3
 unfolding nextEntry
-returns-3 c = let e : isEmpty (puts (c .before .before .before .before .before .before .args .t)) ≡ false = not-true _ (sym (c .before .before .has-puts .ensures) ∙ not-false _ (c .before .if2 .left)) in rw (le-ltb _ _ (rw (c .before .before .before .before .before .validate-count .ensures) at (c .before .before .before .if1 .left)), e) (c .to-phase .ensures)
+returns-3 c = let e : isEmpty (puts (c .before .before .before .before .before .before .before .args .t)) ≡ false = not-true _ (sym (c .before .before .has-puts .ensures) ∙ not-false _ (c .before .if2 .left)) in rw (le-ltb _ _ (rw (c .before .before .before .before .before .validate-count .ensures) at (c .before .before .before .if1 .left)), e) (c .to-phase .ensures)
 
 pub next-entry-spec : {M : Type 1} → statement M
 next-entry-spec =

@@ -5,17 +5,18 @@ use mathlib.Core.Logic.{⊎-elim}
 use borrow.Author.Needs.{needs}
 use Rattle.model.specs.Transactions.{held, mustValidate, toValidate}
 use Rattle.protocol.specs.Held.{PassedTo, keptAt, pass-first, kept-met, kept-next, kept-skip, kept-last}
+use Rattle.protocol.specs.Units.{unitsIn}
 use Rattle.protocol.proofs.transactions.to_validate.Statement.{statement}
 use Rattle.protocol.proofs.transactions.to_validate.Tie as tie
 
 abbrev Inv-loop : tie.InvT-loop
-Inv-loop t place n ahead₀ i₀ ahead i = PassedTo t (keptAt (mustValidate t) ahead) (keptAt (mustValidate t) place (held t)) i
+Inv-loop letters t place n ahead₀ i₀ ahead i = PassedTo t (keptAt (mustValidate (unitsIn letters) t) ahead) (keptAt (mustValidate (unitsIn letters) t) place (held t)) i
 
 abbrev μ-loop : tie.MeasureT-loop
-μ-loop t place n ahead₀ i₀ ahead i = n - i
+μ-loop letters t place n ahead₀ i₀ ahead i = n - i
 
 loop-holds : tie.Need-loop-holds Inv-loop μ-loop
-loop-holds c = pass-first _ _ (c .before .good .0) (c .before .pre)
+loop-holds c = pass-first _ _ (c .before .before .good .1 .0) (c .before .before .pre)
 
 returns : tie.Need-returns Inv-loop μ-loop
 unfolding toValidate

@@ -6,24 +6,25 @@ use borrow.Author.Needs.{needs}
 use Rattle.types.specs.declared.Entry.{Entry}
 use Rattle.model.specs.Transactions.{held, mustValidate, toValidate}
 use Rattle.protocol.specs.Held.{TalliedTo, tallied, tally-first, tally-next, tally-last, tallied-kept}
+use Rattle.protocol.specs.Units.{unitsIn}
 use Rattle.protocol.proofs.transactions.validate_count.Statement.{statement}
 use Rattle.protocol.proofs.transactions.validate_count.Tie as tie
 
 abbrev Inv-loop : tie.InvT-loop
-Inv-loop t n found₀ i₀ found i = TalliedTo t (λ (e : Entry) (es : List Entry). mustValidate t e) (tallied (λ (e : Entry) (es : List Entry). mustValidate t e) (held t)) found i
+Inv-loop letters t n found₀ i₀ found i = TalliedTo t (λ (e : Entry) (es : List Entry). mustValidate (unitsIn letters) t e) (tallied (λ (e : Entry) (es : List Entry). mustValidate (unitsIn letters) t e) (held t)) found i
 
 abbrev μ-loop : tie.MeasureT-loop
-μ-loop t n found₀ i₀ found i = n - i
+μ-loop letters t n found₀ i₀ found i = n - i
 
 loop-holds : tie.Need-loop-holds Inv-loop μ-loop
-loop-holds c = tally-first _ _ (c .before .good .0) (c .before .pre)
+loop-holds c = tally-first _ _ (c .before .before .good .1 .0) (c .before .before .pre)
 
 loop-again : tie.Need-loop-again Inv-loop μ-loop
 loop-again c = tally-next _ _ _ _ _ _ (c .before .before .before .before .loop .inv) (c .before .before .before .loop-test .taken) (rw (c .before .must-validate .ensures, c .before .before .entry-at .ensures) at (c .tally .ensures))
 
 returns : tie.Need-returns Inv-loop μ-loop
 unfolding toValidate
-returns c = tally-last _ _ _ _ _ (c .before .loop .inv) (c .loop-test .left) ∙ tallied-kept _ (held (c .before .before .before .args .t))
+returns c = tally-last _ _ _ _ _ (c .before .loop .inv) (c .loop-test .left) ∙ tallied-kept _ (held (c .before .before .before .before .args .t))
 
 pub validate-count-spec : {M : Type 1} → statement M
 validate-count-spec =

@@ -1,8 +1,10 @@
 -- By the tests, in the order of the step table.
 use mathlib.Core.Path.{sym, _∙_}
+use native.Mathlib.Omega.{arith}
 use borrow.Author.Tests.{not-true, not-false}
 use borrow.Author.Needs.{needs}
-use Rattle.steps.specs.Ready.{records-accepted, coordinator-accepted, few}
+use Rattle.sheet_laws.specs.Decisions.{accepted-length}
+use Rattle.steps.specs.Ready.{records-accepted, coordinator-accepted, few, units}
 use Rattle.steps.specs.Stepped.{wrote-nothing}
 use Rattle.steps.specs.Cases.{stepped-as, open-done, open-validates, open-prepares, open-one-phase}
 use Rattle.steps.proofs.phases.open.Statement.{statement}
@@ -11,16 +13,23 @@ use Rattle.steps.proofs.phases.open.Tie as tie
 has-puts-requires : tie.Need-has-puts-requires
 has-puts-requires c κs = few _ _ _ _ (c .before .before .pre)
 
+part-validates-end : tie.Need-part-validates-end
+part-validates-end c = omega (arith, accepted-length _ (coordinator-accepted _ _ _ _ (c .before .before .before .before .pre)))
+
 validates-requires : tie.Need-validates-requires
-validates-requires c κs = few _ _ _ _ (c .before .before .before .before .pre)
+validates-requires c κs = few _ _ _ _ (c .before .before .before .before .before .pre)
 
 returns : tie.Need-returns
-returns c = stepped-as (open-done _ _ (not-false _ (sym (c .before .before .before .before .has-puts .ensures) ∙ not-true _ (c .before .before .before .if1 .taken))) (not-false _ (sym (c .before .before .validates .ensures) ∙ not-true _ (c .before .if2 .taken))))
-    (wrote-nothing _ _ (records-accepted _ _ _ _ (c .before .before .before .before .before .before .before .pre)) (coordinator-accepted _ _ _ _ (c .before .before .before .before .before .before .before .pre)) _ _ (c .commits .ensures))
+returns c =
+    let p = c .before .before .before .before .before .before .before .before .pre in
+    stepped-as (open-done _ _ (not-false _ (sym (c .before .before .before .before .before .has-puts .ensures) ∙ not-true _ (c .before .before .before .before .if1 .taken))) (not-false _ (rw (units _ _ _ _ p) at (sym (c .before .before .validates .ensures) ∙ not-true _ (c .before .if2 .taken)))))
+    (wrote-nothing _ _ (records-accepted _ _ _ _ p) (coordinator-accepted _ _ _ _ p) _ _ (c .commits .ensures))
 
 returns-2 : tie.Need-returns-2
-returns-2 c = stepped-as (open-validates _ _ (not-false _ (sym (c .before .before .before .before .has-puts .ensures) ∙ not-true _ (c .before .before .before .if1 .taken))) (not-true _ (sym (c .before .before .validates .ensures) ∙ not-false _ (c .before .if2 .left))))
-    (wrote-nothing _ _ (records-accepted _ _ _ _ (c .before .before .before .before .before .before .before .pre)) (coordinator-accepted _ _ _ _ (c .before .before .before .before .before .before .before .pre)) _ _ (c .to-phase .ensures))
+returns-2 c =
+    let p = c .before .before .before .before .before .before .before .before .pre in
+    stepped-as (open-validates _ _ (not-false _ (sym (c .before .before .before .before .before .has-puts .ensures) ∙ not-true _ (c .before .before .before .before .if1 .taken))) (not-true _ (rw (units _ _ _ _ p) at (sym (c .before .before .validates .ensures) ∙ not-false _ (c .before .if2 .left)))))
+    (wrote-nothing _ _ (records-accepted _ _ _ _ p) (coordinator-accepted _ _ _ _ p) _ _ (c .to-phase .ensures))
 
 one-phase-allowed-requires : tie.Need-one-phase-allowed-requires
 one-phase-allowed-requires c κs = (coordinator-accepted _ _ _ _ (c .before .before .before .before .pre), few _ _ _ _ (c .before .before .before .before .pre))
@@ -41,6 +50,9 @@ open-spec =
     tie.close
     (tie.spec
     has-puts-requires
+    (λ c. search needs)
+    (λ c. search needs)
+    part-validates-end
     validates-requires
     (λ c κs. search needs)
     returns

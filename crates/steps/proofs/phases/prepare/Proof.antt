@@ -1,13 +1,14 @@
 -- By whether the conditions hold.
 use Prim.Native.Nat.{ℕ}
 use mathlib.Core.Path.{refl, sym, ap, _∙_}
+use native.Mathlib.Omega.{arith}
 use borrow.Author.Tests.{not-true, not-false}
 use borrow.Author.Needs.{needs}
-use Rattle.steps.specs.Ready.{records-accepted, coordinator-accepted, few, may-write, place-prepare}
+use Rattle.sheet_laws.specs.Decisions.{accepted-length}
+use Rattle.steps.specs.Ready.{records-accepted, coordinator-accepted, few, units, may-write, place-prepare}
 use Rattle.steps.specs.Stepped.{wrote-nothing, wrote-lines}
 use Rattle.model.specs.Writes.{decisionsAfter}
 use Rattle.steps.specs.Cases.{stepped-as, prepare-fails, prepare-writes}
-use Rattle.steps.specs.Stepped.{wrote-nothing}
 use Rattle.model.specs.Steps.{nextGroup}
 use Rattle.model.specs.ByteCalls.{sheetsOf}
 use Rattle.steps.proofs.phases.prepare.Statement.{statement}
@@ -23,19 +24,25 @@ returns c = stepped-as (prepare-fails _ _ _ (sym (c .before .before .group-holds
 prepare-group-requires : tie.Need-prepare-group-requires
 prepare-group-requires c κs = (may-write _ _ _ _ (c .before .before .before .before .before .before .pre .0), sym (c .before .before .group-holds .ensures) ∙ not-false _ (c .before .if1 .left))
 
+part-after-prepare-end : tie.Need-part-after-prepare-end
+part-after-prepare-end c = omega (arith, accepted-length _ (coordinator-accepted _ _ _ _ (c .before .before .before .before .before .before .before .before .before .pre .0)))
+
 after-prepare-requires : tie.Need-after-prepare-requires
-after-prepare-requires c κs = few _ _ _ _ (c .before .before .before .before .before .before .before .before .before .pre .0)
+after-prepare-requires c κs = few _ _ _ _ (c .before .before .before .before .before .before .before .before .before .before .pre .0)
 
 next-group-requires : tie.Need-next-group-requires
-next-group-requires c κs = (coordinator-accepted _ _ _ _ (c .before .before .before .before .before .before .before .before .before .before .pre .0), (few _ _ _ _ (c .before .before .before .before .before .before .before .before .before .before .pre .0), place-prepare _ _ _ _ (c .before .before .before .before .before .before .before .before .before .before .pre .0) (c .before .before .before .before .before .before .before .before .before .before .pre .1)))
+next-group-requires c κs =
+    let p = c .before .before .before .before .before .before .before .before .before .before .before .pre in
+    (coordinator-accepted _ _ _ _ (p .0), (few _ _ _ _ (p .0), place-prepare _ _ _ _ (p .0) (p .1)))
 
 returns-2 : tie.Need-returns-2
 unfolding decisionsAfter
 returns-2 c =
-    let a = c .before .before .before .before .before .before .before .before .before .before .before .args in
-    stepped-as (prepare-writes _ _ _ (sym (c .before .before .before .before .before .before .before .group-holds .ensures) ∙ not-false _ (c .before .before .before .before .before .before .if1 .left)))
-    (wrote-lines _ _ _ refl (coordinator-accepted _ _ _ _ (c .before .before .before .before .before .before .before .before .before .before .before .pre .0)) _ _ _
-    (c .next-group .ensures _ ∙ ap (λ (p : ℕ). nextGroup p (a .t) (sheetsOf (a .records .now) (a .coordinator .now))) (c .before .after-prepare .ensures)) (c .before .before .before .before .prepare-group .ensures))
+    let a = c .before .before .before .before .before .before .before .before .before .before .before .before .args in
+    let p = c .before .before .before .before .before .before .before .before .before .before .before .before .pre .0 in
+    stepped-as (prepare-writes _ _ _ (sym (c .before .before .before .before .before .before .before .before .group-holds .ensures) ∙ not-false _ (c .before .before .before .before .before .before .before .if1 .left)))
+    (wrote-lines _ _ _ refl (coordinator-accepted _ _ _ _ p) _ _ _
+    (c .next-group .ensures _ ∙ ap (λ (q : ℕ). nextGroup q (a .t) (sheetsOf (a .records .now) (a .coordinator .now))) (rw (units _ _ _ _ p) at (c .before .after-prepare .ensures))) (c .before .before .before .before .before .prepare-group .ensures))
 
 pub prepare-spec : {M : Type 1} → statement M
 prepare-spec =
@@ -46,6 +53,9 @@ prepare-spec =
     (λ c. search needs)
     returns
     prepare-group-requires
+    (λ c. search needs)
+    (λ c. search needs)
+    part-after-prepare-end
     after-prepare-requires
     next-group-requires
     (λ c. search needs)
