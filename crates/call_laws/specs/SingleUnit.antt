@@ -155,7 +155,7 @@ Single s w = SingleUnit (s .coordinator .units) w
 prepare-single : (t : Transaction) (now : ℕ) (s : Sheets) → Single s (prepareStep t now s .write)
 unfolding prepareStep
 prepare-single t now s =
-    choose-by (λ (x : Step). Single s (x .write)) (all (holds (s .lines)) (groupAt t s))
+    choose-by (λ (x : Step). Single s (x .write)) (all (holds s) (groupAt t s))
     (λ e. prepare-unit (unitsOf s) (puts t) (t .place) (t .number) now)
     (λ e. nothing-unit (unitsOf s))
 
@@ -165,7 +165,7 @@ open-single t s =
     choose-by P (isEmpty (puts t))
     (λ e. choose-by P (isEmpty (toValidate (unitsOf s) t)) (λ f. nothing-unit (unitsOf s)) (λ f. nothing-unit (unitsOf s)))
     (λ e. choose-by P (onePhaseAllowed t s)
-    (λ f. choose-by P (all (holds (s .lines)) (groupAt t s))
+    (λ f. choose-by P (all (holds s) (groupAt t s))
     (λ g. commit-unit (unitsOf s) (puts t) (t .place) (t .number))
     (λ g. nothing-unit (unitsOf s)))
     (λ f. nothing-unit (unitsOf s)))
@@ -179,7 +179,7 @@ step-single t now s =
     by-phase (λ (x : Step). Single s (x .write)) (t .phase)
     (open-single t s)
     (prepare-single t now s)
-    (choose-by (λ (x : Step). Single s (x .write)) (holds (s .lines) (getD (toValidate (unitsOf s) t) (t .place) noEntry)) (λ e. none) (λ e. none))
+    (choose-by (λ (x : Step). Single s (x .write)) (holds s (getD (toValidate (unitsOf s) t) (t .place) noEntry)) (λ e. none) (λ e. none))
     (by-decision (λ (x : Step). Single s (x .write)) (decision (t .number) (s .coordinator)) (decide-unit (unitsOf s) (t .number) Committed) none none)
     (by-decision (λ (x : Step). Single s (x .write)) (decision (t .number) (s .coordinator)) (decide-unit (unitsOf s) (t .number) Aborted) none none)
     (forward-unit (unitsOf s) (puts t) (t .place) (t .number))

@@ -109,7 +109,7 @@ module _ (s : Sheets) (good : GoodSheets s) (t : Transaction) (b : Body s t) whe
       (all-filter isPut (entryFormed (s .coordinator .issued)) (held t) (b .entries)) (filter-passes isPut (held t)))
 
   -- an entry whose condition holds, well formed and with a put, may be written over the line of its key
-  pub may-put-over : (e : Entry) → holds (s .lines) e ≡ true → (entryFormed (s .coordinator .issued) e && isPut e) ≡ true → MayPut (s .coordinator .issued) (t .number) (changeOf e) (lineOf (e .key) (s .lines))
+  pub may-put-over : (e : Entry) → holds s e ≡ true → (entryFormed (s .coordinator .issued) e && isPut e) ≡ true → MayPut (s .coordinator .issued) (t .number) (changeOf e) (lineOf (e .key) (s .lines))
   unfolding holds unchanged
   may-put-over e c f =
       let i = s .coordinator .issued in
@@ -130,12 +130,12 @@ module _ (s : Sheets) (good : GoodSheets s) (t : Transaction) (b : Body s t) whe
       }
 
   -- the puts of a group whose conditions hold may be written
-  pub may-put : all (holds (s .lines)) (groupAt t s) ≡ true → MayPutAll s (t .number) (groupAt t s)
+  pub may-put : all (holds s) (groupAt t s) ≡ true → MayPutAll s (t .number) (groupAt t s)
   unfolding holds
   may-put h k e found =
       let i = s .coordinator .issued in
       let same : e .key ≡ k = entry-has-key k (groupAt t s) e found in
-      let c : holds (s .lines) e ≡ true = entry-passes (holds (s .lines)) k (groupAt t s) e h found in
+      let c : holds s e ≡ true = entry-passes (holds s) k (groupAt t s) e h found in
       let l : hasLine (e .key) (s .lines) ≡ true = and-fst (hasLine (e .key) (s .lines)) (unchanged e (lineOf (e .key) (s .lines))) c in (
         ap (λ (x : Key). listsKey x (s .lines)) (sym same) ∙ (sym (has-line (e .key) (s .lines)) ∙ l),
         subst (λ (x : Key). MayPut i (t .number) (changeOf e) (lineOf x (s .lines))) same
@@ -157,7 +157,7 @@ module _ (s : Sheets) (good : GoodSheets s) (t : Transaction) (b : Body s t) whe
       (λ f. moves donePhase 0 committedVerdict (to-done-committed (unitsOf s) t))
       (λ f. moves validatePhase 0 (t .verdict) (to-validate (unitsOf s) t v f)))
       (λ e. choose-by (Closed s) (onePhaseAllowed t s)
-      (λ f. choose-by (Closed s) (all (holds (s .lines)) (groupAt t s))
+      (λ f. choose-by (Closed s) (all (holds s) (groupAt t s))
       (λ h. record {
         fits = fit-commit (t .number) (groupAt t s) (may-put h);
         body = body-moved s t donePhase 0 committedVerdict b;
@@ -188,7 +188,7 @@ module _ (s : Sheets) (good : GoodSheets s) (t : Transaction) (b : Body s t) whe
     prepare-closed e now l =
         let v : t .verdict ≡ noVerdict = eqb-true (t .verdict) 0 (verdict-at (unitsOf s) t g 1 e) in
         let n : isEmpty (puts t) ≡ false = some-puts (place-at (unitsOf s) t g 1 e) in
-        choose-by (Closed s) (all (holds (s .lines)) (groupAt t s))
+        choose-by (Closed s) (all (holds s) (groupAt t s))
         (λ h. next-closed 1 (afterPrepare (unitsOf s) t) (prepare (t .number) now (groupAt t s)) e (fit-prepare (t .number) now (groupAt t s) l (may-put h))
         (λ m. next-prepare (unitsOf s) t v m)
         (choose-by (λ (p : ℕ). Stage (unitsOf s) (moved p 0 (t .verdict) t)) (isEmpty (toValidate (unitsOf s) t))
@@ -200,7 +200,7 @@ module _ (s : Sheets) (good : GoodSheets s) (t : Transaction) (b : Body s t) whe
     unfolding validateStep nextEntry verdictFormed placeFormed
     validate-closed e =
         let v : t .verdict ≡ noVerdict = eqb-true (t .verdict) 0 (verdict-at (unitsOf s) t g 2 e) in
-        choose-by (Closed s) (holds (s .lines) (getD (toValidate (unitsOf s) t) (t .place) noEntry))
+        choose-by (Closed s) (holds s (getD (toValidate (unitsOf s) t) (t .place) noEntry))
         (λ h. choose-by (λ (u : Transaction). Closed s (record { transaction = u; write = nothing })) (ltb (t .place + 1) (length (toValidate (unitsOf s) t)))
         (λ l. moves validatePhase (t .place + 1) (t .verdict) (next-validate (unitsOf s) t v l))
         (λ l. choose-by (λ (u : Transaction). Closed s (record { transaction = u; write = nothing })) (isEmpty (puts t))

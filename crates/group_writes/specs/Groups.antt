@@ -7,7 +7,6 @@ use mathlib.Core.List.{List, [], _∷_}
 use Rattle.lists.specs.Each.{all, filter}
 use Rattle.types.specs.declared.Entry.{Entry}
 use Rattle.types.specs.declared.Transaction.{Transaction}
-use Rattle.model.specs.Records.{records}
 use Rattle.model.specs.Coordinator.{coordinatorOf}
 use Rattle.model.specs.Transactions.{held}
 use Rattle.model.specs.Steps.{holds, groupAt}
@@ -49,8 +48,8 @@ own-group b c h = rw h
 
 -- the entry holds, unless it is of another group
 abbrev pub holdsInGroup : List ℕ → List ℕ → Transaction → Entry → Bool
-holdsInGroup rs cs t e = not (ofGroup cs t e) || holds (records rs) e
+holdsInGroup rs cs t e = not (ofGroup cs t e) || holds (sheetsOf rs cs) e
 
-pub group-all : (rs cs : List ℕ) (t : Transaction) → all (holdsInGroup rs cs t) (held t) ≡ all (holds (records rs)) (groupAt t (sheetsOf rs cs))
+pub group-all : (rs cs : List ℕ) (t : Transaction) → all (holdsInGroup rs cs t) (held t) ≡ all (holds (sheetsOf rs cs)) (groupAt t (sheetsOf rs cs))
 group-all rs cs t =
-    all-kept (holds (records rs)) (ofGroup cs t) (held t) ∙ ap (all (holds (records rs))) (sym (group-in rs cs t))
+    all-kept (holds (sheetsOf rs cs)) (ofGroup cs t) (held t) ∙ ap (all (holds (sheetsOf rs cs))) (sym (group-in rs cs t))

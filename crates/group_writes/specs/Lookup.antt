@@ -13,6 +13,7 @@ use Rattle.types.specs.declared.Key.{Key}
 use Rattle.types.specs.declared.Record.{Record}
 use Rattle.model.specs.Records.{noRecord, records, recordsGood, recordsAccepted, goodAlone, keyInRange, found, isMissing, hasLine, lineOf}
 use Rattle.model.specs.Images.{unchanged}
+use Rattle.model.specs.Writes.{Sheets}
 use Rattle.model.specs.Steps.{holds}
 use Rattle.sheet_laws.specs.Records.{good-ranged}
 use Rattle.sheet_laws.specs.Keys.{key-ranged}
@@ -47,7 +48,7 @@ module _ (k : Key) (rs : List Record) where
   unfolding isMissing
   has-no-line e = rw e
 
-module _ (rs : List Record) (e : Entry) where
-  pub holds-at : (i : ℕ) → found (e .key) rs ≡ At i → unchanged e (getD rs i noRecord) ≡ holds rs e
+module _ (s : Sheets) (e : Entry) where
+  pub holds-at : (i : ℕ) → found (e .key) (s .lines) ≡ At i → unchanged e (getD (s .lines) i noRecord) ≡ holds s e
   unfolding holds isMissing
-  holds-at i h = rw h (ap (unchanged e) (found-at (e .key) rs i h .line))
+  holds-at i h = rw h (ap (unchanged e) (found-at (e .key) (s .lines) i h .line))

@@ -70,32 +70,32 @@ module _ (rs cs : List ℕ) (t : Transaction) (ps : List ℕ) (ready : Ready rs 
 
   -- an entry of the group whose condition holds
   abbrev putOver : Entry → Bool
-  putOver e = holds (records rs) e && (entryFormed issued e && isPut e)
+  putOver e = holds (sheetsOf rs cs) e && (entryFormed issued e && isPut e)
 
-  put-over : all (holds (records rs)) (groupAt t (sheetsOf rs cs)) ≡ true → all putOver (groupAt t (sheetsOf rs cs)) ≡ true
-  put-over h = all-and (holds (records rs)) (λ (e : Entry). entryFormed issued e && isPut e) (groupAt t (sheetsOf rs cs)) h (group-formed (sheetsOf rs cs) good t (ready .body))
+  put-over : all (holds (sheetsOf rs cs)) (groupAt t (sheetsOf rs cs)) ≡ true → all putOver (groupAt t (sheetsOf rs cs)) ≡ true
+  put-over h = all-and (holds (sheetsOf rs cs)) (λ (e : Entry). entryFormed issued e && isPut e) (groupAt t (sheetsOf rs cs)) h (group-formed (sheetsOf rs cs) good t (ready .body))
 
-  has-its-line : (e : Entry) → holds (records rs) e ≡ true → hasLine (e .key) (records rs) ≡ true
+  has-its-line : (e : Entry) → holds (sheetsOf rs cs) e ≡ true → hasLine (e .key) (records rs) ≡ true
   unfolding holds
   has-its-line e h = and-fst (hasLine (e .key) (records rs)) (unchanged e (lineOf (e .key) (records rs))) h
 
   -- the puts of a group whose conditions hold, where a put over its line keeps the rules
-  may-put : (c : Effect) → ((e : Entry) (r : Record) → GoodParts issued r → MayPut issued (t .number) (changeOf e) r → GoodParts issued (changed c (t .number) e r)) → all (holds (records rs)) (groupAt t (sheetsOf rs cs)) ≡ true → MayChange c rs cs t ps
+  may-put : (c : Effect) → ((e : Entry) (r : Record) → GoodParts issued r → MayPut issued (t .number) (changeOf e) r → GoodParts issued (changed c (t .number) e r)) → all (holds (sheetsOf rs cs)) (groupAt t (sheetsOf rs cs)) ≡ true → MayChange c rs cs t ps
   may-put c keeps h =
       may-change c
       (all-weaken putOver (fits c (t .number) (records rs))
-      (λ e g. let held = and-fst (holds (records rs) e) (entryFormed issued e && isPut e) g in
+      (λ e g. let held = and-fst (holds (sheetsOf rs cs) e) (entryFormed issued e && isPut e) g in
       let r = lineOf (e .key) (records rs) in
       fine-good (changed c (t .number) e r)
       (keeps e r (line-good e (has-its-line e held))
-      (may-put-over (sheetsOf rs cs) good t (ready .body) e held (and-snd (holds (records rs) e) (entryFormed issued e && isPut e) g))))
+      (may-put-over (sheetsOf rs cs) good t (ready .body) e held (and-snd (holds (sheetsOf rs cs) e) (entryFormed issued e && isPut e) g))))
       (groupAt t (sheetsOf rs cs)) (put-over h))
 
-  pub may-commit : all (holds (records rs)) (groupAt t (sheetsOf rs cs)) ≡ true → MayChange Commit rs cs t ps
+  pub may-commit : all (holds (sheetsOf rs cs)) (groupAt t (sheetsOf rs cs)) ≡ true → MayChange Commit rs cs t ps
   unfolding changed
   may-commit = may-put Commit (λ e r g m. committed-fine issued (t .number) (changeOf e) r g m)
 
-  pub may-prepare : (now : ℕ) → now ≤ 4294967295 → all (holds (records rs)) (groupAt t (sheetsOf rs cs)) ≡ true → MayChange (Prepare now) rs cs t ps
+  pub may-prepare : (now : ℕ) → now ≤ 4294967295 → all (holds (sheetsOf rs cs)) (groupAt t (sheetsOf rs cs)) ≡ true → MayChange (Prepare now) rs cs t ps
   unfolding changed
   may-prepare now l = may-put (Prepare now) (λ e r g m. prepared-fine issued (t .number) (changeOf e) r g m now l)
 

@@ -99,7 +99,7 @@ fn change_group(
 // The puts of the group committed in one phase.
 pub fn commit_group(t: Transaction, places: [usize; 8], records: &mut [u8], coordinator: &[u8])
     requires { ⌜ Ready (now records) (now coordinator) t places ⌝ }
-    requires { ⌜ all (holds (sheet.records (now records))) (groupAt t (sheetsOf (now records) (now coordinator))) ≡ true ⌝ }
+    requires { ⌜ all (holds (sheetsOf (now records) (now coordinator))) (groupAt t (sheetsOf (now records) (now coordinator))) ≡ true ⌝ }
     ensures { λ u. ⌜ now (records .exit) ≡ recordsText (linesAfter (commit (t .number) (groupAt t (sheetsOf (now (records .entry)) (now (coordinator .entry))))) (sheet.records (now (records .entry)))) ⌝ }
 {
     change_group(Effect::Commit, t, places, records, coordinator);
@@ -114,7 +114,7 @@ pub fn prepare_group(
     coordinator: &[u8],
 )
     requires { ⌜ Ready (now records) (now coordinator) t places ⌝ }
-    requires { ⌜ all (holds (sheet.records (now records))) (groupAt t (sheetsOf (now records) (now coordinator))) ≡ true ⌝ }
+    requires { ⌜ all (holds (sheetsOf (now records) (now coordinator))) (groupAt t (sheetsOf (now records) (now coordinator))) ≡ true ⌝ }
     ensures { λ u. ⌜ now (records .exit) ≡ recordsText (linesAfter (prepare (t .number) clock (groupAt t (sheetsOf (now (records .entry)) (now (coordinator .entry))))) (sheet.records (now (records .entry)))) ⌝ }
 {
     change_group(Effect::Prepare(clock), t, places, records, coordinator);

@@ -53,7 +53,7 @@ fn entry_holds(records: &[u8], coordinator: &[u8], t: Transaction, i: usize, pla
 pub fn group_holds(records: &[u8], coordinator: &[u8], t: Transaction, places: [usize; 8]) -> bool
     requires { ⌜ (coordinatorAccepted (now coordinator) ≡ true) × (t .count ≤ 8) ⌝ }
     requires { ⌜ Placed (sheet.records (now records)) t places (t .count) ⌝ }
-    ensures { λ r. ⌜ r ≡ all (holds (sheet.records (now (records .entry)))) (groupAt t (sheetsOf (now (records .entry)) (now (coordinator .entry)))) ⌝ }
+    ensures { λ r. ⌜ r ≡ all (holds (sheetsOf (now (records .entry)) (now (coordinator .entry)))) (groupAt t (sheetsOf (now (records .entry)) (now (coordinator .entry)))) ⌝ }
 {
     let n = t.count as usize;
     for i in 0..n {

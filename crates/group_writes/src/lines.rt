@@ -1,10 +1,12 @@
 // The lines of a transaction's entries on an accepted record sheet.
 ghost use mathlib.Core.Path.{_≡_};
 ghost use mathlib.Core.Bool.{true};
-ghost use Prim.Native.Nat.{_≤_};
+ghost use mathlib.Core.List.{List};
+ghost use Prim.Native.Nat.{ℕ, _≤_};
 ghost use Rattle.model.specs.Records.{recordsAccepted, found};
 ghost use Rattle.model.specs.Records as sheet;
 ghost use Rattle.model.specs.Steps as model;
+ghost use Rattle.model.specs.ByteCalls.{sheetsOf};
 ghost use Rattle.types.specs.declared.Found.the-variants.{At};
 ghost use Rattle.group_writes.specs.Placed.{located, placeIn};
 use protocol::images;
@@ -34,10 +36,10 @@ fn line_of(records: &[u8], key: Key) -> Found
     lookup::find(records, key)
 }
 
-// The condition of an entry whose line is at a place: the line is as it was read.
+// The condition of an entry whose line is at a place: the line is as it was read, whatever coordinator sheet lies beside.
 pub fn holds(records: &[u8], e: Entry, place: usize) -> bool
     requires { ⌜ found (e .key) (sheet.records (now records)) ≡ At place ⌝ }
-    ensures { λ r. ⌜ r ≡ model.holds (sheet.records (now (records .entry))) e ⌝ }
+    ensures { λ r. ⌜ ((cs : List ℕ) → r ≡ model.holds (sheetsOf (now (records .entry)) cs) e) ⌝ }
 {
     images::unchanged(e, codec::records::record_at(records, place))
 }

@@ -36,6 +36,6 @@ unfolding lineAfter isOf
 undo-skips-others n ks r e = rw e
 
 -- Preparing part of a group when one condition fails: nothing is written.
-pub failing-group-writes-nothing : (t : Transaction) (now : ℕ) (s : Sheets) → all (holds (s .lines)) (groupAt t s) ≡ false → prepareStep t now s .write ≡ nothing
+pub failing-group-writes-nothing : (t : Transaction) (now : ℕ) (s : Sheets) → all (holds s) (groupAt t s) ≡ false → prepareStep t now s .write ≡ nothing
 unfolding prepareStep
 failing-group-writes-nothing t now s e = rw e

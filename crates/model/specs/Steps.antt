@@ -8,7 +8,6 @@ use Rattle.lists.specs.Each.{all}
 use Rattle.types.specs.declared.AtomicityUnit.{AtomicityUnit}
 use Rattle.types.specs.declared.Decision.the-variants.{Committed, Aborted}
 use Rattle.types.specs.declared.Key.{Key}
-use Rattle.types.specs.declared.Record.{Record}
 use Rattle.types.specs.declared.Entry.{Entry}
 use Rattle.types.specs.declared.Transaction.{Transaction}
 use Rattle.model.specs.Records.{hasLine, lineOf}
@@ -41,8 +40,8 @@ pub record Step : Type 0 where
   pub write : Write
 
 -- "The condition of an entry": total, and false where its key has no line
-unfoldable pub holds : List Record → Entry → Bool
-holds rs e = hasLine (e .key) rs && unchanged e (lineOf (e .key) rs)
+unfoldable pub holds : Sheets → Entry → Bool
+holds s e = hasLine (e .key) (s .lines) && unchanged e (lineOf (e .key) (s .lines))
 
 abbrev pub unitsOf : Sheets → List AtomicityUnit
 unitsOf s = s .coordinator .units
@@ -81,7 +80,7 @@ openWithoutPuts us t =
 -- "if all conditions in the group hold, write the puts as COMMITTED under this number, version + 1, to done, committed (one-phase); if not, to withdraw"
 unfoldable pub onePhase : Transaction → Sheets → Step
 onePhase t s =
-    cond (all (holds (s .lines)) (groupAt t s))
+    cond (all (holds s) (groupAt t s))
     (record { transaction = commits t; write = commit (t .number) (groupAt t s) })
     (to withdrawPhase t)
 
@@ -102,7 +101,7 @@ nextGroup after t s =
 -- "if all conditions in the group hold, write its lines PREPARED ..; next group .. If one fails, nothing is written; to withdraw."
 unfoldable pub prepareStep : Transaction → ℕ → Sheets → Step
 prepareStep t now s =
-    cond (all (holds (s .lines)) (groupAt t s))
+    cond (all (holds s) (groupAt t s))
     (record {
       transaction = nextGroup (afterPrepare (unitsOf s) t) t s;
       write = prepare (t .number) now (groupAt t s);
@@ -118,7 +117,7 @@ nextEntry us t =
 -- "one entry without put, in the order read; its condition holds: next .. Fails: withdraw."
 unfoldable pub validateStep : Transaction → Sheets → Step
 validateStep t s =
-    cond (holds (s .lines) (getD (toValidate (unitsOf s) t) (t .place) noEntry))
+    cond (holds s (getD (toValidate (unitsOf s) t) (t .place) noEntry))
     (record { transaction = nextEntry (unitsOf s) t; write = nothing })
     (to withdrawPhase t)
 

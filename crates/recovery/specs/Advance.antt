@@ -184,7 +184,7 @@ module _ (s : Sheets) (m : Model) (t : Transaction) (good : GoodSheets s) (view 
       (λ k. done-in-validate (unitsOf s) (moved validatePhase 0 (t .verdict) t) refl k
       ∙ (put-in-empty k (held t) e ∙ sym (done-in-open (unitsOf s) t ph k))))))
       (λ e. choose-by StepMoves (eqb (groupsOf t s) 1 && not (isSerializable t))
-      (λ f. choose-by StepMoves (all (holds (s .lines)) (groupAt t s))
+      (λ f. choose-by StepMoves (all (holds s) (groupAt t s))
       (λ h. let may : MayPutAll s (t .number) (groupAt t s) = may-put s good t body h in
       commits-it (commit (t .number) (groupAt t s)) (commits t) (ap (λ (x : ℕ). eqb x 0 && true) v)
       (one-phase-view s good t m (known .sets) may z (eqb-true (groupsOf t s) 1 (and-fst (eqb (groupsOf t s) 1) (not (isSerializable t)) f)) view)
@@ -219,7 +219,7 @@ module _ (s : Sheets) (m : Model) (t : Transaction) (good : GoodSheets s) (view 
       let below : t .place < groupsOf t s = ltb-true (t .place) (groupsOf t s) (place-at (unitsOf s) t stage 1 ph) in
       let mem : Memory s t = known .memory (omega arith) in
       let w = prepare (t .number) now (groupAt t s) in
-      choose-by StepMoves (all (holds (s .lines)) (groupAt t s))
+      choose-by StepMoves (all (holds s) (groupAt t s))
       (λ h. let may : MayPutAll s (t .number) (groupAt t s) = may-put s good t body h in
       let gentle : Gentle s w = gentle-prepare (t .number) now (groupAt t s) (mem .undone) may in
       choose-by (λ (u : Transaction). StepMoves (record { transaction = u; write = w })) (ltb (t .place + 1) (groupsOf t s))
@@ -248,7 +248,7 @@ module _ (s : Sheets) (m : Model) (t : Transaction) (good : GoodSheets s) (view 
   validate-moves ph =
       let v : t .verdict ≡ noVerdict = eqb-true (t .verdict) 0 (verdict-at (unitsOf s) t stage 2 ph) in
       let early : t .phase ≤ 3 = omega arith in
-      choose-by StepMoves (holds (s .lines) (getD (toValidate (unitsOf s) t) (t .place) noEntry))
+      choose-by StepMoves (holds s (getD (toValidate (unitsOf s) t) (t .place) noEntry))
       (λ h. choose-by (λ (u : Transaction). StepMoves (record { transaction = u; write = nothing })) (ltb (t .place + 1) (length (toValidate (unitsOf s) t)))
       (λ l. moves validatePhase (t .place + 1) (t .verdict) (never-both (t .verdict)) (omega arith) (λ q. omega (arith, q))
       (λ q. memory-at validatePhase (t .place + 1) (t .verdict) early

@@ -47,27 +47,27 @@ module _ (t : Transaction) (s : Sheets) where
   unfolding openStep
   open-one-phase e f = rw (e, f)
 
-  pub one-phase-fails : all (holds (s .lines)) (groupAt t s) ≡ false → onePhase t s ≡ to 4 t
+  pub one-phase-fails : all (holds s) (groupAt t s) ≡ false → onePhase t s ≡ to 4 t
   unfolding onePhase
   one-phase-fails h = rw h
 
-  pub one-phase-commits : all (holds (s .lines)) (groupAt t s) ≡ true → onePhase t s ≡ record { transaction = commits t; write = commit (t .number) (groupAt t s) }
+  pub one-phase-commits : all (holds s) (groupAt t s) ≡ true → onePhase t s ≡ record { transaction = commits t; write = commit (t .number) (groupAt t s) }
   unfolding onePhase
   one-phase-commits h = rw h
 
-  pub prepare-fails : (now : ℕ) → all (holds (s .lines)) (groupAt t s) ≡ false → prepareStep t now s ≡ to 4 t
+  pub prepare-fails : (now : ℕ) → all (holds s) (groupAt t s) ≡ false → prepareStep t now s ≡ to 4 t
   unfolding prepareStep
   prepare-fails now h = rw h
 
-  pub prepare-writes : (now : ℕ) → all (holds (s .lines)) (groupAt t s) ≡ true → prepareStep t now s ≡ record { transaction = nextGroup (afterPrepare (unitsOf s) t) t s; write = prepare (t .number) now (groupAt t s) }
+  pub prepare-writes : (now : ℕ) → all (holds s) (groupAt t s) ≡ true → prepareStep t now s ≡ record { transaction = nextGroup (afterPrepare (unitsOf s) t) t s; write = prepare (t .number) now (groupAt t s) }
   unfolding prepareStep
   prepare-writes now h = rw h
 
-  pub validate-fails : holds (s .lines) (getD (toValidate (unitsOf s) t) (t .place) noEntry) ≡ false → validateStep t s ≡ to 4 t
+  pub validate-fails : holds s (getD (toValidate (unitsOf s) t) (t .place) noEntry) ≡ false → validateStep t s ≡ to 4 t
   unfolding validateStep
   validate-fails h = rw h
 
-  pub validate-passes : holds (s .lines) (getD (toValidate (unitsOf s) t) (t .place) noEntry) ≡ true → validateStep t s ≡ record { transaction = nextEntry (unitsOf s) t; write = nothing }
+  pub validate-passes : holds s (getD (toValidate (unitsOf s) t) (t .place) noEntry) ≡ true → validateStep t s ≡ record { transaction = nextEntry (unitsOf s) t; write = nothing }
   unfolding validateStep
   validate-passes h = rw h
 

@@ -13,7 +13,9 @@ holds-requires : tie.Need-holds-requires
 holds-requires c κs = rw (c .before .before .entry-at .ensures) (c .before .before .before .before .before .pre .1)
 
 returns-2 : tie.Need-returns-2
-returns-2 c = rw (c .before .before .before .entry-at .ensures) at (c .holds .ensures ∙ own-group _ _ (sym (c .before .before .in-group .ensures) ∙ not-false _ (c .before .if1 .left)))
+returns-2 c =
+    let a = c .before .before .before .before .before .before .args in
+    rw (c .before .before .before .entry-at .ensures) at (c .holds .ensures (a .coordinator .now) ∙ own-group _ _ (sym (c .before .before .in-group .ensures) ∙ not-false _ (c .before .if1 .left)))
 
 pub entry-holds-spec : {M : Type 1} → statement M
 entry-holds-spec =

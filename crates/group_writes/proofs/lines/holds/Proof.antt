@@ -2,6 +2,7 @@
 use mathlib.Core.Path.{ap, _∙_}
 use borrow.Author.Needs.{needs}
 use Rattle.model.specs.Images.{unchanged}
+use Rattle.model.specs.ByteCalls.{sheetsOf}
 use Rattle.group_writes.specs.Lookup.{holds-at}
 use Rattle.group_writes.proofs.lines.holds.Statement.{statement}
 use Rattle.group_writes.proofs.lines.holds.Tie as tie
@@ -9,9 +10,9 @@ use Rattle.group_writes.proofs.lines.holds.Tie as tie
 returns : tie.Need-returns
 returns c =
     let a = c .before .before .before .args in
-    c .unchanged .ensures
+    λ cs. c .unchanged .ensures
     ∙ (ap (unchanged (a .e)) (c .before .record-at .ensures)
-    ∙ holds-at _ (a .e) _ (c .before .before .before .pre))
+    ∙ holds-at (sheetsOf (a .records .now) cs) (a .e) _ (c .before .before .before .pre))
 
 pub holds-spec : {M : Type 1} → statement M
 holds-spec = tie.close (tie.spec (λ c κs. search needs) (λ c κs. search needs) returns)

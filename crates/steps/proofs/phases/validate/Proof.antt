@@ -28,8 +28,9 @@ holds-requires c κs =
 
 returns : tie.Need-returns
 returns c =
+    let a = c .before .before .before .before .before .before .before .before .args in
     let p = c .before .before .before .before .before .before .before .before .pre .0 in
-    stepped-as (validate-fails _ _ (rw (c .before .before .before .before .to-validate .ensures, units _ _ _ _ p) at (sym (c .before .before .holds .ensures) ∙ not-true _ (c .before .if1 .taken))))
+    stepped-as (validate-fails _ _ (rw (c .before .before .before .before .to-validate .ensures, units _ _ _ _ p) at (sym (c .before .before .holds .ensures (a .coordinator .now)) ∙ not-true _ (c .before .if1 .taken))))
     (wrote-nothing _ _ (records-accepted _ _ _ _ p) (coordinator-accepted _ _ _ _ p) _ _ (c .to-phase .ensures))
 
 next-entry-requires : tie.Need-next-entry-requires
@@ -39,8 +40,9 @@ next-entry-requires c κs =
 
 returns-2 : tie.Need-returns-2
 returns-2 c =
+    let a = c .before .before .before .before .before .before .before .before .args in
     let p = c .before .before .before .before .before .before .before .before .pre .0 in
-    stepped-as (validate-passes _ _ (rw (c .before .before .before .before .to-validate .ensures, units _ _ _ _ p) at (sym (c .before .before .holds .ensures) ∙ not-false _ (c .before .if1 .left))))
+    stepped-as (validate-passes _ _ (rw (c .before .before .before .before .to-validate .ensures, units _ _ _ _ p) at (sym (c .before .before .holds .ensures (a .coordinator .now)) ∙ not-false _ (c .before .if1 .left))))
     (wrote-nothing _ _ (records-accepted _ _ _ _ p) (coordinator-accepted _ _ _ _ p) _ _ (rw (units _ _ _ _ p) at (c .next-entry .ensures)))
 
 pub validate-spec : {M : Type 1} → statement M
