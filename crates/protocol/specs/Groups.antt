@@ -20,7 +20,7 @@ use Rattle.model.specs.Groups.{unitFields, unitFor, scope, addScope, scopes, gr
 use Rattle.protocol.specs.Held.{tallied}
 
 -- a unit compares the storage at least
-some-field : (u : AtomicityUnit) → unitFields u ≡ suc (unitFields u - 1)
+pub some-field : (u : AtomicityUnit) → unitFields u ≡ suc (unitFields u - 1)
 unfolding unitFields
 some-field RecordUnit = refl
 some-field Partition = refl

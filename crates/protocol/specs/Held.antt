@@ -2,17 +2,19 @@
 use Prim.Native.Nat.{ℕ, suc, _+_, _-_, _≤_, _<_}
 use mathlib.Core.Path.{_≡_, refl, sym, ap, ap₂, _∙_}
 use mathlib.Core.Bool.{Bool, true, false, _||_, not, cond}
-use mathlib.Core.List.{List, [], _∷_}
+use mathlib.Core.List.{List, [], _∷_, map}
 use native.Mathlib.Omega.{arith}
 use native.Mathlib.Numerals.{add-one}
-use lib.ListN.{length, take, drop, getD, length-map, length-take, drop-of-length-le}
-use lib.Seq.{drop-cons, getD-take}
+use lib.ListN.{length, take, drop, getD, length-map, length-take, drop-of-length-le, List·getD-map}
+use lib.Seq.{drop-cons, getD-take, length-take-le}
 use lib.Dec.{ltb}
 use mir.Val.{Val}
 use denote.Laws.{Is}
 use denote.Struct.Declared.{row}
 use borrow.Author.Tests.{lt-ltb}
 use Rattle.lists.specs.Each.{all, any, filter}
+use Rattle.lists.specs.All.{getD-any}
+use Rattle.lists.specs.Tests.{choose-by}
 use Rattle.types.proofs.Transaction.{the-type}
 use Rattle.types.specs.declared.Entry.{Entry}
 use Rattle.types.specs.declared.Found.{Found}
@@ -35,6 +37,23 @@ entryAt t i = getD (t .entries) i noEntry
 abbrev pub after : Transaction → ℕ → List Entry
 after t i = drop (i + 1) (held t)
 
+-- As many are in use as the count says, each at its place.
+
+pub has-room : (t : Transaction) {vs : List Val} → Is (row the-type) t vs → t .count ≤ 8 → t .count ≤ length (t .entries)
+has-room t p l = let n = eight t p in omega arith
+
+module _ (t : Transaction) (room : t .count ≤ length (t .entries)) {A : Type 0} (f : Entry → A) where
+  pub length-mapped : length (map f (held t)) ≡ t .count
+  unfolding held
+  length-mapped = length-map (held t) f ∙ length-take-le (t .count) (t .entries) room
+
+  pub mapped-at : (i : ℕ) (d : A) → i < t .count → getD (map f (held t)) i d ≡ f (entryAt t i)
+  unfolding held
+  mapped-at i d l =
+      let n = length-mapped in
+      getD-any (map f (held t)) i d (f noEntry) (omega arith)
+      ∙ (List·getD-map f (held t) i noEntry ∙ ap f (getD-take (t .count) (t .entries) i noEntry l))
+
 -- f of the entries from place i on is what was to be computed, w
 pub record PassedTo {A : Type 0} (t : Transaction) (f : List Entry → A) (w : A) (i : ℕ) : Type 0 where
   pub place : i ≤ t .count
@@ -43,7 +62,7 @@ pub record PassedTo {A : Type 0} (t : Transaction) (f : List Entry → A) (w : A
 
 module _ {A : Type 0} (t : Transaction) (f : List Entry → A) where
   pub pass-from : (i : ℕ) {vs : List Val} → Is (row the-type) t vs → t .count ≤ 8 → i ≤ t .count → PassedTo t f (f (drop i (held t))) i
-  pass-from i p l m = let n = eight t p in record { place = m; room = omega arith; rest = refl }
+  pass-from i p l m = record { place = m; room = has-room t p l; rest = refl }
 
   pub pass-first : {vs : List Val} → Is (row the-type) t vs → t .count ≤ 8 → PassedTo t f (f (held t)) 0
   pass-first p l = pass-from 0 p l (omega arith)
@@ -123,6 +142,15 @@ unfoldable pub tallied : (Entry → List Entry → Bool) → List Entry → ℕ
 tallied q [] = 0
 tallied q (e ∷ es) = cond (q e es) (suc (tallied q es)) (tallied q es)
 
+-- one turn of a loop that counts: n so far and those still to come, of which r come after this one
+pub one-counted : (b : Bool) (n m r : ℕ) → m ≡ cond b (n + 1) n → n + cond b (suc r) r ≡ m + r
+one-counted true n m r e = omega arith
+one-counted false n m r e = omega arith
+
+pub one-few : (b : Bool) (n m i : ℕ) → n ≤ i → m ≡ cond b (n + 1) n → m ≤ i + 1
+one-few true n m i l e = omega arith
+one-few false n m i l e = omega arith
+
 -- How many entries pass? n of those before place i did.
 pub record TalliedTo (t : Transaction) (q : Entry → List Entry → Bool) (w : ℕ) (n i : ℕ) : Type 0 where
   pub few : n ≤ i
@@ -136,21 +164,19 @@ module _ (t : Transaction) (q : Entry → List Entry → Bool) where
 
   pub tally-next : (w n i m : ℕ) → TalliedTo t q w n i → i < t .count → m ≡ cond (q (entryAt t i) (after t i)) (n + 1) n → TalliedTo t q w m (i + 1)
   unfolding tallied
-  tally-next w n i m p l e = go (q (entryAt t i) (after t i)) refl
-    where
-      go : (b : Bool) → q (entryAt t i) (after t i) ≡ b → TalliedTo t q w m (i + 1)
-      go true h =
-          let f : m ≡ n + 1 = rw h at e in
-          record {
-            few = omega (arith, p .few);
-            passed = pass-next t (λ (es : List Entry). n + tallied q es) (λ (es : List Entry). m + tallied q es) w i l (p .passed) (rw h (omega arith));
-          }
-      go false h =
-          let f : m ≡ n = rw h at e in
-          record {
-            few = omega (arith, p .few);
-            passed = pass-next t (λ (es : List Entry). n + tallied q es) (λ (es : List Entry). m + tallied q es) w i l (p .passed) (rw h (omega arith));
-          }
+  tally-next w n i m p l e =
+      let b = q (entryAt t i) (after t i) in
+      record {
+        few = one-few b n m i (p .few) e;
+        passed = pass-next t (λ (es : List Entry). n + tallied q es) (λ (es : List Entry). m + tallied q es) w i l (p .passed) (one-counted b n m (tallied q (after t i)) e);
+      }
+
+  pub tallied-few : (es : List Entry) → tallied q es ≤ length es
+  unfolding tallied
+  tallied-few [] = omega arith
+  tallied-few (e ∷ es) =
+      let l = tallied-few es in
+      choose-by (λ (n : ℕ). n ≤ suc (length es)) (q e es) (λ h. omega (arith, l)) (λ h. omega (arith, l))
 
   pub tally-last : (w n i : ℕ) → TalliedTo t q w n i → t .count ≤ i → n ≡ w
   unfolding tallied

@@ -1,10 +1,10 @@
--- The first n of five numbers compared, one after another: by the cases of n.
-use Prim.Native.Nat.{ℕ, zero, suc}
+-- The first n of five numbers compared, one after another: by the cases of n. The five with which a list begins.
+use Prim.Native.Nat.{ℕ, zero, suc, _≤_}
 use mathlib.Core.Path.{_≡_, refl, sym, ap, _∙_}
 use mathlib.Core.Bool.{Bool, _&&_, _||_, and-true, and-false, or-false}
-use mathlib.Core.List.{[], _∷_}
+use mathlib.Core.List.{List, [], _∷_}
 use native.Mathlib.Omega.{arith}
-use lib.ListN.{take}
+use lib.ListN.{length, take, getD, set}
 use lib.Seq.{take-nil}
 use lib.Dec.{eqb, ltb}
 use borrow.Author.Tests.{lt-ltb, le-ltb}
@@ -36,3 +36,21 @@ module _ (a b c d e a′ b′ c′ d′ e′ : ℕ) where
       rw (lt-ltb 0 m (omega arith), lt-ltb 1 m (omega arith), lt-ltb 2 m (omega arith), lt-ltb 3 m (omega arith), lt-ltb 4 m (omega arith), take-nil n)
       (ap (λ (x : Bool). ltb a a′ || eqb a a′ && (ltb b b′ || eqb b b′ && (ltb c c′ || eqb c c′ && (ltb d d′ || eqb d d′ && x))))
       (sym (ap (λ (x : Bool). ltb e e′ || x) (and-false (eqb e e′)) ∙ or-false (ltb e e′))))
+
+pub first-five : (s : List ℕ) → 5 ≤ length s → take 5 s ≡ getD s 0 0 ∷ getD s 1 0 ∷ getD s 2 0 ∷ getD s 3 0 ∷ getD s 4 0 ∷ []
+first-five [] l = absurd (omega arith)
+first-five (a ∷ []) l = absurd (omega arith)
+first-five (a ∷ b ∷ []) l = absurd (omega arith)
+first-five (a ∷ b ∷ c ∷ []) l = absurd (omega arith)
+first-five (a ∷ b ∷ c ∷ d ∷ []) l = absurd (omega arith)
+first-five (a ∷ b ∷ c ∷ d ∷ e ∷ s) l = refl
+
+-- five numbers set one after another
+pub five-set : (s : List ℕ) (a b c d e : ℕ) → length s ≡ 5 → set (set (set (set (set s 0 a) 1 b) 2 c) 3 d) 4 e ≡ a ∷ b ∷ c ∷ d ∷ e ∷ []
+five-set [] a b c d e l = absurd (omega arith)
+five-set (p ∷ []) a b c d e l = absurd (omega arith)
+five-set (p ∷ q ∷ []) a b c d e l = absurd (omega arith)
+five-set (p ∷ q ∷ r ∷ []) a b c d e l = absurd (omega arith)
+five-set (p ∷ q ∷ r ∷ s ∷ []) a b c d e l = absurd (omega arith)
+five-set (p ∷ q ∷ r ∷ s ∷ t ∷ []) a b c d e l = refl
+five-set (p ∷ q ∷ r ∷ s ∷ t ∷ u ∷ v) a b c d e l = absurd (omega arith)

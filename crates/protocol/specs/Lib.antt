@@ -4,5 +4,7 @@ pub mod Keys
 pub mod Phases
 pub mod Held
 pub mod Units
+pub mod Scopes
 pub mod Groups
+pub mod GroupsIn
 pub mod Formed

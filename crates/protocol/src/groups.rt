@@ -1,59 +1,76 @@
 // Atomicity units and the groups of a transaction's puts. The units are the nine letters of the coordinator's head.
 ghost use mathlib.Core.Path.{_≡_};
 ghost use mathlib.Core.List.{List};
-ghost use Prim.Native.Nat.{ℕ, _≤_, _<_};
+ghost use Prim.Native.Nat.{ℕ, _*_, _≤_, _<_};
+ghost use lib.ListN.{length};
 ghost use Rattle.lists.specs.Bytes.{eqList};
 ghost use Rattle.lists.specs.Each.{any, less};
 ghost use Rattle.model.specs.Transactions.{puts};
-ghost use Rattle.model.specs.Groups.{unitFields, unitFor, scope, groupCount, groupPlace};
+ghost use Rattle.model.specs.Groups.{scope, groupCount, groupPlace};
 ghost use Rattle.protocol.specs.Held.{entryAt, after};
-ghost use Rattle.protocol.specs.Units.{unitIn, unitsIn};
+ghost use Rattle.protocol.specs.Units.{unitsIn};
 ghost use Rattle.protocol.specs.Groups.{sameScope, lastOfScope, countsAs, inGroup};
+ghost use Rattle.protocol.specs.GroupsIn.{foundPlaces, groupsIn};
+ghost use Rattle.protocol.specs.Scopes.{lastsOf, countLasts};
 use crate::keys;
+use crate::scopes;
 use crate::transactions;
 use types::Entry;
 use types::Key;
 use types::Transaction;
 
-// How many fields of a key the unit of a letter compares.
-fn unit_fields(letter: u8) -> u32
-    ensures { λ r. ⌜ r ≡ unitFields (unitIn letter) ⌝ }
+// How many groups the puts make, and of each entry the place of its group: 8, which is no group's place, of an entry without put and behind the last entry.
+pub struct Groups {
+    pub count: u32,
+    pub of: [u32; 8],
+}
+
+pub const NO_GROUPS: [u32; 8] = [8, 8, 8, 8, 8, 8, 8, 8];
+
+// The groups of puts that are given by numbers.
+fn groups_by(keys: &[u32], fields: &[u32]) -> Groups
+    requires { ⌜ (length (now fields) ≤ 8) × (length (now keys) ≡ length (now fields) * 5) ⌝ }
+    ensures count { λ r. ⌜ r .count ≡ countLasts (lastsOf (now (keys .entry)) (now (fields .entry))) ⌝ }
+    ensures places { λ r. ⌜ r .of ≡ foundPlaces (now (keys .entry)) (now (fields .entry)) ⌝ }
 {
-    match letter {
-        b'R' => 5,
-        b'P' => 4,
-        b'T' => 3,
-        b'N' => 2,
-        _ => 1,
+    let n = fields.len();
+    let mut lasts = [0u32; 8];
+    scopes::fill_lasts(keys, fields, &mut lasts[0..n]);
+    let mut of = NO_GROUPS;
+    scopes::fill_places(keys, fields, &lasts[0..n], &mut of[0..n]);
+    Groups {
+        count: scopes::counted(&lasts[0..n]),
+        of,
     }
 }
 
-// How many fields the unit of a storage compares; one without a letter counts as R.
-fn scope_fields(letters: &[u8], storage: u32) -> u32
-    ensures { λ r. ⌜ r ≡ unitFields (unitFor storage (unitsIn (now (letters .entry)))) ⌝ }
+// The groups of a transaction's puts, found once for all that a call does with them.
+pub fn groups_of(letters: &[u8], t: Transaction) -> Groups
+    requires { ⌜ t .count ≤ 8 ⌝ }
+    ensures count { λ r. ⌜ r .count ≡ groupCount (unitsIn (now (letters .entry))) (puts t) ⌝ }
+    ensures places { λ r. ⌜ r .of ≡ groupsIn (unitsIn (now (letters .entry))) t ⌝ }
 {
-    if storage < 1 {
-        return 5;
-    }
-    let i = (storage - 1) as usize;
-    if letters.len() <= i {
-        return 5;
-    }
-    unit_fields(letters[i])
+    let n = t.count as usize;
+    let end = n * 5;
+    let mut keys = [0u32; 40];
+    scopes::fill_keys(t, &mut keys[0..end]);
+    let mut fields = [0u32; 8];
+    scopes::fill_fields(letters, t, &mut fields[0..n]);
+    groups_by(&keys[0..end], &fields[0..n])
 }
 
 // Two keys are in one scope. Where the storages differ they decide, so the unit of one of them is enough.
 pub fn same_scope(letters: &[u8], a: Key, b: Key) -> bool
     ensures { λ r. ⌜ r ≡ eqList (scope (unitsIn (now (letters .entry))) a) (scope (unitsIn (now (letters .entry))) b) ⌝ }
 {
-    keys::same_fields(scope_fields(letters, a.storage), a, b)
+    keys::same_fields(scopes::scope_fields(letters, a.storage), a, b)
 }
 
 // The scope of a comes before that of b.
 pub fn scope_less(letters: &[u8], a: Key, b: Key) -> bool
     ensures { λ r. ⌜ r ≡ less (scope (unitsIn (now (letters .entry))) a) (scope (unitsIn (now (letters .entry))) b) ⌝ }
 {
-    keys::fields_less(scope_fields(letters, a.storage), a, b)
+    keys::fields_less(scopes::scope_fields(letters, a.storage), a, b)
 }
 
 // A put after entry i has its scope. Entries are read in place: handing the transaction on for each would copy it whole.

@@ -2,6 +2,7 @@
 pub mod groups;
 pub mod images;
 mod keys;
+mod scopes;
 pub mod stages;
 pub mod transactions;
 pub mod well_formed;

@@ -2,8 +2,8 @@
 use mathlib.Core.Path.{_∙_}
 use borrow.Author.Needs.{needs}
 use Rattle.protocol.specs.Units.{unit-none, unit-past, unit-at}
-use Rattle.protocol.proofs.groups.scope_fields.Statement.{statement}
-use Rattle.protocol.proofs.groups.scope_fields.Tie as tie
+use Rattle.protocol.proofs.scopes.scope_fields.Statement.{statement}
+use Rattle.protocol.proofs.scopes.scope_fields.Tie as tie
 
 returns : tie.Need-returns
 returns c = unit-none _ _ (c .if1 .taken)

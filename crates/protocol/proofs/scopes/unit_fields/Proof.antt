@@ -1,8 +1,8 @@
 -- By the letter: R, P, T, N, or any other.
 use Rattle.model.specs.Groups.{unitFields}
 use Rattle.protocol.specs.Units.{unitIn, unit-else}
-use Rattle.protocol.proofs.groups.unit_fields.Statement.{statement}
-use Rattle.protocol.proofs.groups.unit_fields.Tie as tie
+use Rattle.protocol.proofs.scopes.unit_fields.Statement.{statement}
+use Rattle.protocol.proofs.scopes.unit_fields.Tie as tie
 
 returns : tie.Need-returns
 unfolding unitFields unitIn

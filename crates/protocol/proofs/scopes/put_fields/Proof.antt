@@ -1,0 +1,14 @@
+-- By whether there is a put.
+use borrow.Author.Tests.{eq-eqb, ne-eqb}
+use borrow.Author.Needs.{needs}
+use Rattle.protocol.proofs.scopes.put_fields.Statement.{statement}
+use Rattle.protocol.proofs.scopes.put_fields.Tie as tie
+
+returns : tie.Need-returns
+returns c = rw (ne-eqb _ _ (c .if1 .taken))
+
+returns-2 : tie.Need-returns-2
+returns-2 c = rw (eq-eqb _ _ (c .before .if1 .left)) (c .scope-fields .ensures)
+
+pub put-fields-spec : {M : Type 1} → statement M
+put-fields-spec = tie.close (tie.spec returns (λ c κs. search needs) returns-2)
