@@ -19,7 +19,15 @@ pub fn admit(t: Transaction, records: &[u8], coordinator: &[u8]) -> Located
     ensures { λ r. ⌜ r ≡ locatedIf (wellFormed (sheetsOf (now (records .entry)) (now (coordinator .entry))) t) (sheet.records (now (records .entry))) t ⌝ }
 {
     let issued = codec::coordinator::issued(coordinator);
-    if !protocol::well_formed::formed(&coordinator[5..14], issued, t) {
+    if !protocol::well_formed::head_formed(issued, t) {
+        return Located {
+            all: false,
+            places: lines::NO_PLACES,
+        };
+    }
+    let letters = &coordinator[5..14];
+    let groups = protocol::groups::groups_of(letters, t);
+    if !protocol::well_formed::formed(letters, groups.count, issued, t) {
         return Located {
             all: false,
             places: lines::NO_PLACES,

@@ -3,7 +3,7 @@ use Prim.Native.Nat.{ℕ, suc, _-_}
 use mathlib.Core.Path.{_≡_, refl, sym, ap, _∙_}
 use mathlib.Core.Bool.{Bool, true, false, _&&_, _||_, not, cond, or-false, and-true}
 use mathlib.Core.List.{List, [], _∷_}
-use lib.ListN.{length, take}
+use lib.ListN.{take}
 use lib.Dec.{eqb, ltb}
 use borrow.Author.Tests.{eqb-true}
 use Rattle.lists.specs.Bytes.{eqList, eqList-true}
@@ -111,11 +111,6 @@ module _ (us : List AtomicityUnit) where
   groups-tallied p [] = refl
   groups-tallied p (e ∷ es) =
       count-more p (isPut e) (any (sameScope us e) es) (tallied (countsAs p) es) e (filter isPut es) (any-scopes (scope us (e .key)) es) (groups-tallied p es)
-
-pub count-all {ℓ} : {A : Type ℓ} (xs : List A) → count (λ (x : A). true) xs ≡ length xs
-unfolding count
-count-all [] = refl
-count-all (x ∷ xs) = ap suc (count-all xs)
 
 -- The group at a place, among all the entries in use.
 

@@ -8,6 +8,7 @@ use lib.ListN.{length, take, drop, getD, length-take, List·getD-append}
 use lib.Dec.{eqb, ltb}
 use borrow.Author.Tests.{ne-eqb, lt-ltb, le-ltb}
 use Rattle.lists.specs.Each.{any, joined, less}
+use Rattle.lists.specs.Chosen.{count-all}
 use Rattle.lists.specs.Tests.{choose-by}
 use Rattle.types.specs.declared.AtomicityUnit.{AtomicityUnit}
 use Rattle.types.specs.declared.Entry.{Entry}
@@ -17,7 +18,7 @@ use Rattle.model.specs.Records.{keyNumbers}
 use Rattle.model.specs.Transactions.{isPut, held, puts}
 use Rattle.model.specs.Groups.{unitFields, unitFor, scope, groupCount, groupPlace}
 use Rattle.protocol.specs.Held.{entryAt, tallied, tallied-few, length-mapped, mapped-at}
-use Rattle.protocol.specs.Groups.{some-field, scope-same, scope-less, sameScope, lastOfScope, countsAs, groups-tallied, count-all, inGroup}
+use Rattle.protocol.specs.Groups.{some-field, scope-same, scope-less, sameScope, lastOfScope, countsAs, groups-tallied, inGroup}
 use Rattle.protocol.specs.Scopes.{putFields, keyRows, sameFirst, before, anyRow, countRows, eachRow, lastFields, lastsOf, countLasts, placing, placesOf}
 
 -- the place of an entry's group; 8, which is no group's place, without a put

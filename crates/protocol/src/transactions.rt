@@ -45,7 +45,7 @@ pub fn reading(e: Entry) -> Reading
     })
 }
 
-// Entry i, in a function of its own so that only here an array of structs is read.
+// Entry i.
 pub fn entry_at(t: Transaction, i: usize) -> Entry
     requires { ⌜ i < 8 ⌝ }
     ensures { λ e. ⌜ e ≡ entryAt t i ⌝ }
@@ -60,7 +60,7 @@ pub fn held_at(k: Key, t: Transaction) -> Found
 {
     let n = t.count as usize;
     for i in 0..n {
-        let e = entry_at(t, i);
+        let e = t.entries[i];
         if keys::same_key(e.key, k) {
             return Found::At(i);
         }
@@ -111,7 +111,7 @@ pub fn has_puts(t: Transaction) -> bool
 {
     let n = t.count as usize;
     for i in 0..n {
-        let e = entry_at(t, i);
+        let e = t.entries[i];
         if e.wrote == 1 {
             return true;
         }
@@ -120,10 +120,10 @@ pub fn has_puts(t: Transaction) -> bool
 }
 
 // An entry to be validated: one without a put, if the transaction is serializable, whatever the letters.
-fn must_validate(letters: &[u8], t: Transaction, e: Entry) -> bool
-    ensures { λ r. ⌜ r ≡ mustValidate (unitsIn (now (letters .entry))) t e ⌝ }
+fn must_validate(letters: &[u8], serializable: u32, e: Entry) -> bool
+    ensures { λ r. ⌜ ((t : Transaction) → t .serializable ≡ serializable → r ≡ mustValidate (unitsIn (now (letters .entry))) t e) ⌝ }
 {
-    (t.serializable == 1) & !(e.wrote == 1)
+    (serializable == 1) & !(e.wrote == 1)
 }
 
 // One more, or not.
@@ -145,8 +145,8 @@ pub fn validate_count(letters: &[u8], t: Transaction) -> u32
     let n = t.count as usize;
     let mut found = 0;
     for i in 0..n {
-        let e = entry_at(t, i);
-        found = tally(found, must_validate(letters, t, e));
+        let e = t.entries[i];
+        found = tally(found, must_validate(letters, t.serializable, e));
     }
     found
 }
@@ -167,8 +167,8 @@ pub fn to_validate(letters: &[u8], t: Transaction, place: u32) -> Entry
     let n = t.count as usize;
     let mut ahead = place;
     for i in 0..n {
-        let e = entry_at(t, i);
-        if must_validate(letters, t, e) {
+        let e = t.entries[i];
+        if must_validate(letters, t.serializable, e) {
             if ahead == 0 {
                 return e;
             }

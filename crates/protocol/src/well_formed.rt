@@ -1,17 +1,16 @@
 // Well-formed transactions, as far as it can be told from the unit letters and the issued count.
 ghost use mathlib.Core.Path.{_≡_};
-ghost use mathlib.Core.Bool.{_||_};
-ghost use Prim.Native.Nat.{_≤_, _<_};
+ghost use mathlib.Core.Bool.{true, _||_};
+ghost use Prim.Native.Nat.{_≤_};
 ghost use lib.Dec.{leb};
-ghost use Rattle.lists.specs.Each.{all, any};
+ghost use Rattle.lists.specs.Each.{all};
 ghost use Rattle.model.specs.Records.{isZero};
-ghost use Rattle.model.specs.Transactions.{held};
+ghost use Rattle.model.specs.Transactions.{held, puts};
+ghost use Rattle.model.specs.Groups.{groupCount};
 ghost use Rattle.model.specs.WellFormed.{imageInRange, columnsInRange, putFits, entryFormed, distinctKeys, placeFormed, verdictFormed};
 ghost use Rattle.model.specs.WellFormed as model;
-ghost use Rattle.protocol.specs.Held.{entryAt, after};
 ghost use Rattle.protocol.specs.Units.{unitsIn};
-ghost use Rattle.protocol.specs.Formed.{sameKeyAs, headFormed, phaseFormed};
-use crate::groups;
+ghost use Rattle.protocol.specs.Formed.{headFormed, phaseFormed};
 use crate::keys;
 use crate::transactions;
 use types::Columns;
@@ -65,7 +64,7 @@ fn entries_formed(issued: u32, t: Transaction) -> bool
 {
     let n = t.count as usize;
     for i in 0..n {
-        let e = transactions::entry_at(t, i);
+        let e = t.entries[i];
         if !entry_formed(issued, e) {
             return false;
         }
@@ -73,38 +72,27 @@ fn entries_formed(issued: u32, t: Transaction) -> bool
     true
 }
 
-// An entry after entry i has its key.
-fn key_recurs(t: Transaction, i: usize) -> bool
-    requires { ⌜ (t .count ≤ 8) × (i < t .count) ⌝ }
-    ensures { λ r. ⌜ r ≡ any (sameKeyAs (entryAt t i)) (after t i) ⌝ }
-{
-    let n = t.count as usize;
-    let e = transactions::entry_at(t, i);
-    let first = i + 1;
-    for j in first..n {
-        let f = transactions::entry_at(t, j);
-        if keys::same_key(f.key, e.key) {
-            return true;
-        }
-    }
-    false
-}
-
+// No two entries have a key in common. Entries are read in place: handing the transaction on for each would copy it whole.
 fn distinct_keys(t: Transaction) -> bool
     requires { ⌜ t .count ≤ 8 ⌝ }
     ensures { λ r. ⌜ r ≡ distinctKeys (held t) ⌝ }
 {
     let n = t.count as usize;
     for i in 0..n {
-        if key_recurs(t, i) {
-            return false;
+        let e = t.entries[i];
+        let first = i + 1;
+        for j in first..n {
+            let f = t.entries[j];
+            if keys::same_key(f.key, e.key) {
+                return false;
+            }
         }
     }
     true
 }
 
-// Number, whether serializable, and count of entries.
-fn head_formed(issued: u32, t: Transaction) -> bool
+// Number, whether serializable, and count of entries: asked before the entries are looked at, so that any bytes get an answer.
+pub fn head_formed(issued: u32, t: Transaction) -> bool
     ensures { λ r. ⌜ r ≡ headFormed issued t ⌝ }
 {
     (1 <= t.number) & (t.number <= issued) & (t.serializable <= 1) & (t.count <= 8)
@@ -119,19 +107,19 @@ fn phase_formed(t: Transaction) -> bool
 }
 
 // The place is below the number of groups or of entries to validate, else 0.
-fn place_formed(letters: &[u8], t: Transaction) -> bool
-    requires { ⌜ t .count ≤ 8 ⌝ }
+fn place_formed(letters: &[u8], groups: u32, t: Transaction) -> bool
+    requires { ⌜ (t .count ≤ 8) × (groups ≡ groupCount (unitsIn (now letters)) (puts t)) ⌝ }
     ensures { λ r. ⌜ r ≡ placeFormed (unitsIn (now (letters .entry))) t ⌝ }
 {
     let phase = t.phase;
     match phase {
         0 => t.place == 0,
-        1 => t.place < groups::group_count(letters, t),
+        1 => t.place < groups,
         2 => t.place < transactions::validate_count(letters, t),
         3 => t.place == 0,
         4 => t.place == 0,
-        5 => t.place < groups::group_count(letters, t),
-        6 => t.place < groups::group_count(letters, t),
+        5 => t.place < groups,
+        6 => t.place < groups,
         7 => t.place == 0,
         _ => false,
     }
@@ -155,16 +143,15 @@ fn verdict_formed(t: Transaction) -> bool
     }
 }
 
-// Any bytes get an answer: the count is asked before the entries are looked at.
-pub fn formed(letters: &[u8], issued: u32, t: Transaction) -> bool
+// The rest of a transaction whose head is well formed, and whose puts make this many groups.
+pub fn formed(letters: &[u8], groups: u32, issued: u32, t: Transaction) -> bool
+    requires { ⌜ headFormed issued t ≡ true ⌝ }
+    requires { ⌜ groups ≡ groupCount (unitsIn (now letters)) (puts t) ⌝ }
     ensures { λ r. ⌜ r ≡ model.formed (unitsIn (now (letters .entry))) issued t ⌝ }
 {
-    if !head_formed(issued, t) {
-        return false;
-    }
     entries_formed(issued, t)
         & distinct_keys(t)
         & phase_formed(t)
-        & place_formed(letters, t)
+        & place_formed(letters, groups, t)
         & verdict_formed(t)
 }

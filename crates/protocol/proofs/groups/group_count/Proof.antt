@@ -4,11 +4,12 @@ use mathlib.Core.Path.{_∙_, sym}
 use mathlib.Core.Bool.{true, and-true}
 use mathlib.Core.List.{List}
 use borrow.Author.Needs.{needs}
+use Rattle.lists.specs.Chosen.{count-all}
 use Rattle.model.specs.Transactions.{held, puts}
 use Rattle.model.specs.Groups.{groupCount}
 use Rattle.protocol.specs.Held.{TalliedTo, tallied, tally-first, tally-next, tally-last}
 use Rattle.protocol.specs.Units.{unitsIn}
-use Rattle.protocol.specs.Groups.{countsAs, groups-tallied, count-all}
+use Rattle.protocol.specs.Groups.{countsAs, groups-tallied}
 use Rattle.protocol.proofs.groups.group_count.Statement.{statement}
 use Rattle.protocol.proofs.groups.group_count.Tie as tie
 

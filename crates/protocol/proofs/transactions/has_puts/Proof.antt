@@ -16,18 +16,18 @@ abbrev μ-loop : tie.MeasureT-loop
 μ-loop t n i₀ i = n - i
 
 loop-holds : tie.Need-loop-holds Inv-loop μ-loop
-loop-holds c = pass-first _ _ (c .before .good .0) (c .before .pre)
+loop-holds c = pass-first _ _ (c .good .0) (c .pre)
 
 returns : tie.Need-returns Inv-loop μ-loop
 unfolding puts
-returns c = any-met _ _ _ _ (c .before .before .before .before .loop .inv) (c .before .before .before .loop-test .taken) (rw (c .before .before .entry-at .ensures) at (eq-eqb _ _ (c .if1 .taken))) ∙ some-kept isPut (held (c .before .before .before .before .before .before .args .t))
+returns c = any-met _ _ _ _ (c .before .before .before .before .loop .inv) (c .before .before .before .loop-test .taken) (eq-eqb _ _ (c .if1 .taken)) ∙ some-kept isPut (held (c .before .before .before .before .before .args .t1))
 
 loop-again : tie.Need-loop-again Inv-loop μ-loop
-loop-again c = any-next _ _ _ _ (c .before .before .before .before .loop .inv) (c .before .before .before .loop-test .taken) (rw (c .before .before .entry-at .ensures) at (ne-eqb _ _ (c .if1 .left)))
+loop-again c = any-next _ _ _ _ (c .before .before .before .before .loop .inv) (c .before .before .before .loop-test .taken) (ne-eqb _ _ (c .if1 .left))
 
 returns-2 : tie.Need-returns-2 Inv-loop μ-loop
 unfolding puts
-returns-2 c = any-last _ _ _ _ (c .before .loop .inv) (c .loop-test .left) ∙ some-kept isPut (held (c .before .before .before .args .t))
+returns-2 c = any-last _ _ _ _ (c .before .loop .inv) (c .loop-test .left) ∙ some-kept isPut (held (c .before .before .args .t1))
 
 pub has-puts-spec : {M : Type 1} → statement M
 has-puts-spec =
@@ -37,7 +37,8 @@ has-puts-spec =
     μ-loop
     (λ c. search needs)
     loop-holds
-    (λ c κs. search needs)
+    (λ c. search needs)
+    (λ c. search needs)
     returns
     (λ c. search needs)
     (λ c. search needs)

@@ -18,13 +18,13 @@ abbrev μ-loop : tie.MeasureT-loop
 
 loop-holds : tie.Need-loop-holds Inv-loop μ-loop
 unfolding heldAt
-loop-holds c = pass-first _ _ (c .before .good .1 .0) (c .before .pre)
+loop-holds c = pass-first _ _ (c .good .1 .0) (c .pre)
 
 returns : tie.Need-returns Inv-loop μ-loop
-returns c = first-met _ _ _ _ (c .before .before .before .before .loop .inv) (c .before .before .before .loop-test .taken) (rw (c .before .before .entry-at .ensures) at (sym (c .before .same-key .ensures) ∙ c .if1 .taken))
+returns c = first-met _ _ _ _ (c .before .before .before .before .loop .inv) (c .before .before .before .loop-test .taken) (sym (c .before .same-key .ensures) ∙ c .if1 .taken)
 
 loop-again : tie.Need-loop-again Inv-loop μ-loop
-loop-again c = first-next _ _ _ _ (c .before .before .before .before .loop .inv) (c .before .before .before .loop-test .taken) (rw (c .before .before .entry-at .ensures) at (sym (c .before .same-key .ensures) ∙ c .if1 .left))
+loop-again c = first-next _ _ _ _ (c .before .before .before .before .loop .inv) (c .before .before .before .loop-test .taken) (sym (c .before .same-key .ensures) ∙ c .if1 .left)
 
 returns-2 : tie.Need-returns-2 Inv-loop μ-loop
 returns-2 c = first-last _ _ _ _ (c .before .loop .inv) (c .loop-test .left)
@@ -37,7 +37,8 @@ held-at-spec =
     μ-loop
     (λ c. search needs)
     loop-holds
-    (λ c κs. search needs)
+    (λ c. search needs)
+    (λ c. search needs)
     (λ c κs. search needs)
     returns
     (λ c. search needs)

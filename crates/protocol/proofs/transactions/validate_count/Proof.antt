@@ -1,6 +1,6 @@
 -- As many of the entries before i are to be validated as were found.
 use Prim.Native.Nat.{_-_}
-use mathlib.Core.Path.{_∙_}
+use mathlib.Core.Path.{refl, _∙_}
 use mathlib.Core.List.{List}
 use borrow.Author.Needs.{needs}
 use Rattle.types.specs.declared.Entry.{Entry}
@@ -17,14 +17,14 @@ abbrev μ-loop : tie.MeasureT-loop
 μ-loop letters t n found₀ i₀ found i = n - i
 
 loop-holds : tie.Need-loop-holds Inv-loop μ-loop
-loop-holds c = tally-first _ _ (c .before .before .good .1 .0) (c .before .before .pre)
+loop-holds c = tally-first _ _ (c .before .good .1 .0) (c .before .pre)
 
 loop-again : tie.Need-loop-again Inv-loop μ-loop
-loop-again c = tally-next _ _ _ _ _ _ (c .before .before .before .before .loop .inv) (c .before .before .before .loop-test .taken) (rw (c .before .must-validate .ensures, c .before .before .entry-at .ensures) at (c .tally .ensures))
+loop-again c = tally-next _ _ _ _ _ _ (c .before .before .before .before .loop .inv) (c .before .before .before .loop-test .taken) (rw (c .before .must-validate .ensures (c .before .before .before .before .before .before .args .t2) refl) at (c .tally .ensures))
 
 returns : tie.Need-returns Inv-loop μ-loop
 unfolding toValidate
-returns c = tally-last _ _ _ _ _ (c .before .loop .inv) (c .loop-test .left) ∙ tallied-kept _ (held (c .before .before .before .before .args .t))
+returns c = tally-last _ _ _ _ _ (c .before .loop .inv) (c .loop-test .left) ∙ tallied-kept _ (held (c .before .before .before .args .t2))
 
 pub validate-count-spec : {M : Type 1} → statement M
 validate-count-spec =
@@ -34,7 +34,8 @@ validate-count-spec =
     μ-loop
     (λ c. search needs)
     loop-holds
-    (λ c κs. search needs)
+    (λ c. search needs)
+    (λ c. search needs)
     (λ c κs. search needs)
     (λ c κs. search needs)
     (λ c. search needs)

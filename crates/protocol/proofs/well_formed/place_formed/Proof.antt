@@ -11,7 +11,7 @@ returns c = rw (c .before .match .keys1)
 
 returns-2 : tie.Need-returns-2
 unfolding placeFormed
-returns-2 c = rw (c .before .group-count .ensures, c .before .before .match .keys2)
+returns-2 c = rw (c .before .before .before .pre .1, c .before .match .keys2)
 
 returns-3 : tie.Need-returns-3
 unfolding placeFormed
@@ -27,11 +27,11 @@ returns-5 c = rw (c .before .match .keys5)
 
 returns-6 : tie.Need-returns-6
 unfolding placeFormed
-returns-6 c = rw (c .before .group-count2 .ensures, c .before .before .match .keys6)
+returns-6 c = rw (c .before .before .before .pre .1, c .before .match .keys6)
 
 returns-7 : tie.Need-returns-7
 unfolding placeFormed
-returns-7 c = rw (c .before .group-count3 .ensures, c .before .before .match .keys7)
+returns-7 c = rw (c .before .before .before .pre .1, c .before .match .keys7)
 
 returns-8 : tie.Need-returns-8
 unfolding placeFormed
@@ -45,9 +45,6 @@ pub place-formed-spec : {M : Type 1} → statement M
 place-formed-spec =
     tie.close
     (tie.spec
-    (λ c κs. search needs)
-    (λ c κs. search needs)
-    (λ c κs. search needs)
     (λ c κs. search needs)
     returns
     returns-2
