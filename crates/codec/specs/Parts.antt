@@ -6,21 +6,26 @@ use mathlib.Core.List.{List, _++_}
 use native.Mathlib.Omega.{arith}
 use lib.ListN.{length, take, drop, getD, length-take, length-drop, List·getD-eq-default}
 use lib.Seq.{take-all}
-use lib.Dec.{leb}
-use borrow.Author.Tests.{leb-true, leb-false, le-leb}
+use lib.Dec.{leb, ltb}
+use borrow.Author.Tests.{leb-true, leb-false, le-leb, lt-ltb}
+use Rattle.lists.specs.Bytes.{eqList}
 use Rattle.lists.specs.Pieces.{over, over-part, over-zero}
+use Rattle.types.specs.declared.Record.{Record}
 use Rattle.types.specs.declared.State.the-variants.{Prepared}
-use Rattle.types.specs.declared.Decision.the-variants.{Undecided, Aborted}
+use Rattle.types.specs.declared.Decision.the-variants.{Undecided, Committed, Aborted}
+use Rattle.types.specs.declared.Kind.the-variants.{DecisionWord}
 use Rattle.lists.specs.Tests.{and-snd, tests}
 use Rattle.decimal.specs.Field.{number, figure, fieldText}
 use Rattle.decimal.specs.Laws.{length-fieldText}
 use Rattle.decimal.specs.Word.{putWord, put-fits}
-use Rattle.model.specs.Layouts.{recordLayout, lineLayout, recordBytes}
-use Rattle.model.specs.Lines.{rowOf}
-use Rattle.model.specs.Records.{stateOf, recordOf, recordIn, records, noRecord}
-use Rattle.model.specs.Coordinator.{decisionOf, decisionIn, decision, coordinatorOf}
-use Rattle.sheet_laws.specs.Places.{record-at}
-use Rattle.sheet_laws.specs.Decisions.{issued-at, decision-at, length-decisions}
+use Rattle.model.specs.Layouts.{recordLayout, wordAt, recordBytes, coordinatorBytes}
+use Rattle.model.specs.Lines.{rowOf, lineSet}
+use Rattle.model.specs.Records.{stateOf, recordOf, recordIn, recordText, records, recordsAccepted, noRecord}
+use Rattle.model.specs.Coordinator.{decisionNumber, decision, coordinatorOf}
+use Rattle.sheet_laws.specs.Records.{Readable, readable}
+use Rattle.sheet_laws.specs.Places.{changedAt, record-at, line-set}
+use Rattle.sheet_laws.specs.Decisions.{issued-at, length-decisions}
+use Rattle.sheet_laws.specs.Singles.{decisionWord, decision-told}
 
 -- the last of the three states
 pub state-else : (n : ℕ) → (n ≡ 0 → ⊥) → (n ≡ 1 → ⊥) → Prepared ≡ stateOf n
@@ -40,6 +45,26 @@ record-part s row i l e =
 pub room-part : (b : Bool) (w a : ℕ) (s t u : List ℕ) → b ≡ true → length t ≡ a + w - a → t ≡ u → take a s ++ (t ++ drop (a + w - a) (drop a s)) ≡ cond b (over s a u) s
 room-part b w a s t u h e q = rw h (over-part s t a (a + w) e ∙ ap (over s a) q)
 
+-- The line at place i of an accepted record sheet, lent as a part: it can be read, and comes back as the text of its record changed.
+module _ (s : List ℕ) (i : ℕ) (place : i < length s / recordBytes) where
+  part-line : take (i * recordBytes + recordBytes - i * recordBytes) (drop (i * recordBytes) s) ≡ take recordBytes (drop (i * recordBytes) s)
+  part-line =
+      let w : i * recordBytes + recordBytes - i * recordBytes ≡ recordBytes = omega arith in
+      ap (λ (n : ℕ). take n (drop (i * recordBytes) s)) w
+
+  pub part-readable : recordsAccepted s ≡ true → Readable (take (i * recordBytes + recordBytes - i * recordBytes) (drop (i * recordBytes) s))
+  part-readable a = readable _ (ap (lineSet recordLayout) part-line ∙ line-set s i a place)
+
+  pub part-changed : (f : Record → Record) (t : List ℕ)
+      → length t ≡ length (take (i * recordBytes + recordBytes - i * recordBytes) (drop (i * recordBytes) s))
+      → t ≡ recordText (f (recordIn (take (i * recordBytes + recordBytes - i * recordBytes) (drop (i * recordBytes) s))))
+      → take (i * recordBytes) s ++ (t ++ drop (i * recordBytes + recordBytes - i * recordBytes) (drop (i * recordBytes) s))
+      ≡ changedAt f i s
+  part-changed f t n e =
+      let k : length t ≡ i * recordBytes + recordBytes - i * recordBytes = n ∙ simp (length-take, length-drop) (omega arith) in
+      room-part (ltb i (length s / recordBytes)) recordBytes (i * recordBytes) s t _ (lt-ltb i (length s / recordBytes) place) k
+      (e ∙ ap (λ (r : Record). recordText (f r)) (ap recordIn part-line ∙ sym (record-at s i place)))
+
 -- a text over a part of its length
 pub text-over : (s t u : List ℕ) (a : ℕ) → a + length t ≤ length s → u ≡ putWord (take (a + length t - a) (drop a s)) t → take a s ++ (u ++ drop (a + length t - a) (drop a s)) ≡ over s a t
 text-over s t u a l h =
@@ -58,42 +83,37 @@ bytes-copied z s u w f p n e l h =
 
 -- A number that has a line in a coordinator sheet.
 abbrev pub hasLine : ℕ → List ℕ → Bool
-hasLine n s = leb 1 n && leb n (length (drop 15 s) / 15)
+hasLine n s = leb 1 n && leb n (length (drop coordinatorBytes s) / coordinatorBytes)
 
 -- the line of a number is within the sheet
-pub line-ends : (n : ℕ) (s : List ℕ) → hasLine n s ≡ true → n * 15 + 15 ≤ length s
+pub line-ends : (n : ℕ) (s : List ℕ) → hasLine n s ≡ true → n * coordinatorBytes + coordinatorBytes ≤ length s
 line-ends n s h =
     let l : 1 ≤ n = search tests in
-    let m : n ≤ length (drop 15 s) / 15 = search tests in
-    omega (arith, length-drop 15 s)
-
--- the last of the three decisions
-pub decision-else : (n : ℕ) → (n ≡ 0 → ⊥) → (n ≡ 1 → ⊥) → Aborted ≡ decisionOf n
-unfolding decisionOf
-decision-else zero z o = absurd (z refl)
-decision-else (suc zero) z o = absurd (o refl)
-decision-else (suc (suc n)) z o = refl
+    let m : n ≤ length (drop coordinatorBytes s) / coordinatorBytes = search tests in
+    omega (arith, length-drop coordinatorBytes s)
 
 -- fewer than four bytes are all that the count has
 pub issued-short : (s : List ℕ) → length s < 4 → number (figure 0 999 s) ≡ coordinatorOf s .issued
 issued-short s l = ap (λ (t : List ℕ). number (figure 0 999 t)) (sym (take-all 4 s (omega arith))) ∙ issued-at s
 
--- the row read from the line of a number is that of its decision
-pub decision-part : (s row : List ℕ) (n : ℕ) → hasLine n s ≡ true → row ≡ rowOf lineLayout (take (n * 15 + 15 - n * 15) (drop (n * 15) s)) → decisionOf (getD row 1 0) ≡ decision n (coordinatorOf s)
-unfolding decisionIn
-decision-part s row zero h e = absurd (true≢false (sym h))
-decision-part s row (suc i) h e =
-    let w : suc i * 15 + 15 - suc i * 15 ≡ 15 = omega arith in
-    let l : suc i ≤ length (drop 15 s) / 15 = leb-true (suc i) (length (drop 15 s) / 15) (and-snd (leb 1 (suc i)) (leb (suc i) (length (drop 15 s) / 15)) h) in
-    ap (λ (v : List ℕ). decisionOf (getD v 1 0)) (rw w at e) ∙ sym (decision-at s i l)
+-- the decision of a number that has a line, by the words that may stand there
+pub decision-part : (s : List ℕ) (n : ℕ) → hasLine n s ≡ true
+    → decision n (coordinatorOf s)
+    ≡ cond (eqList (decisionWord n s) (wordAt DecisionWord (decisionNumber Committed))) Committed
+    (cond (eqList (decisionWord n s) (wordAt DecisionWord (decisionNumber Aborted))) Aborted Undecided)
+decision-part s zero h = absurd (true≢false (sym h))
+decision-part s (suc i) h =
+    let l : suc i ≤ length (drop coordinatorBytes s) / coordinatorBytes =
+    leb-true (suc i) (length (drop coordinatorBytes s) / coordinatorBytes) (and-snd (leb 1 (suc i)) (leb (suc i) (length (drop coordinatorBytes s) / coordinatorBytes)) h) in
+    decision-told s i l
 
 -- a number without a line is undecided
 pub decision-past : (s : List ℕ) (n : ℕ) → hasLine n s ≡ false → Undecided ≡ decision n (coordinatorOf s)
 unfolding decision
 decision-past s zero h = refl
 decision-past s (suc i) h =
-    let f : leb (suc i) (length (drop 15 s) / 15) ≡ false = sym (ap (λ (b : Bool). b && leb (suc i) (length (drop 15 s) / 15)) (le-leb 1 (suc i) (omega arith))) ∙ h in
-    let l : length (coordinatorOf s .decisions) ≤ i = omega (arith, leb-false (suc i) (length (drop 15 s) / 15) f, length-decisions s) in
+    let f : leb (suc i) (length (drop coordinatorBytes s) / coordinatorBytes) ≡ false = sym (ap (λ (b : Bool). b && leb (suc i) (length (drop coordinatorBytes s) / coordinatorBytes)) (le-leb 1 (suc i) (omega arith))) ∙ h in
+    let l : length (coordinatorOf s .decisions) ≤ i = omega (arith, leb-false (suc i) (length (drop coordinatorBytes s) / coordinatorBytes) f, length-decisions s) in
     sym (List·getD-eq-default (coordinatorOf s .decisions) Undecided l)
 
 -- the first four bytes, come back as the figure n
@@ -103,3 +123,11 @@ count-part s t n l e =
     let f : t ≡ fieldText 4 n = rw w at e in
     let o : over s 0 (fieldText 4 n) ≡ fieldText 4 n ++ drop 4 s = rw (over-zero s (fieldText 4 n), length-fieldText 4 n) in
     rw (le-leb 4 (length s) l, o, f)
+
+-- a figure over the w bytes from a on
+pub figure-over : (s u : List ℕ) (a w v : ℕ) → a + w ≤ length s → u ≡ fieldText (length (take (a + w - a) (drop a s))) v → take a s ++ (u ++ drop (a + w - a) (drop a s)) ≡ over s a (fieldText w v)
+figure-over s u a w v l h =
+    let n : length (take (a + w - a) (drop a s)) ≡ w = simp (length-take, length-drop) (omega arith) in
+    let e : u ≡ fieldText w v = rw n at h in
+    let k : length (fieldText w v) ≡ a + w - a = length-fieldText w v ∙ omega arith in
+    ap (λ (x : List ℕ). take a s ++ (x ++ drop (a + w - a) (drop a s))) e ∙ over-part s (fieldText w v) a (a + w) k

@@ -17,7 +17,7 @@ use Rattle.types.specs.declared.Layout.the-variants.{RecordLine, KeyLine, Coord
 use Rattle.model.specs.Layouts.{layout, recordLayout, keyLayout, headLayout, lineLayout, noColumn}
 use Rattle.model.specs.Lines.{fieldValue, fieldBytes, inRange, rowOf, lineText, rowGood}
 use Rattle.sheet_laws.specs.Lines.{lineBytes}
-use Rattle.codec.specs.Turns.{wideEnough, length-fieldBytes}
+use Rattle.sheet_laws.specs.Fields.{wideEnough, length-fieldBytes}
 
 -- every word of every layout has room in its field
 pub layout-wide : (l : Layout) → all wideEnough (layout l) ≡ true

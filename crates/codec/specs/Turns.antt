@@ -13,14 +13,13 @@ use Rattle.lists.specs.Bytes.{bytes, eqList}
 use Rattle.decimal.specs.declared.Scan.{Scan}
 use Rattle.decimal.specs.declared.Scan.the-variants.{Number, Wrong}
 use Rattle.decimal.specs.Field.{figure, fieldText}
-use Rattle.decimal.specs.Laws.{length-fieldText}
 use Rattle.decimal.specs.Word.{putWord, put-fits}
 use Rattle.types.specs.declared.Column.{Column}
 use Rattle.types.specs.declared.Kind.{Kind}
 use Rattle.types.specs.declared.Kind.the-variants.{Figure, StateWord, DecisionWord, UnitLetter}
 use Rattle.model.specs.Layouts.{words, wordAt}
 use Rattle.model.specs.Lines.{lastBytes, wordFrom, byKind, fieldValue, fieldBytes}
-use Rattle.sheet_laws.specs.Fields.{length-wordAt}
+use Rattle.sheet_laws.specs.Fields.{wideEnough, length-wordAt}
 
 -- the part of a word that a field of w columns holds
 pub word-part : (kind : Kind) (w n : ℕ) (t : List ℕ) (from : ℕ) → t ≡ wordAt kind n → from ≡ 10 - w → take (10 - from) (drop from t) ≡ lastBytes w (wordAt kind n)
@@ -38,10 +37,6 @@ is-word Figure a b w = absurd (true≢false (sym w))
 is-word StateWord a b w = refl
 is-word DecisionWord a b w = refl
 is-word UnitLetter a b w = refl
-
--- a word's field has at most ten columns
-abbrev pub wideEnough : Column → Bool
-wideEnough c = byKind (c .kind) true (leb (c .width) 10)
 
 pub read-figure : (c : Column) (s : List ℕ) → c .kind ≡ Figure → figure (c .low) (c .high) s ≡ fieldValue c s
 unfolding fieldValue
@@ -72,23 +67,6 @@ write-a-word c v s k l n w e =
     let t : length (wordAt (c .kind) v) ≡ 10 = length-wordAt (c .kind) v in
     let q : length s ≡ length (lastBytes (length s) (wordAt (c .kind) v)) = simp length-drop (omega arith) in
     put-fits s (lastBytes (length s) (wordAt (c .kind) v)) q ∙ (ap (λ (x : ℕ). lastBytes x (wordAt (c .kind) v)) l ∙ sym f)
-
--- a field's bytes are as many as its columns
-pub length-fieldBytes : (c : Column) (v : ℕ) → wideEnough c ≡ true → length (fieldBytes c v) ≡ c .width
-unfolding fieldBytes
-length-fieldBytes c v = go (c .kind)
-  where
-    words-part : (k : Kind) → leb (c .width) 10 ≡ true → length (lastBytes (c .width) (wordAt k v)) ≡ c .width
-    words-part k n =
-        let b : c .width ≤ 10 = leb-true (c .width) 10 n in
-        let t : length (wordAt k v) ≡ 10 = length-wordAt k v in
-        simp length-drop (omega arith)
-
-    go : (k : Kind) → byKind k true (leb (c .width) 10) ≡ true → length (byKind k (fieldText (c .width) v) (lastBytes (c .width) (wordAt k v))) ≡ c .width
-    go Figure n = length-fieldText (c .width) v
-    go StateWord n = words-part StateWord n
-    go DecisionWord n = words-part DecisionWord n
-    go UnitLetter n = words-part UnitLetter n
 
 -- Reading a word, from word i on.
 module _ (kind : Kind) (w i : ℕ) (s : List ℕ) (whole : Scan) (h : wordFrom w (drop i (words kind)) i s ≡ whole) where

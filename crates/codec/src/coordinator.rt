@@ -1,29 +1,25 @@
 // The issued count and the decisions: what a call with a transaction reads and writes of a coordinator sheet.
 ghost use mathlib.Core.Path.{_≡_};
-ghost use mathlib.Core.Bool.{cond};
+ghost use mathlib.Core.Bool.{cond, true};
 ghost use Prim.Native.Nat.{_*_, _/_};
 ghost use lib.ListN.{length, drop};
 ghost use lib.Dec.{leb};
 ghost use Rattle.lists.specs.Pieces.{over};
+ghost use Rattle.lists.specs.Bytes.{eqList};
 ghost use Rattle.decimal.specs.Field.{fieldText};
-ghost use Rattle.model.specs.Coordinator.{decisionOf, decisionNumber, decision, coordinatorOf};
+ghost use Rattle.types.specs.declared.Kind.the-variants.{DecisionWord};
+ghost use Rattle.model.specs.Layouts.{coordinatorBytes, wordAt};
+ghost use Rattle.model.specs.Coordinator.{decisionNumber, decision, coordinatorOf};
 ghost use Rattle.sheet_laws.specs.Coordinator.{decisionText};
+ghost use Rattle.sheet_laws.specs.Singles.{decisionWord};
 ghost use Rattle.codec.specs.Parts.{hasLine};
 use crate::fields;
 use crate::lines;
+use types::COORDINATOR_BYTES;
+use types::DECISION_AT;
 use types::Decision;
+use types::Kind;
 use types::Layout;
-
-// The decision of its number.
-fn decision_of(n: u32) -> Decision
-    ensures { λ r. ⌜ r ≡ decisionOf n ⌝ }
-{
-    match n {
-        0 => Decision::Undecided,
-        1 => Decision::Committed,
-        _ => Decision::Aborted,
-    }
-}
 
 // The number of a decision.
 fn decision_number(d: Decision) -> u32
@@ -38,12 +34,12 @@ fn decision_number(d: Decision) -> u32
 
 // How many lines stand after the head.
 pub fn count(coordinator: &[u8]) -> usize
-    ensures { λ r. ⌜ r ≡ length (drop 15 (now (coordinator .entry))) / 15 ⌝ }
+    ensures { λ r. ⌜ r ≡ length (drop coordinatorBytes (now (coordinator .entry))) / coordinatorBytes ⌝ }
 {
-    if coordinator.len() < 15 {
+    if coordinator.len() < COORDINATOR_BYTES {
         return 0;
     }
-    (coordinator.len() - 15) / 15
+    (coordinator.len() - COORDINATOR_BYTES) / COORDINATOR_BYTES
 }
 
 // A number that has a line.
@@ -66,27 +62,38 @@ pub fn issued(coordinator: &[u8]) -> u32
     fields::number_of(decimal::read(&coordinator[..4], 0, 999))
 }
 
+// Whether the line of number n, which has one, holds the word of a decision.
+fn holds_decision(coordinator: &[u8], n: u32, d: Decision) -> bool
+    requires { ⌜ hasLine n (now coordinator) ≡ true ⌝ }
+    ensures { λ r. ⌜ r ≡ eqList (decisionWord n (now (coordinator .entry))) (wordAt DecisionWord (decisionNumber d)) ⌝ }
+{
+    let at = (n as usize) * COORDINATOR_BYTES + DECISION_AT;
+    fields::is_word_at(coordinator, at, Kind::DecisionWord, decision_number(d))
+}
+
 // The decision of number n; one without a line is undecided.
 pub fn decision_at(coordinator: &[u8], n: u32) -> Decision
     ensures { λ r. ⌜ r ≡ decision n (coordinatorOf (now (coordinator .entry))) ⌝ }
 {
-    if has_line(coordinator, n) {
-        let at = (n as usize) * 15;
-        let end = at + 15;
-        let mut row = [0u32; 2];
-        lines::read_row(Layout::CoordinatorLine, &coordinator[at..end], &mut row);
-        return decision_of(row[1]);
+    if !has_line(coordinator, n) {
+        return Decision::Undecided;
+    }
+    if holds_decision(coordinator, n, Decision::Committed) {
+        return Decision::Committed;
+    }
+    if holds_decision(coordinator, n, Decision::Aborted) {
+        return Decision::Aborted;
     }
     Decision::Undecided
 }
 
 // The line of number n with another decision; where n has no line nothing changes.
 pub fn set_decision(coordinator: &mut [u8], n: u32, d: Decision)
-    ensures { λ u. ⌜ now (coordinator .exit) ≡ cond (hasLine n (now (coordinator .entry))) (over (now (coordinator .entry)) (n * 15) (decisionText n d)) (now (coordinator .entry)) ⌝ }
+    ensures { λ u. ⌜ now (coordinator .exit) ≡ cond (hasLine n (now (coordinator .entry))) (over (now (coordinator .entry)) (n * coordinatorBytes) (decisionText n d)) (now (coordinator .entry)) ⌝ }
 {
     if has_line(coordinator, n) {
-        let at = (n as usize) * 15;
-        let end = at + 15;
+        let at = (n as usize) * COORDINATOR_BYTES;
+        let end = at + COORDINATOR_BYTES;
         let row = [n, decision_number(d)];
         lines::write_row(Layout::CoordinatorLine, &row, &mut coordinator[at..end]);
     }

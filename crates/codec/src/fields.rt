@@ -1,14 +1,14 @@
 // A field of a line, read and written by its column of the layout.
 ghost use mathlib.Core.Path.{_≡_};
 ghost use mathlib.Core.Bool.{true};
-ghost use Prim.Native.Nat.{_-_, _≤_};
-ghost use lib.ListN.{length};
+ghost use Prim.Native.Nat.{_+_, _-_, _≤_};
+ghost use lib.ListN.{length, take, drop};
 ghost use Rattle.lists.specs.Bytes.{eqList};
 ghost use Rattle.decimal.specs.Field.{number};
 ghost use Rattle.decimal.specs.Word.{putWord};
-ghost use Rattle.codec.specs.Turns.{wideEnough};
 ghost use Rattle.model.specs.Layouts.{words, wordAt};
 ghost use Rattle.model.specs.Lines.{fieldValue, fieldBytes, inRange, lastBytes, wordFrom};
+ghost use Rattle.sheet_laws.specs.Fields.{wideEnough};
 use crate::layouts;
 use decimal::Scan;
 use types::Column;
@@ -31,6 +31,15 @@ fn is_word(kind: Kind, n: u32, w: usize, s: &[u8]) -> bool
     let from = start(w);
     let t = layouts::word(kind, n);
     decimal::same(s, &t[from..])
+}
+
+// The ten bytes at `at` are word n of a kind.
+pub fn is_word_at(s: &[u8], at: usize, kind: Kind, n: u32) -> bool
+    requires { ⌜ at + 10 ≤ length (now s) ⌝ }
+    ensures { λ r. ⌜ r ≡ eqList (take 10 (drop at (now (s .entry)))) (wordAt kind n) ⌝ }
+{
+    let t = layouts::word(kind, n);
+    places::ten_equal(s, at, &t, 0)
 }
 
 // Which word of a kind the field s of w columns holds.

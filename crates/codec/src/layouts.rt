@@ -2,9 +2,15 @@
 ghost use mathlib.Core.Path.{_≡_};
 ghost use lib.ListN.{getD, length};
 ghost use Rattle.model.specs.Layouts.{recordLayout, keyLayout, headLayout, lineLayout, layout, words, wordAt, noColumn};
+use types::CLOCK_BYTES;
+use types::COLUMN_BYTES;
 use types::Column;
 use types::Kind;
 use types::Layout;
+use types::NUMBER_BYTES;
+use types::TXID_BYTES;
+use types::VERSION_BYTES;
+use types::WORD_BYTES;
 
 // Columns by their fields. A table's column is like a namespace's, a clustering's like a partition's, and before fields like the fields.
 const NO_COLUMN: Column = Column {
@@ -14,21 +20,21 @@ const NO_COLUMN: Column = Column {
     high: 0,
 };
 
-const STORAGE: Column = Column {
+pub const STORAGE: Column = Column {
     width: 2,
     kind: Kind::Figure,
     low: 1,
     high: 9,
 };
 
-const NAMESPACE: Column = Column {
+pub const NAMESPACE: Column = Column {
     width: 3,
     kind: Kind::Figure,
     low: 1,
     high: 99,
 };
 
-const PARTITION: Column = Column {
+pub const PARTITION: Column = Column {
     width: 6,
     kind: Kind::Figure,
     low: 0,
@@ -36,42 +42,42 @@ const PARTITION: Column = Column {
 };
 
 const STATE: Column = Column {
-    width: 10,
+    width: WORD_BYTES,
     kind: Kind::StateWord,
     low: 0,
     high: 2,
 };
 
 const VERSION: Column = Column {
-    width: 6,
+    width: VERSION_BYTES,
     kind: Kind::Figure,
     low: 0,
     high: 99999,
 };
 
 const TXID: Column = Column {
-    width: 4,
+    width: TXID_BYTES,
     kind: Kind::Figure,
     low: 0,
     high: 999,
 };
 
 const AMOUNT: Column = Column {
-    width: 9,
+    width: COLUMN_BYTES,
     kind: Kind::Figure,
     low: 0,
     high: 99999999,
 };
 
 const CLOCK: Column = Column {
-    width: 11,
+    width: CLOCK_BYTES,
     kind: Kind::Figure,
     low: 0,
     high: 4294967295,
 };
 
 const ISSUED: Column = Column {
-    width: 4,
+    width: NUMBER_BYTES,
     kind: Kind::Figure,
     low: 0,
     high: 999,
@@ -92,14 +98,14 @@ const UNIT: Column = Column {
 };
 
 const NUMBER: Column = Column {
-    width: 4,
+    width: NUMBER_BYTES,
     kind: Kind::Figure,
     low: 1,
     high: 999,
 };
 
 const DECISION: Column = Column {
-    width: 10,
+    width: WORD_BYTES,
     kind: Kind::DecisionWord,
     low: 0,
     high: 2,

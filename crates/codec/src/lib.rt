@@ -1,7 +1,10 @@
 // The bytes of both sheets, read and written by place, so that calls above can speak of records, decisions and counts.
 pub mod coordinator;
 pub mod fields;
-mod layouts;
+pub mod layouts;
 pub mod lines;
+mod parts;
+pub mod reading;
 pub mod records;
 pub mod settling;
+pub mod writing;

@@ -5,7 +5,7 @@ ghost use Prim.Native.Nat.{_*_, _/_};
 ghost use lib.ListN.{length, getD};
 ghost use lib.Dec.{ltb};
 ghost use Rattle.lists.specs.Pieces.{over};
-ghost use Rattle.model.specs.Layouts.{recordBytes};
+ghost use Rattle.model.specs.Layouts.{recordBytes, recordFields};
 ghost use Rattle.model.specs.Records.{stateOf, stateNumber, recordOf, recordNumbers, recordText, noRecord};
 ghost use Rattle.model.specs.Records as model;
 use crate::lines;
@@ -15,6 +15,7 @@ use types::Layout;
 use types::NO_IMAGE;
 use types::NO_KEY;
 use types::RECORD_BYTES;
+use types::RECORD_FIELDS;
 use types::Record;
 use types::State;
 
@@ -50,7 +51,7 @@ pub fn state_number(s: State) -> u32
 
 // The record of its numbers.
 pub fn record_of(v: &[u32]) -> Record
-    requires { ⌜ length (now v) ≡ 15 ⌝ }
+    requires { ⌜ length (now v) ≡ recordFields ⌝ }
     ensures { λ r. ⌜ r ≡ recordOf (now (v .entry)) ⌝ }
 {
     Record {
@@ -79,7 +80,7 @@ pub fn record_of(v: &[u32]) -> Record
 }
 
 // The numbers of a record.
-pub fn numbers_of(r: Record) -> [u32; 15]
+pub fn numbers_of(r: Record) -> [u32; RECORD_FIELDS]
     ensures { λ v. ⌜ v ≡ recordNumbers r ⌝ }
 {
     let s = r.state;
@@ -116,7 +117,7 @@ pub fn record_at(records: &[u8], i: usize) -> Record
     if i < records.len() / RECORD_BYTES {
         let at = i * RECORD_BYTES;
         let end = at + RECORD_BYTES;
-        let mut row = [0u32; 15];
+        let mut row = [0u32; RECORD_FIELDS];
         lines::read_row(Layout::RecordLine, &records[at..end], &mut row);
         return record_of(&row);
     }

@@ -1,76 +1,65 @@
 // Lines settled by moving bytes: a line that is rolled keeps the bytes of one of its images, so that no figure is read or written.
 ghost use mathlib.Core.Path.{_≡_};
-ghost use mathlib.Core.Bool.{cond, true};
-ghost use Prim.Native.Nat.{_+_, _*_, _/_, _≤_};
-ghost use lib.ListN.{length, getD, take, drop};
-ghost use lib.Dec.{ltb};
-ghost use Rattle.lists.specs.Pieces.{over};
+ghost use mathlib.Core.Bool.{true};
+ghost use lib.ListN.{length};
 ghost use Rattle.model.specs.Layouts.{recordBytes};
-ghost use Rattle.model.specs.Records.{recordText, recordsAccepted, noRecord};
-ghost use Rattle.model.specs.Records as model;
-ghost use Rattle.sheet_laws.specs.Settled.{imageOf, imagePlace, settledAs, settledBytes};
-use crate::layouts;
-use crate::records;
-use types::Kind;
+ghost use Rattle.model.specs.Records.{recordIn, recordText, recordsAccepted};
+ghost use Rattle.model.specs.Images.{rolledForward, rolledBack};
+ghost use Rattle.sheet_laws.specs.Records.{Readable};
+ghost use Rattle.sheet_laws.specs.Changed.{imageOver, imageIn, settledAs};
+ghost use Rattle.sheet_laws.specs.Places.{changedAt};
+use crate::parts;
+use crate::reading;
 use types::RECORD_BYTES;
 use types::State;
+use types::VERSION_AT;
 
-// An image of zeros and a clock of 0.
-const NOTHING: [u8; 39] = *b"     0   0        0        0          0";
-
-// A text over the line from `at` on.
-fn put_at(line: &mut [u8], at: usize, text: &[u8])
-    requires { ⌜ at + length (now text) ≤ length (now line) ⌝ }
-    ensures { λ u. ⌜ now (line .exit) ≡ over (now (line .entry)) at (now (text .entry)) ⌝ }
-{
-    let end = at + text.len();
-    decimal::put(&mut line[at..end], text);
-}
-
-// Where the image begins that stays: the before image, or the line's own.
-fn image_place(before: bool) -> usize
-    ensures { λ r. ⌜ r ≡ imagePlace before ⌝ }
-    ensures { λ r. ⌜ r ≤ 58 ⌝ }
+// The image that stays in its place: that of before is moved there, the line's own stands there.
+fn keep_image(line: &mut [u8], before: bool)
+    requires { ⌜ length (now line) ≡ recordBytes ⌝ }
+    ensures { λ u. ⌜ now (line .exit) ≡ imageOver (imageIn before (now (line .entry))) (now (line .entry)) ⌝ }
 {
     if before {
-        return 58;
+        let image = parts::image_bytes(line, true);
+        parts::put_at(line, VERSION_AT, &image);
     }
-    30
 }
 
-// The bytes of that image.
-fn image_bytes(line: &[u8], before: bool) -> [u8; 28]
-    requires { ⌜ length (now line) ≡ recordBytes ⌝ }
-    ensures { λ r. ⌜ r ≡ take 28 (drop (imagePlace before) (now (line .entry))) ⌝ }
-{
-    let from = image_place(before);
-    let to = from + 28;
-    let mut image = [0u8; 28];
-    decimal::put(&mut image, &line[from..to]);
-    image
-}
-
-// A line with another state word, one of its images and nothing after it.
+// A line that can be read with another state word, one of its images and nothing after it.
 fn settle_line(line: &mut [u8], state: State, before: bool)
-    requires { ⌜ length (now line) ≡ recordBytes ⌝ }
-    ensures { λ u. ⌜ now (line .exit) ≡ settledBytes state before (now (line .entry)) ⌝ }
+    requires { ⌜ Readable (now line) ⌝ }
+    ensures { λ u. ⌜ now (line .exit) ≡ recordText (settledAs state before (recordIn (now (line .entry)))) ⌝ }
 {
-    let image = image_bytes(line, before);
-    let word = layouts::word(Kind::StateWord, records::state_number(state));
-    let nothing = NOTHING;
-    put_at(line, 20, &word);
-    put_at(line, 30, &image);
-    put_at(line, 58, &nothing);
+    keep_image(line, before);
+    parts::put_state(line, state);
+    parts::put_nothing(line);
 }
 
 // The line at place i settled; past the end nothing changes.
 pub fn settle(records: &mut [u8], i: usize, state: State, before: bool)
     requires { ⌜ recordsAccepted (now records) ≡ true ⌝ }
-    ensures { λ u. ⌜ now (records .exit) ≡ cond (ltb i (length (now (records .entry)) / recordBytes)) (over (now (records .entry)) (i * recordBytes) (recordText (settledAs state (imageOf before (getD (model.records (now (records .entry))) i noRecord)) (getD (model.records (now (records .entry))) i noRecord)))) (now (records .entry)) ⌝ }
+    ensures { λ u. ⌜ now (records .exit) ≡ changedAt (settledAs state before) i (now (records .entry)) ⌝ }
 {
     if i < records.len() / RECORD_BYTES {
         let at = i * RECORD_BYTES;
         let end = at + RECORD_BYTES;
         settle_line(&mut records[at..end], state, before);
     }
+}
+
+// The line at place i rolled forward.
+pub fn roll_forward(records: &mut [u8], i: usize)
+    requires { ⌜ recordsAccepted (now records) ≡ true ⌝ }
+    ensures { λ u. ⌜ now (records .exit) ≡ changedAt rolledForward i (now (records .entry)) ⌝ }
+{
+    settle(records, i, State::Committed, false);
+}
+
+// The line at place i rolled back.
+pub fn roll_back(records: &mut [u8], i: usize)
+    requires { ⌜ recordsAccepted (now records) ≡ true ⌝ }
+    ensures { λ u. ⌜ now (records .exit) ≡ changedAt rolledBack i (now (records .entry)) ⌝ }
+{
+    let state = reading::before_state(records, i);
+    settle(records, i, state, true);
 }

@@ -20,12 +20,12 @@ use Rattle.decimal.specs.Field.{figure}
 use Rattle.decimal.specs.Laws.{figure-scan}
 use Rattle.decimal.specs.Order.{order-bytes}
 use Rattle.places.specs.Order.{numberOf, bytesAt, less-is, part-bytes}
-use Rattle.model.specs.Layouts.{recordLayout, recordBytes}
+use Rattle.model.specs.Layouts.{recordLayout, recordBytes, offset}
 use Rattle.model.specs.Lines.{fieldValue, lineSet, linesOf, linesSet}
 use Rattle.model.specs.Records.{noRecord, recordOf, imageFrom, recordIn, records, recordsAccepted}
 use Rattle.model.specs.Coordinator.{coordinatorOf, coordinatorAccepted, namesIssued}
 use Rattle.model.specs.SheetCalls.{allIssued}
-use Rattle.sheet_laws.specs.Lines.{offset, fieldAt, field-at}
+use Rattle.sheet_laws.specs.Lines.{fieldAt, field-at}
 use Rattle.sheet_laws.specs.Places.{record-at, length-records}
 use Rattle.sheet_laws.specs.Decisions.{accepted-length}
 use Rattle.coordinator_check.specs.Lines.{Bytes}

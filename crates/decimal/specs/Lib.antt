@@ -4,3 +4,4 @@ pub mod Laws
 pub mod Cut
 pub mod Word
 pub mod Order
+pub mod Digits

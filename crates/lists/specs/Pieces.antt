@@ -90,6 +90,13 @@ pub over-zero {ℓ} : {A : Type ℓ} (s t : List A) → over s 0 t ≡ t ++ drop
 unfolding over
 over-zero s t = rw zero-add
 
+-- what stands in a place, written there again
+pub over-same {ℓ} : {A : Type ℓ} (s : List A) (a n : ℕ) → a + n ≤ length s → over s a (take n (drop a s)) ≡ s
+unfolding over
+over-same s a n l =
+    let e : length (take n (drop a s)) ≡ n = simp (length-take, length-drop) (omega arith) in
+    rw (e, ← drop-drop, take-append-drop n (drop a s)) (take-append-drop a s)
+
 -- a part lent from a to e and come back as t
 pub over-part {ℓ} : {A : Type ℓ} (s t : List A) (a e : ℕ) → length t ≡ e - a → take a s ++ (t ++ drop (e - a) (drop a s)) ≡ over s a t
 unfolding over

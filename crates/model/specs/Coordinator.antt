@@ -10,7 +10,7 @@ use Rattle.types.specs.declared.Decision.the-variants.{Undecided, Committed, Ab
 use Rattle.types.specs.declared.AtomicityUnit.{AtomicityUnit}
 use Rattle.types.specs.declared.AtomicityUnit.the-variants.{Record as RecordUnit, Partition, Table, Namespace, Storage}
 use Rattle.types.specs.declared.Record.{Record}
-use Rattle.model.specs.Layouts.{headLayout, lineLayout, decisionColumn, coordinatorBytes, headFields}
+use Rattle.model.specs.Layouts.{headLayout, lineLayout, decisionColumn, decisionField, coordinatorBytes, headFields}
 use Rattle.model.specs.Lines.{rowOf, lineText, lineSet, inRange, rowGood, linesOf, linesSet}
 
 -- count of numbers issued, units of storages 1 to 9, decisions of numbers 1, 2, ..
@@ -76,7 +76,7 @@ coordinatorGood c =
 -- The sheet.
 
 unfoldable pub decisionIn : List ℕ → Decision
-decisionIn line = decisionOf (getD (rowOf lineLayout line) 1 0)
+decisionIn line = decisionOf (getD (rowOf lineLayout line) decisionField 0)
 
 -- the lines after the head
 abbrev pub decisionLines : List ℕ → List (List ℕ)

@@ -1,5 +1,5 @@
 -- The layout of every line, as data: widths, kinds and ranges of its fields, in the order of document 01's tables.
-use Prim.Native.Nat.{ℕ}
+use Prim.Native.Nat.{ℕ, zero, suc, _+_}
 use mathlib.Core.List.{List, [], _∷_}
 use lib.ListN.{take, drop, getD}
 use Rattle.lists.specs.Bytes.{bytes}
@@ -53,16 +53,50 @@ recordLayout =
     ∷ figures 11 0 4294967295  -- prepare clock
     ∷ []
 
+-- the fields of an image: version, TxID and columns
+abbrev pub imageFields : ℕ
+imageFields = 4
+
+-- The fields of a record line by their places: after the key the state word, then the image, the image before it, the clock.
+abbrev pub stateField : ℕ
+stateField = 5
+
+abbrev pub imageField : ℕ
+imageField = stateField + 1
+
+abbrev pub beforeField : ℕ
+beforeField = imageField + imageFields
+
+abbrev pub clockField : ℕ
+clockField = beforeField + imageFields
+
 -- "The key is the first five fields."
 unfoldable pub keyLayout : List Column
-keyLayout = take 5 recordLayout
+keyLayout = take stateField recordLayout
 
 -- version, TxID and columns of an image, and the columns alone
 unfoldable pub imageLayout : List Column
-imageLayout = take 4 (drop 6 recordLayout)
+imageLayout = take imageFields (drop imageField recordLayout)
 
 unfoldable pub columnsLayout : List Column
 columnsLayout = drop 2 imageLayout
+
+-- the bytes of a line before its field i
+unfoldable pub offset : ℕ → List Column → ℕ
+offset zero cs = 0
+offset (suc i) [] = 0
+offset (suc i) (c ∷ cs) = c .width + offset i cs
+
+-- where a field of a record line begins, and how wide it is
+abbrev pub recordOffset : ℕ → ℕ
+recordOffset i = offset i recordLayout
+
+abbrev pub recordWidth : ℕ → ℕ
+recordWidth i = getD recordLayout i noColumn .width
+
+-- bytes of an image
+abbrev pub imageBytes : ℕ
+imageBytes = offset imageFields imageLayout
 
 -- document 01, "Coordinator sheet": the head, its count and nine unit letters, a space before the first
 unfoldable pub headLayout : List Column
@@ -85,6 +119,9 @@ decisionColumn = word 10 DecisionWord 2
 -- line k: its number and its decision
 unfoldable pub lineLayout : List Column
 lineLayout = figures 4 1 999 ∷ decisionColumn ∷ []
+
+abbrev pub decisionField : ℕ
+decisionField = 1
 
 unfoldable pub layout : Layout → List Column
 layout RecordLine = recordLayout

@@ -13,7 +13,16 @@ use Rattle.types.specs.declared.Image.{Image}
 use Rattle.types.specs.declared.Record.{Record}
 use Rattle.types.specs.declared.Found.{Found}
 use Rattle.types.specs.declared.Found.the-variants.{At, Nothing}
-use Rattle.model.specs.Layouts.{recordLayout, keyLayout, recordBytes, recordFields}
+use Rattle.model.specs.Layouts.{
+  recordLayout,
+  keyLayout,
+  stateField,
+  imageField,
+  beforeField,
+  clockField,
+  recordBytes,
+  recordFields,
+}
 use Rattle.model.specs.Lines.{rowOf, lineText, rowGood, linesOf, linesSet}
 use Rattle.model.specs.Search.{firstFrom}
 
@@ -66,10 +75,10 @@ unfoldable pub recordOf : List ℕ → Record
 recordOf v =
     record {
       key = keyOf v;
-      state = stateOf (getD v 5 0);
-      image = imageFrom 6 v;
-      before = imageFrom 10 v;
-      clock = getD v 14 0;
+      state = stateOf (getD v stateField 0);
+      image = imageFrom imageField v;
+      before = imageFrom beforeField v;
+      clock = getD v clockField 0;
     }
 
 unfoldable pub recordNumbers : Record → List ℕ
@@ -159,7 +168,7 @@ recordsText rs = joined (map recordText rs)
 unfoldable pub recordsAccepted : List ℕ → Bool
 recordsAccepted s = linesSet recordLayout recordBytes s && recordsGood (records s)
 
--- Records as a lent list of numbers, 15 to a record.
+-- Records as a lent list of numbers, one for each field.
 
 unfoldable pub rows : List ℕ → List (List ℕ)
 rows xs = pieces recordFields (length xs / recordFields) xs

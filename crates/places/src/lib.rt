@@ -1,4 +1,4 @@
-// The one pass over a line that judges each byte by tables of its place, bytes as numbers, and keys compared as such.
+// The one pass over a line that judges each byte by tables of its place, bytes as numbers, keys compared as such, and figures by their digits.
 
 ghost use mathlib.Core.Path.{_≡_};
 ghost use Prim.Native.Nat.{_+_, _^_, _<_, _≤_};
@@ -6,6 +6,7 @@ ghost use lib.ListN.{length, getD, take, drop};
 ghost use Rattle.places.specs.Places.{bit, higher, lower, asLong, Room, judgedAt, lineOk};
 ghost use Rattle.lists.specs.Bytes.{eqList};
 ghost use Rattle.lists.specs.Each.{less};
+ghost use Rattle.decimal.specs.Digits.{figureAt};
 ghost use Rattle.places.specs.Order.{numberOf};
 ghost use Rattle.places.specs.Loads.{loaded, turned};
 
@@ -86,6 +87,20 @@ pub fn wide(b: u8) -> u64
     ensures { λ r. ⌜ r < 256 ⌝ }
 {
     b as u64
+}
+
+// The number that the n bytes at `at` make as digits, of which a space counts 0: the figure of a field that is known to hold one.
+pub fn figure(s: &[u8], at: usize, n: usize) -> u64
+    requires { ⌜ at + n ≤ length (now s) ⌝ }
+    requires { ⌜ n ≤ 15 ⌝ }
+    ensures { λ r. ⌜ r ≡ figureAt at n (now (s .entry)) ⌝ }
+    ensures { λ r. ⌜ r < 2 ^ 60 ⌝ }
+{
+    let mut v: u64 = 0;
+    for i in 0..n {
+        v = v * 10 + wide(s[at + i]) % 16;
+    }
+    v
 }
 
 // The four bytes at `at` as one number, the first byte weighing least. Written as a sum it compiles to one load.

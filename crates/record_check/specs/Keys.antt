@@ -18,11 +18,11 @@ use Rattle.decimal.specs.Field.{scanned, number, isNumber}
 use Rattle.decimal.specs.Laws.{isNumber-number}
 use Rattle.decimal.specs.Order.{order-bytes, same-bytes}
 use Rattle.types.specs.declared.Column.{Column}
-use Rattle.model.specs.Layouts.{recordLayout}
+use Rattle.model.specs.Layouts.{recordLayout, offset}
 use Rattle.model.specs.Lines.{fieldValue, rowOf, lineSet}
 use Rattle.model.specs.Records.{keyLess, keyNumbers, keyOf, recordOf, recordIn}
-use Rattle.sheet_laws.specs.Lines.{lineBytes, line-length, offset}
-use Rattle.record_check.specs.Figures.{isFigure, scan-of}
+use Rattle.sheet_laws.specs.Lines.{lineBytes, line-length}
+use Rattle.sheet_laws.specs.Fields.{isFigure, scan-of}
 
 -- two fields of one width that hold figures are equal as the figures are
 pub equal-bytes : (s t : List ℕ) (x y : ℕ) → scanned Blank s ≡ Number x → scanned Blank t ≡ Number y → length s ≡ length t → eqList s t ≡ eqb x y

@@ -2,7 +2,6 @@
 pub mod Ranges
 pub mod LayoutParts
 pub mod Limits
-pub mod Figures
 pub mod States
 pub mod Relations
 pub mod Line

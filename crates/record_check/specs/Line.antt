@@ -17,17 +17,16 @@ use Rattle.lists.specs.Pieces.{take-drop-take}
 use Rattle.decimal.specs.Field.{ahead, fieldText}
 use Rattle.decimal.specs.Laws.{scan-written}
 use Rattle.types.specs.declared.Kind.the-variants.{StateWord}
-use Rattle.model.specs.Layouts.{recordLayout, words, wordAt, noColumn, recordBytes}
+use Rattle.model.specs.Layouts.{recordLayout, words, wordAt, noColumn, recordBytes, offset}
 use Rattle.model.specs.Lines.{fieldValue, fieldBytes, wordFrom, inRange, rowOf, lineSet, rowGood}
 use Rattle.model.specs.Records.{recordOf, goodAlone, recordIn}
-use Rattle.sheet_laws.specs.Fields.{columnOk, allBelow, wordOk, isThe, field-written-read}
-use Rattle.sheet_laws.specs.Lines.{lineBytes, line-length, line-written-read, offset, fieldAt, field-at}
+use Rattle.sheet_laws.specs.Fields.{columnOk, allBelow, wordOk, isThe, field-written-read, scan-of}
+use Rattle.sheet_laws.specs.Lines.{lineBytes, line-length, line-written-read, fieldAt, field-at}
 use Rattle.sheet_laws.specs.Records.{record-layout-ok, line-numbers}
 use Rattle.places.specs.Parts.{partsOk}
 use Rattle.places.specs.Order.{part-bytes}
 use Rattle.places.specs.Loads.{loaded, loaded-equal}
 use Rattle.record_check.specs.Ranges.{opened, lineHeld, set-is-held, same-row}
-use Rattle.record_check.specs.Figures.{scan-of}
 use Rattle.record_check.specs.Limits.{keeps, limited-line, limited-parts}
 use Rattle.record_check.specs.States.{kindLimits, openLayout, clockLimit, kindParts, kind-says, record-opens, clock-narrow, clock-limited, kindWord, stateTold, word-told, kindBy, kindFor, rule, kind-rule, kind-word}
 use Rattle.record_check.specs.Relations.{clockFits, follows, widest, clock-fits, clock-low, follows-is}

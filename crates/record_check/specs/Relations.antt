@@ -20,14 +20,15 @@ use Rattle.decimal.specs.declared.Scan.the-variants.{Blank, Number}
 use Rattle.decimal.specs.Field.{scanned, stepped, ahead, fieldText}
 use Rattle.decimal.specs.Laws.{figure-scan, scan-written, scan-text, length-fieldText, fieldText-bytes}
 use Rattle.decimal.specs.Order.{order-bytes}
+use Rattle.decimal.specs.Digits.{figureAt}
 use Rattle.types.specs.declared.Column.{Column}
-use Rattle.model.specs.Layouts.{recordLayout, noColumn, recordBytes}
+use Rattle.model.specs.Layouts.{recordLayout, noColumn, recordBytes, offset}
 use Rattle.model.specs.Lines.{fieldValue, rowOf, lineSet}
-use Rattle.sheet_laws.specs.Lines.{lineBytes, line-length, offset, fieldAt, field-at, line-end}
+use Rattle.sheet_laws.specs.Fields.{scan-of}
+use Rattle.sheet_laws.specs.Lines.{lineBytes, line-length, fieldAt, field-at, digits-at, line-end}
 use Rattle.places.specs.Order.{part-bytes}
 use Rattle.places.specs.Loads.{loaded, loaded-append, loaded-equal}
 use Rattle.record_check.specs.Ranges.{opened}
-use Rattle.record_check.specs.Figures.{scan-of, figureAt, digits-at}
 use Rattle.record_check.specs.Keys.{equal-bytes}
 
 -- the highest clock as it ends a line

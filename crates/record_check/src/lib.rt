@@ -4,12 +4,11 @@
 ghost use mathlib.Core.Path.{_≡_};
 ghost use mathlib.Core.Bool.{true, cond};
 ghost use lib.Dec.{eqb};
-ghost use Prim.Native.Nat.{_+_, _-_, _*_, _^_, _≤_, _<_};
+ghost use Prim.Native.Nat.{_+_, _-_, _*_, _<_};
 ghost use lib.ListN.{length, drop};
 ghost use Rattle.model.specs.Layouts.{recordBytes};
 ghost use Rattle.model.specs.Records.{recordsAccepted};
 ghost use Rattle.places.specs.Parts.{partsOk};
-ghost use Rattle.record_check.specs.Figures.{figureAt};
 ghost use Rattle.record_check.specs.States.{kindParts, kindWords};
 ghost use Rattle.record_check.specs.Relations.{highestClock, follows};
 ghost use Rattle.record_check.specs.Line.{lineGood, kindOf};
@@ -75,20 +74,6 @@ fn stands(line: &[u8], lent: &[u8], kind: usize) -> bool
     (line[0] == b' ') & (line[97] == b'\n')
 }
 
-// The number that the n bytes at `at` make as digits, of which a space counts 0. The tables have let only spaces and digits through.
-fn figure(line: &[u8], at: usize, n: usize) -> u64
-    requires { ⌜ at + n ≤ length (now line) ⌝ }
-    requires { ⌜ n ≤ 15 ⌝ }
-    ensures { λ r. ⌜ r ≡ figureAt at n (now (line .entry)) ⌝ }
-    ensures { λ r. ⌜ r < 2 ^ 60 ⌝ }
-{
-    let mut v: u64 = 0;
-    for i in 0..n {
-        v = v * 10 + places::wide(line[at + i]) % 16;
-    }
-    v
-}
-
 // Whether version = before version + 1 in a line that stands in its places, if it is PREPARED over a version. Unless before version ends in 9, only
 // the last byte differs, by one.
 fn version_follows(line: &[u8], kind: usize) -> bool
@@ -99,7 +84,7 @@ fn version_follows(line: &[u8], kind: usize) -> bool
         return true;
     }
     if line[63] == b'9' {
-        return figure(line, 30, 6) == figure(line, 58, 6) + 1;
+        return places::figure(line, 30, 6) == places::figure(line, 58, 6) + 1;
     }
     places::load_six(line, 30) == places::load_six(line, 58) + 0x0100_0000_0000
 }

@@ -6,16 +6,16 @@ use mathlib.Core.Path.{_≡_, refl, sym, ap, subst, _∙_}
 use mathlib.Core.Bool.{Bool, true, false, _&&_, true≢false}
 use mathlib.Core.List.{List, [], _∷_}
 use native.Mathlib.Omega.{arith}
-use lib.ListN.{length, getD}
+use lib.ListN.{length, getD, length-drop}
 use lib.Dec.{eqb, leb, ltb}
-use borrow.Author.Tests.{eqb-true, eqb-false, le-leb}
-use Rattle.lists.specs.Tests.{and-fst, and-snd, and-both, tests}
-use Rattle.lists.specs.Bytes.{bytes, eqList, eqList-true}
+use borrow.Author.Tests.{eqb-true, eqb-false, leb-true, eq-eqb, le-leb}
+use Rattle.lists.specs.Tests.{and-fst, and-snd, and-both, same-test, tests}
+use Rattle.lists.specs.Bytes.{bytes, eqList, eqList-true, eqList-refl}
 use Rattle.lists.specs.Each.{all}
 use Rattle.decimal.specs.declared.Scan.{Scan}
 use Rattle.decimal.specs.declared.Scan.the-variants.{Blank, Number, Wrong}
-use Rattle.decimal.specs.Field.{figure, fieldText}
-use Rattle.decimal.specs.Laws.{read-written, written-read, length-fieldText}
+use Rattle.decimal.specs.Field.{figure, scanned, fieldText}
+use Rattle.decimal.specs.Laws.{read-written, written-read, figure-scan, length-fieldText}
 use Rattle.types.specs.declared.Kind.{Kind}
 use Rattle.types.specs.declared.Kind.the-variants.{Figure, StateWord, DecisionWord, UnitLetter}
 use Rattle.types.specs.declared.Column.{Column}
@@ -135,6 +135,16 @@ field-written-read c s v = go (c .kind) (c .width) (c .low) (c .high)
     go DecisionWord w low high h l e = words-written-read (column DecisionWord w low high) s v h e
     go UnitLetter w low high h l e = words-written-read (column UnitLetter w low high) s v h e
 
+-- a field of full width has the bytes of n exactly if it holds n
+pub field-is : (c : Column) (s : List ℕ) (n : ℕ) → columnOk c ≡ true → inRange c n ≡ true → length s ≡ c .width → eqList s (fieldBytes c n) ≡ isThe n (fieldValue c s)
+unfolding isThe
+field-is c s n o r l =
+    same-test (eqList s (fieldBytes c n)) (isThe n (fieldValue c s))
+    (λ e. ap (isThe n) (ap (fieldValue c) (eqList-true s (fieldBytes c n) e) ∙ field-read-written c n o r .0) ∙ eq-eqb n n refl)
+    (λ e.
+    let b : s ≡ fieldBytes c n = field-written-read c s n o l (is-the n (fieldValue c s) e) .0 in
+    ap (λ (t : List ℕ). eqList t (fieldBytes c n)) b ∙ eqList-refl (fieldBytes c n))
+
 -- one of several lists of ten bytes, or ten spaces
 of-ten : (ts : List (List ℕ)) (n : ℕ) → all (λ (t : List ℕ). eqb (length t) 10) ts ≡ true → length (getD ts n (bytes "          ")) ≡ 10
 unfolding all bytes
@@ -149,3 +159,39 @@ length-wordAt Figure n = refl
 length-wordAt StateWord n = of-ten (words StateWord) n refl
 length-wordAt DecisionWord n = of-ten (words DecisionWord) n refl
 length-wordAt UnitLetter n = of-ten (words UnitLetter) n refl
+
+-- a word's field has at most ten columns
+abbrev pub wideEnough : Column → Bool
+wideEnough c = byKind (c .kind) true (leb (c .width) 10)
+
+-- a field's bytes are as many as its columns
+pub length-fieldBytes : (c : Column) (v : ℕ) → wideEnough c ≡ true → length (fieldBytes c v) ≡ c .width
+unfolding fieldBytes
+length-fieldBytes c v = go (c .kind)
+  where
+    words-part : (k : Kind) → leb (c .width) 10 ≡ true → length (lastBytes (c .width) (wordAt k v)) ≡ c .width
+    words-part k n =
+        let b : c .width ≤ 10 = leb-true (c .width) 10 n in
+        let t : length (wordAt k v) ≡ 10 = length-wordAt k v in
+        simp length-drop (omega arith)
+
+    go : (k : Kind) → byKind k true (leb (c .width) 10) ≡ true → length (byKind k (fieldText (c .width) v) (lastBytes (c .width) (wordAt k v))) ≡ c .width
+    go Figure n = length-fieldText (c .width) v
+    go StateWord n = words-part StateWord n
+    go DecisionWord n = words-part DecisionWord n
+    go UnitLetter n = words-part UnitLetter n
+
+-- a column of figures reads its field as a scan does
+abbrev pub isFigure : Column → Bool
+isFigure c = byKind (c .kind) true false
+
+pub scan-of : (c : Column) (t : List ℕ) (v : ℕ) → isFigure c ≡ true → fieldValue c t ≡ Number v → scanned Blank t ≡ Number v
+unfolding fieldValue
+scan-of c t v = go (c .kind) (c .width) (c .low) (c .high)
+  where
+    go : (k : Kind) (w low high : ℕ)
+        → byKind k true false ≡ true → fieldValue (column k w low high) t ≡ Number v → scanned Blank t ≡ Number v
+    go Figure w low high f e = figure-scan low high t v e .0
+    go StateWord w low high f e = absurd (true≢false (sym f))
+    go DecisionWord w low high f e = absurd (true≢false (sym f))
+    go UnitLetter w low high f e = absurd (true≢false (sym f))

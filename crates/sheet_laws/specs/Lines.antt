@@ -9,13 +9,15 @@ use lib.Seq.{take-at, drop-at, getD-drop, drop-drop}
 use Rattle.lists.specs.Tests.{and-fst, and-snd, and-both}
 use Rattle.lists.specs.Bytes.{eqList, eqList-true, eqList-refl}
 use Rattle.lists.specs.Each.{all}
+use Rattle.lists.specs.Pieces.{take-drop-take}
 use Rattle.decimal.specs.declared.Scan.the-variants.{Number}
 use Rattle.decimal.specs.Field.{number, isNumber}
 use Rattle.decimal.specs.Laws.{isNumber-number}
+use Rattle.decimal.specs.Digits.{digits, digits-are}
 use Rattle.types.specs.declared.Column.{Column}
-use Rattle.model.specs.Layouts.{noColumn}
+use Rattle.model.specs.Layouts.{noColumn, offset}
 use Rattle.model.specs.Lines.{fieldValue, fieldBytes, inRange, rowOf, lineSet, lineText, rowGood}
-use Rattle.sheet_laws.specs.Fields.{columnOk, field-read-written, field-written-read}
+use Rattle.sheet_laws.specs.Fields.{columnOk, field-read-written, field-written-read, isFigure, scan-of}
 
 abbrev pub layoutOk : List Column → Bool
 layoutOk cs = all columnOk cs
@@ -24,6 +26,12 @@ layoutOk cs = all columnOk cs
 unfoldable pub lineBytes : List Column → ℕ
 lineBytes [] = 1
 lineBytes (c ∷ cs) = c .width + lineBytes cs
+
+-- LF is there
+positive : (cs : List Column) → 1 ≤ lineBytes cs
+unfolding lineBytes
+positive [] = omega arith
+positive (c ∷ cs) = omega (arith, positive cs)
 
 pub length-rowOf : (cs : List Column) (s : List ℕ) → length (rowOf cs s) ≡ length cs
 unfolding rowOf
@@ -44,10 +52,6 @@ field-length p (c ∷ cs) s h =
     field-length p cs (drop (c .width) s) (and-snd (p c (take (c .width) s)) _ h) in
     let l : 1 ≤ lineBytes cs = positive cs in
     omega (arith, length-drop (c .width) s)
-  where
-    positive : (ds : List Column) → 1 ≤ lineBytes ds
-    positive [] = omega arith
-    positive (d ∷ ds) = omega (arith, positive ds)
 
 -- a line that can be read, field by field
 pub set-fields : (cs : List Column) (s : List ℕ) → lineSet cs s ≡ eachField (λ (c : Column) (t : List ℕ). isNumber (fieldValue c t)) cs s
@@ -97,9 +101,6 @@ row-read-written (c ∷ cs) (v ∷ vs) o g n =
     let k = row-read-written cs vs (and-snd (columnOk c) (all columnOk cs) o) (and-snd (inRange c v) (rowGood cs vs) g) (omega arith) in
     rw (take-at (fieldBytes c v) t (c .width) (r .1), drop-at (fieldBytes c v) t (c .width) (r .1), r .0, k)
 
-pub length-lineText : (cs : List Column) (vs : List ℕ) → layoutOk cs ≡ true → rowGood cs vs ≡ true → length (lineText cs vs) ≡ lineBytes cs
-length-lineText cs vs o g = line-length cs (lineText cs vs) (line-read-written cs vs o g)
-
 -- each number of a row in range is in its column's range
 pub row-in-range : (cs : List Column) (vs : List ℕ) (d : Column) (i : ℕ) → rowGood cs vs ≡ true → i < length cs → inRange (getD cs i d) (getD vs i 0) ≡ true
 unfolding rowGood
@@ -123,12 +124,6 @@ module _ (c : Column) (cs : List Column) (t s : List ℕ) (n : ℕ) (wide : leng
 
 -- A field by its place.
 
--- the columns of a line before field i
-unfoldable pub offset : ℕ → List Column → ℕ
-offset zero cs = 0
-offset (suc i) [] = 0
-offset (suc i) (c ∷ cs) = c .width + offset i cs
-
 -- the bytes of field i
 unfoldable pub fieldAt : ℕ → List Column → List ℕ → List ℕ
 fieldAt i cs s = take (getD cs i noColumn .width) (drop (offset i cs) s)
@@ -145,20 +140,20 @@ field-at (suc i) (c ∷ cs) s l h =
     let g = isNumber (fieldValue c (take (c .width) s)) in
     rw drop-drop at (field-at i cs (drop (c .width) s) (omega arith) (and-snd g (lineSet cs (drop (c .width) s)) h))
 
--- the fields from k on are a line of their own
-pub rest-set : (k : ℕ) (cs : List Column) (s : List ℕ) → lineSet cs s ≡ true → k ≤ length cs → lineSet (drop k cs) (drop (offset k cs) s) ≡ true
-unfolding offset lineSet
-rest-set zero cs s h l = h
-rest-set (suc k) [] s h l = absurd (omega arith)
-rest-set (suc k) (c ∷ cs) s h l =
-    let g = isNumber (fieldValue c (take (c .width) s)) in
-    rw drop-drop at (rest-set k cs (drop (c .width) s) (and-snd g (lineSet cs (drop (c .width) s)) h) (omega arith))
+-- and is read there, whatever the bytes
+pub row-at : (i : ℕ) (cs : List Column) (s : List ℕ) → i < length cs → getD (rowOf cs s) i 0 ≡ number (fieldValue (getD cs i noColumn) (fieldAt i cs s))
+unfolding fieldAt offset rowOf
+row-at i [] s l = absurd (omega arith)
+row-at zero (c ∷ cs) s l = refl
+row-at (suc i) (c ∷ cs) s l = rw drop-drop at (row-at i cs (drop (c .width) s) (omega arith))
 
-pub rest-row : (k : ℕ) (cs : List Column) (s : List ℕ) → k ≤ length cs → rowOf (drop k cs) (drop (offset k cs) s) ≡ drop k (rowOf cs s)
-unfolding offset rowOf
-rest-row zero cs s l = refl
-rest-row (suc k) [] s l = absurd (omega arith)
-rest-row (suc k) (c ∷ cs) s l = rw drop-drop at (rest-row k cs (drop (c .width) s) (omega arith))
+-- a field of the line of w bytes at a place of a sheet
+pub field-there : (i w at : ℕ) (cs : List Column) (s : List ℕ) → offset i cs + getD cs i noColumn .width ≤ w
+    → take (getD cs i noColumn .width) (drop (at + offset i cs) s) ≡ fieldAt i cs (take w (drop at s))
+unfolding fieldAt
+field-there i w at cs s l =
+    ap (take (getD cs i noColumn .width)) (sym (drop-drop (offset i cs) at s))
+    ∙ sym (take-drop-take (getD cs i noColumn .width) (offset i cs) w (drop at s) l)
 
 -- LF stands behind the last field
 pub line-end : (cs : List Column) (s : List ℕ) → lineSet cs s ≡ true → drop (offset (length cs) cs) s ≡ 10 ∷ []
@@ -167,3 +162,18 @@ line-end [] s h = eqList-true s (10 ∷ []) h
 line-end (c ∷ cs) s h =
     let g = isNumber (fieldValue c (take (c .width) s)) in
     rw drop-drop at (line-end cs (drop (c .width) s) (and-snd g (lineSet cs (drop (c .width) s)) h))
+
+-- a figure is the number that its digits make
+pub digits-at : (i : ℕ) (cs : List Column) (s : List ℕ)
+    → i < length cs → isFigure (getD cs i noColumn) ≡ true → lineSet cs s ≡ true → digits (fieldAt i cs s) ≡ getD (rowOf cs s) i 0
+digits-at i cs s l f h =
+    let t = fieldAt i cs s in
+    let v = getD (rowOf cs s) i 0 in
+    digits-are t v (scan-of (getD cs i noColumn) t v f (field-at i cs s l h))
+
+-- a field ends before LF
+pub field-within : (i : ℕ) (cs : List Column) → i < length cs → offset i cs + getD cs i noColumn .width < lineBytes cs
+unfolding offset lineBytes
+field-within i [] l = absurd (omega arith)
+field-within zero (c ∷ cs) l = omega (arith, positive cs)
+field-within (suc i) (c ∷ cs) l = omega (arith, field-within i cs (omega arith))

@@ -2,11 +2,11 @@
 -- Bytes go by `pieces`; the order of keys stays since a record is replaced by one of the same key.
 use Prim.Native.Nat.{ℕ, zero, suc, _*_, _/_, _≤_, _<_}
 use mathlib.Core.Path.{_≡_, refl, sym, ap, ap₂, _∙_, subst}
-use mathlib.Core.Bool.{Bool, true, _&&_}
+use mathlib.Core.Bool.{Bool, true, _&&_, cond}
 use mathlib.Core.List.{List, [], _∷_, map}
 use native.Mathlib.Omega.{arith}
 use lib.ListN.{length, take, drop, getD, set, length-map, length-set, List·getD-map, List·getD-eq-default}
-use lib.Dec.{eqb, leb}
+use lib.Dec.{eqb, leb, ltb}
 use borrow.Author.Tests.{eq-eqb}
 use Rattle.lists.specs.Bytes.{bytes, eqList}
 use Rattle.decimal.specs.Field.{number, figure, scanned, within}
@@ -65,6 +65,10 @@ unfolding records linesOf
 record-at s i l =
     ap (getD (map recordIn (pieces recordBytes (length s / recordBytes) s)) i) (sym no-record)
     ∙ List·getD-map recordIn (pieces recordBytes (length s / recordBytes) s) i [] ∙ ap recordIn (getD-pieces recordBytes i (length s / recordBytes) s l)
+
+-- the sheet with the record at place i changed; past the end nothing changes
+abbrev pub changedAt : (Record → Record) → ℕ → List ℕ → List ℕ
+changedAt f i s = cond (ltb i (length s / recordBytes)) (over s (i * recordBytes) (recordText (f (getD (records s) i noRecord)))) s
 
 -- each line of an accepted sheet can be read
 pub line-set : (s : List ℕ) (i : ℕ) → recordsAccepted s ≡ true → i < length s / recordBytes → lineSet recordLayout (take recordBytes (drop (i * recordBytes) s)) ≡ true

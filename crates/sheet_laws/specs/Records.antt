@@ -16,10 +16,11 @@ use Rattle.lists.specs.Pieces.{joined-pieces, pieces-joined, length-joined}
 use Rattle.types.specs.declared.State.{State}
 use Rattle.types.specs.declared.State.the-variants.{Absent, Committed, Prepared}
 use Rattle.types.specs.declared.Record.{Record}
-use Rattle.model.specs.Layouts.{recordLayout, words, figures, recordBytes}
+use Rattle.model.specs.Layouts.{recordLayout, words, noColumn, stateField, recordBytes, recordFields}
 use Rattle.model.specs.Lines.{fieldValue, fieldBytes, wordFrom, rowOf, lineSet, lineText, rowGood, inRange, linesOf, linesSet}
 use Rattle.model.specs.Records.{stateNumber, stateOf, keyNumbers, imageNumbers, keyOf, imageFrom, recordOf, recordNumbers, goodAlone, recordsGood, recordIn, recordText, records, recordsText, recordsAccepted}
 use Rattle.sheet_laws.specs.Fields.{columnOk, allBelow, isThe, wordOk}
+use Rattle.sheet_laws.specs.Spans.{layoutWide}
 use Rattle.sheet_laws.specs.Lines.{layoutOk, lineBytes, length-rowOf, line-length, line-written-read, line-read-written, row-read-written, row-in-range}
 
 state-of-number : (s : State) → stateOf (stateNumber s) ≡ s
@@ -44,27 +45,47 @@ record-of-numbers r =
     (state-of-number (r .state))
 
 -- fifteen numbers whose sixth is a state's are those of their record
-pub numbers-of-record : (v : List ℕ) → length v ≡ 15 → getD v 5 0 ≤ 2 → recordNumbers (recordOf v) ≡ v
+pub numbers-of-record : (v : List ℕ) → length v ≡ recordFields → getD v stateField 0 ≤ 2 → recordNumbers (recordOf v) ≡ v
 unfolding recordOf recordNumbers keyOf keyNumbers imageFrom imageNumbers listed
 numbers-of-record v n l =
-    let e : listed 0 15 v ≡ v = listed-is 0 15 v n in
-    rw (number-of-state (getD v 5 0) l) e
+    let e : listed 0 recordFields v ≡ v = listed-is 0 recordFields v n in
+    rw (number-of-state (getD v stateField 0) l) e
 
 -- `recordLayout` passes the test of layouts, and its lines have 98 bytes
 pub record-layout-ok : layoutOk recordLayout ≡ true
 unfolding all columnOk recordLayout words allBelow wordOk isThe fieldValue fieldBytes wordFrom bytes eqList
 record-layout-ok = refl
 
+pub record-wide : layoutWide recordLayout ≡ true
+unfolding all recordLayout
+record-wide = refl
+
 pub record-bytes : lineBytes recordLayout ≡ recordBytes
 unfolding lineBytes recordLayout
 record-bytes = refl
 
+pub record-fields : length recordLayout ≡ recordFields
+unfolding recordLayout
+record-fields = refl
+
+-- a line that can be read is whole
+pub line-whole : (line : List ℕ) → lineSet recordLayout line ≡ true → length line ≡ recordBytes
+line-whole line h = line-length recordLayout line h ∙ record-bytes
+
+-- what a line that can be read gives to those who change it
+pub record Readable (line : List ℕ) : Type 0 where
+  pub set : lineSet recordLayout line ≡ true
+  pub whole : length line ≡ recordBytes
+
+pub readable : (line : List ℕ) → lineSet recordLayout line ≡ true → Readable line
+readable line h = record { set = h; whole = line-whole line h }
+
 -- the sixth number of a row in range is a state's
-pub state-ranged : (v : List ℕ) → rowGood recordLayout v ≡ true → getD v 5 0 ≤ 2
+pub state-ranged : (v : List ℕ) → rowGood recordLayout v ≡ true → getD v stateField 0 ≤ 2
 unfolding recordLayout inRange
 state-ranged v g =
-    let i = row-in-range recordLayout v (figures 0 0 0) 5 g (omega arith) in
-    leb-true (getD v 5 0) 2 (and-snd (leb 0 (getD v 5 0)) (leb (getD v 5 0) 2) i)
+    let i = row-in-range recordLayout v noColumn stateField g (omega arith) in
+    leb-true (getD v stateField 0) 2 (and-snd (leb 0 (getD v stateField 0)) (leb (getD v stateField 0) 2) i)
 
 -- the numbers of a line that can be read are those of its record
 pub line-numbers : (line : List ℕ) → lineSet recordLayout line ≡ true → recordNumbers (recordIn line) ≡ rowOf recordLayout line
@@ -88,7 +109,7 @@ pub good-ranged : (r : Record) → goodAlone r ≡ true → ranged r ≡ true
 unfolding goodAlone
 good-ranged r h = search tests
 
-pub length-numbers : (r : Record) → length (recordNumbers r) ≡ 15
+pub length-numbers : (r : Record) → length (recordNumbers r) ≡ recordFields
 unfolding recordNumbers keyNumbers imageNumbers
 length-numbers r = refl
 
@@ -104,7 +125,7 @@ unfolding recordText
 record-text-set r g = line-read-written recordLayout (recordNumbers r) record-layout-ok g
 
 pub length-recordText : (r : Record) → ranged r ≡ true → length (recordText r) ≡ recordBytes
-length-recordText r g = line-length recordLayout (recordText r) (record-text-set r g) ∙ record-bytes
+length-recordText r g = line-whole (recordText r) (record-text-set r g)
 
 -- T3, record sheet: an accepted sheet, read into records and written again, is the same sheet
 pub sheet-written-read : (s : List ℕ) → recordsAccepted s ≡ true → recordsText (records s) ≡ s

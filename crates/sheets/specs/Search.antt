@@ -158,4 +158,4 @@ search-is s k a g =
     let w : all (lineSet recordLayout) (linesOf recordBytes s) ≡ true = search tests in
     sym
     (first-map (λ (r : Record). sameKey (r .key) k) recordIn (lineSet recordLayout) _
-    (λ l o. sym (ap (eqList (take 20 l)) (key-line-text k g) ∙ key-same l o k g)) 0 (linesOf recordBytes s) w)
+    (λ l o. sym (ap (eqList (take 20 l)) (key-line-text k) ∙ key-same l o k g)) 0 (linesOf recordBytes s) w)

@@ -81,8 +81,47 @@ pub struct Column {
     pub high: u32,
 }
 
-// Bytes of a record line, LF counted.
+// Bytes of a record line and of a coordinator line, LF counted.
 pub const RECORD_BYTES: usize = 98;
+
+pub const COORDINATOR_BYTES: usize = 15;
+
+// Fields of a record line.
+pub const RECORD_FIELDS: usize = 15;
+
+// Columns of a state or decision word, of the number of a coordinator line, and of a record's version, TxID, column and clock.
+pub const WORD_BYTES: usize = 10;
+
+pub const NUMBER_BYTES: usize = 4;
+
+pub const VERSION_BYTES: usize = 6;
+
+pub const TXID_BYTES: usize = 4;
+
+pub const COLUMN_BYTES: usize = 9;
+
+pub const CLOCK_BYTES: usize = 11;
+
+// Bytes of an image: version, TxID and both columns.
+pub const IMAGE_BYTES: usize = VERSION_BYTES + TXID_BYTES + COLUMN_BYTES + COLUMN_BYTES;
+
+// Where the fields of a record line begin: behind the key its state word, the image, the image before it, the clock.
+pub const STATE_AT: usize = 20;
+
+pub const VERSION_AT: usize = STATE_AT + WORD_BYTES;
+
+pub const TXID_AT: usize = VERSION_AT + VERSION_BYTES;
+
+pub const COLUMN1_AT: usize = TXID_AT + TXID_BYTES;
+
+pub const COLUMN2_AT: usize = COLUMN1_AT + COLUMN_BYTES;
+
+pub const BEFORE_AT: usize = COLUMN2_AT + COLUMN_BYTES;
+
+pub const CLOCK_AT: usize = BEFORE_AT + IMAGE_BYTES;
+
+// Where the decision of a coordinator line begins, behind its number.
+pub const DECISION_AT: usize = NUMBER_BYTES;
 
 // The kinds of line. A key line is the first five fields of a record line.
 pub enum Layout {

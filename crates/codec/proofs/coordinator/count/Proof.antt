@@ -1,4 +1,4 @@
--- The lines after the head are what is left of the length, cut by 15.
+-- The lines after the head are what is left of the length, cut by the bytes of a line.
 use native.Mathlib.Omega.{arith}
 use lib.ListN.{length-drop}
 use borrow.Author.Needs.{needs}

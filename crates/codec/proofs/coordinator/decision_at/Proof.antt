@@ -1,53 +1,50 @@
--- The row read from the line of the number is that of its decision; a number without a line is undecided.
-use Prim.Native.Nat.{_+_, _*_, _≤_}
-use mathlib.Core.Path.{refl, sym, _∙_}
-use native.Mathlib.Omega.{arith}
-use lib.ListN.{length, length-take, length-drop}
+-- By the words that may stand in the line of the number; a number without a line is undecided.
+use mathlib.Core.Path.{sym, _∙_}
+use borrow.Author.Tests.{not-true, not-false}
 use borrow.Author.Needs.{needs}
-use Rattle.model.specs.Layouts.{layout, lineLayout}
-use Rattle.sheet_laws.specs.Lines.{lineBytes}
-use Rattle.codec.specs.Parts.{line-ends, decision-part, decision-past}
+use Rattle.codec.specs.Parts.{decision-part, decision-past}
 use Rattle.codec.proofs.coordinator.decision_at.Statement.{statement}
 use Rattle.codec.proofs.coordinator.decision_at.Tie as tie
 
-part-read-row-end : tie.Need-part-read-row-end
-part-read-row-end c =
-    let a = c .before .before .before .args in
-    let e : a .n * 15 + 15 ≤ length (a .coordinator .now) = line-ends (a .n) (a .coordinator .now) (sym (c .before .has-line .ensures) ∙ c .if1 .taken) in
-    omega arith
-
-read-row-requires : tie.Need-read-row-requires
-unfolding layout lineLayout lineBytes
-read-row-requires c κs =
-    let a = c .before .before .before .before .before .args in
-    let e : a .n * 15 + 15 ≤ length (a .coordinator .now) = line-ends (a .n) (a .coordinator .now) (sym (c .before .before .before .has-line .ensures) ∙ c .before .before .if1 .taken) in
-    (simp (length-take, length-drop) (omega arith), refl)
-
 returns : tie.Need-returns
-unfolding layout
 returns c =
-    let a = c .before .before .before .before .before .before .before .before .args in
-    c .decision-of .ensures
-    ∙ decision-part (a .coordinator .now) _ (a .n) (sym (c .before .before .before .before .before .before .has-line .ensures) ∙ c .before .before .before .before .before .if1 .taken) (c .before .before .read-row .ensures)
+    let a = c .before .before .before .args in
+    decision-past (a .coordinator .now) (a .n) (sym (c .before .has-line .ensures) ∙ not-true _ (c .if1 .taken))
+
+holds-decision-requires : tie.Need-holds-decision-requires
+holds-decision-requires c κs = sym (c .before .has-line .ensures) ∙ not-false _ (c .if1 .left)
 
 returns-2 : tie.Need-returns-2
 returns-2 c =
-    let a = c .before .before .before .args in
-    decision-past (a .coordinator .now) (a .n) (sym (c .before .has-line .ensures) ∙ c .if1 .left)
+    let a = c .before .before .before .before .before .args in
+    let there = sym (c .before .before .before .has-line .ensures) ∙ not-false _ (c .before .before .if1 .left) in
+    rw (decision-part (a .coordinator .now) (a .n) there, sym (c .before .holds-decision .ensures) ∙ c .if2 .taken)
+
+holds-decision-requires-2 : tie.Need-holds-decision-requires-2
+holds-decision-requires-2 c κs = sym (c .before .before .before .has-line .ensures) ∙ not-false _ (c .before .before .if1 .left)
+
+returns-3 : tie.Need-returns-3
+returns-3 c =
+    let a = c .before .before .before .before .before .before .before .args in
+    let there = sym (c .before .before .before .before .before .has-line .ensures) ∙ not-false _ (c .before .before .before .before .if1 .left) in
+    let first = sym (c .before .before .before .holds-decision .ensures) ∙ c .before .before .if2 .left in
+    rw (decision-part (a .coordinator .now) (a .n) there, first, sym (c .before .holds-decision2 .ensures) ∙ c .if3 .taken)
+
+returns-4 : tie.Need-returns-4
+returns-4 c =
+    let a = c .before .before .before .before .before .before .before .args in
+    let there = sym (c .before .before .before .before .before .has-line .ensures) ∙ not-false _ (c .before .before .before .before .if1 .left) in
+    let first = sym (c .before .before .before .holds-decision .ensures) ∙ c .before .before .if2 .left in
+    rw (decision-part (a .coordinator .now) (a .n) there, first, sym (c .before .holds-decision2 .ensures) ∙ c .if3 .left)
 
 pub decision-at-spec : {M : Type 1} → statement M
 decision-at-spec =
     tie.close
     (tie.spec
     (λ c κs. search needs)
-    (λ c. search needs)
-    (λ c. search needs)
-    (λ c. search needs)
-    (λ c. search needs)
-    part-read-row-end
-    (λ c. search needs)
-    read-row-requires
-    (λ c. search needs)
-    (λ c κs. search needs)
     returns
-    returns-2)
+    holds-decision-requires
+    returns-2
+    holds-decision-requires-2
+    returns-3
+    returns-4)

@@ -6,7 +6,7 @@ use mathlib.Core.List.{[], _∷_}
 use native.Mathlib.Omega.{arith}
 use lib.ListN.{length, length-take, length-drop}
 use borrow.Author.Needs.{needs}
-use Rattle.model.specs.Layouts.{layout, lineLayout}
+use Rattle.model.specs.Layouts.{layout, lineLayout, coordinatorBytes}
 use Rattle.model.specs.Lines.{lineText}
 use Rattle.sheet_laws.specs.Lines.{lineBytes}
 use Rattle.codec.specs.Parts.{hasLine, line-ends, room-part}
@@ -16,24 +16,24 @@ use Rattle.codec.proofs.coordinator.set_decision.Tie as tie
 part-write-row-end : tie.Need-part-write-row-end
 part-write-row-end c =
     let a = c .before .before .before .before .before .before .args in
-    let e : a .n * 15 + 15 ≤ length (a .coordinator .now) = line-ends (a .n) (a .coordinator .now) (sym (c .before .before .before .has-line .ensures) ∙ c .before .before .if1 .taken) in
+    let e : a .n * coordinatorBytes + coordinatorBytes ≤ length (a .coordinator .now) = line-ends (a .n) (a .coordinator .now) (sym (c .before .before .before .has-line .ensures) ∙ c .before .before .if1 .taken) in
     omega arith
 
 write-row-requires : tie.Need-write-row-requires
 unfolding layout lineLayout lineBytes
 write-row-requires c κs =
     let a = c .before .before .before .before .before .before .before .args in
-    let e : a .n * 15 + 15 ≤ length (a .coordinator .now) = line-ends (a .n) (a .coordinator .now) (sym (c .before .before .before .before .has-line .ensures) ∙ c .before .before .before .if1 .taken) in
+    let e : a .n * coordinatorBytes + coordinatorBytes ≤ length (a .coordinator .now) = line-ends (a .n) (a .coordinator .now) (sym (c .before .before .before .before .has-line .ensures) ∙ c .before .before .before .if1 .taken) in
     (refl, simp (length-take, length-drop) (omega arith))
 
 returns : tie.Need-returns
 unfolding layout
 returns c =
     let a = c .before .before .before .before .before .before .before .before .before .before .args in
-    let e : a .n * 15 + 15 ≤ length (a .coordinator .now) = line-ends (a .n) (a .coordinator .now) (sym (c .before .before .before .before .before .before .before .has-line .ensures) ∙ c .before .before .before .before .before .before .if1 .taken) in
-    let k : length (c .before .before .write-row .last .1 .1 .0) ≡ a .n * 15 + 15 - a .n * 15 =
+    let e : a .n * coordinatorBytes + coordinatorBytes ≤ length (a .coordinator .now) = line-ends (a .n) (a .coordinator .now) (sym (c .before .before .before .before .before .before .before .has-line .ensures) ∙ c .before .before .before .before .before .before .if1 .taken) in
+    let k : length (c .before .before .write-row .last .1 .1 .0) ≡ a .n * coordinatorBytes + coordinatorBytes - a .n * coordinatorBytes =
     c .before .before .write-row .kept .1 .1 .0 ∙ simp (length-take, length-drop) (omega arith) in
-    room-part (hasLine (a .n) (a .coordinator .now)) 15 (a .n * 15) _ _ _ (sym (c .before .before .before .before .before .before .before .has-line .ensures) ∙ c .before .before .before .before .before .before .if1 .taken) k
+    room-part (hasLine (a .n) (a .coordinator .now)) coordinatorBytes (a .n * coordinatorBytes) _ _ _ (sym (c .before .before .before .before .before .before .before .has-line .ensures) ∙ c .before .before .before .before .before .before .if1 .taken) k
     (c .before .before .write-row .ensures ∙ ap (λ (d : ℕ). lineText lineLayout (a .n ∷ d ∷ [])) (c .before .before .before .before .before .decision-number .ensures))
 
 returns-2 : tie.Need-returns-2

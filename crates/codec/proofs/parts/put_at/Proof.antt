@@ -1,8 +1,8 @@
 -- The part comes back as the text, which has its length.
 use borrow.Author.Needs.{needs}
 use Rattle.codec.specs.Parts.{text-over}
-use Rattle.codec.proofs.settling.put_at.Statement.{statement}
-use Rattle.codec.proofs.settling.put_at.Tie as tie
+use Rattle.codec.proofs.parts.put_at.Statement.{statement}
+use Rattle.codec.proofs.parts.put_at.Tie as tie
 
 returns : tie.Need-returns
 returns c =

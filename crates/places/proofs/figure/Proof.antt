@@ -3,16 +3,16 @@ use Prim.Native.Nat.{_+_, _-_, _≤_, _<_, _^_}
 use mathlib.Core.Path.{_≡_, sym, _∙_}
 use native.Mathlib.Omega.{arith}
 use borrow.Author.Needs.{needs}
-use Rattle.record_check.specs.Figures.{digitsFrom, figureAt, digitsLeft, digits-next, digits-room, digits-fit}
-use Rattle.record_check.proofs.figure.Statement.{statement}
-use Rattle.record_check.proofs.figure.Tie as tie
+use Rattle.decimal.specs.Digits.{digitsFrom, figureAt, digitsLeft, digits-next, digits-room, digits-fit}
+use Rattle.places.proofs.figure.Statement.{statement}
+use Rattle.places.proofs.figure.Tie as tie
 
 abbrev Inv-loop : tie.InvT-loop
-Inv-loop line at n v₀ i₀ v i =
-    (i ≤ n) × (v < 16 ^ i) × (digitsLeft v at n i line ≡ figureAt at n line)
+Inv-loop s at n v₀ i₀ v i =
+    (i ≤ n) × (v < 16 ^ i) × (digitsLeft v at n i s ≡ figureAt at n s)
 
 abbrev μ-loop : tie.MeasureT-loop
-μ-loop line at n v₀ i₀ v i = n - i
+μ-loop s at n v₀ i₀ v i = n - i
 
 loop-holds : tie.Need-loop-holds Inv-loop μ-loop
 loop-holds c =
@@ -36,7 +36,7 @@ loop-again c =
     let b = c .wide .result in (
       omega arith,
       digits-room (l .v) (l .i) b (l .inv .1),
-      sym (digits-next (l .v) (a .at) (a .n) (l .i) b (a .line .now) (c .wide .ensures .0) (c .before .before .loop-test .taken) (omega arith))
+      sym (digits-next (l .v) (a .at) (a .n) (l .i) b (a .s .now) (c .wide .ensures .0) (c .before .before .loop-test .taken) (omega arith))
           ∙ l .inv .2,
     )
 

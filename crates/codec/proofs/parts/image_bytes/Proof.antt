@@ -1,16 +1,22 @@
 -- The array comes back as the image's bytes, which have its length.
-use native.Mathlib.Omega.{arith}
 use mathlib.Core.Path.{refl}
+use native.Mathlib.Omega.{arith}
 use borrow.Author.Needs.{needs}
+use Rattle.model.specs.Layouts.{offset, recordLayout, imageLayout, imageBytes}
 use Rattle.codec.specs.Parts.{bytes-copied}
-use Rattle.codec.proofs.settling.image_bytes.Statement.{statement}
-use Rattle.codec.proofs.settling.image_bytes.Tie as tie
+use Rattle.codec.proofs.parts.image_bytes.Statement.{statement}
+use Rattle.codec.proofs.parts.image_bytes.Tie as tie
+
+part-put-end : tie.Need-part-put-end
+unfolding offset recordLayout imageLayout
+part-put-end c = search needs
 
 returns : tie.Need-returns
+unfolding offset recordLayout imageLayout
 returns c =
     let a = c .before .before .before .before .before .before .args in
     let p = c .before .before .before .before .image-place .ensures in
-    bytes-copied _ (a .line .now) _ 28 _ _ refl (p .0) (omega arith) (c .before .put .ensures)
+    bytes-copied _ (a .line .now) _ imageBytes _ _ refl (p .0) (omega arith) (c .before .put .ensures)
 
 pub image-bytes-spec : {M : Type 1} → statement M
 image-bytes-spec =
@@ -21,6 +27,6 @@ image-bytes-spec =
     (λ c. search needs)
     (λ c. search needs)
     (λ c. search needs)
-    (λ c. search needs)
+    part-put-end
     (λ c κs. search needs)
     returns)

@@ -1,0 +1,21 @@
+-- The ten bytes that are compared are the whole word.
+use mathlib.Core.Path.{ap, _∙_}
+use native.Mathlib.Omega.{arith}
+use lib.Seq.{take-all}
+use lib.ListN.{take, drop}
+use borrow.Author.Needs.{needs}
+use Rattle.lists.specs.Bytes.{eqList}
+use Rattle.model.specs.Layouts.{wordAt}
+use Rattle.sheet_laws.specs.Fields.{length-wordAt}
+use Rattle.codec.proofs.fields.is_word_at.Statement.{statement}
+use Rattle.codec.proofs.fields.is_word_at.Tie as tie
+
+returns : tie.Need-returns
+returns c =
+    let a = c .before .before .before .before .args in
+    let whole = take-all 10 (wordAt (a .kind) (a .n)) (omega (arith, length-wordAt (a .kind) (a .n))) in
+    c .ten-equal .ensures ∙ ap (eqList (take 10 (drop (a .at) (a .s .now)))) (ap (take 10) (c .before .before .word .ensures) ∙ whole)
+
+pub is-word-at-spec : {M : Type 1} → statement M
+is-word-at-spec =
+    tie.close (tie.spec (λ c κs. search needs) (λ c. search needs) (λ c κs. search needs) returns)

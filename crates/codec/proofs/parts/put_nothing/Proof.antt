@@ -1,0 +1,16 @@
+-- The constant is the text of zeros, by computation.
+use borrow.Author.Needs.{needs}
+use Rattle.decimal.specs.Field.{ahead, fieldText}
+use Rattle.model.specs.Layouts.{offset, recordLayout}
+use Rattle.model.specs.Lines.{fieldBytes}
+use Rattle.model.specs.Records.{imageNumbers}
+use Rattle.sheet_laws.specs.Spans.{fieldsText}
+use Rattle.codec.proofs.parts.put_nothing.Statement.{statement}
+use Rattle.codec.proofs.parts.put_nothing.Tie as tie
+
+returns : tie.Need-returns
+unfolding offset recordLayout fieldsText fieldBytes fieldText ahead imageNumbers
+returns c = c .before .before .put-at .ensures
+
+pub put-nothing-spec : {M : Type 1} → statement M
+put-nothing-spec = tie.close (tie.spec (λ c. search needs) (λ c κs. search needs) (λ c. search needs) returns)

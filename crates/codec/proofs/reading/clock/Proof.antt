@@ -1,0 +1,25 @@
+-- The figure is that of the clock's field.
+use mathlib.Core.Path.{refl}
+use native.Mathlib.Omega.{arith}
+use borrow.Author.Needs.{needs}
+use Rattle.model.specs.Layouts.{clockField, recordLayout, offset}
+use Rattle.model.specs.Records.{recordNumbers, keyNumbers, imageNumbers}
+use Rattle.sheet_laws.specs.Singles.{figure-told}
+use Rattle.codec.proofs.reading.clock.Statement.{statement}
+use Rattle.codec.proofs.reading.clock.Tie as tie
+
+cast-result : tie.Need-cast-result
+unfolding recordLayout offset
+cast-result c =
+    let a = c .before .before .args in
+    let t = figure-told (a .records .now) (a .i) clockField (c .before .before .pre) (omega arith) _ refl (c .figure .ensures) in
+    omega (arith, t .fits)
+
+returns : tie.Need-returns
+unfolding recordLayout offset recordNumbers keyNumbers imageNumbers
+returns c =
+    let a = c .before .before .args in
+    figure-told (a .records .now) (a .i) clockField (c .before .before .pre) (omega arith) _ refl (c .figure .ensures) .is
+
+pub clock-spec : {M : Type 1} → statement M
+clock-spec = tie.close (tie.spec (λ c κs. search needs) cast-result returns)

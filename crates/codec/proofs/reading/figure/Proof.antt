@@ -1,0 +1,14 @@
+-- The digits at the line's place, or 0 past the end.
+use borrow.Author.Tests.{lt-ltb, le-ltb}
+use borrow.Author.Needs.{needs}
+use Rattle.codec.proofs.reading.figure.Statement.{statement}
+use Rattle.codec.proofs.reading.figure.Tie as tie
+
+returns : tie.Need-returns
+returns c = rw (lt-ltb _ _ (c .before .if1 .taken)) (c .figure .ensures .0)
+
+returns-2 : tie.Need-returns-2
+returns-2 c = rw (le-ltb _ _ (c .if1 .left))
+
+pub figure-spec : {M : Type 1} → statement M
+figure-spec = tie.close (tie.spec (λ c. search needs) (λ c. search needs) (λ c κs. search needs) returns returns-2)

@@ -1,0 +1,28 @@
+-- The ten bytes compared tell the state; past the end no line is pending.
+use Prim.Native.Nat.{ℕ, _+_, _*_}
+use mathlib.Core.Path.{sym, ap, _∙_}
+use lib.ListN.{take, drop}
+use borrow.Author.Needs.{needs}
+use Rattle.lists.specs.Bytes.{eqList}
+use Rattle.types.specs.declared.Kind.the-variants.{StateWord}
+use Rattle.model.specs.Layouts.{recordLayout, offset, wordAt, recordBytes, recordOffset, recordWidth, stateField}
+use Rattle.model.specs.Images.{isPrepared}
+use Rattle.sheet_laws.specs.Singles.{prepared-told}
+use Rattle.sheet_laws.specs.Places.{record-past}
+use Rattle.codec.proofs.reading.is_prepared.Statement.{statement}
+use Rattle.codec.proofs.reading.is_prepared.Tie as tie
+
+returns : tie.Need-returns
+unfolding recordLayout offset
+returns c =
+    let a = c .before .before .before .before .args in
+    let word = take (recordWidth stateField) (drop (a .i * recordBytes + recordOffset stateField) (a .records .now)) in
+    c .is-word-at .ensures
+    ∙ (ap (λ (n : ℕ). eqList word (wordAt StateWord n)) (c .before .state-number .ensures) ∙ prepared-told (a .records .now) (a .i) (c .before .before .if1 .taken))
+
+returns-2 : tie.Need-returns-2
+returns-2 c = sym (ap isPrepared (record-past _ _ (c .if1 .left)))
+
+pub is-prepared-spec : {M : Type 1} → statement M
+is-prepared-spec =
+    tie.close (tie.spec (λ c. search needs) (λ c. search needs) (λ c κs. search needs) (λ c κs. search needs) returns returns-2)

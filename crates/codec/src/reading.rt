@@ -1,0 +1,87 @@
+// Single fields of the line at a place of a record sheet, each read without the others.
+ghost use mathlib.Core.Path.{_≡_};
+ghost use mathlib.Core.Bool.{cond, true};
+ghost use Prim.Native.Nat.{_+_, _*_, _/_, _≤_};
+ghost use lib.ListN.{length, getD};
+ghost use lib.Dec.{ltb};
+ghost use Rattle.decimal.specs.Digits.{figureAt};
+ghost use Rattle.model.specs.Layouts.{recordBytes};
+ghost use Rattle.model.specs.Records.{noRecord, recordsAccepted};
+ghost use Rattle.model.specs.Records as model;
+ghost use Rattle.model.specs.Images.{isPrepared, beforeState};
+use crate::fields;
+use crate::records;
+use types::BEFORE_AT;
+use types::CLOCK_AT;
+use types::CLOCK_BYTES;
+use types::Kind;
+use types::RECORD_BYTES;
+use types::STATE_AT;
+use types::State;
+use types::TXID_AT;
+use types::TXID_BYTES;
+use types::VERSION_AT;
+use types::VERSION_BYTES;
+
+// Whether the line at place i is pending; past the end none is.
+pub fn is_prepared(records: &[u8], i: usize) -> bool
+    ensures { λ r. ⌜ r ≡ isPrepared (getD (model.records (now (records .entry))) i noRecord) ⌝ }
+{
+    if i < records.len() / RECORD_BYTES {
+        let at = i * RECORD_BYTES + STATE_AT;
+        return fields::is_word_at(
+            records,
+            at,
+            Kind::StateWord,
+            records::state_number(State::Prepared),
+        );
+    }
+    false
+}
+
+// The figure of n columns that begins `from` bytes into the line at place i, 0 past the end.
+fn figure(records: &[u8], i: usize, from: usize, n: usize) -> u64
+    requires { ⌜ from + n ≤ recordBytes ⌝ }
+    requires { ⌜ n ≤ 15 ⌝ }
+    ensures { λ r. ⌜ r ≡ cond (ltb i (length (now (records .entry)) / recordBytes)) (figureAt (i * recordBytes + from) n (now (records .entry))) 0 ⌝ }
+{
+    if i < records.len() / RECORD_BYTES {
+        return places::figure(records, i * RECORD_BYTES + from, n);
+    }
+    0
+}
+
+// The version of the line at place i.
+pub fn version(records: &[u8], i: usize) -> u32
+    requires { ⌜ recordsAccepted (now records) ≡ true ⌝ }
+    ensures { λ r. ⌜ r ≡ getD (model.records (now (records .entry))) i noRecord .image .version ⌝ }
+{
+    figure(records, i, VERSION_AT, VERSION_BYTES) as u32
+}
+
+// Its TxID.
+pub fn txid(records: &[u8], i: usize) -> u32
+    requires { ⌜ recordsAccepted (now records) ≡ true ⌝ }
+    ensures { λ r. ⌜ r ≡ getD (model.records (now (records .entry))) i noRecord .image .txid ⌝ }
+{
+    figure(records, i, TXID_AT, TXID_BYTES) as u32
+}
+
+// Its prepare clock.
+pub fn clock(records: &[u8], i: usize) -> u32
+    requires { ⌜ recordsAccepted (now records) ≡ true ⌝ }
+    ensures { λ r. ⌜ r ≡ getD (model.records (now (records .entry))) i noRecord .clock ⌝ }
+{
+    figure(records, i, CLOCK_AT, CLOCK_BYTES) as u32
+}
+
+// The state of its before image: ABSENT if the version there is 0.
+pub fn before_state(records: &[u8], i: usize) -> State
+    requires { ⌜ recordsAccepted (now records) ≡ true ⌝ }
+    ensures { λ r. ⌜ r ≡ beforeState (getD (model.records (now (records .entry))) i noRecord .before) ⌝ }
+{
+    if figure(records, i, BEFORE_AT, VERSION_BYTES) == 0 {
+        return State::Absent;
+    }
+    State::Committed
+}

@@ -1,0 +1,166 @@
+-- A record line changed in its bytes: other text over the state word, the image, the image before it or the clock, each where its fields begin. A line
+-- that can be read is the text of its record, and that text with a part written over is the text of the record with that part, whatever its numbers.
+use Prim.Native.Nat.{ℕ, _+_, _≤_}
+use mathlib.Core.Path.{_≡_, refl, sym, ap, ap₂, _∙_}
+use mathlib.Core.Bool.{Bool, true, false, cond}
+use mathlib.Core.List.{List, [], _∷_, _++_, append-assoc, append-nil}
+use native.Mathlib.Omega.{arith}
+use lib.ListN.{length, take, drop, length-append}
+use Rattle.lists.specs.Pieces.{over, over-next}
+use Rattle.decimal.specs.Field.{fieldText}
+use Rattle.decimal.specs.Laws.{length-fieldText}
+use Rattle.types.specs.declared.Image.{Image}
+use Rattle.types.specs.declared.Kind.the-variants.{StateWord}
+use Rattle.types.specs.declared.Record.{Record}
+use Rattle.types.specs.declared.State.{State}
+use Rattle.types.specs.declared.State.the-variants.{Committed, Prepared}
+use Rattle.model.specs.Layouts.{
+  recordLayout,
+  imageLayout,
+  wordAt,
+  stateField,
+  imageField,
+  beforeField,
+  clockField,
+  imageFields,
+  recordOffset,
+  recordWidth,
+  imageBytes,
+  offset,
+}
+use Rattle.model.specs.Lines.{fieldBytes, lineSet}
+use Rattle.model.specs.Records.{noImage, stateNumber, keyNumbers, imageNumbers, recordNumbers, recordIn, recordText}
+use Rattle.model.specs.Images.{Change, writtenImage, prepared, committed}
+use Rattle.sheet_laws.specs.Spans.{fieldsText, span-there, span-over, field-over}
+use Rattle.sheet_laws.specs.Records.{record-wide, record-written-read}
+
+-- the four fields of an image
+abbrev pub imageText : Image → List ℕ
+imageText m = fieldsText imageLayout (imageNumbers m)
+
+-- the text of no image before, and a clock of 0: what stands behind the image of a line that isn't pending
+abbrev pub nothingText : List ℕ
+nothingText = fieldsText (drop beforeField recordLayout) (imageNumbers noImage ++ (0 ∷ []))
+
+-- A line with other text over a part.
+
+abbrev pub stateOver : State → List ℕ → List ℕ
+stateOver s line = over line (recordOffset stateField) (wordAt StateWord (stateNumber s))
+
+abbrev pub imageOver : List ℕ → List ℕ → List ℕ
+imageOver t line = over line (recordOffset imageField) t
+
+-- from the image before on
+abbrev pub beforeOver : List ℕ → List ℕ → List ℕ
+beforeOver t line = over line (recordOffset beforeField) t
+
+-- the figure v over field k
+abbrev pub figureOver : ℕ → ℕ → List ℕ → List ℕ
+figureOver k v line = over line (recordOffset k) (fieldText (recordWidth k) v)
+
+-- one of a record's two images, that of before or its own, where it stands in the line, and the bytes there
+abbrev pub imageOf : Bool → Record → Image
+imageOf before r = cond before (r .before) (r .image)
+
+abbrev pub imagePlace : Bool → ℕ
+imagePlace before = cond before (recordOffset beforeField) (recordOffset imageField)
+
+abbrev pub imageIn : Bool → List ℕ → List ℕ
+imageIn before line = take imageBytes (drop (imagePlace before) line)
+
+-- a record's key with other parts behind it
+abbrev behind : Record → State → Image → Image → ℕ → Record
+behind r s m b clock = record { key = r .key; state = s; image = m; before = b; clock = clock }
+
+-- the record with a state, one of its images and nothing before it
+abbrev pub settledAs : State → Bool → Record → Record
+settledAs state before r = behind r state (imageOf before r) noImage 0
+
+-- The text of a record, and of the record with another part.
+module _ (r : Record) where
+  state-over : (s : State) → stateOver s (recordText r) ≡ recordText (behind r s (r .image) (r .before) (r .clock))
+  unfolding recordText recordLayout recordNumbers keyNumbers imageNumbers fieldBytes over
+  state-over s = field-over stateField (stateNumber s) recordLayout (recordNumbers r) record-wide (omega arith) refl
+
+  image-over : (m : Image) → imageOver (imageText m) (recordText r) ≡ recordText (behind r (r .state) m (r .before) (r .clock))
+  unfolding recordText recordLayout recordNumbers keyNumbers imageLayout imageNumbers over
+  image-over m = span-over imageField recordLayout (imageNumbers m) (recordNumbers r) record-wide (omega arith) refl
+
+  before-over : (m : Image) → beforeOver (imageText m) (recordText r) ≡ recordText (behind r (r .state) (r .image) m (r .clock))
+  unfolding recordText recordLayout recordNumbers keyNumbers imageLayout imageNumbers over
+  before-over m = span-over beforeField recordLayout (imageNumbers m) (recordNumbers r) record-wide (omega arith) refl
+
+  clock-over : (v : ℕ) → figureOver clockField v (recordText r) ≡ recordText (behind r (r .state) (r .image) (r .before) v)
+  unfolding recordText recordLayout recordNumbers keyNumbers imageNumbers fieldBytes over
+  clock-over v = field-over clockField v recordLayout (recordNumbers r) record-wide (omega arith) refl
+
+  nothing-over : beforeOver nothingText (recordText r) ≡ recordText (behind r (r .state) (r .image) noImage 0)
+  unfolding recordText recordLayout recordNumbers keyNumbers imageNumbers over
+  nothing-over = span-over beforeField recordLayout (imageNumbers noImage ++ (0 ∷ [])) (recordNumbers r) record-wide (omega arith) refl
+
+  image-there : (before : Bool) → imageIn before (recordText r) ≡ imageText (imageOf before r)
+  unfolding recordText recordLayout recordNumbers keyNumbers imageLayout imageNumbers fieldsText offset
+  image-there true = span-there beforeField imageFields recordLayout (recordNumbers r) record-wide (omega arith)
+  image-there false = span-there imageField imageFields recordLayout (recordNumbers r) record-wide (omega arith)
+
+-- the figures of an image, each behind the one before, are its text
+pub image-written : (line : List ℕ) (m : Image) → recordOffset imageField ≤ length line
+    → figureOver (imageField + 3) (m .column2) (figureOver (imageField + 2) (m .column1) (figureOver (imageField + 1) (m .txid) (figureOver imageField (m .version) line)))
+    ≡ imageOver (imageText m) line
+unfolding offset recordLayout imageLayout imageNumbers fieldsText fieldBytes
+image-written line m l =
+    let a = fieldText (recordWidth imageField) (m .version) in
+    let b = fieldText (recordWidth (imageField + 1)) (m .txid) in
+    let c = fieldText (recordWidth (imageField + 2)) (m .column1) in
+    let d = fieldText (recordWidth (imageField + 3)) (m .column2) in
+    let na : length a ≡ recordWidth imageField = length-fieldText (recordWidth imageField) (m .version) in
+    let nb : length b ≡ recordWidth (imageField + 1) = length-fieldText (recordWidth (imageField + 1)) (m .txid) in
+    let nc : length c ≡ recordWidth (imageField + 2) = length-fieldText (recordWidth (imageField + 2)) (m .column1) in
+    let x = over-next line a b (recordOffset imageField) (recordOffset (imageField + 1)) (omega arith) l in
+    let y = over-next line (a ++ b) c (recordOffset imageField) (recordOffset (imageField + 2)) (simp length-append (omega arith)) l in
+    let z = over-next line ((a ++ b) ++ c) d (recordOffset imageField) (recordOffset (imageField + 3)) (simp length-append (omega arith)) l in
+    ap (λ (t : List ℕ). over (over t (recordOffset (imageField + 2)) c) (recordOffset (imageField + 3)) d) x
+    ∙ (ap (λ (t : List ℕ). over t (recordOffset (imageField + 3)) d) y
+    ∙ (z ∙ ap (over line (recordOffset imageField)) (simp (append-assoc, append-nil))))
+
+-- A line that can be read, and the text of its record changed.
+module _ (line : List ℕ) (set : lineSet recordLayout line ≡ true) where
+  said : line ≡ recordText (recordIn line)
+  said = sym (record-written-read line set)
+
+  -- a state, one of the line's images and nothing behind it
+  pub line-settled : (state : State) (before : Bool)
+      → beforeOver nothingText (stateOver state (imageOver (imageIn before line) line)) ≡ recordText (settledAs state before (recordIn line))
+  line-settled state before =
+      let r = recordIn line in
+      let m = imageOf before r in
+      let t = ap₂ imageOver (ap (imageIn before) said ∙ image-there r before) said ∙ image-over r m in
+      ap (λ (x : List ℕ). beforeOver nothingText (stateOver state x)) t
+      ∙ (ap (beforeOver nothingText) (state-over (behind r (r .state) m (r .before) (r .clock)) state)
+      ∙ nothing-over (behind r state m (r .before) (r .clock)))
+
+  -- a new image behind the state word, and nothing behind it
+  pub line-committed : (n : ℕ) (c : Change)
+      → beforeOver nothingText (imageOver (imageText (writtenImage n c (recordIn line))) (stateOver Committed line)) ≡ recordText (committed n c (recordIn line))
+  unfolding committed
+  line-committed n c =
+      let r = recordIn line in
+      let m = writtenImage n c r in
+      let t = ap (stateOver Committed) said ∙ state-over r Committed in
+      ap (λ (x : List ℕ). beforeOver nothingText (imageOver (imageText m) x)) t
+      ∙ (ap (beforeOver nothingText) (image-over (behind r Committed (r .image) (r .before) (r .clock)) m)
+      ∙ nothing-over (behind r Committed m (r .before) (r .clock)))
+
+  -- the line's image moved, a new one in its place, and a clock
+  pub line-prepared : (n now : ℕ) (c : Change)
+      → figureOver clockField now (imageOver (imageText (writtenImage n c (recordIn line))) (stateOver Prepared (beforeOver (imageIn false line) line)))
+      ≡ recordText (prepared n now c (recordIn line))
+  unfolding prepared
+  line-prepared n now c =
+      let r = recordIn line in
+      let m = writtenImage n c r in
+      let t = ap₂ beforeOver (ap (imageIn false) said ∙ image-there r false) said ∙ before-over r (r .image) in
+      ap (λ (x : List ℕ). figureOver clockField now (imageOver (imageText m) (stateOver Prepared x))) t
+      ∙ (ap (λ (x : List ℕ). figureOver clockField now (imageOver (imageText m) x)) (state-over (behind r (r .state) (r .image) (r .image) (r .clock)) Prepared)
+      ∙ (ap (figureOver clockField now) (image-over (behind r Prepared (r .image) (r .image) (r .clock)) m)
+      ∙ clock-over (behind r Prepared m (r .image) (r .clock)) now))
