@@ -1,20 +1,34 @@
 -- What each call answers, case by case in the order of its conditions.
 use Prim.Native.Nat.{ℕ, _+_, _*_, _≤_}
-use mathlib.Core.Path.{_≡_, refl}
-use mathlib.Core.Bool.{true, false}
+use mathlib.Core.Path.{_≡_, refl, _∙_}
+use mathlib.Core.Bool.{Bool, true, false, _&&_, and-assoc, and-true}
 use mathlib.Core.List.{List, []}
 use native.Mathlib.Omega.{arith}
-use lib.ListN.{length, take, drop}
+use lib.ListN.{length, take, drop, getD}
 use Rattle.types.specs.declared.Found.the-variants.{At, Nothing}
 use Rattle.types.specs.declared.Key.{Key}
 use Rattle.types.specs.declared.Record.{Record}
-use Rattle.model.specs.Layouts.{recordBytes}
-use Rattle.model.specs.Records.{noRecord, records, recordsAccepted, keyInRange, sameKey, found, isMissing}
+use Rattle.model.specs.Layouts.{recordLayout, keyLayout, noColumn, recordBytes}
+use Rattle.model.specs.Lines.{inRange, rowGood}
+use Rattle.model.specs.Records.{noRecord, keyNumbers, records, recordsAccepted, keyInRange, sameKey, found, isMissing}
 use Rattle.model.specs.Refusals.{refusalOf}
 use Rattle.model.specs.Coordinator.{coordinatorAccepted}
 use Rattle.model.specs.SheetCalls.{allIssued, checkConditions, lookupConditions, lineAt, lookedUp}
 use Rattle.sheet_laws.specs.Places.{length-records}
 use Rattle.sheet_laws.specs.Search.{first-at}
+
+-- a key is in range if each of its numbers is in its column's
+pub key-tests : (k : Key) (a b c d e : Bool)
+    → a ≡ inRange (getD keyLayout 0 noColumn) (k .storage)
+    → b ≡ inRange (getD keyLayout 1 noColumn) (k .namespace)
+    → c ≡ inRange (getD keyLayout 2 noColumn) (k .table)
+    → d ≡ inRange (getD keyLayout 3 noColumn) (k .partition)
+    → e ≡ inRange (getD keyLayout 4 noColumn) (k .clustering)
+    → (a && b && c && d && e) ≡ keyInRange k
+unfolding keyInRange rowGood keyLayout recordLayout keyNumbers
+key-tests k a b c d e p q r s t =
+    let n : (a && b && c && d && e) ≡ (a && (b && (c && (d && (e && true))))) = simp (and-assoc, and-true) in
+    n ∙ rw (p, q, r, s, t)
 
 -- The look-up: the part handed back and the companion's number.
 module _ (s : List ℕ) (k : Key) where

@@ -12,6 +12,10 @@ ghost use Rattle.model.specs.Lines.{linesOf};
 ghost use Rattle.model.specs.Refusals.{refusalOf};
 ghost use Rattle.model.specs.SheetCalls.{lookedUp, lookupConditions};
 ghost use Rattle.sheets.specs.Search.{keyField, foundLine};
+use codec::fields::in_range;
+use codec::layouts::NAMESPACE;
+use codec::layouts::PARTITION;
+use codec::layouts::STORAGE;
 use types::Found;
 use types::Key;
 use types::Layout;
@@ -95,8 +99,11 @@ pub fn find(records: &[u8], key: Key) -> Found
 pub fn key_in_range(key: Key) -> bool
     ensures { λ r. ⌜ r ≡ keyInRange key ⌝ }
 {
-    let row = numbers_of(key);
-    codec::lines::row_good(Layout::KeyLine, &row)
+    in_range(STORAGE, key.storage)
+        & in_range(NAMESPACE, key.namespace)
+        & in_range(NAMESPACE, key.table)
+        & in_range(PARTITION, key.partition)
+        & in_range(PARTITION, key.clustering)
 }
 
 // The line that has the key, as a part of the caller's sheet; an empty part where 1, 5 or 6 applies.

@@ -1,20 +1,27 @@
--- The key's numbers are judged as a row of a key line.
-use mathlib.Core.Path.{ap, _∙_}
+-- Five tests by the columns of a key, which are those of the definition.
 use borrow.Author.Needs.{needs}
-use Rattle.model.specs.Layouts.{layout, keyLayout, recordLayout}
-use Rattle.model.specs.Lines.{rowGood}
-use Rattle.model.specs.Records.{keyInRange}
+use Rattle.model.specs.Layouts.{keyLayout, recordLayout}
+use Rattle.sheets.specs.Answers.{key-tests}
 use Rattle.sheets.proofs.lookup.key_in_range.Statement.{statement}
 use Rattle.sheets.proofs.lookup.key_in_range.Tie as tie
 
-row-good-requires : tie.Need-row-good-requires
-unfolding layout keyLayout recordLayout
-row-good-requires c κs = search needs
-
 returns : tie.Need-returns
-unfolding layout keyInRange
-returns c = c .row-good .ensures ∙ ap (rowGood keyLayout) (c .before .before .numbers-of .ensures)
+unfolding keyLayout recordLayout
+returns c =
+    key-tests (c .before .before .before .before .before .args .key) _ _ _ _ _
+    (c .before .before .before .before .in-range .ensures)
+    (c .before .before .before .in-range2 .ensures)
+    (c .before .before .in-range3 .ensures)
+    (c .before .in-range4 .ensures)
+    (c .in-range5 .ensures)
 
 pub key-in-range-spec : {M : Type 1} → statement M
 key-in-range-spec =
-    tie.close (tie.spec (λ c κs. search needs) (λ c. search needs) row-good-requires returns)
+    tie.close
+    (tie.spec
+    (λ c κs. search needs)
+    (λ c κs. search needs)
+    (λ c κs. search needs)
+    (λ c κs. search needs)
+    (λ c κs. search needs)
+    returns)
