@@ -47,7 +47,7 @@ unfoldable pub checkConditions : List ℕ → List ℕ → List Condition
 checkConditions rs cs =
     refuse 1 (not (recordsAccepted rs)) ∷ refuse 2 (not (coordinatorAccepted cs && allIssued rs cs)) ∷ []
 
--- Record sheet to numbers, 15 to a line, and back. The target is exactly as long as whole lines or records need.
+-- Record sheet to numbers, one for each field, and back. The target is exactly as long as whole lines or records need.
 
 unfoldable pub readRecordsConditions : List ℕ → List ℕ → List Condition
 readRecordsConditions s target =

@@ -19,7 +19,7 @@ use Rattle.types.specs.declared.Decision.the-variants.{Undecided, Committed, Ab
 use Rattle.types.specs.declared.AtomicityUnit.{AtomicityUnit}
 use Rattle.types.specs.declared.AtomicityUnit.the-variants.{Record as RecordUnit, Partition, Table, Namespace, Storage}
 use Rattle.types.specs.declared.Column.{Column}
-use Rattle.model.specs.Layouts.{headLayout, lineLayout, decisionColumn, words, figures}
+use Rattle.model.specs.Layouts.{headLayout, lineLayout, decisionColumn, words, figures, coordinatorBytes, headFields}
 use Rattle.model.specs.Lines.{fieldValue, fieldBytes, wordFrom, rowOf, lineSet, lineText, rowGood, inRange, linesOf, linesSet}
 use Rattle.model.specs.Coordinator.{Coordinator, decisionNumber, decisionOf, unitNumber, unitOf, coordinatorGood, decisionIn, coordinatorOf, numbered, coordinatorAccepted, decisionTexts, headNumbers, coordinatorText}
 use Rattle.sheet_laws.specs.Fields.{columnOk, allBelow, isThe, wordOk}
@@ -79,11 +79,11 @@ pub line-layout-ok : layoutOk lineLayout ≡ true
 unfolding all columnOk lineLayout words allBelow wordOk isThe fieldValue fieldBytes wordFrom bytes eqList
 line-layout-ok = refl
 
-pub head-bytes : lineBytes headLayout ≡ 15
+pub head-bytes : lineBytes headLayout ≡ coordinatorBytes
 unfolding lineBytes headLayout
 head-bytes = refl
 
-pub line-bytes : lineBytes lineLayout ≡ 15
+pub line-bytes : lineBytes lineLayout ≡ coordinatorBytes
 unfolding lineBytes lineLayout
 line-bytes = refl
 
@@ -117,7 +117,7 @@ decision-read-written k d l m =
 pub decision-text-set : (k : ℕ) (d : Decision) → 1 ≤ k → k ≤ 999 → lineSet lineLayout (decisionText k d) ≡ true
 decision-text-set k d l m = line-read-written lineLayout (k ∷ decisionNumber d ∷ []) line-layout-ok (line-ranged k d l m)
 
-pub length-decisionText : (k : ℕ) (d : Decision) → 1 ≤ k → k ≤ 999 → length (decisionText k d) ≡ 15
+pub length-decisionText : (k : ℕ) (d : Decision) → 1 ≤ k → k ≤ 999 → length (decisionText k d) ≡ coordinatorBytes
 length-decisionText k d l m = line-length lineLayout (decisionText k d) (decision-text-set k d l m) ∙ line-bytes
 
 -- The lines.
@@ -134,7 +134,7 @@ lines-written-read k (l ∷ ls) h n =
 
 -- what holds of the lines of decisions numbered from k on
 record LinesOf (k : ℕ) (ds : List Decision) : Type 0 where
-  whole : AllOf 15 (decisionTexts k ds)
+  whole : AllOf coordinatorBytes (decisionTexts k ds)
   readable : all (lineSet lineLayout) (decisionTexts k ds) ≡ true
   in-turn : numbered k (decisionTexts k ds) ≡ true
   same : map decisionIn (decisionTexts k ds) ≡ ds
@@ -193,7 +193,7 @@ units-back us =
     ∙ map-same (λ (u : AtomicityUnit). true) (λ (u : AtomicityUnit). unitOf (unitNumber u)) (λ u e. unit-of-number u) us (all-always us)
 
 -- the numbers of a row in range of the head are its count and its units
-pub head-numbers : (v : List ℕ) → rowGood headLayout v ≡ true → length v ≡ 10 → getD v 0 0 ∷ map unitNumber (map unitOf (drop 1 v)) ≡ v
+pub head-numbers : (v : List ℕ) → rowGood headLayout v ≡ true → length v ≡ headFields → getD v 0 0 ∷ map unitNumber (map unitOf (drop 1 v)) ≡ v
 unfolding headLayout rowGood all
 head-numbers [] g n = absurd (omega arith)
 head-numbers (x ∷ us) g n =
@@ -217,15 +217,15 @@ head-ranged c l n =
 pub coordinator-written-read : (s : List ℕ) → coordinatorAccepted s ≡ true → coordinatorText (coordinatorOf s) ≡ s
 unfolding coordinatorAccepted linesSet coordinatorText coordinatorOf headNumbers linesOf
 coordinator-written-read s h =
-    let head : lineSet headLayout (take 15 s) ≡ true = search tests in
-    let whole : length (drop 15 s) ≡ length (drop 15 s) / 15 * 15 = search tests in
-    let each : all (lineSet lineLayout) (pieces 15 (length (drop 15 s) / 15) (drop 15 s)) ≡ true = search tests in
-    let turn : numbered 1 (pieces 15 (length (drop 15 s) / 15) (drop 15 s)) ≡ true = search tests in
-    let r = line-written-read headLayout (take 15 s) head-layout-ok head in
-    let n : length (rowOf headLayout (take 15 s)) ≡ 10 = unfold headLayout in length-rowOf headLayout (take 15 s) in
-    ap₂ _++_ (ap (lineText headLayout) (head-numbers (rowOf headLayout (take 15 s)) (r .1) n) ∙ r .0)
-    (ap joined (lines-written-read 1 _ each turn) ∙ joined-pieces 15 (length (drop 15 s) / 15) (drop 15 s) whole)
-    ∙ take-append-drop 15 s
+    let head : lineSet headLayout (take coordinatorBytes s) ≡ true = search tests in
+    let whole : length (drop coordinatorBytes s) ≡ length (drop coordinatorBytes s) / coordinatorBytes * coordinatorBytes = search tests in
+    let each : all (lineSet lineLayout) (pieces coordinatorBytes (length (drop coordinatorBytes s) / coordinatorBytes) (drop coordinatorBytes s)) ≡ true = search tests in
+    let turn : numbered 1 (pieces coordinatorBytes (length (drop coordinatorBytes s) / coordinatorBytes) (drop coordinatorBytes s)) ≡ true = search tests in
+    let r = line-written-read headLayout (take coordinatorBytes s) head-layout-ok head in
+    let n : length (rowOf headLayout (take coordinatorBytes s)) ≡ headFields = unfold headLayout in length-rowOf headLayout (take coordinatorBytes s) in
+    ap₂ _++_ (ap (lineText headLayout) (head-numbers (rowOf headLayout (take coordinatorBytes s)) (r .1) n) ∙ r .0)
+    (ap joined (lines-written-read 1 _ each turn) ∙ joined-pieces coordinatorBytes (length (drop coordinatorBytes s) / coordinatorBytes) (drop coordinatorBytes s) whole)
+    ∙ take-append-drop coordinatorBytes s
 
 -- the bounds in the rules
 pub record Bounds (c : Coordinator) : Type 0 where
@@ -269,7 +269,7 @@ coordinator-read-written c h = (same, accepted)
     head-set : lineSet headLayout head ≡ true
     head-set = line-read-written headLayout (headNumbers c) head-layout-ok ranged
 
-    head-length : length head ≡ 15
+    head-length : length head ≡ coordinatorBytes
     head-length = line-length headLayout head head-set ∙ head-bytes
 
     row : rowOf headLayout head ≡ headNumbers c
@@ -280,20 +280,20 @@ coordinator-read-written c h = (same, accepted)
     ls : LinesOf 1 (c .decisions)
     ls = let l = b .few in lines-read-written 1 (c .decisions) (omega arith) (omega arith)
 
-    count : length lines ≡ length (decisionTexts 1 (c .decisions)) * 15
-    count = length-joined 15 (decisionTexts 1 (c .decisions)) (ls .whole)
+    count : length lines ≡ length (decisionTexts 1 (c .decisions)) * coordinatorBytes
+    count = length-joined coordinatorBytes (decisionTexts 1 (c .decisions)) (ls .whole)
 
-    cut : linesOf 15 lines ≡ decisionTexts 1 (c .decisions)
+    cut : linesOf coordinatorBytes lines ≡ decisionTexts 1 (c .decisions)
     cut =
         let k = count in
-        let q : length lines / 15 ≡ length (decisionTexts 1 (c .decisions)) = omega arith in
-        rw q (pieces-joined 15 (decisionTexts 1 (c .decisions)) (ls .whole))
+        let q : length lines / coordinatorBytes ≡ length (decisionTexts 1 (c .decisions)) = omega arith in
+        rw q (pieces-joined coordinatorBytes (decisionTexts 1 (c .decisions)) (ls .whole))
 
-    front : take 15 (coordinatorText c) ≡ head
-    front = take-at head lines 15 head-length
+    front : take coordinatorBytes (coordinatorText c) ≡ head
+    front = take-at head lines coordinatorBytes head-length
 
-    rest : drop 15 (coordinatorText c) ≡ lines
-    rest = drop-at head lines 15 head-length
+    rest : drop coordinatorBytes (coordinatorText c) ≡ lines
+    rest = drop-at head lines coordinatorBytes head-length
 
     same : coordinatorOf (coordinatorText c) ≡ c
     same = rw (front, rest, row, cut, ls .same) (said c)
@@ -301,10 +301,10 @@ coordinator-read-written c h = (same, accepted)
     accepted : coordinatorAccepted (coordinatorText c) ≡ true
     accepted =
         let k = count in
-        let q : length lines ≡ length lines / 15 * 15 = omega arith in
-        let first : lineSet headLayout (take 15 (coordinatorText c)) ≡ true = rw front head-set in
-        let each : linesSet lineLayout 15 (drop 15 (coordinatorText c)) ≡ true =
-        rw rest (and-both (eq-eqb (length lines) (length lines / 15 * 15) q) (rw cut (ls .readable))) in
-        let turn : numbered 1 (linesOf 15 (drop 15 (coordinatorText c))) ≡ true = rw (rest, cut) (ls .in-turn) in
+        let q : length lines ≡ length lines / coordinatorBytes * coordinatorBytes = omega arith in
+        let first : lineSet headLayout (take coordinatorBytes (coordinatorText c)) ≡ true = rw front head-set in
+        let each : linesSet lineLayout coordinatorBytes (drop coordinatorBytes (coordinatorText c)) ≡ true =
+        rw rest (and-both (eq-eqb (length lines) (length lines / coordinatorBytes * coordinatorBytes) q) (rw cut (ls .readable))) in
+        let turn : numbered 1 (linesOf coordinatorBytes (drop coordinatorBytes (coordinatorText c))) ≡ true = rw (rest, cut) (ls .in-turn) in
         let good : coordinatorGood (coordinatorOf (coordinatorText c)) ≡ true = rw same h in
         and-both (and-both (and-both first each) turn) good

@@ -11,7 +11,7 @@ use Rattle.lists.specs.Tests.{and-both, tests}
 use Rattle.lists.specs.Each.{all}
 use Rattle.lists.specs.All.{all-map, all-weaken, all-always, map-map, map-same}
 use Rattle.types.specs.declared.Decision.{Decision}
-use Rattle.model.specs.Layouts.{headLayout, decisionColumn}
+use Rattle.model.specs.Layouts.{headLayout, decisionColumn, headFields}
 use Rattle.model.specs.Lines.{rowGood, inRange}
 use Rattle.model.specs.Coordinator.{
   Coordinator,
@@ -52,24 +52,24 @@ coordinator-of-numbers c h =
       units = (ap (map unitOf) u ∙ units-back (c .units)) i;
       decisions = (ap (map decisionOf) d ∙ decisions-back (c .decisions)) i;
     } in
-    let l : 10 ≤ length (coordinatorNumbers c) = simp length-append (omega arith) in
-    let head : rowGood headLayout (take 10 (coordinatorNumbers c)) ≡ true =
+    let l : headFields ≤ length (coordinatorNumbers c) = simp length-append (omega arith) in
+    let head : rowGood headLayout (take headFields (coordinatorNumbers c)) ≡ true =
     rw u (head-ranged c (omega arith) nine) in
-    let each : all (inRange decisionColumn) (drop 10 (coordinatorNumbers c)) ≡ true =
+    let each : all (inRange decisionColumn) (drop headFields (coordinatorNumbers c)) ≡ true =
     rw d
     (all-map (inRange decisionColumn) decisionNumber (c .decisions)
     ∙ all-weaken (λ (x : Decision). true) (λ (x : Decision). inRange decisionColumn (decisionNumber x)) (λ x e. decision-ranged x) (c .decisions) (all-always (c .decisions))) in
-    (same, and-both (and-both (and-both (le-leb 10 (length (coordinatorNumbers c)) l) head) each) (rw same h))
+    (same, and-both (and-both (and-both (le-leb headFields (length (coordinatorNumbers c)) l) head) each) (rw same h))
 
 -- T3, coordinator as numbers: accepted numbers are those of their coordinator
 pub numbers-of-coordinator : (v : List ℕ) → numbersAccepted v ≡ true → coordinatorNumbers (coordinatorFrom v) ≡ v
 unfolding coordinatorFrom coordinatorNumbers numbersAccepted headNumbers
 numbers-of-coordinator [] h = absurd (true≢false (sym h))
 numbers-of-coordinator (x ∷ v) h =
-    let l : 10 ≤ length (x ∷ v) = search tests in
+    let l : headFields ≤ length (x ∷ v) = search tests in
     let g : rowGood headLayout (x ∷ take 9 v) ≡ true = search tests in
     let each : all (inRange decisionColumn) (drop 9 v) ≡ true = search tests in
-    let n : length (x ∷ take 9 v) ≡ 10 = simp length-take (omega arith) in
+    let n : length (x ∷ take 9 v) ≡ headFields = simp length-take (omega arith) in
     let e : x ∷ map unitNumber (map unitOf (take 9 v)) ≡ x ∷ take 9 v = head-numbers (x ∷ take 9 v) g n in
     let d : map decisionNumber (map decisionOf (drop 9 v)) ≡ drop 9 v =
     map-map decisionNumber decisionOf (drop 9 v)

@@ -20,7 +20,7 @@ use Rattle.decimal.specs.Field.{figure, fieldText, number}
 use Rattle.decimal.specs.Laws.{read-written, length-fieldText}
 use Rattle.types.specs.declared.Decision.{Decision}
 use Rattle.types.specs.declared.Decision.the-variants.{Undecided}
-use Rattle.model.specs.Layouts.{headLayout, lineLayout, words, figures}
+use Rattle.model.specs.Layouts.{headLayout, lineLayout, words, figures, coordinatorBytes}
 use Rattle.model.specs.Lines.{fieldValue, wordFrom, rowOf, lineSet, linesOf, linesSet}
 use Rattle.model.specs.Coordinator.{
   Coordinator,
@@ -40,29 +40,29 @@ use Rattle.sheet_laws.specs.Lines.{line-length, first-field-row, first-f
 use Rattle.sheet_laws.specs.Coordinator.{bounds, decisionText, head-bytes, decision-read-written, decision-text-set, length-decisionText}
 
 -- the lines after the head
-pub length-decisions : (s : List ℕ) → length (coordinatorOf s .decisions) ≡ length (drop 15 s) / 15
+pub length-decisions : (s : List ℕ) → length (coordinatorOf s .decisions) ≡ length (drop coordinatorBytes s) / coordinatorBytes
 unfolding coordinatorOf linesOf
-length-decisions s = length-map (decisionLines s) decisionIn ∙ length-pieces 15 (length (drop 15 s) / 15) (drop 15 s)
+length-decisions s = length-map (decisionLines s) decisionIn ∙ length-pieces coordinatorBytes (length (drop coordinatorBytes s) / coordinatorBytes) (drop coordinatorBytes s)
 
 -- the count is the figure of the first four bytes
 pub issued-at : (s : List ℕ) → number (figure 0 999 (take 4 s)) ≡ coordinatorOf s .issued
 unfolding coordinatorOf rowOf headLayout fieldValue
-issued-at s = ap (λ (t : List ℕ). number (figure 0 999 t)) (sym (take-take 4 15 s (omega arith)))
+issued-at s = ap (λ (t : List ℕ). number (figure 0 999 t)) (sym (take-take 4 coordinatorBytes s (omega arith)))
 
 -- no bytes say nothing
 no-decision : decisionIn [] ≡ Undecided
 unfolding decisionIn decisionOf rowOf lineLayout fieldValue wordFrom words bytes eqList number
 no-decision = refl
 
--- the decision of number i + 1 is what the 15 bytes after the head and i lines say
-pub decision-at : (s : List ℕ) (i : ℕ) → i < length (drop 15 s) / 15 → decision (suc i) (coordinatorOf s) ≡ decisionIn (take 15 (drop (suc i * 15) s))
+-- the decision of number i + 1 is what the line after the head and i lines says
+pub decision-at : (s : List ℕ) (i : ℕ) → i < length (drop coordinatorBytes s) / coordinatorBytes → decision (suc i) (coordinatorOf s) ≡ decisionIn (take coordinatorBytes (drop (suc i * coordinatorBytes) s))
 unfolding decision coordinatorOf linesOf
 decision-at s i l =
-    let e : suc i * 15 ≡ 15 + i * 15 = omega arith in
+    let e : suc i * coordinatorBytes ≡ coordinatorBytes + i * coordinatorBytes = omega arith in
     let d : getD (map decisionIn (decisionLines s)) i Undecided ≡ decisionIn (getD (decisionLines s) i []) =
     ap (getD (map decisionIn (decisionLines s)) i) (sym no-decision) ∙ List·getD-map decisionIn (decisionLines s) i [] in
     rw e
-    (d ∙ ap decisionIn (getD-pieces 15 i (length (drop 15 s) / 15) (drop 15 s) l ∙ ap (take 15) (drop-drop (i * 15) 15 s)))
+    (d ∙ ap decisionIn (getD-pieces coordinatorBytes i (length (drop coordinatorBytes s) / coordinatorBytes) (drop coordinatorBytes s) l ∙ ap (take coordinatorBytes) (drop-drop (i * coordinatorBytes) coordinatorBytes s)))
 
 -- replacing a line of numbers k on by another of the same number
 numbered-set : (k i : ℕ) (ls : List (List ℕ)) (t : List ℕ) → numbered k ls ≡ true → getD (rowOf lineLayout t) 0 0 ≡ k + i → numbered k (set ls i t) ≡ true
@@ -76,10 +76,10 @@ numbered-set k (suc i) (l ∷ ls) t h e =
 
 -- what the rules say of a sheet, in parts
 pub record Accepted (s : List ℕ) : Type 0 where
-  pub head : lineSet headLayout (take 15 s) ≡ true
-  pub whole : length (drop 15 s) ≡ length (drop 15 s) / 15 * 15
-  pub readable : all (lineSet lineLayout) (pieces 15 (length (drop 15 s) / 15) (drop 15 s)) ≡ true
-  pub in-turn : numbered 1 (pieces 15 (length (drop 15 s) / 15) (drop 15 s)) ≡ true
+  pub head : lineSet headLayout (take coordinatorBytes s) ≡ true
+  pub whole : length (drop coordinatorBytes s) ≡ length (drop coordinatorBytes s) / coordinatorBytes * coordinatorBytes
+  pub readable : all (lineSet lineLayout) (pieces coordinatorBytes (length (drop coordinatorBytes s) / coordinatorBytes) (drop coordinatorBytes s)) ≡ true
+  pub in-turn : numbered 1 (pieces coordinatorBytes (length (drop coordinatorBytes s) / coordinatorBytes) (drop coordinatorBytes s)) ≡ true
   pub good : coordinatorGood (coordinatorOf s) ≡ true
 
 pub accepted-parts : (s : List ℕ) → coordinatorAccepted s ≡ true → Accepted s
@@ -92,46 +92,46 @@ unfolding coordinatorAccepted linesSet linesOf
 parts-accepted s a =
     and-both
     (and-both
-    (and-both (a .head) (and-both (eq-eqb (length (drop 15 s)) (length (drop 15 s) / 15 * 15) (a .whole)) (a .readable)))
+    (and-both (a .head) (and-both (eq-eqb (length (drop coordinatorBytes s)) (length (drop coordinatorBytes s) / coordinatorBytes * coordinatorBytes) (a .whole)) (a .readable)))
     (a .in-turn))
     (a .good)
 
 -- an accepted sheet has its head
-pub accepted-length : (s : List ℕ) → coordinatorAccepted s ≡ true → 15 ≤ length s
+pub accepted-length : (s : List ℕ) → coordinatorAccepted s ≡ true → coordinatorBytes ≤ length s
 accepted-length s h =
-    let l : length (take 15 s) ≡ 15 = line-length headLayout (take 15 s) (accepted-parts s h .head) ∙ head-bytes in
-    omega (arith, length-take 15 s)
+    let l : length (take coordinatorBytes s) ≡ coordinatorBytes = line-length headLayout (take coordinatorBytes s) (accepted-parts s h .head) ∙ head-bytes in
+    omega (arith, length-take coordinatorBytes s)
 
 -- Setting the decision of a number.
-module _ (s : List ℕ) (i : ℕ) (d : Decision) (head : 15 ≤ length s) (place : i < length (drop 15 s) / 15) (few : i < 999) where
-  text-length : length (decisionText (suc i) d) ≡ 15
+module _ (s : List ℕ) (i : ℕ) (d : Decision) (head : coordinatorBytes ≤ length s) (place : i < length (drop coordinatorBytes s) / coordinatorBytes) (few : i < 999) where
+  text-length : length (decisionText (suc i) d) ≡ coordinatorBytes
   text-length = length-decisionText (suc i) d (omega arith) (omega arith)
 
   -- the head stays, and the lines after it have the new one
-  over-line : (take 15 (over s (suc i * 15) (decisionText (suc i) d)) ≡ take 15 s) × (drop 15 (over s (suc i * 15) (decisionText (suc i) d)) ≡ over (drop 15 s) (i * 15) (decisionText (suc i) d))
+  over-line : (take coordinatorBytes (over s (suc i * coordinatorBytes) (decisionText (suc i) d)) ≡ take coordinatorBytes s) × (drop coordinatorBytes (over s (suc i * coordinatorBytes) (decisionText (suc i) d)) ≡ over (drop coordinatorBytes s) (i * coordinatorBytes) (decisionText (suc i) d))
   over-line =
-      let e : suc i * 15 ≡ 15 + i * 15 = omega arith in
-      let n : length (take 15 s) ≡ 15 = simp length-take (omega arith) in
-      let o : over s (suc i * 15) (decisionText (suc i) d) ≡ take 15 s ++ over (drop 15 s) (i * 15) (decisionText (suc i) d) =
-      rw e (over-after s (decisionText (suc i) d) 15 (i * 15)) in
-      (rw o (take-at (take 15 s) (over (drop 15 s) (i * 15) (decisionText (suc i) d)) 15 n), rw o (drop-at (take 15 s) (over (drop 15 s) (i * 15) (decisionText (suc i) d)) 15 n))
+      let e : suc i * coordinatorBytes ≡ coordinatorBytes + i * coordinatorBytes = omega arith in
+      let n : length (take coordinatorBytes s) ≡ coordinatorBytes = simp length-take (omega arith) in
+      let o : over s (suc i * coordinatorBytes) (decisionText (suc i) d) ≡ take coordinatorBytes s ++ over (drop coordinatorBytes s) (i * coordinatorBytes) (decisionText (suc i) d) =
+      rw e (over-after s (decisionText (suc i) d) coordinatorBytes (i * coordinatorBytes)) in
+      (rw o (take-at (take coordinatorBytes s) (over (drop coordinatorBytes s) (i * coordinatorBytes) (decisionText (suc i) d)) coordinatorBytes n), rw o (drop-at (take coordinatorBytes s) (over (drop coordinatorBytes s) (i * coordinatorBytes) (decisionText (suc i) d)) coordinatorBytes n))
 
-  over-lines-length : length (over (drop 15 s) (i * 15) (decisionText (suc i) d)) ≡ length (drop 15 s)
+  over-lines-length : length (over (drop coordinatorBytes s) (i * coordinatorBytes) (decisionText (suc i) d)) ≡ length (drop coordinatorBytes s)
   over-lines-length =
       let n = text-length in
-      length-over (drop 15 s) (decisionText (suc i) d) (i * 15) (omega arith)
+      length-over (drop coordinatorBytes s) (decisionText (suc i) d) (i * coordinatorBytes) (omega arith)
 
-  module _ (whole : length (drop 15 s) ≡ length (drop 15 s) / 15 * 15) where
-    lines-over : pieces 15 (length (over (drop 15 s) (i * 15) (decisionText (suc i) d)) / 15) (over (drop 15 s) (i * 15) (decisionText (suc i) d)) ≡ set (pieces 15 (length (drop 15 s) / 15) (drop 15 s)) i (decisionText (suc i) d)
+  module _ (whole : length (drop coordinatorBytes s) ≡ length (drop coordinatorBytes s) / coordinatorBytes * coordinatorBytes) where
+    lines-over : pieces coordinatorBytes (length (over (drop coordinatorBytes s) (i * coordinatorBytes) (decisionText (suc i) d)) / coordinatorBytes) (over (drop coordinatorBytes s) (i * coordinatorBytes) (decisionText (suc i) d)) ≡ set (pieces coordinatorBytes (length (drop coordinatorBytes s) / coordinatorBytes) (drop coordinatorBytes s)) i (decisionText (suc i) d)
     lines-over =
-        rw over-lines-length (pieces-over 15 i (length (drop 15 s) / 15) (drop 15 s) (decisionText (suc i) d) place whole text-length)
+        rw over-lines-length (pieces-over coordinatorBytes i (length (drop coordinatorBytes s) / coordinatorBytes) (drop coordinatorBytes s) (decisionText (suc i) d) place whole text-length)
 
     -- the sheet says the new decision, and nothing else changes
-    pub coordinator-over : coordinatorOf (over s (suc i * 15) (decisionText (suc i) d)) ≡ withDecision (suc i) d (coordinatorOf s)
+    pub coordinator-over : coordinatorOf (over s (suc i * coordinatorBytes) (decisionText (suc i) d)) ≡ withDecision (suc i) d (coordinatorOf s)
     unfolding coordinatorOf withDecision linesOf
     coordinator-over =
-        let e : map decisionIn (set (pieces 15 (length (drop 15 s) / 15) (drop 15 s)) i (decisionText (suc i) d)) ≡ set (map decisionIn (decisionLines s)) i d =
-        map-set decisionIn (pieces 15 (length (drop 15 s) / 15) (drop 15 s)) i (decisionText (suc i) d)
+        let e : map decisionIn (set (pieces coordinatorBytes (length (drop coordinatorBytes s) / coordinatorBytes) (drop coordinatorBytes s)) i (decisionText (suc i) d)) ≡ set (map decisionIn (decisionLines s)) i d =
+        map-set decisionIn (pieces coordinatorBytes (length (drop coordinatorBytes s) / coordinatorBytes) (drop coordinatorBytes s)) i (decisionText (suc i) d)
         ∙ ap (set (map decisionIn (decisionLines s)) i) (decision-read-written (suc i) d (omega arith) (omega arith) .1) in
         rw (over-line .0, over-line .1, lines-over, e)
 
@@ -144,59 +144,59 @@ good-decided i d c h l =
     rw (n, e) h
 
 -- an accepted sheet stays accepted where the number was issued
-pub accepted-decided : (s : List ℕ) (i : ℕ) (d : Decision) → coordinatorAccepted s ≡ true → i < coordinatorOf s .issued → coordinatorAccepted (over s (suc i * 15) (decisionText (suc i) d)) ≡ true
+pub accepted-decided : (s : List ℕ) (i : ℕ) (d : Decision) → coordinatorAccepted s ≡ true → i < coordinatorOf s .issued → coordinatorAccepted (over s (suc i * coordinatorBytes) (decisionText (suc i) d)) ≡ true
 accepted-decided s i d h l =
     let a = accepted-parts s h in
     let b = bounds (coordinatorOf s) (a .good) in
     let few : length (coordinatorOf s .decisions) ≤ 999 = b .few in
     let most : coordinatorOf s .issued ≤ length (coordinatorOf s .decisions) = b .issued in
-    let count : length (coordinatorOf s .decisions) ≡ length (drop 15 s) / 15 = length-decisions s in
-    let head : 15 ≤ length s = accepted-length s h in
-    let place : i < length (drop 15 s) / 15 = omega arith in
+    let count : length (coordinatorOf s .decisions) ≡ length (drop coordinatorBytes s) / coordinatorBytes = length-decisions s in
+    let head : coordinatorBytes ≤ length s = accepted-length s h in
+    let place : i < length (drop coordinatorBytes s) / coordinatorBytes = omega arith in
     let k : i < 999 = omega arith in
     let o = over-line s i d head place k in
     let m = over-lines-length s i d head place k in
     let p = lines-over s i d head place k (a .whole) in
     let t = decision-read-written (suc i) d (omega arith) (omega arith) in
-    parts-accepted (over s (suc i * 15) (decisionText (suc i) d))
+    parts-accepted (over s (suc i * coordinatorBytes) (decisionText (suc i) d))
     (record {
       head = rw (o .0) (a .head);
       whole = rw (o .1, m) (a .whole);
       readable =
           rw (o .1, p)
-          (all-set (lineSet lineLayout) (pieces 15 (length (drop 15 s) / 15) (drop 15 s)) i (decisionText (suc i) d) (a .readable)
+          (all-set (lineSet lineLayout) (pieces coordinatorBytes (length (drop coordinatorBytes s) / coordinatorBytes) (drop coordinatorBytes s)) i (decisionText (suc i) d) (a .readable)
           (decision-text-set (suc i) d (omega arith) (omega arith)));
       in-turn =
           rw (o .1, p)
-          (numbered-set 1 i (pieces 15 (length (drop 15 s) / 15) (drop 15 s)) (decisionText (suc i) d) (a .in-turn)
+          (numbered-set 1 i (pieces coordinatorBytes (length (drop coordinatorBytes s) / coordinatorBytes) (drop coordinatorBytes s)) (decisionText (suc i) d) (a .in-turn)
           (ap (λ (v : List ℕ). getD v 0 0) (t .0) ∙ omega arith));
       good = rw (coordinator-over s i d head place k (a .whole)) (good-decided i d (coordinatorOf s) (a .good) l);
     })
 
 -- Setting the count of numbers issued: the first four bytes of the head.
-module _ (s : List ℕ) (n : ℕ) (head : 15 ≤ length s) (few : n ≤ 999) where
+module _ (s : List ℕ) (n : ℕ) (head : coordinatorBytes ≤ length s) (few : n ≤ 999) where
   -- the rest of the head and the lines stay
-  over-count : (take 15 (over s 0 (fieldText 4 n)) ≡ fieldText 4 n ++ drop 4 (take 15 s)) × (drop 15 (over s 0 (fieldText 4 n)) ≡ drop 15 s)
+  over-count : (take coordinatorBytes (over s 0 (fieldText 4 n)) ≡ fieldText 4 n ++ drop 4 (take coordinatorBytes s)) × (drop coordinatorBytes (over s 0 (fieldText 4 n)) ≡ drop coordinatorBytes s)
   over-count =
       let w : length (fieldText 4 n) ≡ 4 = length-fieldText 4 n in
       let o : over s 0 (fieldText 4 n) ≡ fieldText 4 n ++ drop 4 s = rw (over-zero s (fieldText 4 n), w) in
-      let t : take 15 (fieldText 4 n ++ drop 4 s) ≡ fieldText 4 n ++ take 11 (drop 4 s) = rw w at (take-append-add (fieldText 4 n) (drop 4 s) 11) in
-      let d : drop 15 (fieldText 4 n ++ drop 4 s) ≡ drop 11 (drop 4 s) = rw w at (drop-append-add (fieldText 4 n) (drop 4 s) 11) in
+      let t : take coordinatorBytes (fieldText 4 n ++ drop 4 s) ≡ fieldText 4 n ++ take 11 (drop 4 s) = rw w at (take-append-add (fieldText 4 n) (drop 4 s) 11) in
+      let d : drop coordinatorBytes (fieldText 4 n ++ drop 4 s) ≡ drop 11 (drop 4 s) = rw w at (drop-append-add (fieldText 4 n) (drop 4 s) 11) in
       let f : length (take 4 s) ≡ 4 = simp length-take (omega arith) in
-      let e : drop 4 (take 15 s) ≡ take 11 (drop 4 s) = rw (take-add 4 11 s) (drop-at (take 4 s) (take 11 (drop 4 s)) 4 f) in
+      let e : drop 4 (take coordinatorBytes s) ≡ take 11 (drop 4 s) = rw (take-add 4 11 s) (drop-at (take 4 s) (take 11 (drop 4 s)) 4 f) in
       (rw (o, e) t, rw o (d ∙ drop-drop 11 4 s))
 
   count-read : fieldValue (figures 4 0 999) (fieldText 4 n) ≡ Number n
   unfolding fieldValue
   count-read = read-written 4 n 0 999 (omega arith) (omega arith) (omega arith) few
 
-  head-row : rowOf headLayout (fieldText 4 n ++ drop 4 (take 15 s)) ≡ n ∷ drop 1 (rowOf headLayout (take 15 s))
+  head-row : rowOf headLayout (fieldText 4 n ++ drop 4 (take coordinatorBytes s)) ≡ n ∷ drop 1 (rowOf headLayout (take coordinatorBytes s))
   unfolding headLayout
-  head-row = first-field-row (figures 4 0 999) (drop 1 headLayout) (fieldText 4 n) (take 15 s) n (length-fieldText 4 n) count-read
+  head-row = first-field-row (figures 4 0 999) (drop 1 headLayout) (fieldText 4 n) (take coordinatorBytes s) n (length-fieldText 4 n) count-read
 
-  head-set : lineSet headLayout (take 15 s) ≡ true → lineSet headLayout (fieldText 4 n ++ drop 4 (take 15 s)) ≡ true
+  head-set : lineSet headLayout (take coordinatorBytes s) ≡ true → lineSet headLayout (fieldText 4 n ++ drop 4 (take coordinatorBytes s)) ≡ true
   unfolding headLayout
-  head-set = first-field-set (figures 4 0 999) (drop 1 headLayout) (fieldText 4 n) (take 15 s) n (length-fieldText 4 n) count-read
+  head-set = first-field-set (figures 4 0 999) (drop 1 headLayout) (fieldText 4 n) (take coordinatorBytes s) n (length-fieldText 4 n) count-read
 
   -- the sheet says the new count, and nothing else changes
   pub coordinator-counted : coordinatorOf (over s 0 (fieldText 4 n)) ≡ withIssued n (coordinatorOf s)
@@ -223,7 +223,7 @@ accepted-raised s h l =
     let a = accepted-parts s h in
     let few : length (coordinatorOf s .decisions) ≤ 999 = bounds (coordinatorOf s) (a .good) .few in
     let n = suc (coordinatorOf s .issued) in
-    let head : 15 ≤ length s = accepted-length s h in
+    let head : coordinatorBytes ≤ length s = accepted-length s h in
     let k : n ≤ 999 = omega arith in
     let o = over-count s n head k in
     parts-accepted (over s 0 (fieldText 4 n))

@@ -12,7 +12,7 @@ use Rattle.lists.specs.Each.{all, joined, pieces}
 use Rattle.lists.specs.All.{all-map, all-and, all-weaken, all-of, pieces-whole, map-map, map-same, map-equal}
 use Rattle.lists.specs.Pieces.{length-pieces, joined-pieces, pieces-joined, length-joined}
 use Rattle.types.specs.declared.Record.{Record}
-use Rattle.model.specs.Layouts.{recordLayout, recordBytes}
+use Rattle.model.specs.Layouts.{recordLayout, recordBytes, recordFields}
 use Rattle.model.specs.Lines.{rowOf, lineText, lineSet, linesOf, linesSet, rowGood}
 use Rattle.model.specs.Records.{
   recordOf,
@@ -38,20 +38,20 @@ use Rattle.sheet_laws.specs.Records.{
   line-numbers,
 }
 
-pub length-rows : (v : List ℕ) → length (rows v) ≡ length v / 15
+pub length-rows : (v : List ℕ) → length (rows v) ≡ length v / recordFields
 unfolding rows
-length-rows v = length-pieces 15 (length v / 15) v
+length-rows v = length-pieces recordFields (length v / recordFields) v
 
 -- the rows of the numbers of records are the numbers of each
-pub rows-of-numbers : (rs : List Record) → all ranged rs ≡ true → (rows (allNumbers rs) ≡ map recordNumbers rs) × (length (allNumbers rs) ≡ length rs * 15)
+pub rows-of-numbers : (rs : List Record) → all ranged rs ≡ true → (rows (allNumbers rs) ≡ map recordNumbers rs) × (length (allNumbers rs) ≡ length rs * recordFields)
 unfolding rows allNumbers
 rows-of-numbers rs h =
-    let w = all-of 15 ranged recordNumbers (λ r p. length-numbers r) rs h in
+    let w = all-of recordFields ranged recordNumbers (λ r p. length-numbers r) rs h in
     let m : length (map recordNumbers rs) ≡ length rs = length-map rs recordNumbers in
-    let n : length (joined (map recordNumbers rs)) ≡ length (map recordNumbers rs) * 15 =
-    length-joined 15 (map recordNumbers rs) w in
-    let k : length (joined (map recordNumbers rs)) / 15 ≡ length (map recordNumbers rs) = omega arith in
-    (rw k (pieces-joined 15 (map recordNumbers rs) w), n ∙ ap (λ (i : ℕ). i * 15) m)
+    let n : length (joined (map recordNumbers rs)) ≡ length (map recordNumbers rs) * recordFields =
+    length-joined recordFields (map recordNumbers rs) w in
+    let k : length (joined (map recordNumbers rs)) / recordFields ≡ length (map recordNumbers rs) = omega arith in
+    (rw k (pieces-joined recordFields (map recordNumbers rs) w), n ∙ ap (λ (i : ℕ). i * recordFields) m)
 
 -- T3, records as numbers: rule-keeping records, as numbers and back, are the same records, and their numbers are accepted
 pub numbers-read-written : (rs : List Record) → recordsGood rs ≡ true → (map recordOf (rows (allNumbers rs)) ≡ rs) × (rowsAccepted (allNumbers rs) ≡ true)
@@ -64,26 +64,26 @@ numbers-read-written rs h =
     ap (map recordOf) (l .0)
     ∙ map-map recordOf recordNumbers rs
     ∙ map-same ranged (λ (r : Record). recordOf (recordNumbers r)) (λ r p. record-of-numbers r) rs a in
-    let n : length (allNumbers rs) ≡ length rs * 15 = l .1 in
-    let k : length (allNumbers rs) ≡ length (allNumbers rs) / 15 * 15 = omega arith in
+    let n : length (allNumbers rs) ≡ length rs * recordFields = l .1 in
+    let k : length (allNumbers rs) ≡ length (allNumbers rs) / recordFields * recordFields = omega arith in
     let s : all (rowGood recordLayout) (rows (allNumbers rs)) ≡ true = rw (l .0) (rw all-map a) in
-    (e, and-both (and-both (eq-eqb (length (allNumbers rs)) (length (allNumbers rs) / 15 * 15) k) s) (rw e h))
+    (e, and-both (and-both (eq-eqb (length (allNumbers rs)) (length (allNumbers rs) / recordFields * recordFields) k) s) (rw e h))
 
-pub row-same : (x : List ℕ) → (rowGood recordLayout x && eqb (length x) 15) ≡ true → recordNumbers (recordOf x) ≡ x
+pub row-same : (x : List ℕ) → (rowGood recordLayout x && eqb (length x) recordFields) ≡ true → recordNumbers (recordOf x) ≡ x
 row-same x h =
-    numbers-of-record x (eqb-true (length x) 15 (and-snd (rowGood recordLayout x) (eqb (length x) 15) h))
-    (state-ranged x (and-fst (rowGood recordLayout x) (eqb (length x) 15) h))
+    numbers-of-record x (eqb-true (length x) recordFields (and-snd (rowGood recordLayout x) (eqb (length x) recordFields) h))
+    (state-ranged x (and-fst (rowGood recordLayout x) (eqb (length x) recordFields) h))
 
 -- accepted numbers are whole rows, each in range
-whole-rows : (v : List ℕ) → rowsAccepted v ≡ true → length v ≡ length v / 15 * 15
+whole-rows : (v : List ℕ) → rowsAccepted v ≡ true → length v ≡ length v / recordFields * recordFields
 unfolding rowsAccepted
 whole-rows v h = search tests
 
-full-rows : (v : List ℕ) → rowsAccepted v ≡ true → all (λ (x : List ℕ). rowGood recordLayout x && eqb (length x) 15) (pieces 15 (length v / 15) v) ≡ true
+full-rows : (v : List ℕ) → rowsAccepted v ≡ true → all (λ (x : List ℕ). rowGood recordLayout x && eqb (length x) recordFields) (pieces recordFields (length v / recordFields) v) ≡ true
 unfolding rowsAccepted rows
 full-rows v h =
-    let g : all (rowGood recordLayout) (pieces 15 (length v / 15) v) ≡ true = search tests in
-    all-and (rowGood recordLayout) (λ (x : List ℕ). eqb (length x) 15) (pieces 15 (length v / 15) v) g (pieces-whole 15 (length v / 15) v (whole-rows v h))
+    let g : all (rowGood recordLayout) (pieces recordFields (length v / recordFields) v) ≡ true = search tests in
+    all-and (rowGood recordLayout) (λ (x : List ℕ). eqb (length x) recordFields) (pieces recordFields (length v / recordFields) v) g (pieces-whole recordFields (length v / recordFields) v (whole-rows v h))
 
 -- T3, records as numbers: accepted numbers are those of their records
 pub numbers-written-read : (v : List ℕ) → rowsAccepted v ≡ true → allNumbers (map recordOf (rows v)) ≡ v
@@ -91,9 +91,9 @@ unfolding rowsAccepted allNumbers rows
 numbers-written-read v h =
     let n = whole-rows v h in
     ap joined
-    (map-map recordNumbers recordOf (pieces 15 (length v / 15) v)
-    ∙ map-same (λ (x : List ℕ). rowGood recordLayout x && eqb (length x) 15) (λ (x : List ℕ). recordNumbers (recordOf x)) row-same _ (full-rows v h))
-    ∙ joined-pieces 15 (length v / 15) v n
+    (map-map recordNumbers recordOf (pieces recordFields (length v / recordFields) v)
+    ∙ map-same (λ (x : List ℕ). rowGood recordLayout x && eqb (length x) recordFields) (λ (x : List ℕ). recordNumbers (recordOf x)) row-same _ (full-rows v h))
+    ∙ joined-pieces recordFields (length v / recordFields) v n
 
 -- the rows of an accepted sheet's lines are the numbers of its records
 pub numbers-of-lines : (s : List ℕ) → recordsAccepted s ≡ true → joined (map (rowOf recordLayout) (linesOf recordBytes s)) ≡ allNumbers (records s)
@@ -110,5 +110,5 @@ pub lines-of-numbers : (v : List ℕ) → rowsAccepted v ≡ true → joined (ma
 unfolding rowsAccepted recordsText recordText rows
 lines-of-numbers v h =
     ap joined
-    (map-equal (λ (x : List ℕ). rowGood recordLayout x && eqb (length x) 15) (lineText recordLayout) (λ (x : List ℕ). lineText recordLayout (recordNumbers (recordOf x))) (λ x e. ap (lineText recordLayout) (sym (row-same x e))) (pieces 15 (length v / 15) v) (full-rows v h)
-    ∙ sym (map-map (λ (r : Record). lineText recordLayout (recordNumbers r)) recordOf (pieces 15 (length v / 15) v)))
+    (map-equal (λ (x : List ℕ). rowGood recordLayout x && eqb (length x) recordFields) (lineText recordLayout) (λ (x : List ℕ). lineText recordLayout (recordNumbers (recordOf x))) (λ x e. ap (lineText recordLayout) (sym (row-same x e))) (pieces recordFields (length v / recordFields) v) (full-rows v h)
+    ∙ sym (map-map (λ (r : Record). lineText recordLayout (recordNumbers r)) recordOf (pieces recordFields (length v / recordFields) v)))
