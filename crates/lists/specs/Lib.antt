@@ -2,6 +2,7 @@
 pub mod Bytes
 pub mod All
 pub mod Chosen
+pub mod Members
 pub mod Each
 pub mod Fill
 pub mod Order

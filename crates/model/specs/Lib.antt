@@ -25,6 +25,7 @@ pub mod ByteHistories
 pub mod AtomicWrites
 pub mod Turns
 pub mod Recovered
+pub mod SerialOrder
 pub mod Visitor
 pub mod Cases
 pub mod Learners

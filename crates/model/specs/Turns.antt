@@ -1,12 +1,13 @@
 -- Turns of a history, over decoded sheets and over bytes: a call, or one that comes to calls. Document 01, "The cut-off rule": "advance (by place too,
 -- taking and returning the one named)". To legality and to the sequential model an advance by place is the advance of the one named.
 use Prim.Native.Nat.{ℕ}
-use mathlib.Core.Bool.{Bool, false, _||_}
-use mathlib.Core.List.{List, [], _∷_}
+use mathlib.Core.Bool.{Bool, false, _||_, cond}
+use mathlib.Core.List.{List, [], _∷_, _++_}
+use lib.ListN.{length}
 use Rattle.types.specs.declared.Transaction.{Transaction}
 use Rattle.model.specs.Writes.{Sheets, isOnePhase, apply}
 use Rattle.model.specs.Results.{Call, advance, writeOf, answerOf}
-use Rattle.model.specs.CallByPlace.{named, advanceAtResult, advanceAtOn}
+use Rattle.model.specs.CallByPlace.{listed, named, advanceAtResult, advanceAtOn}
 use Rattle.model.specs.Histories.{Event, answer, written, after, Permitted, event}
 use Rattle.model.specs.ByteHistories.{Bytes, saying, bytesAfter, answerOn, afterOn}
 
@@ -35,6 +36,16 @@ turnAfter (advanceAt list place now) s = apply (writeOf (advanceAtResult list pl
 unfoldable pub turnOnePhase : ℕ → Turn → Sheets → Bool
 turnOnePhase n (single c) s = isOnePhase n (written c s)
 turnOnePhase n (advanceAt list place now) s = isOnePhase n (writeOf (advanceAtResult list place now s))
+
+-- the calls that a turn comes to: an advance by place none where the list has no such place
+unfoldable pub comesTo : Turn → Sheets → List Call
+comesTo (single c) s = c ∷ []
+comesTo (advanceAt list place now) s = cond (listed (length list) place) (advance (named list place) now ∷ []) []
+
+-- those of a history
+unfoldable pub expanded : List Turn → Sheets → List Call
+expanded [] s = []
+expanded (x ∷ xs) s = comesTo x s ++ expanded xs (turnAfter x s)
 
 -- Over bytes.
 

@@ -119,7 +119,7 @@ early-abort t =
     (λ e h. absurd (true≢false h))
     (λ h. absurd (true≢false h))
 
-missing-none : isMissing Nothing ≡ false → ⊥
+pub missing-none : isMissing Nothing ≡ false → ⊥
 unfolding isMissing
 missing-none q = true≢false q
 

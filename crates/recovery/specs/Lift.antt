@@ -38,14 +38,14 @@ module _ {S : Type 0} (kind : Kind S) where
   events = kind .events
 
   -- A history, and what it is on what the sheets say.
-  record Lifted (xs : List Turn) (b : S) (es : List Event) : Type 0 where
+  pub record Lifted (xs : List Turn) (b : S) (es : List Event) : Type 0 where
     pub legal : LegalTurns turnAfter turnEvent xs (sheets b) es
     pub says : sheets (turnsLeft turned xs b) ≡ turnsLeft turnAfter xs (sheets b)
     pub passes : kind .passes (turnsLeft turned xs b)
     pub told : turnEvents turned events xs b es ≡ turnEvents turnAfter turnEvent xs (sheets b) es
     pub ones : (n : ℕ) → onePhaseTurn turned (λ (n : ℕ) (x : Turn) (b : S). turnOnePhase n x (sheets b)) n xs b ≡ onePhaseTurn turnAfter turnOnePhase n xs (sheets b)
 
-  lift : (xs : List Turn) (b : S) (es : List Event) → kind .passes b → LegalTurns turned events xs b es → Lifted xs b es
+  pub lift : (xs : List Turn) (b : S) (es : List Event) → kind .passes b → LegalTurns turned events xs b es → Lifted xs b es
   unfolding turnsLeft turnEvents onePhaseTurn
   lift [] b es p l = record { legal = tt; says = refl; passes = p; told = refl; ones = λ n. refl }
   lift (x ∷ xs) b es p l =

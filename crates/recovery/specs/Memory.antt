@@ -167,7 +167,7 @@ abort-undecided c i j e = go (eqb i j) refl
     go false q = sym (decided-other i j Aborted c (eqb-false i j q)) ∙ e
 
 -- a decision that stands afterwards and that no ABORTED could have brought stood before
-away-stood : (d : Decision) (s : Sheets) (j : ℕ) (w : Write) → ((i : ℕ) → decision j (withDecision i Aborted (s .coordinator)) ≡ d → decision j (s .coordinator) ≡ d) → Away s j w → decision j (decisionsAfter w (s .coordinator)) ≡ d → decision j (s .coordinator) ≡ d
+pub away-stood : (d : Decision) (s : Sheets) (j : ℕ) (w : Write) → ((i : ℕ) → decision j (withDecision i Aborted (s .coordinator)) ≡ d → decision j (s .coordinator) ≡ d) → Away s j w → decision j (decisionsAfter w (s .coordinator)) ≡ d → decision j (s .coordinator) ≡ d
 unfolding decisionsAfter
 away-stood d s j w f away-nothing e = e
 away-stood d s j w f away-issue e = sym (issued-decision _ j (s .coordinator)) ∙ e

@@ -26,6 +26,8 @@ use Rattle.model.specs.Turns.{
   turnEvent,
   turnAfter,
   turnOnePhase,
+  comesTo,
+  expanded,
   turnsLeft,
   onePhaseTurn,
   turnEvents,
@@ -38,15 +40,6 @@ use Rattle.recovery.specs.Invariant.{Inv}
 use Rattle.recovery.specs.History.{first-inv, onesAfter, history-kept}
 use Rattle.recovery.specs.Theorem.{recoveredBy, recovery-theorem}
 use Rattle.recovery.specs.Commits.{or-none, exactly-same, commits-exactly}
-
--- the calls that a turn comes to: an advance by place none where the list has no such place
-unfoldable pub comesTo : Turn → Sheets → List Call
-comesTo (single c) s = c ∷ []
-comesTo (advanceAt list place now) s = cond (listed (length list) place) (advance (named list place) now ∷ []) []
-
-unfoldable pub expanded : List Turn → Sheets → List Call
-expanded [] s = []
-expanded (x ∷ xs) s = comesTo x s ++ expanded xs (turnAfter x s)
 
 -- Histories one after another.
 

@@ -1,0 +1,94 @@
+-- What a checked transaction saw: the order in which the transactions of a history count, the serial run of the committed ones in that order, and what is
+-- claimed of both. Document 02, note 8.
+use Prim.Native.Nat.{ℕ}
+use mathlib.Core.Path.{_≡_}
+use mathlib.Core.Bool.{Bool, true, _&&_, _||_, cond}
+use mathlib.Core.List.{List, [], _∷_}
+use mathlib.Core.Option.{Option, none, some}
+use lib.Dec.{eqb, leb}
+use Rattle.lists.specs.Each.{count}
+use Rattle.lists.specs.Members.{Mem}
+use Rattle.types.specs.declared.Key.{Key}
+use Rattle.types.specs.declared.Record.{Record}
+use Rattle.types.specs.declared.Reading.{Reading}
+use Rattle.types.specs.declared.Reading.the-variants.{Again}
+use Rattle.types.specs.declared.Transaction.{Transaction}
+use Rattle.model.specs.Records.{lineOf}
+use Rattle.model.specs.Transactions.{openPhase, preparePhase, validatePhase, decidePhase, donePhase, isEmpty, puts, reading}
+use Rattle.model.specs.Results.{Call, begin, read, put, advance, abort, visit, answered, refusalIn, returns}
+use Rattle.model.specs.Conditions.{heldEntry}
+use Rattle.model.specs.Histories.{Event, taken, eventsAfter}
+use Rattle.model.specs.SequentialModel.{Model, overwritten, isCommitted}
+use Rattle.model.specs.ByteHistories.{Bytes, saying, answerOn, afterOn}
+use Rattle.model.specs.Turns.{Turn, expanded}
+
+-- the calls that the turns of a history come to, made on its bytes one after another, and their answers; the last one first
+abbrev pub callsOn : List Turn → Bytes → List Event
+callsOn xs b = eventsAfter answerOn afterOn (expanded xs (saying b)) b []
+
+-- "Suppose every transaction is begun as checked": begin is told so wherever it is accepted.
+
+abbrev pub toldChecked : Call → Bool
+toldChecked (begin serializable) = serializable
+toldChecked (read t k now) = true
+toldChecked (put t k c) = true
+toldChecked (advance t now) = true
+toldChecked (abort t) = true
+toldChecked (visit k now) = true
+
+abbrev pub begunChecked : Event → Bool
+begunChecked e = leb 1 (refusalIn (e .answer)) || toldChecked (e .call)
+
+-- "all in one order by these steps": the step that takes t and returns t′ gives the transaction its place.
+
+-- "those with puts .. in the order of their last prepare": the step from prepare to check or decide
+abbrev pub lastPrepare : Transaction → Transaction → Bool
+lastPrepare t t′ = eqb (t .phase) preparePhase && (eqb (t′ .phase) validatePhase || eqb (t′ .phase) decidePhase)
+
+-- "those without .. in the order of the advance that left open": the step from open to check or done
+abbrev pub leftOpen : Transaction → Transaction → Bool
+leftOpen t t′ =
+    eqb (t .phase) openPhase && isEmpty (puts t) && (eqb (t′ .phase) validatePhase || eqb (t′ .phase) donePhase)
+
+abbrev pub getsPlace : Transaction → Transaction → Bool
+getsPlace t t′ = lastPrepare t t′ || leftOpen t t′
+
+-- the order after a call that took the first and returned the second
+abbrev pub placedBy : Option Transaction → Option Transaction → List ℕ → List ℕ
+placedBy (some t) (some t′) ns = cond (getsPlace t t′) (t .number ∷ ns) ns
+placedBy (some t) none ns = ns
+placedBy none u ns = ns
+
+-- the numbers by their places after these events, the last one first, like the events. One that is not committed has its place too, and doesn't run.
+unfoldable pub serialOrder : List Event → List ℕ
+serialOrder [] = []
+serialOrder (e ∷ es) = placedBy (taken e) (returns (e .answer)) (serialOrder es)
+
+-- the numbers that have their place before n
+unfoldable pub placedBefore : ℕ → List ℕ → List ℕ
+placedBefore n [] = []
+placedBefore n (i ∷ ns) = cond (eqb n i) ns (placedBefore n ns)
+
+-- "run whole one after another from the first sheets": the line of a key once the committed ones of these numbers have run, each writing its whole page as the
+-- sequential model does, "a key without [a line] counting" as an ABSENT line of version 0. Which ones are committed the sequential model says, and so
+-- "those without [puts] once their verdict says so".
+unfoldable pub serialLine : List Record → Model → List ℕ → Key → Record
+serialLine rs m [] k = lineOf k rs
+serialLine rs m (n ∷ ns) k =
+    cond (isCommitted n m) (overwritten n (m .writes n k) (serialLine rs m ns k)) (serialLine rs m ns k)
+
+-- A read of a key that answered v and returned t′ saw this line: the answer is the entry that t′ holds for the key, "as last put, else as first read", and what
+-- that entry has as first read (version, TxID and columns; version 0 is absent) is the line's.
+pub record Saw (line : Record) (k : Key) (v : Reading) (t′ : Transaction) : Type 0 where
+  pub answer : v ≡ reading (heldEntry k t′)
+  pub first-read : heldEntry k t′ .seen ≡ line .image
+
+-- "the committed ones read and wrote what they would have", of the first record sheet, the sequential model at the end of the history and the calls made in it
+pub record Serializable (first : List Record) (m : Model) (es : List Event) : Type 0 where
+  -- each committed one has one place
+  pub placed : (n : ℕ) → isCommitted n m ≡ true → count (eqb n) (serialOrder es) ≡ 1
+  -- each of its reads saw the line that those before it leave. "Refused reads, *again* .. don't count as reads."
+  pub reads : (t : Transaction) (k : Key) (now : ℕ) (v : Reading) (t′ : Transaction) → Mem (record { call = read t k now; answer = answered v t′ }) es
+      → (v ≡ Again → ⊥) → isCommitted (t .number) m ≡ true → Saw (serialLine first m (placedBefore (t .number) (serialOrder es)) k) k v t′
+  -- and all of them together leave the lines that the commits of the history left
+  pub writes : (k : Key) → serialLine first m (serialOrder es) k ≡ m .line k

@@ -1,0 +1,196 @@
+-- What a state holds after a call: a step leaves its entries, a read adds one at the end, and a put replaces one by an entry of the same key that has the same as
+-- first read. So what was held is held on, and no entry becomes newer than its line.
+use Prim.Native.Nat.{ℕ, _+_, _<_}
+use mathlib.Core.Path.{_≡_, refl, sym, ap, _∙_, subst}
+use mathlib.Core.Logic.{inl, inr, _⊎_}
+use mathlib.Core.List.{List, [], _∷_, _++_}
+use mathlib.Core.Bool.{true, false, true≢false}
+use native.Mathlib.Numerals.{add-one}
+use lib.ListN.{length, take, getD, set}
+use lib.Seq.{take-suc-set}
+use lib.Dec.{ltb}
+use borrow.Author.Tests.{not-true}
+use Rattle.lists.specs.Each.{all}
+use Rattle.lists.specs.Tests.{choose-by}
+use Rattle.lists.specs.Members.{Mem, mem-before, mem-last, mem-more, mem-set, mem-kept, mem-at, mem-set-at}
+use Rattle.types.specs.declared.Columns.{Columns}
+use Rattle.types.specs.declared.Entry.{Entry}
+use Rattle.types.specs.declared.Found.{Found}
+use Rattle.types.specs.declared.Image.{Image}
+use Rattle.types.specs.declared.Key.{Key}
+use Rattle.types.specs.declared.Record.{Record}
+use Rattle.types.specs.declared.Transaction.{Transaction}
+use Rattle.model.specs.Records.{sameKey, isMissing, byFound}
+use Rattle.model.specs.Coordinator.{decision}
+use Rattle.model.specs.Transactions.{donePhase, isEmpty, held, puts, toValidate, noEntry, heldAt, withPut, withEntry}
+use Rattle.model.specs.Writes.{Sheets}
+use Rattle.model.specs.Conditions.{isNew, heldEntry}
+use Rattle.model.specs.Steps.{
+  Step,
+  holds,
+  unitsOf,
+  groupsOf,
+  groupAt,
+  onePhaseAllowed,
+  openWithoutPuts,
+  onePhase,
+  openStep,
+  afterPrepare,
+  nextGroup,
+  prepareStep,
+  nextEntry,
+  validateStep,
+  decideStep,
+  withdrawStep,
+  finishStep,
+  undoStep,
+  step,
+}
+use Rattle.model.specs.Calls.{holding}
+use Rattle.sheet_laws.specs.Search.{first-by, some-found}
+use Rattle.call_laws.specs.Choices.{by-phase, by-decision}
+use Rattle.call_laws.specs.Entries.{getD-first}
+use Rattle.call_laws.specs.Keys.{same-key, hasKey}
+use Rattle.call_laws.specs.Keeping.{not-held}
+use Rattle.recovery.specs.Puts.{take-set}
+use Rattle.recovery.specs.Calls.{missing-none}
+use Rattle.serial.specs.Entries.{member-key}
+use Rattle.serial.specs.Runs.{Fresh, NoNewer}
+use Rattle.serial.specs.Invariant.{Aged}
+
+-- an entry of the key that has this as first read
+pub record Seen (k : Key) (i : Image) (es : List Entry) : Type 0 where
+  pub entry : Entry
+  pub member : Mem entry es
+  pub key : entry .key ≡ k
+  pub first-read : entry .seen ≡ i
+
+-- what t held is held by t′
+abbrev pub HoldsOn : Transaction → Transaction → Type 0
+HoldsOn t t′ = (x : Entry) → Mem x (held t) → Seen (x .key) (x .seen) (held t′)
+
+pub holds-same : (t t′ : Transaction) → held t′ ≡ held t → HoldsOn t t′
+holds-same t t′ q x n = record { entry = x; member = subst (Mem x) (sym q) n; key = refl; first-read = refl }
+
+-- the entry of a key that is held
+pub held-entry : (k : Key) (t : Transaction) → isNew k t ≡ false → Mem (heldEntry k t) (held t) × (heldEntry k t .key ≡ k)
+unfolding heldAt held
+held-entry k t old =
+    first-by (λ (x : Entry). sameKey (x .key) k)
+    (λ (i : Found). isMissing i ≡ false → Mem (at i) (held t) × (at i .key ≡ k))
+    (held t) noEntry
+    (λ n q. absurd (missing-none q))
+    (λ i x q. let same : getD (held t) i noEntry ≡ getD (t .entries) i noEntry = getD-first (t .count) (t .entries) i noEntry (x .within) in (
+      subst (λ (y : Entry). Mem y (held t)) same (mem-at (held t) i noEntry (x .within)),
+      ap (λ (y : Entry). y .key) (sym same) ∙ same-key (getD (held t) i noEntry .key) k (x .passes),
+    ))
+    old
+  where
+    at : Found → Entry
+    at i = byFound i noEntry (λ (j : ℕ). getD (t .entries) j noEntry)
+
+-- One entry more.
+pub holds-more : (e : Entry) (t : Transaction) → t .count < length (t .entries) → held (holding e t) ≡ held t ++ (e ∷ [])
+unfolding held
+holds-more e t l =
+    ap (λ (n : ℕ). take n (set (t .entries) (t .count) e)) (add-one (t .count)) ∙ take-suc-set (t .entries) (t .count) e l
+
+module _ (e : Entry) (t : Transaction) (l : t .count < length (t .entries)) where
+  pub holds-on-more : HoldsOn t (holding e t)
+  holds-on-more x n =
+      record { entry = x; member = subst (Mem x) (sym (holds-more e t l)) (mem-before (held t) (e ∷ []) n); key = refl; first-read = refl }
+
+  pub aged-more : (line : Key → Record) → Fresh line e → Aged line t → Aged line (holding e t)
+  aged-more line x aged y n = go (mem-more e (held t) (subst (Mem y) (holds-more e t l) n))
+    where
+      go : Mem y (held t) ⊎ (y ≡ e) → NoNewer line y
+      go (inl m) = aged y m
+      go (inr q) = subst (NoNewer line) (sym q) (inl x)
+
+  -- which is the one of its key, if that is new
+  module _ (k : Key) (same : e .key ≡ k) where
+    pub now-held : isNew k (holding e t) ≡ false
+    unfolding heldAt
+    now-held =
+        not-true (isNew k (holding e t))
+        (some-found (λ (x : Entry). sameKey (x .key) k) 0 (held (holding e t))
+        ∙ (ap (λ (j : Key). hasKey j (held (holding e t))) (sym same)
+        ∙ member-key e (held (holding e t)) (subst (Mem e) (sym (holds-more e t l)) (mem-last (held t)))))
+
+    pub new-entry : isNew k t ≡ true → heldEntry k (holding e t) ≡ e
+    new-entry new = go (mem-more e (held t) (subst (Mem y) (holds-more e t l) (found .0)))
+      where
+        y : Entry
+        y = heldEntry k (holding e t)
+
+        found : Mem y (held (holding e t)) × (y .key ≡ k)
+        found = held-entry k (holding e t) now-held
+
+        go : Mem y (held t) ⊎ (y ≡ e) → y ≡ e
+        go (inl n) = absurd (true≢false (sym (member-key y (held t) n) ∙ (ap (λ (j : Key). hasKey j (held t)) (found .1) ∙ not-held k t new)))
+        go (inr q) = q
+
+-- One entry put to.
+module _ (c : Columns) (t : Transaction) (i : ℕ) (l : i < length (held t)) where
+  abbrev replaced : Entry
+  replaced = withPut c (getD (t .entries) i noEntry)
+
+  holds-put : held (withEntry (t .count) i replaced t) ≡ set (held t) i replaced
+  unfolding held
+  holds-put = take-set (t .count) i replaced (t .entries)
+
+  same-entry : getD (held t) i noEntry ≡ getD (t .entries) i noEntry
+  unfolding held
+  same-entry = getD-first (t .count) (t .entries) i noEntry l
+
+  pub holds-on-put : HoldsOn t (withEntry (t .count) i replaced t)
+  holds-on-put x n = go (mem-kept noEntry replaced i (held t) n)
+    where
+      go : Mem x (set (held t) i replaced) ⊎ (x ≡ getD (held t) i noEntry) → Seen (x .key) (x .seen) (held (withEntry (t .count) i replaced t))
+      go (inl m) = record { entry = x; member = subst (Mem x) (sym holds-put) m; key = refl; first-read = refl }
+      go (inr q) =
+          let same : getD (t .entries) i noEntry ≡ x = sym (q ∙ same-entry) in
+          record {
+            entry = replaced;
+            member = subst (Mem replaced) (sym holds-put) (mem-set-at (held t) i replaced l);
+            key = ap (λ (z : Entry). z .key) same;
+            first-read = ap (λ (z : Entry). z .seen) same;
+          }
+
+  pub aged-put : (line : Key → Record) → Aged line t → Aged line (withEntry (t .count) i replaced t)
+  aged-put line aged y n = go (mem-set replaced i (held t) (subst (Mem y) holds-put n))
+    where
+      go : Mem y (held t) ⊎ (y ≡ replaced) → NoNewer line y
+      go (inl m) = aged y m
+      go (inr q) =
+          subst (NoNewer line) (sym q) (aged (getD (t .entries) i noEntry) (subst (λ (x : Entry). Mem x (held t)) same-entry (mem-at (held t) i noEntry l)))
+
+-- A step.
+module _ (t : Transaction) (now : ℕ) (s : Sheets) where
+  abbrev Same : Step → Type 0
+  Same x = held (x .transaction) ≡ held t
+
+  next-group : (p : ℕ) → held (nextGroup p t s) ≡ held t
+  unfolding nextGroup held
+  next-group p = choose-by (λ (u : Transaction). held u ≡ held t) (ltb (t .place + 1) (groupsOf t s)) (λ e. refl) (λ e. refl)
+
+  next-entry : held (nextEntry (unitsOf s) t) ≡ held t
+  unfolding nextEntry held
+  next-entry =
+      choose-by (λ (u : Transaction). held u ≡ held t) (ltb (t .place + 1) (length (toValidate (unitsOf s) t))) (λ e. refl)
+      (λ e. choose-by (λ (u : Transaction). held u ≡ held t) (isEmpty (puts t)) (λ g. refl) (λ g. refl))
+
+  pub step-holds : held (step t now s .transaction) ≡ held t
+  unfolding step openStep openWithoutPuts onePhase prepareStep validateStep decideStep withdrawStep finishStep undoStep held
+  step-holds =
+      by-phase Same (t .phase)
+      (choose-by Same (isEmpty (puts t)) (λ e. choose-by Same (isEmpty (toValidate (unitsOf s) t)) (λ g. refl) (λ g. refl))
+      (λ e. choose-by Same (onePhaseAllowed t s) (λ g. choose-by Same (all (holds s) (groupAt t s)) (λ c. refl) (λ c. refl)) (λ g. refl)))
+      (choose-by Same (all (holds s) (groupAt t s)) (λ c. next-group (afterPrepare (unitsOf s) t)) (λ c. refl))
+      (choose-by Same (holds s (getD (toValidate (unitsOf s) t) (t .place) noEntry)) (λ c. next-entry) (λ c. refl))
+      (by-decision Same (decision (t .number) (s .coordinator)) refl refl refl)
+      (by-decision Same (decision (t .number) (s .coordinator)) refl refl refl)
+      (next-group donePhase)
+      (next-group donePhase)
+      refl
+      refl

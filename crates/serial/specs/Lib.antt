@@ -1,0 +1,20 @@
+-- Checked transactions are serializable.
+pub mod Runs
+pub mod Order
+pub mod OrderCommits
+pub mod Entries
+pub mod InDoubt
+pub mod Invariant
+pub mod Handover
+pub mod Untaken
+pub mod Quiet
+pub mod Validation
+pub mod Entering
+pub mod Commits
+pub mod Advance
+pub mod Holding
+pub mod Answers
+pub mod Calls
+pub mod History
+pub mod Theorem
+pub mod Bytes

@@ -1,0 +1,104 @@
+-- Serial runs, apart from sheets. The line of a key depends only on those that write it, and a line that is written gets a higher version: so an entry that is
+-- no newer than its line stays so, and where it is as the line afterwards the line was not written.
+use Prim.Native.Nat.{ℕ, _+_, _<_}
+use mathlib.Core.Path.{_≡_, refl, sym, ap, ap₂, _∙_}
+use mathlib.Core.Logic.{_⊎_, inl, inr}
+use mathlib.Core.List.{List, [], _∷_}
+use mathlib.Core.Option.{Option, none, some}
+use mathlib.Core.Bool.{Bool, true, false, cond}
+use native.Mathlib.Omega.{arith}
+use Rattle.lists.specs.Members.{Mem, here, there}
+use Rattle.types.specs.declared.Entry.{Entry}
+use Rattle.types.specs.declared.Image.{Image}
+use Rattle.types.specs.declared.Key.{Key}
+use Rattle.types.specs.declared.Record.{Record}
+use Rattle.model.specs.Images.{Change}
+use Rattle.model.specs.SequentialModel.{overwritten}
+use Rattle.recovery.specs.Memory.{putIn}
+
+-- a transaction in the order: its number, and what it held when it got its place
+pub record Placing : Type 0 where
+  pub number : ℕ
+  pub entries : List Entry
+
+-- what it puts for a key
+abbrev pub wrote : Key → Placing → Option Change
+wrote k p = putIn k (p .entries)
+
+-- the line of a key once it has run, if it is committed
+abbrev pub ran : Bool → Placing → Key → Record → Record
+ran b p k r = cond b (overwritten (p .number) (wrote k p) r) r
+
+-- and once the committed ones of a list have run from the first lines, the last one first
+unfoldable pub runLine : (ℕ → Bool) → (Key → Record) → List Placing → Key → Record
+runLine c first [] k = first k
+runLine c first (p ∷ ps) k = ran (c (p .number)) p k (runLine c first ps k)
+
+-- One that writes nothing to a key leaves its line, committed or not.
+
+pub overwritten-none : (n : ℕ) (o : Option Change) (r : Record) → o ≡ none → overwritten n o r ≡ r
+unfolding overwritten
+overwritten-none n o r e = ap (λ (x : Option Change). overwritten n x r) e
+
+pub unwritten : (b : Bool) (p : Placing) (k : Key) (r : Record) → wrote k p ≡ none → ran b p k r ≡ r
+unwritten true p k r e = overwritten-none (p .number) (wrote k p) r e
+unwritten false p k r e = refl
+
+-- other committed numbers, if those that differ write nothing to the key
+pub run-other : (c c′ : ℕ → Bool) (first : Key → Record) (k : Key) (ps : List Placing)
+    → ((p : Placing) → Mem p ps → (c′ (p .number) ≡ c (p .number)) ⊎ (wrote k p ≡ none)) → runLine c′ first ps k ≡ runLine c first ps k
+unfolding runLine
+run-other c c′ first k [] h = refl
+run-other c c′ first k (p ∷ ps) h = go (h p here) (run-other c c′ first k ps (λ q m. h q (there m)))
+  where
+    n : ℕ
+    n = p .number
+
+    go : (c′ n ≡ c n) ⊎ (wrote k p ≡ none) → runLine c′ first ps k ≡ runLine c first ps k → runLine c′ first (p ∷ ps) k ≡ runLine c first (p ∷ ps) k
+    go (inl e) i = ap₂ (λ (b : Bool) (r : Record). ran b p k r) e i
+    go (inr e) i = unwritten (c′ n) p k (runLine c′ first ps k) e ∙ (i ∙ sym (unwritten (c n) p k (runLine c first ps k) e))
+
+-- What an entry has as first read, beside the line of its key.
+
+-- it is the line
+abbrev pub Fresh : (Key → Record) → Entry → Type 0
+Fresh line e = e .seen ≡ line (e .key) .image
+
+-- the line has gone on
+abbrev pub Stale : (Key → Record) → Entry → Type 0
+Stale line e = e .seen .version < line (e .key) .image .version
+
+abbrev pub NoNewer : (Key → Record) → Entry → Type 0
+NoNewer line e = Fresh line e ⊎ Stale line e
+
+-- a line that is written has a higher version
+overwritten-version : (n : ℕ) (c : Change) (r : Record) → overwritten n (some c) r .image .version ≡ r .image .version + 1
+unfolding overwritten
+overwritten-version n c r = refl
+
+module _ (line line′ : Key → Record) (e : Entry) (n : ℕ) where
+  written-version : (c : Change) → line′ (e .key) ≡ overwritten n (some c) (line (e .key))
+      → line′ (e .key) .image .version ≡ line (e .key) .image .version + 1
+  written-version c l = ap (λ (r : Record). r .image .version) l ∙ overwritten-version n c (line (e .key))
+
+  -- no entry becomes newer
+  pub no-newer-after : (o : Option Change) → line′ (e .key) ≡ overwritten n o (line (e .key)) → NoNewer line e → NoNewer line′ e
+  unfolding overwritten
+  no-newer-after none l (inl f) = inl (f ∙ ap (λ (r : Record). r .image) (sym l))
+  no-newer-after none l (inr f) =
+      inr (let v : line′ (e .key) .image .version ≡ line (e .key) .image .version = ap (λ (r : Record). r .image .version) l in omega (arith, v, f))
+  no-newer-after (some c) l (inl f) =
+      inr (let g : e .seen .version ≡ line (e .key) .image .version = ap (λ (i : Image). i .version) f in omega (arith, written-version c l, g))
+  no-newer-after (some c) l (inr f) = inr (omega (arith, written-version c l, f))
+
+  -- an entry that is as the line afterwards is of a key that was not written
+  pub fresh-unwritten : (o : Option Change) → line′ (e .key) ≡ overwritten n o (line (e .key)) → NoNewer line e → Fresh line′ e → o ≡ none
+  fresh-unwritten none l a f = refl
+  fresh-unwritten (some c) l a f = absurd (go a)
+    where
+      v : e .seen .version ≡ line (e .key) .image .version + 1
+      v = ap (λ (i : Image). i .version) f ∙ written-version c l
+
+      go : NoNewer line e → ⊥
+      go (inl q) = let w : e .seen .version ≡ line (e .key) .image .version = ap (λ (i : Image). i .version) q in omega (arith, v, w)
+      go (inr q) = omega (arith, v, q)

@@ -1,0 +1,1 @@
+// Theorems about the serial order of checked transactions (specs/); no code.
