@@ -1,3 +1,5 @@
 -- What is proved of the engine, and a sample that meets every hypothesis.
+pub mod Tables
 pub mod Sample
+pub mod SerialSample
 pub mod Theorems

@@ -5,6 +5,7 @@ use mathlib.Core.Path.{_≡_, ap, _∙_}
 use mathlib.Core.Bool.{true}
 use mathlib.Core.List.{List, [], _∷_, map}
 use mathlib.Core.Option.{some}
+use Rattle.lists.specs.Each.{all}
 use Rattle.types.specs.declared.Decision.the-variants.{Committed}
 use Rattle.types.specs.declared.Key.{Key}
 use Rattle.types.specs.declared.Record.{Record}
@@ -26,6 +27,7 @@ use Rattle.model.specs.AtomicWrites.{OneUnit}
 use Rattle.model.specs.RecoveryPass.{Visit, nonePrepared, Closing}
 use Rattle.model.specs.Turns.{Turn, advanceAt, turnEventOn, turnAfterOn, turnsLeft, LegalTurns}
 use Rattle.model.specs.Recovered.{Recovered, modelOn, bytesRecovered}
+use Rattle.model.specs.SerialOrder.{callsOn, begunChecked, serialOrder, serialLine, Serializable}
 use Rattle.model.specs.Cases.{Case, cases, twelve-cases}
 use Rattle.sheet_laws.specs.Records as RecordLaws
 use Rattle.sheet_laws.specs.Coordinator as CoordinatorLaws
@@ -36,7 +38,9 @@ use Rattle.call_laws.specs.Turns as TurnLaws
 use Rattle.recovery.specs.PassExists.{recoveryPass}
 use Rattle.recovery.specs.NextReader as NextReader
 use Rattle.recovery.specs.Bytes as Recovery
+use Rattle.serial.specs.Bytes as Serial
 use Rattle.theorems.specs.Sample as Sample
+use Rattle.theorems.specs.SerialSample as SerialSample
 
 -- DEMAND 1: "a result or the one refusal that our table names for that input, and after a refusal it finds both sheets and its transaction unchanged".
 -- A call by value returns its transaction as it came where it is refused: `cores` Answers.
@@ -123,3 +127,29 @@ next-visit-finishes b p k now l h m d = NextReader.next-visit-finishes b p k now
 
 pub next-read-finishes : (b : Bytes) → Passing b → (k : Key) (now : ℕ) → now < 2 ^ 32 → hasLine k (records (b .records)) ≡ true → isPrepared (lineOf k (records (b .records))) ≡ true → ownerDecision (lineOf k (records (b .records))) (coordinatorOf (b .coordinator)) ≡ Committed → (t : Transaction) → isNew k t ≡ true → refusalIn (answerOn (read t k now) b) ≡ 0 → lineOf k (records (afterOn (read t k now) b .records)) ≡ rolledForward (lineOf k (records (b .records)))
 next-read-finishes b p k now l h m d t n a = NextReader.next-read-finishes b p k now l h m d t n a
+
+-- DOCUMENT 02, NOTE 8, for the calls that stand: "Suppose every transaction is begun as checked, in a list as demand 3 and the cut-off rule allow." Over bytes
+-- and every turn of a history, a turn counting as the calls that it comes to: each committed transaction has one place in the order, each of its reads saw what
+-- the committed ones before it leave, run whole one after another from the first sheets, and all of them together leave the sequential model's lines.
+pub checked-serializable : (b : Bytes) → Passing b → nonePrepared (records (b .records)) ≡ true → (xs : List Turn)
+    → LegalTurns turnAfterOn turnEventOn xs b [] → all begunChecked (callsOn xs b) ≡ true
+    → Serializable (records (b .records)) (modelOn xs b) (callsOn xs b)
+checked-serializable b p z xs legal checked = Serial.checked-serializable b p z xs legal checked
+
+-- so that after every recovery pass the record sheet is, byte for byte, what that serial run leaves
+pub serial-bytes : (b : Bytes) → Passing b → nonePrepared (records (b .records)) ≡ true → (xs : List Turn)
+    → LegalTurns turnAfterOn turnEventOn xs b [] → all begunChecked (callsOn xs b) ≡ true
+    → (vs : List Visit) → Closing saying afterOn vs (turnsLeft turnAfterOn xs b)
+    → bytesRecovered vs xs b .records
+    ≡ recordsText (map (λ (r : Record). serialLine (records (b .records)) (modelOn xs b) (serialOrder (callsOn xs b)) (r .key)) (records (b .records)))
+serial-bytes b p z xs legal checked vs c = Serial.serial-bytes b p z xs legal checked vs c
+
+-- a history that meets the hypotheses, the order in which its transactions count, and the order in which they committed, the last number first in both
+pub serial-legal : (Passing SerialSample.serialBytes × (nonePrepared (records (SerialSample.serialBytes .records)) ≡ true))
+    × (LegalTurns turnAfterOn turnEventOn SerialSample.serialTurns SerialSample.serialBytes []
+    × (all begunChecked (callsOn SerialSample.serialTurns SerialSample.serialBytes) ≡ true))
+serial-legal = ((SerialSample.serial-passes, SerialSample.serial-unprepared), (SerialSample.serial-legal, SerialSample.serial-checked))
+
+pub serial-order : (serialOrder (callsOn SerialSample.serialTurns SerialSample.serialBytes) ≡ 3 ∷ 2 ∷ 1 ∷ [])
+    × (modelOn SerialSample.serialTurns SerialSample.serialBytes .committed ≡ 1 ∷ 2 ∷ 3 ∷ [])
+serial-order = (SerialSample.serial-order, SerialSample.serial-committed)

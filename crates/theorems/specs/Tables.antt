@@ -1,0 +1,141 @@
+-- A history told as a table: what each turn is, answers and leaves. That the table is true follows from the definitions by computation, and what the history
+-- leaves, its events and whether it is legal follow from the table.
+use Prim.Native.Nat.{ℕ}
+use mathlib.Core.Path.{_≡_, refl, sym, ap, ap₂, _∙_, subst}
+use mathlib.Core.Bool.{false, true≢false}
+use mathlib.Core.List.{List, [], _∷_, map}
+use mathlib.Core.Option.{none, some, Option·none-ne-some, Option·some-injective}
+use lib.Dec.{eqb}
+use borrow.Author.Tests.{eq-eqb}
+use Rattle.types.specs.declared.Key.{Key}
+use Rattle.types.specs.declared.Columns.{Columns}
+use Rattle.types.specs.declared.Image.{Image}
+use Rattle.types.specs.declared.Transaction.{Transaction}
+use Rattle.model.specs.Results.{Call, advance, Answer}
+use Rattle.model.specs.CallByPlace.{named}
+use Rattle.model.specs.Histories.{Event, Permitted}
+use Rattle.model.specs.ByteHistories.{Bytes}
+use Rattle.model.specs.Turns.{Turn, single, advanceAt, turnEventOn, turnAfterOn, turnsLeft, turnEvents, LegalTurns}
+use Rattle.lists.specs.Bytes as Texts
+use Rattle.lists.specs.Each as Each
+use Rattle.decimal.specs.Field as Field
+use Rattle.model.specs.Layouts as Layouts
+use Rattle.model.specs.Lines as Lines
+use Rattle.model.specs.Records as Records
+use Rattle.model.specs.Search as Search
+use Rattle.model.specs.Coordinator as Coordinator
+use Rattle.model.specs.Refusals as Refusals
+use Rattle.model.specs.SheetCalls as SheetCalls
+use Rattle.model.specs.Transactions as Transactions
+use Rattle.model.specs.Groups as Groups
+use Rattle.model.specs.Images as Images
+use Rattle.model.specs.Writes as Writes
+use Rattle.model.specs.WellFormed as WellFormed
+use Rattle.model.specs.Visits as Visits
+use Rattle.model.specs.Conditions as Conditions
+use Rattle.model.specs.Steps as Steps
+use Rattle.model.specs.Calls as Calls
+use Rattle.model.specs.CallByPlace as CallByPlace
+use Rattle.model.specs.ByteCalls as ByteCalls
+use Rattle.model.specs.ByteHistories as ByteHistories
+use Rattle.model.specs.Turns as Turns
+
+-- What the tables speak of: records of two storages, their images and columns.
+
+abbrev pub keyA : Key
+keyA = record { storage = 1; namespace = 1; table = 1; partition = 1; clustering = 1 }
+
+abbrev pub keyB : Key
+keyB = record { storage = 2; namespace = 1; table = 1; partition = 1; clustering = 1 }
+
+abbrev pub keyC : Key
+keyC = record { storage = 2; namespace = 1; table = 1; partition = 1; clustering = 2 }
+
+abbrev pub image : ℕ → ℕ → ℕ → ℕ → Image
+image v n c d = record { version = v; txid = n; column1 = c; column2 = d }
+
+abbrev pub columns : ℕ → ℕ → Columns
+columns c d = record { column1 = c; column2 = d }
+
+-- A turn, what it was, and the sheets as it left them.
+pub record Row : Type 0 where
+  pub turn : Turn
+  pub event : Event
+  pub left : Bytes
+
+abbrev pub row : Call → Answer → Bytes → Row
+row c a b = record { turn = single c; event = record { call = c; answer = a }; left = b }
+
+abbrev pub rowAt : List Transaction → ℕ → ℕ → Answer → Bytes → Row
+rowAt list place now a b =
+    record { turn = advanceAt list place now; event = record { call = advance (named list place) now; answer = a }; left = b }
+
+-- the turns made one after another, each with the sheets that the row before it left
+unfoldable pub told : List Row → Bytes → List Row
+unfolding Texts.bytes Texts.eqList Each.all Each.any Each.filter Each.count Each.joined Each.pieces Each.less Field.stepped Field.scanned Field.within Field.figure Field.number Field.isNumber Field.ahead Field.fieldText Layouts.words Layouts.recordLayout Layouts.keyLayout Layouts.imageLayout Layouts.columnsLayout Layouts.headLayout Layouts.lineLayout Lines.wordFrom Lines.fieldValue Lines.fieldBytes Lines.inRange Lines.rowOf Lines.lineSet Lines.lineText Lines.rowGood Lines.linesOf Lines.linesSet Records.stateNumber Records.stateOf Records.keyNumbers Records.imageNumbers Records.keyOf Records.imageFrom Records.recordOf Records.recordNumbers Records.isZero Records.absentRule Records.committedRule Records.preparedRule Records.goodAlone Records.keyLess Records.inOrder Records.rising Records.recordsGood Records.recordIn Records.recordText Records.records Records.recordsText Records.recordsAccepted Records.keyInRange Records.sameKey Search.firstFrom Records.found Records.isMissing Records.lineOf Coordinator.decisionNumber Coordinator.decisionOf Coordinator.unitNumber Coordinator.unitOf Coordinator.isUndecided Coordinator.decision Coordinator.withDecision Coordinator.withIssued Coordinator.coordinatorGood Coordinator.decisionIn Coordinator.coordinatorOf Coordinator.numbered Coordinator.coordinatorAccepted Coordinator.namesIssued Coordinator.decisionTexts Coordinator.headNumbers Coordinator.coordinatorText Refusals.refusalOf SheetCalls.allIssued SheetCalls.checkConditions Transactions.held Transactions.puts Transactions.toValidate Transactions.heldAt Transactions.reading Groups.unitFields Groups.unitFor Groups.scope Groups.addScope Groups.scopes Groups.groupCount Groups.groupPlace Groups.group Images.preparedBy Images.unchanged Images.prepared Images.committed Images.rolledForward Images.rolledBack Images.elapsed Images.lineExpired Images.recovery Writes.entryFor Writes.isOf Writes.lineAfter Writes.linesAfter Writes.decisionsAfter Writes.apply WellFormed.imageInRange WellFormed.columnsInRange WellFormed.putFits WellFormed.entryFormed WellFormed.distinctKeys WellFormed.placeFormed WellFormed.verdictFormed WellFormed.formed WellFormed.linesHeld WellFormed.wellFormed Visits.meeting Visits.recovered Visits.recoveryWrite Conditions.cannotAdvance Conditions.conditions Steps.holds Steps.onePhaseAllowed Steps.onePhase Steps.openWithoutPuts Steps.openStep Steps.nextGroup Steps.prepareStep Steps.validateStep Steps.nextEntry Steps.decideStep Steps.finishStep Steps.undoStep Steps.step Calls.outcome Calls.result Calls.readNew Calls.afterPut CallByPlace.listed CallByPlace.conditionsAt CallByPlace.advanceAtResult CallByPlace.advanceAtOn ByteCalls.resultOn ByteCalls.recordsAfter ByteCalls.coordinatorAfter ByteHistories.answerOn ByteHistories.afterOn Turns.turnEventOn Turns.turnAfterOn
+told [] b = []
+told (r ∷ rs) b =
+    record { turn = r .turn; event = turnEventOn (r .turn) b; left = turnAfterOn (r .turn) b } ∷ told rs (r .left)
+
+-- From the table to the history.
+
+abbrev firstOf : Row → List Row → Row
+firstOf d [] = d
+firstOf d (r ∷ rs) = r
+
+abbrev restOf : List Row → List Row
+restOf [] = []
+restOf (r ∷ rs) = rs
+
+abbrev pub lastLeft : List Row → Bytes → Bytes
+lastLeft [] b = b
+lastLeft (r ∷ rs) b = lastLeft rs (r .left)
+
+abbrev pub rowEvents : List Row → List Event → List Event
+rowEvents [] es = es
+rowEvents (r ∷ rs) es = rowEvents rs (r .event ∷ es)
+
+abbrev pub LegalRows : List Row → List Event → Type 0
+LegalRows [] es = Unit {0}
+LegalRows (r ∷ rs) es = Permitted (r .event .call) (r .event .answer) es × LegalRows rs (r .event ∷ es)
+
+abbrev pub turnsOf : List Row → List Turn
+turnsOf rs = map (λ (r : Row). r .turn) rs
+
+pub rows-left : (rs : List Row) (b : Bytes) → told rs b ≡ rs → turnsLeft turnAfterOn (turnsOf rs) b ≡ lastLeft rs b
+unfolding told turnsLeft
+rows-left [] b e = refl
+rows-left (r ∷ rs) b e =
+    ap (turnsLeft turnAfterOn (turnsOf rs)) (ap (λ (x : List Row). firstOf r x .left) e) ∙ rows-left rs (r .left) (ap restOf e)
+
+pub rows-events : (rs : List Row) (b : Bytes) (es : List Event) → told rs b ≡ rs → turnEvents turnAfterOn turnEventOn (turnsOf rs) b es ≡ rowEvents rs es
+unfolding told turnEvents
+rows-events [] b es e = refl
+rows-events (r ∷ rs) b es e =
+    ap₂ (λ (x : Bytes) (y : Event). turnEvents turnAfterOn turnEventOn (turnsOf rs) x (y ∷ es)) (ap (λ (x : List Row). firstOf r x .left) e) (ap (λ (x : List Row). firstOf r x .event) e)
+    ∙ rows-events rs (r .left) (r .event ∷ es) (ap restOf e)
+
+pub rows-legal : (rs : List Row) (b : Bytes) (es : List Event) → told rs b ≡ rs → LegalRows rs es → LegalTurns turnAfterOn turnEventOn (turnsOf rs) b es
+unfolding told
+rows-legal [] b es e l = tt
+rows-legal (r ∷ rs) b es e l =
+    let x : r .event ≡ turnEventOn (r .turn) b = sym (ap (λ (y : List Row). firstOf r y .event) e) in
+    let z : r .left ≡ turnAfterOn (r .turn) b = sym (ap (λ (y : List Row). firstOf r y .left) e) in (
+      subst (λ (y : Event). Permitted (y .call) (y .answer) es) x (l .0),
+      subst (λ (y : Event). LegalTurns turnAfterOn turnEventOn (turnsOf rs) (turnAfterOn (r .turn) b) (y ∷ es)) x
+          (subst (λ (y : Bytes). LegalTurns turnAfterOn turnEventOn (turnsOf rs) y (r .event ∷ es)) z
+          (rows-legal rs (r .left) (r .event ∷ es) (ap restOf e) (l .1))),
+    )
+
+-- states of different numbers
+pub apart : {u v t : Transaction} → eqb (u .number) (v .number) ≡ false → some u ≡ some t → some v ≡ some t → ⊥
+apart {u} {v} {t} d p q =
+    true≢false (sym (eq-eqb (u .number) (v .number) (ap (λ (x : Transaction). x .number) (Option·some-injective u t p ∙ sym (Option·some-injective v t q)))) ∙ d)
+
+pub untaken : {t : Transaction} → none ≡ some t → ⊥
+untaken {t} f = Option·none-ne-some t f
+
+-- what is owed for a row, and for those after it
+infixr 4 _⊗_
+abbrev pub _⊗_ : {A B : Type 0} → A → B → A × B
+a ⊗ b = (a, b)
