@@ -134,12 +134,12 @@ module _ (us : List AtomicityUnit) where
         omega (arith, e, tallied-few t (countsAs us (λ (s : List ℕ). true)) (held t), length-take (t .count) (t .entries))
 
     -- an entry is of the group at a place exactly if that is the place found for it
-    pub in-group-at : t .count ≤ length (t .entries) → (i place : ℕ) → i < t .count → place < 8 → eqb (getD (groupsIn us t) i 8) place ≡ inGroup us t place (entryAt t i)
+    pub in-group-at : t .count ≤ length (t .entries) → (i d place : ℕ) → i < t .count → place < 8 → eqb (getD (groupsIn us t) i d) place ≡ inGroup us t place (entryAt t i)
     unfolding groupsIn
-    in-group-at room i place l m =
+    in-group-at room i d place l m =
         let n = length-mapped t room (groupOf us t) in
         ap (λ (x : ℕ). eqb x place)
-        (List·getD-append (map (groupOf us t) (held t)) (drop (t .count) noGroups) 8 i (omega arith) ∙ mapped-at t room (groupOf us t) i 8 l)
+        (List·getD-append (map (groupOf us t) (held t)) (drop (t .count) noGroups) d i (omega arith) ∙ mapped-at t room (groupOf us t) i d l)
         ∙ go (isPut (entryAt t i)) (groupPlace us (puts t) (entryAt t i .key))
       where
         go : (b : Bool) (x : ℕ) → eqb (cond b x 8) place ≡ (b && eqb x place)
