@@ -1,33 +1,41 @@
 -- What is asked before a call looks into a transaction, as one list of conditions: its refusal is the call's, and a transaction that passes has the rest of the
 -- call's conditions before it.
-use Prim.Native.Nat.{ℕ, _≤_}
+use Prim.Native.Nat.{ℕ, _≤_, _<_}
 use mathlib.Core.Path.{_≡_, refl, sym, ap, ap₂, _∙_, subst}
 use mathlib.Core.Bool.{Bool, true, false, _&&_, not, cond, true≢false}
 use mathlib.Core.List.{List, [], _∷_}
 use native.Mathlib.Omega.{arith}
-use lib.ListN.{take, drop}
-use borrow.Author.Tests.{not-false}
+use lib.ListN.{length, take, drop, length-take}
+use lib.Dec.{eqb, ltb}
+use borrow.Author.Tests.{not-false, eqb-true, ltb-true}
 use mir.Val.{Val}
 use denote.Laws.{Is}
 use denote.Struct.Declared.{row}
 use Rattle.types.proofs.Transaction.{the-type}
 use Rattle.types.specs.declared.AtomicityUnit.{AtomicityUnit}
+use Rattle.types.specs.declared.Entry.{Entry}
 use Rattle.types.specs.declared.Key.{Key}
 use Rattle.types.specs.declared.Transaction.{Transaction}
 use Rattle.model.specs.Records.{records, keyInRange}
 use Rattle.model.specs.Coordinator.{coordinatorOf}
 use Rattle.model.specs.Refusals.{Condition, refuse, refusalOf}
-use Rattle.model.specs.WellFormed.{formed, linesHeld, wellFormed}
+use Rattle.model.specs.WellFormed.{formed, linesHeld, placeFormed, wellFormed}
+use Rattle.model.specs.Transactions.{held, puts, mustValidate, toValidate}
+use Rattle.model.specs.Groups.{groupCount}
 use Rattle.model.specs.Writes.{Sheets}
+use Rattle.model.specs.Steps.{unitsOf}
 use Rattle.model.specs.Conditions.{notOpen}
 use Rattle.model.specs.ByteCalls.{sheetsOf}
-use Rattle.call_laws.specs.Choices.{not-first}
+use Rattle.call_laws.specs.Choices.{not-first, by-phase-of}
 use Rattle.call_laws.specs.Transactions.{well-formed-parts}
 use Rattle.call_laws.specs.Accepted.{Accepted}
 use Rattle.protocol.specs.Formed.{headFormed, head-few, formed-not}
 use Rattle.protocol.specs.Units.{unitsIn, units-said}
+use Rattle.protocol.specs.Held.{tallied-kept, tallied-few}
+use Rattle.protocol.specs.GroupsIn.{groups-few}
 use Rattle.group_writes.specs.declared.lines.Located.{Located}
-use Rattle.group_writes.specs.Placed.{noPlaces, placesOf, Placed, placed-all, locatedIf}
+use Rattle.group_writes.specs.Located.{locatedIn, Indexed, Grouped, indexed-all, grouped-in}
+use Rattle.admission.specs.declared.Admitted.{Admitted}
 
 -- Well-formedness, in the order in which the code asks.
 
@@ -92,10 +100,51 @@ opened t k s h =
       ranged = not-false (keyInRange k) (g .0);
     }
 
--- What a well-formed transaction was admitted with: where its lines are.
-pub admitted-placed : (t : Transaction) (rs cs : List ℕ) {vs : List Val} → Is (row the-type) t vs → {l : Located} → l ≡ locatedIf (wellFormed (sheetsOf rs cs) t) (records rs) t → wellFormed (sheetsOf rs cs) t ≡ true → Placed (records rs) t (l .places) (t .count)
-admitted-placed t rs cs p {l} e f =
-    let q = well-formed-parts (sheetsOf rs cs) t f .0 in
-    subst (λ (x : List ℕ). Placed (records rs) t x (t .count))
-    (sym (ap (λ (x : Located). x .places) e ∙ ap (λ (b : Bool). cond b (placesOf (records rs) t (t .count)) noPlaces) f))
-    (placed-all (records rs) t p (q .few) (q .lines))
+-- What is found of a transaction's entries where it is well formed.
+
+abbrev pub nowhere : Located
+nowhere =
+    record { indices = 0 ∷ 0 ∷ 0 ∷ 0 ∷ 0 ∷ 0 ∷ 0 ∷ 0 ∷ []; groups = 0; of = 0 ∷ 0 ∷ 0 ∷ 0 ∷ 0 ∷ 0 ∷ 0 ∷ 0 ∷ [] }
+
+abbrev admittedIf : Bool → Sheets → Transaction → Admitted
+admittedIf b s t = record { formed = b; located = cond b (locatedIn (s .lines) (unitsOf s) t) nowhere }
+
+abbrev pub admitted : Sheets → Transaction → Admitted
+admitted s t = admittedIf (wellFormed s t) s t
+
+module _ (s : Sheets) (t : Transaction) where
+  pub admitted-not : wellFormed s t ≡ false → record { formed = false; located = nowhere } ≡ admitted s t
+  admitted-not e = ap (λ (b : Bool). admittedIf b s t) (sym e)
+
+  pub admitted-formed : (l : Located) → l ≡ locatedIn (s .lines) (unitsOf s) t → wellFormed s t ≡ true → record { formed = true; located = l } ≡ admitted s t
+  admitted-formed l h e = ap (λ (x : Located). record { formed = true; located = x }) h ∙ ap (λ (b : Bool). admittedIf b s t) (sym e)
+
+  pub formed-by : (x : Bool) {a : Admitted} → a ≡ admitted s t → a .formed ≡ x → wellFormed s t ≡ x
+  formed-by x e h = sym (ap (λ (y : Admitted). y .formed) e) ∙ h
+
+  pub located-by : {a : Admitted} → a ≡ admitted s t → wellFormed s t ≡ true → a .located ≡ locatedIn (s .lines) (unitsOf s) t
+  located-by e h = ap (λ (y : Admitted). y .located) e ∙ ap (λ (b : Bool). cond b (locatedIn (s .lines) (unitsOf s) t) nowhere) h
+
+-- a place is below eight
+place-few : (us : List AtomicityUnit) (t : Transaction) → t .count ≤ 8 → placeFormed us t ≡ true → t .place < 8
+unfolding placeFormed toValidate held
+place-few us t few =
+    by-phase-of (λ (x : Bool). x ≡ true → t .place < 8) (t .phase) (λ e. zeroth) (λ e. in-groups) (λ e. in-entries) (λ e. zeroth) (λ e. zeroth)
+    (λ e. in-groups) (λ e. in-groups) (λ e. zeroth) (λ q. absurd (true≢false (sym q)))
+  where
+    zeroth : eqb (t .place) 0 ≡ true → t .place < 8
+    zeroth q = omega (arith, eqb-true (t .place) 0 q)
+
+    in-groups : ltb (t .place) (groupCount us (puts t)) ≡ true → t .place < 8
+    in-groups q = omega (arith, ltb-true (t .place) (groupCount us (puts t)) q, groups-few us t, few)
+
+    in-entries : ltb (t .place) (length (toValidate us t)) ≡ true → t .place < 8
+    in-entries q =
+        omega (arith, ltb-true (t .place) (length (toValidate us t)) q, sym (tallied-kept (mustValidate us t) (held t)), tallied-few t (λ (e : Entry) (r : List Entry). mustValidate us t e) (held t), length-take (t .count) (t .entries), few)
+
+-- what a step asks for
+pub admitted-ready : (t : Transaction) (rs cs : List ℕ) {vs : List Val} → Is (row the-type) t vs → (l : Located) → l ≡ locatedIn (records rs) (coordinatorOf cs .units) t → wellFormed (sheetsOf rs cs) t ≡ true → Indexed (records rs) t (l .indices) (t .count) × Grouped (coordinatorOf cs .units) t l
+admitted-ready t rs cs p l e f =
+    let q = well-formed-parts (sheetsOf rs cs) t f in
+    subst (λ (x : Located). Indexed (records rs) t (x .indices) (t .count) × Grouped (coordinatorOf cs .units) t x) (sym e)
+    (indexed-all (records rs) t p (q .0 .few) (q .0 .lines), grouped-in (records rs) (coordinatorOf cs .units) t p (q .0 .few) (place-few (coordinatorOf cs .units) t (q .0 .few) (q .1 .place)))

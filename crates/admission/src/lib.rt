@@ -1,39 +1,67 @@
 // What is asked of a transaction before a call looks into it, on sheets that the check has let pass: refusal 3, and 4 and 5 of read and put.
 ghost use mathlib.Core.Path.{_≡_};
-ghost use Rattle.model.specs.Records as sheet;
+ghost use mathlib.Core.Bool.{false};
 ghost use Rattle.model.specs.Refusals.{refusalOf};
-ghost use Rattle.model.specs.WellFormed.{wellFormed};
 ghost use Rattle.model.specs.Conditions.{notOpen};
 ghost use Rattle.model.specs.ByteCalls.{sheetsOf};
 ghost use Rattle.call_laws.specs.Accepted.{Accepted};
-ghost use Rattle.group_writes.specs.Placed.{locatedIf};
-ghost use Rattle.admission.specs.Admission.{admittingOpen};
+ghost use Rattle.admission.specs.Admission.{nowhere, admitted, admittingOpen};
 use group_writes::lines;
 use group_writes::lines::Located;
+use protocol::groups;
+use protocol::well_formed;
 use types::Key;
 use types::Transaction;
 
-// Whether the transaction is well formed, and where its lines are. The unit letters are bytes 5 to 13 of an accepted coordinator sheet.
-pub fn admit(t: Transaction, records: &[u8], coordinator: &[u8]) -> Located
+// Whether a transaction is well formed, and what was found of its entries on the way; nothing of one that isn't.
+pub struct Admitted {
+    pub formed: bool,
+    pub located: Located,
+}
+
+const NOWHERE: Located = Located {
+    indices: [0, 0, 0, 0, 0, 0, 0, 0],
+    groups: 0,
+    of: [0, 0, 0, 0, 0, 0, 0, 0],
+};
+
+fn ill_formed() -> Admitted
+    ensures { λ r. ⌜ r ≡ record { formed = false; located = nowhere } ⌝ }
+{
+    Admitted {
+        formed: false,
+        located: NOWHERE,
+    }
+}
+
+// Whether the transaction is well formed. The unit letters are bytes 5 to 13 of an accepted coordinator sheet.
+pub fn admit(t: Transaction, records: &[u8], coordinator: &[u8]) -> Admitted
     requires { ⌜ Accepted (now records) (now coordinator) ⌝ }
-    ensures { λ r. ⌜ r ≡ locatedIf (wellFormed (sheetsOf (now (records .entry)) (now (coordinator .entry))) t) (sheet.records (now (records .entry))) t ⌝ }
+    ensures { λ r. ⌜ r ≡ admitted (sheetsOf (now (records .entry)) (now (coordinator .entry))) t ⌝ }
 {
     let issued = codec::coordinator::issued(coordinator);
-    if !protocol::well_formed::head_formed(issued, t) {
-        return Located {
-            all: false,
-            places: lines::NO_PLACES,
-        };
+    if !well_formed::head_formed(issued, t) {
+        return ill_formed();
     }
     let letters = &coordinator[5..14];
-    let groups = protocol::groups::groups_of(letters, t);
-    if !protocol::well_formed::formed(letters, groups.count, issued, t) {
-        return Located {
-            all: false,
-            places: lines::NO_PLACES,
-        };
+    let found = groups::groups_of(letters, t);
+    if !well_formed::formed(letters, found.count, issued, t) {
+        return ill_formed();
     }
-    lines::locate(records, t)
+    let lines = lines::lines_of(records, t);
+    if !lines.all {
+        return ill_formed();
+    }
+    let indices = lines.indices;
+    let of = found.of;
+    Admitted {
+        formed: true,
+        located: Located {
+            indices,
+            groups: found.count,
+            of,
+        },
+    }
 }
 
 // Refusal 4 of read and put, which want phase open.
@@ -60,7 +88,7 @@ pub fn open_refusal(t: Transaction, key: Key, records: &[u8], coordinator: &[u8]
     ensures { λ r. ⌜ r ≡ refusalOf (admittingOpen t key (sheetsOf (now (records .entry)) (now (coordinator .entry)))) ⌝ }
 {
     let admitted = admit(t, records, coordinator);
-    if !admitted.all {
+    if !admitted.formed {
         return 3;
     }
     if not_open(t) {

@@ -1,12 +1,9 @@
 // Records of a sheet by their place: what a call with a transaction reads and writes of a record sheet.
 ghost use mathlib.Core.Path.{_≡_};
-ghost use mathlib.Core.Bool.{cond};
 ghost use Prim.Native.Nat.{_*_, _/_};
 ghost use lib.ListN.{length, getD};
-ghost use lib.Dec.{ltb};
-ghost use Rattle.lists.specs.Pieces.{over};
 ghost use Rattle.model.specs.Layouts.{recordBytes, recordFields};
-ghost use Rattle.model.specs.Records.{stateOf, stateNumber, recordOf, recordNumbers, recordText, noRecord};
+ghost use Rattle.model.specs.Records.{stateOf, stateNumber, recordOf, noRecord};
 ghost use Rattle.model.specs.Records as model;
 use crate::lines;
 use types::Image;
@@ -79,30 +76,6 @@ pub fn record_of(v: &[u32]) -> Record
     }
 }
 
-// The numbers of a record.
-pub fn numbers_of(r: Record) -> [u32; RECORD_FIELDS]
-    ensures { λ v. ⌜ v ≡ recordNumbers r ⌝ }
-{
-    let s = r.state;
-    [
-        r.key.storage,
-        r.key.namespace,
-        r.key.table,
-        r.key.partition,
-        r.key.clustering,
-        state_number(s),
-        r.image.version,
-        r.image.txid,
-        r.image.column1,
-        r.image.column2,
-        r.before.version,
-        r.before.txid,
-        r.before.column1,
-        r.before.column2,
-        r.clock,
-    ]
-}
-
 // How many records a sheet has.
 pub fn count(records: &[u8]) -> usize
     ensures { λ r. ⌜ r ≡ length (now (records .entry)) / recordBytes ⌝ }
@@ -122,16 +95,4 @@ pub fn record_at(records: &[u8], i: usize) -> Record
         return record_of(&row);
     }
     NO_RECORD
-}
-
-// The text of a record over the line at place i; past the end nothing changes.
-pub fn set_record(records: &mut [u8], i: usize, r: Record)
-    ensures { λ u. ⌜ now (records .exit) ≡ cond (ltb i (length (now (records .entry)) / recordBytes)) (over (now (records .entry)) (i * recordBytes) (recordText r)) (now (records .entry)) ⌝ }
-{
-    if i < records.len() / RECORD_BYTES {
-        let at = i * RECORD_BYTES;
-        let end = at + RECORD_BYTES;
-        let row = numbers_of(r);
-        lines::write_row(Layout::RecordLine, &row, &mut records[at..end]);
-    }
 }

@@ -65,15 +65,15 @@ pub fn advance(t: Transaction, clock: u32, records: &mut [u8], coordinator: &mut
     ensures { λ r. ⌜ Outcome (toReturned t) (result (advance t clock) (sheetsOf (now (records .entry)) (now (coordinator .entry)))) (now (records .entry)) (now (coordinator .entry)) r (now (records .exit)) (now (coordinator .exit)) ⌝ }
 {
     let admitted = admission::admit(t, records, coordinator);
-    if !admitted.all {
+    if !admitted.formed {
         return refusal(3, t);
     }
     let own = codec::coordinator::decision_at(coordinator, t.number);
     if forbids(t.phase, own) {
         return refusal(4, t);
     }
-    let places = admitted.places;
-    let transaction = steps::step(t, places, clock, records, coordinator);
+    let located = admitted.located;
+    let transaction = steps::step(t, located, clock, records, coordinator);
     Returned {
         refusal: 0,
         transaction,

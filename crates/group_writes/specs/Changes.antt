@@ -1,58 +1,42 @@
 -- A group written entry by entry: each change is of the line of one key, and since no two entries have a key in common, one after another they make the map
 -- that the model applies. The new line is written over the old one at its place.
-use Prim.Native.Nat.{ℕ, _+_, _*_, _/_, _≤_, _<_, _^_}
+use Prim.Native.Nat.{ℕ, _*_, _/_, _<_}
 use mathlib.Core.Path.{_≡_, refl, sym, ap, ap₂, _∙_}
 use mathlib.Core.Bool.{Bool, true, false, _&&_, _||_, cond}
 use mathlib.Core.List.{List, [], _∷_, map}
 use mathlib.Core.Option.{Option, none, some}
 use native.Mathlib.Omega.{arith}
-use lib.ListN.{length, getD, set}
+use lib.ListN.{length, take, drop, getD, set}
 use lib.Dec.{ltb}
-use borrow.Author.Tests.{le-leb, lt-ltb}
+use borrow.Author.Tests.{lt-ltb, ltb-true}
 use Rattle.lists.specs.Each.{all, any}
 use Rattle.lists.specs.All.{map-map, map-equal, all-always}
 use Rattle.lists.specs.Chosen.{or-fst, or-snd}
-use Rattle.lists.specs.Pieces.{over}
-use Rattle.lists.specs.Tests.{and-both, choose-by, tests}
+use Rattle.lists.specs.Pieces.{over, over-same}
+use Rattle.lists.specs.Tests.{choose-by, tests}
 use Rattle.types.specs.declared.Entry.{Entry}
 use Rattle.types.specs.declared.Found.the-variants.{At}
 use Rattle.types.specs.declared.Key.{Key}
 use Rattle.types.specs.declared.Record.{Record}
-use Rattle.model.specs.Layouts.{recordLayout, imageLayout, recordBytes}
-use Rattle.model.specs.Lines.{rowGood, inRange}
-use Rattle.model.specs.Records.{
-  noRecord,
-  imageNumbers,
-  recordText,
-  records,
-  recordsGood,
-  recordsAccepted,
-  goodAlone,
-  rising,
-  sameKey,
-  found,
-  lineOf,
-}
-use Rattle.model.specs.Coordinator.{namesIssued}
+use Rattle.model.specs.Layouts.{recordBytes}
+use Rattle.model.specs.Records.{noRecord, recordText, records, recordsGood, recordsAccepted, goodAlone, rising, sameKey, found, lineOf}
 use Rattle.model.specs.Images.{Change, changeOf, preparedBy, prepared, committed, rolledForward, rolledBack}
 use Rattle.model.specs.Writes.{Write, commit, prepare, forward, back, entryFor, byEntry, isOf, lineAfter, linesAfter}
-use Rattle.model.specs.WellFormed.{imageInRange}
 use Rattle.model.specs.Steps.{keysOf}
-use Rattle.sheet_laws.specs.Records.{good-ranged}
-use Rattle.sheet_laws.specs.Places.{whole-lines, length-records, records-over}
+use Rattle.sheet_laws.specs.Records.{good-ranged, record-written-read}
+use Rattle.sheet_laws.specs.Places.{whole-lines, length-records, record-at, line-set, records-over}
 use Rattle.call_laws.specs.Lines.{lines-unmoved}
 use Rattle.call_laws.specs.Keys.{same-key, same-key-refl, same-key-flip, hasKey, no-entry}
 use Rattle.call_laws.specs.Places.{FoundAt, found-at, atKey, set-at-key, line-replaced}
-use Rattle.call_laws.specs.Ranges.{fine-parts}
 use Rattle.group_writes.specs.declared.changes.Effect.{Effect}
 use Rattle.group_writes.specs.declared.changes.Effect.the-variants.{Commit, Prepare, Forward, Back}
 
--- the record changed for an entry under a number
-unfoldable pub changed : Effect → ℕ → Entry → Record → Record
-changed Commit n e r = committed n (changeOf e) r
-changed (Prepare now) n e r = prepared n now (changeOf e) r
-changed Forward n e r = cond (preparedBy n r) (rolledForward r) r
-changed Back n e r = cond (preparedBy n r) (rolledBack r) r
+-- the record that an effect leaves under a number; only what the number has prepared is rolled
+unfoldable pub changed : Effect → ℕ → Change → Record → Record
+changed Commit n x r = committed n x r
+changed (Prepare now) n x r = prepared n now x r
+changed Forward n x r = cond (preparedBy n r) (rolledForward r) r
+changed Back n x r = cond (preparedBy n r) (rolledBack r) r
 
 -- the changes for a group's entries, as the model's write
 unfoldable pub written : Effect → ℕ → List Entry → Write
@@ -62,12 +46,12 @@ written Forward n es = forward n (keysOf es)
 written Back n es = back n (keysOf es)
 
 -- a change keeps the key
-pub changed-key : (c : Effect) (n : ℕ) (e : Entry) (r : Record) → changed c n e r .key ≡ r .key
+pub changed-key : (c : Effect) (n : ℕ) (x : Change) (r : Record) → changed c n x r .key ≡ r .key
 unfolding changed committed prepared rolledForward rolledBack
-changed-key Commit n e r = refl
-changed-key (Prepare now) n e r = refl
-changed-key Forward n e r = choose-by (λ (x : Record). x .key ≡ r .key) (preparedBy n r) (λ h. refl) (λ h. refl)
-changed-key Back n e r = choose-by (λ (x : Record). x .key ≡ r .key) (preparedBy n r) (λ h. refl) (λ h. refl)
+changed-key Commit n x r = refl
+changed-key (Prepare now) n x r = refl
+changed-key Forward n x r = choose-by (λ (y : Record). y .key ≡ r .key) (preparedBy n r) (λ h. refl) (λ h. refl)
+changed-key Back n x r = choose-by (λ (y : Record). y .key ≡ r .key) (preparedBy n r) (λ h. refl) (λ h. refl)
 
 -- Each line by the entry of its key.
 
@@ -86,26 +70,26 @@ rolled-by-entry b x r k (e ∷ es) = go (sameKey (e .key) k) b (rolled-by-entry 
 module _ (c : Effect) (n : ℕ) where
   -- what the changes for these entries make of a record
   abbrev byKey : List Entry → Record → Record
-  byKey es r = byEntry (entryFor (r .key) es) r (λ (e : Entry). changed c n e r)
+  byKey es r = byEntry (entryFor (r .key) es) r (λ (e : Entry). changed c n (changeOf e) r)
 
   -- one more entry, of a key that no other has: its change first
-  one-first : (e : Entry) (es : List Entry) (r : Record) → hasKey (e .key) es ≡ false → byKey (e ∷ es) r ≡ byKey es (atKey (e .key) (changed c n e) r)
+  one-first : (e : Entry) (es : List Entry) (r : Record) → hasKey (e .key) es ≡ false → byKey (e ∷ es) r ≡ byKey es (atKey (e .key) (changed c n (changeOf e)) r)
   unfolding entryFor
   one-first e es r free = go (sameKey (r .key) (e .key)) refl
     where
-      go : (b : Bool) → sameKey (r .key) (e .key) ≡ b → byKey (e ∷ es) r ≡ byKey es (atKey (e .key) (changed c n e) r)
+      go : (b : Bool) → sameKey (r .key) (e .key) ≡ b → byKey (e ∷ es) r ≡ byKey es (atKey (e .key) (changed c n (changeOf e)) r)
       go true h =
           let k : r .key ≡ e .key = same-key (r .key) (e .key) h in
           let a : sameKey (e .key) (r .key) ≡ true = ap (sameKey (e .key)) k ∙ same-key-refl (e .key) in
-          let o : entryFor (changed c n e r .key) es ≡ none = ap (λ (j : Key). entryFor j es) (changed-key c n e r ∙ k) ∙ no-entry (e .key) es free in
-          ap (λ (b : Bool). byEntry (cond b (some e) (entryFor (r .key) es)) r (λ (x : Entry). changed c n x r)) a
+          let o : entryFor (changed c n (changeOf e) r .key) es ≡ none = ap (λ (j : Key). entryFor j es) (changed-key c n (changeOf e) r ∙ k) ∙ no-entry (e .key) es free in
+          ap (λ (b : Bool). byEntry (cond b (some e) (entryFor (r .key) es)) r (λ (x : Entry). changed c n (changeOf x) r)) a
           ∙ sym
-          (ap (λ (b : Bool). byKey es (cond b (changed c n e r) r)) h
-          ∙ ap (λ (p : Option Entry). byEntry p (changed c n e r) (λ (x : Entry). changed c n x (changed c n e r))) o)
+          (ap (λ (b : Bool). byKey es (cond b (changed c n (changeOf e) r) r)) h
+          ∙ ap (λ (p : Option Entry). byEntry p (changed c n (changeOf e) r) (λ (x : Entry). changed c n (changeOf x) (changed c n (changeOf e) r))) o)
       go false h =
           let a : sameKey (e .key) (r .key) ≡ false = same-key-flip (r .key) (e .key) h in
-          ap (λ (b : Bool). byEntry (cond b (some e) (entryFor (r .key) es)) r (λ (x : Entry). changed c n x r)) a
-          ∙ sym (ap (λ (b : Bool). byKey es (cond b (changed c n e r) r)) h)
+          ap (λ (b : Bool). byEntry (cond b (some e) (entryFor (r .key) es)) r (λ (x : Entry). changed c n (changeOf x) r)) a
+          ∙ sym (ap (λ (b : Bool). byKey es (cond b (changed c n (changeOf e) r) r)) h)
 
 by-key : (c : Effect) (n : ℕ) (es : List Entry) (r : Record) → lineAfter (written c n es) r ≡ byKey c n es r
 unfolding lineAfter written changed isOf
@@ -120,17 +104,17 @@ module _ (c : Effect) (n : ℕ) where
   unfolding entryFor
   lines-none rs = lines-unmoved (written c n []) (λ r. by-key c n [] r) rs
 
-  pub lines-first : (e : Entry) (es : List Entry) (rs : List Record) → hasKey (e .key) es ≡ false → linesAfter (written c n (e ∷ es)) rs ≡ linesAfter (written c n es) (map (atKey (e .key) (changed c n e)) rs)
+  pub lines-first : (e : Entry) (es : List Entry) (rs : List Record) → hasKey (e .key) es ≡ false → linesAfter (written c n (e ∷ es)) rs ≡ linesAfter (written c n es) (map (atKey (e .key) (changed c n (changeOf e))) rs)
   unfolding linesAfter
   lines-first e es rs free =
-      map-equal (λ (r : Record). true) (lineAfter (written c n (e ∷ es))) (λ (r : Record). lineAfter (written c n es) (atKey (e .key) (changed c n e) r))
-      (λ r h. by-key c n (e ∷ es) r ∙ (one-first c n e es r free ∙ sym (by-key c n es (atKey (e .key) (changed c n e) r))))
+      map-equal (λ (r : Record). true) (lineAfter (written c n (e ∷ es))) (λ (r : Record). lineAfter (written c n es) (atKey (e .key) (changed c n (changeOf e)) r))
+      (λ r h. by-key c n (e ∷ es) r ∙ (one-first c n e es r free ∙ sym (by-key c n es (atKey (e .key) (changed c n (changeOf e)) r))))
       rs (all-always rs)
-      ∙ sym (map-map (lineAfter (written c n es)) (atKey (e .key) (changed c n e)) rs)
+      ∙ sym (map-map (lineAfter (written c n es)) (atKey (e .key) (changed c n (changeOf e))) rs)
 
   -- the new line of the entry's key keeps the rules
   abbrev pub fits : List Record → Entry → Bool
-  fits rs e = goodAlone (changed c n e (lineOf (e .key) rs))
+  fits rs e = goodAlone (changed c n (changeOf e) (lineOf (e .key) rs))
 
 -- The line of another key.
 module _ (k : Key) (f : Record → Record) (kept : (r : Record) → f r .key ≡ r .key) where
@@ -148,68 +132,59 @@ module _ (k : Key) (f : Record → Record) (kept : (r : Record) → f r .key ≡
       go false h i = i
 
 -- what fits the lines fits them when the line of another key has changed
-pub fits-elsewhere : (c : Effect) (n : ℕ) (e : Entry) (rs : List Record) (es : List Entry) → hasKey (e .key) es ≡ false → all (fits c n (map (atKey (e .key) (changed c n e)) rs)) es ≡ all (fits c n rs) es
+pub fits-elsewhere : (c : Effect) (n : ℕ) (e : Entry) (rs : List Record) (es : List Entry) → hasKey (e .key) es ≡ false → all (fits c n (map (atKey (e .key) (changed c n (changeOf e))) rs)) es ≡ all (fits c n rs) es
 unfolding all any
 fits-elsewhere c n e rs [] h = refl
 fits-elsewhere c n e rs (x ∷ es) h =
     ap₂ _&&_
-    (ap (λ (r : Record). goodAlone (changed c n x r))
-    (line-elsewhere (e .key) (changed c n e) (changed-key c n e) (x .key) rs (or-fst (sameKey (x .key) (e .key)) (hasKey (e .key) es) h)))
+    (ap (λ (r : Record). goodAlone (changed c n (changeOf x) r))
+    (line-elsewhere (e .key) (changed c n (changeOf e)) (changed-key c n (changeOf e)) (x .key) rs (or-fst (sameKey (x .key) (e .key)) (hasKey (e .key) es) h)))
     (fits-elsewhere c n e rs es (or-snd (sameKey (x .key) (e .key)) (hasKey (e .key) es) h))
 
 -- One line.
 
--- a record names no number above the sum of those that it names, so that its parts can be had without a coordinator sheet
-good-version : (r : Record) → goodAlone r ≡ true → r .image .version ≤ 99999
-unfolding namesIssued imageInRange imageNumbers imageLayout recordLayout rowGood inRange
-good-version r g =
-    let a = r .image .txid in
-    let b = r .before .txid in
-    let h : imageInRange (r .image) ≡ true = fine-parts (a + b) r (and-both g (and-both (le-leb a (a + b) (omega arith)) (le-leb b (a + b) (omega arith)))) .image in
-    search tests
-
--- there is room for one more version where the changed record keeps the rules
-pub commit-room : (n : ℕ) (c : Change) (r : Record) → goodAlone (committed n c r) ≡ true → r .image .version + 1 < 2 ^ 32
-unfolding committed
-commit-room n c r g = let v : r .image .version + 1 ≤ 99999 = good-version (committed n c r) g in omega arith
-
-pub prepare-room : (n now : ℕ) (c : Change) (r : Record) → goodAlone (prepared n now c r) ≡ true → r .image .version + 1 < 2 ^ 32
-unfolding prepared
-prepare-room n now c r g = let v : r .image .version + 1 ≤ 99999 = good-version (prepared n now c r) g in omega arith
-
--- the sheet is accepted, and the new line of the entry's key, at its place, keeps the rules
-pub record Due (c : Effect) (n : ℕ) (e : Entry) (p : ℕ) (rs : List ℕ) : Type 0 where
+-- the sheet is accepted, and the new line of the entry's key, at its index, keeps the rules
+pub record Due (c : Effect) (n : ℕ) (e : Entry) (i : ℕ) (rs : List ℕ) : Type 0 where
   pub accepted : recordsAccepted rs ≡ true
-  pub there : found (e .key) (records rs) ≡ At p
+  pub there : found (e .key) (records rs) ≡ At i
   pub fit : fits c n (records rs) e ≡ true
 
 -- the sheet after a change of the line of the entry's key
 pub record Wrote (c : Effect) (n : ℕ) (e : Entry) (rs rs′ : List ℕ) : Type 0 where
   pub accepted : recordsAccepted rs′ ≡ true
-  pub lines : records rs′ ≡ map (atKey (e .key) (changed c n e)) (records rs)
+  pub lines : records rs′ ≡ map (atKey (e .key) (changed c n (changeOf e))) (records rs)
 
 accepted-order : (s : List ℕ) → recordsAccepted s ≡ true → rising (records s) ≡ true
 unfolding recordsAccepted recordsGood
 accepted-order s a = search tests
 
 module _ (c : Effect) (n : ℕ) (e : Entry) (i : ℕ) (rs : List ℕ) (due : Due c n e i rs) where
-  -- the record at the place is the line of the key
-  pub due-at : goodAlone (changed c n e (getD (records rs) i noRecord)) ≡ true
-  due-at = ap (λ (r : Record). goodAlone (changed c n e r)) (found-at (e .key) (records rs) i (due .there) .line) ∙ due .fit
+  -- the record at the index is the line of the key
+  due-at : goodAlone (changed c n (changeOf e) (getD (records rs) i noRecord)) ≡ true
+  due-at = ap (λ (r : Record). goodAlone (changed c n (changeOf e) r)) (found-at (e .key) (records rs) i (due .there) .line) ∙ due .fit
 
-  pub wrote-line : (r : Record) (rs′ : List ℕ) → r ≡ changed c n e (getD (records rs) i noRecord) → rs′ ≡ cond (ltb i (length rs / recordBytes)) (over rs (i * recordBytes) (recordText r)) rs → Wrote c n e rs rs′
-  wrote-line r rs′ q w =
+  pub wrote-line : (rs′ : List ℕ) → rs′ ≡ cond (ltb i (length rs / recordBytes)) (over rs (i * recordBytes) (recordText (changed c n (changeOf e) (getD (records rs) i noRecord)))) rs → Wrote c n e rs rs′
+  wrote-line rs′ w =
+      let r = changed c n (changeOf e) (getD (records rs) i noRecord) in
       let x : FoundAt (e .key) (records rs) i = found-at (e .key) (records rs) i (due .there) in
       let l : i < length (records rs) = x .within in
       let m : i < length rs / recordBytes = omega (arith, length-records rs) in
-      let g : goodAlone r ≡ true = ap goodAlone q ∙ due-at in
-      let k : r .key ≡ getD (records rs) i noRecord .key = ap (λ (y : Record). y .key) q ∙ changed-key c n e (getD (records rs) i noRecord) in
+      let g : goodAlone r ≡ true = due-at in
+      let k : r .key ≡ getD (records rs) i noRecord .key = changed-key c n (changeOf e) (getD (records rs) i noRecord) in
       let o : rs′ ≡ over rs (i * recordBytes) (recordText r) = w ∙ ap (λ (b : Bool). cond b (over rs (i * recordBytes) (recordText r)) rs) (lt-ltb i (length rs / recordBytes) m) in
-      let p : r ≡ changed c n e (lineOf (e .key) (records rs)) = q ∙ ap (changed c n e) (x .line) in
+      let p : r ≡ changed c n (changeOf e) (lineOf (e .key) (records rs)) = ap (changed c n (changeOf e)) (x .line) in
       record {
         accepted = ap recordsAccepted o ∙ line-replaced rs i r (due .accepted) l g k .1;
         lines =
             ap records o
             ∙ (records-over rs i r m (good-ranged r g) (whole-lines rs (due .accepted))
-            ∙ (ap (set (records rs) i) p ∙ set-at-key (e .key) (changed c n e) (records rs) i (accepted-order rs (due .accepted)) l (x .key)));
+            ∙ (ap (set (records rs) i) p ∙ set-at-key (e .key) (changed c n (changeOf e)) (records rs) i (accepted-order rs (due .accepted)) l (x .key)));
       }
+
+-- a line that stays is its own text
+pub line-stays : (rs : List ℕ) (i : ℕ) → recordsAccepted rs ≡ true → rs ≡ cond (ltb i (length rs / recordBytes)) (over rs (i * recordBytes) (recordText (getD (records rs) i noRecord))) rs
+line-stays rs i a =
+    choose-by (λ (x : List ℕ). rs ≡ x) (ltb i (length rs / recordBytes))
+    (λ h. let l : i < length rs / recordBytes = ltb-true i (length rs / recordBytes) h in
+    sym (ap (over rs (i * recordBytes)) (ap recordText (record-at rs i l) ∙ record-written-read (take recordBytes (drop (i * recordBytes) rs)) (line-set rs i a l)) ∙ over-same rs (i * recordBytes) recordBytes (omega arith)))
+    (λ h. refl)

@@ -11,8 +11,8 @@ use Rattle.lists.specs.Tests.{and-fst, and-snd, choose-by, tests}
 use Rattle.types.specs.declared.Entry.{Entry}
 use Rattle.types.specs.declared.Record.{Record}
 use Rattle.types.specs.declared.Transaction.{Transaction}
-use Rattle.model.specs.Records.{records, goodAlone, hasLine, lineOf}
-use Rattle.model.specs.Coordinator.{namesIssued}
+use Rattle.model.specs.Records.{records, recordsAccepted, goodAlone, hasLine, lineOf}
+use Rattle.model.specs.Coordinator.{coordinatorOf, namesIssued}
 use Rattle.model.specs.Transactions.{isPut, held}
 use Rattle.model.specs.Images.{changeOf, isPrepared, preparedBy, unchanged}
 use Rattle.model.specs.WellFormed.{entryFormed, linesHeld}
@@ -30,16 +30,21 @@ use Rattle.group_writes.specs.declared.changes.Effect.{Effect}
 use Rattle.group_writes.specs.declared.changes.Effect.the-variants.{Commit, Prepare, Forward, Back}
 use Rattle.group_writes.specs.Groups.{ofGroup, group-in}
 use Rattle.group_writes.specs.Changes.{changed, fits}
-use Rattle.group_writes.specs.Placed.{Placed}
+use Rattle.group_writes.specs.declared.lines.Located.{Located}
+use Rattle.group_writes.specs.Located.{Indexed, Grouped}
 use Rattle.group_writes.specs.Turns.{MayChange}
 
--- accepted bytes, and a transaction whose body is well formed and whose lines are at these places
-pub record Ready (rs cs : List ℕ) (t : Transaction) (ps : List ℕ) : Type 0 where
+-- accepted bytes, and a transaction whose body is well formed and whose lines and groups are these
+pub record Ready (rs cs : List ℕ) (t : Transaction) (l : Located) : Type 0 where
   pub passing : Passing (record { records = rs; coordinator = cs })
   pub body : Body (sheetsOf rs cs) t
-  pub placed : Placed (records rs) t ps (t .count)
+  pub indexed : Indexed (records rs) t (l .indices) (t .count)
+  pub grouped : Grouped (coordinatorOf cs .units) t l
 
-module _ (rs cs : List ℕ) (t : Transaction) (ps : List ℕ) (ready : Ready rs cs t ps) where
+module _ (rs cs : List ℕ) (t : Transaction) (l : Located) (ready : Ready rs cs t l) where
+  pub accepted : recordsAccepted rs ≡ true
+  accepted = passing-parts (record { records = rs; coordinator = cs }) (ready .passing) .0
+
   abbrev issued : ℕ
   issued = sheetsOf rs cs .coordinator .issued
 
@@ -54,16 +59,15 @@ module _ (rs cs : List ℕ) (t : Transaction) (ps : List ℕ) (ready : Ready rs 
   fine-good : (r : Record) → GoodParts issued r → goodAlone r ≡ true
   fine-good r g = and-fst (goodAlone r) (namesIssued issued r) (parts-fine issued r g)
 
-  may-change : (c : Effect) → all (fits c (t .number) (records rs)) (groupAt t (sheetsOf rs cs)) ≡ true → MayChange c rs cs t ps
+  may-change : (c : Effect) → all (fits c (t .number) (records rs)) (groupAt t (sheetsOf rs cs)) ≡ true → MayChange c rs cs t l
   may-change c f =
-      let p = passing-parts (record { records = rs; coordinator = cs }) (ready .passing) in
       record {
-        accepted = p .0;
-        units = p .1 .0;
+        accepted = accepted;
         few = ready .body .few;
         distinct = ready .body .distinct;
         fit = f;
-        placed = ready .placed;
+        indexed = ready .indexed;
+        grouped = ready .grouped;
       }
 
   -- Puts.
@@ -80,24 +84,24 @@ module _ (rs cs : List ℕ) (t : Transaction) (ps : List ℕ) (ready : Ready rs 
   has-its-line e h = and-fst (hasLine (e .key) (records rs)) (unchanged e (lineOf (e .key) (records rs))) h
 
   -- the puts of a group whose conditions hold, where a put over its line keeps the rules
-  may-put : (c : Effect) → ((e : Entry) (r : Record) → GoodParts issued r → MayPut issued (t .number) (changeOf e) r → GoodParts issued (changed c (t .number) e r)) → all (holds (sheetsOf rs cs)) (groupAt t (sheetsOf rs cs)) ≡ true → MayChange c rs cs t ps
+  may-put : (c : Effect) → ((e : Entry) (r : Record) → GoodParts issued r → MayPut issued (t .number) (changeOf e) r → GoodParts issued (changed c (t .number) (changeOf e) r)) → all (holds (sheetsOf rs cs)) (groupAt t (sheetsOf rs cs)) ≡ true → MayChange c rs cs t l
   may-put c keeps h =
       may-change c
       (all-weaken putOver (fits c (t .number) (records rs))
       (λ e g. let held = and-fst (holds (sheetsOf rs cs) e) (entryFormed issued e && isPut e) g in
       let r = lineOf (e .key) (records rs) in
-      fine-good (changed c (t .number) e r)
+      fine-good (changed c (t .number) (changeOf e) r)
       (keeps e r (line-good e (has-its-line e held))
       (may-put-over (sheetsOf rs cs) good t (ready .body) e held (and-snd (holds (sheetsOf rs cs) e) (entryFormed issued e && isPut e) g))))
       (groupAt t (sheetsOf rs cs)) (put-over h))
 
-  pub may-commit : all (holds (sheetsOf rs cs)) (groupAt t (sheetsOf rs cs)) ≡ true → MayChange Commit rs cs t ps
+  pub may-commit : all (holds (sheetsOf rs cs)) (groupAt t (sheetsOf rs cs)) ≡ true → MayChange Commit rs cs t l
   unfolding changed
   may-commit = may-put Commit (λ e r g m. committed-fine issued (t .number) (changeOf e) r g m)
 
-  pub may-prepare : (now : ℕ) → now ≤ 4294967295 → all (holds (sheetsOf rs cs)) (groupAt t (sheetsOf rs cs)) ≡ true → MayChange (Prepare now) rs cs t ps
+  pub may-prepare : (now : ℕ) → now ≤ 4294967295 → all (holds (sheetsOf rs cs)) (groupAt t (sheetsOf rs cs)) ≡ true → MayChange (Prepare now) rs cs t l
   unfolding changed
-  may-prepare now l = may-put (Prepare now) (λ e r g m. prepared-fine issued (t .number) (changeOf e) r g m now l)
+  may-prepare now k = may-put (Prepare now) (λ e r g m. prepared-fine issued (t .number) (changeOf e) r g m now k)
 
   -- Prepared lines rolled.
 
@@ -108,24 +112,24 @@ module _ (rs cs : List ℕ) (t : Transaction) (ps : List ℕ) (ready : Ready rs 
       ∙ all-filter (ofGroup cs t) (λ (e : Entry). hasLine (e .key) (records rs)) (held t) (ready .body .lines)
 
   -- the lines of the group, where a rolled line keeps the rules
-  may-roll : (c : Effect) → ((e : Entry) (r : Record) → GoodParts issued r → GoodParts issued (changed c (t .number) e r)) → MayChange c rs cs t ps
+  may-roll : (c : Effect) → ((e : Entry) (r : Record) → GoodParts issued r → GoodParts issued (changed c (t .number) (changeOf e) r)) → MayChange c rs cs t l
   may-roll c keeps =
       may-change c
       (all-weaken (λ (e : Entry). hasLine (e .key) (records rs)) (fits c (t .number) (records rs))
-      (λ e h. let r = lineOf (e .key) (records rs) in fine-good (changed c (t .number) e r) (keeps e r (line-good e h)))
+      (λ e h. let r = lineOf (e .key) (records rs) in fine-good (changed c (t .number) (changeOf e) r) (keeps e r (line-good e h)))
       (groupAt t (sheetsOf rs cs)) group-lines)
 
   pending : (r : Record) → preparedBy (t .number) r ≡ true → isPrepared r ≡ true
   unfolding preparedBy
   pending r h = search tests
 
-  pub may-forward : MayChange Forward rs cs t ps
+  pub may-forward : MayChange Forward rs cs t l
   unfolding changed
   may-forward =
       may-roll Forward
       (λ e r g. choose-by (GoodParts issued) (preparedBy (t .number) r) (λ p. forward-fine issued r g (pending r p)) (λ p. g))
 
-  pub may-back : MayChange Back rs cs t ps
+  pub may-back : MayChange Back rs cs t l
   unfolding changed
   may-back =
       may-roll Back

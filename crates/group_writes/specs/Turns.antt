@@ -1,14 +1,17 @@
 -- The loop over a transaction's entries that changes the lines of its group: what is left to be done makes, on the sheet as it is now, what all of it makes
 -- on the sheet as it was. A turn changes the line of one key, which no later entry has.
-use Prim.Native.Nat.{ℕ, _+_, _≤_, _<_}
+use Prim.Native.Nat.{ℕ, _+_, _*_, _/_, _≤_, _<_}
 use mathlib.Core.Path.{_≡_, refl, sym, ap, ap₂, _∙_, subst}
 use mathlib.Core.Bool.{Bool, true, false, _&&_, not, cond, true≢false}
 use mathlib.Core.List.{List, _∷_, map}
+use lib.ListN.{length, getD}
+use lib.Dec.{ltb}
 use borrow.Author.Tests.{not-true}
 use mir.Val.{Val}
 use denote.Laws.{Is}
 use denote.Struct.Declared.{row}
 use Rattle.lists.specs.Each.{all, filter}
+use Rattle.lists.specs.Pieces.{over}
 use Rattle.lists.specs.Tests.{and-fst, and-snd, and-both}
 use Rattle.types.proofs.Transaction.{the-type}
 use Rattle.types.specs.declared.Entry.{Entry}
@@ -16,8 +19,10 @@ use Rattle.types.specs.declared.Found.the-variants.{At}
 use Rattle.types.specs.declared.Key.{Key}
 use Rattle.types.specs.declared.Record.{Record}
 use Rattle.types.specs.declared.Transaction.{Transaction}
-use Rattle.model.specs.Records.{records, recordsText, recordsAccepted, found}
-use Rattle.model.specs.Coordinator.{coordinatorAccepted}
+use Rattle.model.specs.Records.{noRecord, records, recordText, recordsText, recordsAccepted, found}
+use Rattle.model.specs.Layouts.{recordBytes}
+use Rattle.model.specs.Coordinator.{coordinatorOf}
+use Rattle.model.specs.Images.{changeOf}
 use Rattle.model.specs.Transactions.{held}
 use Rattle.model.specs.Writes.{linesAfter}
 use Rattle.model.specs.WellFormed.{distinctKeys}
@@ -29,42 +34,41 @@ use Rattle.call_laws.specs.Places.{atKey}
 use Rattle.protocol.specs.Held.{PassedTo, entryAt, after, pass-first, pass-here, pass-next, pass-last}
 use Rattle.group_writes.specs.declared.changes.Effect.{Effect}
 use Rattle.group_writes.specs.Groups.{ofGroup, groupIn, group-in}
-use Rattle.group_writes.specs.Changes.{changed, changed-key, written, lines-none, lines-first, at-key-kept, fits, fits-elsewhere, Wrote}
-use Rattle.group_writes.specs.Placed.{Placed, placed-kept}
+use Rattle.group_writes.specs.Changes.{changed, changed-key, written, lines-none, lines-first, at-key-kept, fits, fits-elsewhere, wrote-line}
+use Rattle.group_writes.specs.declared.lines.Located.{Located}
+use Rattle.group_writes.specs.Located.{Indexed, Grouped, indexed-kept}
 
 -- what a change of a whole group asks for
-pub record MayChange (c : Effect) (rs cs : List ℕ) (t : Transaction) (ps : List ℕ) : Type 0 where
+pub record MayChange (c : Effect) (rs cs : List ℕ) (t : Transaction) (l : Located) : Type 0 where
   pub accepted : recordsAccepted rs ≡ true
-  pub units : coordinatorAccepted cs ≡ true
   pub few : t .count ≤ 8
   pub distinct : distinctKeys (held t) ≡ true
   pub fit : all (fits c (t .number) (records rs)) (groupAt t (sheetsOf rs cs)) ≡ true
-  pub placed : Placed (records rs) t ps (t .count)
+  pub indexed : Indexed (records rs) t (l .indices) (t .count)
+  pub grouped : Grouped (coordinatorOf cs .units) t l
 
--- what a turn for entry i asks for
-pub record Turn (c : Effect) (t : Transaction) (i p : ℕ) (rs cs : List ℕ) : Type 0 where
+-- what a turn for an entry asks for, if it is of the group
+pub record Turn (c : Effect) (n : ℕ) (own : Bool) (e : Entry) (i : ℕ) (rs : List ℕ) : Type 0 where
   pub accepted : recordsAccepted rs ≡ true
-  pub units : coordinatorAccepted cs ≡ true
-  pub few : t .count ≤ 8
-  pub within : i < 8
-  pub fit : ofGroup cs t (entryAt t i) ≡ true → fits c (t .number) (records rs) (entryAt t i) ≡ true
-  pub there : found (entryAt t i .key) (records rs) ≡ At p
+  pub fit : own ≡ true → fits c n (records rs) e ≡ true
+  pub there : found (e .key) (records rs) ≡ At i
 
 -- the sheet after a turn: the line of the entry's key changed, if the entry is of the group
-pub record Turned (c : Effect) (cs : List ℕ) (t : Transaction) (e : Entry) (rs rs′ : List ℕ) : Type 0 where
+pub record Turned (c : Effect) (n : ℕ) (own : Bool) (e : Entry) (rs rs′ : List ℕ) : Type 0 where
   pub accepted : recordsAccepted rs′ ≡ true
-  pub lines : records rs′ ≡ cond (ofGroup cs t e) (map (atKey (e .key) (changed c (t .number) e)) (records rs)) (records rs)
+  pub lines : records rs′ ≡ cond own (map (atKey (e .key) (changed c n (changeOf e))) (records rs)) (records rs)
 
-pub turned-not : (c : Effect) (cs : List ℕ) (t : Transaction) (e : Entry) (rs : List ℕ) → recordsAccepted rs ≡ true → ofGroup cs t e ≡ false → Turned c cs t e rs rs
-turned-not c cs t e rs a h =
-    record { accepted = a; lines = sym (ap (λ (b : Bool). cond b (map (atKey (e .key) (changed c (t .number) e)) (records rs)) (records rs)) h) }
+module _ (c : Effect) (n : ℕ) (e : Entry) (rs : List ℕ) where
+  abbrev left : Bool → List Record
+  left own = cond own (map (atKey (e .key) (changed c n (changeOf e))) (records rs)) (records rs)
 
-pub turned-own : (c : Effect) (cs : List ℕ) (t : Transaction) (e : Entry) (rs rs′ : List ℕ) → ofGroup cs t e ≡ true → Wrote c (t .number) e rs rs′ → Turned c cs t e rs rs′
-turned-own c cs t e rs rs′ h w =
-    record {
-      accepted = w .accepted;
-      lines = w .lines ∙ sym (ap (λ (b : Bool). cond b (map (atKey (e .key) (changed c (t .number) e)) (records rs)) (records rs)) h);
-    }
+  pub turned-not : (own : Bool) → recordsAccepted rs ≡ true → own ≡ false → Turned c n own e rs rs
+  turned-not own a h = record { accepted = a; lines = sym (ap left h) }
+
+  pub turned-own : (own : Bool) (i : ℕ) (rs′ : List ℕ) → own ≡ true → Turn c n own e i rs → rs′ ≡ cond (ltb i (length rs / recordBytes)) (over rs (i * recordBytes) (recordText (changed c n (changeOf e) (getD (records rs) i noRecord)))) rs → Turned c n own e rs rs′
+  turned-own own i rs′ h x w =
+      let y = wrote-line c n e i rs (record { accepted = x .accepted; there = x .there; fit = x .fit h }) rs′ w in
+      record { accepted = y .accepted; lines = y .lines ∙ sym (ap left h) }
 
 -- a key that no entry has is none of those kept
 free-kept : (q : Entry → Bool) (k : Key) (es : List Entry) → hasKey k es ≡ false → hasKey k (filter q es) ≡ false
@@ -84,24 +88,24 @@ module _ (c : Effect) (cs : List ℕ) (t : Transaction) where
   mayTurn rs es = distinctKeys es && all (fits c (t .number) (records rs)) (groupIn cs t es)
 
   -- i entries are done, and what is left makes the lines w
-  pub record Underway (ps : List ℕ) (w : List Record) (rs : List ℕ) (i : ℕ) : Type 0 where
+  pub record Underway (is : List ℕ) (w : List Record) (rs : List ℕ) (i : ℕ) : Type 0 where
     pub accepted : recordsAccepted rs ≡ true
     pub lines : PassedTo t (leaves rs) w i
     pub ahead : PassedTo t (mayTurn rs) true i
-    pub placed : Placed (records rs) t ps (t .count)
+    pub indexed : Indexed (records rs) t is (t .count)
 
-  pub underway-first : (ps rs : List ℕ) {vs : List Val} → Is (row the-type) t vs → MayChange c rs cs t ps → Underway ps (leaves rs (held t)) rs 0
-  underway-first ps rs p m =
+  pub underway-first : (l : Located) (rs : List ℕ) {vs : List Val} → Is (row the-type) t vs → MayChange c rs cs t l → Underway (l .indices) (leaves rs (held t)) rs 0
+  underway-first l rs p m =
       let f : all (fits c (t .number) (records rs)) (groupIn cs t (held t)) ≡ true = ap (all (fits c (t .number) (records rs))) (sym (group-in rs cs t)) ∙ m .fit in
       let a = pass-first t (mayTurn rs) p (m .few) in
       record {
         accepted = m .accepted;
         lines = pass-first t (leaves rs) p (m .few);
         ahead = record { place = a .place; room = a .room; rest = and-both (m .distinct) f };
-        placed = m .placed;
+        indexed = m .indexed;
       }
 
-  module _ (ps : List ℕ) (w : List Record) (rs : List ℕ) (i : ℕ) (u : Underway ps w rs i) where
+  module _ (is : List ℕ) (w : List Record) (rs : List ℕ) (i : ℕ) (u : Underway is w rs i) where
     pub underway-last : t .count ≤ i → rs ≡ recordsText w
     unfolding filter
     underway-last l =
@@ -148,23 +152,23 @@ module _ (c : Effect) (cs : List ℕ) (t : Transaction) where
       unfolding all
       turn-fits h = and-fst (fits c (t .number) (records rs) e) (all (fits c (t .number) (records rs)) (groupIn cs t es)) (own-fits h)
 
-      pub underway-next : (rs′ : List ℕ) → Turned c cs t e rs rs′ → Underway ps w rs′ (i + 1)
+      pub underway-next : (mine : Bool) (rs′ : List ℕ) → mine ≡ ofGroup cs t e → Turned c (t .number) mine e rs rs′ → Underway is w rs′ (i + 1)
       unfolding all
-      underway-next rs′ x = go (ofGroup cs t e) refl
+      underway-next mine rs′ same x = go (ofGroup cs t e) refl
         where
-          next : leaves rs (e ∷ es) ≡ leaves rs′ es → all (fits c (t .number) (records rs′)) (groupIn cs t es) ≡ true → Placed (records rs′) t ps (t .count) → Underway ps w rs′ (i + 1)
+          next : leaves rs (e ∷ es) ≡ leaves rs′ es → all (fits c (t .number) (records rs′)) (groupIn cs t es) ≡ true → Indexed (records rs′) t is (t .count) → Underway is w rs′ (i + 1)
           next f g p =
               record {
                 accepted = x .accepted;
                 lines = pass-next t (leaves rs) (leaves rs′) w i l (u .lines) f;
                 ahead = pass-next t (mayTurn rs) (mayTurn rs′) true i l (u .ahead) (here ∙ sym (and-both later-distinct g));
-                placed = p;
+                indexed = p;
               }
 
-          go : (b : Bool) → ofGroup cs t e ≡ b → Underway ps w rs′ (i + 1)
+          go : (b : Bool) → ofGroup cs t e ≡ b → Underway is w rs′ (i + 1)
           go true h =
-              let m : records rs′ ≡ map (atKey (e .key) (changed c (t .number) e)) (records rs) =
-              x .lines ∙ ap (λ (b : Bool). cond b (map (atKey (e .key) (changed c (t .number) e)) (records rs)) (records rs)) h in
+              let m : records rs′ ≡ map (atKey (e .key) (changed c (t .number) (changeOf e))) (records rs) =
+              x .lines ∙ ap (λ (b : Bool). cond b (map (atKey (e .key) (changed c (t .number) (changeOf e))) (records rs)) (records rs)) (same ∙ h) in
               next
               (ap (λ (y : List Entry). linesAfter (written c (t .number) y) (records rs)) (own h)
               ∙ (lines-first c (t .number) e (groupIn cs t es) (records rs) free
@@ -172,12 +176,12 @@ module _ (c : Effect) (cs : List ℕ) (t : Transaction) where
               (ap (λ (y : List Record). all (fits c (t .number) y) (groupIn cs t es)) m
               ∙ (fits-elsewhere c (t .number) e (records rs) (groupIn cs t es) free
               ∙ and-snd (fits c (t .number) (records rs) e) (all (fits c (t .number) (records rs)) (groupIn cs t es)) (own-fits h)))
-              (subst (λ (y : List Record). Placed y t ps (t .count)) (sym m)
-              (placed-kept (atKey (e .key) (changed c (t .number) e)) (at-key-kept (e .key) (changed c (t .number) e) (changed-key c (t .number) e)) (records rs) t ps (t .count) (u .placed)))
+              (subst (λ (y : List Record). Indexed y t is (t .count)) (sym m)
+              (indexed-kept (atKey (e .key) (changed c (t .number) (changeOf e))) (at-key-kept (e .key) (changed c (t .number) (changeOf e)) (changed-key c (t .number) (changeOf e))) (records rs) t is (t .count) (u .indexed)))
           go false h =
               let m : records rs′ ≡ records rs =
-              x .lines ∙ ap (λ (b : Bool). cond b (map (atKey (e .key) (changed c (t .number) e)) (records rs)) (records rs)) h in
+              x .lines ∙ ap (λ (b : Bool). cond b (map (atKey (e .key) (changed c (t .number) (changeOf e))) (records rs)) (records rs)) (same ∙ h) in
               next
               (ap₂ (λ (y : List Entry) (z : List Record). linesAfter (written c (t .number) y) z) (other h) (sym m))
               (ap₂ (λ (z : List Record) (y : List Entry). all (fits c (t .number) z) y) m (sym (other h)) ∙ here-fits)
-              (subst (λ (y : List Record). Placed y t ps (t .count)) (sym m) (u .placed))
+              (subst (λ (y : List Record). Indexed y t is (t .count)) (sym m) (u .indexed))

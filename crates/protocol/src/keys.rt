@@ -3,7 +3,6 @@ ghost use mathlib.Core.Path.{_≡_};
 ghost use Prim.Native.Nat.{_≤_};
 ghost use lib.ListN.{length, take};
 ghost use Rattle.lists.specs.Bytes.{eqList};
-ghost use Rattle.lists.specs.Each.{less};
 ghost use Rattle.model.specs.Records.{keyNumbers, sameKey};
 ghost use Rattle.protocol.specs.Scopes.{sameFirst, lessFirst};
 use types::Key;
@@ -27,26 +26,6 @@ pub fn same_key(a: Key, b: Key) -> bool
     ensures { λ r. ⌜ r ≡ sameKey a b ⌝ }
 {
     same_fields(5, a, b)
-}
-
-// The first n fields of a come before those of b.
-pub fn fields_less(n: u32, a: Key, b: Key) -> bool
-    ensures { λ r. ⌜ r ≡ less (take n (keyNumbers a)) (take n (keyNumbers b)) ⌝ }
-{
-    (0 < n)
-        & ((a.storage < b.storage)
-            | (a.storage == b.storage)
-                & ((1 < n)
-                    & ((a.namespace < b.namespace)
-                        | (a.namespace == b.namespace)
-                            & ((2 < n)
-                                & ((a.table < b.table)
-                                    | (a.table == b.table)
-                                        & ((3 < n)
-                                            & ((a.partition < b.partition)
-                                                | (a.partition == b.partition)
-                                                    & ((4 < n)
-                                                        & (a.clustering < b.clustering)))))))))
 }
 
 // The first n of five numbers are the same.

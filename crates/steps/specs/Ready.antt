@@ -23,14 +23,16 @@ use Rattle.call_laws.specs.Transactions.{Body, Stage, well-formed-parts, place-
 use Rattle.model.specs.ByteHistories.{Passing}
 use Rattle.call_laws.specs.Lifting.{passing-parts}
 use Rattle.protocol.specs.Units.{unitsIn, units-said}
-use Rattle.group_writes.specs.Placed.{Placed}
+use Rattle.group_writes.specs.declared.lines.Located.{Located}
+use Rattle.group_writes.specs.Located.{Indexed, Grouped}
 use Rattle.group_writes.specs.Ready.{Ready as MayWrite}
 
--- what refusals 1 to 3 let pass, and where the lines of the entries are
-pub record Ready (rs cs : List ℕ) (t : Transaction) (ps : List ℕ) : Type 0 where
+-- what refusals 1 to 3 let pass, and what was found of the entries
+pub record Ready (rs cs : List ℕ) (t : Transaction) (l : Located) : Type 0 where
   pub passing : Passing (record { records = rs; coordinator = cs })
   pub formed : wellFormed (sheetsOf rs cs) t ≡ true
-  pub placed : Placed (records rs) t ps (t .count)
+  pub indexed : Indexed (records rs) t (l .indices) (t .count)
+  pub grouped : Grouped (coordinatorOf cs .units) t l
 
 -- a transaction whose number is issued, all that a decision asks for
 pub record Known (cs : List ℕ) (t : Transaction) : Type 0 where
@@ -51,7 +53,7 @@ pub validate-held : (us : List AtomicityUnit) (t : Transaction) → t .place < l
 unfolding toValidate
 validate-held us t l = kept-key (mustValidate us t) (getD (toValidate us t) (t .place) noEntry .key) (held t) (key-at (toValidate us t) (t .place) l)
 
-module _ (rs cs : List ℕ) (t : Transaction) (ps : List ℕ) (ready : Ready rs cs t ps) where
+module _ (rs cs : List ℕ) (t : Transaction) (l : Located) (ready : Ready rs cs t l) where
   body : Body (sheetsOf rs cs) t
   body = well-formed-parts (sheetsOf rs cs) t (ready .formed) .0
 
@@ -71,8 +73,8 @@ module _ (rs cs : List ℕ) (t : Transaction) (ps : List ℕ) (ready : Ready rs 
   pub few : t .count ≤ 8
   few = body .few
 
-  pub may-write : MayWrite rs cs t ps
-  may-write = record { passing = ready .passing; body = body; placed = ready .placed }
+  pub may-write : MayWrite rs cs t l
+  may-write = record { passing = ready .passing; body = body; indexed = ready .indexed; grouped = ready .grouped }
 
   pub known : Known cs t
   known =
@@ -90,11 +92,14 @@ module _ (rs cs : List ℕ) (t : Transaction) (ps : List ℕ) (ready : Ready rs 
       ltb-true (t .place) n (sym h ∙ place-at (coordinatorOf cs .units) t stage p e)
 
   abbrev pub InGroups : Type 0
-  InGroups = t .place < groupCount (coordinatorOf cs .units) (puts t)
+  InGroups = t .place < l .groups
+
+  below-groups : t .place < groupCount (coordinatorOf cs .units) (puts t) → InGroups
+  below-groups h = let e = ready .grouped .count in omega (arith, e, h)
 
   pub place-prepare : t .phase ≡ 1 → InGroups
   unfolding placeFormed puts held
-  place-prepare e = place-below 1 (groupCount (coordinatorOf cs .units) (puts t)) refl e
+  place-prepare e = below-groups (place-below 1 (groupCount (coordinatorOf cs .units) (puts t)) refl e)
 
   pub place-validate : t .phase ≡ 2 → t .place < length (toValidate (coordinatorOf cs .units) t)
   unfolding placeFormed toValidate held
@@ -102,8 +107,8 @@ module _ (rs cs : List ℕ) (t : Transaction) (ps : List ℕ) (ready : Ready rs 
 
   pub place-finish : t .phase ≡ 5 → InGroups
   unfolding placeFormed puts held
-  place-finish e = place-below 5 (groupCount (coordinatorOf cs .units) (puts t)) refl e
+  place-finish e = below-groups (place-below 5 (groupCount (coordinatorOf cs .units) (puts t)) refl e)
 
   pub place-undo : t .phase ≡ 6 → InGroups
   unfolding placeFormed puts held
-  place-undo e = place-below 6 (groupCount (coordinatorOf cs .units) (puts t)) refl e
+  place-undo e = below-groups (place-below 6 (groupCount (coordinatorOf cs .units) (puts t)) refl e)

@@ -1,56 +1,48 @@
 // What an advance does in each phase. A phase is lent only the sheets that it looks at.
 ghost use mathlib.Core.Path.{_≡_};
-ghost use mathlib.Core.Bool.{true};
-ghost use mathlib.Core.List.{List};
-ghost use Prim.Native.Nat.{ℕ, _≤_, _<_};
-ghost use Rattle.model.specs.Coordinator.{coordinatorOf, coordinatorAccepted};
+ghost use Prim.Native.Nat.{_<_};
 ghost use Rattle.model.specs.Transactions.{puts};
-ghost use Rattle.model.specs.Groups.{groupCount};
-ghost use Rattle.model.specs.Steps.{onePhaseAllowed, openStep, onePhase, nextGroup, prepareStep, validateStep, decideStep, withdrawStep, finishStep, undoStep};
+ghost use Rattle.model.specs.Steps.{groupsOf, onePhaseAllowed, openStep, onePhase, nextGroup, prepareStep, validateStep, decideStep, withdrawStep, finishStep, undoStep};
+ghost use Rattle.model.specs.Writes.{Sheets};
 ghost use Rattle.model.specs.ByteCalls.{sheetsOf};
 ghost use Rattle.steps.specs.Ready.{Ready, Known};
 ghost use Rattle.steps.specs.Stepped.{Stepped, ByCoordinator};
 use group_writes::changes;
 use group_writes::groups;
 use group_writes::lines;
+use group_writes::lines::Located;
 use protocol::stages;
 use protocol::transactions;
 use types::Decision;
 use types::Transaction;
 
 // One group, and not serializable.
-fn one_phase_allowed(t: Transaction, coordinator: &[u8]) -> bool
-    requires { ⌜ (coordinatorAccepted (now coordinator) ≡ true) × (t .count ≤ 8) ⌝ }
-    ensures { λ r. ⌜ ((rs : List ℕ) → r ≡ onePhaseAllowed t (sheetsOf rs (now (coordinator .entry)))) ⌝ }
+fn one_phase_allowed(groups: u32, t: Transaction) -> bool
+    ensures { λ r. ⌜ ((s : Sheets) → groups ≡ groupsOf t s → r ≡ onePhaseAllowed t s) ⌝ }
 {
-    (groups::group_count(coordinator, t) == 1) & !(t.serializable == 1)
+    (groups == 1) & !(t.serializable == 1)
 }
 
 // The only group committed if its conditions hold.
 fn one_phase(
     t: Transaction,
-    places: [usize; 8],
+    located: Located,
     records: &mut [u8],
     coordinator: &[u8],
 ) -> Transaction
-    requires { ⌜ Ready (now records) (now coordinator) t places ⌝ }
+    requires { ⌜ Ready (now records) (now coordinator) t located ⌝ }
     ensures { λ r. ⌜ Stepped (sheetsOf (now (records .entry)) (now (coordinator .entry))) (onePhase t (sheetsOf (now (records .entry)) (now (coordinator .entry)))) r (now (records .exit)) (now (coordinator .entry)) ⌝ }
 {
-    if groups::group_holds(records, coordinator, t, places) {
-        changes::commit_group(t, places, records, coordinator);
+    if groups::group_holds(records, coordinator, t, located) {
+        changes::commit_group(t, located, records, coordinator);
         return stages::commits(t);
     }
     stages::to_phase(stages::WITHDRAW, t)
 }
 
 // Without puts to validate, or at once to done; one group in one phase, the only way that writes; more by prepare.
-pub fn open(
-    t: Transaction,
-    places: [usize; 8],
-    records: &mut [u8],
-    coordinator: &[u8],
-) -> Transaction
-    requires { ⌜ Ready (now records) (now coordinator) t places ⌝ }
+pub fn open(t: Transaction, located: Located, records: &mut [u8], coordinator: &[u8]) -> Transaction
+    requires { ⌜ Ready (now records) (now coordinator) t located ⌝ }
     ensures { λ r. ⌜ Stepped (sheetsOf (now (records .entry)) (now (coordinator .entry))) (openStep t (sheetsOf (now (records .entry)) (now (coordinator .entry)))) r (now (records .exit)) (now (coordinator .entry)) ⌝ }
 {
     if !transactions::has_puts(t) {
@@ -59,20 +51,19 @@ pub fn open(
         }
         return stages::to_phase(stages::VALIDATE, t);
     }
-    if !one_phase_allowed(t, coordinator) {
+    if !one_phase_allowed(located.groups, t) {
         return stages::to_phase(stages::PREPARE, t);
     }
-    one_phase(t, places, records, coordinator)
+    one_phase(t, located, records, coordinator)
 }
 
 // To the next group, or after the last to another phase.
-fn next_group(after: u32, t: Transaction, coordinator: &[u8]) -> Transaction
-    requires { ⌜ (coordinatorAccepted (now coordinator) ≡ true) × ((t .count ≤ 8) × (t .place < groupCount (coordinatorOf (now coordinator) .units) (puts t))) ⌝ }
-    ensures { λ r. ⌜ ((rs : List ℕ) → r ≡ nextGroup after t (sheetsOf rs (now (coordinator .entry)))) ⌝ }
+fn next_group(after: u32, groups: u32, t: Transaction) -> Transaction
+    requires { ⌜ t .place < groups ⌝ }
+    ensures { λ r. ⌜ ((s : Sheets) → groups ≡ groupsOf t s → r ≡ nextGroup after t s) ⌝ }
 {
-    let count = groups::group_count(coordinator, t);
     let next = t.place + 1;
-    if next < count {
+    if next < groups {
         return transactions::moved(t.phase, next, t.verdict, t);
     }
     stages::to_phase(after, t)
@@ -81,41 +72,37 @@ fn next_group(after: u32, t: Transaction, coordinator: &[u8]) -> Transaction
 // The group prepared if its conditions hold; if one fails, nothing is written.
 pub fn prepare(
     t: Transaction,
-    places: [usize; 8],
+    located: Located,
     clock: u32,
     records: &mut [u8],
     coordinator: &[u8],
 ) -> Transaction
-    requires { ⌜ Ready (now records) (now coordinator) t places ⌝ }
+    requires { ⌜ Ready (now records) (now coordinator) t located ⌝ }
     requires { ⌜ t .phase ≡ 1 ⌝ }
     ensures { λ r. ⌜ Stepped (sheetsOf (now (records .entry)) (now (coordinator .entry))) (prepareStep t clock (sheetsOf (now (records .entry)) (now (coordinator .entry)))) r (now (records .exit)) (now (coordinator .entry)) ⌝ }
 {
-    if !groups::group_holds(records, coordinator, t, places) {
+    if !groups::group_holds(records, coordinator, t, located) {
         return stages::to_phase(stages::WITHDRAW, t);
     }
-    changes::prepare_group(t, places, clock, records, coordinator);
+    changes::prepare_group(t, located, clock, records, coordinator);
     next_group(
         stages::after_prepare(&coordinator[5..14], t),
+        located.groups,
         t,
-        coordinator,
     )
 }
 
 // One entry without a put.
-pub fn validate(
-    t: Transaction,
-    places: [usize; 8],
-    records: &[u8],
-    coordinator: &[u8],
-) -> Transaction
-    requires { ⌜ Ready (now records) (now coordinator) t places ⌝ }
+pub fn validate(t: Transaction, located: Located, records: &[u8], coordinator: &[u8]) -> Transaction
+    requires { ⌜ Ready (now records) (now coordinator) t located ⌝ }
     requires { ⌜ t .phase ≡ 2 ⌝ }
     ensures { λ r. ⌜ Stepped (sheetsOf (now (records .entry)) (now (coordinator .entry))) (validateStep t (sheetsOf (now (records .entry)) (now (coordinator .entry)))) r (now (records .entry)) (now (coordinator .entry)) ⌝ }
 {
     let letters = &coordinator[5..14];
     let e = transactions::to_validate(letters, t, t.place);
-    let place = lines::place_of(e.key, t, places);
-    if !lines::holds(records, e, place) {
+    let indices = located.indices;
+    let index = lines::index_of(e.key, t, indices);
+    if !lines::holds(records, e, index) {
         return stages::to_phase(stages::WITHDRAW, t);
     }
     stages::next_entry(letters, t)
@@ -154,31 +141,26 @@ pub fn withdraw(t: Transaction, coordinator: &mut [u8]) -> Transaction
 // What the transaction has prepared in the group rolled forward.
 pub fn finish(
     t: Transaction,
-    places: [usize; 8],
+    located: Located,
     records: &mut [u8],
     coordinator: &[u8],
 ) -> Transaction
-    requires { ⌜ Ready (now records) (now coordinator) t places ⌝ }
+    requires { ⌜ Ready (now records) (now coordinator) t located ⌝ }
     requires { ⌜ t .phase ≡ 5 ⌝ }
     ensures { λ r. ⌜ Stepped (sheetsOf (now (records .entry)) (now (coordinator .entry))) (finishStep t (sheetsOf (now (records .entry)) (now (coordinator .entry)))) r (now (records .exit)) (now (coordinator .entry)) ⌝ }
 {
-    changes::forward_group(t, places, records, coordinator);
-    next_group(stages::DONE, t, coordinator)
+    changes::forward_group(t, located, records, coordinator);
+    next_group(stages::DONE, located.groups, t)
 }
 
 // What the transaction has prepared in the group rolled back.
-pub fn undo(
-    t: Transaction,
-    places: [usize; 8],
-    records: &mut [u8],
-    coordinator: &[u8],
-) -> Transaction
-    requires { ⌜ Ready (now records) (now coordinator) t places ⌝ }
+pub fn undo(t: Transaction, located: Located, records: &mut [u8], coordinator: &[u8]) -> Transaction
+    requires { ⌜ Ready (now records) (now coordinator) t located ⌝ }
     requires { ⌜ t .phase ≡ 6 ⌝ }
     ensures { λ r. ⌜ Stepped (sheetsOf (now (records .entry)) (now (coordinator .entry))) (undoStep t (sheetsOf (now (records .entry)) (now (coordinator .entry)))) r (now (records .exit)) (now (coordinator .entry)) ⌝ }
 {
-    changes::back_group(t, places, records, coordinator);
-    next_group(stages::DONE, t, coordinator)
+    changes::back_group(t, located, records, coordinator);
+    next_group(stages::DONE, located.groups, t)
 }
 
 // Nothing is left to do. An advance is refused before it comes here.

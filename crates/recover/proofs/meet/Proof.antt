@@ -1,18 +1,30 @@
--- The definition's parts in turn: the owner's decision, whether the line has expired.
-use borrow.Author.Needs.{needs}
+-- The definition's parts in turn: whether the line is prepared, its owner's decision, whether it has expired.
+use mathlib.Core.Path.{sym, _∙_}
+use borrow.Author.Tests.{not-true, not-false}
+use Rattle.model.specs.Images.{lineExpired, recovery}
 use Rattle.model.specs.Visits.{meeting}
+use borrow.Author.Needs.{needs}
 use Rattle.recover.proofs.meet.Statement.{statement}
 use Rattle.recover.proofs.meet.Tie as tie
 
 returns : tie.Need-returns
-unfolding meeting
-returns c = rw (c .recovery .ensures, c .before .line-expired .ensures, c .before .before .decision-at .ensures)
+unfolding meeting recovery
+returns c = rw (sym (c .before .is-prepared .ensures) ∙ not-true _ (c .if1 .taken))
+
+returns-2 : tie.Need-returns-2
+unfolding meeting recovery lineExpired
+returns-2 c =
+    rw (sym (c .before .before .before .before .before .before .is-prepared .ensures) ∙ not-false _ (c .before .before .before .before .before .if1 .left)) (rw (c .before .before .before .decision-at .ensures, c .before .has-expired .ensures, c .before .before .before .before .txid .ensures, c .before .before .clock .ensures) at (c .pending .ensures))
 
 pub meet-spec : {M : Type 1} → statement M
 meet-spec =
     tie.close
     (tie.spec
     (λ c κs. search needs)
+    returns
     (λ c κs. search needs)
     (λ c κs. search needs)
-    returns)
+    (λ c κs. search needs)
+    (λ c κs. search needs)
+    (λ c κs. search needs)
+    returns-2)

@@ -1,26 +1,27 @@
 -- A visit writes only where the line is prepared, as what it came to tells.
-use borrow.Author.Needs.{needs}
 use Rattle.recover.specs.Recovering.{lineAt, meeting-pending}
+use borrow.Author.Needs.{needs}
 use Rattle.recover.proofs.recover.Statement.{statement}
 use Rattle.recover.proofs.recover.Tie as tie
 
+meet-requires : tie.Need-meet-requires
+meet-requires c κs = c .before .before .before .before .pre .accepted .lines
+
 settle-requires : tie.Need-settle-requires
 settle-requires c κs =
-    let a = c .before .before .before .before .before .before .before .before .args in (
-      c .before .before .before .before .before .before .before .before .pre,
-      (
-        c .before .before .before .before .record-at .ensures,
-        rw (c .before .before .meet .ensures, c .before .before .before .before .record-at .ensures)
-            (meeting-pending (a .clock) (a .coordinator .now) (lineAt (a .records .now) (a .i))),
-      ),
-    )
+    let a = c .before .before .before .before .before .before .before .args in
+    (c .before .before .before .before .before .before .before .pre, rw (c .before .before .meet .ensures) (meeting-pending (a .clock) (a .decisions .now) (lineAt (a .records .now) (a .i))))
 
 returns : tie.Need-returns
 returns c =
-    record {
-      met = rw (c .before .before .before .before .before .before .before .before .before .record-at .ensures) at (c .before .before .before .before .before .before .before .meet .ensures);
-      written = c .before .before .before .before .settle .ensures;
-    }
+    record { met = c .before .before .before .before .before .before .before .meet .ensures; written = c .before .before .before .before .settle .ensures }
 
 pub recover-spec : {M : Type 1} → statement M
-recover-spec = tie.close (tie.spec (λ c κs. search needs) (λ c κs. search needs) settle-requires (λ c. search needs) (λ c. search needs) returns)
+recover-spec =
+    tie.close
+    (tie.spec
+    meet-requires
+    settle-requires
+    (λ c. search needs)
+    (λ c. search needs)
+    returns)

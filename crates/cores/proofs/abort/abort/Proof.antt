@@ -2,10 +2,9 @@
 use mathlib.Core.Path.{sym, ap, _∙_}
 use mathlib.Core.Bool.{true, false}
 use borrow.Author.Tests.{not-true, not-false}
-use Rattle.model.specs.Records.{records}
 use Rattle.model.specs.Writes.{nothing}
 use Rattle.model.specs.ByteCalls.{sheetsOf}
-use Rattle.group_writes.specs.Placed.{located-by}
+use Rattle.admission.specs.Admission.{formed-by}
 use Rattle.cores.specs.Answers.{toReturned, returned-made}
 use Rattle.cores.specs.Aborting.{abort-ill, abort-late, abort-made}
 use borrow.Author.Needs.{needs}
@@ -16,18 +15,18 @@ returns : tie.Need-returns
 returns c =
     let a = c .before .before .before .before .before .before .args in
     c .refusal .ensures
-    ∙ ap (toReturned (a .t)) (sym (abort-ill (a .t) (sheetsOf (a .records .now) (a .coordinator .now)) (located-by (records (a .records .now)) (a .t) _ false (c .before .before .before .admit .ensures) (not-true _ (c .before .if1 .taken)) .0)))
+    ∙ ap (toReturned (a .t)) (sym (abort-ill (a .t) (sheetsOf (a .records .now) (a .coordinator .now)) (formed-by (sheetsOf (a .records .now) (a .coordinator .now)) (a .t) false (c .before .before .before .admit .ensures) (not-true _ (c .before .if1 .taken)))))
 
 returns-2 : tie.Need-returns-2
 returns-2 c =
     let a = c .before .before .before .before .before .before .before .before .args in
-    c .refusal2 .ensures ∙ ap (toReturned (a .t)) (sym (abort-late (a .t) (sheetsOf (a .records .now) (a .coordinator .now)) (located-by (records (a .records .now)) (a .t) _ true (c .before .before .before .before .before .admit .ensures) (not-false _ (c .before .before .before .if1 .left)) .0) (sym (c .before .before .cannot-abort .ensures) ∙ c .before .if2 .taken)))
+    c .refusal2 .ensures ∙ ap (toReturned (a .t)) (sym (abort-late (a .t) (sheetsOf (a .records .now) (a .coordinator .now)) (formed-by (sheetsOf (a .records .now) (a .coordinator .now)) (a .t) true (c .before .before .before .before .before .admit .ensures) (not-false _ (c .before .before .before .if1 .left))) (sym (c .before .before .cannot-abort .ensures) ∙ c .before .if2 .taken)))
 
 returns-3 : tie.Need-returns-3
 returns-3 c =
     let a = c .before .before .before .before .before .before .before .before .args in
     returned-made (a .t) nothing (c .moved .ensures)
-    ∙ ap (toReturned (a .t)) (sym (abort-made (a .t) (sheetsOf (a .records .now) (a .coordinator .now)) (located-by (records (a .records .now)) (a .t) _ true (c .before .before .before .before .before .admit .ensures) (not-false _ (c .before .before .before .if1 .left)) .0) (sym (c .before .before .cannot-abort .ensures) ∙ c .before .if2 .left)))
+    ∙ ap (toReturned (a .t)) (sym (abort-made (a .t) (sheetsOf (a .records .now) (a .coordinator .now)) (formed-by (sheetsOf (a .records .now) (a .coordinator .now)) (a .t) true (c .before .before .before .before .before .admit .ensures) (not-false _ (c .before .before .before .if1 .left))) (sym (c .before .before .cannot-abort .ensures) ∙ c .before .if2 .left)))
 
 pub abort-spec : {M : Type 1} → statement M
 abort-spec =

@@ -3,10 +3,9 @@ use mathlib.Core.Path.{sym, ap, _∙_}
 use mathlib.Core.Bool.{true, false}
 use borrow.Author.Tests.{not-true, not-false}
 use Rattle.types.specs.declared.Decision.{Decision}
-use Rattle.model.specs.Records.{records}
+use Rattle.model.specs.ByteCalls.{sheetsOf}
 use Rattle.call_laws.specs.Accepted.{outcome-refused}
-use Rattle.group_writes.specs.Placed.{located-by}
-use Rattle.admission.specs.Admission.{admitted-placed}
+use Rattle.admission.specs.Admission.{formed-by, located-by, admitted-ready}
 use Rattle.cores.specs.Answers.{toReturned}
 use Rattle.cores.specs.Advancing.{forbids, advance-ill, advance-forbidden, step-outcome}
 use borrow.Author.Needs.{needs}
@@ -17,24 +16,25 @@ returns : tie.Need-returns
 returns c =
     let a = c .before .before .before .before .before .before .before .before .args in
     outcome-refused (toReturned (a .t)) (a .records .now) (a .coordinator .now) 3
-    (advance-ill (a .t) (a .clock) (a .records .now) (a .coordinator .now) (located-by (records (a .records .now)) (a .t) _ false (c .before .before .before .admit .ensures) (not-true _ (c .before .if1 .taken)) .0)) (c .refusal .ensures)
+    (advance-ill (a .t) (a .clock) (a .records .now) (a .coordinator .now) (formed-by (sheetsOf (a .records .now) (a .coordinator .now)) (a .t) false (c .before .before .before .admit .ensures) (not-true _ (c .before .if1 .taken)))) (c .refusal .ensures)
 
 returns-2 : tie.Need-returns-2
 returns-2 c =
     let a = c .before .before .before .before .before .before .before .before .before .before .before .before .args in
     outcome-refused (toReturned (a .t)) (a .records .now) (a .coordinator .now) 4
-    (advance-forbidden (a .t) (a .clock) (a .records .now) (a .coordinator .now) (located-by (records (a .records .now)) (a .t) _ true (c .before .before .before .before .before .before .before .admit .ensures) (not-false _ (c .before .before .before .before .before .if1 .left)) .0) (ap (λ (d : Decision). forbids (a .t .phase) d) (sym (c .before .before .before .decision-at .ensures)) ∙ (sym (c .before .before .forbids .ensures) ∙ c .before .if2 .taken))) (c .refusal2 .ensures)
+    (advance-forbidden (a .t) (a .clock) (a .records .now) (a .coordinator .now) (formed-by (sheetsOf (a .records .now) (a .coordinator .now)) (a .t) true (c .before .before .before .before .before .before .before .admit .ensures) (not-false _ (c .before .before .before .before .before .if1 .left))) (ap (λ (d : Decision). forbids (a .t .phase) d) (sym (c .before .before .before .decision-at .ensures)) ∙ (sym (c .before .before .forbids .ensures) ∙ c .before .if2 .taken))) (c .refusal2 .ensures)
 
 step-requires : tie.Need-step-requires
 step-requires c κs =
     let a = c .before .before .before .before .before .before .before .before .before .before .before .before .before .before .args in
-    let f = (located-by (records (a .records .now)) (a .t) _ true (c .before .before .before .before .before .before .before .before .before .admit .ensures) (not-false _ (c .before .before .before .before .before .before .before .if1 .left)) .0) in
-    record { passing = c .before .before .before .before .before .before .before .before .before .before .before .before .before .before .pre .passing; formed = f; placed = admitted-placed (a .t) (a .records .now) (a .coordinator .now) (c .before .before .before .before .before .before .before .before .before .before .before .before .before .before .good .0) (c .before .before .before .before .before .before .before .before .before .admit .ensures) f }
+    let f = (formed-by (sheetsOf (a .records .now) (a .coordinator .now)) (a .t) true (c .before .before .before .before .before .before .before .before .before .admit .ensures) (not-false _ (c .before .before .before .before .before .before .before .if1 .left))) in
+    let r = admitted-ready (a .t) (a .records .now) (a .coordinator .now) (c .before .before .before .before .before .before .before .before .before .before .before .before .before .before .good .0) _ (located-by (sheetsOf (a .records .now) (a .coordinator .now)) (a .t) (c .before .before .before .before .before .before .before .before .before .admit .ensures) f) f in
+    record { passing = c .before .before .before .before .before .before .before .before .before .before .before .before .before .before .pre .passing; formed = f; indexed = r .0; grouped = r .1 }
 
 returns-3 : tie.Need-returns-3
 returns-3 c =
     let a = c .before .before .before .before .before .before .before .before .before .before .before .before .before .before .before .before .before .before .before .args in
-    step-outcome (a .t) (a .clock) (a .records .now) (a .coordinator .now) (located-by (records (a .records .now)) (a .t) _ true (c .before .before .before .before .before .before .before .before .before .before .before .before .before .before .admit .ensures) (not-false _ (c .before .before .before .before .before .before .before .before .before .before .before .before .if1 .left)) .0) (ap (λ (d : Decision). forbids (a .t .phase) d) (sym (c .before .before .before .before .before .before .before .before .before .before .decision-at .ensures)) ∙ (sym (c .before .before .before .before .before .before .before .before .before .forbids .ensures) ∙ c .before .before .before .before .before .before .before .before .if2 .left)) (c .before .before .before .before .step .ensures)
+    step-outcome (a .t) (a .clock) (a .records .now) (a .coordinator .now) (formed-by (sheetsOf (a .records .now) (a .coordinator .now)) (a .t) true (c .before .before .before .before .before .before .before .before .before .before .before .before .before .before .admit .ensures) (not-false _ (c .before .before .before .before .before .before .before .before .before .before .before .before .if1 .left))) (ap (λ (d : Decision). forbids (a .t .phase) d) (sym (c .before .before .before .before .before .before .before .before .before .before .decision-at .ensures)) ∙ (sym (c .before .before .before .before .before .before .before .before .before .forbids .ensures) ∙ c .before .before .before .before .before .before .before .before .if2 .left)) (c .before .before .before .before .step .ensures)
 
 pub advance-spec : {M : Type 1} → statement M
 advance-spec =

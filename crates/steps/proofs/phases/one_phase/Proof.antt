@@ -9,7 +9,7 @@ use Rattle.steps.proofs.phases.one_phase.Statement.{statement}
 use Rattle.steps.proofs.phases.one_phase.Tie as tie
 
 group-holds-requires : tie.Need-group-holds-requires
-group-holds-requires c κs = ((coordinator-accepted _ _ _ _ (c .before .before .before .pre), few _ _ _ _ (c .before .before .before .pre)), c .before .before .before .pre .placed)
+group-holds-requires c κs = may-write _ _ _ _ (c .before .before .before .pre)
 
 commit-group-requires : tie.Need-commit-group-requires
 commit-group-requires c κs = (may-write _ _ _ _ (c .before .before .before .before .before .before .pre), sym (c .before .before .group-holds .ensures) ∙ c .before .if1 .taken)

@@ -31,18 +31,15 @@ returns-2 c =
     stepped-as (open-validates _ _ (not-false _ (sym (c .before .before .before .before .before .has-puts .ensures) ∙ not-true _ (c .before .before .before .before .if1 .taken))) (not-true _ (rw (units _ _ _ _ p) at (sym (c .before .before .validates .ensures) ∙ not-false _ (c .before .if2 .left)))))
     (wrote-nothing _ _ (records-accepted _ _ _ _ p) (coordinator-accepted _ _ _ _ p) _ _ (c .to-phase .ensures))
 
-one-phase-allowed-requires : tie.Need-one-phase-allowed-requires
-one-phase-allowed-requires c κs = (coordinator-accepted _ _ _ _ (c .before .before .before .before .pre), few _ _ _ _ (c .before .before .before .before .pre))
-
 returns-3 : tie.Need-returns-3
-returns-3 c = stepped-as (open-prepares _ _ (not-true _ (sym (c .before .before .before .before .has-puts .ensures) ∙ not-false _ (c .before .before .before .if1 .left))) (sym (c .before .before .one-phase-allowed .ensures _) ∙ not-true _ (c .before .if3 .taken)))
+returns-3 c = stepped-as (open-prepares _ _ (not-true _ (sym (c .before .before .before .before .has-puts .ensures) ∙ not-false _ (c .before .before .before .if1 .left))) (sym (c .before .before .one-phase-allowed .ensures _ (c .before .before .before .before .before .before .before .pre .grouped .count)) ∙ not-true _ (c .before .if3 .taken)))
     (wrote-nothing _ _ (records-accepted _ _ _ _ (c .before .before .before .before .before .before .before .pre)) (coordinator-accepted _ _ _ _ (c .before .before .before .before .before .before .before .pre)) _ _ (c .to-phase2 .ensures))
 
 one-phase-requires : tie.Need-one-phase-requires
 one-phase-requires c κs = c .before .before .before .before .before .before .before .pre
 
 returns-4 : tie.Need-returns-4
-returns-4 c = stepped-as (open-one-phase _ _ (not-true _ (sym (c .before .before .before .before .before .before .before .has-puts .ensures) ∙ not-false _ (c .before .before .before .before .before .before .if1 .left))) (sym (c .before .before .before .before .before .one-phase-allowed .ensures _) ∙ not-false _ (c .before .before .before .before .if3 .left)))
+returns-4 c = stepped-as (open-one-phase _ _ (not-true _ (sym (c .before .before .before .before .before .before .before .has-puts .ensures) ∙ not-false _ (c .before .before .before .before .before .before .if1 .left))) (sym (c .before .before .before .before .before .one-phase-allowed .ensures _ (c .before .before .before .before .before .before .before .before .before .before .pre .grouped .count)) ∙ not-false _ (c .before .before .before .before .if3 .left)))
     (c .before .before .one-phase .ensures)
 
 pub open-spec : {M : Type 1} → statement M
@@ -58,7 +55,7 @@ open-spec =
     returns
     (λ c κs. search needs)
     returns-2
-    one-phase-allowed-requires
+    (λ c κs. search needs)
     (λ c κs. search needs)
     returns-3
     one-phase-requires

@@ -15,7 +15,7 @@ use Rattle.steps.proofs.phases.prepare.Statement.{statement}
 use Rattle.steps.proofs.phases.prepare.Tie as tie
 
 group-holds-requires : tie.Need-group-holds-requires
-group-holds-requires c κs = ((coordinator-accepted _ _ _ _ (c .before .before .before .pre .0), few _ _ _ _ (c .before .before .before .pre .0)), c .before .before .before .pre .0 .placed)
+group-holds-requires c κs = may-write _ _ _ _ (c .before .before .before .pre .0)
 
 returns : tie.Need-returns
 returns c = stepped-as (prepare-fails _ _ _ (sym (c .before .before .group-holds .ensures) ∙ not-true _ (c .before .if1 .taken)))
@@ -33,7 +33,7 @@ after-prepare-requires c κs = few _ _ _ _ (c .before .before .before .before .b
 next-group-requires : tie.Need-next-group-requires
 next-group-requires c κs =
     let p = c .before .before .before .before .before .before .before .before .before .before .before .pre in
-    (coordinator-accepted _ _ _ _ (p .0), (few _ _ _ _ (p .0), place-prepare _ _ _ _ (p .0) (p .1)))
+    place-prepare _ _ _ _ (p .0) (p .1)
 
 returns-2 : tie.Need-returns-2
 unfolding decisionsAfter
@@ -42,7 +42,7 @@ returns-2 c =
     let p = c .before .before .before .before .before .before .before .before .before .before .before .before .pre .0 in
     stepped-as (prepare-writes _ _ _ (sym (c .before .before .before .before .before .before .before .before .group-holds .ensures) ∙ not-false _ (c .before .before .before .before .before .before .before .if1 .left)))
     (wrote-lines _ _ _ refl (coordinator-accepted _ _ _ _ p) _ _ _
-    (c .next-group .ensures _ ∙ ap (λ (q : ℕ). nextGroup q (a .t) (sheetsOf (a .records .now) (a .coordinator .now))) (rw (units _ _ _ _ p) at (c .before .after-prepare .ensures))) (c .before .before .before .before .before .prepare-group .ensures))
+    (c .next-group .ensures _ (p .grouped .count) ∙ ap (λ (q : ℕ). nextGroup q (a .t) (sheetsOf (a .records .now) (a .coordinator .now))) (rw (units _ _ _ _ p) at (c .before .after-prepare .ensures))) (c .before .before .before .before .before .prepare-group .ensures))
 
 pub prepare-spec : {M : Type 1} → statement M
 prepare-spec =

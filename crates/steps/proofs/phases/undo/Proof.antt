@@ -1,7 +1,7 @@
 -- The group's lines are written, and the next group comes.
 use mathlib.Core.Path.{refl}
 use borrow.Author.Needs.{needs}
-use Rattle.steps.specs.Ready.{coordinator-accepted, few, may-write, place-undo}
+use Rattle.steps.specs.Ready.{coordinator-accepted, may-write, place-undo}
 use Rattle.steps.specs.Stepped.{wrote-lines}
 use Rattle.model.specs.Writes.{decisionsAfter}
 use Rattle.model.specs.Steps.{undoStep}
@@ -12,11 +12,11 @@ back-group-requires : tie.Need-back-group-requires
 back-group-requires c κs = may-write _ _ _ _ (c .before .before .before .pre .0)
 
 next-group-requires : tie.Need-next-group-requires
-next-group-requires c κs = (coordinator-accepted _ _ _ _ (c .before .before .before .before .before .before .pre .0), (few _ _ _ _ (c .before .before .before .before .before .before .pre .0), place-undo _ _ _ _ (c .before .before .before .before .before .before .pre .0) (c .before .before .before .before .before .before .pre .1)))
+next-group-requires c κs = let p = c .before .before .before .before .before .before .pre in place-undo _ _ _ _ (p .0) (p .1)
 
 returns : tie.Need-returns
 unfolding undoStep decisionsAfter
-returns c = wrote-lines _ _ _ refl (coordinator-accepted _ _ _ _ (c .before .before .before .before .before .before .before .pre .0)) _ _ _ (c .next-group .ensures _) (c .before .before .before .back-group .ensures)
+returns c = wrote-lines _ _ _ refl (coordinator-accepted _ _ _ _ (c .before .before .before .before .before .before .before .pre .0)) _ _ _ (c .next-group .ensures _ (c .before .before .before .before .before .before .before .pre .0 .grouped .count)) (c .before .before .before .back-group .ensures)
 
 pub undo-spec : {M : Type 1} → statement M
 undo-spec = tie.close (tie.spec back-group-requires next-group-requires (λ c. search needs) returns)

@@ -2,13 +2,13 @@
 use mathlib.Core.Path.{sym, ap, _∙_}
 use native.Mathlib.Omega.{arith}
 use borrow.Author.Tests.{not-true, not-false}
-use borrow.Author.Needs.{needs}
 use Rattle.types.specs.declared.Found.the-variants.{At}
 use Rattle.sheet_laws.specs.Decisions.{accepted-length}
-use Rattle.group_writes.specs.Placed.{placed-in}
+use Rattle.group_writes.specs.Located.{indexed-in}
 use Rattle.steps.specs.Ready.{records-accepted, coordinator-accepted, few, units, place-validate, validate-held}
 use Rattle.steps.specs.Stepped.{wrote-nothing}
 use Rattle.steps.specs.Cases.{stepped-as, validate-fails, validate-passes}
+use borrow.Author.Needs.{needs}
 use Rattle.steps.proofs.phases.validate.Statement.{statement}
 use Rattle.steps.proofs.phases.validate.Tie as tie
 
@@ -18,31 +18,31 @@ part-letters-end c = omega (arith, accepted-length _ (coordinator-accepted _ _ _
 to-validate-requires : tie.Need-to-validate-requires
 to-validate-requires c κs = few _ _ _ _ (c .before .before .before .pre .0)
 
-place-of-requires : tie.Need-place-of-requires
-place-of-requires c κs = few _ _ _ _ (c .before .before .before .before .pre .0)
+index-of-requires : tie.Need-index-of-requires
+index-of-requires c κs = few _ _ _ _ (c .before .before .before .before .before .pre .0)
 
 holds-requires : tie.Need-holds-requires
 holds-requires c κs =
-    let p = c .before .before .before .before .before .pre in
-    placed-in _ _ _ _ (p .0 .placed) (rw (c .before .to-validate .ensures, units _ _ _ _ (p .0)) (validate-held _ _ (place-validate _ _ _ _ (p .0) (p .1)))) ∙ ap At (sym (c .place-of .ensures))
+    let p = c .before .before .before .before .before .before .pre in
+    (records-accepted _ _ _ _ (p .0), indexed-in _ _ _ _ (p .0 .indexed) (rw (c .before .before .to-validate .ensures, units _ _ _ _ (p .0)) (validate-held _ _ (place-validate _ _ _ _ (p .0) (p .1)))) ∙ ap At (sym (c .index-of .ensures)))
 
 returns : tie.Need-returns
 returns c =
-    let a = c .before .before .before .before .before .before .before .before .args in
-    let p = c .before .before .before .before .before .before .before .before .pre .0 in
-    stepped-as (validate-fails _ _ (rw (c .before .before .before .before .to-validate .ensures, units _ _ _ _ p) at (sym (c .before .before .holds .ensures (a .coordinator .now)) ∙ not-true _ (c .before .if1 .taken))))
+    let a = c .before .before .before .before .before .before .before .before .before .args in
+    let p = c .before .before .before .before .before .before .before .before .before .pre .0 in
+    stepped-as (validate-fails _ _ (rw (c .before .before .before .before .before .to-validate .ensures, units _ _ _ _ p) at (sym (c .before .before .holds .ensures (a .coordinator .now)) ∙ not-true _ (c .before .if1 .taken))))
     (wrote-nothing _ _ (records-accepted _ _ _ _ p) (coordinator-accepted _ _ _ _ p) _ _ (c .to-phase .ensures))
 
 next-entry-requires : tie.Need-next-entry-requires
 next-entry-requires c κs =
-    let p = c .before .before .before .before .before .before .before .pre in
+    let p = c .before .before .before .before .before .before .before .before .pre in
     (few _ _ _ _ (p .0), rw (units _ _ _ _ (p .0)) (place-validate _ _ _ _ (p .0) (p .1)))
 
 returns-2 : tie.Need-returns-2
 returns-2 c =
-    let a = c .before .before .before .before .before .before .before .before .args in
-    let p = c .before .before .before .before .before .before .before .before .pre .0 in
-    stepped-as (validate-passes _ _ (rw (c .before .before .before .before .to-validate .ensures, units _ _ _ _ p) at (sym (c .before .before .holds .ensures (a .coordinator .now)) ∙ not-false _ (c .before .if1 .left))))
+    let a = c .before .before .before .before .before .before .before .before .before .args in
+    let p = c .before .before .before .before .before .before .before .before .before .pre .0 in
+    stepped-as (validate-passes _ _ (rw (c .before .before .before .before .before .to-validate .ensures, units _ _ _ _ p) at (sym (c .before .before .holds .ensures (a .coordinator .now)) ∙ not-false _ (c .before .if1 .left))))
     (wrote-nothing _ _ (records-accepted _ _ _ _ p) (coordinator-accepted _ _ _ _ p) _ _ (rw (units _ _ _ _ p) at (c .next-entry .ensures)))
 
 pub validate-spec : {M : Type 1} → statement M
@@ -53,7 +53,7 @@ validate-spec =
     (λ c. search needs)
     part-letters-end
     to-validate-requires
-    place-of-requires
+    index-of-requires
     holds-requires
     (λ c κs. search needs)
     returns

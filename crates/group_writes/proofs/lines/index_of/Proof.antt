@@ -1,16 +1,18 @@
 -- By the two cases of what is held.
 use mathlib.Core.Path.{sym, _∙_}
 use native.Mathlib.Omega.{arith}
-use borrow.Author.Needs.{needs}
 use Rattle.protocol.specs.Held.{held-below}
-use Rattle.group_writes.proofs.lines.place_of.Statement.{statement}
-use Rattle.group_writes.proofs.lines.place_of.Tie as tie
+use borrow.Author.Needs.{needs}
+use Rattle.group_writes.proofs.lines.index_of.Statement.{statement}
+use Rattle.group_writes.proofs.lines.index_of.Tie as tie
 
 mul-result : tie.Need-mul-result
-mul-result c = let l = held-below _ _ _ (sym (c .before .before .before .held-at .ensures) ∙ c .before .i .given .1) in omega (arith, l, c .before .before .before .before .pre)
+mul-result c =
+    let l = held-below _ _ _ (sym (c .before .before .before .held-at .ensures) ∙ c .before .i .given .1) in omega (arith, l, c .before .before .before .before .pre)
 
 array-read-result : tie.Need-array-read-result
-array-read-result c = let l = held-below _ _ _ (sym (c .before .before .before .held-at .ensures) ∙ c .before .i .given .1) in omega (arith, l, c .before .before .before .before .pre)
+array-read-result c =
+    let l = held-below _ _ _ (sym (c .before .before .before .held-at .ensures) ∙ c .before .i .given .1) in omega (arith, l, c .before .before .before .before .pre)
 
 returns : tie.Need-returns
 returns c = rw (sym (c .before .before .before .held-at .ensures) ∙ c .before .i .given .1)
@@ -18,8 +20,8 @@ returns c = rw (sym (c .before .before .before .held-at .ensures) ∙ c .before 
 returns-2 : tie.Need-returns-2
 returns-2 c = rw (sym (c .before .before .held-at .ensures) ∙ c .enum-told .given .1)
 
-pub place-of-spec : {M : Type 1} → statement M
-place-of-spec =
+pub index-of-spec : {M : Type 1} → statement M
+index-of-spec =
     tie.close
     (tie.spec
     (λ c κs. search needs)
