@@ -1,7 +1,6 @@
 -- The head is asked first; then the letters of the sheet, which are its units, give the groups and the rest; then the lines.
 use mathlib.Core.Path.{sym, ap, _∙_}
 use mathlib.Core.List.{List}
-use mathlib.Core.Bool.{true, false}
 use native.Mathlib.Omega.{arith}
 use lib.ListN.{take, drop}
 use borrow.Author.Tests.{not-true, not-false}
@@ -63,19 +62,5 @@ returns-4 c =
 pub admit-spec : {M : Type 1} → statement M
 admit-spec =
     tie.close
-    (tie.spec
-    (λ c κs. search needs)
-    (λ c κs. search needs)
-    (λ c κs. search needs)
-    returns
-    (λ c. search needs)
-    (λ c. search needs)
-    part-letters-end
-    groups-of-requires
-    formed-requires
-    (λ c κs. search needs)
-    returns-2
-    lines-of-requires
-    (λ c κs. search needs)
-    returns-3
-    returns-4)
+    (tie.spec (λ c κs. search needs) (λ c κs. search needs) (λ c κs. search needs) returns (λ c. search needs) (λ c. search needs) part-letters-end
+    groups-of-requires formed-requires (λ c κs. search needs) returns-2 lines-of-requires (λ c κs. search needs) returns-3 returns-4)

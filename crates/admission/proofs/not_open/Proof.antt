@@ -33,15 +33,4 @@ returns-9 : tie.Need-returns-9
 returns-9 c = sym (ap not (ne-eqb _ 0 (c .match .rest .0 .0 .0 .0 .0 .0 .0 .1)))
 
 pub not-open-spec : {M : Type 1} → statement M
-not-open-spec =
-    tie.close
-    (tie.spec
-    returns
-    returns-2
-    returns-3
-    returns-4
-    returns-5
-    returns-6
-    returns-7
-    returns-8
-    returns-9)
+not-open-spec = tie.close (tie.spec returns returns-2 returns-3 returns-4 returns-5 returns-6 returns-7 returns-8 returns-9)

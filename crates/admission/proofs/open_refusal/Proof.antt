@@ -29,13 +29,4 @@ returns-4 c =
     open-key (a .t) (a .key) (sheetsOf (a .records .now) (a .coordinator .now)) true (formed-by (sheetsOf (a .records .now) (a .coordinator .now)) (a .t) true (c .before .before .before .before .before .before .admit .ensures) (not-false _ (c .before .before .before .before .if1 .left))) (sym (c .before .before .before .not-open .ensures) ∙ c .before .before .if2 .left) (sym (c .before .key-in-range .ensures) ∙ not-false _ (c .if3 .left))
 
 pub open-refusal-spec : {M : Type 1} → statement M
-open-refusal-spec =
-    tie.close
-    (tie.spec
-    (λ c κs. search needs)
-    returns
-    (λ c κs. search needs)
-    returns-2
-    (λ c κs. search needs)
-    returns-3
-    returns-4)
+open-refusal-spec = tie.close (tie.spec (λ c κs. search needs) returns (λ c κs. search needs) returns-2 (λ c κs. search needs) returns-3 returns-4)

@@ -76,20 +76,5 @@ returns-3 c = named-last _ _ _ (c .loop-test .left) (c .before .loop .inv)
 pub all-issued-spec : {M : Type 1} → statement M
 all-issued-spec =
     tie.close
-    (tie.spec
-    Inv-loop
-    μ-loop
-    half-requires
-    loop-holds
-    (λ c. search needs)
-    (λ c. search needs)
-    (λ c κs. search needs)
-    (λ c. search needs)
-    (λ c. search needs)
-    (λ c κs. search needs)
-    returns
-    returns-2
-    (λ c. search needs)
-    (λ c. search needs)
-    loop-again
-    returns-3)
+    (tie.spec Inv-loop μ-loop half-requires loop-holds (λ c. search needs) (λ c. search needs) (λ c κs. search needs) (λ c. search needs)
+    (λ c. search needs) (λ c κs. search needs) returns returns-2 (λ c. search needs) (λ c. search needs) loop-again returns-3)

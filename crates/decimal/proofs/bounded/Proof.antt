@@ -26,6 +26,4 @@ unfolding within
 returns-5 c = rw (c .enum-told2 .given .1)
 
 pub bounded-spec : {M : Type 1} → statement M
-bounded-spec =
-    tie.close
-    (tie.spec (λ c. search needs) (λ c. search needs) returns returns-2 (λ c. search needs) returns-3 returns-4 returns-5)
+bounded-spec = tie.close (tie.spec (λ c. search needs) (λ c. search needs) returns returns-2 (λ c. search needs) returns-3 returns-4 returns-5)

@@ -23,11 +23,4 @@ returns-2 c =
     passed-answer (toReturned (a .t)) (model.abort (a .t)) (a .records .now) (a .coordinator .now) (sym (c .before .before .check .ensures) ∙ c .before .if1 .left) (c .abort .ensures)
 
 pub abort-spec : {M : Type 1} → statement M
-abort-spec =
-    tie.close
-    (tie.spec
-    (λ c κs. search needs)
-    (λ c κs. search needs)
-    returns
-    abort-requires
-    returns-2)
+abort-spec = tie.close (tie.spec (λ c κs. search needs) (λ c κs. search needs) returns abort-requires returns-2)

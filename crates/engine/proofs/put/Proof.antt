@@ -23,11 +23,4 @@ returns-2 c =
     passed-answer (toReturned (a .t)) (model.put (a .t) (a .key) (a .columns)) (a .records .now) (a .coordinator .now) (sym (c .before .before .check .ensures) ∙ c .before .if1 .left) (c .put .ensures)
 
 pub put-spec : {M : Type 1} → statement M
-put-spec =
-    tie.close
-    (tie.spec
-    (λ c κs. search needs)
-    (λ c κs. search needs)
-    returns
-    put-requires
-    returns-2)
+put-spec = tie.close (tie.spec (λ c κs. search needs) (λ c κs. search needs) returns put-requires returns-2)

@@ -39,5 +39,4 @@ returns c =
     (rw e at (l .inv .2), number-fits (l .v) (l .i) (a .n) (l .inv .1) (l .inv .0))
 
 pub turned-spec : {M : Type 1} → statement M
-turned-spec =
-    tie.close (tie.spec Inv-loop μ-loop loop-holds mul-v add-v (λ c. search needs) (λ c. search needs) loop-again returns)
+turned-spec = tie.close (tie.spec Inv-loop μ-loop loop-holds mul-v add-v (λ c. search needs) (λ c. search needs) loop-again returns)

@@ -17,11 +17,4 @@ returns c =
     record { met = c .before .before .before .before .before .before .before .meet .ensures; written = c .before .before .before .before .settle .ensures }
 
 pub recover-spec : {M : Type 1} → statement M
-recover-spec =
-    tie.close
-    (tie.spec
-    meet-requires
-    settle-requires
-    (λ c. search needs)
-    (λ c. search needs)
-    returns)
+recover-spec = tie.close (tie.spec meet-requires settle-requires (λ c. search needs) (λ c. search needs) returns)

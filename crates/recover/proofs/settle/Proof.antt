@@ -48,22 +48,6 @@ returns-5 c =
 pub settle-spec : {M : Type 1} → statement M
 settle-spec =
     tie.close
-    (tie.spec
-    (λ c. search needs)
-    (λ c. search needs)
-    roll-forward-requires
-    (λ c. search needs)
-    roll-back-requires
-    (λ c. search needs)
-    txid-requires
-    (λ c κs. search needs)
-    (λ c. search needs)
-    returns
-    (λ c. search needs)
-    returns-2
-    (λ c. search needs)
-    returns-3
-    (λ c. search needs)
-    (λ c. search needs)
-    returns-4
-    returns-5)
+    (tie.spec (λ c. search needs) (λ c. search needs) roll-forward-requires (λ c. search needs) roll-back-requires (λ c. search needs) txid-requires
+    (λ c κs. search needs) (λ c. search needs) returns (λ c. search needs) returns-2 (λ c. search needs) returns-3 (λ c. search needs)
+    (λ c. search needs) returns-4 returns-5)

@@ -58,33 +58,7 @@ returns-9 c = stepped-as (step-none _ _ _ (c .match .rest .0)) (wrote-nothing _ 
 pub step-spec : {M : Type 1} → statement M
 step-spec =
     tie.close
-    (tie.spec
-    open-requires
-    prepare-requires
-    validate-requires
-    decide-requires
-    withdraw-requires
-    finish-requires
-    undo-requires
-    (λ c κs. search needs)
-    (λ c. search needs)
-    (λ c. search needs)
-    returns
-    (λ c. search needs)
-    (λ c. search needs)
-    returns-2
-    (λ c. search needs)
-    (λ c. search needs)
-    returns-3
-    (λ c. search needs)
-    returns-4
-    (λ c. search needs)
-    returns-5
-    (λ c. search needs)
-    (λ c. search needs)
-    returns-6
-    (λ c. search needs)
-    (λ c. search needs)
-    returns-7
-    returns-8
-    returns-9)
+    (tie.spec open-requires prepare-requires validate-requires decide-requires withdraw-requires finish-requires undo-requires (λ c κs. search needs)
+    (λ c. search needs) (λ c. search needs) returns (λ c. search needs) (λ c. search needs) returns-2 (λ c. search needs) (λ c. search needs)
+    returns-3 (λ c. search needs) returns-4 (λ c. search needs) returns-5 (λ c. search needs) (λ c. search needs) returns-6 (λ c. search needs)
+    (λ c. search needs) returns-7 returns-8 returns-9)

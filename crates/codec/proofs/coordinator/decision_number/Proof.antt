@@ -17,5 +17,4 @@ unfolding decisionNumber
 returns-3 c = search needs
 
 pub decision-number-spec : {M : Type 1} → statement M
-decision-number-spec =
-    tie.close (tie.spec (λ c. search needs) (λ c. search needs) (λ c. search needs) returns returns-2 returns-3)
+decision-number-spec = tie.close (tie.spec (λ c. search needs) (λ c. search needs) (λ c. search needs) returns returns-2 returns-3)

@@ -23,5 +23,4 @@ returns c =
     c .is-word-at .ensures ∙ ap (λ (k : ℕ). eqList (decisionWord (a .n) (a .coordinator .now)) (wordAt DecisionWord k)) (c .before .decision-number .ensures)
 
 pub holds-decision-spec : {M : Type 1} → statement M
-holds-decision-spec =
-    tie.close (tie.spec (λ c. search needs) (λ c. search needs) (λ c κs. search needs) is-word-at-requires returns)
+holds-decision-spec = tie.close (tie.spec (λ c. search needs) (λ c. search needs) (λ c κs. search needs) is-word-at-requires returns)

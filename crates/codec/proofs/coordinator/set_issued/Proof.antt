@@ -24,12 +24,4 @@ returns-2 c =
     let h : leb 4 (length (a .coordinator .now)) ≡ false = lt-leb 4 (length (a .coordinator .now)) (c .if1 .left) in rw h
 
 pub set-issued-spec : {M : Type 1} → statement M
-set-issued-spec =
-    tie.close
-    (tie.spec
-    (λ c. search needs)
-    slice-aggregate-write
-    (λ c κs. search needs)
-    (λ c. search needs)
-    returns
-    returns-2)
+set-issued-spec = tie.close (tie.spec (λ c. search needs) slice-aggregate-write (λ c κs. search needs) (λ c. search needs) returns returns-2)

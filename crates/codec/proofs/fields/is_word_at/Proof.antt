@@ -17,5 +17,4 @@ returns c =
     c .ten-equal .ensures ∙ ap (eqList (take 10 (drop (a .at) (a .s .now)))) (ap (take 10) (c .before .before .word .ensures) ∙ whole)
 
 pub is-word-at-spec : {M : Type 1} → statement M
-is-word-at-spec =
-    tie.close (tie.spec (λ c κs. search needs) (λ c. search needs) (λ c κs. search needs) returns)
+is-word-at-spec = tie.close (tie.spec (λ c κs. search needs) (λ c. search needs) (λ c κs. search needs) returns)

@@ -23,9 +23,4 @@ returns-3 c =
     let l : 2 ≤ a .i = above 1 (a .i) (above 0 (a .i) (omega arith) (c .match .rest .0 .1)) (c .match .rest .1) in sym (List·getD-eq-default lineLayout noColumn l)
 
 pub line-column-spec : {M : Type 1} → statement M
-line-column-spec =
-    tie.close
-    (tie.spec
-    returns
-    returns-2
-    returns-3)
+line-column-spec = tie.close (tie.spec returns returns-2 returns-3)

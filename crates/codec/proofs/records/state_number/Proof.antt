@@ -17,5 +17,4 @@ unfolding stateNumber
 returns-3 c = search needs
 
 pub state-number-spec : {M : Type 1} → statement M
-state-number-spec =
-    tie.close (tie.spec (λ c. search needs) (λ c. search needs) (λ c. search needs) returns returns-2 returns-3)
+state-number-spec = tie.close (tie.spec (λ c. search needs) (λ c. search needs) (λ c. search needs) returns returns-2 returns-3)

@@ -26,12 +26,4 @@ returns-2 c =
     rw t (sym (over-same (a .line .now) (recordOffset imageField) imageBytes (omega arith)))
 
 pub keep-image-spec : {M : Type 1} → statement M
-keep-image-spec =
-    tie.close
-    (tie.spec
-    (λ c κs. search needs)
-    (λ c. search needs)
-    (λ c κs. search needs)
-    (λ c. search needs)
-    returns
-    returns-2)
+keep-image-spec = tie.close (tie.spec (λ c κs. search needs) (λ c. search needs) (λ c κs. search needs) (λ c. search needs) returns returns-2)

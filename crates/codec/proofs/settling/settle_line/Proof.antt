@@ -16,6 +16,4 @@ returns c =
     nothing .put-nothing .ensures ∙ (ap (beforeOver nothingText) w ∙ line-settled (a .line .now) (start .pre .set) (a .state) (a .before))
 
 pub settle-line-spec : {M : Type 1} → statement M
-settle-line-spec =
-    tie.close
-    (tie.spec (λ c κs. search needs) (λ c κs. search needs) (λ c κs. search needs) (λ c. search needs) returns)
+settle-line-spec = tie.close (tie.spec (λ c κs. search needs) (λ c κs. search needs) (λ c κs. search needs) (λ c. search needs) returns)

@@ -14,6 +14,4 @@ returns c =
     table-fits Undecided Undecided Undecided Undecided (rw (c .back .ensures, c .before .before .front .ensures))
 
 pub no-decision-spec : {M : Type 1} → statement M
-no-decision-spec =
-    tie.close
-    (tie.spec (λ c. search needs) (λ c κs. search needs) (λ c. search needs) (λ c κs. search needs) returns)
+no-decision-spec = tie.close (tie.spec (λ c. search needs) (λ c κs. search needs) (λ c. search needs) (λ c κs. search needs) returns)

@@ -41,15 +41,4 @@ unfolding cannotAbort
 returns-9 c = phase-none _ _ _ _ _ _ _ _ _ _ (c .match .rest)
 
 pub cannot-abort-spec : {M : Type 1} → statement M
-cannot-abort-spec =
-    tie.close
-    (tie.spec
-    returns
-    returns-2
-    returns-3
-    returns-4
-    returns-5
-    returns-6
-    returns-7
-    returns-8
-    returns-9)
+cannot-abort-spec = tie.close (tie.spec returns returns-2 returns-3 returns-4 returns-5 returns-6 returns-7 returns-8 returns-9)

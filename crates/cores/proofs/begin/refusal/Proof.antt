@@ -8,9 +8,4 @@ returns : tie.Need-returns
 returns c = rw (c .before .new-transaction .ensures) at (c .refusal .ensures)
 
 pub refusal-spec : {M : Type 1} → statement M
-refusal-spec =
-    tie.close
-    (tie.spec
-    (λ c κs. search needs)
-    (λ c κs. search needs)
-    returns)
+refusal-spec = tie.close (tie.spec (λ c κs. search needs) (λ c κs. search needs) returns)

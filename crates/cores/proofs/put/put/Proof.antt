@@ -36,14 +36,5 @@ returns-3 c =
 pub put-spec : {M : Type 1} → statement M
 put-spec =
     tie.close
-    (tie.spec
-    (λ c κs. search needs)
-    (λ c κs. search needs)
-    returns
-    find-requires
-    (λ c. search needs)
-    put-held-requires
-    (λ c. search needs)
-    (λ c κs. search needs)
-    returns-2
-    returns-3)
+    (tie.spec (λ c κs. search needs) (λ c κs. search needs) returns find-requires (λ c. search needs) put-held-requires (λ c. search needs)
+    (λ c κs. search needs) returns-2 returns-3)

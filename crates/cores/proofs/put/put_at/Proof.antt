@@ -18,5 +18,4 @@ returns-2 c =
     returned-made (a .t) nothing (rw (c .before .before .before .before .before .entry-at .ensures) at (c .with-entry .ensures)) ∙ ap (toReturned (a .t)) (sym (put-made (a .t) (a .i) (a .columns) (rw (c .before .before .before .before .before .entry-at .ensures) at (c .before .before .before .if1 .left))))
 
 pub put-at-spec : {M : Type 1} → statement M
-put-at-spec =
-    tie.close (tie.spec (λ c κs. search needs) (λ c κs. search needs) returns (λ c κs. search needs) returns-2)
+put-at-spec = tie.close (tie.spec (λ c κs. search needs) (λ c κs. search needs) returns (λ c κs. search needs) returns-2)

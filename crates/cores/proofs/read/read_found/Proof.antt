@@ -37,13 +37,5 @@ returns-2 c =
 pub read-found-spec : {M : Type 1} → statement M
 read-found-spec =
     tie.close
-    (tie.spec
-    held-at-requires
-    (λ c. search needs)
-    read-held-requires
-    (λ c. search needs)
-    read-new-requires
-    returns
-    (λ c. search needs)
-    (λ c. search needs)
-    returns-2)
+    (tie.spec held-at-requires (λ c. search needs) read-held-requires (λ c. search needs) read-new-requires returns (λ c. search needs)
+    (λ c. search needs) returns-2)

@@ -25,12 +25,5 @@ returns-2 c =
 pub read-new-spec : {M : Type 1} → statement M
 read-new-spec =
     tie.close
-    (tie.spec
-    (λ c κs. search needs)
-    returns
-    recover-requires
-    (λ c κs. search needs)
-    (λ c κs. search needs)
-    (λ c. search needs)
-    (λ c. search needs)
+    (tie.spec (λ c κs. search needs) returns recover-requires (λ c κs. search needs) (λ c κs. search needs) (λ c. search needs) (λ c. search needs)
     returns-2)

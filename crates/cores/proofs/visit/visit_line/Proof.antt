@@ -10,11 +10,4 @@ returns c =
     visit-outcome (a .clock) (a .records .now) (a .coordinator .now) (a .i) (c .before .before .before .before .before .before .before .before .before .before .pre) _ (c .before .before .before .before .before .recover .ensures) (c .answer .ensures)
 
 pub visit-line-spec : {M : Type 1} → statement M
-visit-line-spec =
-    tie.close
-    (tie.spec
-    (λ c κs. search needs)
-    (λ c κs. search needs)
-    (λ c. search needs)
-    (λ c. search needs)
-    returns)
+visit-line-spec = tie.close (tie.spec (λ c κs. search needs) (λ c κs. search needs) (λ c. search needs) (λ c. search needs) returns)

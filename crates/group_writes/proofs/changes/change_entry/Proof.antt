@@ -17,10 +17,4 @@ returns-2 c =
     turned-own (a .c) (a .n) (a .e) (a .records .now) (a .own) (a .index) _ (not-false _ (c .before .before .before .before .if1 .left)) (c .before .before .before .before .before .before .pre) (c .before .before .change-line .ensures)
 
 pub change-entry-spec : {M : Type 1} → statement M
-change-entry-spec =
-    tie.close
-    (tie.spec
-    returns
-    change-line-requires
-    (λ c. search needs)
-    returns-2)
+change-entry-spec = tie.close (tie.spec returns change-line-requires (λ c. search needs) returns-2)

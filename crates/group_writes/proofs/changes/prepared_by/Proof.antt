@@ -9,9 +9,4 @@ unfolding preparedBy
 returns c = rw (c .before .is-prepared .ensures, c .txid .ensures)
 
 pub prepared-by-spec : {M : Type 1} → statement M
-prepared-by-spec =
-    tie.close
-    (tie.spec
-    (λ c κs. search needs)
-    (λ c κs. search needs)
-    returns)
+prepared-by-spec = tie.close (tie.spec (λ c κs. search needs) (λ c κs. search needs) returns)

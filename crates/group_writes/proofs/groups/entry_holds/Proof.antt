@@ -21,9 +21,4 @@ returns-2 c =
     λ cs. c .holds .ensures cs ∙ own-group (a .own) (holds (sheetsOf (a .records .now) cs) (a .e)) (not-false _ (c .before .if1 .left))
 
 pub entry-holds-spec : {M : Type 1} → statement M
-entry-holds-spec =
-    tie.close
-    (tie.spec
-    returns
-    holds-requires
-    returns-2)
+entry-holds-spec = tie.close (tie.spec returns holds-requires returns-2)

@@ -30,13 +30,5 @@ returns-3 c =
 pub line-index-spec : {M : Type 1} → statement M
 line-index-spec =
     tie.close
-    (tie.spec
-    (λ c κs. search needs)
-    (λ c κs. search needs)
-    returns
-    find-requires
-    (λ c. search needs)
-    (λ c. search needs)
-    (λ c κs. search needs)
-    returns-2
-    returns-3)
+    (tie.spec (λ c κs. search needs) (λ c κs. search needs) returns find-requires (λ c. search needs) (λ c. search needs) (λ c κs. search needs)
+    returns-2 returns-3)

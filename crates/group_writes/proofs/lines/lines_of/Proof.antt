@@ -1,10 +1,9 @@
 -- Of the entries before i each has its index, and all of them have lines if so far all have.
 use Prim.Native.Nat.{_-_}
 use mathlib.Core.Path.{_≡_, refl, sym, ap, _∙_}
-use mathlib.Core.Bool.{Bool, _&&_, and-true}
+use mathlib.Core.Bool.{_&&_, and-true}
 use mathlib.Core.List.{List}
 use native.Mathlib.Omega.{arith}
-use lib.Dec.{ltb}
 use lib.ListN.{length, length-set}
 use Rattle.types.specs.declared.Entry.{Entry}
 use Rattle.lists.specs.Each as Each
@@ -12,7 +11,7 @@ use Rattle.model.specs.Records as sheet
 use Rattle.model.specs.Records.{hasLine}
 use Rattle.model.specs.WellFormed.{linesHeld}
 use Rattle.sheet_laws.specs.Places.{length-records}
-use Rattle.protocol.specs.Held.{PassedTo, entryAt, pass-first, pass-last}
+use Rattle.protocol.specs.Held.{PassedTo, pass-first, pass-last}
 use Rattle.group_writes.specs.Located.{indicesOf, indices-next, lines-next}
 use borrow.Author.Needs.{needs}
 use Rattle.group_writes.proofs.lines.lines_of.Statement.{statement}
@@ -47,18 +46,5 @@ returns c =
 pub lines-of-spec : {M : Type 1} → statement M
 lines-of-spec =
     tie.close
-    (tie.spec
-    Inv-loop
-    μ-loop
-    (λ c. search needs)
-    (λ c κs. search needs)
-    loop-holds
-    (λ c. search needs)
-    (λ c. search needs)
-    line-index-requires
-    (λ c. search needs)
-    (λ c. search needs)
-    (λ c. search needs)
-    (λ c. search needs)
-    loop-again
-    returns)
+    (tie.spec Inv-loop μ-loop (λ c. search needs) (λ c κs. search needs) loop-holds (λ c. search needs) (λ c. search needs) line-index-requires
+    (λ c. search needs) (λ c. search needs) (λ c. search needs) (λ c. search needs) loop-again returns)

@@ -18,5 +18,4 @@ returns-4 : tie.Need-returns-4
 returns-4 c = rw (accepted-rows, eq-eqb _ _ (c .before .before .before .if1 .left), le-leb _ _ (c .before .before .if2 .left), le-leb _ _ (c .before .if3 .left)) (c .rows-pass .ensures)
 
 pub rows-ok-spec : {M : Type 1} → statement M
-rows-ok-spec =
-    tie.close (tie.spec (λ c. search needs) returns returns-2 returns-3 (λ c κs. search needs) returns-4)
+rows-ok-spec = tie.close (tie.spec (λ c. search needs) returns returns-2 returns-3 (λ c κs. search needs) returns-4)

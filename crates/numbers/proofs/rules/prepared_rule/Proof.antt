@@ -9,5 +9,4 @@ unfolding preparedRule
 returns c = rw (c .is-zero .ensures)
 
 pub prepared-rule-spec : {M : Type 1} → statement M
-prepared-rule-spec =
-    tie.close (tie.spec (λ c. search needs) (λ c. search needs) (λ c. search needs) (λ c κs. search needs) returns)
+prepared-rule-spec = tie.close (tie.spec (λ c. search needs) (λ c. search needs) (λ c. search needs) (λ c κs. search needs) returns)

@@ -15,12 +15,4 @@ returns-3 : tie.Need-returns-3
 returns-3 c = c .unit-fields .ensures ∙ unit-at _ _ (c .before .before .before .if1 .left) (c .before .before .if2 .left)
 
 pub scope-fields-spec : {M : Type 1} → statement M
-scope-fields-spec =
-    tie.close
-    (tie.spec
-    returns
-    (λ c. search needs)
-    returns-2
-    (λ c. search needs)
-    (λ c κs. search needs)
-    returns-3)
+scope-fields-spec = tie.close (tie.spec returns (λ c. search needs) returns-2 (λ c. search needs) (λ c κs. search needs) returns-3)

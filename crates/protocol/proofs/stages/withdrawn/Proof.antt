@@ -14,5 +14,4 @@ returns-2 : tie.Need-returns-2
 returns-2 c = let e : isEmpty (puts (c .before .before .before .args .t)) ≡ false = not-true _ (sym (c .before .before .has-puts .ensures) ∙ not-false _ (c .before .if1 .left)) in rw e (c .moved2 .ensures)
 
 pub withdrawn-spec : {M : Type 1} → statement M
-withdrawn-spec =
-    tie.close (tie.spec (λ c κs. search needs) (λ c κs. search needs) returns (λ c κs. search needs) returns-2)
+withdrawn-spec = tie.close (tie.spec (λ c κs. search needs) (λ c κs. search needs) returns (λ c κs. search needs) returns-2)

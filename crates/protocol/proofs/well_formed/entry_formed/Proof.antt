@@ -9,5 +9,4 @@ unfolding entryFormed
 returns c = rw (c .before .before .before .image-in-range .ensures, c .before .version-formed .ensures, c .put-fits .ensures)
 
 pub entry-formed-spec : {M : Type 1} → statement M
-entry-formed-spec =
-    tie.close (tie.spec (λ c κs. search needs) (λ c κs. search needs) (λ c κs. search needs) returns)
+entry-formed-spec = tie.close (tie.spec (λ c κs. search needs) (λ c κs. search needs) (λ c κs. search needs) returns)

@@ -41,15 +41,4 @@ unfolding verdictFormed
 returns-9 c = phase-none _ _ _ _ _ _ _ _ _ _ (c .match .rest)
 
 pub verdict-formed-spec : {M : Type 1} → statement M
-verdict-formed-spec =
-    tie.close
-    (tie.spec
-    returns
-    returns-2
-    returns-3
-    returns-4
-    returns-5
-    returns-6
-    returns-7
-    returns-8
-    returns-9)
+verdict-formed-spec = tie.close (tie.spec returns returns-2 returns-3 returns-4 returns-5 returns-6 returns-7 returns-8 returns-9)

@@ -17,12 +17,4 @@ returns-3 : tie.Need-returns-3
 returns-3 c = let a = c .before .before .before .before .before .before .args in called-by (a .kind) (a .numbers) true true (not-false _ (c .before .before .before .if1 .left)) (eq-eqb _ _ (c .if2 .left ∙ c .before .before .arity .ensures))
 
 pub called-spec : {M : Type 1} → statement M
-called-spec =
-    tie.close
-    (tie.spec
-    (λ c κs. search needs)
-    returns
-    (λ c κs. search needs)
-    (λ c κs. search needs)
-    returns-2
-    returns-3)
+called-spec = tie.close (tie.spec (λ c κs. search needs) returns (λ c κs. search needs) (λ c κs. search needs) returns-2 returns-3)

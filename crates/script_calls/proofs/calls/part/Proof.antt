@@ -16,12 +16,4 @@ returns-2 : tie.Need-returns-2
 returns-2 c = let a = c .before .before .before .before .before .before .args in c .lookup .ensures ∙ (ap (lookedUp (a .records .now)) (c .before .key-at .ensures) ∙ part-asked (a .c) (a .records .now) (sym (c .before .before .before .asks-line .ensures) ∙ not-false _ (c .before .before .if1 .left)))
 
 pub part-spec : {M : Type 1} → statement M
-part-spec =
-    tie.close
-    (tie.spec
-    (λ c κs. search needs)
-    (λ c. search needs)
-    returns
-    (λ c κs. search needs)
-    (λ c κs. search needs)
-    returns-2)
+part-spec = tie.close (tie.spec (λ c κs. search needs) (λ c. search needs) returns (λ c κs. search needs) (λ c κs. search needs) returns-2)

@@ -30,13 +30,4 @@ returns-4 c =
     check-good (a .records .now) (a .coordinator .now) (sym (c .before .before .before .before .before .records-ok .ensures) ∙ not-false _ (c .before .before .before .before .if1 .left)) (sym (c .before .before .before .coordinator-ok .ensures) ∙ not-false _ (c .before .before .if2 .left)) (sym (c .before .all-issued .ensures) ∙ not-false _ (c .if3 .left))
 
 pub check-spec : {M : Type 1} → statement M
-check-spec =
-    tie.close
-    (tie.spec
-    (λ c κs. search needs)
-    returns
-    (λ c κs. search needs)
-    returns-2
-    all-issued-requires
-    returns-3
-    returns-4)
+check-spec = tie.close (tie.spec (λ c κs. search needs) returns (λ c κs. search needs) returns-2 all-issued-requires returns-3 returns-4)

@@ -17,5 +17,4 @@ returns c =
     ∙ search-is (a .records .now) (a .key) (c .before .before .before .before .pre .0) (c .before .before .before .before .pre .1))
 
 pub find-spec : {M : Type 1} → statement M
-find-spec =
-    tie.close (tie.spec (λ c κs. search needs) (λ c. search needs) (λ c κs. search needs) returns)
+find-spec = tie.close (tie.spec (λ c κs. search needs) (λ c. search needs) (λ c κs. search needs) returns)

@@ -16,11 +16,4 @@ unfolding layout
 returns c = c .before .write-row .ensures ∙ ap (lineText keyLayout) (c .before .before .before .before .numbers-of .ensures)
 
 pub key-line-spec : {M : Type 1} → statement M
-key-line-spec =
-    tie.close
-    (tie.spec
-    (λ c κs. search needs)
-    (λ c. search needs)
-    (λ c. search needs)
-    write-row-requires
-    returns)
+key-line-spec = tie.close (tie.spec (λ c κs. search needs) (λ c. search needs) (λ c. search needs) write-row-requires returns)

@@ -1,9 +1,5 @@
 -- By whether there is a group more.
-use mathlib.Core.Path.{sym, ap, _∙_}
-use mathlib.Core.Bool.{Bool, cond}
-use Prim.Native.Nat.{ℕ, _+_}
-use native.Mathlib.Omega.{arith}
-use lib.Dec.{ltb}
+use mathlib.Core.Path.{sym}
 use borrow.Author.Tests.{lt-ltb, le-ltb}
 use Rattle.model.specs.Steps.{nextGroup}
 use borrow.Author.Needs.{needs}
@@ -19,11 +15,4 @@ unfolding nextGroup
 returns-2 c = λ s e. rw (sym e, le-ltb _ _ (c .before .if1 .left)) (c .to-phase .ensures)
 
 pub next-group-spec : {M : Type 1} → statement M
-next-group-spec =
-    tie.close
-    (tie.spec
-    (λ c. search needs)
-    (λ c κs. search needs)
-    returns
-    (λ c κs. search needs)
-    returns-2)
+next-group-spec = tie.close (tie.spec (λ c. search needs) (λ c κs. search needs) returns (λ c κs. search needs) returns-2)

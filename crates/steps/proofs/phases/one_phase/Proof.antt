@@ -1,7 +1,7 @@
 -- By whether the conditions hold.
 use mathlib.Core.Path.{refl, sym, _∙_}
 use borrow.Author.Needs.{needs}
-use Rattle.steps.specs.Ready.{records-accepted, coordinator-accepted, few, may-write}
+use Rattle.steps.specs.Ready.{records-accepted, coordinator-accepted, may-write}
 use Rattle.steps.specs.Stepped.{wrote-nothing, wrote-lines}
 use Rattle.model.specs.Writes.{decisionsAfter}
 use Rattle.steps.specs.Cases.{stepped-as, one-phase-fails, one-phase-commits}
@@ -26,12 +26,5 @@ returns-2 c = stepped-as (one-phase-fails _ _ (sym (c .before .before .group-hol
 pub one-phase-spec : {M : Type 1} → statement M
 one-phase-spec =
     tie.close
-    (tie.spec
-    group-holds-requires
-    commit-group-requires
-    (λ c κs. search needs)
-    (λ c. search needs)
-    returns
-    (λ c κs. search needs)
-    (λ c. search needs)
+    (tie.spec group-holds-requires commit-group-requires (λ c κs. search needs) (λ c. search needs) returns (λ c κs. search needs) (λ c. search needs)
     returns-2)

@@ -9,7 +9,4 @@ unfolding onePhaseAllowed
 returns c = λ s e. rw (sym e)
 
 pub one-phase-allowed-spec : {M : Type 1} → statement M
-one-phase-allowed-spec =
-    tie.close
-    (tie.spec
-    returns)
+one-phase-allowed-spec = tie.close (tie.spec returns)

@@ -45,19 +45,5 @@ returns-4 c = stepped-as (open-one-phase _ _ (not-true _ (sym (c .before .before
 pub open-spec : {M : Type 1} → statement M
 open-spec =
     tie.close
-    (tie.spec
-    has-puts-requires
-    (λ c. search needs)
-    (λ c. search needs)
-    part-validates-end
-    validates-requires
-    (λ c κs. search needs)
-    returns
-    (λ c κs. search needs)
-    returns-2
-    (λ c κs. search needs)
-    (λ c κs. search needs)
-    returns-3
-    one-phase-requires
-    (λ c. search needs)
-    returns-4)
+    (tie.spec has-puts-requires (λ c. search needs) (λ c. search needs) part-validates-end validates-requires (λ c κs. search needs) returns
+    (λ c κs. search needs) returns-2 (λ c κs. search needs) (λ c κs. search needs) returns-3 one-phase-requires (λ c. search needs) returns-4)

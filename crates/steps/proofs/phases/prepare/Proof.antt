@@ -47,16 +47,5 @@ returns-2 c =
 pub prepare-spec : {M : Type 1} → statement M
 prepare-spec =
     tie.close
-    (tie.spec
-    group-holds-requires
-    (λ c κs. search needs)
-    (λ c. search needs)
-    returns
-    prepare-group-requires
-    (λ c. search needs)
-    (λ c. search needs)
-    part-after-prepare-end
-    after-prepare-requires
-    next-group-requires
-    (λ c. search needs)
-    returns-2)
+    (tie.spec group-holds-requires (λ c κs. search needs) (λ c. search needs) returns prepare-group-requires (λ c. search needs) (λ c. search needs)
+    part-after-prepare-end after-prepare-requires next-group-requires (λ c. search needs) returns-2)

@@ -48,14 +48,5 @@ returns-2 c =
 pub validate-spec : {M : Type 1} → statement M
 validate-spec =
     tie.close
-    (tie.spec
-    (λ c. search needs)
-    (λ c. search needs)
-    part-letters-end
-    to-validate-requires
-    index-of-requires
-    holds-requires
-    (λ c κs. search needs)
-    returns
-    next-entry-requires
-    returns-2)
+    (tie.spec (λ c. search needs) (λ c. search needs) part-letters-end to-validate-requires index-of-requires holds-requires (λ c κs. search needs)
+    returns next-entry-requires returns-2)

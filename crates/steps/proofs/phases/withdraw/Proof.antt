@@ -35,17 +35,5 @@ returns-3 c = record {
 pub withdraw-spec : {M : Type 1} → statement M
 withdraw-spec =
     tie.close
-    (tie.spec
-    (λ c κs. search needs)
-    (λ c. search needs)
-    (λ c κs. search needs)
-    withdrawn-requires
-    (λ c. search needs)
-    (λ c. search needs)
-    withdrawn-requires-2
-    (λ c. search needs)
-    returns
-    (λ c. search needs)
-    returns-2
-    (λ c. search needs)
-    returns-3)
+    (tie.spec (λ c κs. search needs) (λ c. search needs) (λ c κs. search needs) withdrawn-requires (λ c. search needs) (λ c. search needs)
+    withdrawn-requires-2 (λ c. search needs) returns (λ c. search needs) returns-2 (λ c. search needs) returns-3)

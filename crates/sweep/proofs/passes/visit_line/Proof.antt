@@ -15,10 +15,4 @@ returns c =
     line-visited (a .records .now) (a .coordinator .now) (a .i) (a .clock) (c .before .before .before .before .before .before .before .before .before .pre .0) (c .before .before .before .before .visit-line .ensures)
 
 pub visit-line-spec : {M : Type 1} → statement M
-visit-line-spec =
-    tie.close
-    (tie.spec
-    visit-line-requires
-    (λ c. search needs)
-    (λ c. search needs)
-    returns)
+visit-line-spec = tie.close (tie.spec visit-line-requires (λ c. search needs) (λ c. search needs) returns)
