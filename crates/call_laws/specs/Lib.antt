@@ -16,6 +16,7 @@ pub mod Keeping
 pub mod Closure
 pub mod Lifting
 pub mod Accepted
+pub mod Lent
 pub mod ByPlace
 pub mod Turns
 pub mod ByteUnits
