@@ -1,21 +1,12 @@
 -- What is asked before a call looks into a transaction, as one list of conditions: its refusal is the call's, and a transaction that passes has the rest of the
 -- call's conditions before it.
-use Prim.Native.Nat.{ℕ, _≤_, _<_}
-use mathlib.Core.Path.{_≡_, refl, sym, ap, ap₂, _∙_, subst}
-use mathlib.Core.Bool.{Bool, true, false, _&&_, not, cond, true≢false}
-use mathlib.Core.List.{List, [], _∷_}
-use native.Mathlib.Omega.{arith}
-use lib.ListN.{length, take, drop, length-take}
-use lib.Dec.{eqb, ltb}
-use borrow.Author.Tests.{not-false, eqb-true, ltb-true}
+use Rattle.lists.specs.Basics.{_≡_, refl, sym, ap, ap₂, subst, _∙_, ℕ, _≤_, _<_, eqb, ltb, Bool, true, false, not, _&&_, cond, true≢false, List, [], _∷_}
+use Rattle.lists.specs.Basics.{length, take, drop, length-take, arith, eqb-true, ltb-true, not-false}
 use mir.Val.{Val}
 use denote.Laws.{Is}
 use denote.Struct.Declared.{row}
 use Rattle.types.proofs.Transaction.{the-type}
-use Rattle.types.specs.declared.AtomicityUnit.{AtomicityUnit}
-use Rattle.types.specs.declared.Entry.{Entry}
-use Rattle.types.specs.declared.Key.{Key}
-use Rattle.types.specs.declared.Transaction.{Transaction}
+use Rattle.model.specs.Types.{Key, AtomicityUnit, Entry, Transaction}
 use Rattle.model.specs.Records.{records, keyInRange}
 use Rattle.model.specs.Coordinator.{coordinatorOf}
 use Rattle.model.specs.Refusals.{Condition, refuse, refusalOf}

@@ -1,15 +1,8 @@
 -- The call by place, from what the two functions that it calls ensure: where the place is listed, and where it isn't.
-use Prim.Native.Nat.{ℕ, _+_, _≤_}
-use mathlib.Core.Path.{_≡_, refl, sym, ap, _∙_}
-use mathlib.Core.Bool.{Bool, true, false, cond}
-use mathlib.Core.List.{List}
-use native.Mathlib.Omega.{arith}
-use lib.Dec.{eqb}
-use lib.ListN.{length, set}
+use Rattle.lists.specs.Basics.{_≡_, refl, sym, ap, _∙_, ℕ, _+_, _≤_, eqb, Bool, true, false, cond, List, length, set, arith, ne-eqb}
 use lib.Seq.{set-getD}
-use borrow.Author.Tests.{ne-eqb}
 use Rattle.lists.specs.Each.{all}
-use Rattle.types.specs.declared.Transaction.{Transaction}
+use Rattle.model.specs.Types.{Transaction}
 use Rattle.model.specs.Refusals.{refusalOf, lastRefusal}
 use Rattle.model.specs.Results.{advance, Answer, Result, refused, made}
 use Rattle.model.specs.SheetCalls.{checkConditions}

@@ -1,12 +1,6 @@
 -- What the exported calls answer, as one number: what an accepted call gives, or 1000 and the refusal.
-use Prim.Native.Nat.{ℕ, _+_, _≤_}
-use mathlib.Core.Path.{_≡_, refl}
-use mathlib.Core.Bool.{Bool, false, cond}
-use mathlib.Core.List.{List}
-use native.Mathlib.Omega.{arith}
-use lib.Dec.{eqb}
-use borrow.Author.Tests.{ne-eqb}
-use Rattle.types.specs.declared.Key.{Key}
+use Rattle.lists.specs.Basics.{_≡_, refl, ℕ, _+_, _≤_, eqb, Bool, false, cond, List, arith, ne-eqb}
+use Rattle.model.specs.Types.{Key}
 use Rattle.model.specs.Refusals.{lastRefusal}
 use Rattle.model.specs.SheetCalls.{checkConditions}
 use Rattle.model.specs.Results.{begin, visit, Answer, heldAfter, Result, refused, made, unless}

@@ -1,14 +1,9 @@
 -- What is known of two sheets once the check has let them pass, and what a call on such sheets answers and leaves, as one statement about its result: refused,
 -- or made with a write.
-use Prim.Native.Nat.{ℕ, _≤_}
-use mathlib.Core.Path.{_≡_, refl, sym, ap, _∙_, subst}
-use mathlib.Core.Bool.{Bool, true, false, cond}
-use mathlib.Core.List.{List, [], _∷_, _++_}
-use lib.Dec.{eqb}
-use borrow.Author.Tests.{ne-eqb, leb-true}
+use Rattle.lists.specs.Basics.{_≡_, refl, sym, ap, subst, _∙_, ℕ, _≤_, eqb, Bool, true, false, cond, List, [], _∷_, _++_, leb-true, ne-eqb}
 use Rattle.lists.specs.Each.{all}
 use Rattle.lists.specs.Tests.{and-fst, and-snd}
-use Rattle.types.specs.declared.Record.{Record}
+use Rattle.model.specs.Types.{Record}
 use Rattle.model.specs.Records.{records, recordsText, recordsAccepted}
 use Rattle.model.specs.Coordinator.{Coordinator, coordinatorOf, coordinatorText, coordinatorAccepted}
 use Rattle.model.specs.Refusals.{Condition, refusalOf}

@@ -1,18 +1,9 @@
 -- What holds of a choice holds of each of its cases: one rule for each combinator of the specification, with the case's equation at hand.
-use Prim.Native.Nat.{ℕ, _≤_}
-use mathlib.Core.Path.{_≡_, refl}
-use mathlib.Core.Bool.{Bool, true, false, cond}
-use mathlib.Core.List.{List, [], _∷_}
-use native.Mathlib.Omega.{arith}
-use lib.Dec.{eqb, leb}
-use borrow.Author.Tests.{eqb-true, eqb-false, leb-true}
+use Rattle.lists.specs.Basics.{_≡_, refl, ℕ, _≤_, eqb, leb, Bool, true, false, cond, List, [], _∷_, arith, eqb-true, eqb-false, leb-true}
 use Rattle.lists.specs.Each.{all}
 use Rattle.lists.specs.Tests.{and-fst, and-snd, choose-by}
-use Rattle.types.specs.declared.Decision.{Decision}
+use Rattle.model.specs.Types.{Key, Record, Decision, Recovery}
 use Rattle.types.specs.declared.Decision.the-variants.{Undecided, Committed, Aborted}
-use Rattle.types.specs.declared.Key.{Key}
-use Rattle.types.specs.declared.Record.{Record}
-use Rattle.types.specs.declared.Recovery.{Recovery}
 use Rattle.types.specs.declared.Recovery.the-variants.{Stays, Forward, Back, Again, Busy}
 use Rattle.model.specs.Records.{lineOf}
 use Rattle.model.specs.Refusals.{Condition, refuse, refusalOf}

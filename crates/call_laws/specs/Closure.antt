@@ -1,42 +1,17 @@
 -- T4: after an accepted call the sheets are good and the transaction that it returns is well formed; after a refused one nothing has changed.
-use Prim.Native.Nat.{ℕ, suc, _+_, _^_, _≤_, _<_}
-use mathlib.Core.Path.{_≡_, refl, sym, ap, _∙_}
-use mathlib.Core.Bool.{Bool, true, false, _&&_, _||_, not, true≢false}
-use mathlib.Core.List.{List}
-use mathlib.Core.Option.{some, Option·none-ne-some}
-use native.Mathlib.Omega.{arith}
-use native.Mathlib.Numerals.{add-one}
-use lib.ListN.{length, take, getD, set}
-use lib.Dec.{eqb, leb}
-use borrow.Author.Tests.{not-false, eqb-true, le-leb, leb-false}
+use Rattle.lists.specs.Basics.{_≡_, refl, sym, ap, _∙_, ℕ, suc, _+_, _^_, _≤_, _<_, eqb, leb, Bool, true, false, not, _&&_, _||_, true≢false, List, length}
+use Rattle.lists.specs.Basics.{take, getD, set, some, Option·none-ne-some, arith, add-one, eqb-true, leb-false, le-leb, not-false}
 use Rattle.lists.specs.Each.{all}
 use Rattle.lists.specs.All.{all-at}
 use Rattle.lists.specs.Tests.{and-both, tests, choose-by}
-use Rattle.types.specs.declared.AtomicityUnit.{AtomicityUnit}
-use Rattle.types.specs.declared.Key.{Key}
-use Rattle.types.specs.declared.Columns.{Columns}
-use Rattle.types.specs.declared.Entry.{Entry}
-use Rattle.types.specs.declared.Record.{Record}
-use Rattle.types.specs.declared.Transaction.{Transaction}
-use Rattle.types.specs.declared.Found.{Found}
-use Rattle.types.specs.declared.Recovery.{Recovery}
+use Rattle.model.specs.Types.{Key, Record, AtomicityUnit, Found, Columns, Entry, Transaction, Recovery}
 use Rattle.types.specs.declared.Recovery.the-variants.{Stays, Forward, Back, Again, Busy}
 use Rattle.model.specs.Records.{isZero, sameKey, hasLine, lineOf, byFound}
 use Rattle.model.specs.Coordinator.{withIssued}
 use Rattle.model.specs.Transactions.{withdrawPhase, noVerdict, held, noEntry, heldAt, entryAs, withPut, moved, withEntry}
 use Rattle.model.specs.Images.{isPrepared, rolledForward}
 use Rattle.model.specs.Writes.{Sheets, sheetsGood, nothing, issue, decisionsAfter, apply}
-use Rattle.model.specs.WellFormed.{
-  columnsInRange,
-  imageInRange,
-  putFits,
-  entryFormed,
-  distinctKeys,
-  placeFormed,
-  verdictFormed,
-  linesHeld,
-  wellFormed,
-}
+use Rattle.model.specs.WellFormed.{columnsInRange, imageInRange, putFits, entryFormed, distinctKeys, placeFormed, verdictFormed, linesHeld, wellFormed}
 use Rattle.model.specs.Visits.{meeting, isAgain, isBusy, recovered, recoveryWrite}
 use Rattle.model.specs.Refusals.{refusalOf}
 use Rattle.model.specs.Results.{Call, begin, read, put, advance, abort, visit, returned, returns}
@@ -55,7 +30,8 @@ use Rattle.call_laws.specs.Sheets.{GoodSheets, good-parts, parts-good, F
 use Rattle.call_laws.specs.Transactions.{Body, Stage, parts-well-formed, body-moved, verdict-at, to-withdraw}
 use Rattle.call_laws.specs.Steps.{Closed, step-closed}
 use Rattle.call_laws.specs.Entries.{getD-first, all-more, all-replaced, distinct-more, distinct-replaced}
-use Rattle.call_laws.specs.Keeping.{Keeps, formed-after, keeps-refused, keeps-made, strictly, taken-parts, line-good, less-than-eight, not-held, open-again}
+use Rattle.call_laws.specs.Keeping.{Keeps, formed-after, keeps-refused, keeps-made, strictly, taken-parts, line-good, less-than-eight, not-held}
+use Rattle.call_laws.specs.Keeping.{open-again}
 
 module _ (s : Sheets) (good : GoodSheets s) where
   -- Begin.

@@ -1,16 +1,10 @@
 -- Entries held by a transaction: one more held, one replaced. Each goes by induction on the entries.
-use Prim.Native.Nat.{ℕ, zero, suc, _<_}
-use mathlib.Core.Path.{_≡_, refl, ap, ap₂}
-use mathlib.Core.Bool.{Bool, true, false, _&&_, _||_, not}
-use mathlib.Core.List.{List, [], _∷_}
-use native.Mathlib.Omega.{arith}
-use lib.ListN.{length, take, getD, set}
-use borrow.Author.Tests.{not-true}
+use Rattle.lists.specs.Basics.{_≡_, refl, ap, ap₂, ℕ, zero, suc, _<_, Bool, true, false, not, _&&_, _||_, List, [], _∷_, length, take, getD, set, arith}
+use Rattle.lists.specs.Basics.{not-true}
 use Rattle.lists.specs.Each.{all, any}
 use Rattle.lists.specs.Chosen.{or-fst, or-snd}
 use Rattle.lists.specs.Tests.{and-fst, and-snd, and-both}
-use Rattle.types.specs.declared.Key.{Key}
-use Rattle.types.specs.declared.Entry.{Entry}
+use Rattle.model.specs.Types.{Key, Entry}
 use Rattle.model.specs.Records.{sameKey}
 use Rattle.model.specs.WellFormed.{distinctKeys}
 use Rattle.call_laws.specs.Keys.{same-key-flip, hasKey}

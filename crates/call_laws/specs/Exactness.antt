@@ -1,12 +1,7 @@
 -- T1: for each call the refusal given is the first of its row whose condition holds, in the order of asking, and after it both sheets are as they were.
 -- The first condition that holds is the first of the order, since each call's list keeps it.
-use Prim.Native.Nat.{ℕ, _≤_}
-use mathlib.Core.Path.{_≡_, refl, sym, ap, _∙_}
-use mathlib.Core.Bool.{Bool, true, false, _&&_, _||_, not, cond}
-use mathlib.Core.List.{List, [], _∷_, map}
-use native.Mathlib.Omega.{arith}
-use lib.Dec.{eqb, leb}
-use borrow.Author.Tests.{eqb-true, eq-eqb, ne-eqb, le-leb, leb-true}
+use Rattle.lists.specs.Basics.{_≡_, refl, sym, ap, _∙_, ℕ, _≤_, eqb, leb, Bool, true, false, not, _&&_, _||_, cond, List, [], _∷_, map, arith, eqb-true}
+use Rattle.lists.specs.Basics.{leb-true, eq-eqb, ne-eqb, le-leb}
 use Rattle.lists.specs.Each.{all, any}
 use Rattle.lists.specs.All.{map-map, all-map, all-weaken}
 use Rattle.lists.specs.Tests.{and-fst, and-snd, and-both, choose-by}

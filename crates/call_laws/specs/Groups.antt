@@ -1,20 +1,11 @@
 -- Groups: keys whose groups have one place agree in the fields of their unit, and every put is in a group. The places count the scopes below, so that a
 -- scope below another has a lower place.
-use Prim.Native.Nat.{ℕ, _<_}
-use mathlib.Core.Path.{_≡_, refl, sym, ap, _∙_}
-use mathlib.Core.Bool.{Bool, true, false, cond}
-use mathlib.Core.List.{List, [], _∷_}
-use native.Mathlib.Omega.{arith}
-use lib.ListN.{length}
-use lib.Dec.{eqb}
-use borrow.Author.Tests.{eqb-true}
+use Rattle.lists.specs.Basics.{_≡_, refl, sym, ap, _∙_, ℕ, _<_, eqb, Bool, true, false, cond, List, [], _∷_, length, arith, eqb-true}
 use Rattle.lists.specs.Bytes.{eqList, eqList-refl}
 use Rattle.lists.specs.Each.{any, count, less}
 use Rattle.lists.specs.Order.{less-irrefl, less-trans, less-total}
 use Rattle.lists.specs.Chosen.{or-else, or-left, or-right, count-less, count-all}
-use Rattle.types.specs.declared.AtomicityUnit.{AtomicityUnit}
-use Rattle.types.specs.declared.Key.{Key}
-use Rattle.types.specs.declared.Entry.{Entry}
+use Rattle.model.specs.Types.{Key, AtomicityUnit, Entry}
 use Rattle.model.specs.Records.{sameKey}
 use Rattle.model.specs.Groups.{scope, addScope, scopes, groupCount, groupPlace, group}
 use Rattle.call_laws.specs.Keys.{same-key, hasKey, chosen-key}

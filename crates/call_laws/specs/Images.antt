@@ -1,18 +1,11 @@
 -- A record that keeps the rules keeps them when it is prepared, committed in one phase, rolled forward or back; and what rolling a prepared record gives.
 -- Each goes part by part, the rule of the new state from that of the old.
-use Prim.Native.Nat.{ℕ, _+_, _≤_}
-use mathlib.Core.Path.{_≡_, refl, sym, ap, _∙_}
-use mathlib.Core.Bool.{Bool, true, false, _||_, cond, true≢false}
-use native.Mathlib.Omega.{arith}
-use lib.Dec.{eqb, leb}
-use borrow.Author.Tests.{eqb-true, eqb-false, eq-eqb, ne-eqb, le-leb, leb-true}
+use Rattle.lists.specs.Basics.{_≡_, refl, sym, ap, _∙_, ℕ, _+_, _≤_, eqb, leb, Bool, true, false, _||_, cond, true≢false, arith, eqb-true, eqb-false, leb-true}
+use Rattle.lists.specs.Basics.{eq-eqb, ne-eqb, le-leb}
 use Rattle.lists.specs.Tests.{choose-by, and-both, tests}
 use Rattle.lists.specs.Chosen.{or-else, or-right}
-use Rattle.types.specs.declared.State.{State}
+use Rattle.model.specs.Types.{Key, Image, Record, State}
 use Rattle.types.specs.declared.State.the-variants.{Absent, Committed, Prepared}
-use Rattle.types.specs.declared.Key.{Key}
-use Rattle.types.specs.declared.Image.{Image}
-use Rattle.types.specs.declared.Record.{Record}
 use Rattle.model.specs.Records.{byState, isZero, absentRule, committedRule, preparedRule, stateRule, noImage}
 use Rattle.model.specs.Images.{isPrepared, Change, writtenImage, prepared, committed, rolledForward, beforeState, rolledBack}
 use Rattle.model.specs.WellFormed.{imageInRange, columnsInRange}

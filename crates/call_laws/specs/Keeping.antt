@@ -1,18 +1,9 @@
 -- What a call must keep, and what a write leaves: units, keys, more numbers issued, and with them a transaction's rules.
-use Prim.Native.Nat.{ℕ, _≤_, _<_}
-use mathlib.Core.Path.{_≡_, refl, sym, ap, _∙_, subst}
-use mathlib.Core.Bool.{true, false, not}
-use mathlib.Core.List.{List, _∷_}
-use mathlib.Core.Option.{some, Option·none-ne-some, Option·some-injective}
-use native.Mathlib.Omega.{arith}
-use lib.Dec.{eqb, leb}
-use borrow.Author.Tests.{not-false, eqb-true, eqb-false, le-leb, leb-true, leb-false}
+use Rattle.lists.specs.Basics.{_≡_, refl, sym, ap, subst, _∙_, ℕ, _≤_, _<_, eqb, leb, true, false, not, List, _∷_, some, Option·none-ne-some}
+use Rattle.lists.specs.Basics.{Option·some-injective, arith, eqb-true, eqb-false, leb-true, leb-false, le-leb, not-false}
 use Rattle.lists.specs.All.{all-weaken}
 use Rattle.lists.specs.Tests.{tests}
-use Rattle.types.specs.declared.AtomicityUnit.{AtomicityUnit}
-use Rattle.types.specs.declared.Key.{Key}
-use Rattle.types.specs.declared.Entry.{Entry}
-use Rattle.types.specs.declared.Transaction.{Transaction}
+use Rattle.model.specs.Types.{Key, AtomicityUnit, Entry, Transaction}
 use Rattle.model.specs.Records.{sameKey, hasLine, lineOf}
 use Rattle.model.specs.Coordinator.{Coordinator, withIssued}
 use Rattle.model.specs.Refusals.{Condition, refuse, refusalOf}

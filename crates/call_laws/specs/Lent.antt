@@ -1,12 +1,7 @@
 -- Sheets that a call is lent and never writes, for every input: the definition leaves them as they were, so that the contracts of begin, put and abort, which say
 -- only what they answer and what begin does to the coordinator sheet, settle both sheets too. A refused call leaves them, and so does the write of an accepted one.
-use Prim.Native.Nat.{ℕ}
-use mathlib.Core.Path.{_≡_, refl, sym}
-use mathlib.Core.Bool.{Bool}
-use mathlib.Core.List.{List}
-use Rattle.types.specs.declared.Key.{Key}
-use Rattle.types.specs.declared.Columns.{Columns}
-use Rattle.types.specs.declared.Transaction.{Transaction}
+use Rattle.lists.specs.Basics.{_≡_, refl, sym, ℕ, Bool, List}
+use Rattle.model.specs.Types.{Key, Columns, Transaction}
 use Rattle.model.specs.Refusals.{Condition}
 use Rattle.model.specs.SheetCalls.{checkConditions}
 use Rattle.model.specs.Writes.{nothing, issue, lineAfter}

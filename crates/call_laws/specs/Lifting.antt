@@ -1,11 +1,5 @@
 -- The calls on bytes are the calls on decoded sheets: on accepted bytes the answer is the same, and what is written, encoded, says the sheets after the call.
-use Prim.Native.Nat.{ℕ}
-use mathlib.Core.Path.{_≡_, refl, sym, ap, _∙_, subst}
-use mathlib.Core.Bool.{true, _&&_, not, cond}
-use mathlib.Core.List.{[]}
-use native.Mathlib.Omega.{arith}
-use lib.Dec.{eqb}
-use borrow.Author.Tests.{not-false}
+use Rattle.lists.specs.Basics.{_≡_, refl, sym, ap, subst, _∙_, ℕ, eqb, true, not, _&&_, cond, [], arith, not-false}
 use Rattle.lists.specs.Each.{all}
 use Rattle.lists.specs.Tests.{and-fst, and-snd, and-both}
 use Rattle.model.specs.Records.{records, recordsText, recordsGood, recordsAccepted}

@@ -1,35 +1,14 @@
 -- Lines by their keys: a write keeps keys, so that order and look-up stay; on a sheet in order the line of a record's key is that record.
-use Prim.Native.Nat.{ℕ}
-use mathlib.Core.Path.{_≡_, refl, sym, ap, ap₂, _∙_}
-use mathlib.Core.Bool.{Bool, true, false, _&&_, _||_, cond, true≢false}
-use mathlib.Core.List.{List, [], _∷_, map}
-use mathlib.Core.Option.{Option, none, some}
+use Rattle.lists.specs.Basics.{_≡_, refl, sym, ap, ap₂, _∙_, ℕ, Bool, true, false, _&&_, _||_, cond, true≢false, List, [], _∷_, map, Option, none, some}
 use Rattle.lists.specs.Each.{all, any}
 use Rattle.lists.specs.All.{map-unmoved}
 use Rattle.lists.specs.Order.{less-irrefl, less-trans}
 use Rattle.lists.specs.Tests.{and-fst, and-snd, and-both, choose-by}
 use Rattle.lists.specs.Chosen.{or-else, or-fst, or-snd, or-left, or-right}
-use Rattle.types.specs.declared.Decision.{Decision}
-use Rattle.types.specs.declared.Key.{Key}
-use Rattle.types.specs.declared.Record.{Record}
-use Rattle.types.specs.declared.Entry.{Entry}
+use Rattle.model.specs.Types.{Key, Record, Decision, Entry}
 use Rattle.model.specs.Records.{keyNumbers, keyLess, inOrder, rising, sameKey, found, hasLine, absentAt, lineOf}
 use Rattle.model.specs.Images.{preparedBy, prepared, committed, rolledForward, rolledBack, changeOf}
-use Rattle.model.specs.Writes.{
-  Write,
-  nothing,
-  issue,
-  decide,
-  commit,
-  prepare,
-  forward,
-  back,
-  entryFor,
-  byEntry,
-  isOf,
-  lineAfter,
-  linesAfter,
-}
+use Rattle.model.specs.Writes.{Write, nothing, issue, decide, commit, prepare, forward, back, entryFor, byEntry, isOf, lineAfter, linesAfter}
 use Rattle.sheet_laws.specs.Search.{some-found}
 use Rattle.call_laws.specs.Keys.{same-key, same-key-refl, other-key}
 

@@ -1,49 +1,22 @@
 -- Writes by place: the line of a key found on a sheet in order, replaced in the bytes, is the line of that key replaced on the decoded sheet; likewise a
 -- decision and the count of numbers issued.
-use Prim.Native.Nat.{ℕ, zero, suc, _*_, _/_, _≤_, _<_}
-use mathlib.Core.Path.{_≡_, refl, sym, ap, ap₂, _∙_}
-use mathlib.Core.Bool.{Bool, true, false, cond, true≢false}
-use mathlib.Core.List.{List, [], _∷_, map}
-use native.Mathlib.Omega.{arith}
-use lib.ListN.{length, take, drop, getD, set}
+use Rattle.lists.specs.Basics.{_≡_, refl, sym, ap, ap₂, _∙_, ℕ, zero, suc, _*_, _/_, _≤_, _<_, Bool, true, false, cond, true≢false, List, [], _∷_, map, length}
+use Rattle.lists.specs.Basics.{take, drop, getD, set, arith}
 use Rattle.lists.specs.Each.{any}
 use Rattle.lists.specs.Pieces.{over}
 use Rattle.lists.specs.Chosen.{or-left, or-right, or-fst, or-snd}
 use Rattle.lists.specs.Tests.{and-snd}
 use Rattle.decimal.specs.Field.{fieldText}
-use Rattle.types.specs.declared.Decision.{Decision}
-use Rattle.types.specs.declared.Key.{Key}
-use Rattle.types.specs.declared.Record.{Record}
-use Rattle.types.specs.declared.Found.the-variants.{At}
+use Rattle.model.specs.Types.{Key, Record, Decision, At}
 use Rattle.model.specs.Layouts.{recordBytes}
-use Rattle.model.specs.Records.{
-  noRecord,
-  recordText,
-  recordsText,
-  records,
-  recordsAccepted,
-  goodAlone,
-  inOrder,
-  rising,
-  sameKey,
-  found,
-  lineOf,
-}
+use Rattle.model.specs.Records.{noRecord, recordText, recordsText, records, recordsAccepted, goodAlone, inOrder, rising, sameKey, found, lineOf}
 use Rattle.model.specs.Coordinator.{coordinatorOf, coordinatorText, coordinatorAccepted, withDecision, withIssued}
 use Rattle.sheet_laws.specs.Records.{sheet-written-read, good-ranged}
 use Rattle.sheet_laws.specs.Places.{whole-lines, length-records, records-over, accepted-over}
 use Rattle.sheet_laws.specs.Search.{first-at}
 use Rattle.sheet_laws.specs.Coordinator.{decisionText, coordinator-written-read, bounds}
-use Rattle.sheet_laws.specs.Decisions.{
-  Accepted,
-  accepted-parts,
-  accepted-length,
-  length-decisions,
-  coordinator-over,
-  accepted-decided,
-  coordinator-counted,
-  accepted-raised,
-}
+use Rattle.sheet_laws.specs.Decisions.{Accepted, accepted-parts, accepted-length, length-decisions, coordinator-over, accepted-decided, coordinator-counted}
+use Rattle.sheet_laws.specs.Decisions.{accepted-raised}
 use Rattle.call_laws.specs.Keys.{same-key, same-key-refl}
 use Rattle.call_laws.specs.Lines.{listsKey, apart}
 

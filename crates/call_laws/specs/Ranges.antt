@@ -1,31 +1,11 @@
 -- A record's ranges in parts: key, image, before image and clock. The layout is those of its parts one after another.
-use Prim.Native.Nat.{ℕ, _≤_}
-use mathlib.Core.Path.{_≡_, refl, sym, ap, _∙_}
-use mathlib.Core.Bool.{Bool, true, _&&_, and-assoc}
-use mathlib.Core.List.{List, [], _∷_, _++_}
-use native.Mathlib.Omega.{arith}
-use lib.ListN.{length}
-use lib.Dec.{leb}
-use borrow.Author.Tests.{le-leb}
+use Rattle.lists.specs.Basics.{_≡_, refl, sym, ap, _∙_, ℕ, _≤_, leb, Bool, true, _&&_, and-assoc, List, [], _∷_, _++_, length, arith, le-leb}
 use Rattle.lists.specs.Tests.{and-fst, and-snd, and-both, tests}
-use Rattle.types.specs.declared.State.{State}
+use Rattle.model.specs.Types.{Image, Record, State, Column, StateWord}
 use Rattle.types.specs.declared.State.the-variants.{Absent, Committed, Prepared}
-use Rattle.types.specs.declared.Column.{Column}
-use Rattle.types.specs.declared.Image.{Image}
-use Rattle.types.specs.declared.Record.{Record}
 use Rattle.model.specs.Layouts.{figures, word, recordLayout, keyLayout, imageLayout, columnsLayout}
-use Rattle.types.specs.declared.Kind.the-variants.{StateWord}
 use Rattle.model.specs.Lines.{inRange, rowGood}
-use Rattle.model.specs.Records.{
-  stateNumber,
-  keyNumbers,
-  imageNumbers,
-  recordNumbers,
-  keyInRange,
-  stateRule,
-  goodAlone,
-  noImage,
-}
+use Rattle.model.specs.Records.{stateNumber, keyNumbers, imageNumbers, recordNumbers, keyInRange, stateRule, goodAlone, noImage}
 use Rattle.model.specs.Coordinator.{namesIssued}
 use Rattle.model.specs.WellFormed.{imageInRange, columnsInRange}
 

@@ -1,42 +1,15 @@
 -- Sheets stay good under the writes that calls make: each line by the lemma of its image, order because keys are kept, the coordinator by its own rules.
-use Prim.Native.Nat.{ℕ, zero, suc, _+_, _≤_, _<_}
-use mathlib.Core.Path.{_≡_, refl, sym, ap, _∙_, subst}
-use mathlib.Core.Bool.{true, false, true≢false}
-use mathlib.Core.List.{List}
-use mathlib.Core.Option.{Option, none, some}
-use native.Mathlib.Omega.{arith}
-use native.Mathlib.Numerals.{add-one}
-use lib.ListN.{length, length-map}
-use borrow.Author.Tests.{le-leb}
+use Rattle.lists.specs.Basics.{_≡_, refl, sym, ap, subst, _∙_, ℕ, zero, suc, _+_, _≤_, _<_, true, false, true≢false, List, length, length-map, Option, none}
+use Rattle.lists.specs.Basics.{some, arith, add-one, le-leb}
 use Rattle.lists.specs.Each.{all}
 use Rattle.lists.specs.All.{all-and, all-weaken, all-map}
 use Rattle.lists.specs.Tests.{and-fst, and-snd, and-both, tests, choose-by}
-use Rattle.types.specs.declared.Decision.{Decision}
-use Rattle.types.specs.declared.Key.{Key}
-use Rattle.types.specs.declared.Record.{Record}
-use Rattle.types.specs.declared.Entry.{Entry}
+use Rattle.model.specs.Types.{Key, Record, Decision, Entry}
 use Rattle.model.specs.Records.{goodAlone, rising, recordsGood, absentAt, lineOf}
 use Rattle.model.specs.Coordinator.{Coordinator, coordinatorGood, namesIssued, withDecision, withIssued}
 use Rattle.model.specs.Images.{isPrepared, preparedBy, prepared, committed, changeOf}
-use Rattle.model.specs.Writes.{
-  Sheets,
-  sheetsGood,
-  Write,
-  nothing,
-  issue,
-  decide,
-  commit,
-  prepare,
-  forward,
-  back,
-  entryFor,
-  byEntry,
-  isOf,
-  lineAfter,
-  linesAfter,
-  decisionsAfter,
-  apply,
-}
+use Rattle.model.specs.Writes.{Sheets, sheetsGood, Write, nothing, issue, decide, commit, prepare, forward, back, entryFor, byEntry, isOf, lineAfter}
+use Rattle.model.specs.Writes.{linesAfter, decisionsAfter, apply}
 use Rattle.sheet_laws.specs.Decisions.{good-decided, good-raised}
 use Rattle.call_laws.specs.Ranges.{GoodParts, fine, fine-parts, parts-fine}
 use Rattle.call_laws.specs.Images.{MayPut, committed-fine, prepared-fine, forward-fine, back-fine}

@@ -1,23 +1,12 @@
 -- T2: whatever a call writes, it changes lines of one atomicity unit and leaves the coordinator alone, or it leaves the record sheet alone.
 -- A write of a group changes only lines whose keys are in it, and those agree in the fields of their unit; a visit changes one line.
-use Prim.Native.Nat.{ℕ}
-use mathlib.Core.Path.{_≡_, refl, sym, ap, _∙_}
-use mathlib.Core.Bool.{Bool, true, false, cond, true≢false}
-use mathlib.Core.List.{List, [], _∷_}
-use mathlib.Core.Option.{Option, none}
-use lib.ListN.{getD}
+use Rattle.lists.specs.Basics.{_≡_, refl, sym, ap, _∙_, ℕ, Bool, true, false, cond, true≢false, List, [], _∷_, getD, Option, none}
 use Rattle.lists.specs.Each.{all, any}
 use Rattle.lists.specs.Chosen.{any-map, or-left, and-false}
 use Rattle.lists.specs.Tests.{choose-by}
-use Rattle.types.specs.declared.Decision.{Decision}
+use Rattle.model.specs.Types.{Key, Record, Decision, AtomicityUnit, Entry, Transaction, Recovery}
 use Rattle.types.specs.declared.Decision.the-variants.{Committed, Aborted}
-use Rattle.types.specs.declared.Transaction.{Transaction}
-use Rattle.types.specs.declared.Recovery.{Recovery}
 use Rattle.types.specs.declared.Recovery.the-variants.{Stays, Forward, Back, Again, Busy}
-use Rattle.types.specs.declared.AtomicityUnit.{AtomicityUnit}
-use Rattle.types.specs.declared.Key.{Key}
-use Rattle.types.specs.declared.Record.{Record}
-use Rattle.types.specs.declared.Entry.{Entry}
 use Rattle.model.specs.Records.{sameKey, lineOf}
 use Rattle.model.specs.Coordinator.{Coordinator, decision}
 use Rattle.model.specs.Groups.{scope, group}
@@ -25,24 +14,8 @@ use Rattle.model.specs.Images.{preparedBy, prepared, committed, rolledForward, 
 use Rattle.model.specs.Writes.{Sheets, Write, nothing, issue, decide, commit, prepare, forward, back, byEntry, isOf, lineAfter, decisionsAfter}
 use Rattle.model.specs.Transactions.{puts, toValidate, isEmpty, noEntry}
 use Rattle.model.specs.Visits.{recoveryWrite, meeting, isAgain}
-use Rattle.model.specs.Steps.{
-  Step,
-  holds,
-  unitsOf,
-  groupAt,
-  keysOf,
-  onePhaseAllowed,
-  openWithoutPuts,
-  onePhase,
-  openStep,
-  prepareStep,
-  validateStep,
-  decideStep,
-  withdrawStep,
-  finishStep,
-  undoStep,
-  step,
-}
+use Rattle.model.specs.Steps.{Step, holds, unitsOf, groupAt, keysOf, onePhaseAllowed, openWithoutPuts, onePhase, openStep, prepareStep, validateStep}
+use Rattle.model.specs.Steps.{decideStep, withdrawStep, finishStep, undoStep, step}
 use Rattle.model.specs.Results.{Call, begin, read, put, advance, abort, visit, Answer, Result, writeOf}
 use Rattle.model.specs.Conditions.{isNew}
 use Rattle.model.specs.Calls.{readNew, outcome}

@@ -1,83 +1,32 @@
 -- T4 for an advance: what a step writes keeps good sheets good, and the transaction that it returns is well formed.
 -- Each phase is a walk of its definition; the facts that a write needs come from the conditions that held and the well-formed entries.
-use Prim.Native.Nat.{ℕ, _+_, _≤_}
-use mathlib.Core.Path.{_≡_, sym, ap, _∙_, subst}
-use mathlib.Core.Bool.{Bool, true, false, _&&_, _||_, not}
-use native.Mathlib.Omega.{arith}
-use lib.ListN.{length, getD}
-use lib.Dec.{leb, ltb}
-use borrow.Author.Tests.{not-true, eqb-true, ltb-true}
+use Rattle.lists.specs.Basics.{_≡_, sym, ap, subst, _∙_, ℕ, _+_, _≤_, leb, ltb, Bool, true, false, not, _&&_, _||_, length, getD, arith, eqb-true, ltb-true}
+use Rattle.lists.specs.Basics.{not-true}
 use Rattle.lists.specs.Each.{all}
 use Rattle.lists.specs.All.{all-and}
 use Rattle.lists.specs.Chosen.{all-filter, filter-passes}
 use Rattle.lists.specs.Tests.{and-fst, and-snd, tests, choose-by}
 use Rattle.types.specs.declared.Decision.the-variants.{Committed, Aborted}
-use Rattle.types.specs.declared.Key.{Key}
-use Rattle.types.specs.declared.Entry.{Entry}
-use Rattle.types.specs.declared.Transaction.{Transaction}
+use Rattle.model.specs.Types.{Key, Entry, Transaction}
 use Rattle.model.specs.Records.{hasLine, lineOf}
 use Rattle.model.specs.Coordinator.{decision}
-use Rattle.model.specs.Transactions.{
-  preparePhase,
-  validatePhase,
-  decidePhase,
-  withdrawPhase,
-  finishPhase,
-  undoPhase,
-  donePhase,
-  noVerdict,
-  committedVerdict,
-  abortedVerdict,
-  isPut,
-  isEmpty,
-  held,
-  puts,
-  toValidate,
-  noEntry,
-  moved,
-}
+use Rattle.model.specs.Transactions.{preparePhase, validatePhase, decidePhase, withdrawPhase, finishPhase, undoPhase, donePhase, noVerdict, committedVerdict}
+use Rattle.model.specs.Transactions.{abortedVerdict, isPut, isEmpty, held, puts, toValidate, noEntry, moved}
 use Rattle.model.specs.Groups.{group}
 use Rattle.model.specs.Images.{isPrepared, unchanged, changeOf}
 use Rattle.model.specs.Writes.{Sheets, Write, nothing, prepare, forward, back}
 use Rattle.model.specs.WellFormed.{columnsInRange, putFits, entryFormed, placeFormed, verdictFormed}
-use Rattle.model.specs.Steps.{Step, holds, unitsOf, groupsOf, groupAt, keysOf, to, onePhaseAllowed, openWithoutPuts, onePhase, openStep, afterPrepare, nextGroup, prepareStep, nextEntry, validateStep, decideStep, withdrawn, withdrawStep, finishStep, undoStep, step}
+use Rattle.model.specs.Steps.{Step, holds, unitsOf, groupsOf, groupAt, keysOf, to, onePhaseAllowed, openWithoutPuts, onePhase, openStep, afterPrepare}
+use Rattle.model.specs.Steps.{nextGroup, prepareStep, nextEntry, validateStep, decideStep, withdrawn, withdrawStep, finishStep, undoStep, step}
 use Rattle.sheet_laws.specs.Coordinator.{bounds}
 use Rattle.call_laws.specs.Choices.{by-phase-of, by-decision}
 use Rattle.call_laws.specs.Keys.{entry-has-key, entry-passes}
 use Rattle.call_laws.specs.Lines.{listsKey, has-line}
 use Rattle.call_laws.specs.Images.{MayPut}
-use Rattle.call_laws.specs.Sheets.{
-  GoodSheets,
-  MayPutAll,
-  Fit,
-  fit-nothing,
-  fit-decide,
-  fit-commit,
-  fit-prepare,
-  fit-forward,
-  fit-back,
-}
-use Rattle.call_laws.specs.Transactions.{
-  Body,
-  Stage,
-  body-moved,
-  place-at,
-  verdict-at,
-  groups-none,
-  to-withdraw,
-  to-prepare,
-  to-validate,
-  to-decide,
-  to-finish,
-  to-undo,
-  to-done-committed,
-  to-done-aborted,
-  next-prepare,
-  next-validate,
-  next-finish,
-  next-undo,
-  has-put,
-}
+use Rattle.call_laws.specs.Sheets.{GoodSheets, MayPutAll, Fit, fit-nothing, fit-decide, fit-commit, fit-prepare, fit-forward, fit-back}
+use Rattle.call_laws.specs.Transactions.{Body, Stage, body-moved, place-at, verdict-at, groups-none, to-withdraw, to-prepare, to-validate, to-decide}
+use Rattle.call_laws.specs.Transactions.{to-finish, to-undo, to-done-committed, to-done-aborted, next-prepare, next-validate, next-finish, next-undo}
+use Rattle.call_laws.specs.Transactions.{has-put}
 
 -- a well-formed entry with a put may take one more version
 pub put-fits : (i : ℕ) (e : Entry) → entryFormed i e ≡ true → isPut e ≡ true → (leb (e .seen .version) 99998 && columnsInRange (e .put)) ≡ true

@@ -1,50 +1,16 @@
 -- A well-formed transaction in parts: its body, which no step changes, and its stage (phase, place and verdict).
-use Prim.Native.Nat.{ℕ, _+_, _≤_, _<_}
-use mathlib.Core.Path.{_≡_, refl, sym, ap, _∙_}
-use mathlib.Core.Bool.{Bool, true, false, _&&_, _||_, not, cond, true≢false}
-use mathlib.Core.List.{List, [], _∷_}
-use native.Mathlib.Omega.{arith}
-use lib.ListN.{length}
-use lib.Dec.{eqb, leb, ltb}
-use borrow.Author.Tests.{not-true, eq-eqb, le-leb, ltb-true, lt-ltb}
+use Rattle.lists.specs.Basics.{_≡_, refl, sym, ap, _∙_, ℕ, _+_, _≤_, _<_, eqb, leb, ltb, Bool, true, false, not, _&&_, _||_, cond, true≢false, List, [], _∷_}
+use Rattle.lists.specs.Basics.{length, arith, ltb-true, eq-eqb, le-leb, lt-ltb, not-true}
 use Rattle.lists.specs.Each.{all, any, filter}
 use Rattle.lists.specs.Chosen.{or-left}
 use Rattle.lists.specs.Tests.{and-fst, and-snd, and-both, tests}
-use Rattle.types.specs.declared.AtomicityUnit.{AtomicityUnit}
-use Rattle.types.specs.declared.Entry.{Entry}
-use Rattle.types.specs.declared.Transaction.{Transaction}
+use Rattle.model.specs.Types.{AtomicityUnit, Entry, Transaction}
 use Rattle.model.specs.Records.{sameKey}
-use Rattle.model.specs.Transactions.{
-  preparePhase,
-  validatePhase,
-  decidePhase,
-  withdrawPhase,
-  finishPhase,
-  undoPhase,
-  donePhase,
-  noVerdict,
-  committedVerdict,
-  abortedVerdict,
-  isSerializable,
-  isPut,
-  isEmpty,
-  held,
-  puts,
-  mustValidate,
-  toValidate,
-  moved,
-}
+use Rattle.model.specs.Transactions.{preparePhase, validatePhase, decidePhase, withdrawPhase, finishPhase, undoPhase, donePhase, noVerdict, committedVerdict}
+use Rattle.model.specs.Transactions.{abortedVerdict, isSerializable, isPut, isEmpty, held, puts, mustValidate, toValidate, moved}
 use Rattle.model.specs.Groups.{scopes, groupCount, groupPlace}
 use Rattle.model.specs.Writes.{Sheets}
-use Rattle.model.specs.WellFormed.{
-  entryFormed,
-  distinctKeys,
-  placeFormed,
-  verdictFormed,
-  formed,
-  linesHeld,
-  wellFormed,
-}
+use Rattle.model.specs.WellFormed.{entryFormed, distinctKeys, placeFormed, verdictFormed, formed, linesHeld, wellFormed}
 use Rattle.call_laws.specs.Keys.{hasKey, same-key-refl}
 use Rattle.call_laws.specs.Groups.{place-below}
 

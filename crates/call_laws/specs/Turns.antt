@@ -1,9 +1,7 @@
 -- A turn on accepted bytes is the turn on what they say, and leaves accepted bytes. A call has these laws already; an advance by place is the advance of
 -- the one named, or refused.
-use mathlib.Core.Path.{_≡_, sym, ap, _∙_, subst}
-use mathlib.Core.Bool.{true}
-use mathlib.Core.Option.{some, Option·none-ne-some}
-use Rattle.types.specs.declared.Transaction.{Transaction}
+use Rattle.lists.specs.Basics.{_≡_, sym, ap, subst, _∙_, true, some, Option·none-ne-some}
+use Rattle.model.specs.Types.{Transaction}
 use Rattle.model.specs.Writes.{Sheets, sheetsGood, apply}
 use Rattle.model.specs.Results.{advance, Result, writeOf, Answer, returns, answerOf}
 use Rattle.model.specs.CallByPlace.{named, advanceAtResult, advanceAtOn}

@@ -1,19 +1,12 @@
 -- One turn of reading and of writing a line, field i of it.
-use Prim.Native.Nat.{ℕ, suc, _+_, _-_, _≤_, _<_}
-use mathlib.Core.Path.{_≡_, refl, sym, ap, ap₂, _∙_}
-use mathlib.Core.Bool.{true, false, _&&_}
-use mathlib.Core.List.{List, [], _∷_, _++_, append-assoc, append-nil}
-use native.Mathlib.Omega.{arith}
+use Rattle.lists.specs.Basics.{_≡_, refl, sym, ap, ap₂, _∙_, ℕ, suc, _+_, _-_, _≤_, _<_, true, false, _&&_, List, [], _∷_, _++_, append-nil, append-assoc}
+use Rattle.lists.specs.Basics.{length, take, drop, getD, set, length-append, length-take, length-drop, length-set, drop-of-length-le, arith, add-one}
 use native.Mathlib.Nat.{add-zero}
-use native.Mathlib.Numerals.{add-one}
-use lib.ListN.{length, take, drop, getD, set, length-set, length-drop, length-take, length-append, drop-of-length-le}
 use lib.Seq.{drop-cons, drop-drop, take-all, take-at, take-suc-set, append-snoc, set-split, getD-drop}
 use Rattle.lists.specs.Each.{all}
 use Rattle.lists.specs.All.{all-at}
 use Rattle.decimal.specs.Field.{number}
-use Rattle.types.specs.declared.Column.{Column}
-use Rattle.types.specs.declared.Layout.{Layout}
-use Rattle.types.specs.declared.Layout.the-variants.{RecordLine, KeyLine, CoordinatorHead, CoordinatorLine}
+use Rattle.model.specs.Types.{Layout, RecordLine, KeyLine, CoordinatorHead, CoordinatorLine, Column}
 use Rattle.model.specs.Layouts.{layout, recordLayout, keyLayout, headLayout, lineLayout, noColumn}
 use Rattle.model.specs.Lines.{fieldValue, fieldBytes, inRange, rowOf, lineText, rowGood}
 use Rattle.sheet_laws.specs.Lines.{lineBytes}

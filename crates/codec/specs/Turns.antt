@@ -1,22 +1,13 @@
 -- One turn of each loop: the definition from place i on, by what stands at i and the definition from i + 1 on.
-use Prim.Native.Nat.{ℕ, suc, _+_, _-_, _≤_, _<_}
-use mathlib.Core.Path.{_≡_, refl, sym, ap, _∙_}
-use mathlib.Core.Bool.{Bool, true, false, cond, true≢false}
-use mathlib.Core.List.{List, []}
-use native.Mathlib.Omega.{arith}
-use native.Mathlib.Numerals.{add-one}
-use lib.ListN.{length, take, drop, length-drop}
-use lib.Dec.{leb}
-use borrow.Author.Tests.{leb-true}
+use Rattle.lists.specs.Basics.{_≡_, refl, sym, ap, _∙_, ℕ, suc, _+_, _-_, _≤_, _<_, leb, Bool, true, false, cond, true≢false, List, [], length, take, drop}
+use Rattle.lists.specs.Basics.{length-drop, arith, add-one, leb-true}
 use lib.Seq.{drop-cons, drop-length, take-all}
 use Rattle.lists.specs.Bytes.{bytes, eqList}
 use Rattle.decimal.specs.declared.Scan.{Scan}
 use Rattle.decimal.specs.declared.Scan.the-variants.{Number, Wrong}
 use Rattle.decimal.specs.Field.{figure, fieldText}
 use Rattle.decimal.specs.Word.{putWord, put-fits}
-use Rattle.types.specs.declared.Column.{Column}
-use Rattle.types.specs.declared.Kind.{Kind}
-use Rattle.types.specs.declared.Kind.the-variants.{Figure, StateWord, DecisionWord, UnitLetter}
+use Rattle.model.specs.Types.{Column, Kind, Figure, StateWord, DecisionWord, UnitLetter}
 use Rattle.model.specs.Layouts.{words, wordAt}
 use Rattle.model.specs.Lines.{lastBytes, wordFrom, byKind, fieldValue, fieldBytes}
 use Rattle.sheet_laws.specs.Fields.{wideEnough, length-wordAt}

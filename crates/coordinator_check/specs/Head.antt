@@ -1,20 +1,13 @@
 -- The head: a count, a space, nine unit letters and LF. A column of one letter is a test of one byte, so that nine of them are one test of
 -- nine bytes.
-use Prim.Native.Nat.{ℕ, zero, suc, _+_, _-_, _<_, _≤_}
-use mathlib.Core.Path.{_≡_, refl, sym, ap, _∙_}
-use mathlib.Core.Bool.{Bool, true, false, _&&_, _||_, cond, and-assoc, and-true}
-use mathlib.Core.List.{List, [], _∷_}
-use native.Mathlib.Omega.{arith}
-use native.Mathlib.Numerals.{add-one}
-use lib.ListN.{length, take, drop, getD, replicate, drop-of-length-le}
+use Rattle.lists.specs.Basics.{_≡_, refl, sym, ap, _∙_, ℕ, zero, suc, _+_, _-_, _≤_, _<_, eqb, Bool, true, false, _&&_, _||_, cond, and-assoc, and-true, List}
+use Rattle.lists.specs.Basics.{[], _∷_, length, take, drop, getD, replicate, drop-of-length-le, arith, add-one}
 use lib.Seq.{drop-cons, drop-drop}
-use lib.Dec.{eqb}
 use Rattle.lists.specs.Bytes.{bytes, eqList}
 use Rattle.lists.specs.Each.{all}
 use Rattle.decimal.specs.declared.Scan.the-variants.{Number, Wrong}
 use Rattle.decimal.specs.Field.{figure, isNumber}
-use Rattle.types.specs.declared.Kind.the-variants.{UnitLetter}
-use Rattle.types.specs.declared.Column.{Column}
+use Rattle.model.specs.Types.{Column, UnitLetter}
 use Rattle.model.specs.Layouts.{headLayout, words, word}
 use Rattle.model.specs.Lines.{fieldValue, wordFrom, lineSet}
 

@@ -1,16 +1,9 @@
 -- No record names a number above the issued count: four columns that hold a figure order as their bytes do, and so as one number.
 -- The loop goes record by record.
-use Prim.Native.Nat.{ℕ, _+_, _*_, _/_, _<_, _≤_}
-use mathlib.Core.Path.{_≡_, refl, sym, ap, ap₂, _∙_}
-use mathlib.Core.Bool.{Bool, true, false, _&&_, not}
-use mathlib.Core.List.{List, []}
-use native.Mathlib.Omega.{arith}
-use native.Mathlib.Numerals.{add-one}
-use lib.ListN.{length, take, drop, getD, length-take, length-drop, drop-of-length-le}
+use Rattle.lists.specs.Basics.{_≡_, refl, sym, ap, ap₂, _∙_, ℕ, _+_, _*_, _/_, _≤_, _<_, leb, ltb, Bool, true, false, not, _&&_, List, [], length, take, drop}
+use Rattle.lists.specs.Basics.{getD, length-take, length-drop, drop-of-length-le, arith, add-one, leb-true, leb-false, lt-ltb, le-ltb}
 use lib.Seq.{drop-cons, drop-drop}
-use lib.Dec.{leb, ltb}
 use lib.Pow.{areBytes}
-use borrow.Author.Tests.{leb-true, leb-false, le-ltb, lt-ltb}
 use Rattle.lists.specs.Each.{all, pieces}
 use Rattle.lists.specs.All.{all-at}
 use Rattle.lists.specs.Pieces.{take-drop-take, getD-pieces, length-pieces}

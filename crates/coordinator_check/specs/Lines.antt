@@ -1,16 +1,10 @@
 -- A line after the head, judged as two numbers of eight bytes each: from the LF before it to the third byte of its word, and from there
 -- to its own LF. The second number tells which decision the line can say, so the line is right if both numbers are those of the text that
 -- says it. Equal numbers are equal bytes.
-use Prim.Native.Nat.{ℕ, zero, suc, _+_, _*_, _/_, _%_, _^_, _<_, _≤_}
-use mathlib.Core.Path.{_≡_, refl, sym, ap, subst, _∙_}
-use mathlib.Core.Bool.{Bool, true, _&&_}
-use mathlib.Core.List.{List, [], _∷_, _++_}
-use native.Mathlib.Omega.{arith}
-use lib.ListN.{length, take, drop, getD}
+use Rattle.lists.specs.Basics.{_≡_, refl, sym, ap, subst, _∙_, ℕ, zero, suc, _+_, _*_, _/_, _%_, _^_, _≤_, _<_, eqb, ltb, Bool, true, _&&_, List, [], _∷_, _++_}
+use Rattle.lists.specs.Basics.{length, take, drop, getD, arith, ltb-true}
 use lib.Seq.{take-all, drop-drop}
-use lib.Dec.{eqb, ltb}
 use lib.Pow.{areBytes}
-use borrow.Author.Tests.{ltb-true}
 use Rattle.lists.specs.Bytes.{bytes, eqList, below-append}
 use Rattle.lists.specs.Each.{listed}
 use Rattle.lists.specs.All.{listed-is}
@@ -18,8 +12,7 @@ use Rattle.lists.specs.Tests.{and-fst, and-snd}
 use Rattle.decimal.specs.Field.{fieldText, ahead}
 use Rattle.decimal.specs.Laws.{fieldText-bytes}
 use Rattle.places.specs.Loads.{loaded, split-equal}
-use Rattle.types.specs.declared.Kind.the-variants.{DecisionWord}
-use Rattle.types.specs.declared.Decision.{Decision}
+use Rattle.model.specs.Types.{Decision, DecisionWord}
 use Rattle.types.specs.declared.Decision.the-variants.{Undecided, Committed, Aborted}
 use Rattle.model.specs.Layouts.{lineLayout, words, wordAt}
 use Rattle.model.specs.Lines.{fieldBytes, lineText}

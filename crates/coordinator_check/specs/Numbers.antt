@@ -1,10 +1,5 @@
 -- The four columns of a line's number, taken as one number and counted up. The step from each number to the next is tested for all of them.
-use Prim.Native.Nat.{ℕ, suc, _+_, _-_, _*_, _/_, _%_, _^_, _<_, _≤_}
-use mathlib.Core.Path.{_≡_, refl, ap, _∙_}
-use mathlib.Core.Bool.{Bool, cond}
-use native.Mathlib.Omega.{arith}
-use lib.Dec.{eqb, ltb}
-use borrow.Author.Tests.{eqb-true, ltb-true}
+use Rattle.lists.specs.Basics.{_≡_, refl, ap, _∙_, ℕ, suc, _+_, _-_, _*_, _/_, _%_, _^_, _≤_, _<_, eqb, ltb, Bool, cond, arith, eqb-true, ltb-true}
 use Rattle.decimal.specs.Field.{fieldText, ahead}
 use Rattle.places.specs.Loads.{loaded}
 use Rattle.sheet_laws.specs.Fields.{allBelow, below}

@@ -1,29 +1,23 @@
 -- The lines in turn. Lines that pass are lines of their numbers whose decisions the table has, and such lines pass: line by line, each ending
 -- in the LF with which the next begins. The code's loop counts the numbers' columns up beside it.
-use Prim.Native.Nat.{ℕ, zero, suc, _+_, _-_, _*_, _<_, _≤_}
-use mathlib.Core.Path.{_≡_, refl, sym, ap, ap₂, _∙_}
-use mathlib.Core.Bool.{Bool, true, _&&_, and-assoc, and-true}
-use mathlib.Core.List.{List, [], _∷_}
-use native.Mathlib.Omega.{arith}
-use native.Mathlib.Numerals.{add-one}
-use lib.ListN.{length, take, drop, getD, length-drop}
+use Rattle.lists.specs.Basics.{_≡_, refl, sym, ap, ap₂, _∙_, ℕ, zero, suc, _+_, _-_, _*_, _≤_, _<_, eqb, Bool, true, _&&_, and-assoc, and-true, List, [], _∷_}
+use Rattle.lists.specs.Basics.{length, take, drop, getD, length-drop, arith, add-one, eqb-true, eq-eqb}
 use lib.Seq.{take-all, drop-drop, getD-drop, getD-take}
-use lib.Dec.{eqb}
-use borrow.Author.Tests.{eqb-true, eq-eqb}
 use Rattle.lists.specs.Bytes.{eqList, eqList-true, eqList-refl}
 use Rattle.lists.specs.Each.{all, pieces}
 use Rattle.lists.specs.All.{all-at}
 use Rattle.lists.specs.Pieces.{take-drop-take}
 use Rattle.lists.specs.Tests.{and-fst, and-snd, and-both}
 use Rattle.places.specs.Loads.{loaded}
-use Rattle.types.specs.declared.Decision.{Decision}
+use Rattle.model.specs.Types.{Decision}
 use Rattle.types.specs.declared.Decision.the-variants.{Undecided}
 use Rattle.model.specs.Layouts.{lineLayout}
 use Rattle.model.specs.Lines.{lineSet, rowOf}
 use Rattle.model.specs.Coordinator.{decisionIn, numbered}
 use Rattle.sheet_laws.specs.Coordinator.{decisionText, decision-written-read, decision-read-written, decision-text-set}
 use Rattle.coordinator_check.specs.Numbers.{columns, following, columns-next}
-use Rattle.coordinator_check.specs.Lines.{Bytes, table, told, backOf, wordFor, lineMade, lfText, lfText-length, lfText-ends, lfText-back, decisionFor, chosen, line-made}
+use Rattle.coordinator_check.specs.Lines.{Bytes, table, told, backOf, wordFor, lineMade, lfText, lfText-length, lfText-ends, lfText-back, decisionFor}
+use Rattle.coordinator_check.specs.Lines.{chosen, line-made}
 
 -- the n lines after line k pass, where r begins with the LF of line k
 unfoldable pub linesMade : (words : List ℕ) (k n : ℕ) (r : List ℕ) → Bool

@@ -1,15 +1,10 @@
 -- The sheet as the check takes it: whole lines, the head, lines up to the issued count with any decision, and lines above it with none.
 -- That this is acceptance is shown each way from the parts of acceptance, the lines cut at the issued count.
-use Prim.Native.Nat.{ℕ, suc, _+_, _-_, _*_, _/_, _%_, _<_, _≤_}
-use mathlib.Core.Path.{_≡_, refl, sym, ap, ap₂, _∙_}
-use mathlib.Core.Bool.{Bool, true, false, _&&_, true≢false, and-assoc}
-use mathlib.Core.List.{List, [], _∷_, _++_, map}
-use native.Mathlib.Omega.{arith}
+use Rattle.lists.specs.Basics.{_≡_, refl, sym, ap, ap₂, _∙_, ℕ, suc, _+_, _-_, _*_, _/_, _%_, _≤_, _<_, eqb, leb, Bool, true, false, _&&_, true≢false}
+use Rattle.lists.specs.Basics.{and-assoc, List, [], _∷_, _++_, map, length, take, drop, getD, length-map, length-take, length-drop, arith, eqb-true, leb-true}
+use Rattle.lists.specs.Basics.{eq-eqb, le-leb, lt-leb}
 use native.Mathlib.Nat.{add-zero}
-use lib.ListN.{length, take, drop, getD, length-take, length-drop, length-map}
 use lib.Seq.{take-take, drop-drop, getD-take, getD-drop}
-use lib.Dec.{eqb, leb}
-use borrow.Author.Tests.{eqb-true, leb-true, eq-eqb, le-leb, lt-leb}
 use Rattle.lists.specs.Bytes.{bytes}
 use Rattle.lists.specs.Each.{all, pieces}
 use Rattle.lists.specs.All.{all-append, all-always, all-map}
@@ -20,7 +15,7 @@ use Rattle.decimal.specs.declared.Scan.the-variants.{Blank, Number, Wrong}
 use Rattle.decimal.specs.Field.{figure, number, isNumber, fieldText, ahead}
 use Rattle.decimal.specs.Laws.{isNumber-number, written-read}
 use Rattle.places.specs.Loads.{loaded}
-use Rattle.types.specs.declared.Decision.{Decision}
+use Rattle.model.specs.Types.{Decision}
 use Rattle.types.specs.declared.Decision.the-variants.{Undecided, Committed, Aborted}
 use Rattle.model.specs.Layouts.{headLayout, lineLayout, words}
 use Rattle.model.specs.Lines.{rowOf, lineSet, linesOf}

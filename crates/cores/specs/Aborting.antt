@@ -1,7 +1,6 @@
 -- Abort, case by case in the order of its conditions; it writes nothing.
-use mathlib.Core.Path.{_≡_}
-use mathlib.Core.Bool.{true, false}
-use Rattle.types.specs.declared.Transaction.{Transaction}
+use Rattle.lists.specs.Basics.{_≡_, true, false}
+use Rattle.model.specs.Types.{Transaction}
 use Rattle.model.specs.Refusals.{refusalOf}
 use Rattle.model.specs.Transactions.{withdrawPhase, moved}
 use Rattle.model.specs.Writes.{Sheets, nothing}

@@ -1,10 +1,6 @@
 -- Advance, case by case in the order of its conditions; an accepted one is the step of its phase.
-use Prim.Native.Nat.{ℕ}
-use mathlib.Core.Path.{_≡_}
-use mathlib.Core.Bool.{Bool, true, false}
-use mathlib.Core.List.{List}
-use Rattle.types.specs.declared.Decision.{Decision}
-use Rattle.types.specs.declared.Transaction.{Transaction}
+use Rattle.lists.specs.Basics.{_≡_, ℕ, Bool, true, false, List}
+use Rattle.model.specs.Types.{Decision, Transaction}
 use Rattle.model.specs.Coordinator.{coordinatorOf, decision}
 use Rattle.model.specs.Refusals.{refusalOf}
 use Rattle.model.specs.Transactions.{byPhase}

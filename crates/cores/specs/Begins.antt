@@ -1,16 +1,8 @@
 -- Begin, case by case in the order of its conditions; it leaves the record sheet alone.
-use Prim.Native.Nat.{ℕ, _+_, _/_, _≤_, _<_}
-use mathlib.Core.Path.{_≡_, refl, sym, ap, _∙_}
-use mathlib.Core.Bool.{Bool, true, false, cond}
-use mathlib.Core.List.{List}
-use native.Mathlib.Omega.{arith}
-use native.Mathlib.Numerals.{add-one}
-use lib.ListN.{length, drop}
-use lib.Dec.{eqb, leb}
-use borrow.Author.Tests.{le-leb}
+use Rattle.lists.specs.Basics.{_≡_, refl, sym, ap, _∙_, ℕ, _+_, _/_, _≤_, _<_, eqb, leb, Bool, true, false, cond, List, length, drop, arith, add-one, le-leb}
 use Rattle.lists.specs.Pieces.{over}
 use Rattle.decimal.specs.Field.{fieldText}
-use Rattle.types.specs.declared.Transaction.{Transaction}
+use Rattle.model.specs.Types.{Transaction}
 use Rattle.model.specs.Coordinator.{coordinatorOf, coordinatorText, coordinatorAccepted, withIssued}
 use Rattle.model.specs.Refusals.{refusalOf}
 use Rattle.model.specs.Writes.{issue, lineAfter, decisionsAfter, apply}

@@ -1,18 +1,9 @@
 -- Read, case by case in the order of its conditions: a held key, and a new one by what the visit of its line comes to.
-use Prim.Native.Nat.{ℕ, _≤_, _<_}
-use mathlib.Core.Path.{_≡_, refl, sym, ap, _∙_, subst}
-use mathlib.Core.Bool.{true, false, not, cond, _&&_}
-use mathlib.Core.List.{List, [], _∷_}
-use lib.Dec.{leb}
+use Rattle.lists.specs.Basics.{_≡_, refl, sym, ap, subst, _∙_, ℕ, _≤_, _<_, leb, true, false, not, _&&_, cond, List, [], _∷_, le-leb, lt-leb}
 use Rattle.lists.specs.Each.{all}
-use borrow.Author.Tests.{le-leb, lt-leb}
-use Rattle.types.specs.declared.Found.the-variants.{At, Nothing}
-use Rattle.types.specs.declared.Key.{Key}
+use Rattle.model.specs.Types.{Key, Record, At, Nothing, Transaction, Recovery}
 use Rattle.types.specs.declared.Reading.the-variants.{Again as Read-again}
-use Rattle.types.specs.declared.Record.{Record}
-use Rattle.types.specs.declared.Recovery.{Recovery}
 use Rattle.types.specs.declared.Recovery.the-variants.{Stays, Forward, Back, Again, Busy}
-use Rattle.types.specs.declared.Transaction.{Transaction}
 use Rattle.model.specs.Records.{records, found, isMissing, hasLine, lineOf}
 use Rattle.model.specs.Coordinator.{coordinatorOf}
 use Rattle.model.specs.Refusals.{Condition, refuse, refusalOf}

@@ -1,15 +1,7 @@
 -- Put, case by case in the order of its conditions; it writes nothing.
-use Prim.Native.Nat.{ℕ, _≤_, _<_}
-use mathlib.Core.Path.{_≡_, refl, _∙_}
-use mathlib.Core.Bool.{Bool, true, false, not, cond}
-use mathlib.Core.List.{List, [], _∷_}
-use lib.Dec.{leb}
+use Rattle.lists.specs.Basics.{_≡_, refl, _∙_, ℕ, _≤_, _<_, leb, Bool, true, false, not, cond, List, [], _∷_, le-leb, lt-leb}
 use Rattle.lists.specs.Each.{all}
-use borrow.Author.Tests.{le-leb, lt-leb}
-use Rattle.types.specs.declared.Columns.{Columns}
-use Rattle.types.specs.declared.Found.the-variants.{At, Nothing}
-use Rattle.types.specs.declared.Key.{Key}
-use Rattle.types.specs.declared.Transaction.{Transaction}
+use Rattle.model.specs.Types.{Key, At, Nothing, Columns, Transaction}
 use Rattle.model.specs.Records.{found, isMissing, hasLine}
 use Rattle.model.specs.Refusals.{Condition, refuse, refusalOf}
 use Rattle.model.specs.Transactions.{heldAt, withPut, withEntry}

@@ -1,12 +1,6 @@
 -- Visit, case by case in the order of its conditions.
-use Prim.Native.Nat.{ℕ}
-use mathlib.Core.Path.{_≡_, refl, sym, ap, ap₂, _∙_, subst}
-use mathlib.Core.Bool.{Bool, true, false, not, cond}
-use mathlib.Core.List.{List, [], _∷_}
-use Rattle.types.specs.declared.Key.{Key}
-use Rattle.types.specs.declared.Record.{Record}
-use Rattle.types.specs.declared.Found.the-variants.{At, Nothing}
-use Rattle.types.specs.declared.Recovery.{Recovery}
+use Rattle.lists.specs.Basics.{_≡_, refl, sym, ap, ap₂, subst, _∙_, ℕ, Bool, true, false, not, cond, List, [], _∷_}
+use Rattle.model.specs.Types.{Key, Record, At, Nothing, Recovery}
 use Rattle.types.specs.declared.Recovery.the-variants.{Stays, Forward, Back, Again, Busy}
 use Rattle.model.specs.Records.{records, keyInRange, found, isMissing, hasLine, lineOf}
 use Rattle.model.specs.Coordinator.{coordinatorOf}

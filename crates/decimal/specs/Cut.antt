@@ -1,15 +1,8 @@
 -- Reading with a limit: the scan stops as soon as the figure is above the highest that is wanted, so that it never grows past its type. It
 -- finds the same figure, since a figure only grows with each digit more.
-use Prim.Native.Nat.{ℕ, suc, _+_, _-_, _*_, _<_, _≤_}
-use native.Mathlib.Omega.{arith}
-use native.Mathlib.Numerals.{add-one}
-use mathlib.Core.Path.{_≡_, refl, _∙_}
-use mathlib.Core.Bool.{Bool, true, false, _&&_, cond}
-use mathlib.Core.List.{List, [], _∷_}
-use lib.Dec.{eqb, leb}
-use lib.ListN.{length, getD, drop, drop-of-length-le}
+use Rattle.lists.specs.Basics.{_≡_, refl, _∙_, ℕ, suc, _+_, _-_, _*_, _≤_, _<_, eqb, leb, Bool, true, false, _&&_, cond, List, [], _∷_, length, drop, getD}
+use Rattle.lists.specs.Basics.{drop-of-length-le, arith, add-one, leb-false, eq-eqb, ne-eqb}
 use lib.Seq.{drop-cons}
-use borrow.Author.Tests.{eq-eqb, ne-eqb, leb-false}
 use Rattle.lists.specs.Tests.{choose-by, tests}
 use Rattle.decimal.specs.declared.Scan.{Scan}
 use Rattle.decimal.specs.declared.Scan.the-variants.{Blank, Number, Wrong}

@@ -1,9 +1,6 @@
 -- A field of any width: the figure that it holds, and the text of a figure.
 -- Document 01: "All figures are decimal, right-justified, space-filled, without leading zeros; zero is `0`, never blank."
-use Prim.Native.Nat.{ℕ, zero, suc, _+_, _-_, _*_, _/_, _%_}
-use mathlib.Core.Bool.{Bool, true, false, _&&_, cond}
-use mathlib.Core.List.{List, [], _∷_, _++_}
-use lib.Dec.{eqb, leb}
+use Rattle.lists.specs.Basics.{ℕ, zero, suc, _+_, _-_, _*_, _/_, _%_, eqb, leb, Bool, true, false, _&&_, cond, List, [], _∷_, _++_}
 use Rattle.decimal.specs.declared.Scan.{Scan}
 use Rattle.decimal.specs.declared.Scan.the-variants.{Blank, Number, Wrong}
 

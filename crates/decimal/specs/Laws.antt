@@ -1,15 +1,9 @@
 -- Laws of fields of any width. What a scan has read so far tells which bytes it has passed, so a field that reads as a figure is that
 -- figure's text, by one step for each byte; and the text of a figure is read digit by digit as it is built.
-use Prim.Native.Nat.{ℕ, zero, suc, _+_, _-_, _*_, _/_, _%_, _^_, _<_, _≤_}
+use Rattle.lists.specs.Basics.{_≡_, refl, sym, ap, ap₂, subst, _∙_, ℕ, zero, suc, _+_, _-_, _*_, _/_, _%_, _^_, _≤_, _<_, eqb, leb, Bool, true, false, _&&_}
+use Rattle.lists.specs.Basics.{cond, true≢false, List, [], _∷_, _++_, append-nil, length, getD, length-append, arith, eqb-true, eqb-false, ne-eqb, le-leb}
 use native.Mathlib.Nat.{pow-suc, one-le-pow}
-use native.Mathlib.Omega.{arith}
-use mathlib.Core.Path.{_≡_, refl, sym, ap, ap₂, subst, _∙_}
-use mathlib.Core.Bool.{Bool, true, false, _&&_, cond, true≢false}
-use mathlib.Core.List.{List, [], _∷_, _++_, append-nil}
-use lib.Dec.{eqb, leb}
-use lib.ListN.{length, getD, length-append}
 use lib.Seq.{append-snoc}
-use borrow.Author.Tests.{eqb-true, eqb-false, ne-eqb, le-leb}
 use Rattle.lists.specs.Tests.{and-both, choose-by, tests}
 use Rattle.lists.specs.Bytes.{below-append, below-one}
 use Rattle.decimal.specs.declared.Scan.{Scan}

@@ -1,11 +1,5 @@
 -- A fixed word in a field.
-use Prim.Native.Nat.{ℕ}
-use mathlib.Core.Path.{_≡_}
-use mathlib.Core.Bool.{cond}
-use mathlib.Core.List.{List}
-use lib.Dec.{eqb}
-use lib.ListN.{length}
-use borrow.Author.Tests.{eq-eqb}
+use Rattle.lists.specs.Basics.{_≡_, ℕ, eqb, cond, List, length, eq-eqb}
 
 -- the word t written over s: only where it has the length of s
 unfoldable pub putWord : List ℕ → List ℕ → List ℕ

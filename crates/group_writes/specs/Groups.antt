@@ -1,12 +1,8 @@
 -- The group at a transaction's place by the bytes of a coordinator sheet: its unit letters are the sheet's units, and a test of the group's entries is one
 -- of all the entries.
-use Prim.Native.Nat.{ℕ}
-use mathlib.Core.Path.{_≡_, refl, sym, ap, _∙_}
-use mathlib.Core.Bool.{Bool, true, false, _&&_, _||_, not, cond}
-use mathlib.Core.List.{List, [], _∷_}
+use Rattle.lists.specs.Basics.{_≡_, refl, sym, ap, _∙_, ℕ, Bool, true, false, not, _&&_, _||_, cond, List, [], _∷_}
 use Rattle.lists.specs.Each.{all, filter}
-use Rattle.types.specs.declared.Entry.{Entry}
-use Rattle.types.specs.declared.Transaction.{Transaction}
+use Rattle.model.specs.Types.{Entry, Transaction}
 use Rattle.model.specs.Coordinator.{coordinatorOf}
 use Rattle.model.specs.Transactions.{held}
 use Rattle.model.specs.Steps.{holds, groupAt}

@@ -1,28 +1,15 @@
 -- What a call finds once about the entries of a transaction: the indices of their lines, and their groups. No write moves a key, so that indices hold after every
 -- write too.
-use Prim.Native.Nat.{ℕ, zero, suc, _+_, _≤_, _<_}
-use mathlib.Core.Path.{_≡_, refl, sym, ap, ap₂, _∙_, subst}
-use mathlib.Core.Bool.{Bool, true, false, _&&_, not, true≢false, and-assoc}
-use mathlib.Core.List.{List, [], _∷_, map}
-use native.Mathlib.Omega.{arith}
-use native.Mathlib.Numerals.{add-one}
-use lib.ListN.{length, getD, set, take, length-set, length-take}
+use Rattle.lists.specs.Basics.{_≡_, refl, sym, ap, ap₂, subst, _∙_, ℕ, zero, suc, _+_, _≤_, _<_, eqb, ltb, Bool, true, false, not, _&&_, true≢false, and-assoc}
+use Rattle.lists.specs.Basics.{List, [], _∷_, map, length, take, getD, set, length-take, length-set, arith, add-one, eqb-true, eqb-false, lt-ltb, le-ltb}
 use lib.Seq.{getD-set-same, getD-set-other, getD-take}
-use lib.Dec.{eqb, ltb}
-use borrow.Author.Tests.{eqb-true, eqb-false, lt-ltb, le-ltb}
 use mir.Val.{Val}
 use denote.Laws.{Is}
 use denote.Struct.Declared.{row}
 use Rattle.lists.specs.Each.{all}
 use Rattle.lists.specs.All.{all-always, all-at}
 use Rattle.types.proofs.Transaction.{the-type}
-use Rattle.types.specs.declared.AtomicityUnit.{AtomicityUnit}
-use Rattle.types.specs.declared.Found.{Found}
-use Rattle.types.specs.declared.Found.the-variants.{At, Nothing}
-use Rattle.types.specs.declared.Entry.{Entry}
-use Rattle.types.specs.declared.Key.{Key}
-use Rattle.types.specs.declared.Record.{Record}
-use Rattle.types.specs.declared.Transaction.{Transaction}
+use Rattle.model.specs.Types.{Key, Record, AtomicityUnit, Found, At, Nothing, Entry, Transaction}
 use Rattle.model.specs.Records.{sameKey, found, isMissing, byFound, hasLine}
 use Rattle.model.specs.Transactions.{held, puts, heldAt, noEntry}
 use Rattle.model.specs.Groups.{groupCount}

@@ -1,16 +1,8 @@
 -- What a look-up by key tells, by the two cases of what is found: a key out of range is found nowhere, and a found place is that of the key's line.
-use Prim.Native.Nat.{ℕ}
-use mathlib.Core.Path.{_≡_, refl, sym, ap, _∙_}
-use mathlib.Core.Bool.{true, false, true≢false}
-use mathlib.Core.List.{List}
-use lib.ListN.{getD}
+use Rattle.lists.specs.Basics.{_≡_, refl, sym, ap, _∙_, ℕ, true, false, true≢false, List, getD}
 use Rattle.lists.specs.Each.{all}
 use Rattle.lists.specs.Tests.{tests}
-use Rattle.types.specs.declared.Entry.{Entry}
-use Rattle.types.specs.declared.Found.{Found}
-use Rattle.types.specs.declared.Found.the-variants.{At, Nothing}
-use Rattle.types.specs.declared.Key.{Key}
-use Rattle.types.specs.declared.Record.{Record}
+use Rattle.model.specs.Types.{Key, Record, Found, At, Nothing, Entry}
 use Rattle.model.specs.Records.{noRecord, records, recordsGood, recordsAccepted, goodAlone, keyInRange, found, isMissing, hasLine, lineOf}
 use Rattle.model.specs.Images.{unchanged}
 use Rattle.model.specs.Writes.{Sheets}

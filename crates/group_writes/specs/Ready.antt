@@ -1,16 +1,11 @@
 -- What the writes of a step ask for follows from accepted bytes and a well-formed transaction: puts whose conditions hold may be written over their lines, and
 -- what a number has prepared may be rolled.
-use Prim.Native.Nat.{ℕ, _≤_}
-use mathlib.Core.Path.{_≡_, sym, ap, _∙_}
-use mathlib.Core.Bool.{Bool, true, _&&_}
-use mathlib.Core.List.{List}
+use Rattle.lists.specs.Basics.{_≡_, sym, ap, _∙_, ℕ, _≤_, Bool, true, _&&_, List}
 use Rattle.lists.specs.Each.{all}
 use Rattle.lists.specs.All.{all-and, all-weaken}
 use Rattle.lists.specs.Chosen.{all-filter}
 use Rattle.lists.specs.Tests.{and-fst, and-snd, choose-by, tests}
-use Rattle.types.specs.declared.Entry.{Entry}
-use Rattle.types.specs.declared.Record.{Record}
-use Rattle.types.specs.declared.Transaction.{Transaction}
+use Rattle.model.specs.Types.{Record, Entry, Transaction}
 use Rattle.model.specs.Records.{records, recordsAccepted, goodAlone, hasLine, lineOf}
 use Rattle.model.specs.Coordinator.{coordinatorOf, namesIssued}
 use Rattle.model.specs.Transactions.{isPut, held}

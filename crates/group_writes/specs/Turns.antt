@@ -1,12 +1,7 @@
 -- The loop over a transaction's entries that changes the lines of its group: what is left to be done makes, on the sheet as it is now, what all of it makes
 -- on the sheet as it was. A turn changes the line of one key, which no later entry has.
-use Prim.Native.Nat.{ℕ, _+_, _*_, _/_, _≤_, _<_}
-use mathlib.Core.Path.{_≡_, refl, sym, ap, ap₂, _∙_, subst}
-use mathlib.Core.Bool.{Bool, true, false, _&&_, not, cond, true≢false}
-use mathlib.Core.List.{List, _∷_, map}
-use lib.ListN.{length, getD}
-use lib.Dec.{ltb}
-use borrow.Author.Tests.{not-true}
+use Rattle.lists.specs.Basics.{_≡_, refl, sym, ap, ap₂, subst, _∙_, ℕ, _+_, _*_, _/_, _≤_, _<_, ltb, Bool, true, false, not, _&&_, cond, true≢false, List, _∷_}
+use Rattle.lists.specs.Basics.{map, length, getD, not-true}
 use mir.Val.{Val}
 use denote.Laws.{Is}
 use denote.Struct.Declared.{row}
@@ -14,11 +9,7 @@ use Rattle.lists.specs.Each.{all, filter}
 use Rattle.lists.specs.Pieces.{over}
 use Rattle.lists.specs.Tests.{and-fst, and-snd, and-both}
 use Rattle.types.proofs.Transaction.{the-type}
-use Rattle.types.specs.declared.Entry.{Entry}
-use Rattle.types.specs.declared.Found.the-variants.{At}
-use Rattle.types.specs.declared.Key.{Key}
-use Rattle.types.specs.declared.Record.{Record}
-use Rattle.types.specs.declared.Transaction.{Transaction}
+use Rattle.model.specs.Types.{Key, Record, At, Entry, Transaction}
 use Rattle.model.specs.Records.{noRecord, records, recordText, recordsText, recordsAccepted, found}
 use Rattle.model.specs.Layouts.{recordBytes}
 use Rattle.model.specs.Coordinator.{coordinatorOf}

@@ -1,15 +1,9 @@
 -- Text as a list of bytes, and equality of two lists of numbers as a test.
-use Prim.Native.Nat.{ℕ, zero, suc, _<_}
-use native.Mathlib.Omega.{arith}
+use Rattle.lists.specs.Basics.{_≡_, refl, sym, ap, ap₂, _∙_, ℕ, zero, suc, _<_, eqb, Bool, true, false, _&&_, true≢false, and-assoc, List, [], _∷_, _++_}
+use Rattle.lists.specs.Basics.{length, getD, arith, eqb-true, eq-eqb}
 use Prim.Native.Char.{code}
 use Prim.Native.String as String
 use Prim.Native.String.{String}
-use mathlib.Core.Path.{_≡_, refl, sym, ap, ap₂, _∙_}
-use mathlib.Core.Bool.{Bool, true, false, _&&_, true≢false, and-assoc}
-use mathlib.Core.List.{List, [], _∷_, _++_}
-use lib.Dec.{eqb}
-use lib.ListN.{length, getD}
-use borrow.Author.Tests.{eqb-true, eq-eqb}
 use Rattle.lists.specs.Tests.{and-fst, and-snd, and-both}
 
 -- the bytes of a text in ASCII

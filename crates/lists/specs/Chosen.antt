@@ -1,10 +1,6 @@
 -- Laws of `any`, `filter` and `count`: each by induction on the list, with the first element's test at hand.
-use Prim.Native.Nat.{ℕ, suc, _≤_, _<_}
-use mathlib.Core.Path.{_≡_, refl, sym, ap, _∙_}
-use mathlib.Core.Bool.{Bool, true, false, _&&_, _||_, cond, true≢false}
-use mathlib.Core.List.{List, [], _∷_, map}
-use native.Mathlib.Omega.{arith}
-use lib.ListN.{length}
+use Rattle.lists.specs.Basics.{_≡_, refl, sym, ap, _∙_, ℕ, suc, _≤_, _<_, Bool, true, false, _&&_, _||_, cond, true≢false, List, [], _∷_, map, length}
+use Rattle.lists.specs.Basics.{arith}
 use Rattle.lists.specs.Bytes.{eqList, eqList-true}
 use Rattle.lists.specs.Tests.{and-fst, and-snd, and-both}
 use Rattle.lists.specs.Each.{all, any, filter, count}

@@ -1,12 +1,8 @@
 -- Filling a list piece by piece, w elements each, or one by one: those before i are there, and those from i on are still to come.
 -- Filling it in two parts, lent one after the other.
-use Prim.Native.Nat.{ℕ, zero, suc, _+_, _-_, _*_, _≤_, _<_}
-use mathlib.Core.Path.{_≡_, refl, sym, ap, ap₂, _∙_}
-use mathlib.Core.List.{List, [], _∷_, _++_, append-assoc, append-nil}
-use native.Mathlib.Omega.{arith}
+use Rattle.lists.specs.Basics.{_≡_, refl, sym, ap, ap₂, _∙_, ℕ, zero, suc, _+_, _-_, _*_, _≤_, _<_, List, [], _∷_, _++_, append-nil, append-assoc, length}
+use Rattle.lists.specs.Basics.{take, drop, getD, set, length-append, length-take, length-drop, length-set, drop-of-length-le, arith, add-one}
 use native.Mathlib.Nat.{suc-mul, zero-mul}
-use native.Mathlib.Numerals.{add-one}
-use lib.ListN.{length, take, drop, getD, set, length-append, length-take, length-drop, length-set, drop-of-length-le}
 use lib.Seq.{take-at, take-all, take-suc-set, append-snoc, drop-at, drop-cons}
 use Rattle.lists.specs.Each.{joined}
 use Rattle.lists.specs.Pieces.{over, length-over}

@@ -1,4 +1,5 @@
 -- Definitions and laws on lists, tests and choices that several crates cite.
+pub mod Basics
 pub mod Bytes
 pub mod All
 pub mod Chosen

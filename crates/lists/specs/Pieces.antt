@@ -1,11 +1,9 @@
 -- Laws of pieces: a list of n * w elements is its n pieces joined, and a piece is found and replaced by its place.
 -- Each goes by induction on the number of pieces.
-use Prim.Native.Nat.{ℕ, zero, suc, _+_, _-_, _*_, _≤_, _<_}
-use mathlib.Core.Path.{_≡_, refl, sym, ap, ap₂, _∙_}
-use mathlib.Core.List.{List, [], _∷_, _++_, append-assoc}
-use native.Mathlib.Omega.{arith}
+use Rattle.lists.specs.Basics.{_≡_, refl, sym, ap, ap₂, _∙_, ℕ, zero, suc, _+_, _-_, _*_, _≤_, _<_, List, [], _∷_, _++_, append-assoc, length, take, drop}
+use Rattle.lists.specs.Basics.{getD, set, length-append, length-take, length-drop, arith}
 use native.Mathlib.Nat.{suc-mul, zero-mul, zero-add, add-assoc}
-use lib.ListN.{length, take, drop, getD, set, length-take, length-drop, length-append, take-append-drop}
+use lib.ListN.{take-append-drop}
 use lib.Seq.{take-at, drop-at, drop-drop, take-add, take-take, take-nil}
 use Rattle.lists.specs.Each.{joined, pieces}
 

@@ -1,7 +1,5 @@
 -- Tests joined by `&&`, and choices by a test: each with the rules that a proof uses.
-use mathlib.Core.Path.{_≡_, refl, sym, ap, _∙_}
-use mathlib.Core.Bool.{Bool, true, false, _&&_, cond, true≢false}
-use borrow.Author.Tests.{eqb-true, leb-true, ltb-true}
+use Rattle.lists.specs.Basics.{_≡_, refl, sym, ap, _∙_, Bool, true, false, _&&_, cond, true≢false, eqb-true, leb-true, ltb-true}
 
 -- the first of two tests that hold together
 pub and-fst : (a b : Bool) → (a && b) ≡ true → a ≡ true

@@ -1,9 +1,6 @@
 -- A write in one unit, over bytes. Document 00, demand 2: a call "writes to at most one unit or the coordinator sheet".
-use Prim.Native.Nat.{ℕ}
-use mathlib.Core.Path.{_≡_}
-use mathlib.Core.List.{List}
-use lib.ListN.{length}
-use Rattle.types.specs.declared.Found.the-variants.{At}
+use Rattle.lists.specs.Basics.{_≡_, ℕ, List, length}
+use Rattle.model.specs.Types.{At}
 use Rattle.model.specs.Records.{recordIn}
 use Rattle.model.specs.Coordinator.{coordinatorOf}
 use Rattle.model.specs.SheetCalls.{lineAt}

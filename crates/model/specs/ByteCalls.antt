@@ -1,6 +1,5 @@
 -- The calls on the bytes of two sheets: refusals 1 and 2 first, then the call on the decoded sheets, and what it writes encoded again.
-use Prim.Native.Nat.{ℕ}
-use mathlib.Core.List.{List, _++_}
+use Rattle.lists.specs.Basics.{ℕ, List, _++_}
 use Rattle.model.specs.Records.{records, recordsText}
 use Rattle.model.specs.Coordinator.{coordinatorOf, coordinatorText}
 use Rattle.model.specs.Refusals.{Condition}

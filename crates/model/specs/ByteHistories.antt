@@ -1,7 +1,5 @@
 -- Histories over the bytes of both sheets: the calls as an engine makes them. Demand 3 speaks of these.
-use Prim.Native.Nat.{ℕ}
-use mathlib.Core.Path.{_≡_}
-use mathlib.Core.List.{List}
+use Rattle.lists.specs.Basics.{_≡_, ℕ, List}
 use Rattle.model.specs.Refusals.{refusalOf}
 use Rattle.model.specs.SheetCalls.{checkConditions}
 use Rattle.model.specs.Writes.{Sheets, Write}

@@ -1,10 +1,6 @@
 -- The call by place: a client keeps its transactions as a lent list, and one of them is advanced there. Document 01, "Forms wanted at the bench".
-use Prim.Native.Nat.{ℕ}
-use mathlib.Core.Bool.{Bool, false, _&&_, not}
-use mathlib.Core.List.{List, _∷_, _++_}
-use lib.ListN.{length, getD, set}
-use lib.Dec.{leb, ltb}
-use Rattle.types.specs.declared.Transaction.{Transaction}
+use Rattle.lists.specs.Basics.{ℕ, leb, ltb, Bool, false, not, _&&_, List, _∷_, _++_, length, getD, set}
+use Rattle.model.specs.Types.{Transaction}
 use Rattle.model.specs.Refusals.{Condition, refuse}
 use Rattle.model.specs.SheetCalls.{checkConditions}
 use Rattle.model.specs.Writes.{Sheets}

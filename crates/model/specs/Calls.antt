@@ -1,27 +1,9 @@
 -- The calls over decoded sheets: refused by the first condition that holds, or an answer and a write. Document 01, "Transaction".
-use Prim.Native.Nat.{ℕ, _+_}
-use mathlib.Core.Bool.{Bool, cond}
-use lib.ListN.{getD, replicate}
-use Rattle.types.specs.declared.Key.{Key}
-use Rattle.types.specs.declared.Columns.{Columns}
-use Rattle.types.specs.declared.Record.{Record}
-use Rattle.types.specs.declared.Entry.{Entry}
-use Rattle.types.specs.declared.Transaction.{Transaction}
+use Rattle.lists.specs.Basics.{ℕ, _+_, Bool, cond, getD, replicate}
+use Rattle.model.specs.Types.{Key, Record, Columns, Entry, Transaction, Recovery}
 use Rattle.types.specs.declared.Reading.the-variants.{Again}
-use Rattle.types.specs.declared.Recovery.{Recovery}
 use Rattle.model.specs.Records.{lineOf, byFound}
-use Rattle.model.specs.Transactions.{
-  openPhase,
-  withdrawPhase,
-  noVerdict,
-  noEntry,
-  heldAt,
-  reading,
-  entryAs,
-  withPut,
-  moved,
-  withEntry,
-}
+use Rattle.model.specs.Transactions.{openPhase, withdrawPhase, noVerdict, noEntry, heldAt, reading, entryAs, withPut, moved, withEntry}
 use Rattle.model.specs.Writes.{Sheets, nothing, issue}
 use Rattle.model.specs.Visits.{meeting, isAgain, recovered, recoveryWrite}
 use Rattle.model.specs.Results.{Call, begin, read, put, advance, abort, visit, Answer, returned, answered, visited, Result, made, unless}

@@ -1,14 +1,8 @@
 -- Document 01's twelve cases, section d, as one table, and one theorem: each follows from the definitions by computation.
-use Prim.Native.Nat.{ℕ}
-use mathlib.Core.Path.{_≡_, refl}
-use mathlib.Core.Bool.{cond}
-use mathlib.Core.List.{List, [], _∷_, _++_, map}
-use lib.ListN.{replicate, set}
+use Rattle.lists.specs.Basics.{_≡_, refl, ℕ, cond, List, [], _∷_, _++_, map, set, replicate}
 use Rattle.lists.specs.Bytes.{bytes}
-use Rattle.types.specs.declared.AtomicityUnit.{AtomicityUnit}
+use Rattle.model.specs.Types.{AtomicityUnit, Entry, Transaction}
 use Rattle.types.specs.declared.AtomicityUnit.the-variants.{Partition, Namespace}
-use Rattle.types.specs.declared.Entry.{Entry}
-use Rattle.types.specs.declared.Transaction.{Transaction}
 use Rattle.model.specs.Lines.{text}
 use Rattle.model.specs.Records.{recordIn, noImage}
 use Rattle.model.specs.Transactions.{noEntry, entryAs, openPhase, preparePhase, decidePhase, finishPhase, undoPhase}

@@ -1,14 +1,7 @@
 -- Which refusals each call can give, in the order in which they are asked. Document 01, "Numbered refusals"; 1 and 2, of the sheets themselves,
 -- come before these (ByteCalls).
-use Prim.Native.Nat.{ℕ}
-use mathlib.Core.Bool.{Bool, true, false, _&&_, not}
-use mathlib.Core.List.{List, [], _∷_}
-use lib.ListN.{length, getD}
-use lib.Dec.{eqb, leb}
-use Rattle.types.specs.declared.Decision.{Decision}
-use Rattle.types.specs.declared.Key.{Key}
-use Rattle.types.specs.declared.Entry.{Entry}
-use Rattle.types.specs.declared.Transaction.{Transaction}
+use Rattle.lists.specs.Basics.{ℕ, eqb, leb, Bool, true, false, not, _&&_, List, [], _∷_, length, getD}
+use Rattle.model.specs.Types.{Key, Decision, Entry, Transaction}
 use Rattle.model.specs.Records.{keyInRange, hasLine, lineOf, isMissing, byFound}
 use Rattle.model.specs.Coordinator.{decision}
 use Rattle.model.specs.Refusals.{Condition, refuse}

@@ -1,15 +1,9 @@
 -- The coordinator sheet: numbers issued, units and decisions, and its rules. Document 01, "Coordinator sheet".
-use Prim.Native.Nat.{ℕ, zero, suc}
-use mathlib.Core.Bool.{Bool, true, false, _&&_}
-use mathlib.Core.List.{List, [], _∷_, _++_, map}
-use lib.ListN.{length, take, drop, getD, set}
-use lib.Dec.{eqb, leb}
+use Rattle.lists.specs.Basics.{ℕ, zero, suc, eqb, leb, Bool, true, false, _&&_, List, [], _∷_, _++_, map, length, take, drop, getD, set}
 use Rattle.lists.specs.Each.{all, joined}
-use Rattle.types.specs.declared.Decision.{Decision}
+use Rattle.model.specs.Types.{Record, Decision, AtomicityUnit}
 use Rattle.types.specs.declared.Decision.the-variants.{Undecided, Committed, Aborted}
-use Rattle.types.specs.declared.AtomicityUnit.{AtomicityUnit}
 use Rattle.types.specs.declared.AtomicityUnit.the-variants.{Record as RecordUnit, Partition, Table, Namespace, Storage}
-use Rattle.types.specs.declared.Record.{Record}
 use Rattle.model.specs.Layouts.{headLayout, lineLayout, decisionColumn, decisionField, coordinatorBytes, headFields}
 use Rattle.model.specs.Lines.{rowOf, lineText, lineSet, inRange, rowGood, linesOf, linesSet}
 

@@ -1,15 +1,9 @@
 -- Atomicity units, and the groups of a transaction's puts. Document 01, "Atomicity units".
-use Prim.Native.Nat.{ℕ, zero, suc}
-use mathlib.Core.Bool.{cond}
-use mathlib.Core.List.{List, [], _∷_}
-use lib.ListN.{length, take, getD}
-use lib.Dec.{eqb}
+use Rattle.lists.specs.Basics.{ℕ, zero, suc, eqb, cond, List, [], _∷_, length, take, getD}
 use Rattle.lists.specs.Bytes.{eqList}
 use Rattle.lists.specs.Each.{any, filter, count, less}
-use Rattle.types.specs.declared.AtomicityUnit.{AtomicityUnit}
+use Rattle.model.specs.Types.{Key, AtomicityUnit, Entry}
 use Rattle.types.specs.declared.AtomicityUnit.the-variants.{Record as RecordUnit, Partition, Table, Namespace, Storage}
-use Rattle.types.specs.declared.Key.{Key}
-use Rattle.types.specs.declared.Entry.{Entry}
 use Rattle.model.specs.Records.{keyNumbers}
 
 -- "Puts are in one group if their keys agree in the first 5, 4, 3, 2 or 1 fields."

@@ -1,13 +1,9 @@
 -- Histories of calls, and which are legal. Document 01, "The cut-off rule". A crash falls between two calls, so that it needs no event of its own.
-use Prim.Native.Nat.{ℕ, _^_, _<_}
-use mathlib.Core.Path.{_≡_}
-use mathlib.Core.Logic.{_⊎_}
-use mathlib.Core.Bool.{Bool, false, _||_}
-use mathlib.Core.List.{List, [], _∷_}
-use mathlib.Core.Option.{Option, none, some}
-use Rattle.types.specs.declared.Transaction.{Transaction}
+use Rattle.lists.specs.Basics.{_≡_, ℕ, _^_, _<_, Bool, false, _||_, List, [], _∷_, Option, none, some, _⊎_}
+use Rattle.model.specs.Types.{Transaction}
 use Rattle.model.specs.Writes.{Sheets, Write, isOnePhase, apply}
-use Rattle.model.specs.Results.{Call, begin, read, put, advance, abort, visit, Answer, turnedAway, returned, answered, visited, returns, writeOf, answerOf}
+use Rattle.model.specs.Results.{Call, begin, read, put, advance, abort, visit, Answer, turnedAway, returned, answered, visited, returns, writeOf}
+use Rattle.model.specs.Results.{answerOf}
 use Rattle.model.specs.Calls.{result}
 
 -- a call made, and its answer

@@ -1,16 +1,8 @@
 -- What becomes of one record: prepared, committed in one phase, rolled forward or back; and what a visit comes to. Document 01, "Transaction".
-use Prim.Native.Nat.{ℕ, _+_, _-_, _%_, _^_}
-use mathlib.Core.Bool.{Bool, true, false, _&&_, not, cond}
-use lib.Dec.{eqb, leb}
-use Rattle.types.specs.declared.State.{State}
+use Rattle.lists.specs.Basics.{ℕ, _+_, _-_, _%_, _^_, eqb, leb, Bool, true, false, not, _&&_, cond}
+use Rattle.model.specs.Types.{Image, Record, State, Decision, Columns, Entry, Recovery}
 use Rattle.types.specs.declared.State.the-variants.{Absent, Committed, Prepared}
-use Rattle.types.specs.declared.Decision.{Decision}
 use Rattle.types.specs.declared.Decision.the-variants as Decided
-use Rattle.types.specs.declared.Image.{Image}
-use Rattle.types.specs.declared.Columns.{Columns}
-use Rattle.types.specs.declared.Record.{Record}
-use Rattle.types.specs.declared.Entry.{Entry}
-use Rattle.types.specs.declared.Recovery.{Recovery}
 use Rattle.types.specs.declared.Recovery.the-variants.{Stays, Forward, Back, Again, Busy}
 use Rattle.model.specs.Records.{byState, noImage}
 

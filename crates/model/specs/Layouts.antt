@@ -1,13 +1,7 @@
 -- The layout of every line, as data: widths, kinds and ranges of its fields, in the order of document 01's tables.
-use Prim.Native.Nat.{ℕ, zero, suc, _+_}
-use mathlib.Core.List.{List, [], _∷_}
-use lib.ListN.{take, drop, getD}
+use Rattle.lists.specs.Basics.{ℕ, zero, suc, _+_, List, [], _∷_, take, drop, getD}
 use Rattle.lists.specs.Bytes.{bytes}
-use Rattle.types.specs.declared.Kind.{Kind}
-use Rattle.types.specs.declared.Kind.the-variants.{Figure, StateWord, DecisionWord, UnitLetter}
-use Rattle.types.specs.declared.Column.{Column}
-use Rattle.types.specs.declared.Layout.{Layout}
-use Rattle.types.specs.declared.Layout.the-variants.{RecordLine, KeyLine, CoordinatorHead, CoordinatorLine}
+use Rattle.model.specs.Types.{Layout, RecordLine, KeyLine, CoordinatorHead, CoordinatorLine, Column, Kind, Figure, StateWord, DecisionWord, UnitLetter}
 
 -- the words of a kind, each right-justified in ten bytes; a field of fewer columns holds the last bytes of one
 unfoldable pub words : Kind → List (List ℕ)

@@ -1,14 +1,9 @@
 -- The places where learners go astray, as theorems. Document 01, "Where learners go astray"; the first, on grouping, is in the table of Cases.
 -- Each follows by the case of the definition that it is about.
-use Prim.Native.Nat.{ℕ}
-use mathlib.Core.Path.{_≡_, refl}
-use mathlib.Core.Bool.{false}
-use mathlib.Core.List.{List}
+use Rattle.lists.specs.Basics.{_≡_, refl, ℕ, false, List}
 use Rattle.lists.specs.Each.{all}
 use Rattle.lists.specs.All.{map-unmoved}
-use Rattle.types.specs.declared.Key.{Key}
-use Rattle.types.specs.declared.Record.{Record}
-use Rattle.types.specs.declared.Transaction.{Transaction}
+use Rattle.model.specs.Types.{Key, Record, Transaction}
 use Rattle.types.specs.declared.Recovery.the-variants.{Again, Back}
 use Rattle.model.specs.Images.{preparedBy}
 use Rattle.model.specs.Writes.{Sheets, nothing, forward, back, isOf, lineAfter, linesAfter, decisionsAfter, apply}

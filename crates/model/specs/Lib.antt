@@ -1,4 +1,5 @@
 -- The specification. Read in this order.
+pub mod Types
 pub mod Layouts
 pub mod Lines
 pub mod Search

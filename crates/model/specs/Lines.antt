@@ -1,18 +1,12 @@
 -- Fields, lines and sheets of lines, read and written by a layout: one codec for every kind of line.
 -- A line is read into a row of numbers, one for each field.
-use Prim.Native.Nat.{ℕ, suc, _-_, _*_, _/_}
-use mathlib.Core.Bool.{Bool, true, _&&_, cond}
-use mathlib.Core.List.{List, [], _∷_, _++_, map}
-use lib.ListN.{length, take, drop, getD}
-use lib.Dec.{eqb, leb}
+use Rattle.lists.specs.Basics.{ℕ, suc, _-_, _*_, _/_, eqb, leb, Bool, true, _&&_, cond, List, [], _∷_, _++_, map, length, take, drop, getD}
 use Rattle.lists.specs.Bytes.{eqList}
 use Rattle.lists.specs.Each.{all, joined, pieces}
 use Rattle.decimal.specs.declared.Scan.{Scan}
 use Rattle.decimal.specs.declared.Scan.the-variants.{Number, Wrong}
 use Rattle.decimal.specs.Field.{figure, fieldText, number, isNumber}
-use Rattle.types.specs.declared.Kind.{Kind}
-use Rattle.types.specs.declared.Kind.the-variants.{Figure, StateWord, DecisionWord, UnitLetter}
-use Rattle.types.specs.declared.Column.{Column}
+use Rattle.model.specs.Types.{Column, Kind, Figure, StateWord, DecisionWord, UnitLetter}
 use Rattle.model.specs.Layouts.{words, wordAt}
 
 -- the word t of ten bytes in a field of w columns

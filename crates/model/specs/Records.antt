@@ -1,28 +1,10 @@
 -- The record sheet: a line as a record, and the rules that records keep. Document 01, "Record sheet".
-use Prim.Native.Nat.{ℕ, zero, suc, _+_, _*_, _/_}
-use mathlib.Core.Bool.{Bool, true, false, _&&_, _||_, not, cond}
-use mathlib.Core.List.{List, [], _∷_, _++_, map}
-use lib.ListN.{length, getD}
-use lib.Dec.{eqb, leb}
+use Rattle.lists.specs.Basics.{ℕ, zero, suc, _+_, _*_, _/_, eqb, leb, Bool, true, false, not, _&&_, _||_, cond, List, [], _∷_, _++_, map, length, getD}
 use Rattle.lists.specs.Bytes.{eqList}
 use Rattle.lists.specs.Each.{all, joined, pieces, less}
-use Rattle.types.specs.declared.State.{State}
+use Rattle.model.specs.Types.{Key, Image, Record, State, Found, At, Nothing}
 use Rattle.types.specs.declared.State.the-variants.{Absent, Committed, Prepared}
-use Rattle.types.specs.declared.Key.{Key}
-use Rattle.types.specs.declared.Image.{Image}
-use Rattle.types.specs.declared.Record.{Record}
-use Rattle.types.specs.declared.Found.{Found}
-use Rattle.types.specs.declared.Found.the-variants.{At, Nothing}
-use Rattle.model.specs.Layouts.{
-  recordLayout,
-  keyLayout,
-  stateField,
-  imageField,
-  beforeField,
-  clockField,
-  recordBytes,
-  recordFields,
-}
+use Rattle.model.specs.Layouts.{recordLayout, keyLayout, stateField, imageField, beforeField, clockField, recordBytes, recordFields}
 use Rattle.model.specs.Lines.{rowOf, lineText, rowGood, linesOf, linesSet}
 use Rattle.model.specs.Search.{firstFrom}
 

@@ -1,14 +1,7 @@
 -- What demand 3 claims, of bytes, a history of turns on them and visits that follow it.
-use Prim.Native.Nat.{ℕ, _<_}
-use mathlib.Core.Path.{_≡_}
-use mathlib.Core.Bool.{Bool, true}
-use mathlib.Core.Logic.{_⊎_}
-use mathlib.Core.List.{List, [], map}
-use mathlib.Core.Option.{some}
-use Rattle.types.specs.declared.Decision.{Decision}
+use Rattle.lists.specs.Basics.{_≡_, ℕ, _<_, Bool, true, List, [], map, some, _⊎_}
+use Rattle.model.specs.Types.{Key, Record, Decision}
 use Rattle.types.specs.declared.Decision.the-variants.{Committed}
-use Rattle.types.specs.declared.Key.{Key}
-use Rattle.types.specs.declared.Record.{Record}
 use Rattle.model.specs.Records.{records, recordsText}
 use Rattle.model.specs.Coordinator.{coordinatorOf, decision}
 use Rattle.model.specs.Images.{Change}

@@ -1,12 +1,8 @@
 -- The recovery pass (document 01: closing visits) after a history: "once every line has then been visited at least twice with no other call,
 -- undecided ones at clock readings where they have expired".
-use Prim.Native.Nat.{ℕ, _^_, _<_, _≤_}
-use mathlib.Core.Path.{_≡_}
-use mathlib.Core.Bool.{Bool, true, _&&_, not}
-use mathlib.Core.List.{List, [], _∷_}
+use Rattle.lists.specs.Basics.{_≡_, ℕ, _^_, _≤_, _<_, Bool, true, not, _&&_, List, [], _∷_}
 use Rattle.lists.specs.Each.{all, count}
-use Rattle.types.specs.declared.Key.{Key}
-use Rattle.types.specs.declared.Record.{Record}
+use Rattle.model.specs.Types.{Key, Record}
 use Rattle.model.specs.Records.{sameKey, lineOf, hasLine}
 use Rattle.model.specs.Coordinator.{isUndecided}
 use Rattle.model.specs.Images.{isPrepared}

@@ -1,8 +1,5 @@
 -- Numbered refusals: a call lists its conditions in the order in which they are asked, and the first that holds is the answer.
-use Prim.Native.Nat.{ℕ, suc}
-use mathlib.Core.Bool.{Bool, _&&_, _||_, not, cond}
-use mathlib.Core.List.{List, [], _∷_}
-use lib.Dec.{eqb, leb}
+use Rattle.lists.specs.Basics.{ℕ, suc, eqb, leb, Bool, not, _&&_, _||_, cond, List, [], _∷_}
 use Rattle.lists.specs.Each.{all, any}
 
 -- a number of document 01's table, and whether its condition holds

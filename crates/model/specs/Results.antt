@@ -1,14 +1,6 @@
 -- The calls, their arguments and what they come to.
-use Prim.Native.Nat.{ℕ}
-use mathlib.Core.Bool.{Bool, cond}
-use mathlib.Core.List.{List}
-use mathlib.Core.Option.{Option, none, some}
-use lib.Dec.{eqb}
-use Rattle.types.specs.declared.Key.{Key}
-use Rattle.types.specs.declared.Columns.{Columns}
-use Rattle.types.specs.declared.Transaction.{Transaction}
-use Rattle.types.specs.declared.Reading.{Reading}
-use Rattle.types.specs.declared.Recovery.{Recovery}
+use Rattle.lists.specs.Basics.{ℕ, eqb, Bool, cond, List, Option, none, some}
+use Rattle.model.specs.Types.{Key, Columns, Transaction, Recovery, Reading}
 use Rattle.model.specs.Refusals.{Condition, refusalOf}
 use Rattle.model.specs.Writes.{Write, nothing}
 

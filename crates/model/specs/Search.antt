@@ -1,9 +1,6 @@
 -- The search of an element in a list. A key is looked up so among the lines of a sheet and among the entries of a transaction.
-use Prim.Native.Nat.{ℕ, suc}
-use mathlib.Core.Bool.{Bool, cond}
-use mathlib.Core.List.{List, [], _∷_}
-use Rattle.types.specs.declared.Found.{Found}
-use Rattle.types.specs.declared.Found.the-variants.{At, Nothing}
+use Rattle.lists.specs.Basics.{ℕ, suc, Bool, cond, List, [], _∷_}
+use Rattle.model.specs.Types.{Found, At, Nothing}
 
 -- the place of the first element that passes the test, counted from i
 unfoldable pub firstFrom {ℓ} : {A : Type ℓ} → (A → Bool) → ℕ → List A → Found

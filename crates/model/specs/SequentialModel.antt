@@ -1,15 +1,9 @@
 -- The sequential model (document 01: the plain book): a line for each key and a write set (page) for each number. It is fed each call's arguments and
 -- its answer, and never sees the sheets.
-use Prim.Native.Nat.{ℕ}
-use mathlib.Core.Bool.{Bool, false, _&&_, cond}
-use mathlib.Core.List.{List, [], _∷_}
-use mathlib.Core.Option.{Option, none, some}
-use lib.Dec.{eqb}
+use Rattle.lists.specs.Basics.{ℕ, eqb, Bool, false, _&&_, cond, List, [], _∷_, Option, none, some}
 use Rattle.lists.specs.Each.{any}
 use Rattle.types.specs.declared.State.the-variants.{Committed}
-use Rattle.types.specs.declared.Key.{Key}
-use Rattle.types.specs.declared.Record.{Record}
-use Rattle.types.specs.declared.Transaction.{Transaction}
+use Rattle.model.specs.Types.{Key, Record, Transaction}
 use Rattle.model.specs.Records.{noImage, sameKey, lineOf}
 use Rattle.model.specs.Images.{Change, writtenImage}
 use Rattle.model.specs.Transactions.{noVerdict, committedVerdict}

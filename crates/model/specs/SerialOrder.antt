@@ -1,18 +1,10 @@
 -- What a checked transaction saw: the order in which the transactions of a history count, the serial run of the committed ones in that order, and what is
 -- claimed of both. Document 02, note 8.
-use Prim.Native.Nat.{ℕ}
-use mathlib.Core.Path.{_≡_}
-use mathlib.Core.Bool.{Bool, true, _&&_, _||_, cond}
-use mathlib.Core.List.{List, [], _∷_}
-use mathlib.Core.Option.{Option, none, some}
-use lib.Dec.{eqb, leb}
+use Rattle.lists.specs.Basics.{_≡_, ℕ, eqb, leb, Bool, true, _&&_, _||_, cond, List, [], _∷_, Option, none, some}
 use Rattle.lists.specs.Each.{count}
 use Rattle.lists.specs.Members.{Mem}
-use Rattle.types.specs.declared.Key.{Key}
-use Rattle.types.specs.declared.Record.{Record}
-use Rattle.types.specs.declared.Reading.{Reading}
+use Rattle.model.specs.Types.{Key, Record, Transaction, Reading}
 use Rattle.types.specs.declared.Reading.the-variants.{Again}
-use Rattle.types.specs.declared.Transaction.{Transaction}
 use Rattle.model.specs.Records.{lineOf}
 use Rattle.model.specs.Transactions.{openPhase, preparePhase, validatePhase, decidePhase, donePhase, isEmpty, puts, reading}
 use Rattle.model.specs.Results.{Call, begin, read, put, advance, abort, visit, answered, refusalIn, returns}

@@ -1,36 +1,12 @@
 -- The calls that take no transaction and no clock: the check, sheets to numbers and back, the look-up.
 -- For each, its conditions of refusal in order, and what it answers or leaves in the lent target.
-use Prim.Native.Nat.{ℕ, _+_, _*_, _/_}
-use mathlib.Core.Bool.{Bool, _&&_, not, cond}
-use mathlib.Core.List.{List, [], _∷_, map}
-use lib.ListN.{length, take, drop}
-use lib.Dec.{eqb}
+use Rattle.lists.specs.Basics.{ℕ, _+_, _*_, _/_, eqb, Bool, not, _&&_, cond, List, [], _∷_, map, length, take, drop}
 use Rattle.lists.specs.Each.{all}
-use Rattle.types.specs.declared.Key.{Key}
-use Rattle.types.specs.declared.Found.{Found}
-use Rattle.types.specs.declared.Found.the-variants.{At, Nothing}
+use Rattle.model.specs.Types.{Key, Found, At, Nothing}
 use Rattle.model.specs.Layouts.{recordBytes, coordinatorBytes, recordFields, headFields}
-use Rattle.model.specs.Records.{
-  records,
-  recordsAccepted,
-  recordsText,
-  recordOf,
-  rows,
-  rowsAccepted,
-  allNumbers,
-  keyInRange,
-  found,
-  isMissing,
-}
-use Rattle.model.specs.Coordinator.{
-  coordinatorOf,
-  coordinatorAccepted,
-  coordinatorText,
-  coordinatorFrom,
-  coordinatorNumbers,
-  numbersAccepted,
-  namesIssued,
-}
+use Rattle.model.specs.Records.{records, recordsAccepted, recordsText, recordOf, rows, rowsAccepted, allNumbers, keyInRange, found, isMissing}
+use Rattle.model.specs.Coordinator.{coordinatorOf, coordinatorAccepted, coordinatorText, coordinatorFrom, coordinatorNumbers, numbersAccepted}
+use Rattle.model.specs.Coordinator.{namesIssued}
 use Rattle.model.specs.Refusals.{Condition, refuse, refusalOf}
 
 -- a target after a call: what was to be written, or as it came where the call was refused

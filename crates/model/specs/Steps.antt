@@ -1,35 +1,12 @@
 -- The step table: what an advance does in each of the eight phases, whether or not it would be refused. Document 01, "Transaction".
-use Prim.Native.Nat.{ℕ, _+_}
-use mathlib.Core.Bool.{Bool, _&&_, not, cond}
-use mathlib.Core.List.{List, map}
-use lib.ListN.{length, getD}
-use lib.Dec.{eqb, ltb}
+use Rattle.lists.specs.Basics.{ℕ, _+_, eqb, ltb, Bool, not, _&&_, cond, List, map, length, getD}
 use Rattle.lists.specs.Each.{all}
-use Rattle.types.specs.declared.AtomicityUnit.{AtomicityUnit}
+use Rattle.model.specs.Types.{Key, AtomicityUnit, Entry, Transaction}
 use Rattle.types.specs.declared.Decision.the-variants.{Committed, Aborted}
-use Rattle.types.specs.declared.Key.{Key}
-use Rattle.types.specs.declared.Entry.{Entry}
-use Rattle.types.specs.declared.Transaction.{Transaction}
 use Rattle.model.specs.Records.{hasLine, lineOf}
 use Rattle.model.specs.Coordinator.{decision}
-use Rattle.model.specs.Transactions.{
-  byPhase,
-  preparePhase,
-  validatePhase,
-  decidePhase,
-  withdrawPhase,
-  finishPhase,
-  undoPhase,
-  donePhase,
-  committedVerdict,
-  abortedVerdict,
-  isSerializable,
-  isEmpty,
-  puts,
-  toValidate,
-  noEntry,
-  moved,
-}
+use Rattle.model.specs.Transactions.{byPhase, preparePhase, validatePhase, decidePhase, withdrawPhase, finishPhase, undoPhase, donePhase}
+use Rattle.model.specs.Transactions.{committedVerdict, abortedVerdict, isSerializable, isEmpty, puts, toValidate, noEntry, moved}
 use Rattle.model.specs.Groups.{groupCount, group}
 use Rattle.model.specs.Images.{unchanged, byDecision}
 use Rattle.model.specs.Writes.{Sheets, Write, nothing, decide, commit, prepare, forward, back}

@@ -1,19 +1,8 @@
 -- A transaction as its client keeps it: names for its numbers, and the entries that it holds. Document 01, "Transaction".
-use Prim.Native.Nat.{ℕ}
-use mathlib.Core.Bool.{Bool, true, false, _&&_, not, cond}
-use mathlib.Core.List.{List, [], _∷_}
-use lib.ListN.{take, set}
-use lib.Dec.{eqb}
+use Rattle.lists.specs.Basics.{ℕ, eqb, Bool, true, false, not, _&&_, cond, List, [], _∷_, take, set}
 use Rattle.lists.specs.Each.{filter}
-use Rattle.types.specs.declared.AtomicityUnit.{AtomicityUnit}
-use Rattle.types.specs.declared.Key.{Key}
-use Rattle.types.specs.declared.Image.{Image}
-use Rattle.types.specs.declared.Columns.{Columns}
-use Rattle.types.specs.declared.Entry.{Entry}
-use Rattle.types.specs.declared.Transaction.{Transaction}
-use Rattle.types.specs.declared.Reading.{Reading}
+use Rattle.model.specs.Types.{Key, Image, AtomicityUnit, Found, Columns, Entry, Transaction, Reading}
 use Rattle.types.specs.declared.Reading.the-variants.{Absent, Value}
-use Rattle.types.specs.declared.Found.{Found}
 use Rattle.model.specs.Search.{firstFrom}
 use Rattle.model.specs.Records.{noImage, noRecord, sameKey}
 

@@ -1,10 +1,7 @@
 -- Turns of a history, over decoded sheets and over bytes: a call, or one that comes to calls. Document 01, "The cut-off rule": "advance (by place too,
 -- taking and returning the one named)". To legality and to the sequential model an advance by place is the advance of the one named.
-use Prim.Native.Nat.{ℕ}
-use mathlib.Core.Bool.{Bool, false, _||_, cond}
-use mathlib.Core.List.{List, [], _∷_, _++_}
-use lib.ListN.{length}
-use Rattle.types.specs.declared.Transaction.{Transaction}
+use Rattle.lists.specs.Basics.{ℕ, Bool, false, _||_, cond, List, [], _∷_, _++_, length}
+use Rattle.model.specs.Types.{Transaction}
 use Rattle.model.specs.Writes.{Sheets, isOnePhase, apply}
 use Rattle.model.specs.Results.{Call, advance, writeOf, answerOf}
 use Rattle.model.specs.CallByPlace.{listed, named, advanceAtResult, advanceAtOn}

@@ -1,14 +1,8 @@
 -- The visiting program, from its whole input to its whole output. Document 01, "The visiting program".
-use Prim.Native.Nat.{ℕ, _+_, _*_}
-use mathlib.Core.Bool.{Bool, _&&_, not, cond}
-use mathlib.Core.List.{List, [], _∷_, _++_, map}
-use lib.ListN.{length, take, drop, getD}
-use lib.Dec.{eqb}
+use Rattle.lists.specs.Basics.{ℕ, _+_, _*_, eqb, Bool, not, _&&_, cond, List, [], _∷_, _++_, map, length, take, drop, getD}
 use Rattle.lists.specs.Bytes.{bytes}
 use Rattle.decimal.specs.Field.{fieldText}
-use Rattle.types.specs.declared.Column.{Column}
-use Rattle.types.specs.declared.Key.{Key}
-use Rattle.types.specs.declared.Record.{Record}
+use Rattle.model.specs.Types.{Key, Record, Column}
 use Rattle.model.specs.Layouts.{figures, recordBytes, coordinatorBytes}
 use Rattle.model.specs.Lines.{rowOf, lineSet}
 use Rattle.model.specs.Records.{records}

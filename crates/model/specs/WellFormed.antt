@@ -1,33 +1,12 @@
 -- Well-formed transactions (refusal 3): a line for each clause of document 01, "Transaction". Where it leaves room, docs/DECISIONS.md says what was decided.
-use Prim.Native.Nat.{ℕ}
-use mathlib.Core.Bool.{Bool, true, false, _&&_, _||_, not}
-use mathlib.Core.List.{List, [], _∷_}
-use lib.ListN.{length}
-use lib.Dec.{eqb, leb, ltb}
+use Rattle.lists.specs.Basics.{ℕ, eqb, leb, ltb, Bool, true, false, not, _&&_, _||_, List, [], _∷_, length}
 use Rattle.lists.specs.Each.{all, any}
-use Rattle.types.specs.declared.AtomicityUnit.{AtomicityUnit}
-use Rattle.types.specs.declared.Image.{Image}
-use Rattle.types.specs.declared.Columns.{Columns}
-use Rattle.types.specs.declared.Entry.{Entry}
-use Rattle.types.specs.declared.Record.{Record}
-use Rattle.types.specs.declared.Transaction.{Transaction}
+use Rattle.model.specs.Types.{Image, Record, AtomicityUnit, Columns, Entry, Transaction}
 use Rattle.model.specs.Layouts.{imageLayout, columnsLayout}
 use Rattle.model.specs.Lines.{rowGood}
 use Rattle.model.specs.Records.{imageNumbers, isZero, sameKey, hasLine}
-use Rattle.model.specs.Transactions.{
-  byPhase,
-  validatePhase,
-  decidePhase,
-  noVerdict,
-  committedVerdict,
-  abortedVerdict,
-  isSerializable,
-  isPut,
-  isEmpty,
-  held,
-  puts,
-  toValidate,
-}
+use Rattle.model.specs.Transactions.{byPhase, validatePhase, decidePhase, noVerdict, committedVerdict, abortedVerdict, isSerializable, isPut, isEmpty}
+use Rattle.model.specs.Transactions.{held, puts, toValidate}
 use Rattle.model.specs.Groups.{groupCount}
 use Rattle.model.specs.Writes.{Sheets}
 

@@ -1,14 +1,7 @@
 -- What a call writes, as data: the lines of one group, or the coordinator sheet, or nothing. Only `apply` changes sheets.
-use Prim.Native.Nat.{ℕ, _+_}
-use mathlib.Core.Bool.{Bool, false, _&&_, cond}
-use mathlib.Core.List.{List, [], _∷_, map}
-use mathlib.Core.Option.{Option, none, some}
-use lib.Dec.{eqb}
+use Rattle.lists.specs.Basics.{ℕ, _+_, eqb, Bool, false, _&&_, cond, List, [], _∷_, map, Option, none, some}
 use Rattle.lists.specs.Each.{all, any}
-use Rattle.types.specs.declared.Decision.{Decision}
-use Rattle.types.specs.declared.Key.{Key}
-use Rattle.types.specs.declared.Record.{Record}
-use Rattle.types.specs.declared.Entry.{Entry}
+use Rattle.model.specs.Types.{Key, Record, Decision, Entry}
 use Rattle.model.specs.Records.{sameKey, recordsGood}
 use Rattle.model.specs.Coordinator.{Coordinator, coordinatorGood, namesIssued, withDecision, withIssued}
 use Rattle.model.specs.Images.{changeOf, preparedBy, prepared, committed, rolledForward, rolledBack}

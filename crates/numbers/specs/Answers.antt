@@ -1,21 +1,11 @@
 -- What each call answers, case by case in the order of its conditions.
-use Prim.Native.Nat.{ℕ, _*_, _/_}
-use mathlib.Core.Path.{_≡_, refl, _∙_}
-use mathlib.Core.Bool.{true, false}
-use mathlib.Core.List.{List, map}
-use lib.ListN.{length}
-use borrow.Author.Tests.{eq-eqb, ne-eqb}
+use Rattle.lists.specs.Basics.{_≡_, refl, _∙_, ℕ, _*_, _/_, true, false, List, map, length, eq-eqb, ne-eqb}
 use Rattle.lists.specs.Each.{joined}
 use Rattle.model.specs.Layouts.{recordLayout, recordBytes}
 use Rattle.model.specs.Lines.{rowOf, lineText, linesOf}
 use Rattle.model.specs.Records.{recordsAccepted, rows, rowsAccepted}
 use Rattle.model.specs.Refusals.{refusalOf}
-use Rattle.model.specs.SheetCalls.{
-  readRecordsConditions,
-  numbersRead,
-  writeRecordsConditions,
-  recordsWritten,
-}
+use Rattle.model.specs.SheetCalls.{readRecordsConditions, numbersRead, writeRecordsConditions, recordsWritten}
 use Rattle.sheet_laws.specs.Numbers.{numbers-of-lines, lines-of-numbers}
 
 -- Record sheet to numbers.

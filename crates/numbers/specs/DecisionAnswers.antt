@@ -1,31 +1,14 @@
 -- What the two calls on a coordinator's numbers answer, case by case in the order of their conditions. Where none holds, the head and
 -- the lines say the numbers of the coordinator, part by part.
-use Prim.Native.Nat.{ℕ, suc, _+_, _*_, _/_, _≤_}
-use mathlib.Core.Path.{_≡_, refl, sym, ap, ap₂, _∙_}
-use mathlib.Core.Bool.{true, false}
-use mathlib.Core.List.{List, [], _∷_, _++_, map}
-use native.Mathlib.Omega.{arith}
-use lib.ListN.{length, take, drop, getD, length-take, length-map}
-use lib.Dec.{eqb}
-use borrow.Author.Tests.{eq-eqb, ne-eqb}
+use Rattle.lists.specs.Basics.{_≡_, refl, sym, ap, ap₂, _∙_, ℕ, suc, _+_, _*_, _/_, _≤_, eqb, true, false, List, [], _∷_, _++_, map, length, take, drop, getD}
+use Rattle.lists.specs.Basics.{length-map, length-take, arith, eq-eqb, ne-eqb}
 use Rattle.lists.specs.Tests.{and-fst, and-snd, tests}
 use Rattle.lists.specs.Each.{all, joined}
 use Rattle.lists.specs.All.{map-map, map-equal}
 use Rattle.model.specs.Layouts.{headLayout, lineLayout, decisionColumn, figures}
 use Rattle.model.specs.Lines.{rowOf, lineText, lineSet, rowGood, inRange, linesOf, linesSet}
-use Rattle.model.specs.Coordinator.{
-  decisionNumber,
-  decisionOf,
-  decisionIn,
-  decisionTexts,
-  headNumbers,
-  coordinatorOf,
-  coordinatorAccepted,
-  coordinatorText,
-  coordinatorNumbers,
-  coordinatorFrom,
-  numbersAccepted,
-}
+use Rattle.model.specs.Coordinator.{decisionNumber, decisionOf, decisionIn, decisionTexts, headNumbers, coordinatorOf, coordinatorAccepted, coordinatorText}
+use Rattle.model.specs.Coordinator.{coordinatorNumbers, coordinatorFrom, numbersAccepted}
 use Rattle.model.specs.Refusals.{refusalOf}
 use Rattle.model.specs.SheetCalls.{readCoordinatorConditions, decisionsRead, writeCoordinatorConditions, coordinatorWritten}
 use Rattle.sheet_laws.specs.Lines.{length-rowOf, line-written-read, row-in-range}

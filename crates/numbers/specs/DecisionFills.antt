@@ -1,10 +1,7 @@
 -- Filling with decisions: number by number from the lines of a sheet, and line by line from the numbers.
 -- Each loop stores element i of a list that is known beforehand.
-use Prim.Native.Nat.{ℕ, zero, suc, _+_, _-_, _*_, _/_, _≤_, _<_}
-use mathlib.Core.Path.{_≡_, refl, sym, ap, _∙_}
-use mathlib.Core.List.{List, [], _∷_, _++_, map}
-use native.Mathlib.Omega.{arith}
-use lib.ListN.{length, take, drop, getD, set, length-map, List·getD-map}
+use Rattle.lists.specs.Basics.{_≡_, refl, sym, ap, _∙_, ℕ, zero, suc, _+_, _-_, _*_, _/_, _≤_, _<_, List, [], _∷_, _++_, map, length, take, drop, getD, set}
+use Rattle.lists.specs.Basics.{length-map, List·getD-map, arith}
 use Rattle.lists.specs.Each.{joined}
 use Rattle.lists.specs.All.{getD-any}
 use Rattle.lists.specs.Pieces.{over-part, length-pieces, getD-pieces}

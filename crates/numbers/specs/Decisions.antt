@@ -1,28 +1,16 @@
 -- A coordinator as numbers, judged decision by decision: below the issued count any of the three, from it on none.
 -- The two tests of the rules, range and no decision, are one pass, by induction on the decisions.
-use Prim.Native.Nat.{ℕ, zero, suc, _+_, _-_, _*_, _/_, _%_, _≤_, _<_}
-use mathlib.Core.Path.{_≡_, refl, sym, ap, ap₂, _∙_}
-use mathlib.Core.Bool.{Bool, true, false, _&&_, and-assoc}
-use mathlib.Core.List.{List, [], _∷_, map}
-use native.Mathlib.Omega.{arith}
-use native.Mathlib.Numerals.{add-one}
-use lib.ListN.{length, take, drop, getD, length-map, length-take, length-drop, drop-of-length-le}
+use Rattle.lists.specs.Basics.{_≡_, refl, sym, ap, ap₂, _∙_, ℕ, zero, suc, _+_, _-_, _*_, _/_, _%_, _≤_, _<_, eqb, leb, Bool, true, false, _&&_, and-assoc}
+use Rattle.lists.specs.Basics.{List, [], _∷_, map, length, take, drop, getD, length-map, length-take, length-drop, drop-of-length-le, arith, add-one, eqb-true}
+use Rattle.lists.specs.Basics.{leb-true, eq-eqb, ne-eqb, le-leb, lt-leb}
 use lib.Seq.{drop-cons}
-use lib.Dec.{eqb, leb, leb·zero}
-use borrow.Author.Tests.{eqb-true, leb-true, le-leb, lt-leb, eq-eqb, ne-eqb}
+use lib.Dec.{leb·zero}
 use Rattle.lists.specs.Tests.{same-test, and-swap}
 use Rattle.lists.specs.Each.{all}
 use Rattle.lists.specs.Chosen.{and-false}
 use Rattle.model.specs.Layouts.{headLayout, decisionColumn}
 use Rattle.model.specs.Lines.{inRange, rowGood}
-use Rattle.model.specs.Coordinator.{
-  decisionOf,
-  unitOf,
-  isUndecided,
-  coordinatorGood,
-  coordinatorFrom,
-  numbersAccepted,
-}
+use Rattle.model.specs.Coordinator.{decisionOf, unitOf, isUndecided, coordinatorGood, coordinatorFrom, numbersAccepted}
 
 -- the highest decision that may stand where k numbers of those from here on are issued
 unfoldable pub highest : ℕ → ℕ

@@ -1,9 +1,5 @@
 -- Filling a target line by line: what the code lends for place i, and what it leaves there.
-use Prim.Native.Nat.{ℕ, _+_, _-_, _*_, _≤_, _<_}
-use mathlib.Core.Path.{_≡_, sym, ap, _∙_}
-use mathlib.Core.List.{List, [], _++_, map}
-use native.Mathlib.Omega.{arith}
-use lib.ListN.{length, take, drop, getD, length-map, List·getD-map}
+use Rattle.lists.specs.Basics.{_≡_, sym, ap, _∙_, ℕ, _+_, _-_, _*_, _≤_, _<_, List, [], _++_, map, length, take, drop, getD, length-map, List·getD-map, arith}
 use Rattle.lists.specs.Each.{joined, pieces}
 use Rattle.lists.specs.All.{getD-any}
 use Rattle.lists.specs.Pieces.{over-part, length-pieces, getD-pieces}

@@ -1,33 +1,15 @@
 -- Records as numbers, judged row by row: each row by itself, and its key against the next row's. Where a row is in range,
 -- its record's numbers are the row again, so that the record's ranges need not be asked twice.
-use Prim.Native.Nat.{ℕ, _+_, _-_, _*_, _/_, _≤_, _<_}
-use mathlib.Core.Path.{_≡_, refl, sym, ap, ap₂, _∙_}
-use mathlib.Core.Bool.{Bool, true, false, _&&_, and-assoc}
-use mathlib.Core.List.{List, [], _∷_, map}
-use native.Mathlib.Omega.{arith}
-use native.Mathlib.Numerals.{add-one}
-use lib.ListN.{length, take, drop, length-map, drop-of-length-le}
+use Rattle.lists.specs.Basics.{_≡_, refl, sym, ap, ap₂, _∙_, ℕ, _+_, _-_, _*_, _/_, _≤_, _<_, eqb, leb, Bool, true, false, _&&_, and-assoc, List, [], _∷_, map}
+use Rattle.lists.specs.Basics.{length, take, drop, length-map, drop-of-length-le, arith, add-one, eqb-true}
 use lib.Seq.{drop-cons}
-use lib.Dec.{eqb, leb}
-use borrow.Author.Tests.{eqb-true}
 use Rattle.lists.specs.Tests.{and-fst, and-snd, and-both, same-test}
 use Rattle.lists.specs.Each.{all, pieces}
 use Rattle.lists.specs.All.{pieces-whole}
 use Rattle.lists.specs.Pieces.{length-pieces, getD-pieces}
 use Rattle.model.specs.Layouts.{recordLayout}
 use Rattle.model.specs.Lines.{rowGood}
-use Rattle.model.specs.Records.{
-  recordOf,
-  recordNumbers,
-  stateRule,
-  goodAlone,
-  keyLess,
-  inOrder,
-  rising,
-  recordsGood,
-  rows,
-  rowsAccepted,
-}
+use Rattle.model.specs.Records.{recordOf, recordNumbers, stateRule, goodAlone, keyLess, inOrder, rising, recordsGood, rows, rowsAccepted}
 use Rattle.sheet_laws.specs.Numbers.{length-rows, row-same}
 
 -- a row good by itself

@@ -1,23 +1,20 @@
 -- The pass over the tables of a layout says what the layout means. Parts are independent, since the first place of each is a fixed byte and so
 -- ignores the byte on its left. Within a figure two inductions follow the scan: one before the number, after a space, and one in it, after a
 -- digit. The bound on a figure is the blank first column: k columns hold what is below 10 ^ k, and a digit in the first one makes it more.
-use Prim.Native.Nat.{ℕ, zero, suc, _+_, _-_, _*_, _^_, _≤_, _<_}
-use mathlib.Core.Path.{_≡_, refl, sym, ap, ap₂, _∙_}
-use mathlib.Core.Bool.{Bool, true, false, not, _&&_, _||_, cond, true≢false, and-true, and-false, or-true, or-false, and-assoc}
-use mathlib.Core.List.{List, [], _∷_, _++_, map}
+use Rattle.lists.specs.Basics.{_≡_, refl, sym, ap, ap₂, _∙_, ℕ, zero, suc, _+_, _-_, _*_, _^_, _≤_, _<_, eqb, leb, ltb, Bool, true, false, not, _&&_, _||_}
+use Rattle.lists.specs.Basics.{cond, true≢false, and-assoc, and-true, and-false, or-true, or-false, List, [], _∷_, _++_, map, length, take, drop, getD}
+use Rattle.lists.specs.Basics.{length-map, length-append, length-take, length-drop, drop-of-length-le, arith, eqb-true, eqb-false, leb-true, ltb-true}
+use Rattle.lists.specs.Basics.{ltb-false, eq-eqb, ne-eqb, le-leb, lt-leb, lt-ltb, le-ltb}
 use native.Mathlib.Nat.{add-zero, mul-le-mul-right, pow-suc, pow-le-pow-right}
-use native.Mathlib.Omega.{arith}
-use lib.ListN.{length, getD, take, drop, length-take, length-drop, length-append, length-map, drop-of-length-le}
 use lib.Seq.{drop-cons}
-use lib.Dec.{eqb, leb, ltb}
-use borrow.Author.Tests.{eqb-true, eqb-false, eq-eqb, ne-eqb, leb-true, le-leb, lt-leb, ltb-true, ltb-false, lt-ltb, le-ltb}
 use Rattle.lists.specs.Bytes.{eqList}
 use Rattle.lists.specs.Each.{all}
 use Rattle.lists.specs.Tests.{and-fst, and-snd, and-both, tests, same-test, choose-by}
 use Rattle.decimal.specs.Field.{isDigit, stepped, scanned, within, figure, isNumber}
 use Rattle.decimal.specs.declared.Scan.the-variants.{Blank, Number, Wrong}
 use Rattle.places.specs.Parts.{Part, text, number, width, partOk, partsOk}
-use Rattle.places.specs.Places.{Room, higher, lower, judged, placed, lineOk, Place, fixed, columns, partPlaces, places, lows, highs, alsos, partSetWell, setWell, total}
+use Rattle.places.specs.Places.{Room, higher, lower, judged, placed, lineOk, Place, fixed, columns, partPlaces, places, lows, highs, alsos, partSetWell}
+use Rattle.places.specs.Places.{setWell, total}
 
 -- the pass over a row of places
 abbrev pass : ℕ → List Place → List ℕ → Bool

@@ -1,17 +1,10 @@
 -- Bytes as one number of which the first weighs least, as a load takes them, and the turn to the number of which it weighs most: the lowest byte
 -- of the one is taken off as the other takes it in.
-use Prim.Native.Nat.{ℕ, zero, suc, _+_, _-_, _*_, _/_, _%_, _^_, _<_, _≤_}
-use mathlib.Core.Path.{_≡_, refl, sym, ap₂, _∙_}
-use mathlib.Core.Bool.{true, _&&_}
-use mathlib.Core.List.{List, [], _∷_, _++_}
+use Rattle.lists.specs.Basics.{_≡_, refl, sym, ap₂, _∙_, ℕ, zero, suc, _+_, _-_, _*_, _/_, _%_, _^_, _≤_, _<_, eqb, true, _&&_, List, [], _∷_, _++_, length}
+use Rattle.lists.specs.Basics.{drop, getD, length-take, length-drop, arith, add-one, eqb-true, eq-eqb}
 use native.Mathlib.Nat.{add-assoc, pow-suc}
-use native.Mathlib.Numerals.{add-one}
-use native.Mathlib.Omega.{arith}
-use lib.ListN.{length, getD, drop, length-take, length-drop}
 use lib.Seq.{drop-cons, drop-drop, take-add}
-use lib.Dec.{eqb}
 use lib.Pow.{areBytes}
-use borrow.Author.Tests.{eqb-true, eq-eqb}
 use Rattle.lists.specs.Bytes.{eqList, eqList-append}
 use Rattle.lists.specs.Tests.{and-both, same-test, tests}
 use Rattle.places.specs.Order.{numberFrom, numberOf, bytesAt, part-bytes, same-length}

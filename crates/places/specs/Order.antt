@@ -1,17 +1,11 @@
 -- The order of two texts by their bytes, and a text as one number. Equal lengths of bytes order as their numbers do, since one byte more takes
 -- both numbers times 256 and adds less than that: what was less stays less, and what was equal is decided by the byte.
-use Prim.Native.Nat.{ℕ, zero, suc, _+_, _*_, _^_, _<_, _≤_}
-use mathlib.Core.Path.{_≡_, refl, sym, _∙_}
-use mathlib.Core.Bool.{Bool, true, false, _&&_, _||_, cond, and-assoc, and-true, and-false, or-false}
-use mathlib.Core.List.{List, [], _∷_}
+use Rattle.lists.specs.Basics.{_≡_, refl, sym, _∙_, ℕ, zero, suc, _+_, _*_, _^_, _≤_, _<_, eqb, ltb, Bool, true, false, _&&_, _||_, cond, and-assoc, and-true}
+use Rattle.lists.specs.Basics.{and-false, or-false, List, [], _∷_, length, take, drop, getD, length-take, length-drop, arith, add-one, eqb-true, eqb-false}
+use Rattle.lists.specs.Basics.{ltb-true, ltb-false, eq-eqb, lt-ltb, le-ltb}
 use native.Mathlib.Nat.{pow-suc, pow-le-pow-right}
-use native.Mathlib.Numerals.{add-one}
-use native.Mathlib.Omega.{arith}
-use lib.ListN.{length, getD, take, drop, length-take, length-drop}
 use lib.Seq.{drop-drop, take-add, getD-drop}
-use lib.Dec.{eqb, ltb}
 use lib.Pow.{areBytes}
-use borrow.Author.Tests.{eqb-true, eqb-false, ltb-true, ltb-false, lt-ltb, le-ltb, eq-eqb}
 use Rattle.lists.specs.Bytes.{eqList}
 use Rattle.lists.specs.Each.{less}
 use Rattle.lists.specs.Order.{decided, regroup, less-append}

@@ -1,9 +1,5 @@
 -- A line as a row of parts, each a fixed text or a figure: the plain meaning that the pass over tables is proved equal to.
-use Prim.Native.Nat.{ℕ, _-_, _^_}
-use mathlib.Core.Bool.{Bool, _&&_}
-use mathlib.Core.List.{List, [], _∷_}
-use lib.ListN.{length, take, drop}
-use lib.Dec.{eqb}
+use Rattle.lists.specs.Basics.{ℕ, _-_, _^_, eqb, Bool, _&&_, List, [], _∷_, length, take, drop}
 use Rattle.lists.specs.Bytes.{eqList}
 use Rattle.decimal.specs.Field.{figure, isNumber}
 

@@ -1,9 +1,5 @@
 -- The tables by which one pass judges a line: each byte by the place where it stands and by the byte on its left.
-use Prim.Native.Nat.{ℕ, zero, suc, _+_, _-_, _<_}
-use mathlib.Core.Bool.{Bool, true, _&&_, _||_, cond}
-use mathlib.Core.List.{List, [], _∷_, _++_, map}
-use lib.ListN.{length, getD, drop}
-use lib.Dec.{eqb, leb, ltb}
+use Rattle.lists.specs.Basics.{ℕ, zero, suc, _+_, _-_, _<_, eqb, leb, ltb, Bool, true, _&&_, _||_, cond, List, [], _∷_, _++_, map, length, drop, getD}
 use Rattle.places.specs.Parts.{Part, text, number, width}
 
 abbrev pub bit : Bool → ℕ

@@ -1,12 +1,7 @@
 -- The pass as the code's loop takes it, byte after byte: what is left from byte i on is the judgement of that byte and what is left after it.
-use Prim.Native.Nat.{ℕ, _+_, _-_, _≤_, _<_}
-use mathlib.Core.Path.{_≡_}
-use mathlib.Core.Bool.{Bool, true, _&&_, and-true, and-assoc}
-use mathlib.Core.List.{List, [], _∷_}
+use Rattle.lists.specs.Basics.{_≡_, ℕ, _+_, _-_, _≤_, _<_, Bool, true, _&&_, and-assoc, and-true, List, [], _∷_, length, drop, getD, length-drop, arith}
+use Rattle.lists.specs.Basics.{add-one}
 use native.Mathlib.Nat.{add-zero}
-use native.Mathlib.Numerals.{add-one}
-use native.Mathlib.Omega.{arith}
-use lib.ListN.{length, getD, drop, length-drop}
 use lib.Seq.{drop-cons, drop-drop, getD-drop}
 use Rattle.lists.specs.Tests.{tests}
 use Rattle.places.specs.Places.{judgedAt, placed, rest, asLong}

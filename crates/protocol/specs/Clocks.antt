@@ -1,7 +1,5 @@
 -- Clock readings modulo 2^32.
-use Prim.Native.Nat.{ℕ, _+_, _%_, _^_, _<_}
-use mathlib.Core.Path.{_≡_}
-use native.Mathlib.Omega.{arith}
+use Rattle.lists.specs.Basics.{_≡_, ℕ, _+_, _%_, _^_, _<_, arith}
 use Rattle.model.specs.Images.{elapsed}
 
 -- what added to the earlier reading wraps to the later one is what has elapsed

@@ -1,18 +1,10 @@
 -- Well-formedness in the order in which the code asks.
-use Prim.Native.Nat.{ℕ, _+_, _≤_, _<_}
-use mathlib.Core.Path.{_≡_, refl, sym, ap, _∙_}
-use mathlib.Core.Bool.{Bool, true, false, _&&_, _||_, not, and-true, and-assoc}
-use mathlib.Core.List.{List}
-use native.Mathlib.Omega.{arith}
-use lib.Dec.{eqb, leb, leb·zero}
-use borrow.Author.Tests.{leb-false, eq-eqb}
+use Rattle.lists.specs.Basics.{_≡_, refl, sym, ap, _∙_, ℕ, _+_, _≤_, _<_, eqb, leb, Bool, true, false, not, _&&_, _||_, and-assoc, and-true, List, arith}
+use Rattle.lists.specs.Basics.{leb-false, eq-eqb}
+use lib.Dec.{leb·zero}
 use Rattle.lists.specs.Tests.{tests}
 use Rattle.lists.specs.Each.{all, any}
-use Rattle.types.specs.declared.AtomicityUnit.{AtomicityUnit}
-use Rattle.types.specs.declared.Columns.{Columns}
-use Rattle.types.specs.declared.Entry.{Entry}
-use Rattle.types.specs.declared.Image.{Image}
-use Rattle.types.specs.declared.Transaction.{Transaction}
+use Rattle.model.specs.Types.{Image, AtomicityUnit, Columns, Entry, Transaction}
 use Rattle.model.specs.Layouts.{recordLayout, imageLayout, columnsLayout}
 use Rattle.model.specs.Lines.{inRange, rowGood}
 use Rattle.model.specs.Records.{imageNumbers, isZero, sameKey}

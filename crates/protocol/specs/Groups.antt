@@ -1,19 +1,11 @@
 -- Scopes compared by the fields of their keys, and groups counted one by one: a group counts at the last put of its scope.
-use Prim.Native.Nat.{ℕ, suc, _-_}
-use mathlib.Core.Path.{_≡_, refl, sym, ap, _∙_}
-use mathlib.Core.Bool.{Bool, true, false, _&&_, _||_, not, cond, or-false, and-true}
-use mathlib.Core.List.{List, [], _∷_}
-use lib.ListN.{take}
-use lib.Dec.{eqb, ltb}
-use borrow.Author.Tests.{eqb-true}
+use Rattle.lists.specs.Basics.{_≡_, refl, sym, ap, _∙_, ℕ, suc, _-_, eqb, ltb, Bool, true, false, not, _&&_, _||_, cond, and-true, or-false, List, [], _∷_}
+use Rattle.lists.specs.Basics.{take, eqb-true}
 use Rattle.lists.specs.Bytes.{eqList, eqList-true}
 use Rattle.lists.specs.Chosen.{and-false}
 use Rattle.lists.specs.Each.{any, filter, count, less}
-use Rattle.types.specs.declared.AtomicityUnit.{AtomicityUnit}
+use Rattle.model.specs.Types.{Key, AtomicityUnit, Entry, Transaction}
 use Rattle.types.specs.declared.AtomicityUnit.the-variants.{Record as RecordUnit, Partition, Table, Namespace, Storage}
-use Rattle.types.specs.declared.Entry.{Entry}
-use Rattle.types.specs.declared.Key.{Key}
-use Rattle.types.specs.declared.Transaction.{Transaction}
 use Rattle.model.specs.Records.{keyNumbers}
 use Rattle.model.specs.Transactions.{isPut, held, puts}
 use Rattle.model.specs.Groups.{unitFields, unitFor, scope, addScope, scopes, groupPlace, group}

@@ -1,19 +1,11 @@
 -- The groups that are found by flat numbers are those of the definitions: entry by entry, the last put of each scope stands for it.
-use Prim.Native.Nat.{ℕ, suc, _≤_, _<_}
-use mathlib.Core.Path.{_≡_, refl, sym, ap, ap₂, _∙_}
-use mathlib.Core.Bool.{Bool, true, false, _&&_, _||_, not, cond, and-true}
-use mathlib.Core.List.{List, [], _∷_, _++_, map}
-use native.Mathlib.Omega.{arith}
-use lib.ListN.{length, take, drop, getD, length-take, List·getD-append}
-use lib.Dec.{eqb, ltb}
-use borrow.Author.Tests.{ne-eqb, lt-ltb, le-ltb}
+use Rattle.lists.specs.Basics.{_≡_, refl, sym, ap, ap₂, _∙_, ℕ, suc, _≤_, _<_, eqb, ltb, Bool, true, false, not, _&&_, _||_, cond, and-true, List, [], _∷_}
+use Rattle.lists.specs.Basics.{_++_, map, length, take, drop, getD, length-take, arith, ne-eqb, lt-ltb, le-ltb}
+use lib.ListN.{List·getD-append}
 use Rattle.lists.specs.Each.{any, joined, less}
 use Rattle.lists.specs.Chosen.{count-all}
 use Rattle.lists.specs.Tests.{choose-by}
-use Rattle.types.specs.declared.AtomicityUnit.{AtomicityUnit}
-use Rattle.types.specs.declared.Entry.{Entry}
-use Rattle.types.specs.declared.Key.{Key}
-use Rattle.types.specs.declared.Transaction.{Transaction}
+use Rattle.model.specs.Types.{Key, AtomicityUnit, Entry, Transaction}
 use Rattle.model.specs.Records.{keyNumbers}
 use Rattle.model.specs.Transactions.{isPut, held, puts}
 use Rattle.model.specs.Groups.{unitFields, unitFor, scope, groupCount, groupPlace}

@@ -1,26 +1,15 @@
 -- The entries in use, one by one: how far a loop over them has come, and what one turn of it does, for each kind of question that a loop answers.
-use Prim.Native.Nat.{ℕ, suc, _+_, _-_, _≤_, _<_}
-use mathlib.Core.Path.{_≡_, refl, sym, ap, ap₂, _∙_}
-use mathlib.Core.Bool.{Bool, true, false, _||_, not, cond}
-use mathlib.Core.List.{List, [], _∷_, map}
-use native.Mathlib.Omega.{arith}
-use native.Mathlib.Numerals.{add-one}
-use lib.ListN.{length, take, drop, getD, length-map, length-take, drop-of-length-le, List·getD-map}
+use Rattle.lists.specs.Basics.{_≡_, refl, sym, ap, ap₂, _∙_, ℕ, suc, _+_, _-_, _≤_, _<_, ltb, Bool, true, false, not, _||_, cond, List, [], _∷_, map, length}
+use Rattle.lists.specs.Basics.{take, drop, getD, length-map, length-take, drop-of-length-le, List·getD-map, arith, add-one, lt-ltb}
 use lib.Seq.{drop-cons, getD-take, length-take-le}
-use lib.Dec.{ltb}
 use mir.Val.{Val}
 use denote.Laws.{Is}
 use denote.Struct.Declared.{row}
-use borrow.Author.Tests.{lt-ltb}
 use Rattle.lists.specs.Each.{all, any, filter}
 use Rattle.lists.specs.All.{getD-any}
 use Rattle.lists.specs.Tests.{choose-by}
 use Rattle.types.proofs.Transaction.{the-type}
-use Rattle.types.specs.declared.Entry.{Entry}
-use Rattle.types.specs.declared.Found.{Found}
-use Rattle.types.specs.declared.Found.the-variants.{At, Nothing}
-use Rattle.types.specs.declared.Key.{Key}
-use Rattle.types.specs.declared.Transaction.{Transaction}
+use Rattle.model.specs.Types.{Key, Found, At, Nothing, Entry, Transaction}
 use Rattle.model.specs.Search.{firstFrom}
 use Rattle.model.specs.Records.{sameKey}
 use Rattle.model.specs.Transactions.{held, heldAt, isEmpty, noEntry}

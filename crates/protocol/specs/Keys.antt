@@ -1,13 +1,7 @@
 -- The first n of five numbers compared, one after another: by the cases of n. The five with which a list begins.
-use Prim.Native.Nat.{ℕ, zero, suc, _≤_}
-use mathlib.Core.Path.{_≡_, refl, sym, ap, _∙_}
-use mathlib.Core.Bool.{Bool, _&&_, _||_, and-true, and-false, or-false}
-use mathlib.Core.List.{List, [], _∷_}
-use native.Mathlib.Omega.{arith}
-use lib.ListN.{length, take, getD, set}
+use Rattle.lists.specs.Basics.{_≡_, refl, sym, ap, _∙_, ℕ, zero, suc, _≤_, eqb, ltb, Bool, _&&_, _||_, and-true, and-false, or-false, List, [], _∷_, length}
+use Rattle.lists.specs.Basics.{take, getD, set, arith, lt-ltb, le-ltb}
 use lib.Seq.{take-nil}
-use lib.Dec.{eqb, ltb}
-use borrow.Author.Tests.{lt-ltb, le-ltb}
 use Rattle.lists.specs.Bytes.{eqList}
 use Rattle.lists.specs.Each.{less}
 

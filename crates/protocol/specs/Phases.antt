@@ -1,7 +1,5 @@
 -- A choice by a number that is none of the eight phases.
-use Prim.Native.Nat.{ℕ}
-use mathlib.Core.Path.{_≡_}
-use borrow.Author.Tests.{ne-eqb}
+use Rattle.lists.specs.Basics.{_≡_, ℕ, ne-eqb}
 use Rattle.model.specs.Transactions.{byPhase}
 
 -- what the last arm of a match over the phases knows

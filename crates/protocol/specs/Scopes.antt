@@ -1,20 +1,12 @@
 -- The scopes of a transaction's puts by flat numbers: keys, five to an entry, and how many fields of its key make each entry's scope, 0 without a put.
-use Prim.Native.Nat.{ℕ, zero, suc, _+_, _-_, _*_, _≤_, _<_}
-use mathlib.Core.Path.{_≡_, refl, sym, ap, _∙_}
-use mathlib.Core.Bool.{Bool, true, false, _&&_, _||_, cond}
-use mathlib.Core.List.{List, [], _∷_, _++_, map}
-use native.Mathlib.Omega.{arith}
-use native.Mathlib.Numerals.{add-one}
-use lib.ListN.{length, take, drop, getD, set, length-map, drop-of-length-le}
+use Rattle.lists.specs.Basics.{_≡_, refl, sym, ap, _∙_, ℕ, zero, suc, _+_, _-_, _*_, _≤_, _<_, ltb, Bool, true, false, _&&_, _||_, cond, List, [], _∷_, _++_}
+use Rattle.lists.specs.Basics.{map, length, take, drop, getD, set, length-map, drop-of-length-le, arith, add-one}
 use lib.Seq.{drop-cons, drop-drop, getD-drop, take-at}
-use lib.Dec.{ltb}
 use Rattle.lists.specs.Bytes.{eqList}
 use Rattle.lists.specs.Each.{joined, less}
 use Rattle.lists.specs.Fill.{FilledTo, fill-first, fill-next, fill-last, StoredTo, store-first, store-next, store-last}
 use Rattle.lists.specs.Pieces.{over-part}
-use Rattle.types.specs.declared.AtomicityUnit.{AtomicityUnit}
-use Rattle.types.specs.declared.Entry.{Entry}
-use Rattle.types.specs.declared.Transaction.{Transaction}
+use Rattle.model.specs.Types.{AtomicityUnit, Entry, Transaction}
 use Rattle.model.specs.Records.{keyNumbers}
 use Rattle.model.specs.Transactions.{isPut, held}
 use Rattle.model.specs.Groups.{unitFields, unitFor}

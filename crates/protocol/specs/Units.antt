@@ -1,23 +1,15 @@
 -- The units as nine letters, the part of the coordinator's head that says them: letter by letter from the left.
-use Prim.Native.Nat.{ℕ, zero, suc, _-_, _≤_, _<_}
-use mathlib.Core.Path.{_≡_, refl, sym, ap, ap₂, _∙_}
-use mathlib.Core.Bool.{Bool, true, false, _&&_, cond, true≢false, and-false}
-use mathlib.Core.List.{List, [], _∷_, map}
-use native.Mathlib.Omega.{arith}
-use lib.ListN.{length, take, drop, getD, replicate, length-map, List·getD-map, List·getD-eq-default}
+use Rattle.lists.specs.Basics.{_≡_, refl, sym, ap, ap₂, _∙_, ℕ, zero, suc, _-_, _≤_, _<_, eqb, Bool, true, false, _&&_, cond, true≢false, and-false, List, []}
+use Rattle.lists.specs.Basics.{_∷_, map, length, take, drop, getD, replicate, length-map, List·getD-map, List·getD-eq-default, arith, ne-eqb}
 use lib.Seq.{drop-drop}
-use lib.Dec.{eqb}
-use borrow.Author.Tests.{ne-eqb}
 use Rattle.lists.specs.Tests.{and-fst, and-snd}
 use Rattle.lists.specs.Bytes.{bytes, eqList}
 use Rattle.lists.specs.All.{getD-any}
 use Rattle.lists.specs.Pieces.{take-drop-take}
 use Rattle.decimal.specs.declared.Scan.the-variants.{Number, Wrong}
 use Rattle.decimal.specs.Field.{number, isNumber}
-use Rattle.types.specs.declared.AtomicityUnit.{AtomicityUnit}
+use Rattle.model.specs.Types.{AtomicityUnit, Column, UnitLetter}
 use Rattle.types.specs.declared.AtomicityUnit.the-variants.{Record as RecordUnit, Partition, Table, Namespace, Storage}
-use Rattle.types.specs.declared.Column.{Column}
-use Rattle.types.specs.declared.Kind.the-variants.{UnitLetter}
 use Rattle.model.specs.Layouts.{headLayout, word, words, figures}
 use Rattle.model.specs.Lines.{fieldValue, wordFrom, rowOf, lineSet}
 use Rattle.model.specs.Coordinator.{unitOf, coordinatorOf, coordinatorAccepted}

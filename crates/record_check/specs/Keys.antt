@@ -1,14 +1,8 @@
 -- Keys compared as bytes. The first fields of two lines order as their bytes do, field by field: a field decides as its figure does, and equal
 -- figures have equal bytes.
-use Prim.Native.Nat.{ℕ, zero, suc, _+_}
-use mathlib.Core.Path.{_≡_, refl, ap₂, subst, _∙_}
-use mathlib.Core.Bool.{true, _&&_, _||_}
-use mathlib.Core.List.{List, [], _∷_}
-use native.Mathlib.Omega.{arith}
-use lib.ListN.{length, take, drop, length-take}
+use Rattle.lists.specs.Basics.{_≡_, refl, ap₂, subst, _∙_, ℕ, zero, suc, _+_, eqb, true, _&&_, _||_, List, [], _∷_, length, take, drop, length-take, arith}
+use Rattle.lists.specs.Basics.{eqb-true, eq-eqb}
 use lib.Seq.{take-add}
-use lib.Dec.{eqb}
-use borrow.Author.Tests.{eqb-true, eq-eqb}
 use Rattle.lists.specs.Tests.{and-fst, and-snd, same-test}
 use Rattle.lists.specs.Bytes.{eqList, eqList-true, eqList-refl}
 use Rattle.lists.specs.Each.{all, less}
@@ -17,7 +11,7 @@ use Rattle.decimal.specs.declared.Scan.the-variants.{Blank, Number}
 use Rattle.decimal.specs.Field.{scanned, number, isNumber}
 use Rattle.decimal.specs.Laws.{isNumber-number}
 use Rattle.decimal.specs.Order.{order-bytes, same-bytes}
-use Rattle.types.specs.declared.Column.{Column}
+use Rattle.model.specs.Types.{Column}
 use Rattle.model.specs.Layouts.{recordLayout, offset}
 use Rattle.model.specs.Lines.{fieldValue, rowOf, lineSet}
 use Rattle.model.specs.Records.{keyLess, keyNumbers, keyOf, recordOf, recordIn}

@@ -1,22 +1,14 @@
 -- The parts of a layout, and what they say of a line: it is read by the widest ranges, and its numbers are held to the layout's. A part is a text or
 -- a figure. A text is the bytes of one number, by the round trip of its column; a figure is read by the widest range in either case.
-use Prim.Native.Nat.{ℕ, _-_, _≤_}
-use mathlib.Core.Path.{_≡_, refl, sym, ap, subst, _∙_}
-use mathlib.Core.Bool.{Bool, true, false, _&&_, cond, true≢false, and-true}
-use mathlib.Core.List.{List, [], _∷_}
-use native.Mathlib.Omega.{arith}
-use lib.ListN.{length, take, drop}
-use lib.Dec.{eqb, leb}
-use borrow.Author.Tests.{eqb-true, eq-eqb, le-leb}
+use Rattle.lists.specs.Basics.{_≡_, refl, sym, ap, subst, _∙_, ℕ, _-_, _≤_, eqb, leb, Bool, true, false, _&&_, cond, true≢false, and-true, List, [], _∷_}
+use Rattle.lists.specs.Basics.{length, take, drop, arith, eqb-true, eq-eqb, le-leb}
 use Rattle.lists.specs.Tests.{and-fst, and-snd, and-both, tests, same-test, choose-by}
 use Rattle.lists.specs.Bytes.{eqList, eqList-true, eqList-refl}
 use Rattle.lists.specs.Each.{all}
 use Rattle.decimal.specs.declared.Scan.the-variants.{Number}
 use Rattle.decimal.specs.Field.{number, isNumber}
 use Rattle.decimal.specs.Laws.{isNumber-number}
-use Rattle.types.specs.declared.Kind.{Kind}
-use Rattle.types.specs.declared.Kind.the-variants.{Figure, StateWord, DecisionWord, UnitLetter}
-use Rattle.types.specs.declared.Column.{Column}
+use Rattle.model.specs.Types.{Column, Kind, Figure, StateWord, DecisionWord, UnitLetter}
 use Rattle.model.specs.Layouts.{words}
 use Rattle.model.specs.Lines.{byKind, fieldValue, fieldBytes, inRange}
 use Rattle.sheet_laws.specs.Fields.{columnOk, field-read-written, field-written-read}

@@ -1,17 +1,11 @@
 -- Ranges narrowed at some places of a layout. A row of numbers is good by the narrowed layout where it is good by the layout and each number keeps
 -- to its limit: by induction on the limits, and for one limit along the columns up to its place.
-use Prim.Native.Nat.{ℕ, zero, suc, _≤_, _<_}
-use mathlib.Core.Path.{_≡_, refl, sym, ap, _∙_}
-use mathlib.Core.Bool.{Bool, true, false, _&&_, and-assoc, and-true, and-false}
-use mathlib.Core.List.{List, [], _∷_, map}
-use native.Mathlib.Omega.{arith}
-use lib.ListN.{length, drop, getD, set}
+use Rattle.lists.specs.Basics.{_≡_, refl, sym, ap, _∙_, ℕ, zero, suc, _≤_, _<_, leb, ltb, Bool, true, false, _&&_, and-assoc, and-true, and-false, List, []}
+use Rattle.lists.specs.Basics.{_∷_, map, length, drop, getD, set, arith, leb-true, le-leb}
 use lib.Seq.{getD-drop, map-set-same}
-use lib.Dec.{leb, ltb}
-use borrow.Author.Tests.{leb-true, le-leb}
 use Rattle.lists.specs.Tests.{and-fst, and-snd, and-move, tests}
 use Rattle.lists.specs.Each.{all}
-use Rattle.types.specs.declared.Column.{Column}
+use Rattle.model.specs.Types.{Column}
 use Rattle.model.specs.Layouts.{noColumn}
 use Rattle.model.specs.Lines.{inRange, rowOf, lineSet, rowGood}
 use Rattle.places.specs.Parts.{partsOk}

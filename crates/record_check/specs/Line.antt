@@ -1,22 +1,16 @@
 -- A line of the record sheet, as the code judges it: the parts of its kind, how its versions stand to each other, and the clock. Both this and the
 -- plain rule are the line read by the widest ranges, with limits on its numbers. In a line that can be read, the bytes that tell its kind
 -- are those of its state and its before version.
-use Prim.Native.Nat.{ℕ, _+_, _/_, _%_, _<_, _≤_}
-use mathlib.Core.Path.{_≡_, refl, sym, ap, ap₂, _∙_}
-use mathlib.Core.Bool.{Bool, true, false, _&&_, cond, true≢false, and-assoc}
-use mathlib.Core.List.{List, map}
-use native.Mathlib.Omega.{arith}
-use lib.ListN.{length, take, drop, getD, length-take, length-drop}
+use Rattle.lists.specs.Basics.{_≡_, refl, sym, ap, ap₂, _∙_, ℕ, _+_, _/_, _%_, _≤_, _<_, eqb, Bool, true, false, _&&_, cond, true≢false, and-assoc, List, map}
+use Rattle.lists.specs.Basics.{length, take, drop, getD, length-take, length-drop, arith, eqb-true, eq-eqb}
 use lib.Seq.{take-take, drop-drop}
-use lib.Dec.{eqb}
-use borrow.Author.Tests.{eqb-true, eq-eqb}
 use Rattle.lists.specs.Tests.{and-fst, and-snd, and-same, same-test, tests, choose-by}
 use Rattle.lists.specs.Bytes.{bytes, eqList, eqList-refl}
 use Rattle.lists.specs.Each.{all}
 use Rattle.lists.specs.Pieces.{take-drop-take}
 use Rattle.decimal.specs.Field.{ahead, fieldText}
 use Rattle.decimal.specs.Laws.{scan-written}
-use Rattle.types.specs.declared.Kind.the-variants.{StateWord}
+use Rattle.model.specs.Types.{StateWord}
 use Rattle.model.specs.Layouts.{recordLayout, words, wordAt, noColumn, recordBytes, offset}
 use Rattle.model.specs.Lines.{fieldValue, fieldBytes, wordFrom, inRange, rowOf, lineSet, rowGood}
 use Rattle.model.specs.Records.{recordOf, goodAlone, recordIn}
@@ -28,7 +22,8 @@ use Rattle.places.specs.Order.{part-bytes}
 use Rattle.places.specs.Loads.{loaded, loaded-equal}
 use Rattle.record_check.specs.Ranges.{opened, lineHeld, set-is-held, same-row}
 use Rattle.record_check.specs.Limits.{keeps, limited-line, limited-parts}
-use Rattle.record_check.specs.States.{kindLimits, openLayout, clockLimit, kindParts, kind-says, record-opens, clock-narrow, clock-limited, kindWord, stateTold, word-told, kindBy, kindFor, rule, kind-rule, kind-word}
+use Rattle.record_check.specs.States.{kindLimits, openLayout, clockLimit, kindParts, kind-says, record-opens, clock-narrow, clock-limited, kindWord}
+use Rattle.record_check.specs.States.{stateTold, word-told, kindBy, kindFor, rule, kind-rule, kind-word}
 use Rattle.record_check.specs.Relations.{clockFits, follows, widest, clock-fits, clock-low, follows-is}
 
 -- the line can be read, and its record is good alone

@@ -1,14 +1,8 @@
 -- Layouts that differ in their ranges alone. Reading a line by a layout is reading it by the widest ranges that its bytes can hold, and holding the
 -- numbers that were read to the layout's own ranges. It goes field by field, since a line that passes has the layout's length, so that no field is
 -- cut short.
-use Prim.Native.Nat.{ℕ, _-_, _≤_, _<_}
-use mathlib.Core.Path.{_≡_, refl, sym, ap, ap₂, _∙_}
-use mathlib.Core.Bool.{Bool, true, false, _&&_, cond, and-true, and-false}
-use mathlib.Core.List.{List, [], _∷_, map}
-use native.Mathlib.Omega.{arith}
-use lib.ListN.{length, take, drop, length-take, length-drop}
-use lib.Dec.{eqb, leb}
-use borrow.Author.Tests.{le-leb, leb-false, lt-leb}
+use Rattle.lists.specs.Basics.{_≡_, refl, sym, ap, ap₂, _∙_, ℕ, _-_, _≤_, _<_, eqb, leb, Bool, true, false, _&&_, cond, and-true, and-false, List, [], _∷_, map}
+use Rattle.lists.specs.Basics.{length, take, drop, length-take, length-drop, arith, leb-false, le-leb, lt-leb}
 use Rattle.lists.specs.Tests.{and-fst, and-snd, and-both, tests, same-test, and-swap}
 use Rattle.lists.specs.Bytes.{eqList}
 use Rattle.lists.specs.Each.{all}
@@ -16,9 +10,7 @@ use Rattle.decimal.specs.declared.Scan.{Scan}
 use Rattle.decimal.specs.declared.Scan.the-variants.{Blank, Number, Wrong}
 use Rattle.decimal.specs.Field.{scanned, within, figure, number, isNumber}
 use Rattle.decimal.specs.Laws.{isNumber-number, figure-scan}
-use Rattle.types.specs.declared.Kind.{Kind}
-use Rattle.types.specs.declared.Kind.the-variants.{Figure, StateWord, DecisionWord, UnitLetter}
-use Rattle.types.specs.declared.Column.{Column}
+use Rattle.model.specs.Types.{Column, Kind, Figure, StateWord, DecisionWord, UnitLetter}
 use Rattle.model.specs.Layouts.{words}
 use Rattle.model.specs.Lines.{byKind, fieldValue, inRange, rowOf, lineSet, rowGood}
 use Rattle.sheet_laws.specs.Fields.{columnOk, field-written-read}

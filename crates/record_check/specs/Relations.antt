@@ -1,17 +1,12 @@
 -- How the versions of a PREPARED line stand to each other, by their bytes, and the clock's bound, which no width says. Where the last digit of a
 -- figure is no 9, the next figure has the same bytes but the last, which is one more; else the digits of a field make its number. The end of
 -- the line orders as the clock does.
-use Prim.Native.Nat.{ℕ, suc, _+_, _/_, _%_, _^_, _<_, _≤_}
-use mathlib.Core.Path.{_≡_, refl, sym, ap, _∙_}
-use mathlib.Core.Bool.{Bool, true, false, not, cond, and-false, or-false}
-use mathlib.Core.List.{List, [], _∷_, _++_, map}
+use Rattle.lists.specs.Basics.{_≡_, refl, sym, ap, _∙_, ℕ, suc, _+_, _/_, _%_, _^_, _≤_, _<_, eqb, leb, ltb, Bool, true, false, not, cond, and-false, or-false}
+use Rattle.lists.specs.Basics.{List, [], _∷_, _++_, map, length, take, drop, getD, length-append, length-take, length-drop, arith, eqb-false, ltb-true}
+use Rattle.lists.specs.Basics.{ltb-false, eq-eqb, ne-eqb, le-leb, lt-leb, le-ltb}
 use native.Mathlib.Nat.{pow-suc}
-use native.Mathlib.Omega.{arith}
-use lib.ListN.{length, take, drop, getD, length-take, length-drop, length-append}
 use lib.Seq.{take-add, take-length, drop-cons, drop-drop, getD-take, getD-drop, getD-append-seam}
-use lib.Dec.{eqb, leb, ltb}
 use lib.Pow.{areBytes}
-use borrow.Author.Tests.{eqb-false, eq-eqb, ne-eqb, le-leb, lt-leb, le-ltb, ltb-true, ltb-false}
 use Rattle.lists.specs.Bytes.{bytes, eqList}
 use Rattle.lists.specs.Each.{less}
 use Rattle.lists.specs.Order.{less-append}
@@ -21,7 +16,7 @@ use Rattle.decimal.specs.Field.{scanned, stepped, ahead, fieldText}
 use Rattle.decimal.specs.Laws.{figure-scan, scan-written, scan-text, length-fieldText, fieldText-bytes}
 use Rattle.decimal.specs.Order.{order-bytes}
 use Rattle.decimal.specs.Digits.{figureAt}
-use Rattle.types.specs.declared.Column.{Column}
+use Rattle.model.specs.Types.{Column}
 use Rattle.model.specs.Layouts.{recordLayout, noColumn, recordBytes, offset}
 use Rattle.model.specs.Lines.{fieldValue, rowOf, lineSet}
 use Rattle.sheet_laws.specs.Fields.{scan-of}

@@ -1,13 +1,8 @@
 -- The sheet, as the code walks it: line after line, each good, and its key before the next one's. By induction on the lines that is what the
 -- sheet's rules say of all of them.
-use Prim.Native.Nat.{ℕ, zero, suc, _+_, _-_, _*_, _/_, _<_}
-use mathlib.Core.Path.{_≡_, refl, sym, ap, ap₂, _∙_}
-use mathlib.Core.Bool.{Bool, true, false, _&&_, and-assoc, and-false}
-use mathlib.Core.List.{List, map}
-use native.Mathlib.Omega.{arith}
-use lib.ListN.{length, take, drop}
+use Rattle.lists.specs.Basics.{_≡_, refl, sym, ap, ap₂, _∙_, ℕ, zero, suc, _+_, _-_, _*_, _/_, _<_, eqb, leb, Bool, true, false, _&&_, and-assoc, and-false}
+use Rattle.lists.specs.Basics.{List, map, length, take, drop, arith}
 use lib.Seq.{take-take, drop-drop}
-use lib.Dec.{eqb, leb}
 use Rattle.lists.specs.Tests.{and-fst, and-swap}
 use Rattle.lists.specs.Each.{all, pieces, less}
 use Rattle.model.specs.Layouts.{recordLayout, recordBytes}

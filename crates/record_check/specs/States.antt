@@ -1,19 +1,13 @@
 -- The kinds of line: the rule of a state as limits on the fields of `recordLayout`, so that a line's parts say word, zeros and bounds at once. A
 -- PREPARED line over nothing is a kind of its own, since most of it is fixed. That the limits are the rule is computed, once the numbers of state
 -- and before version are known.
-use Prim.Native.Nat.{ℕ, zero, suc, _+_, _*_, _≤_}
-use mathlib.Core.Path.{_≡_, refl, sym, ap, _∙_}
-use mathlib.Core.Bool.{Bool, true, false, not, _&&_, cond, true≢false, and-assoc, and-true, and-false}
-use mathlib.Core.List.{List, [], _∷_, _++_}
-use native.Mathlib.Omega.{arith}
-use lib.ListN.{length, getD, set, take, drop}
-use lib.Dec.{eqb, leb, eqb·suc-zero, leb·suc-zero}
-use borrow.Author.Tests.{eqb-true, eq-eqb, le-leb}
+use Rattle.lists.specs.Basics.{_≡_, refl, sym, ap, _∙_, ℕ, zero, suc, _+_, _*_, _≤_, eqb, leb, Bool, true, false, not, _&&_, cond, true≢false, and-assoc}
+use Rattle.lists.specs.Basics.{and-true, and-false, List, [], _∷_, _++_, length, take, drop, getD, set, arith, eqb-true, eq-eqb, le-leb}
+use lib.Dec.{eqb·suc-zero, leb·suc-zero}
 use Rattle.lists.specs.Bytes.{bytes, eqList}
 use Rattle.lists.specs.Each.{all}
 use Rattle.lists.specs.Tests.{and-both, same-test, tests}
-use Rattle.types.specs.declared.Kind.the-variants.{StateWord}
-use Rattle.types.specs.declared.Column.{Column}
+use Rattle.model.specs.Types.{Column, StateWord}
 use Rattle.model.specs.Layouts.{recordLayout, words, wordAt, noColumn}
 use Rattle.model.specs.Lines.{fieldValue, fieldBytes, wordFrom, inRange}
 use Rattle.model.specs.Records.{stateOf, byState, imageFrom, recordOf, isZero, absentRule, committedRule, preparedRule}

@@ -1,12 +1,7 @@
 -- The tables of the kinds of line as the code holds them, three rows for each kind one after another. A row is taken out again by its place, and
 -- then the law of the pass over tables applies; that the parts are such that it does is computed.
-use Prim.Native.Nat.{ℕ, zero, suc, _+_, _*_, _<_}
-use mathlib.Core.Path.{_≡_, refl, sym, ap, _∙_}
-use mathlib.Core.Bool.{true, _&&_}
-use mathlib.Core.List.{List, [], _∷_, _++_, map}
-use native.Mathlib.Omega.{arith}
-use lib.ListN.{length, take, drop, getD, length-map}
-use lib.Dec.{eqb, ltb}
+use Rattle.lists.specs.Basics.{_≡_, refl, sym, ap, _∙_, ℕ, zero, suc, _+_, _*_, _<_, eqb, ltb, true, _&&_, List, [], _∷_, _++_, map, length, take, drop, getD}
+use Rattle.lists.specs.Basics.{length-map, arith}
 use Rattle.lists.specs.Bytes.{bytes}
 use Rattle.lists.specs.Each.{all, joined}
 use Rattle.lists.specs.Pieces.{AllOf, getD-pieces, pieces-joined, length-joined}

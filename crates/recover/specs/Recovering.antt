@@ -1,22 +1,13 @@
 -- What the visit of line i writes: setting that line in the bytes is the write of its key, and setting its owner's decision is the decide.
-use Prim.Native.Nat.{ℕ, zero, suc, _*_, _/_, _≤_, _<_}
-use mathlib.Core.Path.{_≡_, refl, sym, ap, _∙_, subst}
-use mathlib.Core.Bool.{Bool, true, false, cond}
-use mathlib.Core.List.{List, [], _∷_, map}
-use native.Mathlib.Omega.{arith}
-use lib.ListN.{length, drop, getD, set, length-map, List·getD-map}
-use lib.Dec.{ltb}
-use borrow.Author.Tests.{lt-ltb, le-leb, eq-eqb}
+use Rattle.lists.specs.Basics.{_≡_, refl, sym, ap, subst, _∙_, ℕ, zero, suc, _*_, _/_, _≤_, _<_, ltb, Bool, true, false, cond, List, [], _∷_, map, length, drop}
+use Rattle.lists.specs.Basics.{getD, set, length-map, List·getD-map, arith, eq-eqb, le-leb, lt-ltb}
 use Rattle.lists.specs.Pieces.{over}
 use Rattle.lists.specs.All.{getD-any}
 use Rattle.lists.specs.Chosen.{and-false}
 use Rattle.lists.specs.Each.{any}
 use Rattle.lists.specs.Tests.{and-fst, and-both, choose-by, tests}
 use Rattle.types.specs.declared.Decision.the-variants.{Aborted}
-use Rattle.types.specs.declared.Key.{Key}
-use Rattle.types.specs.declared.Record.{Record}
-use Rattle.types.specs.declared.Found.the-variants.{At}
-use Rattle.types.specs.declared.Recovery.{Recovery}
+use Rattle.model.specs.Types.{Key, Record, At, Recovery}
 use Rattle.types.specs.declared.Recovery.the-variants.{Stays, Forward, Back, Again, Busy}
 use Rattle.model.specs.Layouts.{recordBytes}
 use Rattle.model.specs.Records.{noRecord, records, recordText, recordsText, recordsGood, goodAlone, sameKey, found, lineOf, preparedRule}

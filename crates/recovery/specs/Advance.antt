@@ -1,76 +1,32 @@
 -- An advance moves the settled lines as the model does, and what is remembered of its transaction stays true: phase by phase, a walk of the step table.
-use Prim.Native.Nat.{ℕ, _+_, _≤_, _<_}
-use mathlib.Core.Path.{_≡_, refl, sym, ap, _∙_, subst}
-use mathlib.Core.Bool.{Bool, true, false, _&&_, not, cond, true≢false}
-use mathlib.Core.Option.{none}
-use native.Mathlib.Omega.{arith}
-use lib.ListN.{length, getD}
-use lib.Dec.{eqb, ltb}
-use borrow.Author.Tests.{eqb-true, ne-eqb, ltb-true, ltb-false, le-ltb}
+use Rattle.lists.specs.Basics.{_≡_, refl, sym, ap, subst, _∙_, ℕ, _+_, _≤_, _<_, eqb, ltb, Bool, true, false, not, _&&_, cond, true≢false, length, getD, none}
+use Rattle.lists.specs.Basics.{arith, eqb-true, ltb-true, ltb-false, ne-eqb, le-ltb}
 use Rattle.lists.specs.Each.{all}
 use Rattle.lists.specs.Chosen.{and-false}
 use Rattle.lists.specs.Tests.{and-fst, choose-by}
-use Rattle.types.specs.declared.Decision.{Decision}
+use Rattle.model.specs.Types.{Key, Decision, Transaction}
 use Rattle.types.specs.declared.Decision.the-variants.{Undecided, Committed, Aborted}
-use Rattle.types.specs.declared.Key.{Key}
-use Rattle.types.specs.declared.Transaction.{Transaction}
 use Rattle.model.specs.Records.{lineOf}
 use Rattle.model.specs.Coordinator.{decision}
-use Rattle.model.specs.Transactions.{
-  preparePhase,
-  validatePhase,
-  decidePhase,
-  withdrawPhase,
-  finishPhase,
-  undoPhase,
-  donePhase,
-  noVerdict,
-  committedVerdict,
-  abortedVerdict,
-  isSerializable,
-  isEmpty,
-  held,
-  puts,
-  toValidate,
-  noEntry,
-  moved,
-}
+use Rattle.model.specs.Transactions.{preparePhase, validatePhase, decidePhase, withdrawPhase, finishPhase, undoPhase, donePhase, noVerdict, committedVerdict}
+use Rattle.model.specs.Transactions.{abortedVerdict, isSerializable, isEmpty, held, puts, toValidate, noEntry, moved}
 use Rattle.model.specs.Groups.{groupCount, groupPlace}
 use Rattle.model.specs.Images.{byDecision}
 use Rattle.model.specs.Writes.{Sheets, Write, nothing, decide, commit, prepare, forward, back, decisionsAfter, apply, isOnePhase}
 use Rattle.model.specs.WellFormed.{placeFormed, verdictFormed}
 use Rattle.model.specs.Conditions.{cannotAdvance}
-use Rattle.model.specs.Steps.{Step, holds, unitsOf, groupsOf, groupAt, keysOf, to, noStep, commits, onePhaseAllowed, openWithoutPuts, onePhase, openStep, nextGroup, prepareStep, nextEntry, validateStep, decideStep, withdrawn, withdrawStep, finishStep, undoStep, step}
+use Rattle.model.specs.Steps.{Step, holds, unitsOf, groupsOf, groupAt, keysOf, to, noStep, commits, onePhaseAllowed, openWithoutPuts, onePhase, openStep}
+use Rattle.model.specs.Steps.{nextGroup, prepareStep, nextEntry, validateStep, decideStep, withdrawn, withdrawStep, finishStep, undoStep, step}
 use Rattle.model.specs.SequentialModel.{Model, modelCommit}
 use Rattle.call_laws.specs.Choices.{by-phase-of, by-decision-of}
 use Rattle.call_laws.specs.Sheets.{GoodSheets, MayPutAll}
 use Rattle.call_laws.specs.Transactions.{Body, Stage, well-formed-parts, place-at, verdict-at}
 use Rattle.call_laws.specs.Steps.{may-put}
 use Rattle.sheet_laws.specs.Coordinator.{bounds}
-use Rattle.recovery.specs.Settling.{
-  Gentle,
-  gentle-nothing,
-  gentle-abort,
-  gentle-forward,
-  gentle-back,
-  gentle-prepare,
-}
+use Rattle.recovery.specs.Settling.{Gentle, gentle-nothing, gentle-abort, gentle-forward, gentle-back, gentle-prepare}
 use Rattle.recovery.specs.View.{View, gentle-view}
-use Rattle.recovery.specs.Memory.{
-  putIn,
-  preparedChange,
-  doneAt,
-  Memory,
-  Away,
-  away-nothing,
-  away-abort,
-  away-decide,
-  away-commit,
-  away-prepare,
-  away-forward,
-  away-back,
-  memory-kept,
-}
+use Rattle.recovery.specs.Memory.{putIn, preparedChange, doneAt, Memory, Away, away-nothing, away-abort, away-decide, away-commit, away-prepare}
+use Rattle.recovery.specs.Memory.{away-forward, away-back, memory-kept}
 use Rattle.recovery.specs.Puts.{put-in-empty}
 use Rattle.recovery.specs.OwnWrites.{doneTo, all-done, prepare-columns, one-phase-view, empty-view, decide-view}
 use Rattle.recovery.specs.Stages.{memory-as, done-in-open, done-in-prepare, done-in-validate, done-in-decide}

@@ -1,8 +1,6 @@
 -- Demand 3 over bytes: the bytes of both sheets are a kind of sheets, and an accepted record sheet is the text of what it says.
-use mathlib.Core.Path.{_≡_, sym, ap, _∙_}
-use mathlib.Core.Bool.{true}
-use mathlib.Core.List.{List, [], map}
-use Rattle.types.specs.declared.Record.{Record}
+use Rattle.lists.specs.Basics.{_≡_, sym, ap, _∙_, true, List, [], map}
+use Rattle.model.specs.Types.{Record}
 use Rattle.model.specs.Coordinator.{decision}
 use Rattle.model.specs.Records.{records, recordsText}
 use Rattle.model.specs.Writes.{Sheets}

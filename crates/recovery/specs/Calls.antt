@@ -1,27 +1,11 @@
 -- Every call keeps the invariant of a history. A refused call changes nothing; a visit makes a gentle write; begin adds a state of a new number; read, put,
 -- abort and advance replace the state that they take.
-use Prim.Native.Nat.{ℕ, zero, suc, _+_, _≤_, _<_}
-use mathlib.Core.Path.{_≡_, refl, sym, ap, _∙_, subst}
-use mathlib.Core.Bool.{Bool, true, false, _&&_, not, cond, true≢false}
-use mathlib.Core.List.{List, [], _∷_}
-use mathlib.Core.Option.{none, some}
-use native.Mathlib.Omega.{arith}
-use native.Mathlib.Numerals.{add-one}
-use lib.ListN.{take, drop, getD, set}
-use lib.Dec.{eqb}
-use borrow.Author.Tests.{not-false, eqb-true, eq-eqb, ne-eqb}
+use Rattle.lists.specs.Basics.{_≡_, refl, sym, ap, subst, _∙_, ℕ, zero, suc, _+_, _≤_, _<_, eqb, Bool, true, false, not, _&&_, cond, true≢false, List, [], _∷_}
+use Rattle.lists.specs.Basics.{take, drop, getD, set, none, some, arith, add-one, eqb-true, eq-eqb, ne-eqb, not-false}
 use Rattle.lists.specs.Each.{all}
 use Rattle.lists.specs.Tests.{and-snd, and-both, choose-by, tests}
-use Rattle.types.specs.declared.Decision.{Decision}
+use Rattle.model.specs.Types.{Key, Record, Decision, Found, Nothing, Columns, Entry, Transaction, Recovery}
 use Rattle.types.specs.declared.Decision.the-variants.{Undecided, Committed, Aborted}
-use Rattle.types.specs.declared.Key.{Key}
-use Rattle.types.specs.declared.Columns.{Columns}
-use Rattle.types.specs.declared.Entry.{Entry}
-use Rattle.types.specs.declared.Record.{Record}
-use Rattle.types.specs.declared.Transaction.{Transaction}
-use Rattle.types.specs.declared.Found.{Found}
-use Rattle.types.specs.declared.Found.the-variants.{Nothing}
-use Rattle.types.specs.declared.Recovery.{Recovery}
 use Rattle.model.specs.Refusals.{refusalOf}
 use Rattle.model.specs.Records.{sameKey, lineOf, isMissing, byFound}
 use Rattle.model.specs.Coordinator.{Coordinator, decision, isUndecided, coordinatorGood}
@@ -43,18 +27,10 @@ use Rattle.call_laws.specs.Lines.{still-issue}
 use Rattle.call_laws.specs.Sheets.{GoodSheets}
 use Rattle.call_laws.specs.Transactions.{well-formed-parts}
 use Rattle.call_laws.specs.Entries.{getD-first}
-use Rattle.recovery.specs.Settling.{
-  Gentle,
-  gentle-nothing,
-  gentle-issue,
-  gentle-abort,
-  gentle-forward,
-  gentle-back,
-  issued-decision,
-  undecided-committed,
-}
+use Rattle.recovery.specs.Settling.{Gentle, gentle-nothing, gentle-issue, gentle-abort, gentle-forward, gentle-back, issued-decision, undecided-committed}
 use Rattle.recovery.specs.View.{own-txid, line-after, gentle-view}
-use Rattle.recovery.specs.Memory.{putIn, preparedChange, Memory, other-owner, memory-kept, undecided-kept, Away, away-nothing, away-issue, away-abort, away-forward, away-back}
+use Rattle.recovery.specs.Memory.{putIn, preparedChange, Memory, other-owner, memory-kept, undecided-kept, Away, away-nothing, away-issue, away-abort}
+use Rattle.recovery.specs.Memory.{away-forward, away-back}
 use Rattle.recovery.specs.Advance.{never-both, afterStep, plain, withdraws, stays, step-moves, advance-live}
 use Rattle.recovery.specs.Puts.{put-in-more, put-in-replaced, take-set}
 use Rattle.recovery.specs.Stages.{memory-as, done-in-open}

@@ -1,14 +1,8 @@
 -- A transaction with puts is committed in the model exactly when its coordinator line says so or its one-phase write was made: from the count that the
 -- history keeps, which the visits of a recovery pass leave alone.
-use Prim.Native.Nat.{ℕ, _<_}
-use mathlib.Core.Path.{_≡_, refl, sym, ap, _∙_}
-use mathlib.Core.Logic.{_⊎_, inl, inr}
-use mathlib.Core.Bool.{Bool, true, false, _||_}
-use mathlib.Core.List.{List, [], _∷_, map}
-use mathlib.Core.Option.{none, some, Option·none-ne-some}
-use Rattle.types.specs.declared.Decision.{Decision}
+use Rattle.lists.specs.Basics.{_≡_, refl, sym, ap, _∙_, ℕ, _<_, Bool, true, false, _||_, List, [], _∷_, map, none, some, Option·none-ne-some, _⊎_, inl, inr}
+use Rattle.model.specs.Types.{Key, Decision}
 use Rattle.types.specs.declared.Decision.the-variants.{Committed}
-use Rattle.types.specs.declared.Key.{Key}
 use Rattle.model.specs.Images.{Change}
 use Rattle.model.specs.Records.{lineOf}
 use Rattle.model.specs.Coordinator.{decision}

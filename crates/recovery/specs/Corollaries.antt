@@ -1,11 +1,7 @@
 -- What learners doubt, as corollaries of the invariant.
-use Prim.Native.Nat.{ℕ, _<_}
-use mathlib.Core.Path.{_≡_, sym, ap, _∙_}
-use mathlib.Core.Bool.{Bool, true, false, _||_}
-use mathlib.Core.List.{List, [], _∷_, map}
+use Rattle.lists.specs.Basics.{_≡_, sym, ap, _∙_, ℕ, _<_, Bool, true, false, _||_, List, [], _∷_, map}
 use Rattle.types.specs.declared.Decision.the-variants.{Undecided, Committed}
-use Rattle.types.specs.declared.Key.{Key}
-use Rattle.types.specs.declared.Record.{Record}
+use Rattle.model.specs.Types.{Key, Record}
 use Rattle.model.specs.Records.{lineOf}
 use Rattle.model.specs.Coordinator.{decision}
 use Rattle.model.specs.Images.{isPrepared, rolledBack}

@@ -1,21 +1,11 @@
 -- Which numbers the model has committed, and why: by their decision, by their one-phase write, or having put nothing. Beside the invariant of the lines, over
 -- the same histories.
-use Prim.Native.Nat.{ℕ, _≤_, _<_}
-use mathlib.Core.Path.{_≡_, refl, sym, ap, _∙_, subst}
-use mathlib.Core.Logic.{_⊎_, inl, inr}
-use mathlib.Core.List.{List, _∷_}
-use mathlib.Core.Option.{none, some, Option·none-ne-some, Option·some-injective}
-use mathlib.Core.Bool.{Bool, true, false, _||_, true≢false}
-use native.Mathlib.Omega.{arith}
-use lib.ListN.{length}
-use lib.Dec.{eqb}
-use borrow.Author.Tests.{eqb-true, eqb-false, eq-eqb}
+use Rattle.lists.specs.Basics.{_≡_, refl, sym, ap, subst, _∙_, ℕ, _≤_, _<_, eqb, Bool, true, false, _||_, true≢false, List, _∷_, length, none, some}
+use Rattle.lists.specs.Basics.{Option·none-ne-some, Option·some-injective, _⊎_, inl, inr, arith, eqb-true, eqb-false, eq-eqb}
 use Rattle.lists.specs.Each.{any}
 use Rattle.lists.specs.Chosen.{or-else, or-left, or-right}
 use Rattle.types.specs.declared.Decision.the-variants.{Undecided, Committed, Aborted}
-use Rattle.types.specs.declared.Key.{Key}
-use Rattle.types.specs.declared.Entry.{Entry}
-use Rattle.types.specs.declared.Transaction.{Transaction}
+use Rattle.model.specs.Types.{Key, Entry, Transaction}
 use Rattle.model.specs.Results.{returns}
 use Rattle.model.specs.Coordinator.{decision}
 use Rattle.model.specs.Writes.{Sheets, Write, nothing, decide, commit, decisionsAfter, apply, isOnePhase}
@@ -24,20 +14,8 @@ use Rattle.model.specs.SequentialModel.{Model, modelCommit, isCommitted}
 use Rattle.call_laws.specs.Keeping.{issued-grows}
 use Rattle.model.specs.Records.{lineOf}
 use Rattle.recovery.specs.Memory.{preparedChange, Away, undecided-kept, none-prepared-kept}
-use Rattle.recovery.specs.Settling.{
-  Gentle,
-  gentle-nothing,
-  gentle-issue,
-  gentle-abort,
-  gentle-forward,
-  gentle-back,
-  gentle-prepare,
-  decided-own,
-  decided-other,
-  issued-decision,
-  abort-commits-none,
-  undecided-committed,
-}
+use Rattle.recovery.specs.Settling.{Gentle, gentle-nothing, gentle-issue, gentle-abort, gentle-forward, gentle-back, gentle-prepare, decided-own}
+use Rattle.recovery.specs.Settling.{decided-other, issued-decision, abort-commits-none, undecided-committed}
 
 -- the numbers whose one-phase write has been made, after one more write
 abbrev pub oneAfter : Write → (ℕ → Bool) → ℕ → Bool

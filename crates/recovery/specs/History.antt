@@ -1,14 +1,7 @@
 -- A legal history keeps the invariant from its first sheets on.
-use Prim.Native.Nat.{ℕ}
-use mathlib.Core.Path.{_≡_, refl, sym, _∙_}
-use mathlib.Core.Bool.{Bool, true, false, not, true≢false}
-use mathlib.Core.List.{List, [], _∷_}
-use mathlib.Core.Option.{some}
-use borrow.Author.Tests.{not-true}
+use Rattle.lists.specs.Basics.{_≡_, refl, sym, _∙_, ℕ, Bool, true, false, not, true≢false, List, [], _∷_, some, not-true}
 use Rattle.lists.specs.Each.{any}
-use Rattle.types.specs.declared.Key.{Key}
-use Rattle.types.specs.declared.Record.{Record}
-use Rattle.types.specs.declared.Transaction.{Transaction}
+use Rattle.model.specs.Types.{Key, Record, Transaction}
 use Rattle.model.specs.Records.{lineOf}
 use Rattle.model.specs.Images.{isPrepared}
 use Rattle.model.specs.Writes.{Sheets, sheetsGood}

@@ -1,18 +1,10 @@
 -- The invariant of a history: the sheets are good, the settled lines are the model's, and of every state that may be handed on it is remembered what it has
 -- put and prepared; one such state for each number. A call keeps it if its own state and the states of others do.
-use Prim.Native.Nat.{ℕ, _≤_, _<_}
-use mathlib.Core.Path.{_≡_, refl, sym, ap, _∙_, subst}
-use mathlib.Core.Logic.{inl, inr}
-use mathlib.Core.List.{List, _∷_}
-use mathlib.Core.Option.{none, some, Option·none-ne-some, Option·some-injective}
-use mathlib.Core.Bool.{Bool, true, _||_, true≢false}
-use native.Mathlib.Omega.{arith}
-use lib.ListN.{length}
-use borrow.Author.Tests.{eqb-true, eq-eqb}
+use Rattle.lists.specs.Basics.{_≡_, refl, sym, ap, subst, _∙_, ℕ, _≤_, _<_, Bool, true, _||_, true≢false, List, _∷_, length, none, some, Option·none-ne-some}
+use Rattle.lists.specs.Basics.{Option·some-injective, inl, inr, arith, eqb-true, eq-eqb}
 use Rattle.lists.specs.Chosen.{or-else}
 use Rattle.types.specs.declared.Decision.the-variants.{Undecided}
-use Rattle.types.specs.declared.Key.{Key}
-use Rattle.types.specs.declared.Transaction.{Transaction}
+use Rattle.model.specs.Types.{Key, Transaction}
 use Rattle.model.specs.Results.{returns}
 use Rattle.model.specs.Records.{lineOf}
 use Rattle.model.specs.Coordinator.{decision}
@@ -27,23 +19,8 @@ use Rattle.call_laws.specs.Keeping.{formed-after}
 use Rattle.sheet_laws.specs.Coordinator.{bounds}
 use Rattle.recovery.specs.Settling.{Gentle}
 use Rattle.recovery.specs.View.{View, gentle-view}
-use Rattle.recovery.specs.Counted.{
-  oneAfter,
-  Silent,
-  silent-kept,
-  Why,
-  by-decision,
-  by-one-phase,
-  by-nothing,
-  Effect,
-  quiet,
-  commits,
-  gentle-one,
-  Counted,
-  counted-taken,
-  counted-free,
-  counted-begun,
-}
+use Rattle.recovery.specs.Counted.{oneAfter, Silent, silent-kept, Why, by-decision, by-one-phase, by-nothing, Effect, quiet, commits, gentle-one, Counted}
+use Rattle.recovery.specs.Counted.{counted-taken, counted-free, counted-begun}
 use Rattle.recovery.specs.Stages.{done-in-open}
 use Rattle.recovery.specs.Memory.{putIn, preparedChange, Memory, Away, memory-kept, undecided-kept}
 

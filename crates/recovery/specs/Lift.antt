@@ -1,9 +1,6 @@
 -- Demand 3 from decoded sheets to any kind of sheets that say them. A legal history there is a legal history on what they say, turn by turn, since accepted
 -- sheets stay accepted and say what the turn leaves.
-use Prim.Native.Nat.{ℕ}
-use mathlib.Core.Path.{_≡_, refl, sym, ap, ap₂, _∙_, subst}
-use mathlib.Core.Bool.{Bool, true, _||_}
-use mathlib.Core.List.{List, [], _∷_, map}
+use Rattle.lists.specs.Basics.{_≡_, refl, sym, ap, ap₂, subst, _∙_, ℕ, Bool, true, _||_, List, [], _∷_, map}
 use Rattle.model.specs.Writes.{Sheets, sheetsGood}
 use Rattle.model.specs.Results.{Call, Answer}
 use Rattle.model.specs.Histories.{Event, answer, after, ClockFits, Permitted, leftBy}

@@ -1,57 +1,23 @@
 -- What is remembered of a transaction that may still commit: its decision is not COMMITTED, and while it is undecided the columns that it has prepared are
 -- those put in the groups done so far. Writes of others keep it.
-use Prim.Native.Nat.{ℕ, zero, suc}
-use mathlib.Core.Path.{_≡_, refl, sym, ap, _∙_}
-use mathlib.Core.Bool.{Bool, true, false, _&&_, cond}
-use mathlib.Core.List.{List, [], _∷_}
-use mathlib.Core.Option.{Option, none, some, Option·none-ne-some}
-use lib.ListN.{getD, set}
-use lib.Dec.{eqb, ltb}
-use borrow.Author.Tests.{eqb-true, eqb-false, ne-eqb}
+use Rattle.lists.specs.Basics.{_≡_, refl, sym, ap, _∙_, ℕ, zero, suc, eqb, ltb, Bool, true, false, _&&_, cond, List, [], _∷_, getD, set, Option, none, some}
+use Rattle.lists.specs.Basics.{Option·none-ne-some, eqb-true, eqb-false, ne-eqb}
 use Rattle.lists.specs.Chosen.{and-false}
 use Rattle.lists.specs.Tests.{choose-by}
-use Rattle.types.specs.declared.AtomicityUnit.{AtomicityUnit}
-use Rattle.types.specs.declared.Decision.{Decision}
+use Rattle.model.specs.Types.{Key, Record, Decision, AtomicityUnit, Entry, Transaction}
 use Rattle.types.specs.declared.Decision.the-variants.{Undecided, Committed, Aborted}
-use Rattle.types.specs.declared.Key.{Key}
-use Rattle.types.specs.declared.Entry.{Entry}
-use Rattle.types.specs.declared.Record.{Record}
-use Rattle.types.specs.declared.Transaction.{Transaction}
 use Rattle.model.specs.Records.{lineOf, sameKey}
 use Rattle.model.specs.Coordinator.{Coordinator, decision, withDecision}
 use Rattle.model.specs.Transactions.{byPhase, isPut, held, puts}
 use Rattle.model.specs.Groups.{groupCount, groupPlace}
 use Rattle.model.specs.Images.{isPrepared, preparedBy, prepared, committed, rolledForward, rolledBack, Change, changeOf, changeIn}
-use Rattle.model.specs.Writes.{
-  Sheets,
-  Write,
-  nothing,
-  issue,
-  decide,
-  commit,
-  prepare,
-  forward,
-  back,
-  entryFor,
-  byEntry,
-  isOf,
-  lineAfter,
-  decisionsAfter,
-  apply,
-}
+use Rattle.model.specs.Writes.{Sheets, Write, nothing, issue, decide, commit, prepare, forward, back, entryFor, byEntry, isOf, lineAfter, decisionsAfter, apply}
 use Rattle.model.specs.Steps.{unitsOf}
 use Rattle.call_laws.specs.Images.{forward-plain, back-plain}
 use Rattle.call_laws.specs.Lines.{Still, still-nothing, still-issue, still-decide, still-forward, still-back}
 use Rattle.call_laws.specs.Sheets.{MayPutAll, still-commit, still-prepare}
 use Rattle.call_laws.specs.Keeping.{units-kept}
-use Rattle.recovery.specs.Settling.{
-  decided-other,
-  issued-decision,
-  abort-commits-none,
-  own-line,
-  undecided-committed,
-  undecided-aborted,
-}
+use Rattle.recovery.specs.Settling.{decided-other, issued-decision, abort-commits-none, own-line, undecided-committed, undecided-aborted}
 use Rattle.recovery.specs.View.{own-key, line-after}
 
 -- what is put for a key, if anything

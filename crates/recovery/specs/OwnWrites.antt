@@ -1,22 +1,11 @@
 -- A transaction's own writes: preparing a group adds its columns to what is remembered; the one-phase write and the decision COMMITTED move the settled
 -- lines exactly as the model's commit does.
-use Prim.Native.Nat.{ℕ, _+_, _≤_, _<_}
-use mathlib.Core.Path.{_≡_, refl, sym, ap, ap₂, _∙_}
-use mathlib.Core.Bool.{Bool, true, false, _&&_, cond}
-use mathlib.Core.List.{List}
-use mathlib.Core.Option.{Option, none, some}
-use native.Mathlib.Omega.{arith}
-use lib.ListN.{length}
-use lib.Dec.{eqb, ltb}
-use borrow.Author.Tests.{eqb-true, eqb-false, eq-eqb, ltb-true, ltb-false, lt-ltb, le-ltb}
+use Rattle.lists.specs.Basics.{_≡_, refl, sym, ap, ap₂, _∙_, ℕ, _+_, _≤_, _<_, eqb, ltb, Bool, true, false, _&&_, cond, List, length, Option, none, some, arith}
+use Rattle.lists.specs.Basics.{eqb-true, eqb-false, ltb-true, ltb-false, eq-eqb, lt-ltb, le-ltb}
 use Rattle.lists.specs.Tests.{tests, choose-by}
 use Rattle.types.specs.declared.State.the-variants as State
-use Rattle.types.specs.declared.AtomicityUnit.{AtomicityUnit}
+use Rattle.model.specs.Types.{Key, Record, AtomicityUnit, Entry, Transaction}
 use Rattle.types.specs.declared.Decision.the-variants.{Undecided, Committed}
-use Rattle.types.specs.declared.Key.{Key}
-use Rattle.types.specs.declared.Entry.{Entry}
-use Rattle.types.specs.declared.Record.{Record}
-use Rattle.types.specs.declared.Transaction.{Transaction}
 use Rattle.model.specs.Records.{lineOf, preparedRule, noImage}
 use Rattle.model.specs.Coordinator.{Coordinator, decision, withDecision}
 use Rattle.model.specs.Transactions.{held, puts}

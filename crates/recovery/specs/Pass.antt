@@ -1,37 +1,17 @@
 -- The recovery pass: a visit raises a line from undecided to decided to not prepared, and visits to other lines never lower it. After two visits no line is
 -- prepared, and then every line is its settled line.
-use Prim.Native.Nat.{ℕ, zero, suc, _+_, _^_, _≤_, _<_}
-use mathlib.Core.Path.{_≡_, refl, sym, ap, ap₂, _∙_, subst}
-use mathlib.Core.Bool.{Bool, true, false, _&&_, cond, true≢false}
-use mathlib.Core.List.{List, [], _∷_, map}
-use native.Mathlib.Omega.{arith}
-use lib.ListN.{length}
-use lib.Dec.{eqb}
-use borrow.Author.Tests.{eq-eqb}
+use Rattle.lists.specs.Basics.{_≡_, refl, sym, ap, ap₂, subst, _∙_, ℕ, zero, suc, _+_, _^_, _≤_, _<_, eqb, Bool, true, false, _&&_, cond, true≢false, List, []}
+use Rattle.lists.specs.Basics.{_∷_, map, length, arith, eq-eqb}
 use Rattle.lists.specs.Each.{any, count}
 use Rattle.lists.specs.Tests.{choose-by, tests}
-use Rattle.types.specs.declared.Decision.{Decision}
+use Rattle.model.specs.Types.{Key, Record, Decision, Recovery}
 use Rattle.types.specs.declared.Decision.the-variants.{Undecided, Aborted}
-use Rattle.types.specs.declared.Key.{Key}
-use Rattle.types.specs.declared.Record.{Record}
-use Rattle.types.specs.declared.Recovery.{Recovery}
 use Rattle.types.specs.declared.Recovery.the-variants.{Stays, Forward, Back, Again, Busy}
 use Rattle.model.specs.Calls.{outcome, result}
 use Rattle.model.specs.Records.{sameKey, lineOf, hasLine, keyInRange, preparedRule}
 use Rattle.model.specs.Coordinator.{decision, withDecision, isUndecided}
 use Rattle.model.specs.Images.{isPrepared, preparedBy, rolledForward, rolledBack}
-use Rattle.model.specs.Writes.{
-  Sheets,
-  Write,
-  nothing,
-  decide,
-  forward,
-  back,
-  isOf,
-  lineAfter,
-  decisionsAfter,
-  apply,
-}
+use Rattle.model.specs.Writes.{Sheets, Write, nothing, decide, forward, back, isOf, lineAfter, decisionsAfter, apply}
 use Rattle.model.specs.Visits.{ownerDecision, ownerExpired, meeting, isBusy, recoveryWrite}
 use Rattle.model.specs.Refusals.{refusalOf}
 use Rattle.model.specs.Results.{Call, visit, made, writeOf, visited}

@@ -1,19 +1,10 @@
 -- The columns put for a key: by the entry that a group has for it, and after a read or a put. Each by induction on the entries.
-use Prim.Native.Nat.{ℕ, zero, suc, _<_}
-use mathlib.Core.Path.{_≡_, refl, sym, ap, ap₂, _∙_}
-use mathlib.Core.Bool.{Bool, true, false, _&&_, _||_, not, cond, true≢false}
-use mathlib.Core.List.{List, [], _∷_}
-use mathlib.Core.Option.{Option, none, some, Option·none-ne-some}
-use native.Mathlib.Omega.{arith}
-use lib.ListN.{length, take, getD, set}
-use lib.Dec.{eqb}
-use borrow.Author.Tests.{not-true}
+use Rattle.lists.specs.Basics.{_≡_, refl, sym, ap, ap₂, _∙_, ℕ, zero, suc, _<_, eqb, Bool, true, false, not, _&&_, _||_, cond, true≢false, List, [], _∷_}
+use Rattle.lists.specs.Basics.{length, take, getD, set, Option, none, some, Option·none-ne-some, arith, not-true}
 use Rattle.lists.specs.Each.{any, filter}
 use Rattle.lists.specs.Chosen.{or-left, or-right}
 use Rattle.lists.specs.Tests.{and-fst, and-snd, choose-by}
-use Rattle.types.specs.declared.AtomicityUnit.{AtomicityUnit}
-use Rattle.types.specs.declared.Key.{Key}
-use Rattle.types.specs.declared.Entry.{Entry}
+use Rattle.model.specs.Types.{Key, AtomicityUnit, Entry}
 use Rattle.model.specs.Images.{Change}
 use Rattle.model.specs.Records.{sameKey}
 use Rattle.model.specs.Transactions.{isPut, isEmpty}

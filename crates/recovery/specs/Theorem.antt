@@ -1,12 +1,8 @@
 -- Demand 3 over decoded sheets: after any legal history and any recovery pass no line is PREPARED, and each is its line in the sequential model.
 -- The history keeps the invariant, the pass keeps its view and raises every line, and what isn't prepared is settled.
-use Prim.Native.Nat.{ℕ}
-use mathlib.Core.Path.{_≡_, refl, sym, ap, _∙_}
-use mathlib.Core.Bool.{true, false, not}
-use mathlib.Core.List.{List, [], _∷_, map}
+use Rattle.lists.specs.Basics.{_≡_, refl, sym, ap, _∙_, ℕ, true, false, not, List, [], _∷_, map}
 use Rattle.lists.specs.All.{map-map}
-use Rattle.types.specs.declared.Key.{Key}
-use Rattle.types.specs.declared.Record.{Record}
+use Rattle.model.specs.Types.{Key, Record}
 use Rattle.model.specs.Images.{isPrepared}
 use Rattle.model.specs.Writes.{Sheets, sheetsGood, apply}
 use Rattle.model.specs.Results.{Call}

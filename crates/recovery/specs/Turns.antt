@@ -1,15 +1,8 @@
 -- Histories of turns are histories of calls: a legal history of turns is a legal history of the calls that they come to, with the same sheets and the same
 -- model. So demand 3 over calls is demand 3 over turns. What a kind of turn owes for it is `Comes`.
-use Prim.Native.Nat.{ℕ, _<_}
-use mathlib.Core.Path.{_≡_, refl, sym, ap, ap₂, _∙_, subst}
-use mathlib.Core.Logic.{inl, inr}
-use mathlib.Core.Bool.{Bool, true, false, _||_, cond}
-use mathlib.Core.List.{List, [], _∷_, _++_, map}
-use mathlib.Core.Option.{some, Option·none-ne-some}
-use lib.ListN.{length}
-use Rattle.types.specs.declared.Key.{Key}
-use Rattle.types.specs.declared.Record.{Record}
-use Rattle.types.specs.declared.Transaction.{Transaction}
+use Rattle.lists.specs.Basics.{_≡_, refl, sym, ap, ap₂, subst, _∙_, ℕ, _<_, Bool, true, false, _||_, cond, List, [], _∷_, _++_, map, length, some}
+use Rattle.lists.specs.Basics.{Option·none-ne-some, inl, inr}
+use Rattle.model.specs.Types.{Key, Record, Transaction}
 use Rattle.model.specs.Calls.{result}
 use Rattle.model.specs.Images.{Change}
 use Rattle.model.specs.Coordinator.{decision}
@@ -19,20 +12,7 @@ use Rattle.model.specs.CallByPlace.{listed, named, advanceAtResult}
 use Rattle.model.specs.Histories.{Event, answer, written, after, Available, Permitted, event, eventsAfter, leftBy, Legal, onePhaseIn}
 use Rattle.model.specs.SequentialModel.{Model, firstModel, modelStep, modelAfter, isCommitted}
 use Rattle.model.specs.RecoveryPass.{Visit, visitCall, nonePrepared, Closing}
-use Rattle.model.specs.Turns.{
-  Turn,
-  single,
-  advanceAt,
-  turnEvent,
-  turnAfter,
-  turnOnePhase,
-  comesTo,
-  expanded,
-  turnsLeft,
-  onePhaseTurn,
-  turnEvents,
-  LegalTurns,
-}
+use Rattle.model.specs.Turns.{Turn, single, advanceAt, turnEvent, turnAfter, turnOnePhase, comesTo, expanded, turnsLeft, onePhaseTurn, turnEvents, LegalTurns}
 use Rattle.model.specs.Recovered.{modelAfterTurns, CommittedExactly}
 use Rattle.call_laws.specs.Lifting.{apply-nothing}
 use Rattle.call_laws.specs.ByPlace.{named-result, unlisted-result}

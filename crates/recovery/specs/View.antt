@@ -1,12 +1,7 @@
 -- The invariant of the record sheet: the settled line of each key is the sequential model's line of that key, a key without a line counting as an ABSENT line
 -- of version 0. Gentle writes keep it.
-use Prim.Native.Nat.{_≤_}
-use mathlib.Core.Path.{_≡_, refl, sym, ap, _∙_, subst}
-use mathlib.Core.Bool.{Bool, true, false}
-use mathlib.Core.List.{List}
-use native.Mathlib.Omega.{arith}
-use Rattle.types.specs.declared.Key.{Key}
-use Rattle.types.specs.declared.Record.{Record}
+use Rattle.lists.specs.Basics.{_≡_, refl, sym, ap, subst, _∙_, _≤_, Bool, true, false, List, arith}
+use Rattle.model.specs.Types.{Key, Record}
 use Rattle.model.specs.Records.{isZero, absentRule, stateRule, absentAt, lineOf}
 use Rattle.model.specs.Writes.{Sheets, Write, lineAfter, decisionsAfter, apply}
 use Rattle.model.specs.SequentialModel.{Model}

@@ -1,15 +1,8 @@
 -- What a line of a history says (docs/REPLAY.md): words parted by single spaces, the first of them the call's name, the others its numbers. And what reading
 -- it byte by byte tells of that.
-use Prim.Native.Nat.{ℕ, suc, _+_, _≤_, _<_}
-use mathlib.Core.Path.{_≡_, refl, sym, ap, ap₂, _∙_}
-use mathlib.Core.Bool.{Bool, true, false, _&&_, cond}
-use mathlib.Core.List.{List, [], _∷_}
-use native.Mathlib.Omega.{arith}
-use native.Mathlib.Numerals.{add-one}
-use lib.ListN.{length, getD, take, drop, set, replicate, drop-of-length-le}
+use Rattle.lists.specs.Basics.{_≡_, refl, sym, ap, ap₂, _∙_, ℕ, suc, _+_, _≤_, _<_, eqb, leb, Bool, true, false, _&&_, cond, List, [], _∷_, length, take, drop}
+use Rattle.lists.specs.Basics.{getD, set, replicate, drop-of-length-le, arith, add-one, eq-eqb, ne-eqb}
 use lib.Seq.{drop-cons, drop-drop}
-use lib.Dec.{eqb, leb}
-use borrow.Author.Tests.{eq-eqb, ne-eqb}
 use Rattle.lists.specs.Bytes.{bytes, eqList}
 use Rattle.decimal.specs.declared.Scan.{Scan}
 use Rattle.decimal.specs.declared.Scan.the-variants.{Blank, Number, Wrong}

@@ -1,13 +1,6 @@
 -- A look-up that is not refused: the sheet is accepted, the key is in range, and a place that was found is one of 500.
-use Prim.Native.Nat.{ℕ, _≤_, _<_}
-use mathlib.Core.Path.{_≡_}
-use mathlib.Core.Bool.{true}
-use mathlib.Core.List.{List}
-use native.Mathlib.Omega.{arith}
-use lib.ListN.{length}
-use borrow.Author.Tests.{not-false}
-use Rattle.types.specs.declared.Key.{Key}
-use Rattle.types.specs.declared.Found.the-variants.{At}
+use Rattle.lists.specs.Basics.{_≡_, ℕ, _≤_, _<_, true, List, length, arith, not-false}
+use Rattle.model.specs.Types.{Key, At}
 use Rattle.lists.specs.Tests.{tests}
 use Rattle.model.specs.Records.{recordsAccepted, recordsGood, keyInRange, records, found}
 use Rattle.model.specs.Refusals.{refusalOf}

@@ -1,10 +1,6 @@
 -- The part of the record sheet that a line of a history asks for: `line` asks for what the look-up hands back.
-use Prim.Native.Nat.{ℕ, _+_}
-use mathlib.Core.Path.{_≡_, sym, ap}
-use mathlib.Core.Bool.{Bool, true, false, cond}
-use mathlib.Core.List.{List, []}
-use lib.ListN.{getD}
-use Rattle.types.specs.declared.Key.{Key}
+use Rattle.lists.specs.Basics.{_≡_, sym, ap, ℕ, _+_, Bool, true, false, cond, List, [], getD}
+use Rattle.model.specs.Types.{Key}
 use Rattle.model.specs.SheetCalls.{lookedUp}
 use Rattle.script.specs.declared.scan.Command.{Command}
 use Rattle.script.specs.declared.scan.Kind.{Kind}

@@ -1,75 +1,24 @@
 -- An advance keeps the invariant of the order: phase by phase, a walk of the step table. A checked transaction never commits in one phase; it gets its place by
 -- its last prepare or on leaving open, validates entry by entry, and commits by its decision or, without puts, by its last step.
-use Prim.Native.Nat.{ℕ, zero, suc, _+_, _≤_, _<_}
-use mathlib.Core.Path.{_≡_, refl, sym, ap, _∙_, subst}
-use mathlib.Core.Logic.{_⊎_, inl, inr}
-use mathlib.Core.List.{List, _∷_}
-use mathlib.Core.Option.{none, some, Option·none-ne-some}
-use mathlib.Core.Bool.{Bool, true, false, _&&_, not, cond, true≢false}
-use native.Mathlib.Omega.{arith}
-use lib.ListN.{length, getD}
-use lib.Dec.{eqb, ltb}
-use borrow.Author.Tests.{eqb-true, eq-eqb, ne-eqb, ltb-true, ltb-false, le-ltb, not-true}
+use Rattle.lists.specs.Basics.{_≡_, refl, sym, ap, subst, _∙_, ℕ, zero, suc, _+_, _≤_, _<_, eqb, ltb, Bool, true, false, not, _&&_, cond, true≢false, List, _∷_}
+use Rattle.lists.specs.Basics.{length, getD, none, some, Option·none-ne-some, _⊎_, inl, inr, arith, eqb-true, ltb-true, ltb-false, eq-eqb, ne-eqb, le-ltb}
+use Rattle.lists.specs.Basics.{not-true}
 use Rattle.lists.specs.Each.{all}
 use Rattle.lists.specs.Chosen.{and-false}
 use Rattle.lists.specs.Members.{Mem, mem-passes, mem-filter}
 use Rattle.lists.specs.Tests.{and-snd, choose-by}
-use Rattle.types.specs.declared.Decision.{Decision}
+use Rattle.model.specs.Types.{Key, Record, Decision, Entry, Transaction}
 use Rattle.types.specs.declared.Decision.the-variants.{Undecided, Committed, Aborted}
-use Rattle.types.specs.declared.Entry.{Entry}
-use Rattle.types.specs.declared.Key.{Key}
-use Rattle.types.specs.declared.Record.{Record}
-use Rattle.types.specs.declared.Transaction.{Transaction}
 use Rattle.model.specs.Coordinator.{decision}
 use Rattle.model.specs.Groups.{groupCount, groupPlace, group}
 use Rattle.model.specs.Images.{Change}
-use Rattle.model.specs.Transactions.{
-  byPhase,
-  preparePhase,
-  validatePhase,
-  decidePhase,
-  withdrawPhase,
-  finishPhase,
-  undoPhase,
-  donePhase,
-  noVerdict,
-  committedVerdict,
-  abortedVerdict,
-  held,
-  isPut,
-  puts,
-  toValidate,
-  noEntry,
-  isEmpty,
-  isSerializable,
-  moved,
-}
+use Rattle.model.specs.Transactions.{byPhase, preparePhase, validatePhase, decidePhase, withdrawPhase, finishPhase, undoPhase, donePhase, noVerdict}
+use Rattle.model.specs.Transactions.{committedVerdict, abortedVerdict, held, isPut, puts, toValidate, noEntry, isEmpty, isSerializable, moved}
 use Rattle.model.specs.Writes.{Sheets, Write, nothing, prepare, decide, decisionsAfter, apply}
 use Rattle.model.specs.WellFormed.{placeFormed, verdictFormed}
 use Rattle.model.specs.Conditions.{cannotAdvance}
-use Rattle.model.specs.Steps.{
-  Step,
-  holds,
-  unitsOf,
-  groupsOf,
-  groupAt,
-  to,
-  noStep,
-  commits as committing,
-  openStep,
-  openWithoutPuts,
-  onePhaseAllowed,
-  nextGroup,
-  prepareStep,
-  nextEntry,
-  validateStep,
-  decideStep,
-  withdrawn,
-  withdrawStep,
-  finishStep,
-  undoStep,
-  step,
-}
+use Rattle.model.specs.Steps.{Step, holds, unitsOf, groupsOf, groupAt, to, noStep, commits as committing, openStep, openWithoutPuts, onePhaseAllowed, nextGroup}
+use Rattle.model.specs.Steps.{prepareStep, nextEntry, validateStep, decideStep, withdrawn, withdrawStep, finishStep, undoStep, step}
 use Rattle.model.specs.Results.{advance, returned}
 use Rattle.model.specs.Histories.{Event, Available}
 use Rattle.model.specs.SequentialModel.{Model, modelCommit, commitsIt}

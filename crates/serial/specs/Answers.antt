@@ -1,15 +1,9 @@
 -- What reads answered: of every read that gave a value, the transaction still holds what it then had as first read, since calls add entries and put to them, and
 -- none takes an entry away or changes what it has as first read.
-use mathlib.Core.Path.{_≡_, refl, sym, _∙_, subst}
-use mathlib.Core.List.{List, [], _∷_}
-use mathlib.Core.Bool.{Bool, true, false}
-use lib.Dec.{eqb}
-use borrow.Author.Tests.{eqb-true, eqb-false}
+use Rattle.lists.specs.Basics.{_≡_, refl, sym, subst, _∙_, eqb, Bool, true, false, List, [], _∷_, eqb-true, eqb-false}
 use Rattle.lists.specs.Members.{Mem, here, there}
-use Rattle.types.specs.declared.Key.{Key}
-use Rattle.types.specs.declared.Reading.{Reading}
+use Rattle.model.specs.Types.{Key, Transaction, Reading}
 use Rattle.types.specs.declared.Reading.the-variants.{Again}
-use Rattle.types.specs.declared.Transaction.{Transaction}
 use Rattle.model.specs.Transactions.{held, reading}
 use Rattle.model.specs.Writes.{Sheets, Write}
 use Rattle.model.specs.Results.{Call, begin, read, put, advance, abort, visit, Answer, turnedAway, returned, answered, visited}

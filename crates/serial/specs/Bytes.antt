@@ -1,11 +1,9 @@
 -- Checked transactions are serializable, over bytes: a legal history of turns on accepted bytes is one on what they say (recovery), and so are the calls that its
 -- turns come to, answer by answer.
-use mathlib.Core.Path.{_≡_, refl, sym, ap, _∙_, subst}
-use mathlib.Core.Bool.{true}
-use mathlib.Core.List.{List, [], _∷_, map}
+use Rattle.lists.specs.Basics.{_≡_, refl, sym, ap, subst, _∙_, true, List, [], _∷_, map}
 use Rattle.lists.specs.Each.{all}
 use Rattle.lists.specs.All.{all-always, map-equal}
-use Rattle.types.specs.declared.Record.{Record}
+use Rattle.model.specs.Types.{Record}
 use Rattle.model.specs.Records.{records, recordsText}
 use Rattle.model.specs.Writes.{Sheets}
 use Rattle.model.specs.Results.{Call, Answer}

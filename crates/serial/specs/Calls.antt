@@ -1,26 +1,11 @@
 -- Every call keeps what is known of the order and of the answers so far: a refused call and a visit take no state, begin returns a new one, read and put return
 -- one in open, abort one past decide, and advance one of the step table. A new entry is what the visit of its line left, which is the model's line.
-use Prim.Native.Nat.{ℕ, _+_, _<_}
-use mathlib.Core.Path.{_≡_, refl, sym, ap, _∙_, subst}
-use mathlib.Core.List.{List, _∷_}
-use mathlib.Core.Option.{some, Option·none-ne-some, Option·some-injective}
-use mathlib.Core.Bool.{Bool, true, false, _&&_, not, cond, true≢false}
-use native.Mathlib.Omega.{arith}
-use lib.ListN.{length, length-set, getD}
-use lib.Dec.{eqb, leb}
-use borrow.Author.Tests.{eqb-true, not-false, leb-false}
+use Rattle.lists.specs.Basics.{_≡_, refl, sym, ap, subst, _∙_, ℕ, _+_, _<_, eqb, leb, Bool, true, false, not, _&&_, cond, true≢false, List, _∷_, length, getD}
+use Rattle.lists.specs.Basics.{length-set, some, Option·none-ne-some, Option·some-injective, arith, eqb-true, leb-false, not-false}
 use Rattle.lists.specs.Tests.{choose-by}
-use Rattle.types.specs.declared.Columns.{Columns}
+use Rattle.model.specs.Types.{Key, Record, Found, At, Columns, Entry, Transaction, Recovery, Reading}
 use Rattle.types.specs.declared.Decision.the-variants.{Committed, Aborted}
-use Rattle.types.specs.declared.Entry.{Entry}
-use Rattle.types.specs.declared.Found.{Found}
-use Rattle.types.specs.declared.Found.the-variants.{At}
-use Rattle.types.specs.declared.Key.{Key}
-use Rattle.types.specs.declared.Reading.{Reading}
 use Rattle.types.specs.declared.Reading.the-variants.{Again}
-use Rattle.types.specs.declared.Record.{Record}
-use Rattle.types.specs.declared.Recovery.{Recovery}
-use Rattle.types.specs.declared.Transaction.{Transaction}
 use Rattle.model.specs.Refusals.{refusalOf}
 use Rattle.model.specs.Records.{lineOf, sameKey, byFound}
 use Rattle.model.specs.Transactions.{withdrawPhase, openPhase, isSerializable, held, reading, entryAs, heldAt, noEntry, moved, withEntry, withPut}

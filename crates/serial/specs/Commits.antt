@@ -1,22 +1,12 @@
 -- The commit of a transaction, by its decision or, without puts, by its last step: all its entries are validated by then, so that it commits at its place in the
 -- order (OrderCommits). Where another has prepared it has put nothing, so that what is prepared stays fresh.
-use Prim.Native.Nat.{ℕ, _≤_}
-use mathlib.Core.Path.{_≡_, refl, sym, ap, _∙_, subst}
-use mathlib.Core.Logic.{_⊎_, inl, inr}
-use mathlib.Core.List.{List, _∷_}
-use mathlib.Core.Option.{Option, none, some, Option·none-ne-some}
-use mathlib.Core.Bool.{true, false}
-use native.Mathlib.Omega.{arith}
-use lib.Dec.{eqb}
-use borrow.Author.Tests.{eqb-true, eq-eqb, ne-eqb}
+use Rattle.lists.specs.Basics.{_≡_, refl, sym, ap, subst, _∙_, ℕ, _≤_, eqb, true, false, List, _∷_, Option, none, some, Option·none-ne-some, _⊎_, inl, inr}
+use Rattle.lists.specs.Basics.{arith, eqb-true, eq-eqb, ne-eqb}
 use Rattle.lists.specs.Each.{any}
 use Rattle.lists.specs.Chosen.{or-else, or-left}
 use Rattle.lists.specs.Members.{Mem, here}
 use Rattle.types.specs.declared.Decision.the-variants.{Undecided, Committed}
-use Rattle.types.specs.declared.Entry.{Entry}
-use Rattle.types.specs.declared.Key.{Key}
-use Rattle.types.specs.declared.Record.{Record}
-use Rattle.types.specs.declared.Transaction.{Transaction}
+use Rattle.model.specs.Types.{Key, Record, Entry, Transaction}
 use Rattle.model.specs.Records.{lineOf}
 use Rattle.model.specs.Coordinator.{decision}
 use Rattle.model.specs.Images.{Change}

@@ -1,18 +1,9 @@
 -- A transaction gets its place, by its last prepare or on leaving open without puts: it comes last in the order. Its puts are fresh, as when they were prepared,
 -- and no one in doubt puts to their lines, which it has prepared itself.
-use Prim.Native.Nat.{ℕ, _≤_}
-use mathlib.Core.Path.{_≡_, refl, sym, ap, _∙_, subst}
-use mathlib.Core.Logic.{inl, inr}
-use mathlib.Core.List.{List, _∷_}
-use mathlib.Core.Option.{none}
-use mathlib.Core.Bool.{true, false, true≢false}
-use native.Mathlib.Omega.{arith}
+use Rattle.lists.specs.Basics.{_≡_, refl, sym, ap, subst, _∙_, ℕ, _≤_, true, false, true≢false, List, _∷_, none, inl, inr, arith}
 use Rattle.lists.specs.Members.{Mem, here, there, mem-none}
 use Rattle.types.specs.declared.Decision.the-variants.{Undecided}
-use Rattle.types.specs.declared.Entry.{Entry}
-use Rattle.types.specs.declared.Key.{Key}
-use Rattle.types.specs.declared.Record.{Record}
-use Rattle.types.specs.declared.Transaction.{Transaction}
+use Rattle.model.specs.Types.{Key, Record, Entry, Transaction}
 use Rattle.model.specs.Coordinator.{decision}
 use Rattle.model.specs.Transactions.{held, isPut, puts, toValidate, isEmpty, moved}
 use Rattle.model.specs.Writes.{Sheets, Write, apply}

@@ -1,19 +1,12 @@
 -- The entries of a transaction and what they put: what is put for a key is put by an entry of that key, and since keys are distinct by the only one; and every
 -- entry of a checked transaction is a put or is to be validated. Each by induction on the entries.
-use mathlib.Core.Path.{_≡_, refl, sym, ap, ap₂, _∙_}
-use mathlib.Core.Logic.{_⊎_, inl, inr}
-use mathlib.Core.List.{List, [], _∷_}
-use mathlib.Core.Option.{none, some, Option·none-ne-some}
-use mathlib.Core.Bool.{Bool, true, false, _&&_, not, cond, true≢false}
-use borrow.Author.Tests.{not-true}
+use Rattle.lists.specs.Basics.{_≡_, refl, sym, ap, ap₂, _∙_, Bool, true, false, not, _&&_, cond, true≢false, List, [], _∷_, none, some, Option·none-ne-some}
+use Rattle.lists.specs.Basics.{_⊎_, inl, inr, not-true}
 use Rattle.lists.specs.Each.{any, filter}
 use Rattle.lists.specs.Chosen.{and-false, or-fst, or-snd, or-left, or-right}
 use Rattle.lists.specs.Members.{Mem, here, there, mem-filter}
 use Rattle.lists.specs.Tests.{and-fst, and-snd, and-both}
-use Rattle.types.specs.declared.AtomicityUnit.{AtomicityUnit}
-use Rattle.types.specs.declared.Entry.{Entry}
-use Rattle.types.specs.declared.Key.{Key}
-use Rattle.types.specs.declared.Transaction.{Transaction}
+use Rattle.model.specs.Types.{Key, AtomicityUnit, Entry, Transaction}
 use Rattle.model.specs.Images.{Change, changeOf}
 use Rattle.model.specs.Records.{sameKey}
 use Rattle.model.specs.Transactions.{held, isPut, mustValidate, toValidate, isEmpty, isSerializable}

@@ -1,13 +1,9 @@
 -- A legal history in which every transaction is begun as checked keeps what is known of the order and of the answers, from its first sheets on.
-use Prim.Native.Nat.{ℕ}
-use mathlib.Core.Path.{_≡_, refl, sym}
-use mathlib.Core.Bool.{Bool, true, true≢false}
-use mathlib.Core.List.{List, [], _∷_}
+use Rattle.lists.specs.Basics.{_≡_, refl, sym, ℕ, Bool, true, true≢false, List, [], _∷_}
 use Rattle.lists.specs.Each.{all, any}
 use Rattle.lists.specs.Members.{mem-none}
 use Rattle.lists.specs.Tests.{and-fst, and-snd}
-use Rattle.types.specs.declared.Key.{Key}
-use Rattle.types.specs.declared.Record.{Record}
+use Rattle.model.specs.Types.{Key, Record}
 use Rattle.model.specs.Records.{lineOf}
 use Rattle.model.specs.Writes.{Sheets}
 use Rattle.model.specs.Results.{Call, returns}

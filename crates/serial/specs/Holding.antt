@@ -1,51 +1,19 @@
 -- What a state holds after a call: a step leaves its entries, a read adds one at the end, and a put replaces one by an entry of the same key that has the same as
 -- first read. So what was held is held on, and no entry becomes newer than its line.
-use Prim.Native.Nat.{ℕ, _+_, _<_}
-use mathlib.Core.Path.{_≡_, refl, sym, ap, _∙_, subst}
-use mathlib.Core.Logic.{inl, inr, _⊎_}
-use mathlib.Core.List.{List, [], _∷_, _++_}
-use mathlib.Core.Bool.{true, false, true≢false}
-use native.Mathlib.Numerals.{add-one}
-use lib.ListN.{length, take, getD, set}
+use Rattle.lists.specs.Basics.{_≡_, refl, sym, ap, subst, _∙_, ℕ, _+_, _<_, ltb, true, false, true≢false, List, [], _∷_, _++_, length, take, getD, set, _⊎_}
+use Rattle.lists.specs.Basics.{inl, inr, add-one, not-true}
 use lib.Seq.{take-suc-set}
-use lib.Dec.{ltb}
-use borrow.Author.Tests.{not-true}
 use Rattle.lists.specs.Each.{all}
 use Rattle.lists.specs.Tests.{choose-by}
 use Rattle.lists.specs.Members.{Mem, mem-before, mem-last, mem-more, mem-set, mem-kept, mem-at, mem-set-at}
-use Rattle.types.specs.declared.Columns.{Columns}
-use Rattle.types.specs.declared.Entry.{Entry}
-use Rattle.types.specs.declared.Found.{Found}
-use Rattle.types.specs.declared.Image.{Image}
-use Rattle.types.specs.declared.Key.{Key}
-use Rattle.types.specs.declared.Record.{Record}
-use Rattle.types.specs.declared.Transaction.{Transaction}
+use Rattle.model.specs.Types.{Key, Image, Record, Found, Columns, Entry, Transaction}
 use Rattle.model.specs.Records.{sameKey, isMissing, byFound}
 use Rattle.model.specs.Coordinator.{decision}
 use Rattle.model.specs.Transactions.{donePhase, isEmpty, held, puts, toValidate, noEntry, heldAt, withPut, withEntry}
 use Rattle.model.specs.Writes.{Sheets}
 use Rattle.model.specs.Conditions.{isNew, heldEntry}
-use Rattle.model.specs.Steps.{
-  Step,
-  holds,
-  unitsOf,
-  groupsOf,
-  groupAt,
-  onePhaseAllowed,
-  openWithoutPuts,
-  onePhase,
-  openStep,
-  afterPrepare,
-  nextGroup,
-  prepareStep,
-  nextEntry,
-  validateStep,
-  decideStep,
-  withdrawStep,
-  finishStep,
-  undoStep,
-  step,
-}
+use Rattle.model.specs.Steps.{Step, holds, unitsOf, groupsOf, groupAt, onePhaseAllowed, openWithoutPuts, onePhase, openStep, afterPrepare, nextGroup}
+use Rattle.model.specs.Steps.{prepareStep, nextEntry, validateStep, decideStep, withdrawStep, finishStep, undoStep, step}
 use Rattle.model.specs.Calls.{holding}
 use Rattle.sheet_laws.specs.Search.{first-by, some-found}
 use Rattle.call_laws.specs.Choices.{by-phase, by-decision}

@@ -1,21 +1,10 @@
 -- Transactions in doubt: those that have their place and may still commit. What one of them has put it has prepared (recovery's memory), so that two of them put
 -- to different lines, and a line whose condition holds is put to by none; and an entry whose condition holds is as the line, having no lower version.
-use Prim.Native.Nat.{ℕ, _≤_}
-use mathlib.Core.Path.{_≡_, refl, sym, ap, _∙_}
-use mathlib.Core.Logic.{inl, inr}
-use mathlib.Core.List.{List}
-use mathlib.Core.Option.{none, some, Option·none-ne-some}
-use mathlib.Core.Bool.{Bool, true, false, cond}
-use native.Mathlib.Omega.{arith}
-use lib.Dec.{eqb}
-use borrow.Author.Tests.{eqb-true, eqb-false, not-true}
+use Rattle.lists.specs.Basics.{_≡_, refl, sym, ap, _∙_, ℕ, _≤_, eqb, Bool, true, false, cond, List, none, some, Option·none-ne-some, inl, inr, arith, eqb-true}
+use Rattle.lists.specs.Basics.{eqb-false, not-true}
 use Rattle.lists.specs.Tests.{and-snd, tests}
-use Rattle.types.specs.declared.AtomicityUnit.{AtomicityUnit}
+use Rattle.model.specs.Types.{Key, Record, AtomicityUnit, Entry, Transaction}
 use Rattle.types.specs.declared.Decision.the-variants.{Undecided}
-use Rattle.types.specs.declared.Entry.{Entry}
-use Rattle.types.specs.declared.Key.{Key}
-use Rattle.types.specs.declared.Record.{Record}
-use Rattle.types.specs.declared.Transaction.{Transaction}
 use Rattle.model.specs.Records.{lineOf, hasLine}
 use Rattle.model.specs.Coordinator.{decision}
 use Rattle.model.specs.Images.{Change, changeIn, isPrepared, preparedBy, unchanged}

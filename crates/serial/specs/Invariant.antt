@@ -1,22 +1,11 @@
 -- The invariant of the order of a history, beside recovery's: the order is consistent, no entry is newer than its line, what is prepared is fresh, and each place
 -- belongs to an available state.
-use Prim.Native.Nat.{ℕ, _≤_}
-use mathlib.Core.Path.{_≡_, ap, subst, sym, _∙_}
-use mathlib.Core.Logic.{_⊎_}
-use mathlib.Core.List.{List, [], _∷_}
-use mathlib.Core.Option.{Option, none, some}
-use mathlib.Core.Bool.{true, false, _&&_, _||_, cond}
-use lib.ListN.{length, take}
-use lib.Dec.{eqb}
+use Rattle.lists.specs.Basics.{_≡_, sym, ap, subst, _∙_, ℕ, _≤_, eqb, true, false, _&&_, _||_, cond, List, [], _∷_, length, take, Option, none, some, _⊎_}
 use Rattle.lists.specs.Each.{any}
 use Rattle.lists.specs.Chosen.{and-false}
 use Rattle.lists.specs.Members.{Mem}
-use Rattle.types.specs.declared.AtomicityUnit.{AtomicityUnit}
+use Rattle.model.specs.Types.{Key, Record, AtomicityUnit, Entry, Transaction}
 use Rattle.types.specs.declared.Decision.the-variants.{Undecided}
-use Rattle.types.specs.declared.Entry.{Entry}
-use Rattle.types.specs.declared.Key.{Key}
-use Rattle.types.specs.declared.Record.{Record}
-use Rattle.types.specs.declared.Transaction.{Transaction}
 use Rattle.model.specs.Results.{returns}
 use Rattle.model.specs.Coordinator.{Coordinator, decision}
 use Rattle.model.specs.Images.{Change}

@@ -1,16 +1,9 @@
 -- An order of transactions and what is known in it, apart from sheets: what each has validated is what the committed ones before it leave, and a committed one
 -- that comes later has not written what it may still commit by. This stays so when a transaction gets its place, since at the end of the order what is fresh is
 -- what all the committed ones leave, and when one more entry of one in doubt is found unchanged, since none after it has written it.
-use Prim.Native.Nat.{ℕ}
-use mathlib.Core.Path.{_≡_, refl, sym, ap, _∙_}
-use mathlib.Core.Logic.{_⊎_, inl, inr}
-use mathlib.Core.List.{List, [], _∷_}
-use mathlib.Core.Option.{none}
-use mathlib.Core.Bool.{Bool, true, false, true≢false}
+use Rattle.lists.specs.Basics.{_≡_, refl, sym, ap, _∙_, ℕ, Bool, true, false, true≢false, List, [], _∷_, none, _⊎_, inl, inr}
 use Rattle.lists.specs.Members.{Mem, here, there}
-use Rattle.types.specs.declared.Entry.{Entry}
-use Rattle.types.specs.declared.Key.{Key}
-use Rattle.types.specs.declared.Record.{Record}
+use Rattle.model.specs.Types.{Key, Record, Entry}
 use Rattle.serial.specs.Runs.{Placing, wrote, ran, runLine, unwritten, Fresh}
 
 -- Of the numbers those that are committed pass c, and doubt are those in doubt, which have their place and may still commit; valid are the entries validated.

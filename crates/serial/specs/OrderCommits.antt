@@ -1,17 +1,8 @@
 -- A commit at its place in the order, apart from sheets: its puts are fresh, so that none after it has written their keys and they are the last of the serial run
 -- there; what others have validated is not touched, since no one in doubt before them writes it; and what is fresh afterwards was fresh before and not written.
-use Prim.Native.Nat.{ℕ}
-use mathlib.Core.Path.{_≡_, refl, sym, ap, _∙_, subst}
-use mathlib.Core.Logic.{_⊎_, inl, inr}
-use mathlib.Core.List.{List}
-use mathlib.Core.Option.{Option, none, some}
-use mathlib.Core.Bool.{Bool, true, false}
-use lib.Dec.{eqb}
-use borrow.Author.Tests.{eqb-true, eqb-false}
+use Rattle.lists.specs.Basics.{_≡_, refl, sym, ap, subst, _∙_, ℕ, eqb, Bool, true, false, List, Option, none, some, _⊎_, inl, inr, eqb-true, eqb-false}
 use Rattle.lists.specs.Members.{Mem, here, there}
-use Rattle.types.specs.declared.Entry.{Entry}
-use Rattle.types.specs.declared.Key.{Key}
-use Rattle.types.specs.declared.Record.{Record}
+use Rattle.model.specs.Types.{Key, Record, Entry}
 use Rattle.model.specs.Images.{Change}
 use Rattle.model.specs.SequentialModel.{overwritten}
 use Rattle.serial.specs.Runs.{Placing, wrote, ran, runLine, overwritten-none, unwritten, run-other, Fresh, NoNewer, fresh-unwritten}

@@ -1,21 +1,11 @@
 -- Calls that commit nothing and return a state that is not in doubt: in open, in prepare, past decide, or aborted by a visitor. The order stays as it is, and who
 -- is in doubt and what is validated afterwards was so before.
-use Prim.Native.Nat.{ℕ, _≤_}
-use mathlib.Core.Path.{_≡_, refl, sym, ap, _∙_, subst}
-use mathlib.Core.Logic.{inl, inr}
-use mathlib.Core.List.{List, _∷_}
-use mathlib.Core.Option.{none, Option·none-ne-some}
-use mathlib.Core.Bool.{true, false, true≢false}
-use native.Mathlib.Omega.{arith}
-use lib.ListN.{length}
-use lib.Dec.{eqb}
+use Rattle.lists.specs.Basics.{_≡_, refl, sym, ap, subst, _∙_, ℕ, _≤_, eqb, true, false, true≢false, List, _∷_, length, none, Option·none-ne-some, inl, inr}
+use Rattle.lists.specs.Basics.{arith}
 use Rattle.lists.specs.Each.{any}
 use Rattle.lists.specs.Members.{Mem}
 use Rattle.types.specs.declared.Decision.the-variants.{Undecided, Aborted}
-use Rattle.types.specs.declared.Entry.{Entry}
-use Rattle.types.specs.declared.Key.{Key}
-use Rattle.types.specs.declared.Record.{Record}
-use Rattle.types.specs.declared.Transaction.{Transaction}
+use Rattle.model.specs.Types.{Key, Record, Entry, Transaction}
 use Rattle.model.specs.Coordinator.{decision}
 use Rattle.model.specs.Transactions.{held, puts, isEmpty, isSerializable, moved}
 use Rattle.model.specs.Writes.{Sheets, Write, nothing, decisionsAfter, apply}

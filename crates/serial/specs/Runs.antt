@@ -1,17 +1,8 @@
 -- Serial runs, apart from sheets. The line of a key depends only on those that write it, and a line that is written gets a higher version: so an entry that is
 -- no newer than its line stays so, and where it is as the line afterwards the line was not written.
-use Prim.Native.Nat.{ℕ, _+_, _<_}
-use mathlib.Core.Path.{_≡_, refl, sym, ap, ap₂, _∙_}
-use mathlib.Core.Logic.{_⊎_, inl, inr}
-use mathlib.Core.List.{List, [], _∷_}
-use mathlib.Core.Option.{Option, none, some}
-use mathlib.Core.Bool.{Bool, true, false, cond}
-use native.Mathlib.Omega.{arith}
+use Rattle.lists.specs.Basics.{_≡_, refl, sym, ap, ap₂, _∙_, ℕ, _+_, _<_, Bool, true, false, cond, List, [], _∷_, Option, none, some, _⊎_, inl, inr, arith}
 use Rattle.lists.specs.Members.{Mem, here, there}
-use Rattle.types.specs.declared.Entry.{Entry}
-use Rattle.types.specs.declared.Image.{Image}
-use Rattle.types.specs.declared.Key.{Key}
-use Rattle.types.specs.declared.Record.{Record}
+use Rattle.model.specs.Types.{Key, Image, Record, Entry}
 use Rattle.model.specs.Images.{Change}
 use Rattle.model.specs.SequentialModel.{overwritten}
 use Rattle.recovery.specs.Memory.{putIn}

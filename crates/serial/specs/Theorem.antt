@@ -1,21 +1,11 @@
 -- Checked transactions are serializable, over decoded sheets. What is known at the end of a history, of places and entries, says of numbers what is claimed: a
 -- committed transaction has validated all its entries, which are what its reads answered, and the page of a number is what its entries put.
-use Prim.Native.Nat.{ℕ, suc}
-use mathlib.Core.Path.{_≡_, refl, sym, ap, ap₂, _∙_, subst}
-use mathlib.Core.Logic.{inl}
-use mathlib.Core.Bool.{Bool, true, false, cond}
-use mathlib.Core.List.{List, [], _∷_, map}
-use mathlib.Core.Option.{Option, none, some}
-use lib.Dec.{eqb}
-use borrow.Author.Tests.{eq-eqb, ne-eqb}
+use Rattle.lists.specs.Basics.{_≡_, refl, sym, ap, ap₂, subst, _∙_, ℕ, suc, eqb, Bool, true, false, cond, List, [], _∷_, map, Option, none, some, inl, eq-eqb}
+use Rattle.lists.specs.Basics.{ne-eqb}
 use Rattle.lists.specs.Each.{all, count}
 use Rattle.lists.specs.Members.{Mem, here, there}
 use Rattle.lists.specs.Tests.{choose-by}
-use Rattle.types.specs.declared.Entry.{Entry}
-use Rattle.types.specs.declared.Key.{Key}
-use Rattle.types.specs.declared.Reading.{Reading}
-use Rattle.types.specs.declared.Record.{Record}
-use Rattle.types.specs.declared.Transaction.{Transaction}
+use Rattle.model.specs.Types.{Key, Record, Entry, Transaction, Reading}
 use Rattle.model.specs.Records.{lineOf}
 use Rattle.model.specs.Images.{Change}
 use Rattle.model.specs.Writes.{Sheets, sheetsGood}

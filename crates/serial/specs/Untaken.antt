@@ -1,20 +1,9 @@
 -- A call that takes no state keeps the invariant of the order: its write is away from every number, and a state that it returns is new and holds nothing.
-use Prim.Native.Nat.{ℕ, _≤_, _<_}
-use mathlib.Core.Path.{_≡_, sym, ap, _∙_, subst}
-use mathlib.Core.Logic.{inl, inr}
-use mathlib.Core.List.{List, [], _∷_}
-use mathlib.Core.Option.{none, some, Option·none-ne-some}
-use mathlib.Core.Bool.{true}
-use native.Mathlib.Omega.{arith}
-use lib.ListN.{length}
-use lib.Dec.{eqb}
+use Rattle.lists.specs.Basics.{_≡_, sym, ap, subst, _∙_, ℕ, _≤_, _<_, eqb, true, List, [], _∷_, length, none, some, Option·none-ne-some, inl, inr, arith}
 use Rattle.lists.specs.Each.{any}
 use Rattle.lists.specs.Members.{Mem}
 use Rattle.types.specs.declared.Decision.the-variants.{Undecided}
-use Rattle.types.specs.declared.Entry.{Entry}
-use Rattle.types.specs.declared.Key.{Key}
-use Rattle.types.specs.declared.Record.{Record}
-use Rattle.types.specs.declared.Transaction.{Transaction}
+use Rattle.model.specs.Types.{Key, Record, Entry, Transaction}
 use Rattle.model.specs.Results.{returns}
 use Rattle.model.specs.Records.{lineOf}
 use Rattle.model.specs.Coordinator.{decision}

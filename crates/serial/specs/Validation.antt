@@ -1,24 +1,12 @@
 -- One more entry validated: its condition holds, so that it is fresh and no one in doubt puts to its line, and the order is consistent with it among what is
 -- validated.
-use Prim.Native.Nat.{ℕ, suc, _+_, _≤_}
-use mathlib.Core.Path.{_≡_, refl, sym, ap, _∙_, subst}
-use mathlib.Core.Logic.{_⊎_, inl, inr}
-use mathlib.Core.List.{List, _∷_}
-use mathlib.Core.Option.{none}
-use mathlib.Core.Bool.{Bool, true, false}
-use native.Mathlib.Omega.{arith}
-use native.Mathlib.Numerals.{add-one}
-use lib.ListN.{length, take, getD}
+use Rattle.lists.specs.Basics.{_≡_, refl, sym, ap, subst, _∙_, ℕ, suc, _+_, _≤_, eqb, Bool, true, false, List, _∷_, length, take, getD, none, _⊎_, inl, inr}
+use Rattle.lists.specs.Basics.{arith, add-one, eqb-true, eqb-false}
 use lib.Seq.{take-all}
-use lib.Dec.{eqb}
-use borrow.Author.Tests.{eqb-true, eqb-false}
 use Rattle.lists.specs.Each.{any}
 use Rattle.lists.specs.Members.{Mem, mem-next}
 use Rattle.types.specs.declared.Decision.the-variants.{Undecided}
-use Rattle.types.specs.declared.Entry.{Entry}
-use Rattle.types.specs.declared.Key.{Key}
-use Rattle.types.specs.declared.Record.{Record}
-use Rattle.types.specs.declared.Transaction.{Transaction}
+use Rattle.model.specs.Types.{Key, Record, Entry, Transaction}
 use Rattle.model.specs.Coordinator.{decision}
 use Rattle.model.specs.Transactions.{validatePhase, held, isPut, puts, toValidate, noEntry, isSerializable, moved}
 use Rattle.model.specs.Writes.{Sheets, nothing, decisionsAfter, apply}

@@ -1,33 +1,14 @@
 -- A record line changed in its bytes: other text over the state word, the image, the image before it or the clock, each where its fields begin. A line
 -- that can be read is the text of its record, and that text with a part written over is the text of the record with that part, whatever its numbers.
-use Prim.Native.Nat.{ℕ, _+_, _≤_}
-use mathlib.Core.Path.{_≡_, refl, sym, ap, ap₂, _∙_}
-use mathlib.Core.Bool.{Bool, true, false, cond}
-use mathlib.Core.List.{List, [], _∷_, _++_, append-assoc, append-nil}
-use native.Mathlib.Omega.{arith}
-use lib.ListN.{length, take, drop, length-append}
+use Rattle.lists.specs.Basics.{_≡_, refl, sym, ap, ap₂, _∙_, ℕ, _+_, _≤_, Bool, true, false, cond, List, [], _∷_, _++_, append-nil, append-assoc, length, take}
+use Rattle.lists.specs.Basics.{drop, length-append, arith}
 use Rattle.lists.specs.Pieces.{over, over-next}
 use Rattle.decimal.specs.Field.{fieldText}
 use Rattle.decimal.specs.Laws.{length-fieldText}
-use Rattle.types.specs.declared.Image.{Image}
-use Rattle.types.specs.declared.Kind.the-variants.{StateWord}
-use Rattle.types.specs.declared.Record.{Record}
-use Rattle.types.specs.declared.State.{State}
+use Rattle.model.specs.Types.{Image, Record, State, StateWord}
 use Rattle.types.specs.declared.State.the-variants.{Committed, Prepared}
-use Rattle.model.specs.Layouts.{
-  recordLayout,
-  imageLayout,
-  wordAt,
-  stateField,
-  imageField,
-  beforeField,
-  clockField,
-  imageFields,
-  recordOffset,
-  recordWidth,
-  imageBytes,
-  offset,
-}
+use Rattle.model.specs.Layouts.{recordLayout, imageLayout, wordAt, stateField, imageField, beforeField, clockField, imageFields, recordOffset, recordWidth}
+use Rattle.model.specs.Layouts.{imageBytes, offset}
 use Rattle.model.specs.Lines.{fieldBytes, lineSet}
 use Rattle.model.specs.Records.{noImage, stateNumber, keyNumbers, imageNumbers, recordNumbers, recordIn, recordText}
 use Rattle.model.specs.Images.{Change, writtenImage, prepared, committed}

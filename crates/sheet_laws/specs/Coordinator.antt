@@ -1,27 +1,21 @@
 -- The coordinator sheet: both round trips, by the head and then line by line, and as numbers; what setting a decision and
 -- raising the issued count do.
-use Prim.Native.Nat.{ℕ, zero, suc, _+_, _*_, _/_, _≤_}
-use mathlib.Core.Path.{_≡_, refl, ap, ap₂, _∙_}
-use mathlib.Core.Bool.{true, _&&_}
-use mathlib.Core.List.{List, [], _∷_, _++_, map}
-use native.Mathlib.Omega.{arith}
-use lib.ListN.{length, take, drop, getD, length-map, take-append-drop}
+use Rattle.lists.specs.Basics.{_≡_, refl, ap, ap₂, _∙_, ℕ, zero, suc, _+_, _*_, _/_, _≤_, eqb, leb, true, _&&_, List, [], _∷_, _++_, map, length, take, drop}
+use Rattle.lists.specs.Basics.{getD, length-map, arith, eqb-true, leb-true, eq-eqb, le-leb}
+use lib.ListN.{take-append-drop}
 use lib.Seq.{take-at, drop-at}
-use lib.Dec.{eqb, leb}
-use borrow.Author.Tests.{eqb-true, leb-true, eq-eqb, le-leb}
 use Rattle.lists.specs.Tests.{and-fst, and-snd, and-both, tests}
 use Rattle.lists.specs.Bytes.{bytes, eqList}
 use Rattle.lists.specs.Each.{all, joined, pieces, listed}
 use Rattle.lists.specs.All.{all-map, all-weaken, all-always, map-map, map-same, listed-is}
 use Rattle.lists.specs.Pieces.{AllOf, joined-pieces, pieces-joined, length-joined}
-use Rattle.types.specs.declared.Decision.{Decision}
+use Rattle.model.specs.Types.{Decision, AtomicityUnit, Column}
 use Rattle.types.specs.declared.Decision.the-variants.{Undecided, Committed, Aborted}
-use Rattle.types.specs.declared.AtomicityUnit.{AtomicityUnit}
 use Rattle.types.specs.declared.AtomicityUnit.the-variants.{Record as RecordUnit, Partition, Table, Namespace, Storage}
-use Rattle.types.specs.declared.Column.{Column}
 use Rattle.model.specs.Layouts.{headLayout, lineLayout, decisionColumn, words, figures, coordinatorBytes, headFields}
 use Rattle.model.specs.Lines.{fieldValue, fieldBytes, wordFrom, rowOf, lineSet, lineText, rowGood, inRange, linesOf, linesSet}
-use Rattle.model.specs.Coordinator.{Coordinator, decisionNumber, decisionOf, unitNumber, unitOf, coordinatorGood, decisionIn, coordinatorOf, numbered, coordinatorAccepted, decisionTexts, headNumbers, coordinatorText}
+use Rattle.model.specs.Coordinator.{Coordinator, decisionNumber, decisionOf, unitNumber, unitOf, coordinatorGood, decisionIn, coordinatorOf, numbered}
+use Rattle.model.specs.Coordinator.{coordinatorAccepted, decisionTexts, headNumbers, coordinatorText}
 use Rattle.sheet_laws.specs.Fields.{columnOk, allBelow, isThe, wordOk}
 use Rattle.sheet_laws.specs.Lines.{layoutOk, lineBytes, length-rowOf, line-length, line-written-read, line-read-written, row-read-written, row-in-range}
 

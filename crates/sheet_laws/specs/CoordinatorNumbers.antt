@@ -1,30 +1,16 @@
 -- A coordinator as numbers, ten for the head and one for each decision: both round trips, part by part.
-use Prim.Native.Nat.{ℕ, _≤_}
-use mathlib.Core.Path.{_≡_, sym, ap, ap₂, _∙_}
-use mathlib.Core.Bool.{true, true≢false}
-use mathlib.Core.List.{List, [], _∷_, _++_, map}
-use native.Mathlib.Omega.{arith}
-use lib.ListN.{length, take, drop, length-map, length-append, length-take, take-append-drop}
+use Rattle.lists.specs.Basics.{_≡_, sym, ap, ap₂, _∙_, ℕ, _≤_, true, true≢false, List, [], _∷_, _++_, map, length, take, drop, length-map, length-append}
+use Rattle.lists.specs.Basics.{length-take, arith, le-leb}
+use lib.ListN.{take-append-drop}
 use lib.Seq.{take-at, drop-at}
-use borrow.Author.Tests.{le-leb}
 use Rattle.lists.specs.Tests.{and-both, tests}
 use Rattle.lists.specs.Each.{all}
 use Rattle.lists.specs.All.{all-map, all-weaken, all-always, map-map, map-same}
-use Rattle.types.specs.declared.Decision.{Decision}
+use Rattle.model.specs.Types.{Decision}
 use Rattle.model.specs.Layouts.{headLayout, decisionColumn, headFields}
 use Rattle.model.specs.Lines.{rowGood, inRange}
-use Rattle.model.specs.Coordinator.{
-  Coordinator,
-  decisionNumber,
-  decisionOf,
-  unitNumber,
-  unitOf,
-  coordinatorGood,
-  headNumbers,
-  coordinatorNumbers,
-  coordinatorFrom,
-  numbersAccepted,
-}
+use Rattle.model.specs.Coordinator.{Coordinator, decisionNumber, decisionOf, unitNumber, unitOf, coordinatorGood, headNumbers, coordinatorNumbers}
+use Rattle.model.specs.Coordinator.{coordinatorFrom, numbersAccepted}
 use Rattle.sheet_laws.specs.Coordinator.{bounds, decision-of-number, number-of-decision, decision-ranged, units-back, head-ranged, head-numbers}
 
 -- the decisions of numbers, and back

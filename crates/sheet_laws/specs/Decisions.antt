@@ -1,15 +1,8 @@
 -- A line of the coordinator sheet by its number, and its head's count: what they say, and what replacing one does.
 -- A line goes by `pieces` of what follows the head; the count by the first column of the head.
-use Prim.Native.Nat.{ℕ, zero, suc, _+_, _*_, _/_, _≤_, _<_}
-use mathlib.Core.Path.{_≡_, refl, sym, ap, _∙_}
-use mathlib.Core.Bool.{true}
-use mathlib.Core.List.{List, [], _∷_, _++_, map}
-use native.Mathlib.Omega.{arith}
-use native.Mathlib.Numerals.{add-one}
-use lib.ListN.{length, take, drop, getD, set, length-map, length-set, length-take, List·getD-map}
+use Rattle.lists.specs.Basics.{_≡_, refl, sym, ap, _∙_, ℕ, zero, suc, _+_, _*_, _/_, _≤_, _<_, eqb, leb, true, List, [], _∷_, _++_, map, length, take, drop}
+use Rattle.lists.specs.Basics.{getD, set, length-map, length-take, length-set, List·getD-map, arith, add-one, eq-eqb, le-leb}
 use lib.Seq.{take-at, drop-at, drop-set-lt, drop-drop, take-add, take-append-add, drop-append-add, take-take}
-use lib.Dec.{eqb, leb}
-use borrow.Author.Tests.{eq-eqb, le-leb}
 use Rattle.lists.specs.Bytes.{bytes, eqList}
 use Rattle.lists.specs.Tests.{and-fst, and-snd, and-both, tests}
 use Rattle.lists.specs.Each.{all, pieces}
@@ -18,24 +11,12 @@ use Rattle.lists.specs.Pieces.{over, over-after, over-zero, length-over, length
 use Rattle.decimal.specs.declared.Scan.the-variants.{Number}
 use Rattle.decimal.specs.Field.{figure, fieldText, number}
 use Rattle.decimal.specs.Laws.{read-written, length-fieldText}
-use Rattle.types.specs.declared.Decision.{Decision}
+use Rattle.model.specs.Types.{Decision}
 use Rattle.types.specs.declared.Decision.the-variants.{Undecided}
 use Rattle.model.specs.Layouts.{headLayout, lineLayout, words, figures, coordinatorBytes}
 use Rattle.model.specs.Lines.{fieldValue, wordFrom, rowOf, lineSet, linesOf, linesSet}
-use Rattle.model.specs.Coordinator.{
-  Coordinator,
-  isUndecided,
-  decisionOf,
-  decision,
-  withDecision,
-  withIssued,
-  coordinatorGood,
-  decisionIn,
-  decisionLines,
-  coordinatorOf,
-  numbered,
-  coordinatorAccepted,
-}
+use Rattle.model.specs.Coordinator.{Coordinator, isUndecided, decisionOf, decision, withDecision, withIssued, coordinatorGood, decisionIn, decisionLines}
+use Rattle.model.specs.Coordinator.{coordinatorOf, numbered, coordinatorAccepted}
 use Rattle.sheet_laws.specs.Lines.{line-length, first-field-row, first-field-set}
 use Rattle.sheet_laws.specs.Coordinator.{bounds, decisionText, head-bytes, decision-read-written, decision-text-set, length-decisionText}
 

@@ -1,14 +1,8 @@
 -- A field, for any column that passes `columnOk`: reading what was written gives the number, and what reads as a number is
 -- what would be written for it. A figure has both from the laws of decimal fields. Of a word, the first is tested for each
 -- word of the set, and the second holds since reading compares with the words themselves.
-use Prim.Native.Nat.{ℕ, zero, suc, _+_, _-_, _^_, _≤_, _<_}
-use mathlib.Core.Path.{_≡_, refl, sym, ap, subst, _∙_}
-use mathlib.Core.Bool.{Bool, true, false, _&&_, true≢false}
-use mathlib.Core.List.{List, [], _∷_}
-use native.Mathlib.Omega.{arith}
-use lib.ListN.{length, getD, length-drop}
-use lib.Dec.{eqb, leb, ltb}
-use borrow.Author.Tests.{eqb-true, eqb-false, leb-true, eq-eqb, le-leb}
+use Rattle.lists.specs.Basics.{_≡_, refl, sym, ap, subst, _∙_, ℕ, zero, suc, _+_, _-_, _^_, _≤_, _<_, eqb, leb, ltb, Bool, true, false, _&&_, true≢false, List}
+use Rattle.lists.specs.Basics.{[], _∷_, length, getD, length-drop, arith, eqb-true, eqb-false, leb-true, eq-eqb, le-leb}
 use Rattle.lists.specs.Tests.{and-fst, and-snd, and-both, same-test, tests}
 use Rattle.lists.specs.Bytes.{bytes, eqList, eqList-true, eqList-refl}
 use Rattle.lists.specs.Each.{all}
@@ -16,9 +10,7 @@ use Rattle.decimal.specs.declared.Scan.{Scan}
 use Rattle.decimal.specs.declared.Scan.the-variants.{Blank, Number, Wrong}
 use Rattle.decimal.specs.Field.{figure, scanned, fieldText}
 use Rattle.decimal.specs.Laws.{read-written, written-read, figure-scan, length-fieldText}
-use Rattle.types.specs.declared.Kind.{Kind}
-use Rattle.types.specs.declared.Kind.the-variants.{Figure, StateWord, DecisionWord, UnitLetter}
-use Rattle.types.specs.declared.Column.{Column}
+use Rattle.model.specs.Types.{Column, Kind, Figure, StateWord, DecisionWord, UnitLetter}
 use Rattle.model.specs.Layouts.{words, wordAt}
 use Rattle.model.specs.Lines.{lastBytes, wordFrom, byKind, fieldValue, fieldBytes, inRange}
 

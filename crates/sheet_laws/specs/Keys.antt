@@ -1,29 +1,14 @@
 -- A key as text: the first twenty bytes of its line. Two keys in range are the same where their texts are, since a key line
 -- reads as its key.
-use Prim.Native.Nat.{ℕ}
-use mathlib.Core.Path.{_≡_, refl, sym, ap, _∙_}
-use mathlib.Core.Bool.{true}
-use mathlib.Core.List.{List, [], _∷_, _++_, append-nil}
-use native.Mathlib.Omega.{arith}
-use lib.ListN.{length, take, drop, getD}
+use Rattle.lists.specs.Basics.{_≡_, refl, sym, ap, _∙_, ℕ, true, List, [], _∷_, _++_, append-nil, length, take, drop, getD, arith}
 use lib.Seq.{take-at}
 use Rattle.lists.specs.Tests.{and-fst, and-snd, and-both, same-test}
 use Rattle.lists.specs.Bytes.{eqList, eqList-true, eqList-refl}
 use Rattle.lists.specs.Each.{all}
-use Rattle.types.specs.declared.Column.{Column}
-use Rattle.types.specs.declared.Key.{Key}
-use Rattle.types.specs.declared.Record.{Record}
+use Rattle.model.specs.Types.{Key, Record, Column}
 use Rattle.model.specs.Layouts.{recordLayout, keyLayout, stateField, offset}
 use Rattle.model.specs.Lines.{inRange, lineText, lineSet, rowOf, rowGood}
-use Rattle.model.specs.Records.{
-  keyNumbers,
-  imageNumbers,
-  recordNumbers,
-  recordIn,
-  recordText,
-  keyInRange,
-  sameKey,
-}
+use Rattle.model.specs.Records.{keyNumbers, imageNumbers, recordNumbers, recordIn, recordText, keyInRange, sameKey}
 use Rattle.sheet_laws.specs.Fields.{columnOk}
 use Rattle.sheet_laws.specs.Spans.{fieldsText, line-split, length-fieldsText, front-there}
 use Rattle.sheet_laws.specs.Lines.{layoutOk, line-written-read, row-read-written}

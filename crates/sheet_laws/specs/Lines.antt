@@ -1,10 +1,7 @@
 -- A line, for any layout whose columns pass `columnOk`: both round trips, field by field from the left.
-use Prim.Native.Nat.{ℕ, zero, suc, _+_, _≤_, _<_}
-use mathlib.Core.Path.{_≡_, refl, sym, ap, ap₂, _∙_}
-use mathlib.Core.Bool.{Bool, true, _&&_}
-use mathlib.Core.List.{List, [], _∷_, _++_}
-use native.Mathlib.Omega.{arith}
-use lib.ListN.{length, take, drop, getD, length-take, length-drop, take-append-drop}
+use Rattle.lists.specs.Basics.{_≡_, refl, sym, ap, ap₂, _∙_, ℕ, zero, suc, _+_, _≤_, _<_, Bool, true, _&&_, List, [], _∷_, _++_, length, take, drop, getD}
+use Rattle.lists.specs.Basics.{length-take, length-drop, arith}
+use lib.ListN.{take-append-drop}
 use lib.Seq.{take-at, drop-at, getD-drop, drop-drop}
 use Rattle.lists.specs.Tests.{and-fst, and-snd, and-both}
 use Rattle.lists.specs.Bytes.{eqList, eqList-true, eqList-refl}
@@ -14,7 +11,7 @@ use Rattle.decimal.specs.declared.Scan.the-variants.{Number}
 use Rattle.decimal.specs.Field.{number, isNumber}
 use Rattle.decimal.specs.Laws.{isNumber-number}
 use Rattle.decimal.specs.Digits.{digits, digits-are}
-use Rattle.types.specs.declared.Column.{Column}
+use Rattle.model.specs.Types.{Column}
 use Rattle.model.specs.Layouts.{noColumn, offset}
 use Rattle.model.specs.Lines.{fieldValue, fieldBytes, inRange, rowOf, lineSet, lineText, rowGood}
 use Rattle.sheet_laws.specs.Fields.{columnOk, field-read-written, field-written-read, isFigure, scan-of}

@@ -1,42 +1,15 @@
 -- Records as numbers, fifteen to a record: both round trips, record by record.
-use Prim.Native.Nat.{ℕ, _*_, _/_}
-use mathlib.Core.Path.{_≡_, sym, ap, _∙_}
-use mathlib.Core.Bool.{true, _&&_}
-use mathlib.Core.List.{List, map}
-use native.Mathlib.Omega.{arith}
-use lib.ListN.{length, length-map}
-use lib.Dec.{eqb}
-use borrow.Author.Tests.{eqb-true, eq-eqb}
+use Rattle.lists.specs.Basics.{_≡_, sym, ap, _∙_, ℕ, _*_, _/_, eqb, true, _&&_, List, map, length, length-map, arith, eqb-true, eq-eqb}
 use Rattle.lists.specs.Tests.{and-fst, and-snd, and-both, tests}
 use Rattle.lists.specs.Each.{all, joined, pieces}
 use Rattle.lists.specs.All.{all-map, all-and, all-weaken, all-of, pieces-whole, map-map, map-same, map-equal}
 use Rattle.lists.specs.Pieces.{length-pieces, joined-pieces, pieces-joined, length-joined}
-use Rattle.types.specs.declared.Record.{Record}
+use Rattle.model.specs.Types.{Record}
 use Rattle.model.specs.Layouts.{recordLayout, recordBytes, recordFields}
 use Rattle.model.specs.Lines.{rowOf, lineText, lineSet, linesOf, linesSet, rowGood}
-use Rattle.model.specs.Records.{
-  recordOf,
-  recordNumbers,
-  recordIn,
-  recordText,
-  recordsText,
-  records,
-  recordsAccepted,
-  goodAlone,
-  recordsGood,
-  rows,
-  allNumbers,
-  rowsAccepted,
-}
-use Rattle.sheet_laws.specs.Records.{
-  ranged,
-  good-ranged,
-  length-numbers,
-  record-of-numbers,
-  numbers-of-record,
-  state-ranged,
-  line-numbers,
-}
+use Rattle.model.specs.Records.{recordOf, recordNumbers, recordIn, recordText, recordsText, records, recordsAccepted, goodAlone, recordsGood, rows, allNumbers}
+use Rattle.model.specs.Records.{rowsAccepted}
+use Rattle.sheet_laws.specs.Records.{ranged, good-ranged, length-numbers, record-of-numbers, numbers-of-record, state-ranged, line-numbers}
 
 pub length-rows : (v : List ℕ) → length (rows v) ≡ length v / recordFields
 unfolding rows

@@ -1,46 +1,19 @@
 -- A line of an accepted record sheet by its place: what it says, and what replacing it does to the records.
 -- Bytes go by `pieces`; the order of keys stays since a record is replaced by one of the same key.
-use Prim.Native.Nat.{ℕ, zero, suc, _*_, _/_, _≤_, _<_}
-use mathlib.Core.Path.{_≡_, refl, sym, ap, ap₂, _∙_, subst}
-use mathlib.Core.Bool.{Bool, true, _&&_, cond}
-use mathlib.Core.List.{List, [], _∷_, map}
-use native.Mathlib.Omega.{arith}
-use lib.ListN.{length, take, drop, getD, set, length-map, length-set, List·getD-map, List·getD-eq-default}
-use lib.Dec.{eqb, leb, ltb}
-use borrow.Author.Tests.{eq-eqb}
+use Rattle.lists.specs.Basics.{_≡_, refl, sym, ap, ap₂, subst, _∙_, ℕ, zero, suc, _*_, _/_, _≤_, _<_, eqb, leb, ltb, Bool, true, _&&_, cond, List, [], _∷_, map}
+use Rattle.lists.specs.Basics.{length, take, drop, getD, set, length-map, length-set, List·getD-map, List·getD-eq-default, arith, eq-eqb}
 use Rattle.lists.specs.Bytes.{bytes, eqList}
 use Rattle.decimal.specs.Field.{number, figure, scanned, within}
 use Rattle.lists.specs.Tests.{and-fst, and-snd, and-both, tests}
 use Rattle.lists.specs.Each.{all, pieces}
 use Rattle.lists.specs.All.{all-at, all-set, map-set}
 use Rattle.lists.specs.Pieces.{over, length-pieces, pieces-over, getD-pieces, length-over}
-use Rattle.types.specs.declared.Key.{Key}
-use Rattle.types.specs.declared.Record.{Record}
+use Rattle.model.specs.Types.{Key, Record}
 use Rattle.model.specs.Layouts.{recordLayout, words, recordBytes}
 use Rattle.model.specs.Lines.{fieldValue, wordFrom, rowOf, lineSet, linesOf, linesSet}
-use Rattle.model.specs.Records.{
-  noRecord,
-  recordOf,
-  keyOf,
-  imageFrom,
-  stateOf,
-  goodAlone,
-  keyLess,
-  inOrder,
-  rising,
-  recordsGood,
-  recordIn,
-  recordText,
-  records,
-  recordsAccepted,
-}
-use Rattle.sheet_laws.specs.Records.{
-  ranged,
-  good-ranged,
-  record-read-written,
-  record-text-set,
-  length-recordText,
-}
+use Rattle.model.specs.Records.{noRecord, recordOf, keyOf, imageFrom, stateOf, goodAlone, keyLess, inOrder, rising, recordsGood, recordIn, recordText, records}
+use Rattle.model.specs.Records.{recordsAccepted}
+use Rattle.sheet_laws.specs.Records.{ranged, good-ranged, record-read-written, record-text-set, length-recordText}
 
 -- an accepted sheet has whole lines only
 pub whole-lines : (s : List ℕ) → recordsAccepted s ≡ true → length s ≡ length s / recordBytes * recordBytes

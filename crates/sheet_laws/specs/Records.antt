@@ -1,24 +1,17 @@
 -- The record sheet: an accepted sheet is the text of its records, and rule-keeping records are those of their text.
 -- A line goes by the round trips of `recordLayout`, a sheet line by line; replacing a line is replacing a record.
-use Prim.Native.Nat.{ℕ, zero, suc, _*_, _/_, _≤_}
-use mathlib.Core.Path.{_≡_, refl, ap, _∙_}
-use mathlib.Core.Bool.{Bool, true}
-use mathlib.Core.List.{List, map}
-use native.Mathlib.Omega.{arith}
-use lib.ListN.{length, getD, length-map}
-use lib.Dec.{leb}
-use borrow.Author.Tests.{leb-true, eq-eqb}
+use Rattle.lists.specs.Basics.{_≡_, refl, ap, _∙_, ℕ, zero, suc, _*_, _/_, _≤_, leb, Bool, true, List, map, length, getD, length-map, arith, leb-true, eq-eqb}
 use Rattle.lists.specs.Tests.{and-snd, and-both, tests}
 use Rattle.lists.specs.Bytes.{bytes, eqList}
 use Rattle.lists.specs.Each.{all, joined, pieces, listed}
 use Rattle.lists.specs.All.{all-map, all-weaken, all-of, map-same, map-map, listed-is}
 use Rattle.lists.specs.Pieces.{joined-pieces, pieces-joined, length-joined}
-use Rattle.types.specs.declared.State.{State}
+use Rattle.model.specs.Types.{Record, State}
 use Rattle.types.specs.declared.State.the-variants.{Absent, Committed, Prepared}
-use Rattle.types.specs.declared.Record.{Record}
 use Rattle.model.specs.Layouts.{recordLayout, words, noColumn, stateField, recordBytes, recordFields}
 use Rattle.model.specs.Lines.{fieldValue, fieldBytes, wordFrom, rowOf, lineSet, lineText, rowGood, inRange, linesOf, linesSet}
-use Rattle.model.specs.Records.{stateNumber, stateOf, keyNumbers, imageNumbers, keyOf, imageFrom, recordOf, recordNumbers, goodAlone, recordsGood, recordIn, recordText, records, recordsText, recordsAccepted}
+use Rattle.model.specs.Records.{stateNumber, stateOf, keyNumbers, imageNumbers, keyOf, imageFrom, recordOf, recordNumbers, goodAlone, recordsGood, recordIn}
+use Rattle.model.specs.Records.{recordText, records, recordsText, recordsAccepted}
 use Rattle.sheet_laws.specs.Fields.{columnOk, allBelow, isThe, wordOk}
 use Rattle.sheet_laws.specs.Spans.{layoutWide}
 use Rattle.sheet_laws.specs.Lines.{layoutOk, lineBytes, length-rowOf, line-length, line-written-read, line-read-written, row-read-written, row-in-range}

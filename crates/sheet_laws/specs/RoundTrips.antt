@@ -1,53 +1,18 @@
 -- T3 over the calls: a sheet read into numbers and written again is the same sheet, and numbers written and read are the same
 -- numbers, for both sheets, into any targets of the right length. Each call does what its definition says, and the definitions
 -- undo each other.
-use Prim.Native.Nat.{ℕ, _+_, _*_, _/_, _≤_}
-use mathlib.Core.Path.{_≡_, ap, _∙_}
-use mathlib.Core.Bool.{true}
-use mathlib.Core.List.{List, map}
-use native.Mathlib.Omega.{arith}
-use lib.ListN.{length, drop, length-map, length-append, length-drop}
-use borrow.Author.Tests.{eq-eqb}
+use Rattle.lists.specs.Basics.{_≡_, ap, _∙_, ℕ, _+_, _*_, _/_, _≤_, true, List, map, length, drop, length-map, length-append, length-drop, arith, eq-eqb}
 use Rattle.lists.specs.Tests.{tests}
 use Rattle.lists.specs.Each.{all}
 use Rattle.lists.specs.All.{all-weaken}
-use Rattle.types.specs.declared.Record.{Record}
+use Rattle.model.specs.Types.{Record}
 use Rattle.model.specs.Layouts.{recordBytes, coordinatorBytes, recordFields, headFields}
-use Rattle.model.specs.Records.{
-  recordOf,
-  goodAlone,
-  recordsGood,
-  records,
-  recordsText,
-  recordsAccepted,
-  rows,
-  allNumbers,
-  rowsAccepted,
-}
-use Rattle.model.specs.Coordinator.{
-  Coordinator,
-  unitNumber,
-  decisionNumber,
-  headNumbers,
-  coordinatorGood,
-  coordinatorOf,
-  coordinatorText,
-  coordinatorAccepted,
-  coordinatorFrom,
-  coordinatorNumbers,
-  numbersAccepted,
-}
+use Rattle.model.specs.Records.{recordOf, goodAlone, recordsGood, records, recordsText, recordsAccepted, rows, allNumbers, rowsAccepted}
+use Rattle.model.specs.Coordinator.{Coordinator, unitNumber, decisionNumber, headNumbers, coordinatorGood, coordinatorOf, coordinatorText, coordinatorAccepted}
+use Rattle.model.specs.Coordinator.{coordinatorFrom, coordinatorNumbers, numbersAccepted}
 use Rattle.model.specs.Refusals.{refusalOf}
-use Rattle.model.specs.SheetCalls.{
-  readRecordsConditions,
-  numbersRead,
-  writeRecordsConditions,
-  recordsWritten,
-  readCoordinatorConditions,
-  decisionsRead,
-  writeCoordinatorConditions,
-  coordinatorWritten,
-}
+use Rattle.model.specs.SheetCalls.{readRecordsConditions, numbersRead, writeRecordsConditions, recordsWritten, readCoordinatorConditions, decisionsRead}
+use Rattle.model.specs.SheetCalls.{writeCoordinatorConditions, coordinatorWritten}
 use Rattle.sheet_laws.specs.Records.{ranged, good-ranged, sheet-written-read, records-read-written, lines-of-text}
 use Rattle.sheet_laws.specs.Numbers.{length-rows, numbers-read-written, numbers-written-read, rows-of-numbers}
 use Rattle.sheet_laws.specs.Places.{whole-lines, length-records}

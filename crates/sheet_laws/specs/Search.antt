@@ -1,14 +1,9 @@
 -- The search of an element that passes a test, for any list and test: whether something is found, what is known of its place, and when another search finds the same.
-use Prim.Native.Nat.{ℕ, suc, _+_, _<_}
-use mathlib.Core.Path.{_≡_, refl, ap, ap₂, _∙_, subst}
-use mathlib.Core.Bool.{Bool, true, false, _||_, not, cond}
-use mathlib.Core.List.{List, [], _∷_, map}
-use native.Mathlib.Omega.{arith}
-use lib.ListN.{length, take, getD}
+use Rattle.lists.specs.Basics.{_≡_, refl, ap, ap₂, subst, _∙_, ℕ, suc, _+_, _<_, Bool, true, false, not, _||_, cond, List, [], _∷_, map, length, take, getD}
+use Rattle.lists.specs.Basics.{arith}
 use Rattle.lists.specs.Each.{all, any}
 use Rattle.lists.specs.Tests.{and-fst, and-snd, choose-by}
-use Rattle.types.specs.declared.Found.{Found}
-use Rattle.types.specs.declared.Found.the-variants.{At, Nothing}
+use Rattle.model.specs.Types.{Found, At, Nothing}
 use Rattle.model.specs.Search.{firstFrom}
 use Rattle.model.specs.Records.{isMissing}
 

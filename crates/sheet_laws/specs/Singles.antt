@@ -1,13 +1,7 @@
 -- Single fields of the line at a place, each read without the others: a figure of an accepted record sheet by its digits, and a word of any sheet by
 -- its bytes. The bytes at a field's offset are those of the field, and past the last line every number is 0.
-use Prim.Native.Nat.{ℕ, zero, suc, _+_, _*_, _/_, _^_, _≤_, _<_}
-use mathlib.Core.Path.{_≡_, refl, sym, ap, ap₂, subst, _∙_}
-use mathlib.Core.Bool.{Bool, true, false, cond}
-use mathlib.Core.List.{List}
-use native.Mathlib.Omega.{arith}
-use lib.ListN.{length, take, drop, getD, length-take, length-drop}
-use lib.Dec.{eqb, leb, ltb}
-use borrow.Author.Tests.{eqb-true, leb-true, ltb-true, ltb-false}
+use Rattle.lists.specs.Basics.{_≡_, refl, sym, ap, ap₂, subst, _∙_, ℕ, zero, suc, _+_, _*_, _/_, _^_, _≤_, _<_, eqb, leb, ltb, Bool, true, false, cond, List}
+use Rattle.lists.specs.Basics.{length, take, drop, getD, length-take, length-drop, arith, eqb-true, leb-true, ltb-true, ltb-false}
 use Rattle.lists.specs.Bytes.{eqList}
 use Rattle.lists.specs.Each.{all}
 use Rattle.lists.specs.All.{all-at}
@@ -16,41 +10,13 @@ use Rattle.decimal.specs.declared.Scan.{Scan}
 use Rattle.decimal.specs.declared.Scan.the-variants.{Blank, Number, Wrong}
 use Rattle.decimal.specs.Field.{number}
 use Rattle.decimal.specs.Digits.{digits, figureAt}
-use Rattle.types.specs.declared.Column.{Column}
+use Rattle.model.specs.Types.{Record, Column, StateWord, DecisionWord}
 use Rattle.types.specs.declared.Decision.the-variants.{Undecided, Committed, Aborted}
-use Rattle.types.specs.declared.Kind.the-variants.{StateWord, DecisionWord}
-use Rattle.types.specs.declared.Record.{Record}
 use Rattle.types.specs.declared.State.the-variants.{Prepared}
-use Rattle.model.specs.Layouts.{
-  recordLayout,
-  lineLayout,
-  decisionColumn,
-  noColumn,
-  wordAt,
-  word,
-  stateField,
-  decisionField,
-  offset,
-  recordOffset,
-  recordWidth,
-  recordBytes,
-  recordFields,
-  coordinatorBytes,
-}
+use Rattle.model.specs.Layouts.{recordLayout, lineLayout, decisionColumn, noColumn, wordAt, word, stateField, decisionField, offset, recordOffset, recordWidth}
+use Rattle.model.specs.Layouts.{recordBytes, recordFields, coordinatorBytes}
 use Rattle.model.specs.Lines.{inRange, fieldValue, fieldBytes, lineSet}
-use Rattle.model.specs.Records.{
-  noRecord,
-  byState,
-  stateNumber,
-  stateOf,
-  keyNumbers,
-  imageNumbers,
-  recordNumbers,
-  recordOf,
-  recordIn,
-  records,
-  recordsAccepted,
-}
+use Rattle.model.specs.Records.{noRecord, byState, stateNumber, stateOf, keyNumbers, imageNumbers, recordNumbers, recordOf, recordIn, records, recordsAccepted}
 use Rattle.model.specs.Images.{isPrepared}
 use Rattle.model.specs.Coordinator.{decisionNumber, decisionOf, decision, decisionIn, coordinatorOf}
 use Rattle.sheet_laws.specs.Fields.{allBelow, below, columnOk, field-written-read, field-is, isThe, isFigure}

@@ -1,16 +1,13 @@
 -- Fields that stand one behind another in a line: their text, the bytes where it stands, and the line with other numbers in them. A line is the text
 -- of its fields one after another, each as wide as its column, so that a span begins at its first field's offset.
-use Prim.Native.Nat.{ℕ, zero, suc, _+_, _≤_, _<_}
-use mathlib.Core.Path.{_≡_, refl, sym, ap, ap₂, _∙_}
-use mathlib.Core.Bool.{Bool, true}
-use mathlib.Core.List.{List, [], _∷_, _++_, append-assoc, append-nil}
-use native.Mathlib.Omega.{arith}
-use lib.ListN.{length, take, drop, getD, length-take, length-append, take-append-drop}
+use Rattle.lists.specs.Basics.{_≡_, refl, sym, ap, ap₂, _∙_, ℕ, zero, suc, _+_, _≤_, _<_, Bool, true, List, [], _∷_, _++_, append-nil, append-assoc, length}
+use Rattle.lists.specs.Basics.{take, drop, getD, length-append, length-take, arith}
+use lib.ListN.{take-append-drop}
 use lib.Seq.{take-at, drop-at, drop-drop, drop-cons}
 use Rattle.lists.specs.Tests.{and-fst, and-snd}
 use Rattle.lists.specs.Each.{all}
 use Rattle.lists.specs.Pieces.{over, over-zero, over-after}
-use Rattle.types.specs.declared.Column.{Column}
+use Rattle.model.specs.Types.{Column}
 use Rattle.model.specs.Layouts.{noColumn, offset}
 use Rattle.model.specs.Lines.{fieldBytes, lineText}
 use Rattle.sheet_laws.specs.Fields.{wideEnough, length-fieldBytes}

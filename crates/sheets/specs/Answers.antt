@@ -1,13 +1,6 @@
 -- What each call answers, case by case in the order of its conditions.
-use Prim.Native.Nat.{ℕ, _+_, _*_, _≤_}
-use mathlib.Core.Path.{_≡_, refl, _∙_}
-use mathlib.Core.Bool.{Bool, true, false, _&&_, and-assoc, and-true}
-use mathlib.Core.List.{List, []}
-use native.Mathlib.Omega.{arith}
-use lib.ListN.{length, take, drop, getD}
-use Rattle.types.specs.declared.Found.the-variants.{At, Nothing}
-use Rattle.types.specs.declared.Key.{Key}
-use Rattle.types.specs.declared.Record.{Record}
+use Rattle.lists.specs.Basics.{_≡_, refl, _∙_, ℕ, _+_, _*_, _≤_, Bool, true, false, _&&_, and-assoc, and-true, List, [], length, take, drop, getD, arith}
+use Rattle.model.specs.Types.{Key, Record, At, Nothing}
 use Rattle.model.specs.Layouts.{recordLayout, keyLayout, noColumn, recordBytes}
 use Rattle.model.specs.Lines.{inRange, rowGood}
 use Rattle.model.specs.Records.{noRecord, keyNumbers, records, recordsAccepted, keyInRange, sameKey, found, isMissing}

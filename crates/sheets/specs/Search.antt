@@ -1,32 +1,17 @@
 -- The search of a key, line by line and field by field: the first line whose twenty bytes are those of the key's line.
-use Prim.Native.Nat.{ℕ, zero, suc, _+_, _-_, _*_, _/_, _≤_, _<_}
-use mathlib.Core.Path.{_≡_, refl, sym, ap, ap₂, _∙_}
-use mathlib.Core.Bool.{Bool, true, false, cond, true≢false}
-use mathlib.Core.List.{List, [], _∷_, _++_}
-use native.Mathlib.Omega.{arith}
+use Rattle.lists.specs.Basics.{_≡_, refl, sym, ap, ap₂, _∙_, ℕ, zero, suc, _+_, _-_, _*_, _/_, _≤_, _<_, Bool, true, false, cond, true≢false, List, [], _∷_}
+use Rattle.lists.specs.Basics.{_++_, length, take, drop, getD, drop-of-length-le, arith, add-one}
 use native.Mathlib.Nat.{zero-add}
-use native.Mathlib.Numerals.{add-one}
-use lib.ListN.{length, take, drop, getD, drop-of-length-le}
 use lib.Seq.{drop-cons, drop-drop, take-add}
 use Rattle.lists.specs.Tests.{tests}
 use Rattle.lists.specs.Bytes.{eqList, eqList-true, eqList-refl, ne-eqList}
 use Rattle.lists.specs.Each.{all, pieces}
 use Rattle.lists.specs.Pieces.{take-drop-take, getD-pieces, length-pieces}
-use Rattle.types.specs.declared.Found.{Found}
-use Rattle.types.specs.declared.Found.the-variants.{At, Nothing}
-use Rattle.types.specs.declared.Key.{Key}
-use Rattle.types.specs.declared.Record.{Record}
+use Rattle.model.specs.Types.{Key, Record, Found, At, Nothing}
 use Rattle.model.specs.Layouts.{recordLayout, recordBytes}
 use Rattle.model.specs.Lines.{lineSet, linesOf, linesSet}
 use Rattle.model.specs.Search.{firstFrom}
-use Rattle.model.specs.Records.{
-  records,
-  recordIn,
-  recordsAccepted,
-  keyInRange,
-  sameKey,
-  found,
-}
+use Rattle.model.specs.Records.{records, recordIn, recordsAccepted, keyInRange, sameKey, found}
 use Rattle.sheet_laws.specs.Search.{first-map}
 use Rattle.sheet_laws.specs.Keys.{keyLine, key-line-text, key-same}
 

@@ -1,19 +1,14 @@
 -- The step table by its cases: what each outcome of the tests comes to, so that every arm of the code is one of them.
-use Prim.Native.Nat.{ℕ}
-use mathlib.Core.Path.{_≡_, refl, sym, ap, subst}
-use mathlib.Core.Bool.{true, false}
-use mathlib.Core.List.{List}
-use lib.ListN.{getD}
-use lib.Dec.{eqb}
-use borrow.Author.Tests.{ne-eqb}
+use Rattle.lists.specs.Basics.{_≡_, refl, sym, ap, subst, ℕ, eqb, true, false, List, getD, ne-eqb}
 use Rattle.lists.specs.Each.{all}
 use Rattle.lists.specs.Tests.{choose-by}
 use Rattle.types.specs.declared.Decision.the-variants.{Undecided, Committed, Aborted}
-use Rattle.types.specs.declared.Transaction.{Transaction}
+use Rattle.model.specs.Types.{Transaction}
 use Rattle.model.specs.Coordinator.{decision}
 use Rattle.model.specs.Transactions.{byPhase, isEmpty, puts, toValidate, noEntry, moved}
 use Rattle.model.specs.Writes.{Sheets, nothing, decide, commit, prepare}
-use Rattle.model.specs.Steps.{Step, holds, unitsOf, groupAt, to, noStep, commits, onePhaseAllowed, openWithoutPuts, onePhase, openStep, afterPrepare, nextGroup, prepareStep, nextEntry, validateStep, decideStep, withdrawn, withdrawStep, finishStep, undoStep, step}
+use Rattle.model.specs.Steps.{Step, holds, unitsOf, groupAt, to, noStep, commits, onePhaseAllowed, openWithoutPuts, onePhase, openStep, afterPrepare, nextGroup}
+use Rattle.model.specs.Steps.{prepareStep, nextEntry, validateStep, decideStep, withdrawn, withdrawStep, finishStep, undoStep, step}
 use Rattle.steps.specs.Stepped.{Stepped}
 
 -- what has been stepped by a step has been stepped by an equal one

@@ -1,17 +1,8 @@
 -- What the refusals have let pass, in the parts that each phase asks for: accepted bytes, and of a well-formed transaction its body, and its place by its phase.
-use Prim.Native.Nat.{ℕ, zero, suc, _≤_, _<_}
-use mathlib.Core.Path.{_≡_, refl, sym, ap, _∙_}
-use mathlib.Core.Bool.{Bool, true, _||_}
-use mathlib.Core.List.{List, [], _∷_}
-use native.Mathlib.Omega.{arith}
-use lib.ListN.{length, getD, take, drop}
-use lib.Dec.{ltb}
-use borrow.Author.Tests.{ltb-true}
+use Rattle.lists.specs.Basics.{_≡_, refl, sym, ap, _∙_, ℕ, zero, suc, _≤_, _<_, ltb, Bool, true, _||_, List, [], _∷_, length, take, drop, getD, arith, ltb-true}
 use Rattle.lists.specs.Each.{any}
 use Rattle.lists.specs.Chosen.{or-right}
-use Rattle.types.specs.declared.AtomicityUnit.{AtomicityUnit}
-use Rattle.types.specs.declared.Entry.{Entry}
-use Rattle.types.specs.declared.Transaction.{Transaction}
+use Rattle.model.specs.Types.{AtomicityUnit, Entry, Transaction}
 use Rattle.model.specs.Records.{records, recordsAccepted, sameKey}
 use Rattle.model.specs.Coordinator.{coordinatorOf, coordinatorAccepted}
 use Rattle.model.specs.Transactions.{toValidate, mustValidate, held, puts, moved, noEntry}

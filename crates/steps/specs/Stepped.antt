@@ -1,16 +1,8 @@
 -- What a step leaves: the transaction, and both sheets as its write leaves them. A sheet that the write does not change is the text of what it says.
-use Prim.Native.Nat.{ℕ, zero, suc, _*_, _/_, _≤_}
-use mathlib.Core.Path.{_≡_, refl, sym, ap, _∙_}
-use mathlib.Core.Bool.{true, cond}
-use mathlib.Core.List.{List}
-use native.Mathlib.Omega.{arith}
-use lib.ListN.{length, drop}
-use borrow.Author.Tests.{le-leb}
+use Rattle.lists.specs.Basics.{_≡_, refl, sym, ap, _∙_, ℕ, zero, suc, _*_, _/_, _≤_, true, cond, List, length, drop, arith, le-leb}
 use Rattle.lists.specs.Pieces.{over}
 use Rattle.lists.specs.Tests.{and-both}
-use Rattle.types.specs.declared.Decision.{Decision}
-use Rattle.types.specs.declared.Record.{Record}
-use Rattle.types.specs.declared.Transaction.{Transaction}
+use Rattle.model.specs.Types.{Record, Decision, Transaction}
 use Rattle.model.specs.Records.{records, recordsText, recordsAccepted}
 use Rattle.model.specs.Coordinator.{coordinatorOf, coordinatorText, coordinatorAccepted, withDecision}
 use Rattle.model.specs.Writes.{Sheets, Write, nothing, decide, lineAfter, linesAfter, decisionsAfter, apply}

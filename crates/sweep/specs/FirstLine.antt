@@ -1,13 +1,7 @@
 -- The first line of an input: its figures as they are read from the bytes, and which inputs it fits.
-use Prim.Native.Nat.{ℕ, _+_, _-_, _*_, _≤_, _<_}
-use mathlib.Core.Path.{_≡_, refl, sym, ap, ap₂, _∙_}
-use mathlib.Core.Bool.{Bool, true, false, _&&_, not}
-use mathlib.Core.List.{List, [], _∷_}
-use native.Mathlib.Omega.{arith}
-use lib.ListN.{length, take, drop, getD, length-take, drop-of-length-le}
+use Rattle.lists.specs.Basics.{_≡_, refl, sym, ap, ap₂, _∙_, ℕ, _+_, _-_, _*_, _≤_, _<_, eqb, Bool, true, false, not, _&&_, List, [], _∷_, length, take, drop}
+use Rattle.lists.specs.Basics.{getD, length-take, drop-of-length-le, arith, eqb-true, not-false}
 use lib.Seq.{take-take, drop-drop, drop-cons, getD-take}
-use lib.Dec.{eqb}
-use borrow.Author.Tests.{eqb-true, not-false}
 use Rattle.lists.specs.Bytes.{eqList}
 use Rattle.lists.specs.Chosen.{and-false}
 use Rattle.lists.specs.Fill.{rest-part}

@@ -1,13 +1,7 @@
 -- What the visiting program's work answers and leaves in lent memory, and how its parts come together.
-use Prim.Native.Nat.{ℕ, _+_, _-_, _≤_, _<_}
-use mathlib.Core.Path.{_≡_, refl, sym, ap, ap₂, _∙_}
-use mathlib.Core.Bool.{Bool, true, false, _&&_, cond}
-use mathlib.Core.List.{List, [], _∷_, _++_, append-assoc}
-use native.Mathlib.Omega.{arith}
-use lib.ListN.{length, take, drop, length-append, length-take, length-drop}
+use Rattle.lists.specs.Basics.{_≡_, refl, sym, ap, ap₂, _∙_, ℕ, _+_, _-_, _≤_, _<_, eqb, leb, Bool, true, false, _&&_, cond, List, [], _∷_, _++_, append-assoc}
+use Rattle.lists.specs.Basics.{length, take, drop, length-append, length-take, length-drop, arith, le-leb, lt-leb}
 use lib.Seq.{take-at, drop-at, drop-drop}
-use lib.Dec.{eqb, leb}
-use borrow.Author.Tests.{le-leb, lt-leb}
 use Rattle.lists.specs.Bytes.{bytes}
 use Rattle.lists.specs.Chosen.{and-false}
 use Rattle.lists.specs.Tests.{and-both}

@@ -1,13 +1,8 @@
 -- The keys of a sheet visited one after another: a visit keeps the keys, so that the key of a line is that of the sheet at first.
-use Prim.Native.Nat.{ℕ, zero, suc, _+_, _/_, _^_, _≤_, _<_}
-use mathlib.Core.Path.{_≡_, refl, sym, ap, ap₂, subst, _∙_}
-use mathlib.Core.List.{List, [], _∷_, _++_, map}
-use native.Mathlib.Omega.{arith}
-use native.Mathlib.Numerals.{add-one}
-use lib.ListN.{length, drop, getD, length-map, drop-of-length-le, List·getD-map}
+use Rattle.lists.specs.Basics.{_≡_, refl, sym, ap, ap₂, subst, _∙_, ℕ, zero, suc, _+_, _/_, _^_, _≤_, _<_, List, [], _∷_, _++_, map, length, drop, getD}
+use Rattle.lists.specs.Basics.{length-map, drop-of-length-le, List·getD-map, arith, add-one}
 use lib.Seq.{drop-cons}
-use Rattle.types.specs.declared.Key.{Key}
-use Rattle.types.specs.declared.Record.{Record}
+use Rattle.model.specs.Types.{Key, Record}
 use Rattle.model.specs.Layouts.{recordBytes}
 use Rattle.model.specs.Records.{records, noRecord}
 use Rattle.model.specs.Writes.{Sheets, apply}

@@ -1,14 +1,8 @@
 -- How long sheets and inputs are: an accepted sheet keeps its number of lines, so an input longer than the largest that fits is refused by 1,
 -- and reading a byte more than that is enough.
-use Prim.Native.Nat.{ℕ, _+_, _-_, _*_, _/_, _≤_, _<_}
-use mathlib.Core.Path.{_≡_, refl, sym, ap, _∙_}
-use mathlib.Core.Bool.{Bool, true, false, cond}
-use mathlib.Core.List.{List}
-use native.Mathlib.Omega.{arith}
-use lib.ListN.{length, take, drop, length-take, length-drop}
+use Rattle.lists.specs.Basics.{_≡_, refl, sym, ap, _∙_, ℕ, _+_, _-_, _*_, _/_, _≤_, _<_, eqb, leb, Bool, true, false, cond, List, length, take, drop}
+use Rattle.lists.specs.Basics.{length-take, length-drop, arith, eqb-true, leb-true, leb-false}
 use lib.Seq.{take-all}
-use lib.Dec.{eqb, leb}
-use borrow.Author.Tests.{eqb-true, leb-true, leb-false}
 use Rattle.lists.specs.Each.{all}
 use Rattle.lists.specs.Tests.{and-fst, and-snd, tests}
 use Rattle.model.specs.Layouts.{recordLayout, recordBytes}

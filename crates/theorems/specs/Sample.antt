@@ -1,31 +1,14 @@
 -- A legal history, so that the hypotheses of demand 3 are met: two clients in turns, a refused call that brings a forged transaction, readings of the clock
 -- beyond 2^31, one commit in one phase and one in two, and a third client that dies with one of its groups prepared. The table says what each turn
 -- answers and leaves; it follows from the definitions by computation, and legality from the table.
-use Prim.Native.Nat.{ℕ}
-use mathlib.Core.Path.{_≡_, refl, ap, _∙_, subst}
-use mathlib.Core.Bool.{true, false}
-use mathlib.Core.Logic.{inl, inr}
-use mathlib.Core.List.{List, [], _∷_, map}
-use native.Mathlib.Omega.{arith}
+use Rattle.lists.specs.Basics.{_≡_, refl, ap, subst, _∙_, ℕ, true, false, List, [], _∷_, map, inl, inr, arith}
 use Rattle.lists.specs.Bytes.{bytes}
-use Rattle.types.specs.declared.Key.{Key}
-use Rattle.types.specs.declared.Transaction.{Transaction}
+use Rattle.model.specs.Types.{Key, Transaction}
 use Rattle.types.specs.declared.Reading.the-variants.{Absent, Value}
 use Rattle.model.specs.Lines.{text}
 use Rattle.model.specs.Records.{noImage, records}
-use Rattle.model.specs.Transactions.{
-  preparePhase,
-  validatePhase,
-  decidePhase,
-  finishPhase,
-  donePhase,
-  noVerdict,
-  committedVerdict,
-  entryAs,
-  withPut,
-  moved,
-  withEntry,
-}
+use Rattle.model.specs.Transactions.{preparePhase, validatePhase, decidePhase, finishPhase, donePhase, noVerdict, committedVerdict, entryAs, withPut, moved}
+use Rattle.model.specs.Transactions.{withEntry}
 use Rattle.model.specs.Calls.{newTransaction}
 use Rattle.model.specs.Results.{begin, read, put, advance, turnedAway, returned, answered}
 use Rattle.model.specs.Histories.{Event, leftBy}
@@ -36,7 +19,8 @@ use Rattle.model.specs.Turns.{Turn, turnEventOn, turnAfterOn, turnsLeft, LegalT
 use Rattle.model.specs.Recovered.{modelOn, bytesRecovered}
 use Rattle.recovery.specs.PassExists.{recoveryPass}
 use Rattle.recovery.specs.Bytes.{recovery-pass-exists}
-use Rattle.theorems.specs.Tables.{keyA, keyB, keyC, image, columns, Row, row, rowAt, told, LegalRows, rows-left, rows-events, rows-legal, apart, untaken, _⊗_}
+use Rattle.theorems.specs.Tables.{keyA, keyB, keyC, image, columns, Row, row, rowAt, told, LegalRows, rows-left, rows-events, rows-legal, apart, untaken}
+use Rattle.theorems.specs.Tables.{_⊗_}
 use Rattle.model.specs.Results as Results
 use Rattle.model.specs.Histories as Histories
 

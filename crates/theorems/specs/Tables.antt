@@ -1,16 +1,8 @@
 -- A history told as a table: what each turn is, answers and leaves. That the table is true follows from the definitions by computation, and what the history
 -- leaves, its events and whether it is legal follow from the table.
-use Prim.Native.Nat.{ℕ}
-use mathlib.Core.Path.{_≡_, refl, sym, ap, ap₂, _∙_, subst}
-use mathlib.Core.Bool.{false, true≢false}
-use mathlib.Core.List.{List, [], _∷_, map}
-use mathlib.Core.Option.{none, some, Option·none-ne-some, Option·some-injective}
-use lib.Dec.{eqb}
-use borrow.Author.Tests.{eq-eqb}
-use Rattle.types.specs.declared.Key.{Key}
-use Rattle.types.specs.declared.Columns.{Columns}
-use Rattle.types.specs.declared.Image.{Image}
-use Rattle.types.specs.declared.Transaction.{Transaction}
+use Rattle.lists.specs.Basics.{_≡_, refl, sym, ap, ap₂, subst, _∙_, ℕ, eqb, false, true≢false, List, [], _∷_, map, none, some, Option·none-ne-some}
+use Rattle.lists.specs.Basics.{Option·some-injective, eq-eqb}
+use Rattle.model.specs.Types.{Key, Image, Columns, Transaction}
 use Rattle.model.specs.Results.{Call, advance, Answer}
 use Rattle.model.specs.CallByPlace.{named}
 use Rattle.model.specs.Histories.{Event, Permitted}

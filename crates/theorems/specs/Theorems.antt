@@ -1,15 +1,9 @@
 -- What is proved of the engine: every headline statement, in the words of the definitions of `model`, each by citing the law that proves it.
 -- The engine's contracts cite the same definitions, so that what holds of `answerOn`, `afterOn` and `advanceAtOn` holds of the functions that run.
-use Prim.Native.Nat.{ℕ, _^_, _<_, _≤_}
-use mathlib.Core.Path.{_≡_, ap, _∙_}
-use mathlib.Core.Bool.{true}
-use mathlib.Core.List.{List, [], _∷_, map}
-use mathlib.Core.Option.{some}
+use Rattle.lists.specs.Basics.{_≡_, ap, _∙_, ℕ, _^_, _≤_, _<_, true, List, [], _∷_, map, some}
 use Rattle.lists.specs.Each.{all}
 use Rattle.types.specs.declared.Decision.the-variants.{Committed}
-use Rattle.types.specs.declared.Key.{Key}
-use Rattle.types.specs.declared.Record.{Record}
-use Rattle.types.specs.declared.Transaction.{Transaction}
+use Rattle.model.specs.Types.{Key, Record, Transaction}
 use Rattle.types.specs.declared.Recovery.the-variants.{Forward}
 use Rattle.model.specs.Records.{records, recordsText, recordsGood, recordsAccepted, lineOf, hasLine}
 use Rattle.model.specs.Coordinator.{Coordinator, coordinatorOf, coordinatorText, coordinatorGood, coordinatorAccepted}

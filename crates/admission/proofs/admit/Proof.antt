@@ -1,10 +1,6 @@
 -- The head is asked first; then the letters of the sheet, which are its units, give the groups and the rest; then the lines.
-use mathlib.Core.Path.{sym, ap, _∙_}
-use mathlib.Core.List.{List}
-use native.Mathlib.Omega.{arith}
-use lib.ListN.{take, drop}
-use borrow.Author.Tests.{not-true, not-false}
-use Rattle.types.specs.declared.AtomicityUnit.{AtomicityUnit}
+use Rattle.lists.specs.Basics.{sym, ap, _∙_, List, take, drop, arith, not-true, not-false, needs}
+use Rattle.model.specs.Types.{AtomicityUnit}
 use Rattle.model.specs.Transactions.{puts}
 use Rattle.model.specs.Groups.{groupCount}
 use Rattle.model.specs.ByteCalls.{sheetsOf}
@@ -13,7 +9,6 @@ use Rattle.protocol.specs.Units.{unitsIn, units-said}
 use Rattle.protocol.specs.Formed.{head-few, formed-not}
 use Rattle.protocol.specs.GroupsIn.{groupsIn}
 use Rattle.admission.specs.Admission.{well-formed-few, well-formed-not, well-formed-lines, admitted-not, admitted-formed}
-use borrow.Author.Needs.{needs}
 use Rattle.admission.proofs.admit.Statement.{statement}
 use Rattle.admission.proofs.admit.Tie as tie
 

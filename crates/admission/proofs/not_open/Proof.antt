@@ -1,7 +1,5 @@
 -- By the phase: open is the first.
-use mathlib.Core.Path.{sym, ap}
-use mathlib.Core.Bool.{not}
-use borrow.Author.Tests.{ne-eqb}
+use Rattle.lists.specs.Basics.{sym, ap, not, ne-eqb}
 use Rattle.admission.proofs.not_open.Statement.{statement}
 use Rattle.admission.proofs.not_open.Tie as tie
 

@@ -1,10 +1,7 @@
 -- Case by case in the order of the refusals.
-use mathlib.Core.Path.{sym, _∙_}
-use mathlib.Core.Bool.{true, false}
-use borrow.Author.Tests.{not-true, not-false}
+use Rattle.lists.specs.Basics.{sym, _∙_, true, false, not-true, not-false, needs}
 use Rattle.model.specs.ByteCalls.{sheetsOf}
 use Rattle.admission.specs.Admission.{formed-by, open-ill, open-not, open-key}
-use borrow.Author.Needs.{needs}
 use Rattle.admission.proofs.open_refusal.Statement.{statement}
 use Rattle.admission.proofs.open_refusal.Tie as tie
 

@@ -1,10 +1,6 @@
 -- The engine's answer is that of the definition, and its number is the definition's.
-use Prim.Native.Nat.{ℕ, _+_, _≤_}
-use mathlib.Core.Path.{sym, ap, _∙_, subst}
-use mathlib.Core.Bool.{cond}
-use lib.Dec.{eqb}
-use borrow.Author.Needs.{needs}
-use Rattle.types.specs.declared.Transaction.{Transaction}
+use Rattle.lists.specs.Basics.{sym, ap, subst, _∙_, ℕ, _+_, _≤_, eqb, cond, needs}
+use Rattle.model.specs.Types.{Transaction}
 use Rattle.model.specs.Refusals.{lastRefusal}
 use Rattle.cores.specs.declared.Returned.{Returned}
 use Rattle.c_api.specs.declared.Advanced.{Advanced}

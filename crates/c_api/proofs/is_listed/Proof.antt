@@ -1,8 +1,5 @@
 -- The second test counts where the first holds.
-use mathlib.Core.Path.{_≡_, refl}
-use mathlib.Core.Bool.{true, false}
-use lib.Dec.{leb}
-use borrow.Author.Tests.{le-leb, lt-leb}
+use Rattle.lists.specs.Basics.{_≡_, refl, leb, true, false, le-leb, lt-leb}
 use Rattle.model.specs.CallByPlace.{listed}
 use Rattle.c_api.proofs.is_listed.Statement.{statement}
 use Rattle.c_api.proofs.is_listed.Tie as tie

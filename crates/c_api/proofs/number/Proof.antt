@@ -1,9 +1,5 @@
 -- The test decides the choice.
-use mathlib.Core.Path.{_≡_}
-use mathlib.Core.Bool.{true, false}
-use lib.Dec.{eqb}
-use borrow.Author.Tests.{eq-eqb, ne-eqb}
-use borrow.Author.Needs.{needs}
+use Rattle.lists.specs.Basics.{_≡_, eqb, true, false, eq-eqb, ne-eqb, needs}
 use Rattle.c_api.proofs.number.Statement.{statement}
 use Rattle.c_api.proofs.number.Tie as tie
 

@@ -1,9 +1,5 @@
 -- The engine's answer is that of the definition, and its number is the definition's.
-use Prim.Native.Nat.{_+_, _≤_}
-use mathlib.Core.Path.{sym, ap, _∙_, subst}
-use mathlib.Core.Bool.{false, cond}
-use lib.Dec.{eqb}
-use borrow.Author.Needs.{needs}
+use Rattle.lists.specs.Basics.{sym, ap, subst, _∙_, _+_, _≤_, eqb, false, cond, needs}
 use Rattle.model.specs.Refusals.{lastRefusal}
 use Rattle.cores.specs.declared.Returned.{Returned}
 use Rattle.c_api.specs.Numbers.{begin-numbered}

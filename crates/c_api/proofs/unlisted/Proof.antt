@@ -1,9 +1,5 @@
 -- The check's refusal as one number, or 1003 where it has none.
-use Prim.Native.Nat.{ℕ, _+_, _≤_}
-use mathlib.Core.Path.{refl, sym, ap, _∙_, subst}
-use mathlib.Core.Bool.{cond}
-use lib.Dec.{eqb}
-use borrow.Author.Needs.{needs}
+use Rattle.lists.specs.Basics.{refl, sym, ap, subst, _∙_, ℕ, _+_, _≤_, eqb, cond, needs}
 use Rattle.model.specs.Refusals.{lastRefusal}
 use Rattle.c_api.specs.ByPlace.{check-numbered}
 use Rattle.c_api.proofs.unlisted.Statement.{statement}

@@ -1,12 +1,5 @@
 -- The loop's invariant: the records before i are good, so that those from i on decide as all do. A number that is not issued ends it.
-use Prim.Native.Nat.{_+_, _-_}
-use mathlib.Core.Path.{_≡_}
-use mathlib.Core.Bool.{_&&_, and-false}
-use lib.ListN.{drop}
-use lib.Dec.{leb}
-use native.Mathlib.Omega.{arith}
-use borrow.Author.Tests.{le-leb, lt-leb}
-use borrow.Author.Needs.{needs}
+use Rattle.lists.specs.Basics.{_≡_, _+_, _-_, leb, _&&_, and-false, drop, arith, le-leb, lt-leb, needs}
 use Rattle.lists.specs.Each.{all}
 use Rattle.model.specs.Records.{records}
 use Rattle.model.specs.Coordinator.{coordinatorOf, namesIssued}

@@ -1,10 +1,5 @@
 -- Each test is one of `sheetMade`, in its order, and `sheetMade` is acceptance.
-use mathlib.Core.Path.{_≡_, sym, _∙_}
-use mathlib.Core.Bool.{true}
-use native.Mathlib.Omega.{arith}
-use lib.ListN.{length, take, length-take}
-use borrow.Author.Needs.{needs}
-use borrow.Author.Tests.{not-true, not-false}
+use Rattle.lists.specs.Basics.{_≡_, sym, _∙_, true, length, take, length-take, arith, not-true, not-false, needs}
 use Rattle.model.specs.Coordinator.{coordinatorAccepted}
 use Rattle.coordinator_check.specs.Head.{lettersSet}
 use Rattle.coordinator_check.specs.Sheet.{wholeLines, whole-parts, ofNumber, decisionsMade, accepted-made, not-whole, not-lettered, by-count}

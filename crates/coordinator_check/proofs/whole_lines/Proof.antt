@@ -1,5 +1,5 @@
 -- The test is its definition.
-use mathlib.Core.Path.{refl}
+use Rattle.lists.specs.Basics.{refl}
 use Rattle.coordinator_check.specs.Sheet.{wholeLines}
 use Rattle.coordinator_check.proofs.whole_lines.Statement.{statement}
 use Rattle.coordinator_check.proofs.whole_lines.Tie as tie

@@ -1,8 +1,5 @@
 -- By what the first digit makes: a figure, behind which the others are read, or none.
-use Prim.Native.Nat.{_+_}
-use mathlib.Core.Path.{_≡_, sym, ap, _∙_}
-use lib.ListN.{getD, drop}
-use borrow.Author.Needs.{needs}
+use Rattle.lists.specs.Basics.{_≡_, sym, ap, _∙_, _+_, drop, getD, needs}
 use Rattle.decimal.specs.declared.Scan.{Scan}
 use Rattle.decimal.specs.declared.Scan.the-variants.{Wrong}
 use Rattle.decimal.specs.Cut.{longer, scannedTo, longer-unblank, scan-to-wrong, first-byte}

@@ -1,6 +1,5 @@
 -- Each return knows the state and which bound was kept or missed.
-use borrow.Author.Tests.{le-leb, lt-leb}
-use borrow.Author.Needs.{needs}
+use Rattle.lists.specs.Basics.{le-leb, lt-leb, needs}
 use Rattle.decimal.specs.Field.{within}
 use Rattle.decimal.proofs.bounded.Statement.{statement}
 use Rattle.decimal.proofs.bounded.Tie as tie

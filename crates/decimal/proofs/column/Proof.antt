@@ -1,6 +1,5 @@
 -- The two returns are the two cases of `place`.
-use borrow.Author.Tests.{eq-eqb, ne-eqb}
-use borrow.Author.Needs.{needs}
+use Rattle.lists.specs.Basics.{eq-eqb, ne-eqb, needs}
 use Rattle.decimal.proofs.column.Statement.{statement}
 use Rattle.decimal.proofs.column.Tie as tie
 

@@ -1,9 +1,5 @@
 -- Each return knows which tests held, and the limited step is the same tests.
-use Prim.Native.Nat.{_+_, _-_, _*_}
-use mathlib.Core.Path.{_≡_}
-use mathlib.Core.Bool.{true}
-use borrow.Author.Tests.{le-leb, lt-leb}
-use borrow.Author.Needs.{needs}
+use Rattle.lists.specs.Basics.{_≡_, _+_, _-_, _*_, true, le-leb, lt-leb, needs}
 use Rattle.lists.specs.Tests.{and-both}
 use Rattle.decimal.specs.Field.{isDigit}
 use Rattle.decimal.specs.Cut.{capped}

@@ -1,8 +1,5 @@
 -- The loop keeps that the bytes to come, read behind the figure so far, end where all bytes do; each way out is told by the byte met there.
-use Prim.Native.Nat.{_+_, _-_}
-use mathlib.Core.Path.{_≡_, refl, sym, ap, _∙_}
-use lib.ListN.{length, getD, drop}
-use borrow.Author.Needs.{needs}
+use Rattle.lists.specs.Basics.{_≡_, refl, sym, ap, _∙_, _+_, _-_, length, drop, getD, needs}
 use Rattle.decimal.specs.declared.Scan.{Scan}
 use Rattle.decimal.specs.declared.Scan.the-variants.{Number, Wrong}
 use Rattle.decimal.specs.Cut.{longer, scannedTo, longer-unblank, scan-to-wrong, more-byte, byte-after-zero, no-byte}

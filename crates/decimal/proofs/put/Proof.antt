@@ -1,13 +1,6 @@
 -- The loop keeps that the bytes passed are the word's.
-use Prim.Native.Nat.{ℕ, _+_, _-_, _≤_, _<_}
-use native.Mathlib.Omega.{arith}
-use native.Mathlib.Numerals.{add-one}
-use mathlib.Core.Path.{_≡_, refl, sym, _∙_}
-use mathlib.Core.List.{List}
-use lib.ListN.{length, getD, take, set, length-set}
+use Rattle.lists.specs.Basics.{_≡_, refl, sym, _∙_, ℕ, _+_, _-_, _≤_, _<_, List, length, take, getD, set, length-set, arith, add-one, eq-eqb, ne-eqb, needs}
 use lib.Seq.{take-suc, take-suc-set, take-all}
-use borrow.Author.Tests.{eq-eqb, ne-eqb}
-use borrow.Author.Needs.{needs}
 use Rattle.decimal.specs.Word.{putWord}
 use Rattle.decimal.proofs.put.Statement.{statement}
 use Rattle.decimal.proofs.put.Tie as tie

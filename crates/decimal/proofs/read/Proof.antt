@@ -1,12 +1,5 @@
 -- The spaces in front change nothing, and what the limit cuts off changes no figure.
-use Prim.Native.Nat.{ℕ, _≤_, _<_}
-use native.Mathlib.Omega.{arith}
-use mathlib.Core.Path.{_≡_, sym, ap, subst, _∙_}
-use mathlib.Core.Bool.{false}
-use mathlib.Core.List.{List}
-use lib.Dec.{eqb}
-use lib.ListN.{length, getD, drop}
-use borrow.Author.Needs.{needs}
+use Rattle.lists.specs.Basics.{_≡_, sym, ap, subst, _∙_, ℕ, _≤_, _<_, eqb, false, List, length, drop, getD, arith, needs}
 use Rattle.decimal.specs.declared.Scan.{Scan}
 use Rattle.decimal.specs.declared.Scan.the-variants.{Blank, Wrong}
 use Rattle.decimal.specs.Field.{within, figure}

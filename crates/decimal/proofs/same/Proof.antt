@@ -1,13 +1,7 @@
 -- The loop keeps that the bytes already compared are equal; one pair that differs tells the lists apart.
-use Prim.Native.Nat.{ℕ, _+_, _-_, _≤_, _<_}
-use native.Mathlib.Omega.{arith}
-use native.Mathlib.Numerals.{add-one}
-use mathlib.Core.Path.{_≡_, refl, sym, ap, ap₂, subst, _∙_}
-use mathlib.Core.Bool.{true}
-use mathlib.Core.List.{List, _∷_}
-use lib.ListN.{length, getD, drop, drop-of-length-le}
+use Rattle.lists.specs.Basics.{_≡_, refl, sym, ap, ap₂, subst, _∙_, ℕ, _+_, _-_, _≤_, _<_, true, List, _∷_, length, drop, getD, drop-of-length-le, arith}
+use Rattle.lists.specs.Basics.{add-one, needs}
 use lib.Seq.{drop-cons}
-use borrow.Author.Needs.{needs}
 use Rattle.lists.specs.Bytes.{eqList, eqList-refl, ne-eqList}
 use Rattle.decimal.proofs.same.Statement.{statement}
 use Rattle.decimal.proofs.same.Tie as tie

@@ -1,15 +1,6 @@
 -- The loop keeps that the spaces passed, and those that the rest begins with, are the field's.
-use Prim.Native.Nat.{ℕ, suc, _+_, _-_, _≤_, _<_}
-use native.Mathlib.Omega.{arith}
-use native.Mathlib.Numerals.{add-one}
-use mathlib.Core.Path.{_≡_}
-use mathlib.Core.Bool.{cond}
-use mathlib.Core.List.{List}
-use lib.ListN.{length, getD, drop, drop-of-length-le}
+use Rattle.lists.specs.Basics.{_≡_, ℕ, suc, _+_, _-_, _≤_, _<_, eqb, cond, List, length, drop, getD, drop-of-length-le, arith, add-one, eq-eqb, ne-eqb, needs}
 use lib.Seq.{drop-cons}
-use lib.Dec.{eqb}
-use borrow.Author.Tests.{eq-eqb, ne-eqb}
-use borrow.Author.Needs.{needs}
 use Rattle.decimal.specs.Cut.{spaces}
 use Rattle.decimal.proofs.spaces.Statement.{statement}
 use Rattle.decimal.proofs.spaces.Tie as tie

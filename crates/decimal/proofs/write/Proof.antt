@@ -1,11 +1,7 @@
 -- The loop keeps that the columns set, behind the text of what is left of the figure, are the whole field's text.
-use Prim.Native.Nat.{ℕ, zero, suc, _+_, _-_, _/_, _%_, _≤_, _<_}
-use native.Mathlib.Omega.{arith}
-use mathlib.Core.Path.{_≡_, refl, _∙_}
-use mathlib.Core.List.{List, [], _∷_, _++_, append-nil}
-use lib.ListN.{length, drop, set, length-set, drop-of-length-le}
+use Rattle.lists.specs.Basics.{_≡_, refl, _∙_, ℕ, zero, suc, _+_, _-_, _/_, _%_, _≤_, _<_, List, [], _∷_, _++_, append-nil, length, drop, set, length-set}
+use Rattle.lists.specs.Basics.{drop-of-length-le, arith, needs}
 use lib.Seq.{drop-cons, drop-set-lt, getD-set-same, append-snoc}
-use borrow.Author.Needs.{needs}
 use Rattle.decimal.specs.Field.{place, ahead, fieldText}
 use Rattle.decimal.proofs.write.Statement.{statement}
 use Rattle.decimal.proofs.write.Tie as tie

@@ -1,9 +1,8 @@
 -- Refused by the check, or begin beside an accepted record sheet.
-use mathlib.Core.Path.{sym, _∙_}
+use Rattle.lists.specs.Basics.{sym, _∙_, needs}
 use Rattle.model.specs.Results as model
 use Rattle.call_laws.specs.Accepted.{accepted, turned-away, let-pass}
 use Rattle.cores.specs.Answers.{toBegun}
-use borrow.Author.Needs.{needs}
 use Rattle.engine.proofs.begin.Statement.{statement}
 use Rattle.engine.proofs.begin.Tie as tie
 

@@ -1,9 +1,8 @@
 -- Refused by the check, or the call on accepted sheets.
-use mathlib.Core.Path.{sym, _∙_}
+use Rattle.lists.specs.Basics.{sym, _∙_, needs}
 use Rattle.model.specs.Results as model
 use Rattle.call_laws.specs.Accepted.{accepted, turned-away, passed-answer}
 use Rattle.cores.specs.Answers.{toReturned}
-use borrow.Author.Needs.{needs}
 use Rattle.engine.proofs.put.Statement.{statement}
 use Rattle.engine.proofs.put.Tie as tie
 

@@ -1,8 +1,5 @@
 -- The loop's invariant: i digits are taken in, as a number below 16 ^ i, and that number with the digits that are left is the figure.
-use Prim.Native.Nat.{_+_, _-_, _≤_, _<_, _^_}
-use mathlib.Core.Path.{_≡_, sym, _∙_}
-use native.Mathlib.Omega.{arith}
-use borrow.Author.Needs.{needs}
+use Rattle.lists.specs.Basics.{_≡_, sym, _∙_, _+_, _-_, _^_, _≤_, _<_, arith, needs}
 use Rattle.decimal.specs.Digits.{digitsFrom, figureAt, digitsLeft, digits-next, digits-room, digits-fit}
 use Rattle.places.proofs.figure.Statement.{statement}
 use Rattle.places.proofs.figure.Tie as tie

@@ -1,5 +1,5 @@
 -- The test decides which of the two is answered.
-use borrow.Author.Tests.{lt-ltb, le-ltb}
+use Rattle.lists.specs.Basics.{lt-ltb, le-ltb}
 use Rattle.places.proofs.higher.Statement.{statement}
 use Rattle.places.proofs.higher.Tie as tie
 

@@ -1,10 +1,5 @@
 -- The law on two parts, by the test that the first parts are equal.
-use Prim.Native.Nat.{ℕ, _<_}
-use lib.ListN.{getD}
-use mathlib.Core.Path.{sym, _∙_}
-use native.Mathlib.Omega.{arith}
-use borrow.Author.Tests.{eq-eqb, ne-eqb}
-use borrow.Author.Needs.{needs}
+use Rattle.lists.specs.Basics.{sym, _∙_, ℕ, _<_, getD, arith, eq-eqb, ne-eqb, needs}
 use Rattle.places.specs.Order.{part-split}
 use Rattle.places.proofs.key_less.Statement.{statement}
 use Rattle.places.proofs.key_less.Tie as tie

@@ -1,10 +1,5 @@
 -- The loop's invariant: what is judged so far, and what is left from byte i on, make up the whole pass.
-use Prim.Native.Nat.{_-_, _≤_}
-use mathlib.Core.Path.{_≡_, refl, sym, _∙_}
-use mathlib.Core.Bool.{true, _&&_}
-use native.Mathlib.Omega.{arith}
-use borrow.Author.Tests.{not-true, not-false}
-use borrow.Author.Needs.{needs}
+use Rattle.lists.specs.Basics.{_≡_, refl, sym, _∙_, _-_, _≤_, true, _&&_, arith, not-true, not-false, needs}
 use Rattle.places.specs.Places.{asLong, rest, lineOk}
 use Rattle.places.specs.Turns.{Lengths, lengths, rest-next, rest-end}
 use Rattle.places.proofs.line_ok.Statement.{statement}

@@ -1,6 +1,5 @@
 -- Eight bytes are twice four, of which the last weigh 2 ^ 32.
-use native.Mathlib.Omega.{arith}
-use borrow.Author.Needs.{needs}
+use Rattle.lists.specs.Basics.{arith, needs}
 use Rattle.places.specs.Loads.{loaded-eight}
 use Rattle.places.proofs.load_eight.Statement.{statement}
 use Rattle.places.proofs.load_eight.Tie as tie

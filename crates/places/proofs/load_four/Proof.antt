@@ -1,6 +1,5 @@
 -- The sum is that of the four bytes, from the law on four bytes; each is below 256.
-use native.Mathlib.Omega.{arith}
-use borrow.Author.Needs.{needs}
+use Rattle.lists.specs.Basics.{arith, needs}
 use Rattle.places.specs.Loads.{loaded-four}
 use Rattle.places.proofs.load_four.Statement.{statement}
 use Rattle.places.proofs.load_four.Tie as tie

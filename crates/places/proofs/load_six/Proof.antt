@@ -1,6 +1,5 @@
 -- Eight bytes without the first two are the six.
-use native.Mathlib.Omega.{arith}
-use borrow.Author.Needs.{needs}
+use Rattle.lists.specs.Basics.{arith, needs}
 use Rattle.places.specs.Loads.{loaded-six}
 use Rattle.places.proofs.load_six.Statement.{statement}
 use Rattle.places.proofs.load_six.Tie as tie

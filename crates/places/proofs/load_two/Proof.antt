@@ -1,6 +1,5 @@
 -- The sum is that of the two bytes, from the law on two bytes.
-use native.Mathlib.Omega.{arith}
-use borrow.Author.Needs.{needs}
+use Rattle.lists.specs.Basics.{arith, needs}
 use Rattle.places.specs.Loads.{loaded-two}
 use Rattle.places.proofs.load_two.Statement.{statement}
 use Rattle.places.proofs.load_two.Tie as tie

@@ -1,5 +1,5 @@
 -- Each step is what the definition names.
-use borrow.Author.Needs.{needs}
+use Rattle.lists.specs.Basics.{needs}
 use Rattle.places.proofs.stands.Statement.{statement}
 use Rattle.places.proofs.stands.Tie as tie
 

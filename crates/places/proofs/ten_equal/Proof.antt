@@ -1,8 +1,5 @@
 -- The law on two parts, of eight and of two bytes.
-use Prim.Native.Nat.{ℕ, _<_}
-use native.Mathlib.Omega.{arith}
-use lib.ListN.{getD}
-use borrow.Author.Needs.{needs}
+use Rattle.lists.specs.Basics.{ℕ, _<_, getD, arith, needs}
 use Rattle.places.specs.Loads.{split-equal}
 use Rattle.places.proofs.ten_equal.Statement.{statement}
 use Rattle.places.proofs.ten_equal.Tie as tie

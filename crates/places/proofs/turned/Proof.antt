@@ -1,8 +1,5 @@
 -- The loop's invariant: i bytes are taken over, as a number below 256 ^ i, and the number with the bytes that are left is that of all n.
-use Prim.Native.Nat.{_-_, _%_, _^_, _≤_, _<_}
-use mathlib.Core.Path.{_≡_, sym, _∙_}
-use native.Mathlib.Omega.{arith}
-use borrow.Author.Needs.{needs}
+use Rattle.lists.specs.Basics.{_≡_, sym, _∙_, _-_, _%_, _^_, _≤_, _<_, arith, needs}
 use Rattle.places.specs.Order.{number-room, number-fits}
 use Rattle.places.specs.Loads.{turned, turned-next}
 use Rattle.places.proofs.turned.Statement.{statement}

@@ -1,6 +1,5 @@
 -- The bytes that are loaded are turned.
-use native.Mathlib.Omega.{arith}
-use borrow.Author.Needs.{needs}
+use Rattle.lists.specs.Basics.{arith, needs}
 use Rattle.places.specs.Loads.{turned-is}
 use Rattle.places.proofs.word.Statement.{statement}
 use Rattle.places.proofs.word.Tie as tie

@@ -1,10 +1,6 @@
 -- Eight bytes of the line as a number are compared with those of the words lent, two of before version with ` 0`, and the rest is what the definition
 -- names.
-use Prim.Native.Nat.{_+_, _*_}
-use mathlib.Core.Path.{_≡_, ap, _∙_}
-use native.Mathlib.Omega.{arith}
-use lib.ListN.{length, take, drop}
-use borrow.Author.Needs.{needs}
+use Rattle.lists.specs.Basics.{_≡_, ap, _∙_, _+_, _*_, length, take, drop, arith, needs}
 use Rattle.lists.specs.Bytes.{bytes}
 use Rattle.model.specs.Layouts.{words}
 use Rattle.places.specs.Loads.{loaded}

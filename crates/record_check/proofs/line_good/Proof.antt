@@ -1,12 +1,6 @@
 -- The law on a line, test by test: a line that has not the word of its kind is not good, each later test that fails makes the answer false, and past them
 -- the clock is the answer, by its first digit where that is enough.
-use mathlib.Core.Path.{_≡_, sym, ap, _∙_}
-use mathlib.Core.Bool.{true, _&&_, cond, and-false}
-use lib.Dec.{eqb}
-use lib.ListN.{length}
-use native.Mathlib.Omega.{arith}
-use borrow.Author.Tests.{not-true, not-false}
-use borrow.Author.Needs.{needs}
+use Rattle.lists.specs.Basics.{_≡_, sym, ap, _∙_, eqb, true, _&&_, cond, and-false, length, arith, not-true, not-false, needs}
 use Rattle.lists.specs.Bytes.{bytes}
 use Rattle.places.specs.Parts.{partsOk}
 use Rattle.record_check.specs.States.{kindParts, words-length}

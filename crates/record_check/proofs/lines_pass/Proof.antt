@@ -1,11 +1,5 @@
 -- The loop's invariant: what is left from line i on decides as the whole does. A line that is not good, or a key that does not rise, ends it.
-use Prim.Native.Nat.{_+_, _-_, _*_, _≤_}
-use mathlib.Core.Path.{_≡_, sym, _∙_}
-use mathlib.Core.Bool.{and-false}
-use native.Mathlib.Omega.{arith}
-use lib.ListN.{take, drop}
-use borrow.Author.Tests.{not-true, not-false}
-use borrow.Author.Needs.{needs}
+use Rattle.lists.specs.Basics.{_≡_, sym, _∙_, _+_, _-_, _*_, _≤_, and-false, take, drop, arith, not-true, not-false, needs}
 use Rattle.record_check.specs.Line.{lineGood}
 use Rattle.record_check.specs.Sheet.{linesPass, pass-next}
 use Rattle.record_check.proofs.lines_pass.Statement.{statement}

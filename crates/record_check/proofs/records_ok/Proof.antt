@@ -1,11 +1,5 @@
 -- The law on accepted sheets: whole lines, 1 to 500 of them, and the lines pass. What is lent is what the laws ask for, byte by byte.
-use Prim.Native.Nat.{_*_, _/_}
-use mathlib.Core.Path.{refl, sym}
-use mathlib.Core.Bool.{and-false}
-use native.Mathlib.Omega.{arith}
-use lib.ListN.{length}
-use borrow.Author.Tests.{le-leb, lt-leb, eq-eqb, ne-eqb}
-use borrow.Author.Needs.{needs}
+use Rattle.lists.specs.Basics.{refl, sym, _*_, _/_, and-false, length, arith, eq-eqb, ne-eqb, le-leb, lt-leb, needs}
 use Rattle.lists.specs.Bytes.{bytes}
 use Rattle.lists.specs.Each.{joined}
 use Rattle.decimal.specs.Field.{fieldText, ahead}

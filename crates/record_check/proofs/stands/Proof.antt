@@ -1,10 +1,5 @@
 -- Each table is a row of the tables lent, at its place, and the law on the tables of a kind says the rest.
-use Prim.Native.Nat.{_+_, _-_, _*_}
-use mathlib.Core.Path.{_≡_, sym, ap, _∙_}
-use lib.ListN.{length, take, drop}
-use native.Mathlib.Omega.{arith}
-use borrow.Author.Tests.{not-true, not-false}
-use borrow.Author.Needs.{needs}
+use Rattle.lists.specs.Basics.{_≡_, sym, ap, _∙_, _+_, _-_, _*_, length, take, drop, arith, not-true, not-false, needs}
 use Rattle.places.specs.Places.{lineOk}
 use Rattle.record_check.specs.Tables.{tables, tables-length, tables-room, tables-are}
 use Rattle.record_check.proofs.stands.Statement.{statement}

@@ -1,6 +1,5 @@
 -- By the two tests: another kind, a 9 at the end, or neither.
-use borrow.Author.Tests.{eq-eqb, ne-eqb}
-use borrow.Author.Needs.{needs}
+use Rattle.lists.specs.Basics.{eq-eqb, ne-eqb, needs}
 use Rattle.record_check.specs.Relations.{follows}
 use Rattle.record_check.proofs.version_follows.Statement.{statement}
 use Rattle.record_check.proofs.version_follows.Tie as tie

@@ -1,9 +1,7 @@
 -- The definition's parts in turn: whether the line is prepared, its owner's decision, whether it has expired.
-use mathlib.Core.Path.{sym, _∙_}
-use borrow.Author.Tests.{not-true, not-false}
+use Rattle.lists.specs.Basics.{sym, _∙_, not-true, not-false, needs}
 use Rattle.model.specs.Images.{lineExpired, recovery}
 use Rattle.model.specs.Visits.{meeting}
-use borrow.Author.Needs.{needs}
 use Rattle.recover.proofs.meet.Statement.{statement}
 use Rattle.recover.proofs.meet.Tie as tie
 

@@ -1,6 +1,6 @@
 -- A visit writes only where the line is prepared, as what it came to tells.
+use Rattle.lists.specs.Basics.{needs}
 use Rattle.recover.specs.Recovering.{lineAt, meeting-pending}
-use borrow.Author.Needs.{needs}
 use Rattle.recover.proofs.recover.Statement.{statement}
 use Rattle.recover.proofs.recover.Tie as tie
 

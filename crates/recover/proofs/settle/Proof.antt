@@ -1,8 +1,8 @@
 -- By what the visit came to: nothing written, one line, or one decision.
+use Rattle.lists.specs.Basics.{needs}
 use Rattle.model.specs.Visits.{recoveryWrite}
 use Rattle.call_laws.specs.Accepted.{written-nothing}
 use Rattle.recover.specs.Recovering.{pending, settle-forward, settle-back, settle-again}
-use borrow.Author.Needs.{needs}
 use Rattle.recover.proofs.settle.Statement.{statement}
 use Rattle.recover.proofs.settle.Tie as tie
 

@@ -1,8 +1,5 @@
 -- The input keeps its length, so that the record sheet stays a part of it, and a line ends after it began.
-use Prim.Native.Nat.{_-_, _≤_}
-use mathlib.Core.Path.{_≡_}
-use lib.ListN.{length}
-use borrow.Author.Needs.{needs}
+use Rattle.lists.specs.Basics.{_≡_, _-_, _≤_, length, needs}
 use Rattle.replay.proofs.answer_calls.Statement.{statement}
 use Rattle.replay.proofs.answer_calls.Tie as tie
 

@@ -1,7 +1,5 @@
 -- A coordinator sheet of at most 10,000 lines with its head fits the array.
-use native.Mathlib.Omega.{arith}
-use lib.ListN.{length-take}
-use borrow.Author.Needs.{needs}
+use Rattle.lists.specs.Basics.{length-take, arith, needs}
 use Rattle.replay.proofs.history.Statement.{statement}
 use Rattle.replay.proofs.history.Tie as tie
 

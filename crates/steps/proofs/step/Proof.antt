@@ -1,6 +1,5 @@
 -- By the phase; in done, or in no phase, nothing is done.
-use mathlib.Core.Path.{refl}
-use borrow.Author.Needs.{needs}
+use Rattle.lists.specs.Basics.{refl, needs}
 use Rattle.steps.specs.Ready.{records-accepted, coordinator-accepted, known}
 use Rattle.steps.specs.Stepped.{wrote-nothing}
 use Rattle.steps.specs.Cases.{stepped-as, step-at, step-none}

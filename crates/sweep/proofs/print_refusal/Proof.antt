@@ -1,7 +1,5 @@
 -- The text is made in an array, and put over the first bytes.
-use native.Mathlib.Omega.{arith}
-use lib.ListN.{length-take, length-append}
-use borrow.Author.Needs.{needs}
+use Rattle.lists.specs.Basics.{length-append, length-take, arith, needs}
 use Rattle.lists.specs.Bytes.{bytes}
 use Rattle.sweep.specs.Output.{refusal-printed}
 use Rattle.sweep.proofs.print_refusal.Statement.{statement}

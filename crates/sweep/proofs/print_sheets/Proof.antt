@@ -1,9 +1,5 @@
 -- The sheets are visited in two beginnings, and the record sheet is then put after the coordinator sheet.
-use Prim.Native.Nat.{_-_}
-use mathlib.Core.Path.{sym, ap, subst, _∙_}
-use native.Mathlib.Omega.{arith}
-use lib.ListN.{length, length-take}
-use borrow.Author.Needs.{needs}
+use Rattle.lists.specs.Basics.{sym, ap, subst, _∙_, _-_, length, length-take, arith, needs}
 use Rattle.sweep.specs.FirstLine.{Small, placeOfRecords, first-small, accepted-input}
 use Rattle.sweep.specs.Sizes.{parts}
 use Rattle.sweep.specs.Output.{sheets-printed}

@@ -1,8 +1,5 @@
 -- Case by case: too little room, refused, accepted.
-use mathlib.Core.Path.{sym, _∙_}
-use native.Mathlib.Omega.{arith}
-use borrow.Author.Tests.{ne-eqb}
-use borrow.Author.Needs.{needs}
+use Rattle.lists.specs.Basics.{sym, _∙_, arith, ne-eqb, needs}
 use Rattle.sweep.specs.Output.{little-work, little-output, left-refused, left-accepted}
 use Rattle.sweep.proofs.run.Statement.{statement}
 use Rattle.sweep.proofs.run.Tie as tie

@@ -1,7 +1,5 @@
 -- Both slices hold the input's sheets before the passes, which then leave the definition's.
-use mathlib.Core.Path.{sym, ap, ap₂, subst, _∙_}
-use native.Mathlib.Omega.{arith}
-use borrow.Author.Needs.{needs}
+use Rattle.lists.specs.Basics.{sym, ap, ap₂, subst, _∙_, arith, needs}
 use Rattle.sweep.specs.declared.FirstLine.{FirstLine}
 use Rattle.model.specs.Visitor.{swept}
 use Rattle.model.specs.ByteHistories.{Bytes, Passing}

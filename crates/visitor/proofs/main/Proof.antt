@@ -1,8 +1,7 @@
 -- What `run` answers lies within the output.
-use mathlib.Core.Path.{sym}
+use Rattle.lists.specs.Basics.{sym, needs}
 use lib.Seq.{length-take-le}
 use Rattle.sweep.specs.Output.{answer-within}
-use borrow.Author.Needs.{needs}
 use Rattle.visitor.proofs.main.Statement.{statement}
 use Rattle.visitor.proofs.main.Tie as tie
 

@@ -1,7 +1,5 @@
 -- The lines after the head are what is left of the length, cut by the bytes of a line.
-use native.Mathlib.Omega.{arith}
-use lib.ListN.{length-drop}
-use borrow.Author.Needs.{needs}
+use Rattle.lists.specs.Basics.{length-drop, arith, needs}
 use Rattle.codec.proofs.coordinator.count.Statement.{statement}
 use Rattle.codec.proofs.coordinator.count.Tie as tie
 

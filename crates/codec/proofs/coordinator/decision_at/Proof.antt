@@ -1,7 +1,5 @@
 -- By the words that may stand in the line of the number; a number without a line is undecided.
-use mathlib.Core.Path.{sym, _∙_}
-use borrow.Author.Tests.{not-true, not-false}
-use borrow.Author.Needs.{needs}
+use Rattle.lists.specs.Basics.{sym, _∙_, not-true, not-false, needs}
 use Rattle.codec.specs.Parts.{decision-part, decision-past}
 use Rattle.codec.proofs.coordinator.decision_at.Statement.{statement}
 use Rattle.codec.proofs.coordinator.decision_at.Tie as tie

@@ -1,5 +1,5 @@
 -- By the three decisions.
-use borrow.Author.Needs.{needs}
+use Rattle.lists.specs.Basics.{needs}
 use Rattle.model.specs.Coordinator.{decisionNumber}
 use Rattle.codec.proofs.coordinator.decision_number.Statement.{statement}
 use Rattle.codec.proofs.coordinator.decision_number.Tie as tie

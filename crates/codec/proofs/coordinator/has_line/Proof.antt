@@ -1,9 +1,5 @@
 -- By whether the number is at least 1 and at most the lines.
-use mathlib.Core.Path.{_≡_}
-use mathlib.Core.Bool.{true, false}
-use lib.Dec.{leb}
-use borrow.Author.Tests.{le-leb, lt-leb}
-use borrow.Author.Needs.{needs}
+use Rattle.lists.specs.Basics.{_≡_, leb, true, false, le-leb, lt-leb, needs}
 use Rattle.codec.proofs.coordinator.has_line.Statement.{statement}
 use Rattle.codec.proofs.coordinator.has_line.Tie as tie
 

@@ -1,10 +1,7 @@
 -- The ten bytes behind the line's number are compared with the word of the decision's number.
-use Prim.Native.Nat.{ℕ}
-use mathlib.Core.Path.{ap, _∙_}
-use native.Mathlib.Omega.{arith}
-use borrow.Author.Needs.{needs}
+use Rattle.lists.specs.Basics.{ap, _∙_, ℕ, arith, needs}
 use Rattle.lists.specs.Bytes.{eqList}
-use Rattle.types.specs.declared.Kind.the-variants.{DecisionWord}
+use Rattle.model.specs.Types.{DecisionWord}
 use Rattle.model.specs.Layouts.{offset, lineLayout, wordAt}
 use Rattle.sheet_laws.specs.Singles.{decisionWord}
 use Rattle.codec.specs.Parts.{line-ends}

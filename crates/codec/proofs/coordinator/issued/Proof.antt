@@ -1,8 +1,5 @@
 -- The count is the figure of the first four bytes, or of all of them where there are fewer.
-use mathlib.Core.Path.{ap, _∙_}
-use native.Mathlib.Omega.{arith}
-use lib.ListN.{length-take}
-use borrow.Author.Needs.{needs}
+use Rattle.lists.specs.Basics.{ap, _∙_, length-take, arith, needs}
 use Rattle.decimal.specs.Field.{number}
 use Rattle.sheet_laws.specs.Decisions.{issued-at}
 use Rattle.codec.specs.Parts.{issued-short}

@@ -1,11 +1,5 @@
 -- The part of the line comes back as the new line, and nothing else was lent.
-use Prim.Native.Nat.{ℕ, _+_, _-_, _*_, _≤_}
-use mathlib.Core.Path.{_≡_, refl, sym, ap, _∙_}
-use mathlib.Core.Bool.{false}
-use mathlib.Core.List.{[], _∷_}
-use native.Mathlib.Omega.{arith}
-use lib.ListN.{length, length-take, length-drop}
-use borrow.Author.Needs.{needs}
+use Rattle.lists.specs.Basics.{_≡_, refl, sym, ap, _∙_, ℕ, _+_, _-_, _*_, _≤_, false, [], _∷_, length, length-take, length-drop, arith, needs}
 use Rattle.model.specs.Layouts.{layout, lineLayout, coordinatorBytes}
 use Rattle.model.specs.Lines.{lineText}
 use Rattle.sheet_laws.specs.Lines.{lineBytes}

@@ -1,11 +1,5 @@
 -- The first four bytes come back as the new count, and nothing else was lent.
-use mathlib.Core.Path.{_≡_}
-use mathlib.Core.Bool.{false}
-use native.Mathlib.Omega.{arith}
-use lib.ListN.{length, length-take}
-use lib.Dec.{leb}
-use borrow.Author.Tests.{lt-leb}
-use borrow.Author.Needs.{needs}
+use Rattle.lists.specs.Basics.{_≡_, leb, false, length, length-take, arith, lt-leb, needs}
 use Rattle.codec.specs.Parts.{count-part}
 use Rattle.codec.proofs.coordinator.set_issued.Statement.{statement}
 use Rattle.codec.proofs.coordinator.set_issued.Tie as tie

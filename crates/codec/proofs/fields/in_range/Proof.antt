@@ -1,5 +1,5 @@
 -- The code is the definition.
-use borrow.Author.Needs.{needs}
+use Rattle.lists.specs.Basics.{needs}
 use Rattle.model.specs.Lines.{inRange}
 use Rattle.codec.proofs.fields.in_range.Statement.{statement}
 use Rattle.codec.proofs.fields.in_range.Tie as tie

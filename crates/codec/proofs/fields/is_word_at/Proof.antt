@@ -1,9 +1,6 @@
 -- The ten bytes that are compared are the whole word.
-use mathlib.Core.Path.{ap, _∙_}
-use native.Mathlib.Omega.{arith}
+use Rattle.lists.specs.Basics.{ap, _∙_, take, drop, arith, needs}
 use lib.Seq.{take-all}
-use lib.ListN.{take, drop}
-use borrow.Author.Needs.{needs}
 use Rattle.lists.specs.Bytes.{eqList}
 use Rattle.model.specs.Layouts.{wordAt}
 use Rattle.sheet_laws.specs.Fields.{length-wordAt}

@@ -1,5 +1,5 @@
 -- By what was read.
-use borrow.Author.Needs.{needs}
+use Rattle.lists.specs.Basics.{needs}
 use Rattle.decimal.specs.Field.{number}
 use Rattle.codec.proofs.fields.number_of.Statement.{statement}
 use Rattle.codec.proofs.fields.number_of.Tie as tie

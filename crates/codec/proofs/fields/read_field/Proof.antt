@@ -1,6 +1,5 @@
 -- By the kind: a figure is read as decimal, any other as one of its words.
-use mathlib.Core.Path.{refl, _∙_}
-use borrow.Author.Needs.{needs}
+use Rattle.lists.specs.Basics.{refl, _∙_, needs}
 use Rattle.codec.specs.Turns.{read-figure, read-a-word}
 use Rattle.codec.proofs.fields.read_field.Statement.{statement}
 use Rattle.codec.proofs.fields.read_field.Tie as tie

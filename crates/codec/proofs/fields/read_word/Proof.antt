@@ -1,9 +1,5 @@
 -- The words from i on are searched as the whole set is: none before i was met.
-use Prim.Native.Nat.{_-_, _≤_}
-use mathlib.Core.Path.{_≡_, sym, _∙_}
-use native.Mathlib.Omega.{arith}
-use lib.ListN.{length, drop}
-use borrow.Author.Needs.{needs}
+use Rattle.lists.specs.Basics.{_≡_, sym, _∙_, _-_, _≤_, length, drop, arith, needs}
 use Rattle.model.specs.Layouts.{words}
 use Rattle.model.specs.Lines.{wordFrom}
 use Rattle.codec.specs.Turns.{word-met, word-missed, word-none}

@@ -1,6 +1,5 @@
 -- By the kind: a figure is written as decimal, any other as its word.
-use mathlib.Core.Path.{refl, _∙_}
-use borrow.Author.Needs.{needs}
+use Rattle.lists.specs.Basics.{refl, _∙_, needs}
 use Rattle.codec.specs.Turns.{write-figure, write-a-word}
 use Rattle.codec.proofs.fields.write_field.Statement.{statement}
 use Rattle.codec.proofs.fields.write_field.Tie as tie

@@ -1,6 +1,5 @@
 -- The part of the word that is written is its last bytes, as many as the field has columns.
-use mathlib.Core.Path.{ap, _∙_}
-use borrow.Author.Needs.{needs}
+use Rattle.lists.specs.Basics.{ap, _∙_, needs}
 use Rattle.decimal.specs.Word.{putWord}
 use Rattle.codec.specs.Turns.{word-part}
 use Rattle.codec.proofs.fields.write_word.Statement.{statement}

@@ -1,5 +1,5 @@
 -- By the layout.
-use borrow.Author.Needs.{needs}
+use Rattle.lists.specs.Basics.{needs}
 use Rattle.model.specs.Layouts.{layout}
 use Rattle.codec.proofs.layouts.column.Statement.{statement}
 use Rattle.codec.proofs.layouts.column.Tie as tie

@@ -1,5 +1,5 @@
 -- By the kind.
-use borrow.Author.Needs.{needs}
+use Rattle.lists.specs.Basics.{needs}
 use Rattle.model.specs.Layouts.{words}
 use Rattle.codec.proofs.layouts.count.Statement.{statement}
 use Rattle.codec.proofs.layouts.count.Tie as tie

@@ -1,10 +1,6 @@
 -- The first five columns are those of a record line, and past them there is none.
-use Prim.Native.Nat.{_≤_}
-use mathlib.Core.Path.{sym, _∙_}
-use native.Mathlib.Omega.{arith}
-use lib.ListN.{List·getD-eq-default}
+use Rattle.lists.specs.Basics.{sym, _∙_, _≤_, List·getD-eq-default, arith, needs}
 use lib.Seq.{getD-take}
-use borrow.Author.Needs.{needs}
 use Rattle.model.specs.Layouts.{noColumn, recordLayout, keyLayout}
 use Rattle.codec.proofs.layouts.key_column.Statement.{statement}
 use Rattle.codec.proofs.layouts.key_column.Tie as tie

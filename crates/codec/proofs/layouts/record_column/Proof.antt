@@ -1,8 +1,5 @@
 -- By the place: at each of its columns the layout has that column, and past them none.
-use Prim.Native.Nat.{_≤_}
-use mathlib.Core.Path.{sym}
-use native.Mathlib.Omega.{arith}
-use lib.ListN.{List·getD-eq-default}
+use Rattle.lists.specs.Basics.{sym, _≤_, List·getD-eq-default, arith}
 use Rattle.model.specs.Layouts.{noColumn, recordLayout}
 use Rattle.codec.specs.Turns.{above}
 use Rattle.codec.proofs.layouts.record_column.Statement.{statement}

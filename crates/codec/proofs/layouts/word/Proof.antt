@@ -1,10 +1,6 @@
 -- By the kind and the number; past the last word there are spaces.
-use Prim.Native.Nat.{_≤_}
-use mathlib.Core.Path.{sym}
-use native.Mathlib.Omega.{arith}
-use lib.ListN.{List·getD-eq-default}
-use borrow.Author.Needs.{needs}
-use Rattle.types.specs.declared.Kind.the-variants.{StateWord, DecisionWord, UnitLetter}
+use Rattle.lists.specs.Basics.{sym, _≤_, List·getD-eq-default, arith, needs}
+use Rattle.model.specs.Types.{StateWord, DecisionWord, UnitLetter}
 use Rattle.lists.specs.Bytes.{bytes}
 use Rattle.model.specs.Layouts.{words}
 use Rattle.codec.proofs.layouts.word.Statement.{statement}

@@ -1,9 +1,5 @@
 -- Fields before i are in the row, and the bytes from `at` on are those of the others.
-use Prim.Native.Nat.{_-_}
-use mathlib.Core.Path.{_≡_, ap, _∙_}
-use native.Mathlib.Omega.{arith}
-use lib.ListN.{length}
-use borrow.Author.Needs.{needs}
+use Rattle.lists.specs.Basics.{_≡_, ap, _∙_, _-_, length, arith, needs}
 use Rattle.decimal.specs.Field.{number}
 use Rattle.model.specs.Layouts.{layout}
 use Rattle.codec.specs.Rows.{ReadTo, read-first, field-ends, read-next, read-last}

@@ -1,10 +1,5 @@
 -- The numbers from i on are in range exactly if all are: none before i was out of range.
-use Prim.Native.Nat.{_-_}
-use mathlib.Core.Path.{_≡_, sym, _∙_}
-use native.Mathlib.Omega.{arith}
-use lib.ListN.{length}
-use borrow.Author.Tests.{not-true, not-false}
-use borrow.Author.Needs.{needs}
+use Rattle.lists.specs.Basics.{_≡_, sym, _∙_, _-_, length, arith, not-true, not-false, needs}
 use Rattle.model.specs.Layouts.{layout}
 use Rattle.codec.specs.Rows.{GoodTo, good-first, good-next, good-not, good-last}
 use Rattle.codec.proofs.lines.row_good.Statement.{statement}

@@ -1,9 +1,5 @@
 -- Fields before i are in the line, and the others follow; LF ends it.
-use Prim.Native.Nat.{_-_}
-use mathlib.Core.Path.{_≡_}
-use native.Mathlib.Omega.{arith}
-use lib.ListN.{length, length-take, length-drop, length-set}
-use borrow.Author.Needs.{needs}
+use Rattle.lists.specs.Basics.{_≡_, _-_, length, length-take, length-drop, length-set, arith, needs}
 use Rattle.model.specs.Layouts.{layout}
 use Rattle.codec.specs.Rows.{WrittenTo, write-first, field-ends, write-next, write-last, column-wide}
 use Rattle.codec.proofs.lines.write_row.Statement.{statement}

@@ -1,7 +1,5 @@
 -- The array comes back as the image's bytes, which have its length.
-use mathlib.Core.Path.{refl}
-use native.Mathlib.Omega.{arith}
-use borrow.Author.Needs.{needs}
+use Rattle.lists.specs.Basics.{refl, arith, needs}
 use Rattle.model.specs.Layouts.{offset, recordLayout, imageLayout, imageBytes}
 use Rattle.codec.specs.Parts.{bytes-copied}
 use Rattle.codec.proofs.parts.image_bytes.Statement.{statement}

@@ -1,5 +1,5 @@
 -- The constants are the layout's offsets, by computation.
-use borrow.Author.Needs.{needs}
+use Rattle.lists.specs.Basics.{needs}
 use Rattle.model.specs.Layouts.{offset, recordLayout, imageLayout}
 use Rattle.codec.proofs.parts.image_place.Statement.{statement}
 use Rattle.codec.proofs.parts.image_place.Tie as tie

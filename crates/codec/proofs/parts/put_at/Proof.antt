@@ -1,5 +1,5 @@
 -- The part comes back as the text, which has its length.
-use borrow.Author.Needs.{needs}
+use Rattle.lists.specs.Basics.{needs}
 use Rattle.codec.specs.Parts.{text-over}
 use Rattle.codec.proofs.parts.put_at.Statement.{statement}
 use Rattle.codec.proofs.parts.put_at.Tie as tie

@@ -1,5 +1,5 @@
 -- The constant is the text of zeros, by computation.
-use borrow.Author.Needs.{needs}
+use Rattle.lists.specs.Basics.{needs}
 use Rattle.decimal.specs.Field.{ahead, fieldText}
 use Rattle.model.specs.Layouts.{offset, recordLayout}
 use Rattle.model.specs.Lines.{fieldBytes}

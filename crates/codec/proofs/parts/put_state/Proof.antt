@@ -1,8 +1,7 @@
 -- The text that is put is the word of the state's number.
-use mathlib.Core.Path.{ap, _∙_}
-use borrow.Author.Needs.{needs}
+use Rattle.lists.specs.Basics.{ap, _∙_, needs}
 use Rattle.lists.specs.Pieces.{over}
-use Rattle.types.specs.declared.Kind.the-variants.{StateWord}
+use Rattle.model.specs.Types.{StateWord}
 use Rattle.model.specs.Layouts.{offset, recordLayout, recordOffset, stateField, wordAt}
 use Rattle.codec.proofs.parts.put_state.Statement.{statement}
 use Rattle.codec.proofs.parts.put_state.Tie as tie

@@ -1,5 +1,5 @@
 -- The part comes back as the figure, as wide as the part.
-use borrow.Author.Needs.{needs}
+use Rattle.lists.specs.Basics.{needs}
 use Rattle.codec.specs.Parts.{figure-over}
 use Rattle.codec.proofs.parts.write_at.Statement.{statement}
 use Rattle.codec.proofs.parts.write_at.Tie as tie

@@ -1,8 +1,5 @@
 -- Four figures are written one behind another, which is the image's text.
-use Prim.Native.Nat.{_+_}
-use mathlib.Core.Path.{ap, _∙_}
-use native.Mathlib.Omega.{arith}
-use borrow.Author.Needs.{needs}
+use Rattle.lists.specs.Basics.{ap, _∙_, _+_, arith, needs}
 use Rattle.model.specs.Layouts.{offset, recordLayout, imageField}
 use Rattle.sheet_laws.specs.Changed.{image-written, figureOver}
 use Rattle.codec.proofs.parts.write_image.Statement.{statement}

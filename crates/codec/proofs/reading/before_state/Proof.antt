@@ -1,8 +1,5 @@
 -- The figure is the version of the image before: 0 or not.
-use mathlib.Core.Path.{refl, sym, _∙_}
-use native.Mathlib.Omega.{arith}
-use borrow.Author.Tests.{eq-eqb, ne-eqb}
-use borrow.Author.Needs.{needs}
+use Rattle.lists.specs.Basics.{refl, sym, _∙_, arith, eq-eqb, ne-eqb, needs}
 use Rattle.model.specs.Layouts.{beforeField, recordLayout, offset}
 use Rattle.model.specs.Records.{recordNumbers, keyNumbers, imageNumbers}
 use Rattle.sheet_laws.specs.Singles.{figure-told}

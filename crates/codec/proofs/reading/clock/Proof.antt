@@ -1,7 +1,5 @@
 -- The figure is that of the clock's field.
-use mathlib.Core.Path.{refl}
-use native.Mathlib.Omega.{arith}
-use borrow.Author.Needs.{needs}
+use Rattle.lists.specs.Basics.{refl, arith, needs}
 use Rattle.model.specs.Layouts.{clockField, recordLayout, offset}
 use Rattle.model.specs.Records.{recordNumbers, keyNumbers, imageNumbers}
 use Rattle.sheet_laws.specs.Singles.{figure-told}

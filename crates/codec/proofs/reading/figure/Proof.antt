@@ -1,6 +1,5 @@
 -- The digits at the line's place, or 0 past the end.
-use borrow.Author.Tests.{lt-ltb, le-ltb}
-use borrow.Author.Needs.{needs}
+use Rattle.lists.specs.Basics.{lt-ltb, le-ltb, needs}
 use Rattle.codec.proofs.reading.figure.Statement.{statement}
 use Rattle.codec.proofs.reading.figure.Tie as tie
 

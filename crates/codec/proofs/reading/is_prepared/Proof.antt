@@ -1,10 +1,7 @@
 -- The ten bytes compared tell the state; past the end no line is pending.
-use Prim.Native.Nat.{ℕ, _+_, _*_}
-use mathlib.Core.Path.{sym, ap, _∙_}
-use lib.ListN.{take, drop}
-use borrow.Author.Needs.{needs}
+use Rattle.lists.specs.Basics.{sym, ap, _∙_, ℕ, _+_, _*_, take, drop, needs}
 use Rattle.lists.specs.Bytes.{eqList}
-use Rattle.types.specs.declared.Kind.the-variants.{StateWord}
+use Rattle.model.specs.Types.{StateWord}
 use Rattle.model.specs.Layouts.{recordLayout, offset, wordAt, recordBytes, recordOffset, recordWidth, stateField}
 use Rattle.model.specs.Images.{isPrepared}
 use Rattle.sheet_laws.specs.Singles.{prepared-told}

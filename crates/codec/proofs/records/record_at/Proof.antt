@@ -1,6 +1,5 @@
 -- The row read from the line of the place is that of its record; past the end there is none.
-use mathlib.Core.Path.{sym, _∙_}
-use borrow.Author.Needs.{needs}
+use Rattle.lists.specs.Basics.{sym, _∙_, needs}
 use Rattle.model.specs.Layouts.{layout, recordLayout}
 use Rattle.sheet_laws.specs.Lines.{lineBytes}
 use Rattle.sheet_laws.specs.Places.{record-past}

@@ -1,5 +1,5 @@
 -- Field by field, the state by its number.
-use borrow.Author.Needs.{needs}
+use Rattle.lists.specs.Basics.{needs}
 use Rattle.model.specs.Records.{recordOf, keyOf, imageFrom}
 use Rattle.codec.proofs.records.record_of.Statement.{statement}
 use Rattle.codec.proofs.records.record_of.Tie as tie

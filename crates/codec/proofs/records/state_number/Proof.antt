@@ -1,5 +1,5 @@
 -- By the three states.
-use borrow.Author.Needs.{needs}
+use Rattle.lists.specs.Basics.{needs}
 use Rattle.model.specs.Records.{stateNumber}
 use Rattle.codec.proofs.records.state_number.Statement.{statement}
 use Rattle.codec.proofs.records.state_number.Tie as tie

@@ -1,5 +1,5 @@
 -- By the number: 0, 1, or any other.
-use borrow.Author.Needs.{needs}
+use Rattle.lists.specs.Basics.{needs}
 use Rattle.codec.specs.Parts.{state-else}
 use Rattle.model.specs.Records.{stateOf}
 use Rattle.codec.proofs.records.state_of.Statement.{statement}

@@ -1,10 +1,5 @@
 -- The bytes that are put are those of the image before; the line's own stand where they are.
-use Prim.Native.Nat.{ℕ}
-use mathlib.Core.Path.{_≡_, sym, ap, _∙_}
-use mathlib.Core.Bool.{true, false}
-use mathlib.Core.List.{List}
-use native.Mathlib.Omega.{arith}
-use borrow.Author.Needs.{needs}
+use Rattle.lists.specs.Basics.{_≡_, sym, ap, _∙_, ℕ, true, false, List, arith, needs}
 use Rattle.lists.specs.Pieces.{over-same}
 use Rattle.model.specs.Layouts.{offset, recordLayout, imageLayout, imageField, recordOffset, imageBytes}
 use Rattle.sheet_laws.specs.Changed.{imageOver}

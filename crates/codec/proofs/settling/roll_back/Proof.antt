@@ -1,6 +1,5 @@
 -- Rolled back is settled with the before image and its state.
-use mathlib.Core.Path.{sym}
-use borrow.Author.Needs.{needs}
+use Rattle.lists.specs.Basics.{sym, needs}
 use Rattle.model.specs.Images.{rolledBack}
 use Rattle.codec.proofs.settling.roll_back.Statement.{statement}
 use Rattle.codec.proofs.settling.roll_back.Tie as tie

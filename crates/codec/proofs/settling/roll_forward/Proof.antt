@@ -1,5 +1,5 @@
 -- Rolled forward is settled as COMMITTED with the line's own image.
-use borrow.Author.Needs.{needs}
+use Rattle.lists.specs.Basics.{needs}
 use Rattle.model.specs.Images.{rolledForward}
 use Rattle.codec.proofs.settling.roll_forward.Statement.{statement}
 use Rattle.codec.proofs.settling.roll_forward.Tie as tie

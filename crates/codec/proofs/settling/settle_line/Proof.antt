@@ -1,6 +1,5 @@
 -- Three parts are written one after another, which is the text of the settled record.
-use mathlib.Core.Path.{ap, _∙_}
-use borrow.Author.Needs.{needs}
+use Rattle.lists.specs.Basics.{ap, _∙_, needs}
 use Rattle.sheet_laws.specs.Changed.{nothingText, stateOver, beforeOver, line-settled}
 use Rattle.codec.proofs.settling.settle_line.Statement.{statement}
 use Rattle.codec.proofs.settling.settle_line.Tie as tie

@@ -1,6 +1,5 @@
 -- The part of the line comes back as the text of its record committed.
-use borrow.Author.Tests.{le-ltb}
-use borrow.Author.Needs.{needs}
+use Rattle.lists.specs.Basics.{le-ltb, needs}
 use Rattle.model.specs.Images.{committed}
 use Rattle.codec.specs.Parts.{part-readable, part-changed}
 use Rattle.codec.proofs.writing.commit.Statement.{statement}

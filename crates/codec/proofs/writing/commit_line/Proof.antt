@@ -1,9 +1,6 @@
 -- State word, image and nothing are written, which is the text of the committed record.
-use Prim.Native.Nat.{ℕ}
-use mathlib.Core.Path.{ap, ap₂, _∙_}
-use mathlib.Core.List.{List}
-use borrow.Author.Needs.{needs}
-use Rattle.types.specs.declared.Image.{Image}
+use Rattle.lists.specs.Basics.{ap, ap₂, _∙_, ℕ, List, needs}
+use Rattle.model.specs.Types.{Image}
 use Rattle.sheet_laws.specs.Changed.{imageText, nothingText, imageOver, beforeOver, line-committed}
 use Rattle.codec.proofs.writing.commit_line.Statement.{statement}
 use Rattle.codec.proofs.writing.commit_line.Tie as tie

@@ -1,9 +1,6 @@
 -- The image is moved, then state word, image and clock are written, which is the text of the prepared record.
-use Prim.Native.Nat.{ℕ}
-use mathlib.Core.Path.{ap, ap₂, _∙_}
-use mathlib.Core.List.{List}
-use borrow.Author.Needs.{needs}
-use Rattle.types.specs.declared.Image.{Image}
+use Rattle.lists.specs.Basics.{ap, ap₂, _∙_, ℕ, List, needs}
+use Rattle.model.specs.Types.{Image}
 use Rattle.types.specs.declared.State.the-variants.{Prepared}
 use Rattle.model.specs.Layouts.{recordLayout, offset, clockField}
 use Rattle.sheet_laws.specs.Changed.{imageText, imageOver, stateOver, beforeOver, figureOver, line-prepared}

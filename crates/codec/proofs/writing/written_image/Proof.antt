@@ -1,7 +1,5 @@
 -- The digits make the version, which is low enough for one more.
-use mathlib.Core.Path.{refl}
-use native.Mathlib.Omega.{arith}
-use borrow.Author.Needs.{needs}
+use Rattle.lists.specs.Basics.{refl, arith, needs}
 use Rattle.model.specs.Layouts.{imageField, recordLayout, offset}
 use Rattle.model.specs.Records.{recordNumbers, keyNumbers, imageNumbers}
 use Rattle.sheet_laws.specs.Singles.{line-number, line-figure}

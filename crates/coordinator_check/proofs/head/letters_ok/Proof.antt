@@ -1,6 +1,5 @@
 -- The loop's invariant: the letters before place i are units, or one is not, and the others decide with them.
-use Prim.Native.Nat.{_-_}
-use borrow.Author.Needs.{needs}
+use Rattle.lists.specs.Basics.{_-_, needs}
 use Rattle.coordinator_check.specs.Head.{LettersTo, letters-first, letters-next, letters-last}
 use Rattle.coordinator_check.proofs.head.letters_ok.Statement.{statement}
 use Rattle.coordinator_check.proofs.head.letters_ok.Tie as tie

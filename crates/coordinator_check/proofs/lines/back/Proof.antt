@@ -1,5 +1,5 @@
 -- From the law on the last bytes of a word.
-use borrow.Author.Needs.{needs}
+use Rattle.lists.specs.Basics.{needs}
 use Rattle.coordinator_check.specs.Lines.{back-is}
 use Rattle.coordinator_check.proofs.lines.back.Statement.{statement}
 use Rattle.coordinator_check.proofs.lines.back.Tie as tie

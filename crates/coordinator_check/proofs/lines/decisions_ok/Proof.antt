@@ -1,7 +1,5 @@
 -- The first pass starts after number 0, the second after the head's own count; together they are `decisionsMade`.
-use mathlib.Core.Path.{_∙_}
-use native.Mathlib.Omega.{arith}
-use borrow.Author.Needs.{needs}
+use Rattle.lists.specs.Basics.{_∙_, arith, needs}
 use Rattle.coordinator_check.specs.Sheet.{whole-parts, ready-low, ready-high, columns-zero, too-few, passes-are}
 use Rattle.coordinator_check.proofs.lines.decisions_ok.Statement.{statement}
 use Rattle.coordinator_check.proofs.lines.decisions_ok.Tie as tie

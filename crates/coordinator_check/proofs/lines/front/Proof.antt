@@ -1,5 +1,5 @@
 -- From the law on the first bytes of a word.
-use borrow.Author.Needs.{needs}
+use Rattle.lists.specs.Basics.{needs}
 use Rattle.coordinator_check.specs.Lines.{front-is}
 use Rattle.coordinator_check.proofs.lines.front.Statement.{statement}
 use Rattle.coordinator_check.proofs.lines.front.Tie as tie

@@ -1,6 +1,5 @@
 -- Each return is one case of `gained`.
-use native.Mathlib.Omega.{arith}
-use borrow.Author.Tests.{eq-eqb, ne-eqb}
+use Rattle.lists.specs.Basics.{arith, eq-eqb, ne-eqb}
 use Rattle.coordinator_check.proofs.lines.gain.Statement.{statement}
 use Rattle.coordinator_check.proofs.lines.gain.Tie as tie
 

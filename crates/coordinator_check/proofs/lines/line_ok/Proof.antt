@@ -1,6 +1,5 @@
 -- The code's two numbers are those of the law on a line. Their sum fits, since the table leaves room.
-use native.Mathlib.Omega.{arith}
-use borrow.Author.Needs.{needs}
+use Rattle.lists.specs.Basics.{arith, needs}
 use Rattle.coordinator_check.specs.Lines.{told, line-is}
 use Rattle.coordinator_check.proofs.lines.line_ok.Statement.{statement}
 use Rattle.coordinator_check.proofs.lines.line_ok.Tie as tie

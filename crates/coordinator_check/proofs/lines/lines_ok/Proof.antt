@@ -1,7 +1,5 @@
 -- The loop's invariant: the lines up to k, whose columns are `number`, are good, or one is not, and the others decide with them.
-use Prim.Native.Nat.{_-_}
-use native.Mathlib.Omega.{arith}
-use borrow.Author.Needs.{needs}
+use Rattle.lists.specs.Basics.{_-_, arith, needs}
 use Rattle.coordinator_check.specs.Numbers.{now-fits, next-fits}
 use Rattle.coordinator_check.specs.Passes.{JudgedTo, judged-first, judged-next, judged-last}
 use Rattle.coordinator_check.proofs.lines.lines_ok.Statement.{statement}

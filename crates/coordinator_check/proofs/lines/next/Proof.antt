@@ -1,7 +1,5 @@
 -- Each return is one case of `following`.
-use Prim.Native.Nat.{_*_, _/_, _%_, _^_}
-use borrow.Author.Tests.{lt-ltb, le-ltb, eq-eqb, ne-eqb}
-use borrow.Author.Needs.{needs}
+use Rattle.lists.specs.Basics.{_*_, _/_, _%_, _^_, eq-eqb, ne-eqb, lt-ltb, le-ltb, needs}
 use Rattle.coordinator_check.specs.Numbers.{following}
 use Rattle.coordinator_check.proofs.lines.next.Statement.{statement}
 use Rattle.coordinator_check.proofs.lines.next.Tie as tie

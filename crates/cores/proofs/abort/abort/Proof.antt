@@ -1,13 +1,10 @@
 -- Case by case in the order of the refusals.
-use mathlib.Core.Path.{sym, ap, _∙_}
-use mathlib.Core.Bool.{true, false}
-use borrow.Author.Tests.{not-true, not-false}
+use Rattle.lists.specs.Basics.{sym, ap, _∙_, true, false, not-true, not-false, needs}
 use Rattle.model.specs.Writes.{nothing}
 use Rattle.model.specs.ByteCalls.{sheetsOf}
 use Rattle.admission.specs.Admission.{formed-by}
 use Rattle.cores.specs.Answers.{toReturned, returned-made}
 use Rattle.cores.specs.Aborting.{abort-ill, abort-late, abort-made}
-use borrow.Author.Needs.{needs}
 use Rattle.cores.proofs.abort.abort.Statement.{statement}
 use Rattle.cores.proofs.abort.abort.Tie as tie
 

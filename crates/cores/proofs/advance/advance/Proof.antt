@@ -1,14 +1,11 @@
 -- Case by case in the order of the refusals; an accepted call is the step of its phase.
-use mathlib.Core.Path.{sym, ap, _∙_}
-use mathlib.Core.Bool.{true, false}
-use borrow.Author.Tests.{not-true, not-false}
-use Rattle.types.specs.declared.Decision.{Decision}
+use Rattle.lists.specs.Basics.{sym, ap, _∙_, true, false, not-true, not-false, needs}
+use Rattle.model.specs.Types.{Decision}
 use Rattle.model.specs.ByteCalls.{sheetsOf}
 use Rattle.call_laws.specs.Accepted.{outcome-refused}
 use Rattle.admission.specs.Admission.{formed-by, located-by, admitted-ready}
 use Rattle.cores.specs.Answers.{toReturned}
 use Rattle.cores.specs.Advancing.{forbids, advance-ill, advance-forbidden, step-outcome}
-use borrow.Author.Needs.{needs}
 use Rattle.cores.proofs.advance.advance.Statement.{statement}
 use Rattle.cores.proofs.advance.advance.Tie as tie
 

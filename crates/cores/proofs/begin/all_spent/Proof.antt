@@ -1,7 +1,5 @@
 -- The count is that of the lines after the head.
-use mathlib.Core.Path.{ap}
-use lib.Dec.{eqb}
-use borrow.Author.Needs.{needs}
+use Rattle.lists.specs.Basics.{ap, eqb, needs}
 use Rattle.cores.proofs.begin.all_spent.Statement.{statement}
 use Rattle.cores.proofs.begin.all_spent.Tie as tie
 

@@ -1,13 +1,8 @@
 -- Case by case in the order of the refusals; the count raised in the bytes is the number issued.
-use Prim.Native.Nat.{ℕ, _/_, _+_, _<_}
-use mathlib.Core.Path.{sym, ap, _∙_}
-use native.Mathlib.Omega.{arith}
-use lib.ListN.{length, drop}
-use lib.Dec.{eqb}
+use Rattle.lists.specs.Basics.{sym, ap, _∙_, ℕ, _+_, _/_, _<_, eqb, length, drop, arith, needs}
 use Rattle.model.specs.Coordinator.{coordinatorOf}
 use Rattle.model.specs.Calls.{newTransaction}
 use Rattle.cores.specs.Begins.{begin-spent, number-fits, begin-issues}
-use borrow.Author.Needs.{needs}
 use Rattle.cores.proofs.begin.begin.Statement.{statement}
 use Rattle.cores.proofs.begin.begin.Tie as tie
 

@@ -1,6 +1,6 @@
 -- A refusal beside the transaction of number 0.
 
-use borrow.Author.Needs.{needs}
+use Rattle.lists.specs.Basics.{needs}
 use Rattle.cores.proofs.begin.refusal.Statement.{statement}
 use Rattle.cores.proofs.begin.refusal.Tie as tie
 

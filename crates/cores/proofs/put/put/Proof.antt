@@ -1,10 +1,9 @@
 -- Case by case in the order of the refusals; a key that has a line is put as its entry tells.
-use mathlib.Core.Path.{sym, ap, _∙_}
+use Rattle.lists.specs.Basics.{sym, ap, _∙_, needs}
 use Rattle.model.specs.ByteCalls.{sheetsOf}
 use Rattle.admission.specs.Admission.{opened}
 use Rattle.cores.specs.Answers.{toReturned}
 use Rattle.cores.specs.Putting.{put-away, put-none, put-found}
-use borrow.Author.Needs.{needs}
 use Rattle.cores.proofs.put.put.Statement.{statement}
 use Rattle.cores.proofs.put.put.Tie as tie
 

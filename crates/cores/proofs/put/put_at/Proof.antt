@@ -1,6 +1,5 @@
 -- By the version that was read.
-use mathlib.Core.Path.{sym, ap, _∙_}
-use borrow.Author.Needs.{needs}
+use Rattle.lists.specs.Basics.{sym, ap, _∙_, needs}
 use Rattle.model.specs.Writes.{nothing}
 use Rattle.cores.specs.Answers.{toReturned, returned-made}
 use Rattle.cores.specs.Putting.{put-late, put-made}

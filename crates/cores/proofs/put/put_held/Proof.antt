@@ -1,8 +1,5 @@
 -- Case by case in the order of the refusals.
-use mathlib.Core.Path.{sym, ap, _∙_}
-use native.Mathlib.Omega.{arith}
-use borrow.Author.Tests.{not-true, not-false}
-use borrow.Author.Needs.{needs}
+use Rattle.lists.specs.Basics.{sym, ap, _∙_, arith, not-true, not-false, needs}
 use Rattle.protocol.specs.Held.{held-below}
 use Rattle.cores.specs.Answers.{toReturned}
 use Rattle.cores.specs.Putting.{put-large, put-new, put-over}

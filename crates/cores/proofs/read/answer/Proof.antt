@@ -1,5 +1,5 @@
 -- By what was read.
-use borrow.Author.Needs.{needs}
+use Rattle.lists.specs.Basics.{needs}
 use Rattle.cores.proofs.read.answer.Statement.{statement}
 use Rattle.cores.proofs.read.answer.Tie as tie
 

@@ -1,6 +1,5 @@
 -- The new entry is what the record shows.
-use mathlib.Core.Path.{_∙_, ap₂}
-use borrow.Author.Needs.{needs}
+use Rattle.lists.specs.Basics.{ap₂, _∙_, needs}
 use Rattle.cores.specs.Answers.{fetchedAs}
 use Rattle.cores.proofs.read.hold.Statement.{statement}
 use Rattle.cores.proofs.read.hold.Tie as tie

@@ -1,11 +1,10 @@
 -- Case by case in the order of the refusals; a key that has a line is read there.
-use mathlib.Core.Path.{sym, _∙_}
+use Rattle.lists.specs.Basics.{sym, _∙_, needs}
 use Rattle.model.specs.ByteCalls.{sheetsOf}
 use Rattle.call_laws.specs.Accepted.{outcome-refused}
 use Rattle.admission.specs.Admission.{opened}
 use Rattle.cores.specs.Answers.{toFetched}
 use Rattle.cores.specs.Fetching.{read-away, read-none}
-use borrow.Author.Needs.{needs}
 use Rattle.cores.proofs.read.read.Statement.{statement}
 use Rattle.cores.proofs.read.read.Tie as tie
 

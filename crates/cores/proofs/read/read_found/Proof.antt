@@ -1,9 +1,7 @@
 -- A held key is read from its entry, a new one from its line.
-use mathlib.Core.Path.{sym, _∙_}
-use native.Mathlib.Omega.{arith}
+use Rattle.lists.specs.Basics.{sym, _∙_, arith, needs}
 use Rattle.protocol.specs.Held.{held-below}
 use Rattle.cores.specs.Fetching.{read-few, read-held, new-read, read-found}
-use borrow.Author.Needs.{needs}
 use Rattle.cores.proofs.read.read_found.Statement.{statement}
 use Rattle.cores.proofs.read.read_found.Tie as tie
 

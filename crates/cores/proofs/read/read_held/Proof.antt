@@ -1,7 +1,6 @@
 -- The entry's reading, with the transaction as it came.
-use mathlib.Core.Path.{ap, _∙_}
-use borrow.Author.Needs.{needs}
-use Rattle.types.specs.declared.Reading.{Reading}
+use Rattle.lists.specs.Basics.{ap, _∙_, needs}
+use Rattle.model.specs.Types.{Reading}
 use Rattle.model.specs.Transactions.{reading}
 use Rattle.cores.specs.Answers.{fetchedAs}
 use Rattle.cores.proofs.read.read_held.Statement.{statement}

@@ -1,6 +1,6 @@
 -- By what the visit came to.
 
-use borrow.Author.Needs.{needs}
+use Rattle.lists.specs.Basics.{needs}
 use Rattle.cores.proofs.read.read_met.Statement.{statement}
 use Rattle.cores.proofs.read.read_met.Tie as tie
 

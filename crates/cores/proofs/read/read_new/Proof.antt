@@ -1,8 +1,8 @@
 -- The ninth key is refused; otherwise the line as the visit leaves it is read.
+use Rattle.lists.specs.Basics.{needs}
 use Rattle.call_laws.specs.Accepted.{outcome-refused}
 use Rattle.cores.specs.Answers.{toFetched}
 use Rattle.cores.specs.Fetching.{read-standing, read-full, read-outcome}
-use borrow.Author.Needs.{needs}
 use Rattle.cores.proofs.read.read_new.Statement.{statement}
 use Rattle.cores.proofs.read.read_new.Tie as tie
 

@@ -1,5 +1,5 @@
 -- By what the visit came to.
-use borrow.Author.Needs.{needs}
+use Rattle.lists.specs.Basics.{needs}
 use Rattle.cores.proofs.visit.answer.Statement.{statement}
 use Rattle.cores.proofs.visit.answer.Tie as tie
 

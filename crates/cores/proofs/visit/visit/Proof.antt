@@ -1,12 +1,10 @@
 -- Case by case in the order of the refusals; a line that was found is visited there.
-use mathlib.Core.Path.{sym, _∙_}
-use borrow.Author.Tests.{not-true, not-false}
+use Rattle.lists.specs.Basics.{sym, _∙_, not-true, not-false, needs}
 use Rattle.model.specs.ByteCalls.{sheetsOf}
 use Rattle.call_laws.specs.Accepted.{outcome-refused}
 use Rattle.recover.specs.Recovering.{standing}
 use Rattle.cores.specs.Answers.{toVisited}
 use Rattle.cores.specs.Visiting.{visit-out, visit-none, visit-found}
-use borrow.Author.Needs.{needs}
 use Rattle.cores.proofs.visit.visit.Statement.{statement}
 use Rattle.cores.proofs.visit.visit.Tie as tie
 

@@ -1,6 +1,6 @@
 -- The answer by what the visit came to, with what it wrote.
+use Rattle.lists.specs.Basics.{needs}
 use Rattle.cores.specs.Visiting.{visit-outcome}
-use borrow.Author.Needs.{needs}
 use Rattle.cores.proofs.visit.visit_line.Statement.{statement}
 use Rattle.cores.proofs.visit.visit_line.Tie as tie
 

@@ -1,5 +1,5 @@
 -- The change of a whole group is the model's write.
-use borrow.Author.Needs.{needs}
+use Rattle.lists.specs.Basics.{needs}
 use Rattle.group_writes.specs.Changes.{written}
 use Rattle.group_writes.specs.Ready.{may-back}
 use Rattle.group_writes.proofs.changes.back_group.Statement.{statement}

@@ -1,7 +1,6 @@
 -- By the two cases of whether the entry is of the group.
-use borrow.Author.Tests.{not-true, not-false}
+use Rattle.lists.specs.Basics.{not-true, not-false, needs}
 use Rattle.group_writes.specs.Turns.{turned-not, turned-own}
-use borrow.Author.Needs.{needs}
 use Rattle.group_writes.proofs.changes.change_entry.Statement.{statement}
 use Rattle.group_writes.proofs.changes.change_entry.Tie as tie
 

@@ -1,10 +1,6 @@
 -- The changes that are left make of the lines as they are what all of them make of the lines as they were.
-use Prim.Native.Nat.{_-_}
-use mathlib.Core.Path.{_≡_, refl, sym, ap, _∙_}
-use mathlib.Core.List.{List}
-use native.Mathlib.Omega.{arith}
-use lib.ListN.{length}
-use Rattle.types.specs.declared.Entry.{Entry}
+use Rattle.lists.specs.Basics.{_≡_, refl, sym, ap, _∙_, _-_, List, length, arith, needs}
+use Rattle.model.specs.Types.{Entry}
 use Rattle.model.specs.Records as sheet
 use Rattle.model.specs.Records.{recordsText}
 use Rattle.model.specs.Transactions.{held}
@@ -12,7 +8,6 @@ use Rattle.model.specs.Writes.{linesAfter}
 use Rattle.group_writes.specs.Groups.{group-in}
 use Rattle.group_writes.specs.Changes.{written}
 use Rattle.group_writes.specs.Turns.{leaves, Underway, underway-first, underway-next, underway-last, turn-fits}
-use borrow.Author.Needs.{needs}
 use Rattle.group_writes.proofs.changes.change_group.Statement.{statement}
 use Rattle.group_writes.proofs.changes.change_group.Tie as tie
 

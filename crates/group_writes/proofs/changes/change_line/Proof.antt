@@ -1,7 +1,6 @@
 -- By the effect; a line that the number has not prepared stays, and is its own text.
-use mathlib.Core.Path.{sym, _∙_}
+use Rattle.lists.specs.Basics.{sym, _∙_, needs}
 use Rattle.group_writes.specs.Changes.{changed, line-stays}
-use borrow.Author.Needs.{needs}
 use Rattle.group_writes.proofs.changes.change_line.Statement.{statement}
 use Rattle.group_writes.proofs.changes.change_line.Tie as tie
 

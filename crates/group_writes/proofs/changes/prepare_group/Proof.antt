@@ -1,6 +1,5 @@
 -- The change of a whole group is the model's write.
-use native.Mathlib.Omega.{arith}
-use borrow.Author.Needs.{needs}
+use Rattle.lists.specs.Basics.{arith, needs}
 use Rattle.group_writes.specs.Changes.{written}
 use Rattle.group_writes.specs.Ready.{may-prepare}
 use Rattle.group_writes.proofs.changes.prepare_group.Statement.{statement}

@@ -1,6 +1,6 @@
 -- The definition's two tests, each of one field.
+use Rattle.lists.specs.Basics.{needs}
 use Rattle.model.specs.Images.{preparedBy}
-use borrow.Author.Needs.{needs}
 use Rattle.group_writes.proofs.changes.prepared_by.Statement.{statement}
 use Rattle.group_writes.proofs.changes.prepared_by.Tie as tie
 

@@ -1,6 +1,5 @@
 -- By the two cases of whether the entry is of the group.
-use mathlib.Core.Path.{_∙_}
-use borrow.Author.Tests.{not-true, not-false}
+use Rattle.lists.specs.Basics.{_∙_, not-true, not-false}
 use Rattle.model.specs.Steps.{holds}
 use Rattle.model.specs.ByteCalls.{sheetsOf}
 use Rattle.group_writes.specs.Groups.{other-group, own-group}

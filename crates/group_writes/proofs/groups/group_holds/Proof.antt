@@ -1,8 +1,5 @@
 -- Every entry before i that is of the group holds.
-use Prim.Native.Nat.{_-_}
-use mathlib.Core.Path.{sym, ap, _∙_}
-use mathlib.Core.Bool.{Bool, _||_, not}
-use borrow.Author.Tests.{not-true, not-false}
+use Rattle.lists.specs.Basics.{sym, ap, _∙_, _-_, Bool, not, _||_, not-true, not-false, needs}
 use Rattle.lists.specs.Each.{all}
 use Rattle.model.specs.Transactions.{held}
 use Rattle.model.specs.Steps.{holds}
@@ -10,7 +7,6 @@ use Rattle.model.specs.ByteCalls.{sheetsOf}
 use Rattle.protocol.specs.Held.{PassedTo, entryAt, pass-first, all-unmet, all-next, all-last}
 use Rattle.group_writes.specs.Groups.{holdsInGroup, group-all}
 use Rattle.group_writes.specs.Ready.{accepted}
-use borrow.Author.Needs.{needs}
 use Rattle.group_writes.proofs.groups.group_holds.Statement.{statement}
 use Rattle.group_writes.proofs.groups.group_holds.Tie as tie
 

@@ -1,8 +1,8 @@
 -- The three tests are those of the line of the key.
+use Rattle.lists.specs.Basics.{needs}
 use Rattle.model.specs.Images.{unchanged}
 use Rattle.model.specs.ByteCalls.{sheetsOf}
 use Rattle.group_writes.specs.Lookup.{holds-at}
-use borrow.Author.Needs.{needs}
 use Rattle.group_writes.proofs.lines.holds.Statement.{statement}
 use Rattle.group_writes.proofs.lines.holds.Tie as tie
 

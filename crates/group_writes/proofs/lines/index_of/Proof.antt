@@ -1,8 +1,6 @@
 -- By the two cases of what is held.
-use mathlib.Core.Path.{sym, _∙_}
-use native.Mathlib.Omega.{arith}
+use Rattle.lists.specs.Basics.{sym, _∙_, arith, needs}
 use Rattle.protocol.specs.Held.{held-below}
-use borrow.Author.Needs.{needs}
 use Rattle.group_writes.proofs.lines.index_of.Statement.{statement}
 use Rattle.group_writes.proofs.lines.index_of.Tie as tie
 

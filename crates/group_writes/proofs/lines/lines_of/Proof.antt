@@ -1,11 +1,6 @@
 -- Of the entries before i each has its index, and all of them have lines if so far all have.
-use Prim.Native.Nat.{_-_}
-use mathlib.Core.Path.{_≡_, refl, sym, ap, _∙_}
-use mathlib.Core.Bool.{_&&_, and-true}
-use mathlib.Core.List.{List}
-use native.Mathlib.Omega.{arith}
-use lib.ListN.{length, length-set}
-use Rattle.types.specs.declared.Entry.{Entry}
+use Rattle.lists.specs.Basics.{_≡_, refl, sym, ap, _∙_, _-_, _&&_, and-true, List, length, length-set, arith, needs}
+use Rattle.model.specs.Types.{Entry}
 use Rattle.lists.specs.Each as Each
 use Rattle.model.specs.Records as sheet
 use Rattle.model.specs.Records.{hasLine}
@@ -13,7 +8,6 @@ use Rattle.model.specs.WellFormed.{linesHeld}
 use Rattle.sheet_laws.specs.Places.{length-records}
 use Rattle.protocol.specs.Held.{PassedTo, pass-first, pass-last}
 use Rattle.group_writes.specs.Located.{indicesOf, indices-next, lines-next}
-use borrow.Author.Needs.{needs}
 use Rattle.group_writes.proofs.lines.lines_of.Statement.{statement}
 use Rattle.group_writes.proofs.lines.lines_of.Tie as tie
 

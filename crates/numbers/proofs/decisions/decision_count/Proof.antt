@@ -1,7 +1,5 @@
 -- By whether there is a whole head.
-use native.Mathlib.Omega.{arith}
-use lib.ListN.{length-drop}
-use borrow.Author.Needs.{needs}
+use Rattle.lists.specs.Basics.{length-drop, arith, needs}
 use Rattle.numbers.proofs.decisions.decision_count.Statement.{statement}
 use Rattle.numbers.proofs.decisions.decision_count.Tie as tie
 

@@ -1,8 +1,5 @@
 -- One turn judges the decision at i; what is left to judge from i on decides the whole.
-use Prim.Native.Nat.{_-_}
-use mathlib.Core.Path.{_≡_, refl}
-use lib.ListN.{length}
-use borrow.Author.Needs.{needs}
+use Rattle.lists.specs.Basics.{_≡_, refl, _-_, length, needs}
 use Rattle.numbers.specs.Decisions.{PassedTo, pass-first, pass-bad, pass-next, pass-last}
 use Rattle.numbers.proofs.decisions.decisions_pass.Statement.{statement}
 use Rattle.numbers.proofs.decisions.decisions_pass.Tie as tie

@@ -1,9 +1,5 @@
 -- One turn reads line i and stores its decision: those before i are there.
-use Prim.Native.Nat.{_-_, _/_}
-use mathlib.Core.Path.{_≡_, refl}
-use native.Mathlib.Omega.{arith}
-use lib.ListN.{length, length-take, length-drop}
-use borrow.Author.Needs.{needs}
+use Rattle.lists.specs.Basics.{_≡_, refl, _-_, _/_, length, length-take, length-drop, arith, needs}
 use Rattle.model.specs.Layouts.{layout, lineLayout}
 use Rattle.sheet_laws.specs.Lines.{lineBytes}
 use Rattle.numbers.specs.DecisionFills.{ReadTo, read-first, read-room, read-next, read-last}

@@ -1,9 +1,5 @@
 -- One turn writes line i over its part of the target: those before i are there.
-use Prim.Native.Nat.{_+_, _-_, _*_}
-use mathlib.Core.Path.{_≡_, refl, _∙_}
-use native.Mathlib.Omega.{arith}
-use lib.ListN.{length, length-take, length-drop}
-use borrow.Author.Needs.{needs}
+use Rattle.lists.specs.Basics.{_≡_, refl, _∙_, _+_, _-_, _*_, length, length-take, length-drop, arith, needs}
 use Rattle.model.specs.Layouts.{layout, lineLayout}
 use Rattle.sheet_laws.specs.Lines.{lineBytes}
 use Rattle.numbers.specs.DecisionFills.{WrittenTo, written-first, written-room, written-next, written-last}

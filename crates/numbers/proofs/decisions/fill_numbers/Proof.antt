@@ -1,10 +1,5 @@
 -- The head comes back as its row, then the rest of the target as the decisions: both make the whole.
-use mathlib.Core.List.{_++_, map, List}
-use mathlib.Core.Path.{ap₂, _≡_, sym, ap, _∙_}
-use Prim.Native.Nat.{ℕ, _/_}
-use native.Mathlib.Omega.{arith}
-use lib.ListN.{length, drop, length-take, length-drop}
-use borrow.Author.Needs.{needs}
+use Rattle.lists.specs.Basics.{_≡_, sym, ap, ap₂, _∙_, ℕ, _/_, List, _++_, map, length, drop, length-take, length-drop, arith, needs}
 use Rattle.model.specs.Lines.{linesOf}
 use Rattle.numbers.specs.DecisionFills.{decisionField, numbersIn}
 use Rattle.lists.specs.Fill.{front-same, rest-part, front-length, front-rest, front-back}

@@ -1,10 +1,5 @@
 -- The head comes back as its line, then the rest of the target as the lines: both make the whole.
-use mathlib.Core.Path.{ap₂, _≡_, sym, ap, _∙_}
-use Prim.Native.Nat.{ℕ, _*_}
-use mathlib.Core.List.{_++_, List}
-use native.Mathlib.Omega.{arith}
-use lib.ListN.{length, drop, length-take, length-drop}
-use borrow.Author.Needs.{needs}
+use Rattle.lists.specs.Basics.{_≡_, sym, ap, ap₂, _∙_, ℕ, _*_, List, _++_, length, drop, length-take, length-drop, arith, needs}
 use Rattle.lists.specs.Each.{joined}
 use Rattle.model.specs.Layouts.{layout, headLayout}
 use Rattle.sheet_laws.specs.Lines.{lineBytes}

@@ -1,8 +1,5 @@
 -- A length of 15 + n * 15 is whole lines, and one more than n of them.
-use mathlib.Core.Path.{ap, _∙_}
-use lib.ListN.{length, drop}
-use lib.Dec.{eqb}
-use borrow.Author.Needs.{needs}
+use Rattle.lists.specs.Basics.{ap, _∙_, eqb, length, drop, needs}
 use Rattle.numbers.specs.Decisions.{room-short, room-broken, room-lines}
 use Rattle.numbers.proofs.decisions.has_room.Statement.{statement}
 use Rattle.numbers.proofs.decisions.has_room.Tie as tie

@@ -1,10 +1,5 @@
 -- The tests in the order in which the acceptance of numbers lists them, up to the first that fails.
-use mathlib.Core.Path.{ap₂, _≡_, sym, _∙_}
-use mathlib.Core.Bool.{true, false}
-use native.Mathlib.Omega.{arith}
-use lib.ListN.{take, length-take}
-use borrow.Author.Tests.{le-leb, lt-leb, not-true, not-false}
-use borrow.Author.Needs.{needs}
+use Rattle.lists.specs.Basics.{_≡_, sym, ap₂, _∙_, true, false, take, length-take, arith, le-leb, lt-leb, not-true, not-false, needs}
 use Rattle.lists.specs.Fill.{rest-part}
 use Rattle.model.specs.Layouts.{layout, headLayout}
 use Rattle.model.specs.Lines.{rowGood}

@@ -1,10 +1,5 @@
 -- By the conditions in order; where none holds, what was filled is what the coordinator's numbers are.
-use Prim.Native.Nat.{ℕ, _+_}
-use mathlib.Core.Path.{sym, ap, _∙_}
-use native.Mathlib.Omega.{arith}
-use lib.ListN.{length-drop}
-use borrow.Author.Tests.{not-true, not-false}
-use borrow.Author.Needs.{needs}
+use Rattle.lists.specs.Basics.{sym, ap, _∙_, ℕ, _+_, length-drop, arith, not-true, not-false, needs}
 use Rattle.sheet_laws.specs.Decisions.{accepted-length}
 use Rattle.numbers.specs.DecisionAnswers.{read-misfit, read-bad, read-done}
 use Rattle.numbers.proofs.decisions.read_coordinator.Statement.{statement}

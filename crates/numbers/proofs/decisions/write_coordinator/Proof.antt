@@ -1,9 +1,5 @@
 -- By the conditions in order; where none holds, what was filled is the coordinator's text.
-use borrow.Author.Tests.{eqb-true, not-true, not-false}
-use Prim.Native.Nat.{_+_, _*_}
-use mathlib.Core.Path.{sym, _∙_}
-use lib.ListN.{length, drop}
-use borrow.Author.Needs.{needs}
+use Rattle.lists.specs.Basics.{sym, _∙_, _+_, _*_, length, drop, eqb-true, not-true, not-false, needs}
 use Rattle.numbers.specs.DecisionAnswers.{sized, write-misfit, write-bad, write-done}
 use Rattle.numbers.proofs.decisions.write_coordinator.Statement.{statement}
 use Rattle.numbers.proofs.decisions.write_coordinator.Tie as tie

@@ -1,9 +1,5 @@
 -- Lines before i are in the target, and those from i on are still to come.
-use Prim.Native.Nat.{_+_, _-_, _*_, _/_}
-use mathlib.Core.Path.{_≡_, refl, _∙_}
-use native.Mathlib.Omega.{arith}
-use lib.ListN.{length, length-take, length-drop}
-use borrow.Author.Needs.{needs}
+use Rattle.lists.specs.Basics.{_≡_, refl, _∙_, _+_, _-_, _*_, _/_, length, length-take, length-drop, arith, needs}
 use Rattle.model.specs.Layouts.{layout, recordLayout, recordBytes}
 use Rattle.model.specs.Lines.{lineText}
 use Rattle.model.specs.Records.{rows}

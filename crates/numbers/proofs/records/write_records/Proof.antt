@@ -1,7 +1,5 @@
 -- Case by case in the order of the refusals.
-use mathlib.Core.Path.{sym, _∙_}
-use borrow.Author.Tests.{not-true, not-false}
-use borrow.Author.Needs.{needs}
+use Rattle.lists.specs.Basics.{sym, _∙_, not-true, not-false, needs}
 use Rattle.numbers.specs.Answers.{write-bad, write-misfit, write-done}
 use Rattle.numbers.proofs.records.write_records.Statement.{statement}
 use Rattle.numbers.proofs.records.write_records.Tie as tie

@@ -1,7 +1,6 @@
 -- The two rows lent are row i and the next; the last row comes before none.
-use mathlib.Core.Path.{ap₂, ap, _∙_}
-use borrow.Author.Needs.{needs}
-use Rattle.types.specs.declared.Record.{Record}
+use Rattle.lists.specs.Basics.{ap, ap₂, _∙_, needs}
+use Rattle.model.specs.Types.{Record}
 use Rattle.model.specs.Records.{recordOf, keyLess}
 use Rattle.numbers.specs.RowsPass.{row-part, row-part-next, before-none, before-next}
 use Rattle.numbers.proofs.rows.rises.Statement.{statement}

@@ -1,7 +1,5 @@
 -- The row lent is row i: in range, and its record keeps the rule of its state.
-use mathlib.Core.Path.{sym, ap, _∙_}
-use borrow.Author.Tests.{not-true, not-false}
-use borrow.Author.Needs.{needs}
+use Rattle.lists.specs.Basics.{sym, ap, _∙_, not-true, not-false, needs}
 use Rattle.model.specs.Layouts.{layout, recordLayout}
 use Rattle.model.specs.Lines.{rowGood}
 use Rattle.model.specs.Records.{recordOf, stateRule}

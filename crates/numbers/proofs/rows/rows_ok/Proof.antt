@@ -1,6 +1,5 @@
 -- The count is asked first, then the rows.
-use borrow.Author.Tests.{le-leb, lt-leb, eq-eqb, ne-eqb}
-use borrow.Author.Needs.{needs}
+use Rattle.lists.specs.Basics.{eq-eqb, ne-eqb, le-leb, lt-leb, needs}
 use Rattle.numbers.specs.RowsPass.{accepted-rows}
 use Rattle.numbers.proofs.rows.rows_ok.Statement.{statement}
 use Rattle.numbers.proofs.rows.rows_ok.Tie as tie

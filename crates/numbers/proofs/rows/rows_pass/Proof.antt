@@ -1,9 +1,5 @@
 -- The rows from i on pass exactly if all do: none before i was bad or out of order.
-use Prim.Native.Nat.{_-_, _/_}
-use mathlib.Core.Path.{_≡_, refl, sym, _∙_}
-use lib.ListN.{length}
-use borrow.Author.Tests.{not-true, not-false}
-use borrow.Author.Needs.{needs}
+use Rattle.lists.specs.Basics.{_≡_, refl, sym, _∙_, _-_, _/_, length, not-true, not-false, needs}
 use Rattle.numbers.specs.RowsPass.{JudgedTo, judge-first, judge-bad, judge-late, judge-next, judge-last}
 use Rattle.numbers.proofs.rows.rows_pass.Statement.{statement}
 use Rattle.numbers.proofs.rows.rows_pass.Tie as tie

@@ -1,5 +1,5 @@
 -- The code is the definition, with the images judged by `is_zero`.
-use borrow.Author.Needs.{needs}
+use Rattle.lists.specs.Basics.{needs}
 use Rattle.model.specs.Records.{absentRule}
 use Rattle.numbers.proofs.rules.absent_rule.Statement.{statement}
 use Rattle.numbers.proofs.rules.absent_rule.Tie as tie

@@ -1,5 +1,5 @@
 -- The code is the definition.
-use borrow.Author.Needs.{needs}
+use Rattle.lists.specs.Basics.{needs}
 use Rattle.model.specs.Records.{isZero}
 use Rattle.numbers.proofs.rules.is_zero.Statement.{statement}
 use Rattle.numbers.proofs.rules.is_zero.Tie as tie

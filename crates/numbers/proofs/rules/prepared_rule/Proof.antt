@@ -1,5 +1,5 @@
 -- The code is the definition, with the before image judged by `is_zero`.
-use borrow.Author.Needs.{needs}
+use Rattle.lists.specs.Basics.{needs}
 use Rattle.model.specs.Records.{preparedRule}
 use Rattle.numbers.proofs.rules.prepared_rule.Statement.{statement}
 use Rattle.numbers.proofs.rules.prepared_rule.Tie as tie

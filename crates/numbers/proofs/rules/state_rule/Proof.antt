@@ -1,7 +1,6 @@
 -- By the state.
-use mathlib.Core.Path.{sym, ap, _∙_}
-use borrow.Author.Needs.{needs}
-use Rattle.types.specs.declared.State.{State}
+use Rattle.lists.specs.Basics.{sym, ap, _∙_, needs}
+use Rattle.model.specs.Types.{State}
 use Rattle.model.specs.Records.{byState, absentRule, committedRule, preparedRule}
 use Rattle.numbers.proofs.rules.state_rule.Statement.{statement}
 use Rattle.numbers.proofs.rules.state_rule.Tie as tie

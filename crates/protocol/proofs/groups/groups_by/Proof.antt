@@ -1,10 +1,5 @@
 -- What each call leaves, one after another.
-use Prim.Native.Nat.{ℕ, _-_}
-use mathlib.Core.Path.{_≡_, ap, ap₂, _∙_}
-use mathlib.Core.List.{_++_}
-use native.Mathlib.Omega.{arith}
-use lib.ListN.{length, drop, length-append, length-drop}
-use borrow.Author.Needs.{needs}
+use Rattle.lists.specs.Basics.{_≡_, ap, ap₂, _∙_, ℕ, _-_, _++_, length, drop, length-append, length-drop, arith, needs}
 use Rattle.protocol.specs.GroupsIn.{noGroups}
 use Rattle.protocol.specs.Scopes.{countLasts, placesOf, length-each, lent-front}
 use Rattle.protocol.proofs.groups.groups_by.Statement.{statement}

@@ -1,8 +1,5 @@
 -- The numbers lent are those of the entries in use, and what is found by them are the groups.
-use mathlib.Core.Path.{ap, _∙_}
-use native.Mathlib.Omega.{arith}
-use lib.ListN.{length, length-append, length-drop}
-use borrow.Author.Needs.{needs}
+use Rattle.lists.specs.Basics.{ap, _∙_, length, length-append, length-drop, arith, needs}
 use Rattle.protocol.specs.Held.{has-room, length-mapped}
 use Rattle.protocol.specs.Units.{unitsIn}
 use Rattle.protocol.specs.Scopes.{putFields, length-rows, lent-front}

@@ -1,6 +1,5 @@
 -- What added to the earlier reading wraps to the later one is what has elapsed.
-use native.Mathlib.Omega.{arith}
-use borrow.Author.Needs.{needs}
+use Rattle.lists.specs.Basics.{arith, needs}
 use Rattle.protocol.specs.Clocks.{elapsed-is}
 use Rattle.protocol.proofs.images.elapsed.Statement.{statement}
 use Rattle.protocol.proofs.images.elapsed.Tie as tie

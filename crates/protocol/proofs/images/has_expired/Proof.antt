@@ -1,5 +1,5 @@
 -- The code is the definition, with the ticks counted by `elapsed`.
-use borrow.Author.Needs.{needs}
+use Rattle.lists.specs.Basics.{needs}
 use Rattle.protocol.proofs.images.has_expired.Statement.{statement}
 use Rattle.protocol.proofs.images.has_expired.Tie as tie
 

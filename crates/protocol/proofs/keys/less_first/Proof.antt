@@ -1,6 +1,5 @@
 -- The code is the comparison of five numbers, one after another.
-use lib.ListN.{getD}
-use borrow.Author.Needs.{needs}
+use Rattle.lists.specs.Basics.{getD, needs}
 use Rattle.protocol.specs.Keys.{first-five, less-first}
 use Rattle.protocol.proofs.keys.less_first.Statement.{statement}
 use Rattle.protocol.proofs.keys.less_first.Tie as tie

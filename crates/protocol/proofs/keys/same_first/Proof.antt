@@ -1,6 +1,5 @@
 -- The code is the comparison of five numbers, one after another.
-use lib.ListN.{getD}
-use borrow.Author.Needs.{needs}
+use Rattle.lists.specs.Basics.{getD, needs}
 use Rattle.protocol.specs.Keys.{first-five, same-first}
 use Rattle.protocol.proofs.keys.same_first.Statement.{statement}
 use Rattle.protocol.proofs.keys.same_first.Tie as tie

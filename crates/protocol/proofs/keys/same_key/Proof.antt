@@ -1,5 +1,5 @@
 -- A key has five fields.
-use borrow.Author.Needs.{needs}
+use Rattle.lists.specs.Basics.{needs}
 use Rattle.model.specs.Records.{keyNumbers, sameKey}
 use Rattle.protocol.proofs.keys.same_key.Statement.{statement}
 use Rattle.protocol.proofs.keys.same_key.Tie as tie

@@ -1,9 +1,5 @@
 -- As many of the entries before i are the last put of their scope as were found.
-use Prim.Native.Nat.{ℕ, _-_}
-use mathlib.Core.List.{List, []}
-use native.Mathlib.Omega.{arith}
-use lib.Dec.{ltb}
-use borrow.Author.Needs.{needs}
+use Rattle.lists.specs.Basics.{ℕ, _-_, ltb, List, [], arith, needs}
 use Rattle.protocol.specs.Scopes.{CountedTo, countLasts, count-rows-first, count-rows-next, count-rows-last}
 use Rattle.protocol.proofs.scopes.counted.Statement.{statement}
 use Rattle.protocol.proofs.scopes.counted.Tie as tie

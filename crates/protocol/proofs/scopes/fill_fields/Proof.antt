@@ -1,9 +1,5 @@
 -- The entries before i have their number of fields.
-use Prim.Native.Nat.{_-_}
-use mathlib.Core.Path.{sym, _∙_}
-use mathlib.Core.List.{map}
-use native.Mathlib.Omega.{arith}
-use borrow.Author.Needs.{needs}
+use Rattle.lists.specs.Basics.{sym, _∙_, _-_, map, arith, needs}
 use Rattle.lists.specs.Fill.{StoredTo}
 use Rattle.model.specs.Transactions.{held}
 use Rattle.protocol.specs.Held.{has-room, length-mapped, mapped-at}

@@ -1,7 +1,5 @@
 -- Five numbers are set, one after another.
-use native.Mathlib.Omega.{arith}
-use lib.ListN.{length-set}
-use borrow.Author.Needs.{needs}
+use Rattle.lists.specs.Basics.{length-set, arith, needs}
 use Rattle.model.specs.Records.{keyNumbers}
 use Rattle.protocol.specs.Keys.{five-set}
 use Rattle.protocol.proofs.scopes.fill_key.Statement.{statement}

@@ -1,9 +1,5 @@
 -- The keys of the entries before i stand there.
-use Prim.Native.Nat.{_-_}
-use mathlib.Core.Path.{sym, _∙_}
-use native.Mathlib.Omega.{arith}
-use lib.ListN.{length-take, length-drop}
-use borrow.Author.Needs.{needs}
+use Rattle.lists.specs.Basics.{sym, _∙_, _-_, length-take, length-drop, arith, needs}
 use Rattle.protocol.specs.Held.{has-room}
 use Rattle.protocol.specs.Scopes.{KeysTo, keys-first, keys-room, keys-next, keys-last}
 use Rattle.protocol.proofs.scopes.fill_keys.Statement.{statement}

@@ -1,9 +1,5 @@
 -- The entries before i are placed.
-use Prim.Native.Nat.{_-_}
-use mathlib.Core.Path.{sym, _∙_}
-use native.Mathlib.Omega.{arith}
-use lib.ListN.{length-take, length-drop}
-use borrow.Author.Needs.{needs}
+use Rattle.lists.specs.Basics.{sym, _∙_, _-_, length-take, length-drop, arith, needs}
 use Rattle.lists.specs.Fill.{StoredTo, rest-part}
 use Rattle.protocol.specs.Scopes.{placing, placesOf, length-each, each-at, number-here, stored-first, stored-room, stored-next, stored-last}
 use Rattle.protocol.proofs.scopes.fill_places.Statement.{statement}

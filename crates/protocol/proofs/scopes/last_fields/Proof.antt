@@ -1,9 +1,5 @@
 -- No put between the first entry and entry j has its scope.
-use Prim.Native.Nat.{_-_}
-use mathlib.Core.Path.{refl}
-use native.Mathlib.Omega.{arith}
-use lib.ListN.{drop, length-take, length-drop}
-use borrow.Author.Needs.{needs}
+use Rattle.lists.specs.Basics.{refl, _-_, drop, length-take, length-drop, arith, needs}
 use Rattle.lists.specs.Fill.{rest-part}
 use Rattle.protocol.specs.Scopes.{WalkedTo, recurs, any-row-met, any-row-next, any-row-last, last-not, last-put}
 use Rattle.protocol.proofs.scopes.last_fields.Statement.{statement}

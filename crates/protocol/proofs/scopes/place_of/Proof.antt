@@ -1,9 +1,5 @@
 -- As many of the entries before j are the last put of a scope before that of the key as were found.
-use Prim.Native.Nat.{_-_}
-use native.Mathlib.Omega.{arith}
-use lib.ListN.{length-take, length-drop}
-use borrow.Author.Tests.{lt-ltb, le-ltb}
-use borrow.Author.Needs.{needs}
+use Rattle.lists.specs.Basics.{_-_, length-take, length-drop, arith, lt-ltb, le-ltb, needs}
 use Rattle.lists.specs.Fill.{rest-part}
 use Rattle.protocol.specs.Scopes.{CountedTo, countRows, before, count-rows-first, count-rows-next, count-rows-last}
 use Rattle.protocol.proofs.scopes.place_of.Statement.{statement}

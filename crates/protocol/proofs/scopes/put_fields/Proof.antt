@@ -1,6 +1,5 @@
 -- By whether there is a put.
-use borrow.Author.Tests.{eq-eqb, ne-eqb}
-use borrow.Author.Needs.{needs}
+use Rattle.lists.specs.Basics.{eq-eqb, ne-eqb, needs}
 use Rattle.protocol.proofs.scopes.put_fields.Statement.{statement}
 use Rattle.protocol.proofs.scopes.put_fields.Tie as tie
 

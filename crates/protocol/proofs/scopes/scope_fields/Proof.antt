@@ -1,6 +1,5 @@
 -- Case by case in the order of the code's tests.
-use mathlib.Core.Path.{_∙_}
-use borrow.Author.Needs.{needs}
+use Rattle.lists.specs.Basics.{_∙_, needs}
 use Rattle.protocol.specs.Units.{unit-none, unit-past, unit-at}
 use Rattle.protocol.proofs.scopes.scope_fields.Statement.{statement}
 use Rattle.protocol.proofs.scopes.scope_fields.Tie as tie

@@ -1,9 +1,5 @@
 -- By whether another entry is to be validated, and after the last by whether there are puts.
-use mathlib.Core.Path.{_≡_, sym, _∙_}
-use mathlib.Core.Bool.{true, false}
-use native.Mathlib.Omega.{arith}
-use borrow.Author.Tests.{lt-ltb, le-ltb, not-true, not-false}
-use borrow.Author.Needs.{needs}
+use Rattle.lists.specs.Basics.{_≡_, sym, _∙_, true, false, arith, lt-ltb, le-ltb, not-true, not-false, needs}
 use Rattle.model.specs.Transactions.{isEmpty, puts}
 use Rattle.model.specs.Steps.{nextEntry}
 use Rattle.protocol.proofs.stages.next_entry.Statement.{statement}

@@ -1,8 +1,5 @@
 -- By whether there are puts.
-use mathlib.Core.Path.{_≡_, sym, _∙_}
-use mathlib.Core.Bool.{true, false}
-use borrow.Author.Tests.{not-true, not-false}
-use borrow.Author.Needs.{needs}
+use Rattle.lists.specs.Basics.{_≡_, sym, _∙_, true, false, not-true, not-false, needs}
 use Rattle.model.specs.Transactions.{isEmpty, puts}
 use Rattle.protocol.proofs.stages.withdrawn.Statement.{statement}
 use Rattle.protocol.proofs.stages.withdrawn.Tie as tie

@@ -1,8 +1,5 @@
 -- No entry before i has a put.
-use Prim.Native.Nat.{_-_}
-use mathlib.Core.Path.{_∙_}
-use borrow.Author.Tests.{eq-eqb, ne-eqb}
-use borrow.Author.Needs.{needs}
+use Rattle.lists.specs.Basics.{_∙_, _-_, eq-eqb, ne-eqb, needs}
 use Rattle.lists.specs.Each.{any}
 use Rattle.model.specs.Transactions.{held, isPut, puts}
 use Rattle.protocol.specs.Held.{PassedTo, pass-first, any-met, any-next, any-last, some-kept}

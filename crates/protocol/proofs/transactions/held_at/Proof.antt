@@ -1,8 +1,6 @@
 -- No entry before i holds the key.
-use Prim.Native.Nat.{_-_}
-use mathlib.Core.Path.{sym, _∙_}
-use borrow.Author.Needs.{needs}
-use Rattle.types.specs.declared.Entry.{Entry}
+use Rattle.lists.specs.Basics.{sym, _∙_, _-_, needs}
+use Rattle.model.specs.Types.{Entry}
 use Rattle.model.specs.Search.{firstFrom}
 use Rattle.model.specs.Records.{sameKey}
 use Rattle.model.specs.Transactions.{heldAt}

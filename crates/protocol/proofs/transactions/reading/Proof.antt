@@ -1,5 +1,5 @@
 -- By whether there is a put, and whether the version read is 0.
-use borrow.Author.Tests.{eq-eqb, ne-eqb}
+use Rattle.lists.specs.Basics.{eq-eqb, ne-eqb}
 use Rattle.model.specs.Transactions.{reading}
 use Rattle.protocol.proofs.transactions.reading.Statement.{statement}
 use Rattle.protocol.proofs.transactions.reading.Tie as tie

@@ -1,5 +1,5 @@
 -- By the test.
-use borrow.Author.Needs.{needs}
+use Rattle.lists.specs.Basics.{needs}
 use Rattle.protocol.proofs.transactions.tally.Statement.{statement}
 use Rattle.protocol.proofs.transactions.tally.Tie as tie
 

@@ -1,8 +1,6 @@
 -- The entry wanted is the one at place `ahead` among those still to come.
-use Prim.Native.Nat.{_-_}
-use mathlib.Core.Path.{refl, sym, _∙_}
+use Rattle.lists.specs.Basics.{refl, sym, _∙_, _-_, needs}
 use mathlib.Core.Logic.{⊎-elim}
-use borrow.Author.Needs.{needs}
 use Rattle.model.specs.Transactions.{held, mustValidate, toValidate}
 use Rattle.protocol.specs.Held.{PassedTo, keptAt, pass-first, kept-met, kept-next, kept-skip, kept-last}
 use Rattle.protocol.specs.Units.{unitsIn}

@@ -1,9 +1,6 @@
 -- As many of the entries before i are to be validated as were found.
-use Prim.Native.Nat.{_-_}
-use mathlib.Core.Path.{refl, _∙_}
-use mathlib.Core.List.{List}
-use borrow.Author.Needs.{needs}
-use Rattle.types.specs.declared.Entry.{Entry}
+use Rattle.lists.specs.Basics.{refl, _∙_, _-_, List, needs}
+use Rattle.model.specs.Types.{Entry}
 use Rattle.model.specs.Transactions.{held, mustValidate, toValidate}
 use Rattle.protocol.specs.Held.{TalliedTo, tallied, tally-first, tally-next, tally-last, tallied-kept}
 use Rattle.protocol.specs.Units.{unitsIn}

@@ -1,7 +1,7 @@
 -- Something is to be validated exactly if the count is not 0.
+use Rattle.lists.specs.Basics.{needs}
 use Rattle.model.specs.Transactions.{toValidate}
 use Rattle.protocol.specs.Held.{some-counted}
-use borrow.Author.Needs.{needs}
 use Rattle.protocol.specs.Units.{unitsIn}
 use Rattle.protocol.proofs.transactions.validates.Statement.{statement}
 use Rattle.protocol.proofs.transactions.validates.Tie as tie

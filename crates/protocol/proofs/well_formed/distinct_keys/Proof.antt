@@ -1,8 +1,5 @@
 -- No entry before i has the key of a later one, and none between entry i and entry j has that of entry i.
-use Prim.Native.Nat.{_-_}
-use mathlib.Core.Path.{sym, _∙_}
-use native.Mathlib.Omega.{arith}
-use borrow.Author.Needs.{needs}
+use Rattle.lists.specs.Basics.{sym, _∙_, _-_, arith, needs}
 use Rattle.lists.specs.Each.{any}
 use Rattle.model.specs.Transactions.{held}
 use Rattle.model.specs.WellFormed.{distinctKeys}

@@ -1,8 +1,5 @@
 -- Every entry before i is well formed.
-use Prim.Native.Nat.{_-_}
-use mathlib.Core.Path.{sym, _∙_}
-use borrow.Author.Tests.{not-true, not-false}
-use borrow.Author.Needs.{needs}
+use Rattle.lists.specs.Basics.{sym, _∙_, _-_, not-true, not-false, needs}
 use Rattle.lists.specs.Each.{all}
 use Rattle.model.specs.Transactions.{held}
 use Rattle.model.specs.WellFormed.{entryFormed}

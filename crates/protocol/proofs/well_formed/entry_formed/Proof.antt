@@ -1,5 +1,5 @@
 -- The code is the definition, clause by clause.
-use borrow.Author.Needs.{needs}
+use Rattle.lists.specs.Basics.{needs}
 use Rattle.model.specs.WellFormed.{entryFormed}
 use Rattle.protocol.proofs.well_formed.entry_formed.Statement.{statement}
 use Rattle.protocol.proofs.well_formed.entry_formed.Tie as tie

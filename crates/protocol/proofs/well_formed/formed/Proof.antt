@@ -1,5 +1,5 @@
 -- Where the head is well formed, at most eight entries are in use, and the rest is all that is left to ask.
-use borrow.Author.Needs.{needs}
+use Rattle.lists.specs.Basics.{needs}
 use Rattle.protocol.specs.Units.{unitsIn}
 use Rattle.protocol.specs.Formed.{head-few, formed-rest}
 use Rattle.protocol.proofs.well_formed.formed.Statement.{statement}

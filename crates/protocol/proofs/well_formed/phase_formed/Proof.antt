@@ -1,5 +1,5 @@
 -- The code is the definition, with the puts asked of `has_puts`.
-use borrow.Author.Needs.{needs}
+use Rattle.lists.specs.Basics.{needs}
 use Rattle.protocol.proofs.well_formed.phase_formed.Statement.{statement}
 use Rattle.protocol.proofs.well_formed.phase_formed.Tie as tie
 

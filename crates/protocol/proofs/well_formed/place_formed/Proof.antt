@@ -1,5 +1,5 @@
 -- By the phase.
-use borrow.Author.Needs.{needs}
+use Rattle.lists.specs.Basics.{needs}
 use Rattle.model.specs.WellFormed.{placeFormed}
 use Rattle.protocol.specs.Phases.{phase-none}
 use Rattle.protocol.proofs.well_formed.place_formed.Statement.{statement}

@@ -1,5 +1,5 @@
 -- The code is the definition, with the columns judged by `columns_in_range`.
-use borrow.Author.Needs.{needs}
+use Rattle.lists.specs.Basics.{needs}
 use Rattle.model.specs.WellFormed.{putFits}
 use Rattle.protocol.proofs.well_formed.put_fits.Statement.{statement}
 use Rattle.protocol.proofs.well_formed.put_fits.Tie as tie

@@ -1,7 +1,5 @@
 -- What is filled is a part of the buffer.
-use native.Mathlib.Omega.{arith}
-use lib.ListN.{length-take}
-use borrow.Author.Needs.{needs}
+use Rattle.lists.specs.Basics.{length-take, arith, needs}
 use Rattle.replay.proofs.print.flush.Statement.{statement}
 use Rattle.replay.proofs.print.flush.Tie as tie
 

@@ -1,6 +1,5 @@
 -- A number more keeps the fill within the buffer.
-use Prim.Native.Nat.{_-_, _≤_}
-use borrow.Author.Needs.{needs}
+use Rattle.lists.specs.Basics.{_-_, _≤_, needs}
 use Rattle.replay.proofs.print.numbers.Statement.{statement}
 use Rattle.replay.proofs.print.numbers.Tie as tie
 

@@ -1,7 +1,5 @@
 -- All but the last byte is a part of the slice.
-use native.Mathlib.Omega.{arith}
-use lib.ListN.{length-take}
-use borrow.Author.Needs.{needs}
+use Rattle.lists.specs.Basics.{length-take, arith, needs}
 use Rattle.replay.proofs.print.part.Statement.{statement}
 use Rattle.replay.proofs.print.part.Tie as tie
 

@@ -1,7 +1,5 @@
 -- A byte more keeps the fill within the buffer.
-use Prim.Native.Nat.{_-_, _≤_}
-use lib.ListN.{length}
-use borrow.Author.Needs.{needs}
+use Rattle.lists.specs.Basics.{_-_, _≤_, length, needs}
 use Rattle.replay.proofs.print.text.Statement.{statement}
 use Rattle.replay.proofs.print.text.Tie as tie
 

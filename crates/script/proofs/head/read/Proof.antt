@@ -1,7 +1,5 @@
 -- Nine bytes hold both fields.
-use native.Mathlib.Omega.{arith}
-use lib.ListN.{length-take}
-use borrow.Author.Needs.{needs}
+use Rattle.lists.specs.Basics.{length-take, arith, needs}
 use Rattle.script.proofs.head.read.Statement.{statement}
 use Rattle.script.proofs.head.read.Tie as tie
 

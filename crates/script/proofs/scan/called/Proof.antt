@@ -1,9 +1,6 @@
 -- By whether all words are numbers, and by how many there are.
-use mathlib.Core.Path.{refl, sym, _∙_}
-use mathlib.Core.Bool.{true, false}
-use borrow.Author.Tests.{eq-eqb, ne-eqb, not-true, not-false}
+use Rattle.lists.specs.Basics.{refl, sym, _∙_, true, false, eq-eqb, ne-eqb, not-true, not-false, needs}
 use Rattle.script.specs.Lines.{called-by}
-use borrow.Author.Needs.{needs}
 use Rattle.script.proofs.scan.called.Statement.{statement}
 use Rattle.script.proofs.scan.called.Tie as tie
 

@@ -1,9 +1,5 @@
 -- The place stays between the first and the end of the slice, and what is before the mark from there on ends where all of it does.
-use Prim.Native.Nat.{_+_, _-_, _≤_}
-use mathlib.Core.Path.{_≡_, refl}
-use native.Mathlib.Omega.{arith}
-use lib.ListN.{length, drop}
-use borrow.Author.Needs.{needs}
+use Rattle.lists.specs.Basics.{_≡_, refl, _+_, _-_, _≤_, length, drop, arith, needs}
 use Rattle.script.specs.Lines.{upTo, mark-here, mark-later, mark-none}
 use Rattle.script.proofs.scan.end_of.Statement.{statement}
 use Rattle.script.proofs.scan.end_of.Tie as tie

@@ -1,9 +1,5 @@
 -- A word ends after the space before it, so that the place rises to the end of the line; the words to come, after the numbers so far, give what all words do.
-use Prim.Native.Nat.{_+_, _-_, _≤_}
-use mathlib.Core.Path.{_≡_, refl, sym, ap, _∙_}
-use native.Mathlib.Omega.{arith}
-use lib.ListN.{length, drop}
-use borrow.Author.Needs.{needs}
+use Rattle.lists.specs.Basics.{_≡_, refl, sym, ap, _∙_, _+_, _-_, _≤_, length, drop, arith, needs}
 use Rattle.script.specs.declared.scan.Numbers.{Numbers}
 use Rattle.script.specs.Lines.{noNumbers, withWords, wordsAfter, next-word, no-word}
 use Rattle.script.proofs.scan.numbers_after.Statement.{statement}

@@ -1,8 +1,5 @@
 -- The first word is what stands before the first space, and the other words are read after it.
-use mathlib.Core.Path.{_≡_, ap₂, _∙_}
-use native.Mathlib.Omega.{arith}
-use lib.ListN.{length, length-take}
-use borrow.Author.Needs.{needs}
+use Rattle.lists.specs.Basics.{_≡_, ap₂, _∙_, length, length-take, arith, needs}
 use Rattle.script.specs.Lines.{called, upTo, said-read}
 use Rattle.script.proofs.scan.parse.Statement.{statement}
 use Rattle.script.proofs.scan.parse.Tie as tie

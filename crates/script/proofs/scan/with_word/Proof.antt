@@ -1,8 +1,6 @@
 -- By whether there is room for a number more, and by what the word holds.
-use mathlib.Core.Path.{sym, _∙_}
-use borrow.Author.Tests.{le-leb, lt-leb}
+use Rattle.lists.specs.Basics.{sym, _∙_, le-leb, lt-leb, needs}
 use Rattle.script.specs.Lines.{withFigure, withWord}
-use borrow.Author.Needs.{needs}
 use Rattle.script.proofs.scan.with_word.Statement.{statement}
 use Rattle.script.proofs.scan.with_word.Tie as tie
 

@@ -1,7 +1,5 @@
 -- A look-up that is not refused has an accepted sheet and a key in range, so that the search may go on and its place is small.
-use mathlib.Core.Path.{sym, _∙_}
-use native.Mathlib.Omega.{arith}
-use borrow.Author.Needs.{needs}
+use Rattle.lists.specs.Basics.{sym, _∙_, arith, needs}
 use Rattle.script_calls.specs.Lookups.{looked-up, place-below}
 use Rattle.script_calls.proofs.calls.lookup.Statement.{statement}
 use Rattle.script_calls.proofs.calls.lookup.Tie as tie

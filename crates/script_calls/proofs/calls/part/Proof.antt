@@ -1,9 +1,7 @@
 -- By whether the call asks for a line; one that does is looked up by its key.
-use mathlib.Core.Path.{sym, ap, _∙_}
-use borrow.Author.Tests.{not-true, not-false}
+use Rattle.lists.specs.Basics.{sym, ap, _∙_, not-true, not-false, needs}
 use Rattle.model.specs.SheetCalls.{lookedUp}
 use Rattle.script_calls.specs.Parts.{part-none, part-asked}
-use borrow.Author.Needs.{needs}
 use Rattle.script_calls.proofs.calls.part.Statement.{statement}
 use Rattle.script_calls.proofs.calls.part.Tie as tie
 

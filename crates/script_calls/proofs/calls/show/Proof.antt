@@ -1,6 +1,5 @@
 -- At most eight entries are shown, so that their rows lie in the array.
-use Prim.Native.Nat.{_-_, _≤_}
-use borrow.Author.Needs.{needs}
+use Rattle.lists.specs.Basics.{_-_, _≤_, needs}
 use Rattle.script_calls.proofs.calls.show.Statement.{statement}
 use Rattle.script_calls.proofs.calls.show.Tie as tie
 

@@ -1,8 +1,5 @@
 -- The array keeps its length, and twelve places from `at` on lie in it.
-use Prim.Native.Nat.{_-_, _≤_}
-use mathlib.Core.Path.{_≡_}
-use lib.ListN.{length}
-use borrow.Author.Needs.{needs}
+use Rattle.lists.specs.Basics.{_≡_, _-_, _≤_, length, needs}
 use Rattle.script_calls.proofs.calls.with_row.Statement.{statement}
 use Rattle.script_calls.proofs.calls.with_row.Tie as tie
 

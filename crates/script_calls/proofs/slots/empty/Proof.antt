@@ -1,7 +1,5 @@
 -- The same new transaction sixteen times.
-use mathlib.Core.Path.{ap}
-use lib.ListN.{replicate}
-use borrow.Author.Needs.{needs}
+use Rattle.lists.specs.Basics.{ap, replicate, needs}
 use Rattle.script_calls.proofs.slots.empty.Statement.{statement}
 use Rattle.script_calls.proofs.slots.empty.Tie as tie
 

@@ -1,7 +1,5 @@
 -- Case by case in the order of the refusals.
-use mathlib.Core.Path.{sym, _∙_}
-use borrow.Author.Tests.{not-true, not-false}
-use borrow.Author.Needs.{needs}
+use Rattle.lists.specs.Basics.{sym, _∙_, not-true, not-false, needs}
 use Rattle.sheets.specs.Answers.{check-bad, check-coordinator, check-unissued, check-good}
 use Rattle.sheets.proofs.check.check.Statement.{statement}
 use Rattle.sheets.proofs.check.check.Tie as tie

@@ -1,8 +1,5 @@
 -- The line that begins as the key line does is the one that has the key.
-use Prim.Native.Nat.{ℕ}
-use mathlib.Core.Path.{ap, _∙_}
-use mathlib.Core.List.{List}
-use borrow.Author.Needs.{needs}
+use Rattle.lists.specs.Basics.{ap, _∙_, ℕ, List, needs}
 use Rattle.model.specs.Layouts.{recordBytes}
 use Rattle.model.specs.Lines.{linesOf}
 use Rattle.sheets.specs.Search.{foundLine, search-is}

@@ -1,11 +1,6 @@
 -- No line before i begins so; line i agrees from field f on. A field that differs passes the line, and five that agree are a match.
+use Rattle.lists.specs.Basics.{_≡_, refl, sym, _∙_, _-_, _/_, _≤_, _<_, length, arith, not-true, not-false, needs}
 use mathlib.Core.Logic.{⊎-elim}
-use Prim.Native.Nat.{_-_, _/_, _≤_, _<_}
-use mathlib.Core.Path.{_≡_, refl, sym, _∙_}
-use native.Mathlib.Omega.{arith}
-use lib.ListN.{length}
-use borrow.Author.Tests.{not-true, not-false}
-use borrow.Author.Needs.{needs}
 use Rattle.sheets.specs.Search.{Passed, Agreed, pass-first, agree-first, agree-next, pass-met, pass-next, pass-last}
 use Rattle.sheets.proofs.lookup.find_line.Statement.{statement}
 use Rattle.sheets.proofs.lookup.find_line.Tie as tie

@@ -1,5 +1,5 @@
 -- Five tests by the columns of a key, which are those of the definition.
-use borrow.Author.Needs.{needs}
+use Rattle.lists.specs.Basics.{needs}
 use Rattle.model.specs.Layouts.{keyLayout, recordLayout}
 use Rattle.sheets.specs.Answers.{key-tests}
 use Rattle.sheets.proofs.lookup.key_in_range.Statement.{statement}

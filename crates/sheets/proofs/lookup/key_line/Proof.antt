@@ -1,6 +1,5 @@
 -- The key's numbers are written as a row of a key line.
-use mathlib.Core.Path.{ap, _∙_}
-use borrow.Author.Needs.{needs}
+use Rattle.lists.specs.Basics.{ap, _∙_, needs}
 use Rattle.model.specs.Layouts.{layout, keyLayout, recordLayout}
 use Rattle.model.specs.Lines.{lineText}
 use Rattle.sheet_laws.specs.Lines.{lineBytes}

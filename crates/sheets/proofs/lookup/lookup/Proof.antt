@@ -1,10 +1,5 @@
 -- Case by case in the order of the refusals; a place that was found is within the sheet.
-use Prim.Native.Nat.{ℕ, _+_, _-_, _*_}
-use mathlib.Core.Path.{_≡_, sym, ap, _∙_}
-use native.Mathlib.Omega.{arith}
-use lib.ListN.{take, drop}
-use borrow.Author.Tests.{not-true, not-false}
-use borrow.Author.Needs.{needs}
+use Rattle.lists.specs.Basics.{_≡_, sym, ap, _∙_, ℕ, _+_, _-_, _*_, take, drop, arith, not-true, not-false, needs}
 use Rattle.sheets.specs.Answers.{lookup-bad, lookup-out, lookup-none, lookup-met, found-fits}
 use Rattle.sheets.proofs.lookup.lookup.Statement.{statement}
 use Rattle.sheets.proofs.lookup.lookup.Tie as tie

@@ -1,5 +1,5 @@
 -- Field by field.
-use borrow.Author.Needs.{needs}
+use Rattle.lists.specs.Basics.{needs}
 use Rattle.model.specs.Records.{keyNumbers}
 use Rattle.sheets.proofs.lookup.numbers_of.Statement.{statement}
 use Rattle.sheets.proofs.lookup.numbers_of.Tie as tie

@@ -1,7 +1,5 @@
 -- The parts lent are the key field of the line and of the key line; the edges bound them.
-use mathlib.Core.Path.{sym, ap, _∙_}
-use native.Mathlib.Omega.{arith}
-use borrow.Author.Needs.{needs}
+use Rattle.lists.specs.Basics.{sym, ap, _∙_, arith, needs}
 use Rattle.sheets.specs.Search.{edge, edges, keyField, field-of-text}
 use Rattle.lists.specs.Bytes.{eqList}
 use Rattle.sheets.proofs.lookup.same_field.Statement.{statement}

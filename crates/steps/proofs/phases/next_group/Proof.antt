@@ -1,8 +1,6 @@
 -- By whether there is a group more.
-use mathlib.Core.Path.{sym}
-use borrow.Author.Tests.{lt-ltb, le-ltb}
+use Rattle.lists.specs.Basics.{sym, lt-ltb, le-ltb, needs}
 use Rattle.model.specs.Steps.{nextGroup}
-use borrow.Author.Needs.{needs}
 use Rattle.steps.proofs.phases.next_group.Statement.{statement}
 use Rattle.steps.proofs.phases.next_group.Tie as tie
 

@@ -1,6 +1,5 @@
 -- By whether the conditions hold.
-use mathlib.Core.Path.{refl, sym, _∙_}
-use borrow.Author.Needs.{needs}
+use Rattle.lists.specs.Basics.{refl, sym, _∙_, needs}
 use Rattle.steps.specs.Ready.{records-accepted, coordinator-accepted, may-write}
 use Rattle.steps.specs.Stepped.{wrote-nothing, wrote-lines}
 use Rattle.model.specs.Writes.{decisionsAfter}

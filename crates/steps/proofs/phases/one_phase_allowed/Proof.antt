@@ -1,6 +1,6 @@
 -- The definition, with the number of groups at hand.
+use Rattle.lists.specs.Basics.{sym}
 use Rattle.model.specs.Steps.{onePhaseAllowed}
-use mathlib.Core.Path.{sym}
 use Rattle.steps.proofs.phases.one_phase_allowed.Statement.{statement}
 use Rattle.steps.proofs.phases.one_phase_allowed.Tie as tie
 

@@ -1,8 +1,5 @@
 -- By the tests, in the order of the step table.
-use mathlib.Core.Path.{sym, _∙_}
-use native.Mathlib.Omega.{arith}
-use borrow.Author.Tests.{not-true, not-false}
-use borrow.Author.Needs.{needs}
+use Rattle.lists.specs.Basics.{sym, _∙_, arith, not-true, not-false, needs}
 use Rattle.sheet_laws.specs.Decisions.{accepted-length}
 use Rattle.steps.specs.Ready.{records-accepted, coordinator-accepted, few, units}
 use Rattle.steps.specs.Stepped.{wrote-nothing}

@@ -1,9 +1,5 @@
 -- By whether the conditions hold.
-use Prim.Native.Nat.{ℕ}
-use mathlib.Core.Path.{refl, sym, ap, _∙_}
-use native.Mathlib.Omega.{arith}
-use borrow.Author.Tests.{not-true, not-false}
-use borrow.Author.Needs.{needs}
+use Rattle.lists.specs.Basics.{refl, sym, ap, _∙_, ℕ, arith, not-true, not-false, needs}
 use Rattle.sheet_laws.specs.Decisions.{accepted-length}
 use Rattle.steps.specs.Ready.{records-accepted, coordinator-accepted, few, units, may-write, place-prepare}
 use Rattle.steps.specs.Stepped.{wrote-nothing, wrote-lines}

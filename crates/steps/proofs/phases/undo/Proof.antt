@@ -1,6 +1,5 @@
 -- The group's lines are written, and the next group comes.
-use mathlib.Core.Path.{refl}
-use borrow.Author.Needs.{needs}
+use Rattle.lists.specs.Basics.{refl, needs}
 use Rattle.steps.specs.Ready.{coordinator-accepted, may-write, place-undo}
 use Rattle.steps.specs.Stepped.{wrote-lines}
 use Rattle.model.specs.Writes.{decisionsAfter}

@@ -1,14 +1,11 @@
 -- By whether the entry's condition holds; nothing is written.
-use mathlib.Core.Path.{sym, ap, _∙_}
-use native.Mathlib.Omega.{arith}
-use borrow.Author.Tests.{not-true, not-false}
-use Rattle.types.specs.declared.Found.the-variants.{At}
+use Rattle.lists.specs.Basics.{sym, ap, _∙_, arith, not-true, not-false, needs}
+use Rattle.model.specs.Types.{At}
 use Rattle.sheet_laws.specs.Decisions.{accepted-length}
 use Rattle.group_writes.specs.Located.{indexed-in}
 use Rattle.steps.specs.Ready.{records-accepted, coordinator-accepted, few, units, place-validate, validate-held}
 use Rattle.steps.specs.Stepped.{wrote-nothing}
 use Rattle.steps.specs.Cases.{stepped-as, validate-fails, validate-passes}
-use borrow.Author.Needs.{needs}
 use Rattle.steps.proofs.phases.validate.Statement.{statement}
 use Rattle.steps.proofs.phases.validate.Tie as tie
 

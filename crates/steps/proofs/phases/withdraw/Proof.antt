@@ -1,6 +1,5 @@
 -- By the decision of the transaction's number.
-use mathlib.Core.Path.{refl, sym, _∙_}
-use borrow.Author.Needs.{needs}
+use Rattle.lists.specs.Basics.{refl, sym, _∙_, needs}
 use Rattle.steps.specs.Ready.{few}
 use Rattle.steps.specs.Stepped.{wrote-nothing, wrote-decision}
 use Rattle.steps.specs.Cases.{stepped-as, withdraw-aborts, withdraw-stays, withdraw-moves}

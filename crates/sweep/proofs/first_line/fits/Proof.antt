@@ -1,11 +1,5 @@
 -- Case by case: too short, not well set, or as long as its numbers say.
-use Prim.Native.Nat.{ℕ, _+_, _*_}
-use mathlib.Core.Path.{sym, ap, subst, _∙_}
-use native.Mathlib.Omega.{arith}
-use lib.ListN.{length}
-use lib.Dec.{eqb}
-use borrow.Author.Tests.{not-true, not-false}
-use borrow.Author.Needs.{needs}
+use Rattle.lists.specs.Basics.{sym, ap, subst, _∙_, ℕ, _+_, _*_, eqb, length, arith, not-true, not-false, needs}
 use Rattle.sweep.specs.declared.FirstLine.{FirstLine}
 use Rattle.sweep.specs.FirstLine.{Small, placeOfRecords, short-unfit, unset-unfit, set-fits, first-small}
 use Rattle.sweep.proofs.first_line.fits.Statement.{statement}

@@ -1,5 +1,5 @@
 -- By what was read.
-use borrow.Author.Needs.{needs}
+use Rattle.lists.specs.Basics.{needs}
 use Rattle.decimal.specs.Field.{isNumber}
 use Rattle.sweep.proofs.first_line.is_number.Statement.{statement}
 use Rattle.sweep.proofs.first_line.is_number.Tie as tie

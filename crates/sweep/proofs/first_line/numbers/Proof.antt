@@ -1,6 +1,5 @@
 -- Each figure, read from the input itself, is the definition's number.
-use mathlib.Core.Path.{ap, _∙_}
-use borrow.Author.Needs.{needs}
+use Rattle.lists.specs.Basics.{ap, _∙_, needs}
 use Rattle.decimal.specs.Field.{number}
 use Rattle.sweep.specs.FirstLine.{lines-read, decisions-read, clock-read}
 use Rattle.sweep.proofs.first_line.numbers.Statement.{statement}

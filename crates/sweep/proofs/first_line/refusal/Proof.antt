@@ -1,10 +1,5 @@
 -- An input that does not fit is refused by 1; one that fits is refused as its two parts are.
-use Prim.Native.Nat.{ℕ}
-use mathlib.Core.Path.{sym, ap, subst, _∙_, ap₂}
-use mathlib.Core.List.{List}
-use native.Mathlib.Omega.{arith}
-use borrow.Author.Tests.{not-true, not-false}
-use borrow.Author.Needs.{needs}
+use Rattle.lists.specs.Basics.{sym, ap, ap₂, subst, _∙_, ℕ, List, arith, not-true, not-false, needs}
 use Rattle.model.specs.Refusals.{refusalOf}
 use Rattle.model.specs.SheetCalls.{checkConditions}
 use Rattle.sweep.specs.FirstLine.{Small, fit, placeOfRecords, place-within, unfit-refused, fit-refused, first-small, coordinator-part, records-part}

@@ -1,7 +1,5 @@
 -- The definition's three figures and LF, read from the input itself; the first that cannot be read decides.
-use mathlib.Core.Path.{sym, ap, _∙_}
-use borrow.Author.Tests.{not-true, not-false}
-use borrow.Author.Needs.{needs}
+use Rattle.lists.specs.Basics.{sym, ap, _∙_, not-true, not-false, needs}
 use Rattle.decimal.specs.Field.{isNumber}
 use Rattle.sweep.specs.FirstLine.{first-wrong, second-wrong, third-wrong, figures-set}
 use Rattle.sweep.proofs.first_line.well_set.Statement.{statement}

@@ -1,9 +1,5 @@
 -- The keys from line i on, visited from the sheets as they now are, come to what all keys come to from the first sheets.
-use Prim.Native.Nat.{_-_, _/_, _<_}
-use mathlib.Core.Path.{_≡_, refl}
-use native.Mathlib.Omega.{arith}
-use lib.ListN.{length}
-use borrow.Author.Needs.{needs}
+use Rattle.lists.specs.Basics.{_≡_, refl, _-_, _/_, _<_, length, arith, needs}
 use Rattle.sweep.specs.Passes.{both, VisitedTo, pass-first, pass-next, pass-last}
 use Rattle.sweep.proofs.passes.pass.Statement.{statement}
 use Rattle.sweep.proofs.passes.pass.Tie as tie

@@ -1,9 +1,5 @@
 -- Each pass is over the keys of the first sheets, which every pass keeps, and two passes are a sweep.
-use Prim.Native.Nat.{_-_}
-use mathlib.Core.Path.{_≡_, refl}
-use native.Mathlib.Omega.{arith}
-use lib.ListN.{length}
-use borrow.Author.Needs.{needs}
+use Rattle.lists.specs.Basics.{_≡_, refl, _-_, length, arith, needs}
 use Rattle.sweep.specs.Passes.{both, PassedTo, sweep-first, sweep-next, sweep-last}
 use Rattle.sweep.proofs.passes.sweep.Statement.{statement}
 use Rattle.sweep.proofs.passes.sweep.Tie as tie

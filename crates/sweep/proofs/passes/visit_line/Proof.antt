@@ -1,6 +1,6 @@
 -- The line is that of its key, and its visit on sheets that pass is the definition's.
+use Rattle.lists.specs.Basics.{needs}
 use Rattle.sweep.specs.Passes.{line-stands, line-visited}
-use borrow.Author.Needs.{needs}
 use Rattle.sweep.proofs.passes.visit_line.Statement.{statement}
 use Rattle.sweep.proofs.passes.visit_line.Tie as tie
 

@@ -1,0 +1,19 @@
+-- The types that code and specification share, passed on in one import. Declared in crates/types/src/lib.rt.
+pub use Rattle.types.specs.declared.Key.{Key}
+pub use Rattle.types.specs.declared.Image.{Image}
+pub use Rattle.types.specs.declared.Record.{Record}
+pub use Rattle.types.specs.declared.State.{State}
+pub use Rattle.types.specs.declared.Decision.{Decision}
+pub use Rattle.types.specs.declared.AtomicityUnit.{AtomicityUnit}
+pub use Rattle.types.specs.declared.Layout.{Layout}
+pub use Rattle.types.specs.declared.Layout.the-variants.{RecordLine, KeyLine, CoordinatorHead, CoordinatorLine}
+pub use Rattle.types.specs.declared.Column.{Column}
+pub use Rattle.types.specs.declared.Kind.{Kind}
+pub use Rattle.types.specs.declared.Kind.the-variants.{Figure, StateWord, DecisionWord, UnitLetter}
+pub use Rattle.types.specs.declared.Found.{Found}
+pub use Rattle.types.specs.declared.Found.the-variants.{At, Nothing}
+pub use Rattle.types.specs.declared.Columns.{Columns}
+pub use Rattle.types.specs.declared.Entry.{Entry}
+pub use Rattle.types.specs.declared.Transaction.{Transaction}
+pub use Rattle.types.specs.declared.Recovery.{Recovery}
+pub use Rattle.types.specs.declared.Reading.{Reading}
