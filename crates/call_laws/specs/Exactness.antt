@@ -192,13 +192,6 @@ refused-unchanged call b =
     when-refused (λ (x : Result Answer). bytesAfter b x ≡ b) (λ n. refl) (checkConditions (b .records) (b .coordinator)) (conditions call (saying b))
     (outcome call (saying b)) (outcome-accepts call (saying b))
 
-pub refusal-small : (call : Call) (b : Bytes) → refusalIn (answerOn call b) ≤ lastRefusal
-refusal-small call b =
-    let e : refusalIn (answerOn call b) ≡ refusalOf (allConditions call (b .records) (b .coordinator)) = refusal-given call b in
-    let l : refusalOf (allConditions call (b .records) (b .coordinator)) ≤ lastRefusal =
-    row-small (allConditions call (b .records) (b .coordinator)) (call-in-order call (b .records) (b .coordinator)) in
-    omega arith
-
 -- A result whose refusal is a number of the table, and whose answer turns nobody away.
 pub data Sound : Result Answer → Type 0 where
   sound-refused : (n : ℕ) → 1 ≤ n → n ≤ lastRefusal → Sound (refused n)

@@ -1,22 +1,22 @@
 -- Writes by place: the line of a key found on a sheet in order, replaced in the bytes, is the line of that key replaced on the decoded sheet; likewise a
 -- decision and the count of numbers issued.
 use Rattle.lists.specs.Basics.{_≡_, refl, sym, ap, ap₂, _∙_, ℕ, zero, suc, _*_, _/_, _≤_, _<_, Bool, true, false, cond, true≢false, List, [], _∷_, map, length}
-use Rattle.lists.specs.Basics.{take, drop, getD, set, arith}
+use Rattle.lists.specs.Basics.{take, drop, getD, set, arith, le-leb}
 use Rattle.lists.specs.Each.{any}
 use Rattle.lists.specs.Pieces.{over}
 use Rattle.lists.specs.Chosen.{or-left, or-right, or-fst, or-snd}
-use Rattle.lists.specs.Tests.{and-snd}
+use Rattle.lists.specs.Tests.{and-snd, and-both}
 use Rattle.decimal.specs.Field.{fieldText}
 use Rattle.model.specs.Types.{Key, Record, Decision, At}
-use Rattle.model.specs.Layouts.{recordBytes}
+use Rattle.model.specs.Layouts.{recordBytes, coordinatorBytes}
 use Rattle.model.specs.Records.{noRecord, recordText, recordsText, records, recordsAccepted, goodAlone, inOrder, rising, sameKey, found, lineOf}
 use Rattle.model.specs.Coordinator.{coordinatorOf, coordinatorText, coordinatorAccepted, withDecision, withIssued}
 use Rattle.sheet_laws.specs.Records.{sheet-written-read, good-ranged}
 use Rattle.sheet_laws.specs.Places.{whole-lines, length-records, records-over, accepted-over}
 use Rattle.sheet_laws.specs.Search.{first-at}
 use Rattle.sheet_laws.specs.Coordinator.{decisionText, coordinator-written-read, bounds}
-use Rattle.sheet_laws.specs.Decisions.{Accepted, accepted-parts, accepted-length, length-decisions, coordinator-over, accepted-decided, coordinator-counted}
-use Rattle.sheet_laws.specs.Decisions.{accepted-raised}
+use Rattle.sheet_laws.specs.Decisions.{numberHasLine, Accepted, accepted-parts, accepted-length, length-decisions, coordinator-over, accepted-decided}
+use Rattle.sheet_laws.specs.Decisions.{coordinator-counted, accepted-raised}
 use Rattle.call_laws.specs.Keys.{same-key, same-key-refl}
 use Rattle.call_laws.specs.Lines.{listsKey, apart}
 
@@ -116,27 +116,25 @@ line-replaced s i r a l g e =
       b,
     )
 
--- the decision of an issued number replaced
-pub decision-replaced : (s : List ℕ) (i : ℕ) (d : Decision) → coordinatorAccepted s ≡ true → i < coordinatorOf s .issued → (over s (suc i * 15) (decisionText (suc i) d) ≡ coordinatorText (withDecision (suc i) d (coordinatorOf s))) × (coordinatorAccepted (over s (suc i * 15) (decisionText (suc i) d)) ≡ true)
-decision-replaced s i d a l =
+-- the decision of an issued number written over its line
+pub decision-written : (s : List ℕ) (n : ℕ) (d : Decision) → coordinatorAccepted s ≡ true → 1 ≤ n → n ≤ coordinatorOf s .issued
+    → cond (numberHasLine n s) (over s (n * coordinatorBytes) (decisionText n d)) s ≡ coordinatorText (withDecision n d (coordinatorOf s))
+decision-written s zero d a l m = absurd (omega arith)
+decision-written s (suc i) d a l m =
     let p : Accepted s = accepted-parts s a in
     let b = bounds (coordinatorOf s) (p .good) in
     let few : length (coordinatorOf s .decisions) ≤ 999 = b .few in
     let most : coordinatorOf s .issued ≤ length (coordinatorOf s .decisions) = b .issued in
-    let count : length (coordinatorOf s .decisions) ≡ length (drop 15 s) / 15 = length-decisions s in
-    let c : coordinatorAccepted (over s (suc i * 15) (decisionText (suc i) d)) ≡ true = accepted-decided s i d a l in (
-      sym (coordinator-written-read (over s (suc i * 15) (decisionText (suc i) d)) c)
-          ∙ ap coordinatorText (coordinator-over s i d (accepted-length s a) (omega arith) (omega arith) (p .whole)),
-      c,
-    )
+    let count : length (coordinatorOf s .decisions) ≡ length (drop coordinatorBytes s) / coordinatorBytes = length-decisions s in
+    let h : numberHasLine (suc i) s ≡ true = and-both (le-leb 1 (suc i) l) (le-leb (suc i) (length (drop coordinatorBytes s) / coordinatorBytes) (omega arith)) in
+    rw h
+    (sym (coordinator-written-read (over s (suc i * coordinatorBytes) (decisionText (suc i) d)) (accepted-decided s i d a (omega arith)))
+    ∙ ap coordinatorText (coordinator-over s i d (accepted-length s a) (omega arith) (omega arith) (p .whole)))
 
 -- one more number issued
-pub count-raised : (s : List ℕ) → coordinatorAccepted s ≡ true → coordinatorOf s .issued < length (coordinatorOf s .decisions) → (over s 0 (fieldText 4 (suc (coordinatorOf s .issued))) ≡ coordinatorText (withIssued (suc (coordinatorOf s .issued)) (coordinatorOf s))) × (coordinatorAccepted (over s 0 (fieldText 4 (suc (coordinatorOf s .issued)))) ≡ true)
+pub count-raised : (s : List ℕ) → coordinatorAccepted s ≡ true → coordinatorOf s .issued < length (coordinatorOf s .decisions)
+    → over s 0 (fieldText 4 (suc (coordinatorOf s .issued))) ≡ coordinatorText (withIssued (suc (coordinatorOf s .issued)) (coordinatorOf s))
 count-raised s a l =
-    let p : Accepted s = accepted-parts s a in
-    let few : length (coordinatorOf s .decisions) ≤ 999 = bounds (coordinatorOf s) (p .good) .few in
-    let c : coordinatorAccepted (over s 0 (fieldText 4 (suc (coordinatorOf s .issued)))) ≡ true = accepted-raised s a l in (
-      sym (coordinator-written-read (over s 0 (fieldText 4 (suc (coordinatorOf s .issued)))) c)
-          ∙ ap coordinatorText (coordinator-counted s (suc (coordinatorOf s .issued)) (accepted-length s a) (omega arith)),
-      c,
-    )
+    let few : length (coordinatorOf s .decisions) ≤ 999 = bounds (coordinatorOf s) (accepted-parts s a .good) .few in
+    sym (coordinator-written-read (over s 0 (fieldText 4 (suc (coordinatorOf s .issued)))) (accepted-raised s a l))
+    ∙ ap coordinatorText (coordinator-counted s (suc (coordinatorOf s .issued)) (accepted-length s a) (omega arith))

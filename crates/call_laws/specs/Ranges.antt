@@ -3,7 +3,7 @@ use Rattle.lists.specs.Basics.{_≡_, refl, sym, ap, _∙_, ℕ, _≤_, leb, Bo
 use Rattle.lists.specs.Tests.{and-fst, and-snd, and-both, tests}
 use Rattle.model.specs.Types.{Image, Record, State, Column, StateWord}
 use Rattle.types.specs.declared.State.the-variants.{Absent, Committed, Prepared}
-use Rattle.model.specs.Layouts.{figures, word, recordLayout, keyLayout, imageLayout, columnsLayout}
+use Rattle.model.specs.Layouts.{figures, word, recordLayout, keyLayout, imageLayout, columnsLayout, wordBytes}
 use Rattle.model.specs.Lines.{inRange, rowGood}
 use Rattle.model.specs.Records.{stateNumber, keyNumbers, imageNumbers, recordNumbers, keyInRange, stateRule, goodAlone, noImage}
 use Rattle.model.specs.Coordinator.{namesIssued}
@@ -19,7 +19,7 @@ row-append (c ∷ cs) ds (v ∷ vs) ws e =
     ∙ sym (and-assoc (inRange c v) (rowGood cs vs) (rowGood ds ws))
 
 abbrev stateColumn : Column
-stateColumn = word 10 StateWord 2
+stateColumn = word wordBytes StateWord 2
 
 abbrev clockColumn : Column
 clockColumn = figures 11 0 4294967295

@@ -17,7 +17,7 @@ use Rattle.model.specs.Records.{stateOf, recordOf, recordIn, recordText, record
 use Rattle.model.specs.Coordinator.{decisionNumber, decision, coordinatorOf}
 use Rattle.sheet_laws.specs.Records.{Readable, readable}
 use Rattle.sheet_laws.specs.Places.{changedAt, record-at, line-set}
-use Rattle.sheet_laws.specs.Decisions.{issued-at, length-decisions}
+use Rattle.sheet_laws.specs.Decisions.{numberHasLine, issued-at, length-decisions}
 use Rattle.sheet_laws.specs.Singles.{decisionWord, decision-told}
 
 -- the last of the three states
@@ -74,12 +74,8 @@ bytes-copied z s u w f p n e l h =
     let q : u ≡ putWord z (take w (drop p s)) = rw (k, e) at h in
     q ∙ put-fits z (take w (drop p s)) m
 
--- A number that has a line in a coordinator sheet.
-abbrev pub hasLine : ℕ → List ℕ → Bool
-hasLine n s = leb 1 n && leb n (length (drop coordinatorBytes s) / coordinatorBytes)
-
 -- the line of a number is within the sheet
-pub line-ends : (n : ℕ) (s : List ℕ) → hasLine n s ≡ true → n * coordinatorBytes + coordinatorBytes ≤ length s
+pub line-ends : (n : ℕ) (s : List ℕ) → numberHasLine n s ≡ true → n * coordinatorBytes + coordinatorBytes ≤ length s
 line-ends n s h =
     let l : 1 ≤ n = search tests in
     let m : n ≤ length (drop coordinatorBytes s) / coordinatorBytes = search tests in
@@ -90,7 +86,7 @@ pub issued-short : (s : List ℕ) → length s < 4 → number (figure 0 999 s) �
 issued-short s l = ap (λ (t : List ℕ). number (figure 0 999 t)) (sym (take-all 4 s (omega arith))) ∙ issued-at s
 
 -- the decision of a number that has a line, by the words that may stand there
-pub decision-part : (s : List ℕ) (n : ℕ) → hasLine n s ≡ true
+pub decision-part : (s : List ℕ) (n : ℕ) → numberHasLine n s ≡ true
     → decision n (coordinatorOf s)
     ≡ cond (eqList (decisionWord n s) (wordAt DecisionWord (decisionNumber Committed))) Committed
     (cond (eqList (decisionWord n s) (wordAt DecisionWord (decisionNumber Aborted))) Aborted Undecided)
@@ -101,7 +97,7 @@ decision-part s (suc i) h =
     decision-told s i l
 
 -- a number without a line is undecided
-pub decision-past : (s : List ℕ) (n : ℕ) → hasLine n s ≡ false → Undecided ≡ decision n (coordinatorOf s)
+pub decision-past : (s : List ℕ) (n : ℕ) → numberHasLine n s ≡ false → Undecided ≡ decision n (coordinatorOf s)
 unfolding decision
 decision-past s zero h = refl
 decision-past s (suc i) h =

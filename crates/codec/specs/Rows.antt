@@ -2,10 +2,11 @@
 use Rattle.lists.specs.Basics.{_≡_, refl, sym, ap, ap₂, _∙_, ℕ, suc, _+_, _-_, _≤_, _<_, true, false, _&&_, List, [], _∷_, _++_, append-nil, append-assoc}
 use Rattle.lists.specs.Basics.{length, take, drop, getD, set, length-append, length-take, length-drop, length-set, drop-of-length-le, arith, add-one}
 use native.Mathlib.Nat.{add-zero}
-use lib.Seq.{drop-cons, drop-drop, take-all, take-at, take-suc-set, append-snoc, set-split, getD-drop}
+use lib.Seq.{drop-drop, take-all, take-at, take-suc-set, append-snoc, set-split, getD-drop}
 use Rattle.lists.specs.Each.{all}
 use Rattle.lists.specs.All.{all-at}
 use Rattle.decimal.specs.Field.{number}
+use Rattle.lists.specs.Walks.{drop-here}
 use Rattle.model.specs.Types.{Layout, RecordLine, KeyLine, CoordinatorHead, CoordinatorLine, Column}
 use Rattle.model.specs.Layouts.{layout, recordLayout, keyLayout, headLayout, lineLayout, noColumn}
 use Rattle.model.specs.Lines.{fieldValue, fieldBytes, inRange, rowOf, lineText, rowGood}
@@ -23,16 +24,12 @@ layout-wide CoordinatorLine = refl
 pub column-wide : (l : Layout) (i : ℕ) (c : Column) → i < length (layout l) → c ≡ getD (layout l) i noColumn → wideEnough c ≡ true
 column-wide l i c h e = ap wideEnough e ∙ all-at wideEnough (layout l) noColumn i (layout-wide l) h
 
--- the columns from i on
-from-here : (cs : List Column) (i : ℕ) (c : Column) → i < length cs → c ≡ getD cs i noColumn → drop i cs ≡ c ∷ drop (i + 1) cs
-from-here cs i c place e = drop-cons cs i noColumn place ∙ ap₂ _∷_ (sym e) (ap (λ (k : ℕ). drop k cs) (sym (add-one i)))
-
 module _ (cs : List Column) (i at : ℕ) (c : Column) (place : i < length cs) (e : c ≡ getD cs i noColumn) where
   -- what is left of the line after this field
   bytes-turn : (n : ℕ) → at + lineBytes (drop i cs) ≡ n → (at + c .width + lineBytes (drop (i + 1) cs) ≡ n) × (at + c .width ≤ n)
   unfolding lineBytes
   bytes-turn n h =
-      let f : lineBytes (drop i cs) ≡ c .width + lineBytes (drop (i + 1) cs) = ap lineBytes (from-here cs i c place e) in
+      let f : lineBytes (drop i cs) ≡ c .width + lineBytes (drop (i + 1) cs) = ap lineBytes (drop-here cs i noColumn c place e) in
       (omega arith, omega arith)
 
   row-turn : (line row whole : List ℕ) (v : ℕ) → length row ≡ length cs → v ≡ number (fieldValue c (take (at + c .width - at) (drop at line))) → take i row ++ rowOf (drop i cs) (drop at line) ≡ whole → take (i + 1) (set row i v) ++ rowOf (drop (i + 1) cs) (drop (at + c .width) line) ≡ whole
@@ -42,7 +39,7 @@ module _ (cs : List Column) (i at : ℕ) (c : Column) (place : i < length cs) (e
       let t : take (i + 1) (set row i v) ≡ take i row ++ (v ∷ []) =
       ap (λ (k : ℕ). take k (set row i v)) (add-one i) ∙ take-suc-set row i v (omega arith) in
       let r : rowOf (drop i cs) (drop at line) ≡ v ∷ rowOf (drop (i + 1) cs) (drop (at + c .width) line) =
-      ap (λ (ds : List Column). rowOf ds (drop at line)) (from-here cs i c place e)
+      ap (λ (ds : List Column). rowOf ds (drop at line)) (drop-here cs i noColumn c place e)
       ∙ ap₂ _∷_ (sym (rw w at q)) (ap (rowOf (drop (i + 1) cs)) (drop-drop (c .width) at line)) in
       rw t (append-snoc (take i row) v (rowOf (drop (i + 1) cs) (drop (at + c .width) line)) ∙ (ap (λ (x : List ℕ). take i row ++ x) (sym r) ∙ h))
 
@@ -56,7 +53,7 @@ module _ (cs : List Column) (i at : ℕ) (c : Column) (place : i < length cs) (e
       ap (take (at + c .width)) (sym (append-assoc (take at line) b rest)) ∙ take-at (take at line ++ b) rest (at + c .width) k in
       let v : getD (drop i row) 0 0 ≡ getD row i 0 = getD-drop i row 0 0 ∙ ap (λ (j : ℕ). getD row j 0) (add-zero i) in
       let r : lineText (drop i cs) (drop i row) ≡ b ++ lineText (drop (i + 1) cs) (drop (i + 1) row) =
-      ap (λ (ds : List Column). lineText ds (drop i row)) (from-here cs i c place e)
+      ap (λ (ds : List Column). lineText ds (drop i row)) (drop-here cs i noColumn c place e)
       ∙ ap₂ _++_ (ap (fieldBytes c) v) (ap (lineText (drop (i + 1) cs)) (drop-drop 1 i row)) in
       rw t (append-assoc (take at line) b (lineText (drop (i + 1) cs) (drop (i + 1) row)) ∙ (ap (λ (x : List ℕ). take at line ++ x) (sym r) ∙ h))
 
@@ -141,7 +138,7 @@ module _ (cs : List Column) (row : List ℕ) (i : ℕ) (c : Column) (place : i <
   good-turn =
       let v : getD (drop i row) 0 0 ≡ getD row i 0 = getD-drop i row 0 0 ∙ ap (λ (j : ℕ). getD row j 0) (add-zero i) in
       let r : rowGood (drop i cs) (drop i row) ≡ (inRange c (getD row i 0) && rowGood (drop (i + 1) cs) (drop (i + 1) row)) =
-      ap (λ (ds : List Column). rowGood ds (drop i row)) (from-here cs i c place e)
+      ap (λ (ds : List Column). rowGood ds (drop i row)) (drop-here cs i noColumn c place e)
       ∙ ap₂ _&&_ (ap (inRange c) v) (ap (rowGood (drop (i + 1) cs)) (drop-drop 1 i row)) in
       sym r ∙ g .rest
 

@@ -1,5 +1,5 @@
 -- One turn of each loop: the definition from place i on, by what stands at i and the definition from i + 1 on.
-use Rattle.lists.specs.Basics.{_≡_, refl, sym, ap, _∙_, ℕ, suc, _+_, _-_, _≤_, _<_, leb, Bool, true, false, cond, true≢false, List, [], length, take, drop}
+use Rattle.lists.specs.Basics.{_≡_, refl, sym, ap, _∙_, ℕ, _+_, _-_, _≤_, _<_, leb, Bool, true, false, cond, true≢false, List, [], length, take, drop}
 use Rattle.lists.specs.Basics.{length-drop, arith, add-one, leb-true}
 use lib.Seq.{drop-cons, drop-length, take-all}
 use Rattle.lists.specs.Bytes.{bytes, eqList}
@@ -8,15 +8,15 @@ use Rattle.decimal.specs.declared.Scan.the-variants.{Number, Wrong}
 use Rattle.decimal.specs.Field.{figure, fieldText}
 use Rattle.decimal.specs.Word.{putWord, put-fits}
 use Rattle.model.specs.Types.{Column, Kind, Figure, StateWord, DecisionWord, UnitLetter}
-use Rattle.model.specs.Layouts.{words, wordAt}
+use Rattle.model.specs.Layouts.{words, wordAt, wordBytes}
 use Rattle.model.specs.Lines.{lastBytes, wordFrom, byKind, fieldValue, fieldBytes}
 use Rattle.sheet_laws.specs.Fields.{wideEnough, length-wordAt}
 
 -- the part of a word that a field of w columns holds
-pub word-part : (kind : Kind) (w n : ℕ) (t : List ℕ) (from : ℕ) → t ≡ wordAt kind n → from ≡ 10 - w → take (10 - from) (drop from t) ≡ lastBytes w (wordAt kind n)
+pub word-part : (kind : Kind) (w n : ℕ) (t : List ℕ) (from : ℕ) → t ≡ wordAt kind n → from ≡ wordBytes - w → take (wordBytes - from) (drop from t) ≡ lastBytes w (wordAt kind n)
 word-part kind w n t from e f =
-    let l : length (wordAt kind n) ≡ 10 = length-wordAt kind n in
-    rw (e, f) (take-all (10 - (10 - w)) (drop (10 - w) (wordAt kind n)) (simp length-drop (omega arith)))
+    let l : length (wordAt kind n) ≡ wordBytes = length-wordAt kind n in
+    rw (e, f) (take-all (wordBytes - (wordBytes - w)) (drop (wordBytes - w) (wordAt kind n)) (simp length-drop (omega arith)))
 
 -- A field by its kind.
 
@@ -53,9 +53,9 @@ write-a-word c v s k l n w e =
     let f : fieldBytes c v ≡ lastBytes (c .width) (wordAt (c .kind) v) =
     ap (λ (x : Kind). byKind x (fieldText (c .width) v) (lastBytes (c .width) (wordAt (c .kind) v))) e
     ∙ is-word k (fieldText (c .width) v) (lastBytes (c .width) (wordAt (c .kind) v)) w in
-    let b : c .width ≤ 10 =
-    leb-true (c .width) 10 (sym (ap (λ (x : Kind). byKind x true (leb (c .width) 10)) e ∙ is-word k true (leb (c .width) 10) w) ∙ n) in
-    let t : length (wordAt (c .kind) v) ≡ 10 = length-wordAt (c .kind) v in
+    let b : c .width ≤ wordBytes =
+    leb-true (c .width) wordBytes (sym (ap (λ (x : Kind). byKind x true (leb (c .width) wordBytes)) e ∙ is-word k true (leb (c .width) wordBytes) w) ∙ n) in
+    let t : length (wordAt (c .kind) v) ≡ wordBytes = length-wordAt (c .kind) v in
     let q : length s ≡ length (lastBytes (length s) (wordAt (c .kind) v)) = simp length-drop (omega arith) in
     put-fits s (lastBytes (length s) (wordAt (c .kind) v)) q ∙ (ap (λ (x : ℕ). lastBytes x (wordAt (c .kind) v)) l ∙ sym f)
 
@@ -74,7 +74,3 @@ module _ (kind : Kind) (w i : ℕ) (s : List ℕ) (whole : Scan) (h : wordFrom w
   pub word-none : i ≡ length (words kind) → Wrong ≡ whole
   unfolding wordFrom
   word-none e = let d : drop i (words kind) ≡ [] = rw e (drop-length (words kind)) in rw d at h
-
--- a number from n on that is not n is above it
-pub above : (n i : ℕ) → n ≤ i → (i ≡ n → ⊥) → suc n ≤ i
-above n i l d = omega (arith, d)

@@ -12,7 +12,7 @@ ghost use Rattle.model.specs.Layouts.{coordinatorBytes, wordAt};
 ghost use Rattle.model.specs.Coordinator.{decisionNumber, decision, coordinatorOf};
 ghost use Rattle.sheet_laws.specs.Coordinator.{decisionText};
 ghost use Rattle.sheet_laws.specs.Singles.{decisionWord};
-ghost use Rattle.codec.specs.Parts.{hasLine};
+ghost use Rattle.sheet_laws.specs.Decisions.{numberHasLine};
 use crate::fields;
 use crate::lines;
 use types::COORDINATOR_BYTES;
@@ -44,7 +44,7 @@ pub fn count(coordinator: &[u8]) -> usize
 
 // A number that has a line.
 fn has_line(coordinator: &[u8], n: u32) -> bool
-    ensures { λ r. ⌜ r ≡ hasLine n (now (coordinator .entry)) ⌝ }
+    ensures { λ r. ⌜ r ≡ numberHasLine n (now (coordinator .entry)) ⌝ }
 {
     if n < 1 {
         return false;
@@ -64,7 +64,7 @@ pub fn issued(coordinator: &[u8]) -> u32
 
 // Whether the line of number n, which has one, holds the word of a decision.
 fn holds_decision(coordinator: &[u8], n: u32, d: Decision) -> bool
-    requires { ⌜ hasLine n (now coordinator) ≡ true ⌝ }
+    requires { ⌜ numberHasLine n (now coordinator) ≡ true ⌝ }
     ensures { λ r. ⌜ r ≡ eqList (decisionWord n (now (coordinator .entry))) (wordAt DecisionWord (decisionNumber d)) ⌝ }
 {
     let at = (n as usize) * COORDINATOR_BYTES + DECISION_AT;
@@ -89,7 +89,7 @@ pub fn decision_at(coordinator: &[u8], n: u32) -> Decision
 
 // The line of number n with another decision; where n has no line nothing changes.
 pub fn set_decision(coordinator: &mut [u8], n: u32, d: Decision)
-    ensures { λ u. ⌜ now (coordinator .exit) ≡ cond (hasLine n (now (coordinator .entry))) (over (now (coordinator .entry)) (n * coordinatorBytes) (decisionText n d)) (now (coordinator .entry)) ⌝ }
+    ensures { λ u. ⌜ now (coordinator .exit) ≡ cond (numberHasLine n (now (coordinator .entry))) (over (now (coordinator .entry)) (n * coordinatorBytes) (decisionText n d)) (now (coordinator .entry)) ⌝ }
 {
     if has_line(coordinator, n) {
         let at = (n as usize) * COORDINATOR_BYTES;

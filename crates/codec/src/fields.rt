@@ -6,20 +6,21 @@ ghost use lib.ListN.{length, take, drop};
 ghost use Rattle.lists.specs.Bytes.{eqList};
 ghost use Rattle.decimal.specs.Field.{number};
 ghost use Rattle.decimal.specs.Word.{putWord};
-ghost use Rattle.model.specs.Layouts.{words, wordAt};
+ghost use Rattle.model.specs.Layouts.{words, wordAt, wordBytes};
 ghost use Rattle.model.specs.Lines.{fieldValue, fieldBytes, inRange, lastBytes, wordFrom};
 ghost use Rattle.sheet_laws.specs.Fields.{wideEnough};
 use crate::layouts;
 use decimal::Scan;
 use types::Column;
 use types::Kind;
+use types::WORD_BYTES;
 
 // Where in its ten bytes a word of w columns begins.
 fn start(w: usize) -> usize
-    ensures { λ r. ⌜ (r ≡ 10 - w) × (r ≤ 10) ⌝ }
+    ensures { λ r. ⌜ (r ≡ wordBytes - w) × (r ≤ wordBytes) ⌝ }
 {
-    if w < 10 {
-        return 10 - w;
+    if w < WORD_BYTES {
+        return WORD_BYTES - w;
     }
     0
 }
@@ -35,8 +36,8 @@ fn is_word(kind: Kind, n: u32, w: usize, s: &[u8]) -> bool
 
 // The ten bytes at `at` are word n of a kind.
 pub fn is_word_at(s: &[u8], at: usize, kind: Kind, n: u32) -> bool
-    requires { ⌜ at + 10 ≤ length (now s) ⌝ }
-    ensures { λ r. ⌜ r ≡ eqList (take 10 (drop at (now (s .entry)))) (wordAt kind n) ⌝ }
+    requires { ⌜ at + wordBytes ≤ length (now s) ⌝ }
+    ensures { λ r. ⌜ r ≡ eqList (take wordBytes (drop at (now (s .entry)))) (wordAt kind n) ⌝ }
 {
     let t = layouts::word(kind, n);
     places::ten_equal(s, at, &t, 0)

@@ -8,7 +8,7 @@ use Rattle.lists.specs.Each.{all}
 use Rattle.decimal.specs.declared.Scan.the-variants.{Number, Wrong}
 use Rattle.decimal.specs.Field.{figure, isNumber}
 use Rattle.model.specs.Types.{Column, UnitLetter}
-use Rattle.model.specs.Layouts.{headLayout, words, word}
+use Rattle.model.specs.Layouts.{headLayout, words, word, coordinatorBytes, lineEnd}
 use Rattle.model.specs.Lines.{fieldValue, wordFrom, lineSet}
 
 -- one of R, P, T, N and S
@@ -17,7 +17,7 @@ isUnit b = eqb b 82 || eqb b 80 || eqb b 84 || eqb b 78 || eqb b 83
 
 -- what follows the count
 unfoldable pub lettersSet : List ℕ → Bool
-lettersSet head = eqb (getD head 4 0) 32 && all isUnit (take 9 (drop 5 head)) && eqb (getD head 14 0) 10
+lettersSet head = eqb (getD head 4 0) 32 && all isUnit (take 9 (drop 5 head)) && eqb (getD head lineEnd 0) 10
 
 -- one of five words, after a space where one is wanted
 letters : (z a b c d e : Bool)
@@ -69,43 +69,43 @@ grouped : (z u us l : Bool) → ((z && u) && (us && (l && true))) ≡ (z && (u &
 grouped z u us l = simp (and-assoc, and-true)
 
 -- fifteen bytes are a head if a count is read and the letters are set
-pub head-set : (h : List ℕ) → length h ≡ 15 → lineSet headLayout h ≡ (isNumber (figure 0 999 (take 4 h)) && lettersSet h)
+pub head-set : (h : List ℕ) → length h ≡ coordinatorBytes → lineSet headLayout h ≡ (isNumber (figure 0 999 (take 4 h)) && lettersSet h)
 unfolding lettersSet eqList all
 head-set h n =
     let x = getD h 4 0 in
     let y = getD h 5 0 in
-    let z = getD h 14 0 in
+    let z = getD h lineEnd 0 in
     let five : drop 5 h ≡ y ∷ drop 6 h = drop-cons h 5 0 (omega arith) in
     let four : drop 4 h ≡ x ∷ y ∷ drop 6 h = drop-cons h 4 0 (omega arith) ∙ ap (λ (t : List ℕ). x ∷ t) five in
-    let long : length h ≤ 15 = omega arith in
-    let last : drop 14 h ≡ z ∷ [] = drop-cons h 14 0 (omega arith) ∙ ap (λ (t : List ℕ). z ∷ t) (drop-of-length-le h long) in
+    let long : length h ≤ coordinatorBytes = omega arith in
+    let last : drop lineEnd h ≡ z ∷ [] = drop-cons h lineEnd 0 (omega arith) ∙ ap (λ (t : List ℕ). z ∷ t) (drop-of-length-le h long) in
     head-fields h
     ∙ ap (λ (t : Bool). isNumber (figure 0 999 (take 4 h)) && t)
     (rw (four, five, first-set x y, letters-set 8 (drop 6 h), drop-drop 8 6 h, last) (grouped (eqb x 32) (isUnit y) (all isUnit (take 8 (drop 6 h))) (eqb z 10)))
 
 -- How far the letters have been looked at: those before place i are units, or one is not.
 pub record LettersTo (head : List ℕ) (i : ℕ) (good : Bool) : Type 0 where
-  pub place : i ≤ 14
-  pub left : (good && all isUnit (take (14 - i) (drop i head))) ≡ (eqb (getD head 4 0) 32 && all isUnit (take 9 (drop 5 head)))
+  pub place : i ≤ lineEnd
+  pub left : (good && all isUnit (take (lineEnd - i) (drop i head))) ≡ (eqb (getD head 4 0) 32 && all isUnit (take 9 (drop 5 head)))
 
 pub letters-first : (head : List ℕ) → LettersTo head 5 (eqb (getD head 4 0) 32)
 letters-first head = record { place = omega arith; left = refl }
 
-pub letters-next : (head : List ℕ) (i : ℕ) (good unit : Bool) → length head ≡ 15 → i < 14 → unit ≡ isUnit (getD head i 0)
+pub letters-next : (head : List ℕ) (i : ℕ) (good unit : Bool) → length head ≡ coordinatorBytes → i < lineEnd → unit ≡ isUnit (getD head i 0)
     → LettersTo head i good → LettersTo head (i + 1) (good && unit)
 unfolding all
 letters-next head i good unit n l e t =
-    let m : 14 - i ≡ suc (14 - (i + 1)) = omega arith in
+    let m : lineEnd - i ≡ suc (lineEnd - (i + 1)) = omega arith in
     let d : drop i head ≡ getD head i 0 ∷ drop (i + 1) head = rw (add-one, drop-cons head i 0 (omega arith)) in
-    let a : all isUnit (take (14 - i) (drop i head)) ≡ (unit && all isUnit (take (14 - (i + 1)) (drop (i + 1) head))) = rw (m, d, e) in
+    let a : all isUnit (take (lineEnd - i) (drop i head)) ≡ (unit && all isUnit (take (lineEnd - (i + 1)) (drop (i + 1) head))) = rw (m, d, e) in
     record {
       place = omega arith;
       left = and-assoc good unit _ ∙ (ap (λ (b : Bool). good && b) (sym a) ∙ t .left);
     }
 
-pub letters-last : (head : List ℕ) (i : ℕ) (good : Bool) → 14 ≤ i → LettersTo head i good → (good && eqb (getD head 14 0) 10) ≡ lettersSet head
+pub letters-last : (head : List ℕ) (i : ℕ) (good : Bool) → lineEnd ≤ i → LettersTo head i good → (good && eqb (getD head lineEnd 0) 10) ≡ lettersSet head
 unfolding all lettersSet
 letters-last head i good l t =
-    let z : 14 - i ≡ 0 = omega arith in
+    let z : lineEnd - i ≡ 0 = omega arith in
     let w : good ≡ (eqb (getD head 4 0) 32 && all isUnit (take 9 (drop 5 head))) = sym (and-true good) ∙ (rw z at (t .left)) in
-    ap (λ (b : Bool). b && eqb (getD head 14 0) 10) w
+    ap (λ (b : Bool). b && eqb (getD head lineEnd 0) 10) w

@@ -1,8 +1,8 @@
 -- No record names a number above the issued count: four columns that hold a figure order as their bytes do, and so as one number.
 -- The loop goes record by record.
 use Rattle.lists.specs.Basics.{_≡_, refl, sym, ap, ap₂, _∙_, ℕ, _+_, _*_, _/_, _≤_, _<_, leb, ltb, Bool, true, false, not, _&&_, List, [], length, take, drop}
-use Rattle.lists.specs.Basics.{getD, length-take, length-drop, drop-of-length-le, arith, add-one, leb-true, leb-false, lt-ltb, le-ltb}
-use lib.Seq.{drop-cons, drop-drop}
+use Rattle.lists.specs.Basics.{getD, length-take, length-drop, arith, leb-true, leb-false, lt-ltb, le-ltb}
+use lib.Seq.{drop-drop}
 use lib.Pow.{areBytes}
 use Rattle.lists.specs.Each.{all, pieces}
 use Rattle.lists.specs.All.{all-at}
@@ -13,7 +13,8 @@ use Rattle.decimal.specs.Field.{figure}
 use Rattle.decimal.specs.Laws.{figure-scan}
 use Rattle.decimal.specs.Order.{order-bytes}
 use Rattle.places.specs.Order.{numberOf, bytesAt, less-is, part-bytes}
-use Rattle.model.specs.Layouts.{recordLayout, recordBytes, offset}
+use Rattle.lists.specs.Walks.{LeftFrom, left-here}
+use Rattle.model.specs.Layouts.{recordLayout, txidField, beforeTxidField, offset, recordOffset, recordBytes, coordinatorBytes}
 use Rattle.model.specs.Lines.{fieldValue, lineSet, linesOf, linesSet}
 use Rattle.model.specs.Records.{noRecord, recordOf, imageFrom, recordIn, records, recordsAccepted}
 use Rattle.model.specs.Coordinator.{coordinatorOf, coordinatorAccepted, namesIssued}
@@ -25,13 +26,13 @@ use Rattle.coordinator_check.specs.Lines.{Bytes}
 use Rattle.coordinator_check.specs.Sheet.{accepted-head}
 
 -- the TxIDs of a record line
-txid-at : (line : List ℕ) → lineSet recordLayout line ≡ true → figure 0 999 (take 4 (drop 36 line)) ≡ Number (recordIn line .image .txid)
+txid-at : (line : List ℕ) → lineSet recordLayout line ≡ true → figure 0 999 (take 4 (drop (recordOffset txidField) line)) ≡ Number (recordIn line .image .txid)
 unfolding recordLayout offset fieldAt fieldValue recordIn recordOf imageFrom
-txid-at line h = field-at 7 recordLayout line (omega arith) h
+txid-at line h = field-at txidField recordLayout line (omega arith) h
 
-before-txid-at : (line : List ℕ) → lineSet recordLayout line ≡ true → figure 0 999 (take 4 (drop 64 line)) ≡ Number (recordIn line .before .txid)
+before-txid-at : (line : List ℕ) → lineSet recordLayout line ≡ true → figure 0 999 (take 4 (drop (recordOffset beforeTxidField) line)) ≡ Number (recordIn line .before .txid)
 unfolding recordLayout offset fieldAt fieldValue recordIn recordOf imageFrom
-before-txid-at line h = field-at 11 recordLayout line (omega arith) h
+before-txid-at line h = field-at beforeTxidField recordLayout line (omega arith) h
 
 at-most : (a b : ℕ) → leb a b ≡ not (ltb b a)
 at-most a b = go (leb a b) refl
@@ -49,20 +50,8 @@ figures-order s t a b p q f g n =
     ∙ sym (at-most a b)
 
 -- How far the records have been looked at: those before i are good.
-pub record NamedTo (rs cs : List ℕ) (i : ℕ) : Type 0 where
-  pub place : i ≤ length rs / recordBytes
-  pub left : all (namesIssued (coordinatorOf cs .issued)) (drop i (records rs)) ≡ allIssued rs cs
-
-pub named-first : (rs cs : List ℕ) → NamedTo rs cs 0
-unfolding allIssued
-named-first rs cs = record { place = omega arith; left = refl }
-
-pub named-last : (rs cs : List ℕ) (i : ℕ) → length rs / recordBytes ≤ i → NamedTo rs cs i → true ≡ allIssued rs cs
-unfolding all
-named-last rs cs i l t =
-    let n : length (records rs) ≤ i = omega (arith, length-records rs) in
-    let d : drop i (records rs) ≡ [] = drop-of-length-le (records rs) n in
-    rw d at (t .left)
+abbrev pub NamedTo : (rs cs : List ℕ) (i : ℕ) → Type 0
+NamedTo rs cs i = LeftFrom (records rs) (all (namesIssued (coordinatorOf cs .issued))) (allIssued rs cs) i
 
 module _ (rs cs : List ℕ) (good-rs : recordsAccepted rs ≡ true) (good-cs : coordinatorAccepted cs ≡ true) (bytes-rs : Bytes rs) (bytes-cs : Bytes cs) where
   -- the number of the four bytes at o of record i is at most that of the count
@@ -83,24 +72,23 @@ module _ (rs cs : List ℕ) (good-rs : recordsAccepted rs ≡ true) (good-cs : c
   named-is i o v l m e =
       let w : take 4 (drop o (take recordBytes (drop (i * recordBytes) rs))) ≡ bytesAt rs 4 (i * recordBytes + o) =
       take-drop-take 4 o recordBytes (drop (i * recordBytes) rs) m ∙ ap (take 4) (drop-drop o (i * recordBytes) rs) in
-      let long : 15 ≤ length cs = accepted-length cs good-cs in
+      let long : coordinatorBytes ≤ length cs = accepted-length cs good-cs in
       figures-order (bytesAt rs 4 (i * recordBytes + o)) (bytesAt cs 4 0) v (coordinatorOf cs .issued) (rw w at e) (accepted-head cs good-cs .0)
       (part-bytes rs 4 (i * recordBytes + o) bytes-rs) (part-bytes cs 4 0 bytes-cs) (simp (length-take, length-drop) (omega arith))
 
-  record-is : (i : ℕ) → i < length rs / recordBytes → namesIssued (coordinatorOf cs .issued) (getD (records rs) i noRecord) ≡ (named i 36 && named i 64)
-  unfolding namesIssued
+  record-is : (i : ℕ) → i < length rs / recordBytes → namesIssued (coordinatorOf cs .issued) (getD (records rs) i noRecord) ≡ (named i (recordOffset txidField) && named i (recordOffset beforeTxidField))
+  unfolding namesIssued offset recordLayout
   record-is i l =
       let line = take recordBytes (drop (i * recordBytes) rs) in
       ap (namesIssued (coordinatorOf cs .issued)) (record-at rs i l)
-      ∙ ap₂ _&&_ (sym (named-is i 36 (recordIn line .image .txid) l (omega arith) (txid-at line (line-at i l))))
-      (sym (named-is i 64 (recordIn line .before .txid) l (omega arith) (before-txid-at line (line-at i l))))
+      ∙ ap₂ _&&_ (sym (named-is i (recordOffset txidField) (recordIn line .image .txid) l (omega arith) (txid-at line (line-at i l))))
+      (sym (named-is i (recordOffset beforeTxidField) (recordIn line .before .txid) l (omega arith) (before-txid-at line (line-at i l))))
 
   -- record i and those after it
   pub named-turn : (i : ℕ) → i < length rs / recordBytes → NamedTo rs cs i
-      → ((named i 36 && named i 64) && all (namesIssued (coordinatorOf cs .issued)) (drop (i + 1) (records rs))) ≡ allIssued rs cs
+      → ((named i (recordOffset txidField) && named i (recordOffset beforeTxidField)) && all (namesIssued (coordinatorOf cs .issued)) (drop (i + 1) (records rs))) ≡ allIssued rs cs
   unfolding all
   named-turn i l t =
       let p = namesIssued (coordinatorOf cs .issued) in
-      sym (ap (all p) (drop-cons (records rs) i noRecord (omega (arith, length-records rs)))
-      ∙ ap₂ _&&_ (record-is i l) (ap (λ (k : ℕ). all p (drop k (records rs))) (sym (add-one i))))
-      ∙ t .left
+      ap (λ (b : Bool). b && all p (drop (i + 1) (records rs))) (sym (record-is i l))
+      ∙ left-here (records rs) (all p) noRecord (getD (records rs) i noRecord) (allIssued rs cs) i (omega (arith, length-records rs)) refl t

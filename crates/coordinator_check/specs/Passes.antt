@@ -11,7 +11,7 @@ use Rattle.lists.specs.Tests.{and-fst, and-snd, and-both}
 use Rattle.places.specs.Loads.{loaded}
 use Rattle.model.specs.Types.{Decision}
 use Rattle.types.specs.declared.Decision.the-variants.{Undecided}
-use Rattle.model.specs.Layouts.{lineLayout}
+use Rattle.model.specs.Layouts.{lineLayout, coordinatorBytes, lineEnd}
 use Rattle.model.specs.Lines.{lineSet, rowOf}
 use Rattle.model.specs.Coordinator.{decisionIn, numbered}
 use Rattle.sheet_laws.specs.Coordinator.{decisionText, decision-written-read, decision-read-written, decision-text-set}
@@ -22,7 +22,7 @@ use Rattle.coordinator_check.specs.Lines.{chosen, line-made}
 -- the n lines after line k pass, where r begins with the LF of line k
 unfoldable pub linesMade : (words : List ℕ) (k n : ℕ) (r : List ℕ) → Bool
 linesMade words k zero r = true
-linesMade words k (suc n) r = lineMade (columns (suc k)) words r && linesMade words (suc k) n (drop 15 r)
+linesMade words k (suc n) r = lineMade (columns (suc k)) words r && linesMade words (suc k) n (drop coordinatorBytes r)
 
 -- Lines numbered from k on, each with a decision that passes a test.
 pub record Reads (P : Decision → Bool) (k : ℕ) (ls : List (List ℕ)) : Type 0 where
@@ -69,43 +69,43 @@ reads-first P k line ls h =
     }
 
 -- what follows the first line and its LF
-bytes-after : (r : List ℕ) → Bytes r → Bytes (drop 15 r)
-bytes-after r f i = rw getD-drop (f (15 + i))
+bytes-after : (r : List ℕ) → Bytes r → Bytes (drop coordinatorBytes r)
+bytes-after r f i = rw getD-drop (f (coordinatorBytes + i))
 
-line-after : (r : List ℕ) → drop 15 (drop 1 r) ≡ drop 1 (drop 15 r)
-line-after r = drop-drop 15 1 r ∙ sym (drop-drop 1 15 r)
+line-after : (r : List ℕ) → drop coordinatorBytes (drop 1 r) ≡ drop 1 (drop coordinatorBytes r)
+line-after r = drop-drop coordinatorBytes 1 r ∙ sym (drop-drop 1 coordinatorBytes r)
 
 module _ (a b c d : Decision) (P : Decision → Bool) where
   -- lines that pass are lines of their numbers, each with a decision of the table
-  pub made-read : all P (a ∷ b ∷ c ∷ d ∷ []) ≡ true → (k n : ℕ) (r : List ℕ) → Bytes r → n * 15 + 1 ≤ length r → k + n ≤ 999
-      → linesMade (table a b c d) k n r ≡ true → Reads P (suc k) (pieces 15 n (drop 1 r))
+  pub made-read : all P (a ∷ b ∷ c ∷ d ∷ []) ≡ true → (k n : ℕ) (r : List ℕ) → Bytes r → n * coordinatorBytes + 1 ≤ length r → k + n ≤ 999
+      → linesMade (table a b c d) k n r ≡ true → Reads P (suc k) (pieces coordinatorBytes n (drop 1 r))
   unfolding linesMade pieces
   made-read p k zero r f l m h = unfold all numbered in record { readable = refl; in-turn = refl; decided = refl }
   made-read p k (suc n) r f l m h =
       let e = chosen a b c d r in
       let o = lineMade (columns (suc k)) (table a b c d) r in
-      let rest = linesMade (table a b c d) (suc k) n (drop 15 r) in
+      let rest = linesMade (table a b c d) (suc k) n (drop coordinatorBytes r) in
       let q : take 16 r ≡ lfText (suc k) e =
       eqList-true (take 16 r) (lfText (suc k) e) (sym (line-made a b c d (suc k) r f (omega arith)) ∙ and-fst o rest h) in
-      let t : take 15 (drop 1 r) ≡ decisionText (suc k) e =
-      sym (take-drop-take 15 1 16 r (omega arith))
-      ∙ (ap (λ (s : List ℕ). take 15 (drop 1 s)) q ∙ take-all 15 (decisionText (suc k) e) (omega (arith, lfText-length (suc k) e))) in
+      let t : take coordinatorBytes (drop 1 r) ≡ decisionText (suc k) e =
+      sym (take-drop-take coordinatorBytes 1 16 r (omega arith))
+      ∙ (ap (λ (s : List ℕ). take coordinatorBytes (drop 1 s)) q ∙ take-all coordinatorBytes (decisionText (suc k) e) (omega (arith, lfText-length (suc k) e))) in
       let u : P e ≡ true = all-at P (a ∷ b ∷ c ∷ d ∷ []) Undecided (told (loaded (take 8 (drop 8 r)))) p (omega arith) in
-      reads-more P (suc k) e (take 15 (drop 1 r)) (pieces 15 n (drop 15 (drop 1 r))) (omega arith) (omega arith) t u
+      reads-more P (suc k) e (take coordinatorBytes (drop 1 r)) (pieces coordinatorBytes n (drop coordinatorBytes (drop 1 r))) (omega arith) (omega arith) t u
       (rw (line-after r)
-      (made-read p (suc k) n (drop 15 r) (bytes-after r f) (simp length-drop (omega arith)) (omega arith) (and-snd o rest h)))
+      (made-read p (suc k) n (drop coordinatorBytes r) (bytes-after r f) (simp length-drop (omega arith)) (omega arith) (and-snd o rest h)))
 
   -- and such lines pass, if each decision that passes the test stands in the table where its word tells; the last of them ends in LF
   pub read-made : ((e : Decision) → P e ≡ true → decisionFor a b c d (told (backOf (wordFor e))) ≡ e) → (k n : ℕ) (r : List ℕ) → Bytes r
-      → n * 15 + 1 ≤ length r → k + n ≤ 999 → getD r 0 0 ≡ 10 → Reads P (suc k) (pieces 15 n (drop 1 r))
-      → (linesMade (table a b c d) k n r ≡ true) × (getD r (n * 15) 0 ≡ 10)
+      → n * coordinatorBytes + 1 ≤ length r → k + n ≤ 999 → getD r 0 0 ≡ 10 → Reads P (suc k) (pieces coordinatorBytes n (drop 1 r))
+      → (linesMade (table a b c d) k n r ≡ true) × (getD r (n * coordinatorBytes) 0 ≡ 10)
   unfolding linesMade pieces
   read-made tells k zero r f l m z h = (refl, z)
   read-made tells k (suc n) [] f l m z h = absurd (omega arith)
   read-made tells k (suc n) (x ∷ s) f l m z h =
       let r = x ∷ s in
-      let t = reads-first P (suc k) (take 15 s) (pieces 15 n (drop 15 s)) h in
-      let e = decisionIn (take 15 s) in
+      let t = reads-first P (suc k) (take coordinatorBytes s) (pieces coordinatorBytes n (drop coordinatorBytes s)) h in
+      let e = decisionIn (take coordinatorBytes s) in
       let q : take 16 r ≡ lfText (suc k) e = ap₂ _∷_ z (sym (t .same)) in
       let v : loaded (take 8 (drop 8 r)) ≡ backOf (wordFor e) =
       ap loaded (sym (take-drop-take 8 8 16 r (omega arith)) ∙ ap (λ (i : List ℕ). take 8 (drop 8 i)) q) ∙ lfText-back (suc k) e in
@@ -114,14 +114,14 @@ module _ (a b c d : Decision) (P : Decision → Bool) where
       line-made a b c d (suc k) r f (omega arith)
       ∙ ap₂ (λ (i : List ℕ) (y : Decision). eqList i (lfText (suc k) y)) q u
       ∙ eqList-refl (lfText (suc k) e) in
-      let y : getD (drop 15 r) 0 0 ≡ 10 =
-      getD-drop 15 r 0 0
-      ∙ (sym (getD-take 16 r 15 0 (omega arith)) ∙ (ap (λ (i : List ℕ). getD i 15 0) q ∙ lfText-ends (suc k) e)) in
+      let y : getD (drop coordinatorBytes r) 0 0 ≡ 10 =
+      getD-drop coordinatorBytes r 0 0
+      ∙ (sym (getD-take 16 r coordinatorBytes 0 (omega arith)) ∙ (ap (λ (i : List ℕ). getD i coordinatorBytes 0) q ∙ lfText-ends (suc k) e)) in
       let rest =
-      read-made tells (suc k) n (drop 15 r) (bytes-after r f) (simp length-drop (omega arith)) (omega arith) y
+      read-made tells (suc k) n (drop coordinatorBytes r) (bytes-after r f) (simp length-drop (omega arith)) (omega arith) y
       (rw (line-after r) at (t .others)) in
-      let j : 15 + n * 15 ≡ suc n * 15 = omega arith in
-      (and-both made (rest .0), ap (λ (i : ℕ). getD r i 0) (sym j) ∙ (sym (getD-drop 15 r (n * 15) 0) ∙ rest .1))
+      let j : coordinatorBytes + n * coordinatorBytes ≡ suc n * coordinatorBytes = omega arith in
+      (and-both made (rest .0), ap (λ (i : ℕ). getD r i 0) (sym j) ∙ (sym (getD-drop coordinatorBytes r (n * coordinatorBytes) 0) ∙ rest .1))
 
 -- The code's loop.
 
@@ -129,29 +129,29 @@ module _ (a b c d : Decision) (P : Decision → Bool) where
 pub record Ready (s : List ℕ) (after to before : ℕ) : Type 0 where
   pub order : after ≤ to
   pub few : to ≤ 999
-  pub long : to * 15 + 15 ≤ length s
+  pub long : to * coordinatorBytes + coordinatorBytes ≤ length s
   pub counted : before ≡ columns after
 
 -- How far it has come: the lines up to k, whose columns are `number`, are good, or one is not.
 pub record JudgedTo (words s : List ℕ) (after to k number : ℕ) (good : Bool) : Type 0 where
   pub place : k ≤ to
   pub counted : number ≡ columns k
-  pub left : (good && linesMade words k (to - k) (drop (k * 15 + 14) s)) ≡ linesMade words after (to - after) (drop (after * 15 + 14) s)
+  pub left : (good && linesMade words k (to - k) (drop (k * coordinatorBytes + lineEnd) s)) ≡ linesMade words after (to - after) (drop (after * coordinatorBytes + lineEnd) s)
 
 pub judged-first : (words s : List ℕ) (after to before : ℕ) → Ready s after to before → JudgedTo words s after to after before true
 judged-first words s after to before t = record { place = t .order; counted = t .counted; left = refl }
 
 pub judged-next : (words s : List ℕ) (after to k number next : ℕ) (good made : Bool) → k < to → to ≤ 999 → next ≡ following number
-    → made ≡ lineMade next words (drop (k * 15 + 14) s) → JudgedTo words s after to k number good
+    → made ≡ lineMade next words (drop (k * coordinatorBytes + lineEnd) s) → JudgedTo words s after to k number good
     → JudgedTo words s after to (k + 1) next (good && made)
 unfolding linesMade
 judged-next words s after to k number next good made l m e q t =
-    let r = drop (k * 15 + 14) s in
+    let r = drop (k * coordinatorBytes + lineEnd) s in
     let n : to - k ≡ suc (to - (k + 1)) = omega arith in
     let c : next ≡ columns (suc k) = e ∙ (ap following (t .counted) ∙ columns-next k (omega arith)) in
-    let f : k * 15 + 14 + 15 ≡ (k + 1) * 15 + 14 = omega arith in
-    let d : drop 15 r ≡ drop ((k + 1) * 15 + 14) s = drop-drop 15 (k * 15 + 14) s ∙ ap (λ (i : ℕ). drop i s) f in
-    let o : linesMade words k (to - k) r ≡ (made && linesMade words (k + 1) (to - (k + 1)) (drop ((k + 1) * 15 + 14) s)) =
+    let f : k * coordinatorBytes + lineEnd + coordinatorBytes ≡ (k + 1) * coordinatorBytes + lineEnd = omega arith in
+    let d : drop coordinatorBytes r ≡ drop ((k + 1) * coordinatorBytes + lineEnd) s = drop-drop coordinatorBytes (k * coordinatorBytes + lineEnd) s ∙ ap (λ (i : ℕ). drop i s) f in
+    let o : linesMade words k (to - k) r ≡ (made && linesMade words (k + 1) (to - (k + 1)) (drop ((k + 1) * coordinatorBytes + lineEnd) s)) =
     ap (λ (i : ℕ). linesMade words k i r) n
     ∙ ap₂ _&&_ (ap (λ (i : ℕ). lineMade i words r) (sym c) ∙ sym q)
     (ap₂ (λ (i : ℕ) (u : List ℕ). linesMade words i (to - (k + 1)) u) (sym (add-one k)) d) in
@@ -162,7 +162,7 @@ judged-next words s after to k number next good made l m e q t =
     }
 
 pub judged-last : (words s : List ℕ) (after to k number : ℕ) (good : Bool) → to ≤ k → JudgedTo words s after to k number good
-    → good ≡ linesMade words after (to - after) (drop (after * 15 + 14) s)
+    → good ≡ linesMade words after (to - after) (drop (after * coordinatorBytes + lineEnd) s)
 unfolding linesMade
 judged-last words s after to k number good l t =
     let z : to - k ≡ 0 = omega arith in

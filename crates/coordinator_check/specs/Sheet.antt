@@ -17,7 +17,7 @@ use Rattle.decimal.specs.Laws.{isNumber-number, written-read}
 use Rattle.places.specs.Loads.{loaded}
 use Rattle.model.specs.Types.{Decision}
 use Rattle.types.specs.declared.Decision.the-variants.{Undecided, Committed, Aborted}
-use Rattle.model.specs.Layouts.{headLayout, lineLayout, words}
+use Rattle.model.specs.Layouts.{headLayout, lineLayout, words, coordinatorBytes, leastCoordinatorBytes, lineEnd, mostCoordinatorBytes}
 use Rattle.model.specs.Lines.{rowOf, lineSet, linesOf}
 use Rattle.model.specs.Coordinator.{decisionNumber, unitOf, isUndecided, coordinatorGood, decisionIn, coordinatorOf, numbered, coordinatorAccepted}
 use Rattle.sheet_laws.specs.Lines.{length-rowOf}
@@ -30,12 +30,12 @@ use Rattle.coordinator_check.specs.Passes.{linesMade, Reads, made-read, 
 
 -- a head and 1 to 999 lines of 15 bytes
 unfoldable pub wholeLines : ℕ → Bool
-wholeLines n = leb 30 n && leb n 15000 && eqb (n % 15) 0
+wholeLines n = leb leastCoordinatorBytes n && leb n mostCoordinatorBytes && eqb (n % coordinatorBytes) 0
 
 pub record Whole (n : ℕ) : Type 0 where
-  pub least : 30 ≤ n
-  pub most : n ≤ 15000
-  pub turns : n % 15 ≡ 0
+  pub least : leastCoordinatorBytes ≤ n
+  pub most : n ≤ mostCoordinatorBytes
+  pub turns : n % coordinatorBytes ≡ 0
 
 pub whole-parts : (n : ℕ) → wholeLines n ≡ true → Whole n
 unfolding wholeLines
@@ -51,13 +51,13 @@ noDecision = table Undecided Undecided Undecided Undecided
 
 -- the lines after the head
 abbrev pub count : List ℕ → ℕ
-count s = length s / 15 - 1
+count s = length s / coordinatorBytes - 1
 
 unfoldable pub decisionsMade : (issued : ℕ) (s : List ℕ) → Bool
 decisionsMade issued s =
     leb issued (count s)
-    && (linesMade anyDecision 0 issued (drop 14 s)
-    && linesMade noDecision issued (count s - issued) (drop (issued * 15 + 14) s))
+    && (linesMade anyDecision 0 issued (drop lineEnd s)
+    && linesMade noDecision issued (count s - issued) (drop (issued * coordinatorBytes + lineEnd) s))
 
 -- a number was read, and passes the test
 unfoldable pub ofNumber : (ℕ → Bool) → Scan → Bool
@@ -68,7 +68,7 @@ ofNumber p Wrong = false
 unfoldable pub sheetMade : List ℕ → Bool
 sheetMade s =
     wholeLines (length s)
-    && (lettersSet (take 15 s) && ofNumber (λ (issued : ℕ). decisionsMade issued s) (figure 0 999 (take 4 s)))
+    && (lettersSet (take coordinatorBytes s) && ofNumber (λ (issued : ℕ). decisionsMade issued s) (figure 0 999 (take 4 s)))
 
 is-number : (p : ℕ → Bool) (st : Scan) → ofNumber p st ≡ true → (st ≡ Number (number st)) × (p (number st) ≡ true)
 unfolding ofNumber number
@@ -76,28 +76,28 @@ is-number p Blank h = absurd (true≢false (sym h))
 is-number p (Number v) h = (refl, h)
 is-number p Wrong h = absurd (true≢false (sym h))
 
-decisions-read : (s : List ℕ) → coordinatorOf s .decisions ≡ map decisionIn (pieces 15 (length (drop 15 s) / 15) (drop 15 s))
+decisions-read : (s : List ℕ) → coordinatorOf s .decisions ≡ map decisionIn (pieces coordinatorBytes (length (drop coordinatorBytes s) / coordinatorBytes) (drop coordinatorBytes s))
 unfolding coordinatorOf linesOf
 decisions-read s = refl
 
 nine-units : (s : List ℕ) → length (coordinatorOf s .units) ≡ 9
 unfolding coordinatorOf headLayout
 nine-units s =
-    let n : length (rowOf headLayout (take 15 s)) ≡ 10 = length-rowOf headLayout (take 15 s) in
-    length-map (drop 1 (rowOf headLayout (take 15 s))) unitOf ∙ (length-drop 1 (rowOf headLayout (take 15 s)) ∙ omega arith)
+    let n : length (rowOf headLayout (take coordinatorBytes s)) ≡ 10 = length-rowOf headLayout (take coordinatorBytes s) in
+    length-map (drop 1 (rowOf headLayout (take coordinatorBytes s))) unitOf ∙ (length-drop 1 (rowOf headLayout (take coordinatorBytes s)) ∙ omega arith)
 
-head-parts : (s : List ℕ) → 15 ≤ length s → lineSet headLayout (take 15 s) ≡ (isNumber (figure 0 999 (take 4 s)) && lettersSet (take 15 s))
+head-parts : (s : List ℕ) → coordinatorBytes ≤ length s → lineSet headLayout (take coordinatorBytes s) ≡ (isNumber (figure 0 999 (take 4 s)) && lettersSet (take coordinatorBytes s))
 head-parts s l =
-    head-set (take 15 s) (simp length-take (omega arith))
-    ∙ ap (λ (t : List ℕ). isNumber (figure 0 999 t) && lettersSet (take 15 s)) (take-take 4 15 s (omega arith))
+    head-set (take coordinatorBytes s) (simp length-take (omega arith))
+    ∙ ap (λ (t : List ℕ). isNumber (figure 0 999 t) && lettersSet (take coordinatorBytes s)) (take-take 4 coordinatorBytes s (omega arith))
 
 -- the first four bytes of an accepted sheet hold its count, and the letters after them are set
 pub accepted-head : (s : List ℕ) → coordinatorAccepted s ≡ true
-    → (figure 0 999 (take 4 s) ≡ Number (coordinatorOf s .issued)) × (lettersSet (take 15 s) ≡ true)
+    → (figure 0 999 (take 4 s) ≡ Number (coordinatorOf s .issued)) × (lettersSet (take coordinatorBytes s) ≡ true)
 accepted-head s h =
     let f = figure 0 999 (take 4 s) in
     let p = sym (head-parts s (accepted-length s h)) ∙ accepted-parts s h .head in
-    (isNumber-number f (and-fst (isNumber f) (lettersSet (take 15 s)) p) ∙ ap Number (issued-at s), and-snd (isNumber f) (lettersSet (take 15 s)) p)
+    (isNumber-number f (and-fst (isNumber f) (lettersSet (take coordinatorBytes s)) p) ∙ ap Number (issued-at s), and-snd (isNumber f) (lettersSet (take coordinatorBytes s)) p)
 
 -- The lines cut at the issued count.
 
@@ -109,21 +109,21 @@ numbered-append k (x ∷ xs) ys =
     rw (numbered-append (suc k) xs ys, e)
     (sym (and-assoc (eqb (getD (rowOf lineLayout x) 0 0) k) (numbered (suc k) xs) (numbered (k + length (x ∷ xs)) ys)))
 
-module _ (s : List ℕ) (issued rest : ℕ) (whole : length (drop 15 s) / 15 ≡ issued + rest) where
+module _ (s : List ℕ) (issued rest : ℕ) (whole : length (drop coordinatorBytes s) / coordinatorBytes ≡ issued + rest) where
   abbrev lines : List (List ℕ)
-  lines = pieces 15 (length (drop 15 s) / 15) (drop 15 s)
+  lines = pieces coordinatorBytes (length (drop coordinatorBytes s) / coordinatorBytes) (drop coordinatorBytes s)
 
   abbrev low : List (List ℕ)
-  low = pieces 15 issued (drop 15 s)
+  low = pieces coordinatorBytes issued (drop coordinatorBytes s)
 
   abbrev high : List (List ℕ)
-  high = pieces 15 rest (drop (issued * 15) (drop 15 s))
+  high = pieces coordinatorBytes rest (drop (issued * coordinatorBytes) (drop coordinatorBytes s))
 
   cut : lines ≡ low ++ high
-  cut = rw whole (pieces-add 15 issued rest (drop 15 s))
+  cut = rw whole (pieces-add coordinatorBytes issued rest (drop coordinatorBytes s))
 
   low-length : length low ≡ issued
-  low-length = length-pieces 15 issued (drop 15 s)
+  low-length = length-pieces coordinatorBytes issued (drop coordinatorBytes s)
 
   readable-cut : all (lineSet lineLayout) lines ≡ (all (lineSet lineLayout) low && all (lineSet lineLayout) high)
   readable-cut = rw cut (all-append (lineSet lineLayout) low high)
@@ -161,30 +161,30 @@ module _ (s : List ℕ) (each : Bytes s) where
   each-from a i = rw getD-drop (each (a + i))
 
   -- the lines after line a follow its LF
-  after : (a : ℕ) → drop 1 (drop (a * 15 + 14) s) ≡ drop (a * 15) (drop 15 s)
+  after : (a : ℕ) → drop 1 (drop (a * coordinatorBytes + lineEnd) s) ≡ drop (a * coordinatorBytes) (drop coordinatorBytes s)
   after a =
-      let e : a * 15 + 14 + 1 ≡ 15 + a * 15 = omega arith in
-      drop-drop 1 (a * 15 + 14) s ∙ (ap (λ (n : ℕ). drop n s) e ∙ sym (drop-drop (a * 15) 15 s))
+      let e : a * coordinatorBytes + lineEnd + 1 ≡ coordinatorBytes + a * coordinatorBytes = omega arith in
+      drop-drop 1 (a * coordinatorBytes + lineEnd) s ∙ (ap (λ (n : ℕ). drop n s) e ∙ sym (drop-drop (a * coordinatorBytes) coordinatorBytes s))
 
   -- the two passes, for the issued count v
-  module _ (v : ℕ) (sized : length s ≡ count s * 15 + 15) (few : count s ≤ 999) where
+  module _ (v : ℕ) (sized : length s ≡ count s * coordinatorBytes + coordinatorBytes) (few : count s ≤ 999) where
     abbrev LowReads : Type 0
-    LowReads = Reads (λ (d : Decision). true) 1 (pieces 15 v (drop 15 s))
+    LowReads = Reads (λ (d : Decision). true) 1 (pieces coordinatorBytes v (drop coordinatorBytes s))
 
     abbrev HighReads : Type 0
-    HighReads = Reads isUndecided (suc v) (pieces 15 (count s - v) (drop (v * 15) (drop 15 s)))
+    HighReads = Reads isUndecided (suc v) (pieces coordinatorBytes (count s - v) (drop (v * coordinatorBytes) (drop coordinatorBytes s)))
 
-    reads-pass : v ≤ count s → getD s 14 0 ≡ 10 → LowReads → HighReads → decisionsMade v s ≡ true
+    reads-pass : v ≤ count s → getD s lineEnd 0 ≡ 10 → LowReads → HighReads → decisionsMade v s ≡ true
     unfolding decisionsMade
     reads-pass l z r t =
         let p =
-        read-made Undecided Committed Aborted Undecided (λ (d : Decision). true) tells-any 0 v (drop 14 s) (each-from 14)
-        (simp length-drop (omega arith)) (omega arith) (getD-drop 14 s 0 0 ∙ z) (rw (after 0) r) in
-        let e : 14 + v * 15 ≡ v * 15 + 14 + 0 = omega arith in
-        let lf : getD (drop (v * 15 + 14) s) 0 0 ≡ 10 =
-        getD-drop (v * 15 + 14) s 0 0 ∙ (ap (λ (i : ℕ). getD s i 0) (sym e) ∙ (sym (getD-drop 14 s (v * 15) 0) ∙ p .1)) in
+        read-made Undecided Committed Aborted Undecided (λ (d : Decision). true) tells-any 0 v (drop lineEnd s) (each-from lineEnd)
+        (simp length-drop (omega arith)) (omega arith) (getD-drop lineEnd s 0 0 ∙ z) (rw (after 0) r) in
+        let e : lineEnd + v * coordinatorBytes ≡ v * coordinatorBytes + lineEnd + 0 = omega arith in
+        let lf : getD (drop (v * coordinatorBytes + lineEnd) s) 0 0 ≡ 10 =
+        getD-drop (v * coordinatorBytes + lineEnd) s 0 0 ∙ (ap (λ (i : ℕ). getD s i 0) (sym e) ∙ (sym (getD-drop lineEnd s (v * coordinatorBytes) 0) ∙ p .1)) in
         let q =
-        read-made Undecided Undecided Undecided Undecided isUndecided tells-none v (count s - v) (drop (v * 15 + 14) s) (each-from (v * 15 + 14))
+        read-made Undecided Undecided Undecided Undecided isUndecided tells-none v (count s - v) (drop (v * coordinatorBytes + lineEnd) s) (each-from (v * coordinatorBytes + lineEnd))
         (simp length-drop (omega arith)) (omega arith) lf (rw (after v) t) in
         and-both (le-leb v (count s) l) (and-both (p .0) (q .0))
 
@@ -193,10 +193,10 @@ module _ (s : List ℕ) (each : Bytes s) where
     pass-reads h =
         let l : v ≤ count s = search tests in
         let r =
-        made-read Undecided Committed Aborted Undecided (λ (d : Decision). true) refl 0 v (drop 14 s) (each-from 14)
+        made-read Undecided Committed Aborted Undecided (λ (d : Decision). true) refl 0 v (drop lineEnd s) (each-from lineEnd)
         (simp length-drop (omega arith)) (omega arith) (search tests) in
         let t =
-        made-read Undecided Undecided Undecided Undecided isUndecided refl v (count s - v) (drop (v * 15 + 14) s) (each-from (v * 15 + 14))
+        made-read Undecided Undecided Undecided Undecided isUndecided refl v (count s - v) (drop (v * coordinatorBytes + lineEnd) s) (each-from (v * coordinatorBytes + lineEnd))
         (simp length-drop (omega arith)) (omega arith) (search tests) in
         (l, (rw (after 0) at r, rw (after v) at t))
 
@@ -210,24 +210,24 @@ module _ (s : List ℕ) (each : Bytes s) where
       let few : n ≤ 999 = bounds (coordinatorOf s) (a .good) .few in
       let most : v ≤ n = bounds (coordinatorOf s) (a .good) .issued in
       let above : all isUndecided (drop v (coordinatorOf s .decisions)) ≡ true = search (tests, a .good) in
-      let long : 15 ≤ length s = accepted-length s h in
-      let lines : n ≡ length (drop 15 s) / 15 = length-decisions s in
-      let whole : length (drop 15 s) ≡ length (drop 15 s) / 15 * 15 = a .whole in
-      let size : length (drop 15 s) ≡ length s - 15 = length-drop 15 s in
-      let rest : length (drop 15 s) / 15 ≡ v + (count s - v) = omega arith in
+      let long : coordinatorBytes ≤ length s = accepted-length s h in
+      let lines : n ≡ length (drop coordinatorBytes s) / coordinatorBytes = length-decisions s in
+      let whole : length (drop coordinatorBytes s) ≡ length (drop coordinatorBytes s) / coordinatorBytes * coordinatorBytes = a .whole in
+      let size : length (drop coordinatorBytes s) ≡ length s - coordinatorBytes = length-drop coordinatorBytes s in
+      let rest : length (drop coordinatorBytes s) / coordinatorBytes ≡ v + (count s - v) = omega arith in
       let head = accepted-head s h in
-      let letters : lettersSet (take 15 s) ≡ true = head .1 in
-      let lf : getD s 14 0 ≡ 10 =
-      sym (getD-take 15 s 14 0 (omega arith)) ∙ eqb-true (getD (take 15 s) 14 0) 10 (search (tests, letters)) in
+      let letters : lettersSet (take coordinatorBytes s) ≡ true = head .1 in
+      let lf : getD s lineEnd 0 ≡ 10 =
+      sym (getD-take coordinatorBytes s lineEnd 0 (omega arith)) ∙ eqb-true (getD (take coordinatorBytes s) lineEnd 0) 10 (search (tests, letters)) in
       let r = sym (readable-cut s v (count s - v) rest) ∙ a .readable in
       let t = sym (in-turn-cut s v (count s - v) rest) ∙ a .in-turn in
       let u = sym (decided-cut s v (count s - v) rest) ∙ (ap (λ (ds : List Decision). all isUndecided (drop v ds)) (sym (decisions-read s)) ∙ above) in
       let pass =
       reads-pass v (omega arith) (omega arith) (omega arith) lf
-      (record { readable = search (tests, r); in-turn = search (tests, t); decided = all-always (pieces 15 v (drop 15 s)) })
+      (record { readable = search (tests, r); in-turn = search (tests, t); decided = all-always (pieces coordinatorBytes v (drop coordinatorBytes s)) })
       (record { readable = search (tests, r); in-turn = search (tests, t); decided = u }) in
       and-both
-      (and-both (and-both (le-leb 30 (length s) (omega arith)) (le-leb (length s) 15000 (omega arith))) (eq-eqb (length s % 15) 0 (omega arith)))
+      (and-both (and-both (le-leb leastCoordinatorBytes (length s) (omega arith)) (le-leb (length s) mostCoordinatorBytes (omega arith))) (eq-eqb (length s % coordinatorBytes) 0 (omega arith)))
       (and-both letters (ap (ofNumber (λ (issued : ℕ). decisionsMade issued s)) (head .0) ∙ pass))
 
   passes-accepted : sheetMade s ≡ true → coordinatorAccepted s ≡ true
@@ -241,10 +241,10 @@ module _ (s : List ℕ) (each : Bytes s) where
       let l : v ≤ count s = p .0 in
       let n = length (coordinatorOf s .decisions) in
       let issued : coordinatorOf s .issued ≡ v = sym (issued-at s) in
-      let lines : n ≡ length (drop 15 s) / 15 = length-decisions s in
-      let size : length (drop 15 s) ≡ length s - 15 = length-drop 15 s in
-      let rest : length (drop 15 s) / 15 ≡ v + (count s - v) = omega arith in
-      let letters : lettersSet (take 15 s) ≡ true = search tests in
+      let lines : n ≡ length (drop coordinatorBytes s) / coordinatorBytes = length-decisions s in
+      let size : length (drop coordinatorBytes s) ≡ length s - coordinatorBytes = length-drop coordinatorBytes s in
+      let rest : length (drop coordinatorBytes s) / coordinatorBytes ≡ v + (count s - v) = omega arith in
+      let letters : lettersSet (take coordinatorBytes s) ≡ true = search tests in
       let above : all isUndecided (drop (coordinatorOf s .issued) (coordinatorOf s .decisions)) ≡ true =
       ap₂ (λ (k : ℕ) (ds : List Decision). all isUndecided (drop k ds)) issued (decisions-read s)
       ∙ (decided-cut s v (count s - v) rest ∙ p .1 .1 .decided) in
@@ -292,7 +292,7 @@ unfolding decisionsMade
 too-few issued s l = rw (lt-leb issued (count s) l)
 
 pub passes-are : (issued : ℕ) (s any none : List ℕ) (low high : Bool) → issued ≤ count s → any ≡ anyDecision → none ≡ noDecision
-    → low ≡ linesMade any 0 (issued - 0) (drop 14 s) → high ≡ linesMade none issued (count s - issued) (drop (issued * 15 + 14) s)
+    → low ≡ linesMade any 0 (issued - 0) (drop lineEnd s) → high ≡ linesMade none issued (count s - issued) (drop (issued * coordinatorBytes + lineEnd) s)
     → (low && high) ≡ decisionsMade issued s
 unfolding decisionsMade
 passes-are issued s any none low high l e f p q =
@@ -303,11 +303,11 @@ pub not-whole : (s : List ℕ) → wholeLines (length s) ≡ false → false ≡
 unfolding sheetMade
 not-whole s h = rw h
 
-pub not-lettered : (s : List ℕ) → wholeLines (length s) ≡ true → lettersSet (take 15 s) ≡ false → false ≡ sheetMade s
+pub not-lettered : (s : List ℕ) → wholeLines (length s) ≡ true → lettersSet (take coordinatorBytes s) ≡ false → false ≡ sheetMade s
 unfolding sheetMade
 not-lettered s h l = rw (h, l)
 
-pub by-count : (s : List ℕ) (st : Scan) → wholeLines (length s) ≡ true → lettersSet (take 15 s) ≡ true → st ≡ figure 0 999 (take 4 s)
+pub by-count : (s : List ℕ) (st : Scan) → wholeLines (length s) ≡ true → lettersSet (take coordinatorBytes s) ≡ true → st ≡ figure 0 999 (take 4 s)
     → ofNumber (λ (issued : ℕ). decisionsMade issued s) st ≡ sheetMade s
 unfolding sheetMade
 by-count s st h l e = rw (h, l, e)

@@ -11,13 +11,20 @@ mod lines;
 
 use decimal::Scan;
 use places::half;
+use types::BEFORE_TXID_AT;
+use types::COORDINATOR_BYTES;
+use types::LEAST_COORDINATOR_BYTES;
+use types::MOST_COORDINATOR_BYTES;
 use types::RECORD_BYTES;
+use types::TXID_AT;
 
 // A head and 1 to 999 lines of 15 bytes.
 fn whole_lines(size: usize) -> bool
     ensures { λ r. ⌜ r ≡ wholeLines size ⌝ }
 {
-    (30 <= size) & (size <= 15000) & (size % 15 == 0)
+    (LEAST_COORDINATOR_BYTES <= size)
+        & (size <= MOST_COORDINATOR_BYTES)
+        & (size % COORDINATOR_BYTES == 0)
 }
 
 // Whether the sheet breaks no rule of its own.
@@ -27,7 +34,7 @@ pub fn coordinator_ok(coordinator: &[u8]) -> bool
     if !whole_lines(coordinator.len()) {
         return false;
     }
-    if !head::letters_ok(&coordinator[..15]) {
+    if !head::letters_ok(&coordinator[..COORDINATOR_BYTES]) {
         return false;
     }
     match decimal::read(&coordinator[..4], 0, 999) {
@@ -47,8 +54,8 @@ pub fn all_issued(records: &[u8], coordinator: &[u8]) -> bool
     let issued = half(coordinator, 0);
     let count = records.len() / RECORD_BYTES;
     for i in 0..count {
-        let txid = half(records, i * RECORD_BYTES + 36);
-        let before_txid = half(records, i * RECORD_BYTES + 64);
+        let txid = half(records, i * RECORD_BYTES + TXID_AT);
+        let before_txid = half(records, i * RECORD_BYTES + BEFORE_TXID_AT);
         if txid > issued {
             return false;
         }

@@ -5,6 +5,7 @@ ghost use mathlib.Core.Path.{_≡_};
 ghost use mathlib.Core.Bool.{true};
 ghost use Prim.Native.Nat.{_+_, _-_, _*_, _^_, _<_, _≤_};
 ghost use lib.ListN.{length, take, drop};
+ghost use Rattle.model.specs.Layouts.{coordinatorBytes, lineEnd};
 ghost use Rattle.decimal.specs.declared.Scan.the-variants.{Number};
 ghost use Rattle.decimal.specs.Field.{figure};
 ghost use Rattle.coordinator_check.specs.Numbers.{gained, following};
@@ -13,6 +14,8 @@ ghost use Rattle.coordinator_check.specs.Passes.{linesMade, Ready};
 ghost use Rattle.coordinator_check.specs.Sheet.{wholeLines, anyDecision, noDecision, decisionsMade};
 use places::load_eight;
 use places::load_four;
+use types::COORDINATOR_BYTES;
+use types::LINE_END;
 
 // What a column gains that takes a carry: a space (32) becomes `1`, a digit the next one.
 fn gain(column: u64) -> u64
@@ -101,13 +104,13 @@ fn line_ok(sheet: &[u8], start: usize, number: u64, words: &[u64]) -> bool
 fn lines_ok(sheet: &[u8], after: usize, to: usize, before: u64, words: &[u64]) -> bool
     requires { ⌜ Ready (now sheet) after to before ⌝ }
     requires { ⌜ Table (now words) ⌝ }
-    ensures { λ r. ⌜ r ≡ linesMade (now (words .entry)) after (to - after) (drop (after * 15 + 14) (now (sheet .entry))) ⌝ }
+    ensures { λ r. ⌜ r ≡ linesMade (now (words .entry)) after (to - after) (drop (after * coordinatorBytes + lineEnd) (now (sheet .entry))) ⌝ }
 {
     let mut good = true;
     let mut number = before;
     for k in after..to {
         number = next(number);
-        good = good & line_ok(sheet, k * 15 + 14, number, words);
+        good = good & line_ok(sheet, k * COORDINATOR_BYTES + LINE_END, number, words);
     }
     good
 }
@@ -118,7 +121,7 @@ pub fn decisions_ok(sheet: &[u8], issued: usize) -> bool
     requires { ⌜ figure 0 999 (take 4 (now sheet)) ≡ Number issued ⌝ }
     ensures { λ r. ⌜ r ≡ decisionsMade issued (now (sheet .entry)) ⌝ }
 {
-    let count = sheet.len() / 15 - 1;
+    let count = sheet.len() / COORDINATOR_BYTES - 1;
     if issued > count {
         return false;
     }

@@ -2,6 +2,7 @@
 use Rattle.lists.specs.Basics.{_≡_, refl, sym, ap, _∙_, ℕ, _+_, _/_, _≤_, _<_, eqb, leb, Bool, true, false, cond, List, length, drop, arith, add-one, le-leb}
 use Rattle.lists.specs.Pieces.{over}
 use Rattle.decimal.specs.Field.{fieldText}
+use Rattle.model.specs.Layouts.{coordinatorBytes}
 use Rattle.model.specs.Types.{Transaction}
 use Rattle.model.specs.Coordinator.{coordinatorOf, coordinatorText, coordinatorAccepted, withIssued}
 use Rattle.model.specs.Refusals.{refusalOf}
@@ -23,12 +24,12 @@ pub record Begins (b : Bool) (cs : List ℕ) (r : Returned) (cs′ : List ℕ) :
   pub beside : (rs : List ℕ) → Accepted rs cs → Outcome toBegun (result (begin b) (sheetsOf rs cs)) rs cs r rs cs′
 
 module _ (b : Bool) (cs : List ℕ) (a : coordinatorAccepted cs ≡ true) where
-  pub begin-spent : eqb (coordinatorOf cs .issued) (length (drop 15 cs) / 15) ≡ true → (r : Returned) → r ≡ toBegun (refused 8) → Begins b cs r cs
+  pub begin-spent : eqb (coordinatorOf cs .issued) (length (drop coordinatorBytes cs) / coordinatorBytes) ≡ true → (r : Returned) → r ≡ toBegun (refused 8) → Begins b cs r cs
   unfolding result conditions refusalOf
   begin-spent spent r e =
       record { beside = λ rs h. outcome-refused toBegun rs cs 8 (rw (length-decisions cs, spent)) e }
 
-  module _ (left : eqb (coordinatorOf cs .issued) (length (drop 15 cs) / 15) ≡ false) where
+  module _ (left : eqb (coordinatorOf cs .issued) (length (drop coordinatorBytes cs) / coordinatorBytes) ≡ false) where
     issued-below : coordinatorOf cs .issued < length (coordinatorOf cs .decisions)
     issued-below =
         strictly (coordinatorOf cs .issued) (length (coordinatorOf cs .decisions)) (bounds (coordinatorOf cs) (accepted-parts cs a .good) .issued)
@@ -48,7 +49,7 @@ module _ (b : Bool) (cs : List ℕ) (a : coordinatorAccepted cs ≡ true) where
     unfolding lineAfter decisionsAfter apply
     begin-written rs h e =
         let n = coordinatorOf cs .issued in
-        let l : 15 ≤ length cs = accepted-length cs a in
+        let l : coordinatorBytes ≤ length cs = accepted-length cs a in
         let m : leb 4 (length cs) ≡ true = le-leb 4 (length cs) (omega arith) in
         record {
           lines = lines-kept rs cs h issue (λ r. refl);
@@ -56,7 +57,7 @@ module _ (b : Bool) (cs : List ℕ) (a : coordinatorAccepted cs ≡ true) where
               e
               ∙ (ap (λ (x : Bool). cond x (over cs 0 (fieldText 4 (n + 1))) cs) m
               ∙ (ap (λ (i : ℕ). over cs 0 (fieldText 4 i)) (add-one n)
-              ∙ (count-raised cs a issued-below .0
+              ∙ (count-raised cs a issued-below
               ∙ ap (λ (i : ℕ). coordinatorText (withIssued i (coordinatorOf cs))) (sym (add-one n)))));
         }
 

@@ -4,6 +4,7 @@ ghost use mathlib.Core.Bool.{true};
 ghost use Prim.Native.Nat.{_/_};
 ghost use lib.ListN.{length, drop};
 ghost use lib.Dec.{eqb};
+ghost use Rattle.model.specs.Layouts.{coordinatorBytes};
 ghost use Rattle.model.specs.Coordinator.{coordinatorAccepted};
 ghost use Rattle.model.specs.Results.{refused};
 ghost use Rattle.cores.specs.Answers.{toBegun};
@@ -19,7 +20,7 @@ pub fn refusal(n: u32) -> Returned
 
 // Every line of the coordinator sheet has its number issued.
 fn all_spent(coordinator: &[u8], issued: u32) -> bool
-    ensures { λ r. ⌜ r ≡ eqb issued (length (drop 15 (now (coordinator .entry))) / 15) ⌝ }
+    ensures { λ r. ⌜ r ≡ eqb issued (length (drop coordinatorBytes (now (coordinator .entry))) / coordinatorBytes) ⌝ }
 {
     issued as usize == codec::coordinator::count(coordinator)
 }

@@ -3,9 +3,10 @@
 use Rattle.lists.specs.Basics.{_≡_, refl, sym, ap, ap₂, _∙_, ℕ, zero, suc, _+_, _-_, _*_, _≤_, _<_, List, [], _∷_, _++_, append-nil, append-assoc, length}
 use Rattle.lists.specs.Basics.{take, drop, getD, set, length-append, length-take, length-drop, length-set, drop-of-length-le, arith, add-one}
 use native.Mathlib.Nat.{suc-mul, zero-mul}
-use lib.Seq.{take-at, take-all, take-suc-set, append-snoc, drop-at, drop-cons}
+use lib.Seq.{take-at, take-all, take-suc-set, append-snoc, drop-at}
 use Rattle.lists.specs.Each.{joined}
 use Rattle.lists.specs.Pieces.{over, length-over}
+use Rattle.lists.specs.Walks.{drop-here}
 
 pub record FilledTo (w : ℕ) (parts : List (List ℕ)) (target : List ℕ) (i : ℕ) : Type 0 where
   pub place : i ≤ length parts
@@ -34,8 +35,7 @@ fill-next w parts target t i l e n f =
     let m : length target ≡ length parts * w = f .room in
     let s : (i + 1) * w ≡ i * w + w = ap (λ (k : ℕ). k * w) (add-one i) ∙ suc-mul i w in
     let k : length (take (i * w) target ++ t) ≡ i * w + w = simp (length-append, length-take) (omega arith) in
-    let d : drop i parts ≡ t ∷ drop (i + 1) parts =
-    drop-cons parts i [] l ∙ ap₂ _∷_ (sym e) (ap (λ (j : ℕ). drop j parts) (sym (add-one i))) in
+    let d : drop i parts ≡ t ∷ drop (i + 1) parts = drop-here parts i [] t l e in
     let a : take ((i + 1) * w) (over target (i * w) t) ≡ take (i * w) target ++ t =
     ap₂ take s (sym (append-assoc (take (i * w) target) t (drop (i * w + length t) target)))
     ∙ take-at (take (i * w) target ++ t) (drop (i * w + length t) target) (i * w + w) k in
@@ -73,8 +73,7 @@ store-next parts target v i l e f =
     let m : length target ≡ length parts = f .room in
     let t : take (i + 1) (set target i v) ≡ take i target ++ (v ∷ []) =
     ap (λ (k : ℕ). take k (set target i v)) (add-one i) ∙ take-suc-set target i v (omega arith) in
-    let d : drop i parts ≡ v ∷ drop (i + 1) parts =
-    drop-cons parts i 0 l ∙ ap₂ _∷_ (sym e) (ap (λ (j : ℕ). drop j parts) (sym (add-one i))) in
+    let d : drop i parts ≡ v ∷ drop (i + 1) parts = drop-here parts i 0 v l e in
     record {
       place = omega arith;
       room = length-set target i v ∙ m;

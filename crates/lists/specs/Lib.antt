@@ -9,3 +9,4 @@ pub mod Fill
 pub mod Order
 pub mod Pieces
 pub mod Tests
+pub mod Walks

@@ -56,15 +56,6 @@ pieces-add w (suc i) n s =
     (ap (λ (t : List (List _)). take w s ∷ t)
     (pieces-add w i n (drop w s) ∙ ap (λ (t : List _). pieces w i (drop w s) ++ pieces w n t) (drop-drop (i * w) w s)))
 
--- the pieces from place i on
-pub drop-pieces {ℓ} : {A : Type ℓ} (w i n : ℕ) (s : List A) → drop i (pieces w (i + n) s) ≡ pieces w n (drop (i * w) s)
-unfolding pieces
-drop-pieces w zero n s = rw (zero-add, zero-mul)
-drop-pieces w (suc i) n s =
-    let e : suc i + n ≡ suc (i + n) = omega arith in
-    let f : suc i * w ≡ w + i * w = rw suc-mul (omega arith) in
-    rw (e, f) (drop-pieces w i n (drop w s) ∙ ap (pieces w n) (drop-drop (i * w) w s))
-
 pub getD-pieces {ℓ} : {A : Type ℓ} (w i n : ℕ) (s : List A) → i < n → getD (pieces w n s) i [] ≡ take w (drop (i * w) s)
 unfolding pieces
 getD-pieces w i zero s h = absurd (omega arith)

@@ -1,7 +1,11 @@
 -- The layout of every line, as data: widths, kinds and ranges of its fields, in the order of document 01's tables.
-use Rattle.lists.specs.Basics.{ℕ, zero, suc, _+_, List, [], _∷_, take, drop, getD}
+use Rattle.lists.specs.Basics.{ℕ, zero, suc, _+_, _-_, _*_, List, [], _∷_, take, drop, getD}
 use Rattle.lists.specs.Bytes.{bytes}
 use Rattle.model.specs.Types.{Layout, RecordLine, KeyLine, CoordinatorHead, CoordinatorLine, Column, Kind, Figure, StateWord, DecisionWord, UnitLetter}
+
+-- bytes of a word
+abbrev pub wordBytes : ℕ
+wordBytes = 10
 
 -- the words of a kind, each right-justified in ten bytes; a field of fewer columns holds the last bytes of one
 unfoldable pub words : Kind → List (List ℕ)
@@ -35,7 +39,7 @@ recordLayout =
     ∷ figures 3 1 99  -- table
     ∷ figures 6 0 99999  -- partition
     ∷ figures 6 0 99999  -- clustering
-    ∷ word 10 StateWord 2
+    ∷ word wordBytes StateWord 2
     ∷ figures 6 0 99999  -- version
     ∷ figures 4 0 999  -- TxID
     ∷ figures 9 0 99999999  -- column 1
@@ -58,8 +62,14 @@ stateField = 5
 abbrev pub imageField : ℕ
 imageField = stateField + 1
 
+abbrev pub txidField : ℕ
+txidField = imageField + 1
+
 abbrev pub beforeField : ℕ
 beforeField = imageField + imageFields
+
+abbrev pub beforeTxidField : ℕ
+beforeTxidField = beforeField + 1
 
 abbrev pub clockField : ℕ
 clockField = beforeField + imageFields
@@ -108,7 +118,7 @@ headLayout =
     ∷ []
 
 abbrev pub decisionColumn : Column
-decisionColumn = word 10 DecisionWord 2
+decisionColumn = word wordBytes DecisionWord 2
 
 -- line k: its number and its decision
 unfoldable pub lineLayout : List Column
@@ -123,12 +133,30 @@ layout KeyLine = keyLayout
 layout CoordinatorHead = headLayout
 layout CoordinatorLine = lineLayout
 
+-- bytes of the key at the front of a record line
+abbrev pub keyBytes : ℕ
+keyBytes = 20
+
 -- bytes of a record line, and of a coordinator line, LF included
 abbrev pub recordBytes : ℕ
 recordBytes = 98
 
 abbrev pub coordinatorBytes : ℕ
 coordinatorBytes = 15
+
+-- where LF stands in a coordinator line
+abbrev pub lineEnd : ℕ
+lineEnd = coordinatorBytes - 1
+
+-- bytes of the smallest coordinator sheet, a head and one line, and of the largest sheets: 500 record lines; a head and 999 coordinator lines
+abbrev pub leastCoordinatorBytes : ℕ
+leastCoordinatorBytes = coordinatorBytes * 2
+
+abbrev pub mostRecordBytes : ℕ
+mostRecordBytes = recordBytes * 500
+
+abbrev pub mostCoordinatorBytes : ℕ
+mostCoordinatorBytes = coordinatorBytes * 1000
 
 -- numbers of a record, and of a coordinator's head
 abbrev pub recordFields : ℕ

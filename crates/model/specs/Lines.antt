@@ -7,11 +7,11 @@ use Rattle.decimal.specs.declared.Scan.{Scan}
 use Rattle.decimal.specs.declared.Scan.the-variants.{Number, Wrong}
 use Rattle.decimal.specs.Field.{figure, fieldText, number, isNumber}
 use Rattle.model.specs.Types.{Column, Kind, Figure, StateWord, DecisionWord, UnitLetter}
-use Rattle.model.specs.Layouts.{words, wordAt}
+use Rattle.model.specs.Layouts.{words, wordAt, wordBytes}
 
 -- the word t of ten bytes in a field of w columns
 abbrev pub lastBytes : ℕ → List ℕ → List ℕ
-lastBytes w t = drop (10 - w) t
+lastBytes w t = drop (wordBytes - w) t
 
 -- which of the words ts the field holds, counted from n
 unfoldable pub wordFrom : ℕ → List (List ℕ) → ℕ → List ℕ → Scan

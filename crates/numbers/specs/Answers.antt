@@ -1,7 +1,7 @@
 -- What each call answers, case by case in the order of its conditions.
 use Rattle.lists.specs.Basics.{_≡_, refl, _∙_, ℕ, _*_, _/_, true, false, List, map, length, eq-eqb, ne-eqb}
 use Rattle.lists.specs.Each.{joined}
-use Rattle.model.specs.Layouts.{recordLayout, recordBytes}
+use Rattle.model.specs.Layouts.{recordLayout, recordBytes, recordFields}
 use Rattle.model.specs.Lines.{rowOf, lineText, linesOf}
 use Rattle.model.specs.Records.{recordsAccepted, rows, rowsAccepted}
 use Rattle.model.specs.Refusals.{refusalOf}
@@ -18,15 +18,15 @@ module _ (s t : List ℕ) where
   unfolding readRecordsConditions numbersRead refusalOf
   read-bad e = rw e (refl, refl)
 
-  pub read-misfit : recordsAccepted s ≡ true → (length t ≡ length s / recordBytes * 15 → ⊥) → ReadRecords 1 t
+  pub read-misfit : recordsAccepted s ≡ true → (length t ≡ length s / recordBytes * recordFields → ⊥) → ReadRecords 1 t
   unfolding readRecordsConditions numbersRead refusalOf
-  read-misfit e n = rw (e, ne-eqb (length t) (length s / recordBytes * 15) n) (refl, refl)
+  read-misfit e n = rw (e, ne-eqb (length t) (length s / recordBytes * recordFields) n) (refl, refl)
 
-  pub read-done : (u : List ℕ) → recordsAccepted s ≡ true → length t ≡ length s / recordBytes * 15 → u ≡ joined (map (rowOf recordLayout) (linesOf recordBytes s)) → ReadRecords 0 u
+  pub read-done : (u : List ℕ) → recordsAccepted s ≡ true → length t ≡ length s / recordBytes * recordFields → u ≡ joined (map (rowOf recordLayout) (linesOf recordBytes s)) → ReadRecords 0 u
   unfolding readRecordsConditions numbersRead refusalOf
   read-done u e n q =
       let k = numbers-of-lines s e in
-      rw (e, eq-eqb (length t) (length s / recordBytes * 15) n) (refl, q ∙ k)
+      rw (e, eq-eqb (length t) (length s / recordBytes * recordFields) n) (refl, q ∙ k)
 
 -- Numbers to record sheet.
 module _ (v t : List ℕ) where
@@ -37,12 +37,12 @@ module _ (v t : List ℕ) where
   unfolding writeRecordsConditions recordsWritten refusalOf
   write-bad e = rw e (refl, refl)
 
-  pub write-misfit : rowsAccepted v ≡ true → (length t ≡ length v / 15 * recordBytes → ⊥) → WriteRecords 1 t
+  pub write-misfit : rowsAccepted v ≡ true → (length t ≡ length v / recordFields * recordBytes → ⊥) → WriteRecords 1 t
   unfolding writeRecordsConditions recordsWritten refusalOf
-  write-misfit e n = rw (e, ne-eqb (length t) (length v / 15 * recordBytes) n) (refl, refl)
+  write-misfit e n = rw (e, ne-eqb (length t) (length v / recordFields * recordBytes) n) (refl, refl)
 
-  pub write-done : (u : List ℕ) → rowsAccepted v ≡ true → length t ≡ length v / 15 * recordBytes → u ≡ joined (map (lineText recordLayout) (rows v)) → WriteRecords 0 u
+  pub write-done : (u : List ℕ) → rowsAccepted v ≡ true → length t ≡ length v / recordFields * recordBytes → u ≡ joined (map (lineText recordLayout) (rows v)) → WriteRecords 0 u
   unfolding writeRecordsConditions recordsWritten refusalOf
   write-done u e n q =
       let k = lines-of-numbers v e in
-      rw (e, eq-eqb (length t) (length v / 15 * recordBytes) n) (refl, q ∙ k)
+      rw (e, eq-eqb (length t) (length v / recordFields * recordBytes) n) (refl, q ∙ k)

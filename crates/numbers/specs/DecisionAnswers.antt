@@ -5,7 +5,7 @@ use Rattle.lists.specs.Basics.{length-map, length-take, arith, eq-eqb, ne-eqb}
 use Rattle.lists.specs.Tests.{and-fst, and-snd, tests}
 use Rattle.lists.specs.Each.{all, joined}
 use Rattle.lists.specs.All.{map-map, map-equal}
-use Rattle.model.specs.Layouts.{headLayout, lineLayout, decisionColumn, figures}
+use Rattle.model.specs.Layouts.{headLayout, lineLayout, decisionColumn, figures, coordinatorBytes, headFields}
 use Rattle.model.specs.Lines.{rowOf, lineText, lineSet, rowGood, inRange, linesOf, linesSet}
 use Rattle.model.specs.Coordinator.{decisionNumber, decisionOf, decisionIn, decisionTexts, headNumbers, coordinatorOf, coordinatorAccepted, coordinatorText}
 use Rattle.model.specs.Coordinator.{coordinatorNumbers, coordinatorFrom, numbersAccepted}
@@ -26,14 +26,14 @@ field-is line h =
 numbers-in : (s : List ℕ) → coordinatorAccepted s ≡ true → numbersIn s ≡ coordinatorNumbers (coordinatorOf s)
 unfolding numbersIn coordinatorNumbers coordinatorOf headNumbers coordinatorAccepted linesSet
 numbers-in s h =
-    let head : lineSet headLayout (take 15 s) ≡ true = search tests in
-    let each : all (lineSet lineLayout) (linesOf 15 (drop 15 s)) ≡ true = search tests in
-    let r = line-written-read headLayout (take 15 s) head-layout-ok head in
-    let n : length (rowOf headLayout (take 15 s)) ≡ 10 = unfold headLayout in length-rowOf headLayout (take 15 s) in
+    let head : lineSet headLayout (take coordinatorBytes s) ≡ true = search tests in
+    let each : all (lineSet lineLayout) (linesOf coordinatorBytes (drop coordinatorBytes s)) ≡ true = search tests in
+    let r = line-written-read headLayout (take coordinatorBytes s) head-layout-ok head in
+    let n : length (rowOf headLayout (take coordinatorBytes s)) ≡ headFields = unfold headLayout in length-rowOf headLayout (take coordinatorBytes s) in
     sym
-    (ap₂ _++_ (head-numbers (rowOf headLayout (take 15 s)) (r .1) n)
-    (map-map decisionNumber decisionIn (linesOf 15 (drop 15 s))
-    ∙ map-equal (lineSet lineLayout) (λ (x : List ℕ). decisionNumber (decisionIn x)) decisionField field-is (linesOf 15 (drop 15 s)) each))
+    (ap₂ _++_ (head-numbers (rowOf headLayout (take coordinatorBytes s)) (r .1) n)
+    (map-map decisionNumber decisionIn (linesOf coordinatorBytes (drop coordinatorBytes s))
+    ∙ map-equal (lineSet lineLayout) (λ (x : List ℕ). decisionNumber (decisionIn x)) decisionField field-is (linesOf coordinatorBytes (drop coordinatorBytes s)) each))
 
 -- the lines of decisions in range
 texts-are : (k : ℕ) (ds : List ℕ) → all (inRange decisionColumn) ds ≡ true → lineTexts k ds ≡ decisionTexts k (map decisionOf ds)
@@ -45,26 +45,26 @@ texts-are k (d ∷ ds) h =
     (texts-are (suc k) ds (and-snd (inRange decisionColumn d) (all (inRange decisionColumn) ds) h))
 
 -- the head of accepted numbers
-head-is : (v : List ℕ) → 10 ≤ length v → rowGood headLayout (take 10 v) ≡ true → headNumbers (coordinatorFrom v) ≡ take 10 v
+head-is : (v : List ℕ) → headFields ≤ length v → rowGood headLayout (take headFields v) ≡ true → headNumbers (coordinatorFrom v) ≡ take headFields v
 unfolding headNumbers coordinatorFrom
 head-is [] l g = absurd (omega arith)
 head-is (x ∷ v) l g =
-    let n : length (x ∷ take 9 v) ≡ 10 = simp length-take (omega arith) in
+    let n : length (x ∷ take 9 v) ≡ headFields = simp length-take (omega arith) in
     head-numbers (x ∷ take 9 v) g n
 
 -- the sheet for accepted numbers is that of their coordinator
 sheet-for : (v : List ℕ) → numbersAccepted v ≡ true → sheetFor v ≡ coordinatorText (coordinatorFrom v)
 unfolding sheetFor coordinatorText coordinatorFrom numbersAccepted
 sheet-for v h =
-    let l : 10 ≤ length v = search tests in
-    let g : rowGood headLayout (take 10 v) ≡ true = search tests in
-    let each : all (inRange decisionColumn) (drop 10 v) ≡ true = search tests in
-    ap₂ _++_ (ap (lineText headLayout) (sym (head-is v l g))) (ap joined (texts-are 1 (drop 10 v) each))
+    let l : headFields ≤ length v = search tests in
+    let g : rowGood headLayout (take headFields v) ≡ true = search tests in
+    let each : all (inRange decisionColumn) (drop headFields v) ≡ true = search tests in
+    ap₂ _++_ (ap (lineText headLayout) (sym (head-is v l g))) (ap joined (texts-are 1 (drop headFields v) each))
 
 -- Accepted numbers have a head, and at most 999 decisions.
 pub record Sized (v : List ℕ) : Type 0 where
-  pub head : 10 ≤ length v
-  pub few : length (drop 10 v) ≤ 999
+  pub head : headFields ≤ length v
+  pub few : length (drop headFields v) ≤ 999
 
 pub sized : (v : List ℕ) → numbersAccepted v ≡ true → Sized v
 unfolding numbersAccepted coordinatorFrom
@@ -78,34 +78,34 @@ module _ (s t : List ℕ) where
   abbrev pub ReadCoordinator : ℕ → List ℕ → Type 0
   ReadCoordinator r u = (r ≡ refusalOf (readCoordinatorConditions s t)) × (u ≡ decisionsRead s t)
 
-  pub read-misfit : (length t ≡ 10 + length (drop 15 s) / 15 → ⊥) → ReadCoordinator 1 t
+  pub read-misfit : (length t ≡ headFields + length (drop coordinatorBytes s) / coordinatorBytes → ⊥) → ReadCoordinator 1 t
   unfolding readCoordinatorConditions decisionsRead refusalOf
-  read-misfit n = rw (ne-eqb (length t) (10 + length (drop 15 s) / 15) n) (refl, refl)
+  read-misfit n = rw (ne-eqb (length t) (headFields + length (drop coordinatorBytes s) / coordinatorBytes) n) (refl, refl)
 
-  pub read-bad : length t ≡ 10 + length (drop 15 s) / 15 → coordinatorAccepted s ≡ false → ReadCoordinator 2 t
+  pub read-bad : length t ≡ headFields + length (drop coordinatorBytes s) / coordinatorBytes → coordinatorAccepted s ≡ false → ReadCoordinator 2 t
   unfolding readCoordinatorConditions decisionsRead refusalOf
-  read-bad n e = rw (eq-eqb (length t) (10 + length (drop 15 s) / 15) n, e) (refl, refl)
+  read-bad n e = rw (eq-eqb (length t) (headFields + length (drop coordinatorBytes s) / coordinatorBytes) n, e) (refl, refl)
 
-  pub read-done : (u : List ℕ) → length t ≡ 10 + length (drop 15 s) / 15 → coordinatorAccepted s ≡ true → u ≡ numbersIn s → ReadCoordinator 0 u
+  pub read-done : (u : List ℕ) → length t ≡ headFields + length (drop coordinatorBytes s) / coordinatorBytes → coordinatorAccepted s ≡ true → u ≡ numbersIn s → ReadCoordinator 0 u
   unfolding readCoordinatorConditions decisionsRead refusalOf
   read-done u n e q =
       let k = numbers-in s e in
-      rw (eq-eqb (length t) (10 + length (drop 15 s) / 15) n, e) (refl, q ∙ k)
+      rw (eq-eqb (length t) (headFields + length (drop coordinatorBytes s) / coordinatorBytes) n, e) (refl, q ∙ k)
 
 -- Numbers to coordinator sheet.
 module _ (v t : List ℕ) where
   abbrev pub WriteCoordinator : ℕ → List ℕ → Type 0
   WriteCoordinator r u = (r ≡ refusalOf (writeCoordinatorConditions v t)) × (u ≡ coordinatorWritten v t)
 
-  pub write-misfit : eqb (length t) (15 + length (drop 10 v) * 15) ≡ false → WriteCoordinator 1 t
+  pub write-misfit : eqb (length t) (coordinatorBytes + length (drop headFields v) * coordinatorBytes) ≡ false → WriteCoordinator 1 t
   unfolding writeCoordinatorConditions coordinatorWritten refusalOf
   write-misfit n = rw n (refl, refl)
 
-  pub write-bad : eqb (length t) (15 + length (drop 10 v) * 15) ≡ true → numbersAccepted v ≡ false → WriteCoordinator 2 t
+  pub write-bad : eqb (length t) (coordinatorBytes + length (drop headFields v) * coordinatorBytes) ≡ true → numbersAccepted v ≡ false → WriteCoordinator 2 t
   unfolding writeCoordinatorConditions coordinatorWritten refusalOf
   write-bad n e = rw (n, e) (refl, refl)
 
-  pub write-done : (u : List ℕ) → eqb (length t) (15 + length (drop 10 v) * 15) ≡ true → numbersAccepted v ≡ true → u ≡ sheetFor v → WriteCoordinator 0 u
+  pub write-done : (u : List ℕ) → eqb (length t) (coordinatorBytes + length (drop headFields v) * coordinatorBytes) ≡ true → numbersAccepted v ≡ true → u ≡ sheetFor v → WriteCoordinator 0 u
   unfolding writeCoordinatorConditions coordinatorWritten refusalOf
   write-done u n e q =
       let k = sheet-for v e in

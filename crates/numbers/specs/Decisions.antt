@@ -1,14 +1,13 @@
 -- A coordinator as numbers, judged decision by decision: below the issued count any of the three, from it on none.
 -- The two tests of the rules, range and no decision, are one pass, by induction on the decisions.
 use Rattle.lists.specs.Basics.{_≡_, refl, sym, ap, ap₂, _∙_, ℕ, zero, suc, _+_, _-_, _*_, _/_, _%_, _≤_, _<_, eqb, leb, Bool, true, false, _&&_, and-assoc}
-use Rattle.lists.specs.Basics.{List, [], _∷_, map, length, take, drop, getD, length-map, length-take, length-drop, drop-of-length-le, arith, add-one, eqb-true}
-use Rattle.lists.specs.Basics.{leb-true, eq-eqb, ne-eqb, le-leb, lt-leb}
-use lib.Seq.{drop-cons}
+use Rattle.lists.specs.Basics.{and-false, List, [], _∷_, map, length, take, drop, getD, length-map, length-take, length-drop, arith, eqb-true, leb-true, eq-eqb}
+use Rattle.lists.specs.Basics.{ne-eqb, le-leb, lt-leb}
 use lib.Dec.{leb·zero}
 use Rattle.lists.specs.Tests.{same-test, and-swap}
 use Rattle.lists.specs.Each.{all}
-use Rattle.lists.specs.Chosen.{and-false}
-use Rattle.model.specs.Layouts.{headLayout, decisionColumn}
+use Rattle.lists.specs.Walks.{LeftFrom, left-first, left-here, left-last}
+use Rattle.model.specs.Layouts.{headLayout, decisionColumn, coordinatorBytes, headFields}
 use Rattle.model.specs.Lines.{inRange, rowGood}
 use Rattle.model.specs.Coordinator.{decisionOf, unitOf, isUndecided, coordinatorGood, coordinatorFrom, numbersAccepted}
 
@@ -58,22 +57,18 @@ decisions-pass (suc k) (d ∷ ds) =
     ∙ rw e (ap₂ _&&_ (ranged d) (decisions-pass k ds))
 
 -- How far the decisions have been judged.
-pub record PassedTo (issued : ℕ) (ds : List ℕ) (i : ℕ) : Type 0 where
-  pub place : i ≤ length ds
-  pub rest : decisionsPass (issued - i) (drop i ds) ≡ decisionsPass issued ds
+abbrev pub PassedTo : (issued : ℕ) (ds : List ℕ) (i : ℕ) → Type 0
+PassedTo issued ds i = LeftFrom ds (decisionsPass (issued - i)) (decisionsPass issued ds) i
 
 pub pass-first : (issued : ℕ) (ds : List ℕ) → PassedTo issued ds 0
-pass-first issued ds =
-    let e : issued - 0 ≡ issued = omega arith in
-    record { place = omega arith; rest = ap (λ (k : ℕ). decisionsPass k ds) e }
+pass-first issued ds = let e : issued - 0 ≡ issued = omega arith in rw e (left-first ds (decisionsPass issued))
 
 module _ (issued : ℕ) (ds : List ℕ) (i : ℕ) (here : i < length ds) (p : PassedTo issued ds i) where
   pass-turn : (leb (getD ds i 0) (highest (issued - i)) && decisionsPass (issued - (i + 1)) (drop (i + 1) ds)) ≡ decisionsPass issued ds
   unfolding decisionsPass
   pass-turn =
       let e : issued - (i + 1) ≡ issued - i - 1 = omega arith in
-      let d : drop i ds ≡ getD ds i 0 ∷ drop (i + 1) ds = drop-cons ds i 0 here ∙ ap (λ (k : ℕ). getD ds i 0 ∷ drop k ds) (sym (add-one i)) in
-      rw e (sym (ap (decisionsPass (issued - i)) d) ∙ p .rest)
+      rw e (left-here ds (decisionsPass (issued - i)) 0 (getD ds i 0) (decisionsPass issued ds) i here refl p)
 
   pub pass-bad : highest (issued - i) < getD ds i 0 → false ≡ decisionsPass issued ds
   pass-bad l = rw (lt-leb (getD ds i 0) (highest (issued - i)) l) at pass-turn
@@ -83,9 +78,7 @@ module _ (issued : ℕ) (ds : List ℕ) (i : ℕ) (here : i < length ds) (p : Pa
 
 pub pass-last : (issued : ℕ) (ds : List ℕ) (i : ℕ) → length ds ≤ i → PassedTo issued ds i → true ≡ decisionsPass issued ds
 unfolding decisionsPass
-pass-last issued ds i l p =
-    let d : drop i ds ≡ [] = drop-of-length-le ds l in
-    rw d at (p .rest)
+pass-last issued ds i l p = left-last ds (decisionsPass (issued - i)) (decisionsPass issued ds) i l p
 
 -- the decisions judged last
 reorder : (g a b c d z : Bool) → (g && a && (b && c && d && z)) ≡ (g && (b && (c && (d && (a && z)))))
@@ -94,32 +87,32 @@ reorder true a b c d z =
     and-swap true a (b && c && d) z ∙ (and-assoc (b && c) d (a && z) ∙ and-assoc b c (d && (a && z)))
 
 -- the acceptance of numbers, in the order in which the code asks
-pub accepted-numbers : (v : List ℕ) → numbersAccepted v ≡ (leb 10 (length v) && (rowGood headLayout (take 10 v) && (leb 1 (length v - 10) && (leb (length v - 10) 999 && (leb (getD v 0 0) (length v - 10) && decisionsPass (getD v 0 0) (drop 10 v))))))
+pub accepted-numbers : (v : List ℕ) → numbersAccepted v ≡ (leb headFields (length v) && (rowGood headLayout (take headFields v) && (leb 1 (length v - headFields) && (leb (length v - headFields) 999 && (leb (getD v 0 0) (length v - headFields) && decisionsPass (getD v 0 0) (drop headFields v))))))
 unfolding numbersAccepted coordinatorGood coordinatorFrom
-accepted-numbers v = go (leb 10 (length v)) refl
+accepted-numbers v = go (leb headFields (length v)) refl
   where
-    count : length (map decisionOf (drop 10 v)) ≡ length v - 10
-    count = length-map (drop 10 v) decisionOf ∙ length-drop 10 v
+    count : length (map decisionOf (drop headFields v)) ≡ length v - headFields
+    count = length-map (drop headFields v) decisionOf ∙ length-drop headFields v
 
-    go : (b : Bool) → leb 10 (length v) ≡ b → numbersAccepted v ≡ (leb 10 (length v) && (rowGood headLayout (take 10 v) && (leb 1 (length v - 10) && (leb (length v - 10) 999 && (leb (getD v 0 0) (length v - 10) && decisionsPass (getD v 0 0) (drop 10 v))))))
+    go : (b : Bool) → leb headFields (length v) ≡ b → numbersAccepted v ≡ (leb headFields (length v) && (rowGood headLayout (take headFields v) && (leb 1 (length v - headFields) && (leb (length v - headFields) 999 && (leb (getD v 0 0) (length v - headFields) && decisionsPass (getD v 0 0) (drop headFields v))))))
     go true e =
-        let l = leb-true 10 (length v) e in
+        let l = leb-true headFields (length v) e in
         let n : length (map unitOf (take 9 (drop 1 v))) ≡ 9 = length-map (take 9 (drop 1 v)) unitOf ∙ simp (length-take, length-drop) (omega arith) in
         rw (e, n, count)
-        (reorder (rowGood headLayout (take 10 v)) (all (inRange decisionColumn) (drop 10 v)) (leb 1 (length v - 10)) (leb (length v - 10) 999) (leb (getD v 0 0) (length v - 10)) (all isUndecided (drop (getD v 0 0) (map decisionOf (drop 10 v))))
-        ∙ ap (λ (b : Bool). rowGood headLayout (take 10 v) && (leb 1 (length v - 10) && (leb (length v - 10) 999 && (leb (getD v 0 0) (length v - 10) && b)))) (decisions-pass (getD v 0 0) (drop 10 v)))
+        (reorder (rowGood headLayout (take headFields v)) (all (inRange decisionColumn) (drop headFields v)) (leb 1 (length v - headFields)) (leb (length v - headFields) 999) (leb (getD v 0 0) (length v - headFields)) (all isUndecided (drop (getD v 0 0) (map decisionOf (drop headFields v))))
+        ∙ ap (λ (b : Bool). rowGood headLayout (take headFields v) && (leb 1 (length v - headFields) && (leb (length v - headFields) 999 && (leb (getD v 0 0) (length v - headFields) && b)))) (decisions-pass (getD v 0 0) (drop headFields v)))
     go false e = rw e
 
 -- The room for a head and n lines, by whole lines.
 
-pub room-short : (m n : ℕ) → m < 15 → false ≡ eqb m (15 + n * 15)
-room-short m n l = sym (ne-eqb m (15 + n * 15) (λ e. omega arith))
+pub room-short : (m n : ℕ) → m < coordinatorBytes → false ≡ eqb m (coordinatorBytes + n * coordinatorBytes)
+room-short m n l = sym (ne-eqb m (coordinatorBytes + n * coordinatorBytes) (λ e. omega arith))
 
-pub room-broken : (m n : ℕ) → (m % 15 ≡ 0 → ⊥) → false ≡ eqb m (15 + n * 15)
-room-broken m n b = sym (ne-eqb m (15 + n * 15) (λ e. b (omega arith)))
+pub room-broken : (m n : ℕ) → (m % coordinatorBytes ≡ 0 → ⊥) → false ≡ eqb m (coordinatorBytes + n * coordinatorBytes)
+room-broken m n b = sym (ne-eqb m (coordinatorBytes + n * coordinatorBytes) (λ e. b (omega arith)))
 
-pub room-lines : (m n : ℕ) → 15 ≤ m → m % 15 ≡ 0 → eqb (m / 15 - 1) n ≡ eqb m (15 + n * 15)
+pub room-lines : (m n : ℕ) → coordinatorBytes ≤ m → m % coordinatorBytes ≡ 0 → eqb (m / coordinatorBytes - 1) n ≡ eqb m (coordinatorBytes + n * coordinatorBytes)
 room-lines m n l w =
-    same-test (eqb (m / 15 - 1) n) (eqb m (15 + n * 15))
-    (λ e. let q = eqb-true (m / 15 - 1) n e in eq-eqb m (15 + n * 15) (omega arith))
-    (λ e. let q = eqb-true m (15 + n * 15) e in eq-eqb (m / 15 - 1) n (omega arith))
+    same-test (eqb (m / coordinatorBytes - 1) n) (eqb m (coordinatorBytes + n * coordinatorBytes))
+    (λ e. let q = eqb-true (m / coordinatorBytes - 1) n e in eq-eqb m (coordinatorBytes + n * coordinatorBytes) (omega arith))
+    (λ e. let q = eqb-true m (coordinatorBytes + n * coordinatorBytes) e in eq-eqb (m / coordinatorBytes - 1) n (omega arith))

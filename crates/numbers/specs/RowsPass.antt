@@ -1,13 +1,13 @@
 -- Records as numbers, judged row by row: each row by itself, and its key against the next row's. Where a row is in range,
 -- its record's numbers are the row again, so that the record's ranges need not be asked twice.
 use Rattle.lists.specs.Basics.{_≡_, refl, sym, ap, ap₂, _∙_, ℕ, _+_, _-_, _*_, _/_, _≤_, _<_, eqb, leb, Bool, true, false, _&&_, and-assoc, List, [], _∷_, map}
-use Rattle.lists.specs.Basics.{length, take, drop, length-map, drop-of-length-le, arith, add-one, eqb-true}
-use lib.Seq.{drop-cons}
+use Rattle.lists.specs.Basics.{length, take, drop, getD, length-map, drop-of-length-le, arith, eqb-true}
 use Rattle.lists.specs.Tests.{and-fst, and-snd, and-both, same-test}
-use Rattle.lists.specs.Each.{all, pieces}
+use Rattle.lists.specs.Each.{all}
 use Rattle.lists.specs.All.{pieces-whole}
-use Rattle.lists.specs.Pieces.{length-pieces, getD-pieces}
-use Rattle.model.specs.Layouts.{recordLayout}
+use Rattle.lists.specs.Pieces.{getD-pieces}
+use Rattle.lists.specs.Walks.{drop-here, LeftFrom, left-here, left-last}
+use Rattle.model.specs.Layouts.{recordLayout, recordFields}
 use Rattle.model.specs.Lines.{rowGood}
 use Rattle.model.specs.Records.{recordOf, recordNumbers, stateRule, goodAlone, keyLess, inOrder, rising, recordsGood, rows, rowsAccepted}
 use Rattle.sheet_laws.specs.Numbers.{length-rows, row-same}
@@ -26,7 +26,7 @@ rowsPass [] = true
 rowsPass (v ∷ vs) = rowOk v && (before v vs && rowsPass vs)
 
 abbrev whole : List ℕ → Bool
-whole v = eqb (length v) 15
+whole v = eqb (length v) recordFields
 
 -- a row in range and its record
 row-good : (v : List ℕ) → whole v ≡ true → (rowGood recordLayout v && goodAlone (recordOf v)) ≡ rowOk v
@@ -64,28 +64,24 @@ rows-pass (v ∷ vs) n =
     ∙ ap₂ (λ (a b : Bool). a && (before v vs && b)) r i
 
 -- How far the rows have been judged.
-pub record JudgedTo (v : List ℕ) (i : ℕ) : Type 0 where
-  pub place : i ≤ length v / 15
-  pub rest : rowsPass (drop i (rows v)) ≡ rowsPass (rows v)
-
-pub judge-first : (v : List ℕ) → JudgedTo v 0
-judge-first v = record { place = omega arith; rest = refl }
+abbrev pub JudgedTo : (v : List ℕ) (i : ℕ) → Type 0
+JudgedTo v i = LeftFrom (rows v) rowsPass (rowsPass (rows v)) i
 
 -- row i
 abbrev pub rowAt : List ℕ → ℕ → List ℕ
-rowAt v i = take 15 (drop (i * 15) v)
+rowAt v i = take recordFields (drop (i * recordFields) v)
 
-module _ (v : List ℕ) (i : ℕ) (here : i < length v / 15) where
-  rows-here : drop i (rows v) ≡ rowAt v i ∷ drop (i + 1) (rows v)
+module _ (v : List ℕ) (i : ℕ) (here : i < length v / recordFields) where
+  row-here : rowAt v i ≡ getD (rows v) i []
   unfolding rows
-  rows-here =
-      let n : i < length (pieces 15 (length v / 15) v) = omega (arith, length-pieces 15 (length v / 15) v) in
-      drop-cons (pieces 15 (length v / 15) v) i [] n
-      ∙ ap₂ _∷_ (getD-pieces 15 i (length v / 15) v here) (ap (λ (k : ℕ). drop k (rows v)) (sym (add-one i)))
+  row-here = sym (getD-pieces recordFields i (length v / recordFields) v here)
+
+  rows-here : drop i (rows v) ≡ rowAt v i ∷ drop (i + 1) (rows v)
+  rows-here = drop-here (rows v) i [] (rowAt v i) (omega (arith, length-rows v)) row-here
 
   judge-turn : JudgedTo v i → (rowOk (rowAt v i) && (before (rowAt v i) (drop (i + 1) (rows v)) && rowsPass (drop (i + 1) (rows v)))) ≡ rowsPass (rows v)
   unfolding rowsPass
-  judge-turn j = sym (ap rowsPass rows-here) ∙ j .rest
+  judge-turn j = left-here (rows v) rowsPass [] (rowAt v i) (rowsPass (rows v)) i (omega (arith, length-rows v)) row-here j
 
   pub judge-bad : JudgedTo v i → rowOk (rowAt v i) ≡ false → false ≡ rowsPass (rows v)
   judge-bad j e = rw e at (judge-turn j)
@@ -94,30 +90,26 @@ module _ (v : List ℕ) (i : ℕ) (here : i < length v / 15) where
   judge-late j e f = rw (e, f) at (judge-turn j)
 
   pub judge-next : JudgedTo v i → rowOk (rowAt v i) ≡ true → before (rowAt v i) (drop (i + 1) (rows v)) ≡ true → JudgedTo v (i + 1)
-  judge-next j e f = record { place = omega arith; rest = rw (e, f) at (judge-turn j) }
+  judge-next j e f = record { place = omega (arith, length-rows v); rest = rw (e, f) at (judge-turn j) }
 
 -- the last row comes before none
-pub before-none : (v : List ℕ) (i : ℕ) → length v / 15 ≤ i + 1 → true ≡ before (rowAt v i) (drop (i + 1) (rows v))
-unfolding rows inOrder
+pub before-none : (v : List ℕ) (i : ℕ) → length v / recordFields ≤ i + 1 → true ≡ before (rowAt v i) (drop (i + 1) (rows v))
+unfolding inOrder
 before-none v i l =
-    let n : length (pieces 15 (length v / 15) v) ≤ i + 1 = omega (arith, length-pieces 15 (length v / 15) v) in
-    let d : drop (i + 1) (pieces 15 (length v / 15) v) ≡ [] = drop-of-length-le (pieces 15 (length v / 15) v) n in
-    rw d
+    let n : length (rows v) ≤ i + 1 = omega (arith, length-rows v) in
+    rw (drop-of-length-le (rows v) n)
 
-pub before-next : (v : List ℕ) (i : ℕ) → i + 1 < length v / 15 → keyLess (recordOf (rowAt v i) .key) (recordOf (rowAt v (i + 1)) .key) ≡ before (rowAt v i) (drop (i + 1) (rows v))
+pub before-next : (v : List ℕ) (i : ℕ) → i + 1 < length v / recordFields → keyLess (recordOf (rowAt v i) .key) (recordOf (rowAt v (i + 1)) .key) ≡ before (rowAt v i) (drop (i + 1) (rows v))
 unfolding inOrder
 before-next v i l = rw (rows-here v (i + 1) l)
 
-pub judge-last : (v : List ℕ) (i : ℕ) → length v / 15 ≤ i → JudgedTo v i → true ≡ rowsPass (rows v)
-unfolding rows rowsPass
-judge-last v i l j =
-    let n : length (pieces 15 (length v / 15) v) ≤ i = omega (arith, length-pieces 15 (length v / 15) v) in
-    let d : drop i (pieces 15 (length v / 15) v) ≡ [] = drop-of-length-le (pieces 15 (length v / 15) v) n in
-    rw d at (j .rest)
+pub judge-last : (v : List ℕ) (i : ℕ) → length v / recordFields ≤ i → JudgedTo v i → true ≡ rowsPass (rows v)
+unfolding rowsPass
+judge-last v i l j = left-last (rows v) rowsPass (rowsPass (rows v)) i (omega (arith, length-rows v)) j
 
-rows-whole : (v : List ℕ) → length v ≡ length v / 15 * 15 → all whole (rows v) ≡ true
+rows-whole : (v : List ℕ) → length v ≡ length v / recordFields * recordFields → all whole (rows v) ≡ true
 unfolding rows
-rows-whole v n = pieces-whole 15 (length v / 15) v n
+rows-whole v n = pieces-whole recordFields (length v / recordFields) v n
 
 -- bounds on the count asked before the rows
 reorder : (g l m a r : Bool) → (g && (l && m && a && r)) ≡ (l && (m && (g && (a && r))))
@@ -127,30 +119,30 @@ reorder false true false a r = refl
 reorder false true true a r = refl
 
 -- the acceptance of numbers, in the order in which the code asks
-pub accepted-rows : (v : List ℕ) → rowsAccepted v ≡ (eqb (length v) (length v / 15 * 15) && (leb 1 (length v / 15) && (leb (length v / 15) 500 && rowsPass (rows v))))
+pub accepted-rows : (v : List ℕ) → rowsAccepted v ≡ (eqb (length v) (length v / recordFields * recordFields) && (leb 1 (length v / recordFields) && (leb (length v / recordFields) 500 && rowsPass (rows v))))
 unfolding rowsAccepted recordsGood
-accepted-rows v = go (eqb (length v) (length v / 15 * 15)) refl
+accepted-rows v = go (eqb (length v) (length v / recordFields * recordFields)) refl
   where
-    count : length (map recordOf (rows v)) ≡ length v / 15
+    count : length (map recordOf (rows v)) ≡ length v / recordFields
     count = length-map (rows v) recordOf ∙ length-rows v
 
-    go : (b : Bool) → eqb (length v) (length v / 15 * 15) ≡ b → rowsAccepted v ≡ (eqb (length v) (length v / 15 * 15) && (leb 1 (length v / 15) && (leb (length v / 15) 500 && rowsPass (rows v))))
+    go : (b : Bool) → eqb (length v) (length v / recordFields * recordFields) ≡ b → rowsAccepted v ≡ (eqb (length v) (length v / recordFields * recordFields) && (leb 1 (length v / recordFields) && (leb (length v / recordFields) 500 && rowsPass (rows v))))
     go true e =
-        let w = rows-whole v (eqb-true (length v) (length v / 15 * 15) e) in
+        let w = rows-whole v (eqb-true (length v) (length v / recordFields * recordFields) e) in
         rw (e, count)
-        (reorder (all (rowGood recordLayout) (rows v)) (leb 1 (length v / 15)) (leb (length v / 15) 500) (all goodAlone (map recordOf (rows v))) (rising (map recordOf (rows v)))
-        ∙ ap (λ (b : Bool). leb 1 (length v / 15) && (leb (length v / 15) 500 && b)) (rows-pass (rows v) w))
+        (reorder (all (rowGood recordLayout) (rows v)) (leb 1 (length v / recordFields)) (leb (length v / recordFields) 500) (all goodAlone (map recordOf (rows v))) (rising (map recordOf (rows v)))
+        ∙ ap (λ (b : Bool). leb 1 (length v / recordFields) && (leb (length v / recordFields) 500 && b)) (rows-pass (rows v) w))
     go false e = rw e
 
 -- Row i as the code lends it, and the row after it.
 
-pub row-part : (v : List ℕ) (i : ℕ) → take (i * 15 + 15 - i * 15) (drop (i * 15) v) ≡ rowAt v i
-row-part v i = let w : i * 15 + 15 - i * 15 ≡ 15 = omega arith in rw w
+pub row-part : (v : List ℕ) (i : ℕ) → take (i * recordFields + recordFields - i * recordFields) (drop (i * recordFields) v) ≡ rowAt v i
+row-part v i = let w : i * recordFields + recordFields - i * recordFields ≡ recordFields = omega arith in rw w
 
-pub row-part-next : (v : List ℕ) (i : ℕ) → take (i * 15 + 15 + 15 - (i * 15 + 15)) (drop (i * 15 + 15) v) ≡ rowAt v (i + 1)
+pub row-part-next : (v : List ℕ) (i : ℕ) → take (i * recordFields + recordFields + recordFields - (i * recordFields + recordFields)) (drop (i * recordFields + recordFields) v) ≡ rowAt v (i + 1)
 row-part-next v i =
-    let w : i * 15 + 15 + 15 - (i * 15 + 15) ≡ 15 = omega arith in
-    let e : (i + 1) * 15 ≡ i * 15 + 15 = omega arith in
+    let w : i * recordFields + recordFields + recordFields - (i * recordFields + recordFields) ≡ recordFields = omega arith in
+    let e : (i + 1) * recordFields ≡ i * recordFields + recordFields = omega arith in
     rw (w, e)
 
 pub row-out : (v : List ℕ) → rowGood recordLayout v ≡ false → false ≡ rowOk v

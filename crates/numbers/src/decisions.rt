@@ -5,12 +5,15 @@ ghost use Prim.Native.Nat.{_+_, _-_, _*_, _/_, _≤_};
 ghost use lib.ListN.{length, drop};
 ghost use lib.Dec.{eqb};
 ghost use Rattle.lists.specs.Each.{joined};
+ghost use Rattle.model.specs.Layouts.{coordinatorBytes, headFields};
 ghost use Rattle.model.specs.Lines.{linesOf};
 ghost use Rattle.model.specs.Coordinator.{numbersAccepted};
 ghost use Rattle.model.specs.Refusals.{refusalOf};
 ghost use Rattle.model.specs.SheetCalls.{readCoordinatorConditions, decisionsRead, writeCoordinatorConditions, coordinatorWritten};
 ghost use Rattle.numbers.specs.Decisions.{highest, decisionsPass};
 ghost use Rattle.numbers.specs.DecisionFills.{decisionField, lineTexts, numbersIn, sheetFor};
+use types::COORDINATOR_BYTES;
+use types::HEAD_FIELDS;
 use types::Layout;
 
 // The highest decision that may stand at place i: none from the issued count on.
@@ -47,13 +50,13 @@ fn as_count(issued: u32) -> usize
 pub fn numbers_ok(numbers: &[u32]) -> bool
     ensures { λ r. ⌜ r ≡ numbersAccepted (now (numbers .entry)) ⌝ }
 {
-    if numbers.len() < 10 {
+    if numbers.len() < HEAD_FIELDS {
         return false;
     }
-    if !codec::lines::row_good(Layout::CoordinatorHead, &numbers[..10]) {
+    if !codec::lines::row_good(Layout::CoordinatorHead, &numbers[..HEAD_FIELDS]) {
         return false;
     }
-    let n = numbers.len() - 10;
+    let n = numbers.len() - HEAD_FIELDS;
     if n < 1 {
         return false;
     }
@@ -64,18 +67,18 @@ pub fn numbers_ok(numbers: &[u32]) -> bool
     if n < issued {
         return false;
     }
-    decisions_pass(&numbers[10..], issued)
+    decisions_pass(&numbers[HEAD_FIELDS..], issued)
 }
 
 // The decision of every line over the target.
 fn fill_decisions(lines: &[u8], numbers: &mut [u32])
-    requires { ⌜ length (now numbers) ≡ length (now lines) / 15 ⌝ }
-    ensures { λ r. ⌜ now (numbers .exit) ≡ map decisionField (linesOf 15 (now (lines .entry))) ⌝ }
+    requires { ⌜ length (now numbers) ≡ length (now lines) / coordinatorBytes ⌝ }
+    ensures { λ r. ⌜ now (numbers .exit) ≡ map decisionField (linesOf coordinatorBytes (now (lines .entry))) ⌝ }
 {
-    let n = lines.len() / 15;
+    let n = lines.len() / COORDINATOR_BYTES;
     for i in 0..n {
-        let at = i * 15;
-        let end = at + 15;
+        let at = i * COORDINATOR_BYTES;
+        let end = at + COORDINATOR_BYTES;
         let mut row = [0u32; 2];
         codec::lines::read_row(Layout::CoordinatorLine, &lines[at..end], &mut row);
         numbers[i] = row[1];
@@ -85,13 +88,13 @@ fn fill_decisions(lines: &[u8], numbers: &mut [u32])
 // The line of every decision over the target.
 fn fill_lines(decisions: &[u32], lines: &mut [u8])
     requires { ⌜ length (now decisions) ≤ 999 ⌝ }
-    requires { ⌜ length (now lines) ≡ length (now decisions) * 15 ⌝ }
+    requires { ⌜ length (now lines) ≡ length (now decisions) * coordinatorBytes ⌝ }
     ensures { λ r. ⌜ now (lines .exit) ≡ joined (lineTexts 1 (now (decisions .entry))) ⌝ }
 {
     let n = decisions.len();
     for i in 0..n {
-        let at = i * 15;
-        let end = at + 15;
+        let at = i * COORDINATOR_BYTES;
+        let end = at + COORDINATOR_BYTES;
         let row = [(i + 1) as u32, decisions[i]];
         codec::lines::write_row(Layout::CoordinatorLine, &row, &mut lines[at..end]);
     }
@@ -99,55 +102,61 @@ fn fill_lines(decisions: &[u32], lines: &mut [u8])
 
 // How many numbers stand after those of the head.
 fn decision_count(numbers: &[u32]) -> usize
-    ensures { λ r. ⌜ r ≡ length (drop 10 (now (numbers .entry))) ⌝ }
+    ensures { λ r. ⌜ r ≡ length (drop headFields (now (numbers .entry))) ⌝ }
 {
-    if numbers.len() < 10 {
+    if numbers.len() < HEAD_FIELDS {
         return 0;
     }
-    numbers.len() - 10
+    numbers.len() - HEAD_FIELDS
 }
 
 // The target has room for the head and every line exactly. Divided, since the bytes of the lines may be more than a number holds.
 fn has_room(coordinator: &[u8], numbers: &[u32]) -> bool
-    ensures { λ r. ⌜ r ≡ eqb (length (now (coordinator .entry))) (15 + length (drop 10 (now (numbers .entry))) * 15) ⌝ }
+    ensures { λ r. ⌜ r ≡ eqb (length (now (coordinator .entry))) (coordinatorBytes + length (drop headFields (now (numbers .entry))) * coordinatorBytes) ⌝ }
 {
     let size = coordinator.len();
-    if size < 15 {
+    if size < COORDINATOR_BYTES {
         return false;
     }
-    if size % 15 != 0 {
+    if size % COORDINATOR_BYTES != 0 {
         return false;
     }
-    size / 15 - 1 == decision_count(numbers)
+    size / COORDINATOR_BYTES - 1 == decision_count(numbers)
 }
 
 // The numbers of the head and of every decision over the target.
 fn fill_numbers(coordinator: &[u8], numbers: &mut [u32])
-    requires { ⌜ 15 ≤ length (now coordinator) ⌝ }
-    requires { ⌜ length (now numbers) ≡ 10 + length (drop 15 (now coordinator)) / 15 ⌝ }
+    requires { ⌜ coordinatorBytes ≤ length (now coordinator) ⌝ }
+    requires { ⌜ length (now numbers) ≡ headFields + length (drop coordinatorBytes (now coordinator)) / coordinatorBytes ⌝ }
     ensures { λ r. ⌜ now (numbers .exit) ≡ numbersIn (now (coordinator .entry)) ⌝ }
 {
     codec::lines::read_row(
         Layout::CoordinatorHead,
-        &coordinator[..15],
-        &mut numbers[..10],
+        &coordinator[..COORDINATOR_BYTES],
+        &mut numbers[..HEAD_FIELDS],
     );
-    fill_decisions(&coordinator[15..], &mut numbers[10..]);
+    fill_decisions(
+        &coordinator[COORDINATOR_BYTES..],
+        &mut numbers[HEAD_FIELDS..],
+    );
 }
 
 // The head and the line of every decision over the target.
 fn fill_sheet(numbers: &[u32], coordinator: &mut [u8])
-    requires { ⌜ 10 ≤ length (now numbers) ⌝ }
-    requires { ⌜ length (drop 10 (now numbers)) ≤ 999 ⌝ }
-    requires { ⌜ length (now coordinator) ≡ 15 + length (drop 10 (now numbers)) * 15 ⌝ }
+    requires { ⌜ headFields ≤ length (now numbers) ⌝ }
+    requires { ⌜ length (drop headFields (now numbers)) ≤ 999 ⌝ }
+    requires { ⌜ length (now coordinator) ≡ coordinatorBytes + length (drop headFields (now numbers)) * coordinatorBytes ⌝ }
     ensures { λ r. ⌜ now (coordinator .exit) ≡ sheetFor (now (numbers .entry)) ⌝ }
 {
     codec::lines::write_row(
         Layout::CoordinatorHead,
-        &numbers[..10],
-        &mut coordinator[..15],
+        &numbers[..HEAD_FIELDS],
+        &mut coordinator[..COORDINATOR_BYTES],
     );
-    fill_lines(&numbers[10..], &mut coordinator[15..]);
+    fill_lines(
+        &numbers[HEAD_FIELDS..],
+        &mut coordinator[COORDINATOR_BYTES..],
+    );
 }
 
 // Coordinator sheet to numbers: 0, or the refusal.
@@ -155,7 +164,7 @@ pub fn read_coordinator(coordinator: &[u8], numbers: &mut [u32]) -> u32
     ensures answer { λ r. ⌜ r ≡ refusalOf (readCoordinatorConditions (now (coordinator .entry)) (now (numbers .entry))) ⌝ }
     ensures target { λ r. ⌜ now (numbers .exit) ≡ decisionsRead (now (coordinator .entry)) (now (numbers .entry)) ⌝ }
 {
-    if numbers.len() != 10 + codec::coordinator::count(coordinator) {
+    if numbers.len() != HEAD_FIELDS + codec::coordinator::count(coordinator) {
         return 1;
     }
     if !coordinator_check::coordinator_ok(coordinator) {

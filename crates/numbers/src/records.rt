@@ -4,7 +4,7 @@ ghost use mathlib.Core.List.{map};
 ghost use Prim.Native.Nat.{_*_, _/_};
 ghost use lib.ListN.{length};
 ghost use Rattle.lists.specs.Each.{joined};
-ghost use Rattle.model.specs.Layouts.{recordLayout, recordBytes};
+ghost use Rattle.model.specs.Layouts.{recordLayout, recordBytes, recordFields};
 ghost use Rattle.model.specs.Lines.{rowOf, lineText, linesOf};
 ghost use Rattle.model.specs.Records.{rows};
 ghost use Rattle.model.specs.Refusals.{refusalOf};
@@ -12,18 +12,19 @@ ghost use Rattle.model.specs.SheetCalls.{readRecordsConditions, numbersRead, wr
 use crate::rows;
 use types::Layout;
 use types::RECORD_BYTES;
+use types::RECORD_FIELDS;
 
 // The numbers of every line over the target.
 fn fill_numbers(records: &[u8], numbers: &mut [u32])
-    requires { ⌜ length (now numbers) ≡ length (now records) / recordBytes * 15 ⌝ }
+    requires { ⌜ length (now numbers) ≡ length (now records) / recordBytes * recordFields ⌝ }
     ensures { λ r. ⌜ now (numbers .exit) ≡ joined (map (rowOf recordLayout) (linesOf recordBytes (now (records .entry)))) ⌝ }
 {
     let n = records.len() / RECORD_BYTES;
     for i in 0..n {
         let at = i * RECORD_BYTES;
         let end = at + RECORD_BYTES;
-        let to = i * 15;
-        let past = to + 15;
+        let to = i * RECORD_FIELDS;
+        let past = to + RECORD_FIELDS;
         codec::lines::read_row(
             Layout::RecordLine,
             &records[at..end],
@@ -34,13 +35,13 @@ fn fill_numbers(records: &[u8], numbers: &mut [u32])
 
 // The line of every record over the target.
 fn fill_records(numbers: &[u32], records: &mut [u8])
-    requires { ⌜ length (now records) ≡ length (now numbers) / 15 * recordBytes ⌝ }
+    requires { ⌜ length (now records) ≡ length (now numbers) / recordFields * recordBytes ⌝ }
     ensures { λ r. ⌜ now (records .exit) ≡ joined (map (lineText recordLayout) (rows (now (numbers .entry)))) ⌝ }
 {
-    let n = numbers.len() / 15;
+    let n = numbers.len() / RECORD_FIELDS;
     for i in 0..n {
-        let from = i * 15;
-        let end = from + 15;
+        let from = i * RECORD_FIELDS;
+        let end = from + RECORD_FIELDS;
         let at = i * RECORD_BYTES;
         let past = at + RECORD_BYTES;
         codec::lines::write_row(
@@ -59,7 +60,7 @@ pub fn read_records(records: &[u8], numbers: &mut [u32]) -> u32
     if !record_check::records_ok(records) {
         return 1;
     }
-    if numbers.len() != records.len() / RECORD_BYTES * 15 {
+    if numbers.len() != records.len() / RECORD_BYTES * RECORD_FIELDS {
         return 1;
     }
     fill_numbers(records, numbers);
@@ -74,7 +75,7 @@ pub fn write_records(numbers: &[u32], records: &mut [u8]) -> u32
     if !rows::rows_ok(numbers) {
         return 1;
     }
-    if records.len() != numbers.len() / 15 * RECORD_BYTES {
+    if records.len() != numbers.len() / RECORD_FIELDS * RECORD_BYTES {
         return 1;
     }
     fill_records(numbers, records);

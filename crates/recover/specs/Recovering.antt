@@ -1,27 +1,25 @@
 -- What the visit of line i writes: setting that line in the bytes is the write of its key, and setting its owner's decision is the decide.
-use Rattle.lists.specs.Basics.{_≡_, refl, sym, ap, subst, _∙_, ℕ, zero, suc, _*_, _/_, _≤_, _<_, ltb, Bool, true, false, cond, List, [], _∷_, map, length, drop}
-use Rattle.lists.specs.Basics.{getD, set, length-map, List·getD-map, arith, eq-eqb, le-leb, lt-ltb}
+use Rattle.lists.specs.Basics.{_≡_, refl, sym, ap, subst, _∙_, ℕ, _*_, _/_, _≤_, _<_, ltb, Bool, true, false, cond, and-false, List, [], _∷_, map, length, getD}
+use Rattle.lists.specs.Basics.{set, length-map, List·getD-map, arith, eq-eqb, lt-ltb}
 use Rattle.lists.specs.Pieces.{over}
 use Rattle.lists.specs.All.{getD-any}
-use Rattle.lists.specs.Chosen.{and-false}
 use Rattle.lists.specs.Each.{any}
-use Rattle.lists.specs.Tests.{and-fst, and-both, choose-by, tests}
+use Rattle.lists.specs.Tests.{and-fst, choose-by, tests}
 use Rattle.types.specs.declared.Decision.the-variants.{Aborted}
 use Rattle.model.specs.Types.{Key, Record, At, Recovery}
 use Rattle.types.specs.declared.Recovery.the-variants.{Stays, Forward, Back, Again, Busy}
-use Rattle.model.specs.Layouts.{recordBytes}
+use Rattle.model.specs.Layouts.{recordBytes, coordinatorBytes}
 use Rattle.model.specs.Records.{noRecord, records, recordText, recordsText, recordsGood, goodAlone, sameKey, found, lineOf, preparedRule}
-use Rattle.model.specs.Coordinator.{Coordinator, coordinatorOf, coordinatorText, namesIssued}
+use Rattle.model.specs.Coordinator.{Coordinator, coordinatorOf, namesIssued}
 use Rattle.model.specs.Images.{isPrepared, preparedBy, rolledForward, rolledBack, byRecovery}
 use Rattle.model.specs.Writes.{Write, sheetsGood, nothing, decide, forward, back, isOf, lineAfter, linesAfter, decisionsAfter, apply}
 use Rattle.model.specs.Visits.{ownerDecision, ownerExpired, meeting, isBusy, recovered, recoveryWrite}
 use Rattle.model.specs.Results.{Answer, Result, refused, made}
 use Rattle.model.specs.ByteCalls.{sheetsOf, recordsAfter, coordinatorAfter}
 use Rattle.sheet_laws.specs.Records.{records-read-written}
-use Rattle.sheet_laws.specs.Coordinator.{decisionText, bounds}
+use Rattle.sheet_laws.specs.Coordinator.{decisionText}
 use Rattle.sheet_laws.specs.Places.{length-records}
-use Rattle.sheet_laws.specs.Decisions.{length-decisions}
-use Rattle.codec.specs.Parts.{hasLine}
+use Rattle.sheet_laws.specs.Decisions.{numberHasLine}
 use Rattle.call_laws.specs.Choices.{by-meeting}
 use Rattle.call_laws.specs.Keys.{same-key-refl, same-key-flip}
 use Rattle.call_laws.specs.Ranges.{GoodParts, parts-fine}
@@ -30,7 +28,7 @@ use Rattle.call_laws.specs.Lines.{has-line, line-key, lines-mapped}
 use Rattle.call_laws.specs.Sheets.{Fit, write-closed, parts-good}
 use Rattle.call_laws.specs.Keeping.{line-good}
 use Rattle.call_laws.specs.Closure.{visit-fits}
-use Rattle.call_laws.specs.Places.{FoundAt, found-at, atKey, set-at-key, line-replaced, decision-replaced}
+use Rattle.call_laws.specs.Places.{FoundAt, found-at, atKey, set-at-key, line-replaced, decision-written}
 use Rattle.call_laws.specs.Accepted.{Written, Outcome, outcome-made, Accepted, lines-kept, decisions-kept, written-nothing}
 
 abbrev pub lineAt : List ℕ → ℕ → Record
@@ -135,26 +133,15 @@ module _ (rs cs : List ℕ) (i : ℕ) (s : Standing rs cs i) where
   settle-back p =
       settle-rolled (back (here .image .txid) (here .key ∷ [])) rolledBack (λ r. refl) (λ c. refl) (back-fine (coordinatorOf cs .issued) here line-parts p) p
 
-  -- the decision of an issued number written
-  decision-set : (n : ℕ) → 1 ≤ n → n ≤ coordinatorOf cs .issued → cond (hasLine n cs) (over cs (n * 15) (decisionText n Aborted)) cs ≡ coordinatorText (apply (decide n Aborted) (sheetsOf rs cs) .coordinator)
-  unfolding apply decisionsAfter
-  decision-set zero l m = absurd (omega arith)
-  decision-set (suc n) l m =
-      let few : coordinatorOf cs .issued ≤ length (coordinatorOf cs .decisions) = bounds (coordinatorOf cs) (s .accepted .good .decisions) .issued in
-      let h : hasLine (suc n) cs ≡ true =
-      and-both (le-leb 1 (suc n) l) (le-leb (suc n) (length (drop 15 cs) / 15) (omega (arith, length-decisions cs))) in
-      ap (λ (b : Bool). cond b (over cs (suc n * 15) (decisionText (suc n) Aborted)) cs) h
-      ∙ decision-replaced cs n Aborted (s .accepted .decisions) (omega arith) .0
-
-  pub settle-again : {cs′ : List ℕ} → isPrepared here ≡ true → cs′ ≡ cond (hasLine (here .image .txid) cs) (over cs (here .image .txid * 15) (decisionText (here .image .txid) Aborted)) cs → Written (decide (here .image .txid) Aborted) rs cs rs cs′
-  unfolding lineAfter preparedRule
+  pub settle-again : {cs′ : List ℕ} → isPrepared here ≡ true → cs′ ≡ cond (numberHasLine (here .image .txid) cs) (over cs (here .image .txid * coordinatorBytes) (decisionText (here .image .txid) Aborted)) cs → Written (decide (here .image .txid) Aborted) rs cs rs cs′
+  unfolding apply lineAfter decisionsAfter preparedRule
   settle-again p e =
       let w = decide (here .image .txid) Aborted in
       let h : preparedRule here ≡ true = when-prepared here p (line-parts .rule) in
       let l : 1 ≤ here .image .txid = search (tests, h) in
       record {
         lines = lines-kept rs cs (s .accepted) w (λ r. refl);
-        decisions = e ∙ decision-set (here .image .txid) l (line-parts .txid);
+        decisions = e ∙ decision-written cs (here .image .txid) Aborted (s .accepted .decisions) l (line-parts .txid);
       }
 
 -- What the visit makes of the line.

@@ -7,6 +7,7 @@ mod print;
 
 use script::reply::Reply;
 use script::scan::Command;
+use types::COORDINATOR_BYTES;
 use types::RECORD_BYTES;
 
 // A history has at most 500,000 bytes, and one byte more tells a longer one.
@@ -89,7 +90,7 @@ fn history(input: &mut [u8]) {
         io::write_all(1, b"bad input\n");
         return;
     }
-    let size = (head.coordinator + 1) * 15;
+    let size = (head.coordinator + 1) * COORDINATOR_BYTES;
     let from = 9 + size;
     let to = from + head.records * RECORD_BYTES;
     if input.len() < to {

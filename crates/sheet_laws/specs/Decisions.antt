@@ -1,7 +1,7 @@
 -- A line of the coordinator sheet by its number, and its head's count: what they say, and what replacing one does.
 -- A line goes by `pieces` of what follows the head; the count by the first column of the head.
-use Rattle.lists.specs.Basics.{_≡_, refl, sym, ap, _∙_, ℕ, zero, suc, _+_, _*_, _/_, _≤_, _<_, eqb, leb, true, List, [], _∷_, _++_, map, length, take, drop}
-use Rattle.lists.specs.Basics.{getD, set, length-map, length-take, length-set, List·getD-map, arith, add-one, eq-eqb, le-leb}
+use Rattle.lists.specs.Basics.{_≡_, refl, sym, ap, _∙_, ℕ, zero, suc, _+_, _*_, _/_, _≤_, _<_, eqb, leb, Bool, true, _&&_, List, [], _∷_, _++_, map, length}
+use Rattle.lists.specs.Basics.{take, drop, getD, set, length-map, length-take, length-set, List·getD-map, arith, add-one, eq-eqb, le-leb}
 use lib.Seq.{take-at, drop-at, drop-set-lt, drop-drop, take-add, take-append-add, drop-append-add, take-take}
 use Rattle.lists.specs.Bytes.{bytes, eqList}
 use Rattle.lists.specs.Tests.{and-fst, and-snd, and-both, tests}
@@ -24,6 +24,10 @@ use Rattle.sheet_laws.specs.Coordinator.{bounds, decisionText, head-byte
 pub length-decisions : (s : List ℕ) → length (coordinatorOf s .decisions) ≡ length (drop coordinatorBytes s) / coordinatorBytes
 unfolding coordinatorOf linesOf
 length-decisions s = length-map (decisionLines s) decisionIn ∙ length-pieces coordinatorBytes (length (drop coordinatorBytes s) / coordinatorBytes) (drop coordinatorBytes s)
+
+-- a number has a line
+abbrev pub numberHasLine : ℕ → List ℕ → Bool
+numberHasLine n s = leb 1 n && leb n (length (drop coordinatorBytes s) / coordinatorBytes)
 
 -- the count is the figure of the first four bytes
 pub issued-at : (s : List ℕ) → number (figure 0 999 (take 4 s)) ≡ coordinatorOf s .issued

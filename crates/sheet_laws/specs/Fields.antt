@@ -11,7 +11,7 @@ use Rattle.decimal.specs.declared.Scan.the-variants.{Blank, Number, Wrong}
 use Rattle.decimal.specs.Field.{figure, scanned, fieldText}
 use Rattle.decimal.specs.Laws.{read-written, written-read, figure-scan, length-fieldText}
 use Rattle.model.specs.Types.{Column, Kind, Figure, StateWord, DecisionWord, UnitLetter}
-use Rattle.model.specs.Layouts.{words, wordAt}
+use Rattle.model.specs.Layouts.{words, wordAt, wordBytes}
 use Rattle.model.specs.Lines.{lastBytes, wordFrom, byKind, fieldValue, fieldBytes, inRange}
 
 -- every number below n passes
@@ -138,14 +138,14 @@ field-is c s n o r l =
     ap (λ (t : List ℕ). eqList t (fieldBytes c n)) b ∙ eqList-refl (fieldBytes c n))
 
 -- one of several lists of ten bytes, or ten spaces
-of-ten : (ts : List (List ℕ)) (n : ℕ) → all (λ (t : List ℕ). eqb (length t) 10) ts ≡ true → length (getD ts n (bytes "          ")) ≡ 10
+of-ten : (ts : List (List ℕ)) (n : ℕ) → all (λ (t : List ℕ). eqb (length t) wordBytes) ts ≡ true → length (getD ts n (bytes "          ")) ≡ wordBytes
 unfolding all bytes
 of-ten [] n h = refl
-of-ten (t ∷ ts) zero h = eqb-true (length t) 10 (and-fst (eqb (length t) 10) (all (λ (x : List ℕ). eqb (length x) 10) ts) h)
-of-ten (t ∷ ts) (suc n) h = of-ten ts n (and-snd (eqb (length t) 10) (all (λ (x : List ℕ). eqb (length x) 10) ts) h)
+of-ten (t ∷ ts) zero h = eqb-true (length t) wordBytes (and-fst (eqb (length t) wordBytes) (all (λ (x : List ℕ). eqb (length x) wordBytes) ts) h)
+of-ten (t ∷ ts) (suc n) h = of-ten ts n (and-snd (eqb (length t) wordBytes) (all (λ (x : List ℕ). eqb (length x) wordBytes) ts) h)
 
 -- every word has ten bytes
-pub length-wordAt : (k : Kind) (n : ℕ) → length (wordAt k n) ≡ 10
+pub length-wordAt : (k : Kind) (n : ℕ) → length (wordAt k n) ≡ wordBytes
 unfolding words bytes all
 length-wordAt Figure n = refl
 length-wordAt StateWord n = of-ten (words StateWord) n refl
@@ -154,20 +154,20 @@ length-wordAt UnitLetter n = of-ten (words UnitLetter) n refl
 
 -- a word's field has at most ten columns
 abbrev pub wideEnough : Column → Bool
-wideEnough c = byKind (c .kind) true (leb (c .width) 10)
+wideEnough c = byKind (c .kind) true (leb (c .width) wordBytes)
 
 -- a field's bytes are as many as its columns
 pub length-fieldBytes : (c : Column) (v : ℕ) → wideEnough c ≡ true → length (fieldBytes c v) ≡ c .width
 unfolding fieldBytes
 length-fieldBytes c v = go (c .kind)
   where
-    words-part : (k : Kind) → leb (c .width) 10 ≡ true → length (lastBytes (c .width) (wordAt k v)) ≡ c .width
+    words-part : (k : Kind) → leb (c .width) wordBytes ≡ true → length (lastBytes (c .width) (wordAt k v)) ≡ c .width
     words-part k n =
-        let b : c .width ≤ 10 = leb-true (c .width) 10 n in
-        let t : length (wordAt k v) ≡ 10 = length-wordAt k v in
+        let b : c .width ≤ wordBytes = leb-true (c .width) wordBytes n in
+        let t : length (wordAt k v) ≡ wordBytes = length-wordAt k v in
         simp length-drop (omega arith)
 
-    go : (k : Kind) → byKind k true (leb (c .width) 10) ≡ true → length (byKind k (fieldText (c .width) v) (lastBytes (c .width) (wordAt k v))) ≡ c .width
+    go : (k : Kind) → byKind k true (leb (c .width) wordBytes) ≡ true → length (byKind k (fieldText (c .width) v) (lastBytes (c .width) (wordAt k v))) ≡ c .width
     go Figure n = length-fieldText (c .width) v
     go StateWord n = words-part StateWord n
     go DecisionWord n = words-part DecisionWord n

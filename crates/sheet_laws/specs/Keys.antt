@@ -6,7 +6,7 @@ use Rattle.lists.specs.Tests.{and-fst, and-snd, and-both, same-test}
 use Rattle.lists.specs.Bytes.{eqList, eqList-true, eqList-refl}
 use Rattle.lists.specs.Each.{all}
 use Rattle.model.specs.Types.{Key, Record, Column}
-use Rattle.model.specs.Layouts.{recordLayout, keyLayout, stateField, offset}
+use Rattle.model.specs.Layouts.{recordLayout, keyLayout, stateField, offset, keyBytes}
 use Rattle.model.specs.Lines.{inRange, lineText, lineSet, rowOf, rowGood}
 use Rattle.model.specs.Records.{keyNumbers, imageNumbers, recordNumbers, recordIn, recordText, keyInRange, sameKey}
 use Rattle.sheet_laws.specs.Fields.{columnOk}
@@ -38,12 +38,12 @@ key-line : (k : Key) → keyLine k ≡ keyText k ++ (10 ∷ [])
 unfolding lineText
 key-line k = ap (λ (ds : List Column). lineText ds (keyNumbers k)) (sym (append-nil keyLayout)) ∙ line-split keyLayout [] (keyNumbers k)
 
-length-keyText : (k : Key) → length (keyText k) ≡ 20
+length-keyText : (k : Key) → length (keyText k) ≡ keyBytes
 unfolding keyLayout recordLayout offset
 length-keyText k = length-fieldsText stateField recordLayout (keyNumbers k) record-wide
 
-pub key-line-text : (k : Key) → take 20 (keyLine k) ≡ keyText k
-key-line-text k = ap (take 20) (key-line k) ∙ take-at (keyText k) (10 ∷ []) 20 (length-keyText k)
+pub key-line-text : (k : Key) → take keyBytes (keyLine k) ≡ keyText k
+key-line-text k = ap (take keyBytes) (key-line k) ∙ take-at (keyText k) (10 ∷ []) keyBytes (length-keyText k)
 
 key-count : (k : Key) → length (keyNumbers k) ≡ length keyLayout
 unfolding keyNumbers keyLayout recordLayout
@@ -67,21 +67,21 @@ module _ (line : List ℕ) (set : lineSet recordLayout line ≡ true) where
   pub line-ranged : ranged (recordIn line) ≡ true
   line-ranged = rw (line-numbers line set) (line-written-read recordLayout line record-layout-ok set .1)
 
-  pub line-key-text : take 20 line ≡ keyText (recordIn line .key)
+  pub line-key-text : take keyBytes line ≡ keyText (recordIn line .key)
   unfolding recordText recordNumbers keyNumbers recordLayout keyLayout fieldsText offset
   line-key-text =
-      ap (take 20) (sym (record-written-read line set))
+      ap (take keyBytes) (sym (record-written-read line set))
       ∙ front-there stateField recordLayout (recordNumbers (recordIn line)) record-wide (omega arith)
 
   -- the line has the key k exactly if it begins with the text of k
-  pub key-same : (k : Key) → keyInRange k ≡ true → eqList (take 20 line) (keyText k) ≡ sameKey (recordIn line .key) k
+  pub key-same : (k : Key) → keyInRange k ≡ true → eqList (take keyBytes line) (keyText k) ≡ sameKey (recordIn line .key) k
   unfolding sameKey
   key-same k h =
-      same-test (eqList (take 20 line) (keyText k)) (eqList (keyNumbers (recordIn line .key)) (keyNumbers k))
+      same-test (eqList (take keyBytes line) (keyText k)) (eqList (keyNumbers (recordIn line .key)) (keyNumbers k))
       (λ e.
       let n : keyNumbers (recordIn line .key) ≡ keyNumbers k =
-      key-of-text (recordIn line .key) k (key-ranged (recordIn line) line-ranged) h (sym line-key-text ∙ eqList-true (take 20 line) (keyText k) e) in
+      key-of-text (recordIn line .key) k (key-ranged (recordIn line) line-ranged) h (sym line-key-text ∙ eqList-true (take keyBytes line) (keyText k) e) in
       ap (λ (t : List ℕ). eqList t (keyNumbers k)) n ∙ eqList-refl (keyNumbers k))
       (λ e.
-      let n : take 20 line ≡ keyText k = line-key-text ∙ ap (fieldsText keyLayout) (eqList-true (keyNumbers (recordIn line .key)) (keyNumbers k) e) in
+      let n : take keyBytes line ≡ keyText k = line-key-text ∙ ap (fieldsText keyLayout) (eqList-true (keyNumbers (recordIn line .key)) (keyNumbers k) e) in
       ap (λ (t : List ℕ). eqList t (keyText k)) n ∙ eqList-refl (keyText k))

@@ -8,7 +8,7 @@ use Rattle.lists.specs.All.{all-map, all-weaken, all-of, map-same, map-map, lis
 use Rattle.lists.specs.Pieces.{joined-pieces, pieces-joined, length-joined}
 use Rattle.model.specs.Types.{Record, State}
 use Rattle.types.specs.declared.State.the-variants.{Absent, Committed, Prepared}
-use Rattle.model.specs.Layouts.{recordLayout, words, noColumn, stateField, recordBytes, recordFields}
+use Rattle.model.specs.Layouts.{recordLayout, words, noColumn, stateField, recordBytes, recordFields, offset, recordOffset, keyBytes}
 use Rattle.model.specs.Lines.{fieldValue, fieldBytes, wordFrom, rowOf, lineSet, lineText, rowGood, inRange, linesOf, linesSet}
 use Rattle.model.specs.Records.{stateNumber, stateOf, keyNumbers, imageNumbers, keyOf, imageFrom, recordOf, recordNumbers, goodAlone, recordsGood, recordIn}
 use Rattle.model.specs.Records.{recordText, records, recordsText, recordsAccepted}
@@ -60,6 +60,10 @@ record-bytes = refl
 pub record-fields : length recordLayout ≡ recordFields
 unfolding recordLayout
 record-fields = refl
+
+pub key-bytes : recordOffset stateField ≡ keyBytes
+unfolding offset recordLayout
+key-bytes = refl
 
 -- a line that can be read is whole
 pub line-whole : (line : List ℕ) → lineSet recordLayout line ≡ true → length line ≡ recordBytes

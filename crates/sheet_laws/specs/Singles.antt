@@ -14,7 +14,7 @@ use Rattle.model.specs.Types.{Record, Column, StateWord, DecisionWord}
 use Rattle.types.specs.declared.Decision.the-variants.{Undecided, Committed, Aborted}
 use Rattle.types.specs.declared.State.the-variants.{Prepared}
 use Rattle.model.specs.Layouts.{recordLayout, lineLayout, decisionColumn, noColumn, wordAt, word, stateField, decisionField, offset, recordOffset, recordWidth}
-use Rattle.model.specs.Layouts.{recordBytes, recordFields, coordinatorBytes}
+use Rattle.model.specs.Layouts.{recordBytes, recordFields, coordinatorBytes, wordBytes}
 use Rattle.model.specs.Lines.{inRange, fieldValue, fieldBytes, lineSet}
 use Rattle.model.specs.Records.{noRecord, byState, stateNumber, stateOf, keyNumbers, imageNumbers, recordNumbers, recordOf, recordIn, records, recordsAccepted}
 use Rattle.model.specs.Images.{isPrepared}
@@ -104,7 +104,7 @@ module _ (k w at : ℕ) (cs : List Column) (s : List ℕ) (ok : layoutOk cs ≡ 
   number-ranged v e = field-written-read (getD cs k noColumn) (fieldAt k cs (take w (drop at s))) v column-ok sized e .1
 
 -- pending is told by the word PREPARED
-state-told : (x : Scan) → ((v : ℕ) → x ≡ Number v → inRange (word 10 StateWord 2) v ≡ true) → isThe 2 x ≡ byState (stateOf (number x)) false false true
+state-told : (x : Scan) → ((v : ℕ) → x ≡ Number v → inRange (word wordBytes StateWord 2) v ≡ true) → isThe 2 x ≡ byState (stateOf (number x)) false false true
 unfolding isThe number stateOf inRange
 state-told Blank b = refl
 state-told Wrong b = refl

@@ -1,14 +1,15 @@
 -- The search of a key, line by line and field by field: the first line whose twenty bytes are those of the key's line.
 use Rattle.lists.specs.Basics.{_≡_, refl, sym, ap, ap₂, _∙_, ℕ, zero, suc, _+_, _-_, _*_, _/_, _≤_, _<_, Bool, true, false, cond, true≢false, List, [], _∷_}
-use Rattle.lists.specs.Basics.{_++_, length, take, drop, getD, drop-of-length-le, arith, add-one}
+use Rattle.lists.specs.Basics.{_++_, map, length, take, drop, getD, arith, add-one}
 use native.Mathlib.Nat.{zero-add}
-use lib.Seq.{drop-cons, drop-drop, take-add}
+use lib.Seq.{drop-drop, take-add}
 use Rattle.lists.specs.Tests.{tests}
 use Rattle.lists.specs.Bytes.{eqList, eqList-true, eqList-refl, ne-eqList}
-use Rattle.lists.specs.Each.{all, pieces}
+use Rattle.lists.specs.Each.{all}
 use Rattle.lists.specs.Pieces.{take-drop-take, getD-pieces, length-pieces}
+use Rattle.lists.specs.Walks.{LeftFrom, left-here, left-last}
 use Rattle.model.specs.Types.{Key, Record, Found, At, Nothing}
-use Rattle.model.specs.Layouts.{recordLayout, recordBytes}
+use Rattle.model.specs.Layouts.{recordLayout, recordBytes, keyBytes, offset, recordOffset}
 use Rattle.model.specs.Lines.{lineSet, linesOf, linesSet}
 use Rattle.model.specs.Search.{firstFrom}
 use Rattle.model.specs.Records.{records, recordIn, recordsAccepted, keyInRange, sameKey, found}
@@ -19,7 +20,11 @@ use Rattle.sheet_laws.specs.Keys.{keyLine, key-line-text, key-same}
 unfoldable pub edge : ℕ → ℕ
 edge f = getD (0 ∷ 2 ∷ 5 ∷ 8 ∷ 14 ∷ 20 ∷ []) f 0
 
-pub edges : (f : ℕ) → f < 5 → (edge f ≤ edge (f + 1)) × (edge (f + 1) ≤ 20)
+pub edges-of-layout : map edge (0 ∷ 1 ∷ 2 ∷ 3 ∷ 4 ∷ 5 ∷ []) ≡ map recordOffset (0 ∷ 1 ∷ 2 ∷ 3 ∷ 4 ∷ 5 ∷ [])
+unfolding edge offset recordLayout
+edges-of-layout = refl
+
+pub edges : (f : ℕ) → f < 5 → (edge f ≤ edge (f + 1)) × (edge (f + 1) ≤ keyBytes)
 unfolding edge
 edges zero l = omega arith
 edges (suc zero) l = omega arith
@@ -77,20 +82,20 @@ module _ (line text : List ℕ) (o p n : ℕ) (rising : o ≤ p) (within : p ≤
 
 -- the place of the first line, counted from i, that begins as the text does
 abbrev pub foundLine : ℕ → List ℕ → List (List ℕ) → Found
-foundLine i text ls = firstFrom (λ (l : List ℕ). eqList (take 20 l) (take 20 text)) i ls
+foundLine i text ls = firstFrom (λ (l : List ℕ). eqList (take keyBytes l) (take keyBytes text)) i ls
 
 -- How far the lines have been passed: none before i begins so.
-pub record Passed (s text : List ℕ) (i : ℕ) : Type 0 where
-  pub place : i ≤ length s / recordBytes
-  pub rest : foundLine i text (drop i (linesOf recordBytes s)) ≡ foundLine 0 text (linesOf recordBytes s)
+abbrev pub Passed : (s text : List ℕ) (i : ℕ) → Type 0
+Passed s text i = LeftFrom (linesOf recordBytes s) (foundLine i text) (foundLine 0 text (linesOf recordBytes s)) i
+
+length-lines : (s : List ℕ) → length (linesOf recordBytes s) ≡ length s / recordBytes
+unfolding linesOf
+length-lines s = length-pieces recordBytes (length s / recordBytes) s
 
 -- How far line i agrees with the key's line: from field f on.
 pub record Agreed (s text : List ℕ) (i f : ℕ) : Type 0 where
   pub place : f ≤ 5
-  pub same : take (20 - edge f) (drop (edge f) (lineBytesAt s i)) ≡ take (20 - edge f) (drop (edge f) text)
-
-pub pass-first : (s text : List ℕ) → Passed s text 0
-pass-first s text = record { place = omega arith; rest = refl }
+  pub same : take (keyBytes - edge f) (drop (edge f) (lineBytesAt s i)) ≡ take (keyBytes - edge f) (drop (edge f) text)
 
 pub agree-first : (s text : List ℕ) (i : ℕ) → Agreed s text i 5
 unfolding edge
@@ -99,42 +104,38 @@ agree-first s text i = record { place = omega arith; same = refl }
 pub agree-next : (s text : List ℕ) (i g f : ℕ) → g ≡ f + 1 → f < 5 → eqList (keyField f (i * recordBytes) s) (keyField f 0 text) ≡ true → Agreed s text i g → Agreed s text i f
 agree-next s text i g f n l e a =
     let k = edges f l in
-    let h : take (20 - edge (f + 1)) (drop (edge (f + 1)) (lineBytesAt s i)) ≡ take (20 - edge (f + 1)) (drop (edge (f + 1)) text) = rw n at (a .same) in
-    record { place = omega arith; same = agree-more (lineBytesAt s i) text (edge f) (edge (f + 1)) 20 (k .0) (k .1) h (parts-compared s text i f true l e) }
+    let h : take (keyBytes - edge (f + 1)) (drop (edge (f + 1)) (lineBytesAt s i)) ≡ take (keyBytes - edge (f + 1)) (drop (edge (f + 1)) text) = rw n at (a .same) in
+    record { place = omega arith; same = agree-more (lineBytesAt s i) text (edge f) (edge (f + 1)) keyBytes (k .0) (k .1) h (parts-compared s text i f true l e) }
 
 -- The line at place i, by whether it begins as the text does.
 module _ (s text : List ℕ) (i : ℕ) (here : i < length s / recordBytes) (p : Passed s text i) where
-  from-here : cond (eqList (take 20 (lineBytesAt s i)) (take 20 text)) (At i) (foundLine (i + 1) text (drop (i + 1) (linesOf recordBytes s))) ≡ foundLine 0 text (linesOf recordBytes s)
+  from-here : cond (eqList (take keyBytes (lineBytesAt s i)) (take keyBytes text)) (At i) (foundLine (i + 1) text (drop (i + 1) (linesOf recordBytes s))) ≡ foundLine 0 text (linesOf recordBytes s)
   unfolding firstFrom linesOf
   from-here =
-      let n : i < length (pieces recordBytes (length s / recordBytes) s) = omega (arith, length-pieces recordBytes (length s / recordBytes) s) in
-      let d : drop i (linesOf recordBytes s) ≡ lineBytesAt s i ∷ drop (i + 1) (linesOf recordBytes s) =
-      drop-cons (pieces recordBytes (length s / recordBytes) s) i [] n
-      ∙ ap₂ _∷_ (getD-pieces recordBytes i (length s / recordBytes) s here) (ap (λ (k : ℕ). drop k (linesOf recordBytes s)) (sym (add-one i))) in
-      sym (rw (d, add-one)) ∙ p .rest
+      let e : lineBytesAt s i ≡ getD (linesOf recordBytes s) i [] = sym (getD-pieces recordBytes i (length s / recordBytes) s here) in
+      rw (add-one i)
+      (rw (add-one i) at
+      (left-here (linesOf recordBytes s) (foundLine i text) [] (lineBytesAt s i) (foundLine 0 text (linesOf recordBytes s)) i (omega (arith, length-lines s)) e p))
 
   pub pass-met : (f : ℕ) → f ≤ 0 → Agreed s text i f → At i ≡ foundLine 0 text (linesOf recordBytes s)
   unfolding edge
   pass-met f l a =
       let n : f ≡ 0 = omega arith in
-      let k : take 20 (lineBytesAt s i) ≡ take 20 text = rw n at (a .same) in
-      let m : eqList (take 20 (lineBytesAt s i)) (take 20 text) ≡ true = rw k (eqList-refl (take 20 text)) in
+      let k : take keyBytes (lineBytesAt s i) ≡ take keyBytes text = rw n at (a .same) in
+      let m : eqList (take keyBytes (lineBytesAt s i)) (take keyBytes text) ≡ true = rw k (eqList-refl (take keyBytes text)) in
       rw m at from-here
 
   pub pass-next : (f : ℕ) → f < 5 → eqList (keyField f (i * recordBytes) s) (keyField f 0 text) ≡ false → Passed s text (i + 1)
   pass-next f l d =
       let k = edges f l in
-      let x : take 20 (lineBytesAt s i) ≡ take 20 text → ⊥ =
-      agree-not (lineBytesAt s i) text (edge f) (edge (f + 1)) 20 (k .0) (k .1) (parts-compared s text i f false l d) in
-      let m : eqList (take 20 (lineBytesAt s i)) (take 20 text) ≡ false = ne-eqList (take 20 (lineBytesAt s i)) (take 20 text) x in
-      record { place = omega arith; rest = rw m at from-here }
+      let x : take keyBytes (lineBytesAt s i) ≡ take keyBytes text → ⊥ =
+      agree-not (lineBytesAt s i) text (edge f) (edge (f + 1)) keyBytes (k .0) (k .1) (parts-compared s text i f false l d) in
+      let m : eqList (take keyBytes (lineBytesAt s i)) (take keyBytes text) ≡ false = ne-eqList (take keyBytes (lineBytesAt s i)) (take keyBytes text) x in
+      record { place = omega (arith, length-lines s); rest = rw m at from-here }
 
 pub pass-last : (s text : List ℕ) (i : ℕ) → length s / recordBytes ≤ i → Passed s text i → Nothing ≡ foundLine 0 text (linesOf recordBytes s)
-unfolding firstFrom linesOf
-pass-last s text i l p =
-    let n : length (pieces recordBytes (length s / recordBytes) s) ≤ i = omega (arith, length-pieces recordBytes (length s / recordBytes) s) in
-    let d : drop i (linesOf recordBytes s) ≡ [] = drop-of-length-le (pieces recordBytes (length s / recordBytes) s) n in
-    rw d at (p .rest)
+unfolding firstFrom
+pass-last s text i l p = left-last (linesOf recordBytes s) (foundLine i text) (foundLine 0 text (linesOf recordBytes s)) i (omega (arith, length-lines s)) p
 
 -- the line that begins as a key line does is the one that has the key
 pub search-is : (s : List ℕ) (k : Key) → recordsAccepted s ≡ true → keyInRange k ≡ true → foundLine 0 (keyLine k) (linesOf recordBytes s) ≡ found k (records s)
@@ -143,4 +144,4 @@ search-is s k a g =
     let w : all (lineSet recordLayout) (linesOf recordBytes s) ≡ true = search tests in
     sym
     (first-map (λ (r : Record). sameKey (r .key) k) recordIn (lineSet recordLayout) _
-    (λ l o. sym (ap (eqList (take 20 l)) (key-line-text k) ∙ key-same l o k g)) 0 (linesOf recordBytes s) w)
+    (λ l o. sym (ap (eqList (take keyBytes l)) (key-line-text k) ∙ key-same l o k g)) 0 (linesOf recordBytes s) w)

@@ -1,19 +1,18 @@
 -- What a step leaves: the transaction, and both sheets as its write leaves them. A sheet that the write does not change is the text of what it says.
-use Rattle.lists.specs.Basics.{_≡_, refl, sym, ap, _∙_, ℕ, zero, suc, _*_, _/_, _≤_, true, cond, List, length, drop, arith, le-leb}
+use Rattle.lists.specs.Basics.{_≡_, refl, sym, ap, _∙_, ℕ, _*_, true, cond, List}
 use Rattle.lists.specs.Pieces.{over}
-use Rattle.lists.specs.Tests.{and-both}
 use Rattle.model.specs.Types.{Record, Decision, Transaction}
+use Rattle.model.specs.Layouts.{coordinatorBytes}
 use Rattle.model.specs.Records.{records, recordsText, recordsAccepted}
-use Rattle.model.specs.Coordinator.{coordinatorOf, coordinatorText, coordinatorAccepted, withDecision}
+use Rattle.model.specs.Coordinator.{coordinatorOf, coordinatorText, coordinatorAccepted}
 use Rattle.model.specs.Writes.{Sheets, Write, nothing, decide, lineAfter, linesAfter, decisionsAfter, apply}
 use Rattle.model.specs.Steps.{Step}
 use Rattle.model.specs.ByteCalls.{sheetsOf}
 use Rattle.sheet_laws.specs.Records.{sheet-written-read}
-use Rattle.sheet_laws.specs.Coordinator.{decisionText, coordinator-written-read, bounds}
-use Rattle.sheet_laws.specs.Decisions.{accepted-parts, length-decisions}
+use Rattle.sheet_laws.specs.Coordinator.{decisionText, coordinator-written-read}
+use Rattle.sheet_laws.specs.Decisions.{numberHasLine}
 use Rattle.call_laws.specs.Lines.{lines-unmoved}
-use Rattle.call_laws.specs.Places.{decision-replaced}
-use Rattle.codec.specs.Parts.{hasLine}
+use Rattle.call_laws.specs.Places.{decision-written}
 use Rattle.steps.specs.Ready.{Known}
 
 pub record Stepped (s : Sheets) (x : Step) (t : Transaction) (rs cs : List ℕ) : Type 0 where
@@ -51,21 +50,11 @@ module _ (rs cs : List ℕ) where
         coordinator = sym (ap coordinatorText h ∙ coordinator-written-read cs a);
       }
 
-  -- the line of a number that has been issued
-  set-line : (n : ℕ) (d : Decision) → coordinatorAccepted cs ≡ true → 1 ≤ n → n ≤ coordinatorOf cs .issued → cond (hasLine n cs) (over cs (n * 15) (decisionText n d)) cs ≡ coordinatorText (withDecision n d (coordinatorOf cs))
-  set-line zero d a l m = absurd (omega arith)
-  set-line (suc i) d a l m =
-      let b = bounds (coordinatorOf cs) (accepted-parts cs a .good) in
-      let most : coordinatorOf cs .issued ≤ length (coordinatorOf cs .decisions) = b .issued in
-      let count : length (coordinatorOf cs .decisions) ≡ length (drop 15 cs) / 15 = length-decisions cs in
-      let h : hasLine (suc i) cs ≡ true = and-both (le-leb 1 (suc i) (omega arith)) (le-leb (suc i) (length (drop 15 cs) / 15) (omega arith)) in
-      rw h (decision-replaced cs i d a (omega arith) .0)
-
-  pub wrote-decision : (t u v : Transaction) (d : Decision) (cs′ : List ℕ) → recordsAccepted rs ≡ true → Known cs v → u ≡ t → cs′ ≡ cond (hasLine (v .number) cs) (over cs (v .number * 15) (decisionText (v .number) d)) cs → Stepped (sheetsOf rs cs) (record { transaction = t; write = decide (v .number) d }) u rs cs′
+  pub wrote-decision : (t u v : Transaction) (d : Decision) (cs′ : List ℕ) → recordsAccepted rs ≡ true → Known cs v → u ≡ t → cs′ ≡ cond (numberHasLine (v .number) cs) (over cs (v .number * coordinatorBytes) (decisionText (v .number) d)) cs → Stepped (sheetsOf rs cs) (record { transaction = t; write = decide (v .number) d }) u rs cs′
   unfolding apply lineAfter decisionsAfter
   wrote-decision t u v d cs′ a k e w =
       record {
         transaction = e;
         records = lines-stay (decide (v .number) d) rs (λ r. refl) a;
-        coordinator = w ∙ set-line (v .number) d (k .accepted) (k .number) (k .issued);
+        coordinator = w ∙ decision-written cs (v .number) d (k .accepted) (k .number) (k .issued);
       }

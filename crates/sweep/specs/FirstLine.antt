@@ -1,9 +1,8 @@
 -- The first line of an input: its figures as they are read from the bytes, and which inputs it fits.
-use Rattle.lists.specs.Basics.{_≡_, refl, sym, ap, ap₂, _∙_, ℕ, _+_, _-_, _*_, _≤_, _<_, eqb, Bool, true, false, not, _&&_, List, [], _∷_, length, take, drop}
-use Rattle.lists.specs.Basics.{getD, length-take, drop-of-length-le, arith, eqb-true, not-false}
+use Rattle.lists.specs.Basics.{_≡_, refl, sym, ap, ap₂, _∙_, ℕ, _+_, _-_, _*_, _≤_, _<_, eqb, Bool, true, false, not, _&&_, and-false, List, [], _∷_, length}
+use Rattle.lists.specs.Basics.{take, drop, getD, length-take, drop-of-length-le, arith, eqb-true, not-false}
 use lib.Seq.{take-take, drop-drop, drop-cons, getD-take}
 use Rattle.lists.specs.Bytes.{eqList}
-use Rattle.lists.specs.Chosen.{and-false}
 use Rattle.lists.specs.Fill.{rest-part}
 use Rattle.lists.specs.Pieces.{take-drop-take}
 use Rattle.lists.specs.Tests.{and-fst, and-snd}
@@ -32,14 +31,14 @@ pub record Small (f : FirstLine) : Type 0 where
   pub decisions : f .decisions ≤ 9999
 
 module _ (s : List ℕ) where
-  first-part : take 4 (take 20 s) ≡ take 4 s
-  first-part = take-take 4 20 s (omega arith)
+  first-part : take 4 (take firstBytes s) ≡ take 4 s
+  first-part = take-take 4 firstBytes s (omega arith)
 
-  second-part : take 4 (drop 4 (take 20 s)) ≡ take 4 (drop 4 s)
-  second-part = take-drop-take 4 4 20 s (omega arith)
+  second-part : take 4 (drop 4 (take firstBytes s)) ≡ take 4 (drop 4 s)
+  second-part = take-drop-take 4 4 firstBytes s (omega arith)
 
-  third-part : take 11 (drop 4 (drop 4 (take 20 s))) ≡ take 11 (drop 8 s)
-  third-part = ap (take 11) (drop-drop 4 4 (take 20 s)) ∙ take-drop-take 11 8 20 s (omega arith)
+  third-part : take 11 (drop 4 (drop 4 (take firstBytes s))) ≡ take 11 (drop 8 s)
+  third-part = ap (take 11) (drop-drop 4 4 (take firstBytes s)) ∙ take-drop-take 11 8 firstBytes s (omega arith)
 
   -- Its numbers.
 
@@ -63,14 +62,14 @@ module _ (s : List ℕ) where
 
   -- Its form.
 
-  last-part : 20 ≤ length s → drop 11 (drop 4 (drop 4 (take 20 s))) ≡ getD s 19 0 ∷ []
+  last-part : firstBytes ≤ length s → drop 11 (drop 4 (drop 4 (take firstBytes s))) ≡ getD s 19 0 ∷ []
   last-part l =
-      let n : length (take 20 s) ≡ 20 = simp length-take (omega arith) in
-      let m : length (take 20 s) ≤ 20 = omega arith in
-      ap (drop 11) (drop-drop 4 4 (take 20 s))
-      ∙ (drop-drop 11 8 (take 20 s)
-      ∙ (drop-cons (take 20 s) 19 0 (omega arith)
-      ∙ ap₂ _∷_ (getD-take 20 s 19 0 (omega arith)) (drop-of-length-le (take 20 s) m)))
+      let n : length (take firstBytes s) ≡ firstBytes = simp length-take (omega arith) in
+      let m : length (take firstBytes s) ≤ firstBytes = omega arith in
+      ap (drop 11) (drop-drop 4 4 (take firstBytes s))
+      ∙ (drop-drop 11 8 (take firstBytes s)
+      ∙ (drop-cons (take firstBytes s) 19 0 (omega arith)
+      ∙ ap₂ _∷_ (getD-take firstBytes s 19 0 (omega arith)) (drop-of-length-le (take firstBytes s) m)))
 
   ends-line : (b : ℕ) → eqList (b ∷ []) (10 ∷ []) ≡ eqb b 10
   unfolding eqList
@@ -80,7 +79,7 @@ module _ (s : List ℕ) where
       go true = refl
       go false = refl
 
-  pub first-set : 20 ≤ length s → lineSet firstLayout (take 20 s) ≡ (isNumber (figure 0 9999 (take 4 s)) && (isNumber (figure 0 9999 (take 4 (drop 4 s))) && (isNumber (figure 0 4294967295 (take 11 (drop 8 s))) && eqb (getD s 19 0) 10)))
+  pub first-set : firstBytes ≤ length s → lineSet firstLayout (take firstBytes s) ≡ (isNumber (figure 0 9999 (take 4 s)) && (isNumber (figure 0 9999 (take 4 (drop 4 s))) && (isNumber (figure 0 4294967295 (take 11 (drop 8 s))) && eqb (getD s 19 0) 10)))
   unfolding firstLayout lineSet fieldValue
   first-set l =
       ap₂ _&&_ (ap (λ (t : List ℕ). isNumber (figure 0 9999 t)) first-part)
@@ -90,19 +89,19 @@ module _ (s : List ℕ) where
 
   -- A figure that cannot be read.
 
-  pub first-wrong : 20 ≤ length s → isNumber (figure 0 9999 (take 4 s)) ≡ false → false ≡ lineSet firstLayout (take 20 s)
+  pub first-wrong : firstBytes ≤ length s → isNumber (figure 0 9999 (take 4 s)) ≡ false → false ≡ lineSet firstLayout (take firstBytes s)
   first-wrong l h =
       let b : Bool = isNumber (figure 0 9999 (take 4 (drop 4 s))) in
       let c : Bool = isNumber (figure 0 4294967295 (take 11 (drop 8 s))) in
       sym (first-set l ∙ ap (λ (x : Bool). x && (b && (c && eqb (getD s 19 0) 10))) h)
 
-  pub second-wrong : 20 ≤ length s → isNumber (figure 0 9999 (take 4 (drop 4 s))) ≡ false → false ≡ lineSet firstLayout (take 20 s)
+  pub second-wrong : firstBytes ≤ length s → isNumber (figure 0 9999 (take 4 (drop 4 s))) ≡ false → false ≡ lineSet firstLayout (take firstBytes s)
   second-wrong l h =
       let a : Bool = isNumber (figure 0 9999 (take 4 s)) in
       let c : Bool = isNumber (figure 0 4294967295 (take 11 (drop 8 s))) in
       sym (first-set l ∙ (ap (λ (x : Bool). a && (x && (c && eqb (getD s 19 0) 10))) h ∙ and-false a))
 
-  pub third-wrong : 20 ≤ length s → isNumber (figure 0 4294967295 (take 11 (drop 8 s))) ≡ false → false ≡ lineSet firstLayout (take 20 s)
+  pub third-wrong : firstBytes ≤ length s → isNumber (figure 0 4294967295 (take 11 (drop 8 s))) ≡ false → false ≡ lineSet firstLayout (take firstBytes s)
   third-wrong l h =
       let a : Bool = isNumber (figure 0 9999 (take 4 s)) in
       let b : Bool = isNumber (figure 0 9999 (take 4 (drop 4 s))) in
@@ -112,42 +111,42 @@ module _ (s : List ℕ) where
       ∙ (ap (λ (x : Bool). a && x) (and-false b) ∙ and-false a)))
 
   -- all three can be read
-  pub figures-set : 20 ≤ length s → isNumber (figure 0 9999 (take 4 s)) ≡ true → isNumber (figure 0 9999 (take 4 (drop 4 s))) ≡ true → isNumber (figure 0 4294967295 (take 11 (drop 8 s))) ≡ true → eqb (getD s 19 0) 10 ≡ lineSet firstLayout (take 20 s)
+  pub figures-set : firstBytes ≤ length s → isNumber (figure 0 9999 (take 4 s)) ≡ true → isNumber (figure 0 9999 (take 4 (drop 4 s))) ≡ true → isNumber (figure 0 4294967295 (take 11 (drop 8 s))) ≡ true → eqb (getD s 19 0) 10 ≡ lineSet firstLayout (take firstBytes s)
   figures-set l a b c = let e = first-set l in sym (rw (a, b, c) at e)
 
   -- The input that it fits.
 
-  pub set-long : lineSet firstLayout (take 20 s) ≡ true → 20 ≤ length s
+  pub set-long : lineSet firstLayout (take firstBytes s) ≡ true → firstBytes ≤ length s
   unfolding firstLayout lineBytes
   set-long h =
-      let e : length (take 20 s) ≡ 20 = line-length firstLayout (take 20 s) h in omega (arith, length-take 20 s)
+      let e : length (take firstBytes s) ≡ firstBytes = line-length firstLayout (take firstBytes s) h in omega (arith, length-take firstBytes s)
 
-  pub unset-unfit : lineSet firstLayout (take 20 s) ≡ false → inputFits s ≡ false
+  pub unset-unfit : lineSet firstLayout (take firstBytes s) ≡ false → inputFits s ≡ false
   unfolding inputFits
-  unset-unfit h = ap (λ (x : Bool). x && eqb (length s) (20 + coordinatorSize s + firstNumber 0 s * recordBytes)) h
+  unset-unfit h = ap (λ (x : Bool). x && eqb (length s) (firstBytes + coordinatorSize s + firstNumber 0 s * recordBytes)) h
 
-  pub short-unfit : length s < 20 → inputFits s ≡ false
-  short-unfit l = go (lineSet firstLayout (take 20 s)) refl
+  pub short-unfit : length s < firstBytes → inputFits s ≡ false
+  short-unfit l = go (lineSet firstLayout (take firstBytes s)) refl
     where
-      go : (x : Bool) → lineSet firstLayout (take 20 s) ≡ x → inputFits s ≡ false
+      go : (x : Bool) → lineSet firstLayout (take firstBytes s) ≡ x → inputFits s ≡ false
       go true e = absurd (omega (arith, set-long e))
       go false e = unset-unfit e
 
-  pub set-fits : lineSet firstLayout (take 20 s) ≡ true → inputFits s ≡ eqb (length s) (20 + coordinatorSize s + firstNumber 0 s * recordBytes)
+  pub set-fits : lineSet firstLayout (take firstBytes s) ≡ true → inputFits s ≡ eqb (length s) (firstBytes + coordinatorSize s + firstNumber 0 s * recordBytes)
   unfolding inputFits
-  set-fits h = ap (λ (x : Bool). x && eqb (length s) (20 + coordinatorSize s + firstNumber 0 s * recordBytes)) h
+  set-fits h = ap (λ (x : Bool). x && eqb (length s) (firstBytes + coordinatorSize s + firstNumber 0 s * recordBytes)) h
 
   pub record Fit : Type 0 where
-    pub set : lineSet firstLayout (take 20 s) ≡ true
-    pub long : 20 ≤ length s
-    pub whole : length s ≡ 20 + coordinatorSize s + firstNumber 0 s * recordBytes
+    pub set : lineSet firstLayout (take firstBytes s) ≡ true
+    pub long : firstBytes ≤ length s
+    pub whole : length s ≡ firstBytes + coordinatorSize s + firstNumber 0 s * recordBytes
 
   pub fit : inputFits s ≡ true → Fit
   unfolding inputFits
   fit h =
-      let a : lineSet firstLayout (take 20 s) ≡ true = and-fst (lineSet firstLayout (take 20 s)) _ h in
-      let b : eqb (length s) (20 + coordinatorSize s + firstNumber 0 s * recordBytes) ≡ true = and-snd (lineSet firstLayout (take 20 s)) _ h in
-      record { set = a; long = set-long a; whole = eqb-true (length s) (20 + coordinatorSize s + firstNumber 0 s * recordBytes) b }
+      let a : lineSet firstLayout (take firstBytes s) ≡ true = and-fst (lineSet firstLayout (take firstBytes s)) _ h in
+      let b : eqb (length s) (firstBytes + coordinatorSize s + firstNumber 0 s * recordBytes) ≡ true = and-snd (lineSet firstLayout (take firstBytes s)) _ h in
+      record { set = a; long = set-long a; whole = eqb-true (length s) (firstBytes + coordinatorSize s + firstNumber 0 s * recordBytes) b }
 
   -- What refuses an input.
 
@@ -171,11 +170,11 @@ module _ (s : List ℕ) where
 
 -- The parts of an input that are lent as its sheets.
 module _ (s : List ℕ) (n : ℕ) (e : n ≡ placeOfRecords (firstOf s)) where
-  pub place-within : Fit s → (20 ≤ n) × (n ≤ length s)
+  pub place-within : Fit s → (firstBytes ≤ n) × (n ≤ length s)
   place-within f = (omega (arith, e), omega (arith, e, f .whole))
 
-  pub coordinator-part : take (n - 20) (drop 20 s) ≡ inputSheets s .coordinator
-  coordinator-part = let k : n - 20 ≡ coordinatorSize s = omega arith in ap (λ (m : ℕ). take m (drop 20 s)) k
+  pub coordinator-part : take (n - firstBytes) (drop firstBytes s) ≡ inputSheets s .coordinator
+  coordinator-part = let k : n - firstBytes ≡ coordinatorSize s = omega arith in ap (λ (m : ℕ). take m (drop firstBytes s)) k
 
   pub records-part : take (length s - n) (drop n s) ≡ inputSheets s .records
   records-part = rest-part n s ∙ ap (λ (m : ℕ). drop m s) e

@@ -1,15 +1,15 @@
 -- What the visiting program's work answers and leaves in lent memory, and how its parts come together.
-use Rattle.lists.specs.Basics.{_≡_, refl, sym, ap, ap₂, _∙_, ℕ, _+_, _-_, _≤_, _<_, eqb, leb, Bool, true, false, _&&_, cond, List, [], _∷_, _++_, append-assoc}
-use Rattle.lists.specs.Basics.{length, take, drop, length-append, length-take, length-drop, arith, le-leb, lt-leb}
+use Rattle.lists.specs.Basics.{_≡_, refl, sym, ap, ap₂, _∙_, ℕ, _+_, _-_, _≤_, _<_, eqb, leb, Bool, true, false, _&&_, cond, and-false, List, [], _∷_, _++_}
+use Rattle.lists.specs.Basics.{append-assoc, length, take, drop, length-append, length-take, length-drop, arith, le-leb, lt-leb}
 use lib.Seq.{take-at, drop-at, drop-drop}
 use Rattle.lists.specs.Bytes.{bytes}
-use Rattle.lists.specs.Chosen.{and-false}
 use Rattle.lists.specs.Tests.{and-both}
 use Rattle.decimal.specs.Field.{fieldText}
 use Rattle.decimal.specs.Word.{putWord, put-fits}
+use Rattle.model.specs.Layouts.{mostCoordinatorBytes, mostRecordBytes}
 use Rattle.model.specs.Refusals.{refusalOf}
 use Rattle.model.specs.ByteHistories.{Bytes}
-use Rattle.model.specs.Visitor.{firstNumber, coordinatorSize, inputConditions, inputSheets, swept, printed, refusedText, visitorOutput}
+use Rattle.model.specs.Visitor.{firstNumber, coordinatorSize, inputConditions, inputSheets, swept, printed, refusedText, visitorOutput, firstBytes}
 use Rattle.sweep.specs.Passes.{both}
 use Rattle.sweep.specs.FirstLine.{firstOf, placeOfRecords, coordinator-part, records-part}
 use Rattle.sweep.specs.Sizes.{Parts, parts}
@@ -18,9 +18,13 @@ use Rattle.sweep.specs.Sizes.{Parts, parts}
 abbrev pub visitedSheets : List ℕ → Bytes
 visitedSheets input = swept (firstNumber 2 input) (inputSheets input)
 
+-- both sheets, the largest
+abbrev pub mostOutput : ℕ
+mostOutput = mostRecordBytes + mostCoordinatorBytes
+
 -- room for the largest record sheet (500 lines), and for both sheets at their largest (999 coordinator lines and the head)
 abbrev pub hasRoom : List ℕ → List ℕ → Bool
-hasRoom work output = leb 49000 (length work) && leb 64000 (length output)
+hasRoom work output = leb mostRecordBytes (length work) && leb mostOutput (length output)
 
 -- t over the first elements of s
 abbrev pub onto : List ℕ → List ℕ → List ℕ
@@ -48,15 +52,15 @@ pub record Loaded (input records coordinator : List ℕ) : Type 0 where
 -- an accepted input, and room
 pub record Target (input work output : List ℕ) : Type 0 where
   pub accepted : refusalOf (inputConditions input) ≡ 0
-  pub work-room : 49000 ≤ length work
-  pub output-room : 64000 ≤ length output
+  pub work-room : mostRecordBytes ≤ length work
+  pub output-room : mostOutput ≤ length output
 
 -- bytes put over as many
 pub put-part : (s t u : List ℕ) → t ≡ u → length s ≡ length u → putWord s t ≡ u
 put-part s t u e l = put-fits s t (l ∙ ap length (sym e)) ∙ e
 
 -- both slices, with the parts of the input put over them
-pub loaded : (input rs cs rs′ cs′ : List ℕ) (n : ℕ) → Loaded input rs cs → n ≡ placeOfRecords (firstOf input) → rs′ ≡ putWord rs (take (length input - n) (drop n input)) → cs′ ≡ putWord cs (take (n - 20) (drop 20 input)) → both rs′ cs′ ≡ inputSheets input
+pub loaded : (input rs cs rs′ cs′ : List ℕ) (n : ℕ) → Loaded input rs cs → n ≡ placeOfRecords (firstOf input) → rs′ ≡ putWord rs (take (length input - n) (drop n input)) → cs′ ≡ putWord cs (take (n - firstBytes) (drop firstBytes input)) → both rs′ cs′ ≡ inputSheets input
 loaded input rs cs rs′ cs′ n h e p q =
     let a = parts input n e (h .accepted) in
     let l : length cs ≡ length (inputSheets input .coordinator) =
@@ -92,25 +96,25 @@ two-parts c n t u v output a b f g p =
     ap₂ _++_ (take-at t (drop c output) c a) (ap₂ _++_ q r) ∙ sym (append-assoc t u (drop (length (t ++ u)) output))
 
 -- both sheets, which came back from their visits as rs and cs: rs is put after cs as v
-module _ (input work output rs cs v : List ℕ) (n : ℕ) (p : Parts input n) (target : Target input work output) (wide-rs : length rs ≡ length (take (length input - n) work)) (wide-cs : length cs ≡ length (take (n - 20) output)) where
+module _ (input work output rs cs v : List ℕ) (n : ℕ) (p : Parts input n) (target : Target input work output) (wide-rs : length rs ≡ length (take (length input - n) work)) (wide-cs : length cs ≡ length (take (n - firstBytes) output)) where
   rs-length : length rs ≡ length input - n
   rs-length = wide-rs ∙ simp length-take (omega (arith, p .record-room, target .work-room))
 
-  cs-length : length cs ≡ n - 20
+  cs-length : length cs ≡ n - firstBytes
   cs-length = wide-cs ∙ simp length-take (omega (arith, p .coordinator-room, target .output-room))
 
-  pub sheets-printed : rs ≡ visitedSheets input .records → cs ≡ visitedSheets input .coordinator → v ≡ putWord (take (n - 20 + (length input - n) - (n - 20)) (drop (n - 20) (cs ++ drop (n - 20) output))) (take (length input - n) (rs ++ drop (length input - n) work)) → (n - 20 + (length input - n) ≡ length (printed (visitedSheets input))) × ((take (n - 20) (cs ++ drop (n - 20) output) ++ (v ++ drop (n - 20 + (length input - n) - (n - 20)) (drop (n - 20) (cs ++ drop (n - 20) output))) ≡ onto (printed (visitedSheets input)) output) × (rs ++ drop (length input - n) work ≡ onto (visitedSheets input .records) work))
+  pub sheets-printed : rs ≡ visitedSheets input .records → cs ≡ visitedSheets input .coordinator → v ≡ putWord (take (n - firstBytes + (length input - n) - (n - firstBytes)) (drop (n - firstBytes) (cs ++ drop (n - firstBytes) output))) (take (length input - n) (rs ++ drop (length input - n) work)) → (n - firstBytes + (length input - n) ≡ length (printed (visitedSheets input))) × ((take (n - firstBytes) (cs ++ drop (n - firstBytes) output) ++ (v ++ drop (n - firstBytes + (length input - n) - (n - firstBytes)) (drop (n - firstBytes) (cs ++ drop (n - firstBytes) output))) ≡ onto (printed (visitedSheets input)) output) × (rs ++ drop (length input - n) work ≡ onto (visitedSheets input .records) work))
   sheets-printed e f q =
       let k : length rs ≡ length input - n = rs-length in
-      let j : length cs ≡ n - 20 = cs-length in
-      let m : length rs ≡ n - 20 + (length input - n) - (n - 20) = omega arith in
+      let j : length cs ≡ n - firstBytes = cs-length in
+      let m : length rs ≡ n - firstBytes + (length input - n) - (n - firstBytes) = omega arith in
       let u : take (length input - n) (rs ++ drop (length input - n) work) ≡ rs = take-at rs (drop (length input - n) work) (length input - n) k in
-      let g : n - 20 + (length input - n) ≤ length output = omega (arith, p .coordinator-room, p .record-room, target .output-room) in
-      let w : v ≡ putWord (take (n - 20 + (length input - n) - (n - 20)) (drop (n - 20) (cs ++ drop (n - 20) output))) rs =
+      let g : n - firstBytes + (length input - n) ≤ length output = omega (arith, p .coordinator-room, p .record-room, target .output-room) in
+      let w : v ≡ putWord (take (n - firstBytes + (length input - n) - (n - firstBytes)) (drop (n - firstBytes) (cs ++ drop (n - firstBytes) output))) rs =
       q ∙ ap (putWord _) u in (
         sym (length-append (visitedSheets input .coordinator) (visitedSheets input .records) ∙ ap₂ _+_ (ap length (sym f) ∙ j) (ap length (sym e) ∙ k)),
         (
-          two-parts (n - 20) (n - 20 + (length input - n)) cs rs v output j m g (omega arith) w
+          two-parts (n - firstBytes) (n - firstBytes + (length input - n)) cs rs v output j m g (omega arith) w
               ∙ ap₂ (λ (x y : List ℕ). onto (x ++ y) output) f e,
           ap₂ (λ (x : List ℕ) (i : ℕ). x ++ drop i work) e (sym k ∙ ap length e),
         ),
@@ -127,16 +131,16 @@ module _ (input work output : List ℕ) where
   unfolding answered outputAfter workAfter
   no-room h = record { answer = rw h; printed-bytes = rw h; work-bytes = rw h }
 
-  pub little-work : length work < 49000 → Left 0 output work
-  little-work l = no-room (ap (λ (b : Bool). b && leb 64000 (length output)) (lt-leb 49000 (length work) l))
+  pub little-work : length work < mostRecordBytes → Left 0 output work
+  little-work l = no-room (ap (λ (b : Bool). b && leb mostOutput (length output)) (lt-leb mostRecordBytes (length work) l))
 
-  pub little-output : length output < 64000 → Left 0 output work
+  pub little-output : length output < mostOutput → Left 0 output work
   little-output l =
-      no-room (ap (λ (b : Bool). leb 49000 (length work) && b) (lt-leb 64000 (length output) l) ∙ and-false (leb 49000 (length work)))
+      no-room (ap (λ (b : Bool). leb mostRecordBytes (length work) && b) (lt-leb mostOutput (length output) l) ∙ and-false (leb mostRecordBytes (length work)))
 
-  module _ (l : 49000 ≤ length work) (m : 64000 ≤ length output) where
+  module _ (l : mostRecordBytes ≤ length work) (m : mostOutput ≤ length output) where
     room : hasRoom work output ≡ true
-    room = and-both (le-leb 49000 (length work) l) (le-leb 64000 (length output) m)
+    room = and-both (le-leb mostRecordBytes (length work) l) (le-leb mostOutput (length output) m)
 
     pub left-refused : (n r : ℕ) (output′ : List ℕ) → n ≡ refusalOf (inputConditions input) → eqb n 0 ≡ false → r ≡ length (refusedText n) → output′ ≡ onto (refusedText n) output → Left r output′ work
     unfolding answered outputAfter workAfter visitorOutput

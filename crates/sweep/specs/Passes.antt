@@ -1,7 +1,7 @@
 -- The keys of a sheet visited one after another: a visit keeps the keys, so that the key of a line is that of the sheet at first.
 use Rattle.lists.specs.Basics.{_≡_, refl, sym, ap, ap₂, subst, _∙_, ℕ, zero, suc, _+_, _/_, _^_, _≤_, _<_, List, [], _∷_, _++_, map, length, drop, getD}
 use Rattle.lists.specs.Basics.{length-map, drop-of-length-le, List·getD-map, arith, add-one}
-use lib.Seq.{drop-cons}
+use Rattle.lists.specs.Walks.{drop-here}
 use Rattle.model.specs.Types.{Key, Record}
 use Rattle.model.specs.Layouts.{recordBytes}
 use Rattle.model.specs.Records.{records, noRecord}
@@ -86,8 +86,7 @@ pass-next now first b c i l m v e =
     sym (List·getD-map (λ (r : Record). r .key) (records (b .records)) i noRecord)
     ∙ ap (λ (ks : List Key). getD ks i (noRecord .key)) (v .kept .keys) in
     let d : drop i (keysIn first) ≡ keyAt (b .records) i ∷ drop (i + 1) (keysIn first) =
-    drop-cons (keysIn first) i (noRecord .key) n
-    ∙ ap₂ _∷_ (sym k) (ap (λ (j : ℕ). drop j (keysIn first)) (sym (add-one i))) in
+    drop-here (keysIn first) i (noRecord .key) (keyAt (b .records) i) n k in
     subst (λ (x : Bytes). VisitedTo now first x (i + 1)) (sym e)
     (record {
       place = omega arith;

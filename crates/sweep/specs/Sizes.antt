@@ -5,13 +5,13 @@ use Rattle.lists.specs.Basics.{length-take, length-drop, arith, eqb-true, leb-t
 use lib.Seq.{take-all}
 use Rattle.lists.specs.Each.{all}
 use Rattle.lists.specs.Tests.{and-fst, and-snd, tests}
-use Rattle.model.specs.Layouts.{recordLayout, recordBytes}
+use Rattle.model.specs.Layouts.{recordLayout, recordBytes, coordinatorBytes, mostCoordinatorBytes, mostRecordBytes}
 use Rattle.model.specs.Lines.{linesOf, linesSet, lineSet}
 use Rattle.model.specs.Records.{records, recordsGood, recordsAccepted}
 use Rattle.model.specs.Coordinator.{coordinatorOf, coordinatorAccepted}
 use Rattle.model.specs.Refusals.{refusalOf}
 use Rattle.model.specs.SheetCalls.{checkConditions}
-use Rattle.model.specs.Visitor.{firstNumber, coordinatorSize, inputFits, inputSheets, inputConditions, printed, refusedText, swept, visitorOutput}
+use Rattle.model.specs.Visitor.{firstNumber, coordinatorSize, inputFits, inputSheets, inputConditions, printed, refusedText, swept, visitorOutput, firstBytes}
 use Rattle.sheet_laws.specs.Places.{length-records}
 use Rattle.sheet_laws.specs.Coordinator.{bounds}
 use Rattle.sheet_laws.specs.Decisions.{length-decisions, accepted-parts}
@@ -19,7 +19,7 @@ use Rattle.call_laws.specs.Lifting.{passing-parts}
 use Rattle.sweep.specs.FirstLine.{firstOf, placeOfRecords, first-small, fit, unfit-refused, fit-refused, accepted-input, place-within}
 
 -- 1 to 500 lines of 98 bytes
-records-few : (s : List ℕ) → recordsAccepted s ≡ true → length s ≤ 49000
+records-few : (s : List ℕ) → recordsAccepted s ≡ true → length s ≤ mostRecordBytes
 unfolding recordsAccepted linesSet recordsGood
 records-few s h =
     let l : linesSet recordLayout recordBytes s ≡ true = and-fst (linesSet recordLayout recordBytes s) (recordsGood (records s)) h in
@@ -29,31 +29,31 @@ records-few s h =
     omega (arith, length-records s)
 
 -- a head and 1 to 999 lines of 15 bytes
-coordinator-few : (s : List ℕ) → coordinatorAccepted s ≡ true → length s ≤ 15000
+coordinator-few : (s : List ℕ) → coordinatorAccepted s ≡ true → length s ≤ mostCoordinatorBytes
 coordinator-few s h =
     let p = accepted-parts s h in
     let f : length (coordinatorOf s .decisions) ≤ 999 = bounds (coordinatorOf s) (p .good) .few in
-    let w : length (drop 15 s) ≡ length (drop 15 s) / 15 * 15 = p .whole in
-    omega (arith, length-decisions s, length-drop 15 s)
+    let w : length (drop coordinatorBytes s) ≡ length (drop coordinatorBytes s) / coordinatorBytes * coordinatorBytes = p .whole in
+    omega (arith, length-decisions s, length-drop coordinatorBytes s)
 
 -- The sheets of an accepted input, the record sheet from place n on.
 pub record Parts (s : List ℕ) (n : ℕ) : Type 0 where
-  pub after-first : 20 ≤ n
+  pub after-first : firstBytes ≤ n
   pub within : n ≤ length s
-  pub coordinator-bytes : coordinatorSize s ≡ n - 20
+  pub coordinator-bytes : coordinatorSize s ≡ n - firstBytes
   pub record-bytes : length (inputSheets s .records) ≡ length s - n
-  pub coordinator-room : n - 20 ≤ 15000
-  pub record-room : length s - n ≤ 49000
+  pub coordinator-room : n - firstBytes ≤ mostCoordinatorBytes
+  pub record-room : length s - n ≤ mostRecordBytes
 
 pub parts : (s : List ℕ) (n : ℕ) → n ≡ placeOfRecords (firstOf s) → refusalOf (inputConditions s) ≡ 0 → Parts s n
 parts s n e h =
     let a = accepted-input s h in
     let w = place-within s n e (a .fits) in
     let p = passing-parts (inputSheets s) (a .passing) in
-    let r : length (inputSheets s .records) ≤ 49000 = records-few (inputSheets s .records) (p .0) in
-    let c : length (inputSheets s .coordinator) ≤ 15000 = coordinator-few (inputSheets s .coordinator) (p .1 .0) in
-    let k : coordinatorSize s ≡ n - 20 = omega (arith, e) in
-    let l : length (inputSheets s .records) ≡ length s - n = length-drop (20 + coordinatorSize s) s ∙ ap (λ (m : ℕ). length s - m) (sym e) in
+    let r : length (inputSheets s .records) ≤ mostRecordBytes = records-few (inputSheets s .records) (p .0) in
+    let c : length (inputSheets s .coordinator) ≤ mostCoordinatorBytes = coordinator-few (inputSheets s .coordinator) (p .1 .0) in
+    let k : coordinatorSize s ≡ n - firstBytes = omega (arith, e) in
+    let l : length (inputSheets s .records) ≡ length s - n = length-drop (firstBytes + coordinatorSize s) s ∙ ap (λ (m : ℕ). length s - m) (sym e) in
     let m : length (inputSheets s .coordinator) ≡ coordinatorSize s = simp (length-take, length-drop) (omega (arith, e)) in
     record {
       after-first = w .0;
@@ -66,7 +66,7 @@ parts s n e h =
 
 -- The largest input that 1 need not refuse: the first line, a head and 9,999 coordinator lines, 500 record lines.
 abbrev pub longest : ℕ
-longest = 20 + 15 * 10000 + recordBytes * 500
+longest = firstBytes + coordinatorBytes * 10000 + recordBytes * 500
 
 -- one condition that holds gives its number
 refused-text : (s : List ℕ) → refusalOf (inputConditions s) ≡ 1 → visitorOutput s ≡ refusedText 1
@@ -74,7 +74,7 @@ unfolding visitorOutput
 refused-text s h =
     ap (λ (n : ℕ). cond (eqb n 0) (printed (swept (firstNumber 2 s) (inputSheets s))) (refusedText n)) h
 
-many-refused : (rs cs : List ℕ) → 49000 < length rs → refusalOf (checkConditions rs cs) ≡ 1
+many-refused : (rs cs : List ℕ) → mostRecordBytes < length rs → refusalOf (checkConditions rs cs) ≡ 1
 unfolding checkConditions refusalOf
 many-refused rs cs l = go (recordsAccepted rs) refl
   where
@@ -89,10 +89,10 @@ longer-refused s l = go (inputFits s) refl
     go false e = refused-text s (unfit-refused s e)
     go true e =
         let f = fit s e in
-        let w : length s ≡ 20 + coordinatorSize s + firstNumber 0 s * recordBytes = f .whole in
+        let w : length s ≡ firstBytes + coordinatorSize s + firstNumber 0 s * recordBytes = f .whole in
         let d : firstNumber 1 s ≤ 9999 = first-small s .decisions in
-        let m : length (inputSheets s .records) ≡ length s - (20 + coordinatorSize s) = length-drop (20 + coordinatorSize s) s in
-        let k : 49000 < length (inputSheets s .records) = omega arith in
+        let m : length (inputSheets s .records) ≡ length s - (firstBytes + coordinatorSize s) = length-drop (firstBytes + coordinatorSize s) s in
+        let k : mostRecordBytes < length (inputSheets s .records) = omega arith in
         refused-text s (fit-refused s e ∙ many-refused (inputSheets s .records) (inputSheets s .coordinator) k)
 
 -- an input cut after one byte more than that has the output of the whole

@@ -5,10 +5,12 @@ ghost use lib.ListN.{length, take};
 ghost use Rattle.decimal.specs.Field.{isNumber};
 ghost use Rattle.model.specs.Lines.{lineSet};
 ghost use Rattle.model.specs.Refusals.{refusalOf};
-ghost use Rattle.model.specs.Visitor.{firstLayout, inputFits, inputConditions};
+ghost use Rattle.model.specs.Visitor.{firstLayout, inputFits, inputConditions, firstBytes};
 ghost use Rattle.sweep.specs.FirstLine.{firstOf, placeOfRecords, Small};
+use crate::FIRST_BYTES;
 use crate::FirstLine;
 use decimal::Scan;
+use types::COORDINATOR_BYTES;
 use types::RECORD_BYTES;
 
 fn is_number(s: Scan) -> bool
@@ -23,8 +25,8 @@ fn is_number(s: Scan) -> bool
 
 // Three figures and LF.
 fn well_set(input: &[u8]) -> bool
-    requires { ⌜ 20 ≤ length (now input) ⌝ }
-    ensures { λ r. ⌜ r ≡ lineSet firstLayout (take 20 (now (input .entry))) ⌝ }
+    requires { ⌜ firstBytes ≤ length (now input) ⌝ }
+    ensures { λ r. ⌜ r ≡ lineSet firstLayout (take firstBytes (now (input .entry))) ⌝ }
 {
     if !is_number(decimal::read(&input[0..4], 0, 9999)) {
         return false;
@@ -40,7 +42,7 @@ fn well_set(input: &[u8]) -> bool
 
 // The numbers of the first line, 0 for one that cannot be read.
 pub fn numbers(input: &[u8]) -> FirstLine
-    requires { ⌜ 20 ≤ length (now input) ⌝ }
+    requires { ⌜ firstBytes ≤ length (now input) ⌝ }
     ensures { λ r. ⌜ r ≡ firstOf (now (input .entry)) ⌝ }
 {
     let lines = codec::fields::number_of(decimal::read(&input[0..4], 0, 9999));
@@ -58,14 +60,14 @@ pub fn records_from(first: FirstLine) -> usize
     requires { ⌜ Small first ⌝ }
     ensures { λ r. ⌜ r ≡ placeOfRecords first ⌝ }
 {
-    20 + (first.decisions as usize + 1) * 15
+    FIRST_BYTES + (first.decisions as usize + 1) * COORDINATOR_BYTES
 }
 
 // The first line is well set, and its numbers of lines fit the input.
 fn fits(input: &[u8]) -> bool
     ensures { λ r. ⌜ r ≡ inputFits (now (input .entry)) ⌝ }
 {
-    if input.len() < 20 {
+    if input.len() < FIRST_BYTES {
         return false;
     }
     if !well_set(input) {
@@ -83,5 +85,5 @@ pub fn refusal(input: &[u8]) -> u32
         return 1;
     }
     let from = records_from(numbers(input));
-    sheets::check::check(&input[from..], &input[20..from])
+    sheets::check::check(&input[from..], &input[FIRST_BYTES..from])
 }

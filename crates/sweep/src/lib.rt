@@ -5,9 +5,21 @@ ghost use lib.ListN.{length};
 ghost use Rattle.model.specs.Visitor.{refusedText};
 ghost use Rattle.model.specs.Visitor as model;
 ghost use Rattle.sweep.specs.Output.{onto, visitedSheets, answered, outputAfter, workAfter, Loaded, Target};
+use types::COORDINATOR_BYTES;
+use types::MOST_COORDINATOR_BYTES;
+use types::MOST_RECORD_BYTES;
 
 mod first_line;
 mod passes;
+
+// Bytes of the first line, LF counted.
+pub const FIRST_BYTES: usize = 20;
+
+// The longest input that can be anything but refusal 1: a head and 9999 coordinator lines, 500 record lines.
+pub const LONGEST: usize = FIRST_BYTES + COORDINATOR_BYTES * 10000 + MOST_RECORD_BYTES;
+
+// The longest output, both sheets.
+pub const MOST_OUTPUT: usize = MOST_RECORD_BYTES + MOST_COORDINATOR_BYTES;
 
 // What the first line of an input says: record lines, coordinator lines without head, clock.
 struct FirstLine {
@@ -38,7 +50,7 @@ fn visit_sheets(input: &[u8], records: &mut [u8], coordinator: &mut [u8])
 {
     let first = first_line::numbers(input);
     let from = first_line::records_from(first);
-    decimal::put(coordinator, &input[20..from]);
+    decimal::put(coordinator, &input[FIRST_BYTES..from]);
     decimal::put(records, &input[from..]);
     passes::sweep(first.clock, records, coordinator);
 }
@@ -51,7 +63,7 @@ fn print_sheets(input: &[u8], work: &mut [u8], output: &mut [u8]) -> usize
     ensures work { λ r. ⌜ now (work .exit) ≡ onto (visitedSheets (now (input .entry)) .records) (now (work .entry)) ⌝ }
 {
     let from = first_line::records_from(first_line::numbers(input));
-    let c = from - 20;
+    let c = from - FIRST_BYTES;
     let r = input.len() - from;
     visit_sheets(input, &mut work[..r], &mut output[..c]);
     let n = c + r;
@@ -66,10 +78,10 @@ pub fn run(input: &[u8], work: &mut [u8], output: &mut [u8]) -> usize
     ensures output { λ r. ⌜ now (output .exit) ≡ outputAfter (now (input .entry)) (now (work .entry)) (now (output .entry)) ⌝ }
     ensures work { λ r. ⌜ now (work .exit) ≡ workAfter (now (input .entry)) (now (work .entry)) (now (output .entry)) ⌝ }
 {
-    if work.len() < 49000 {
+    if work.len() < MOST_RECORD_BYTES {
         return 0;
     }
-    if output.len() < 64000 {
+    if output.len() < MOST_OUTPUT {
         return 0;
     }
     let refused = first_line::refusal(input);

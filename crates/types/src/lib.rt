@@ -86,8 +86,20 @@ pub const RECORD_BYTES: usize = 98;
 
 pub const COORDINATOR_BYTES: usize = 15;
 
-// Fields of a record line.
+// Bytes of the smallest coordinator sheet, a head and one line, and of the largest sheets: 500 record lines; a head and 999 coordinator lines.
+pub const LEAST_COORDINATOR_BYTES: usize = COORDINATOR_BYTES * 2;
+
+pub const MOST_RECORD_BYTES: usize = RECORD_BYTES * 500;
+
+pub const MOST_COORDINATOR_BYTES: usize = COORDINATOR_BYTES * 1000;
+
+// Where LF stands in a coordinator line.
+pub const LINE_END: usize = COORDINATOR_BYTES - 1;
+
+// Fields of a record line, and of a coordinator's head.
 pub const RECORD_FIELDS: usize = 15;
+
+pub const HEAD_FIELDS: usize = 10;
 
 // Columns of a state or decision word, of the number of a coordinator line, and of a record's version, TxID, column and clock.
 pub const WORD_BYTES: usize = 10;
@@ -117,6 +129,8 @@ pub const COLUMN1_AT: usize = TXID_AT + TXID_BYTES;
 pub const COLUMN2_AT: usize = COLUMN1_AT + COLUMN_BYTES;
 
 pub const BEFORE_AT: usize = COLUMN2_AT + COLUMN_BYTES;
+
+pub const BEFORE_TXID_AT: usize = BEFORE_AT + VERSION_BYTES;
 
 pub const CLOCK_AT: usize = BEFORE_AT + IMAGE_BYTES;
 

@@ -1,12 +1,13 @@
 // The visiting program: all of standard input, visited, to standard output.
+use types::MOST_RECORD_BYTES;
 
-// The largest input that can be anything but refusal 1 has 20 + 15 * 10000 + 98 * 500 bytes: of a longer one, one byte more is enough.
-const MOST: usize = 199021;
+// Of an input that is longer than any which fits, one byte more is enough.
+const MOST: usize = sweep::LONGEST + 1;
 
 fn main() {
     let mut input = [0u8; MOST];
-    let mut work = [0u8; 49000];
-    let mut output = [0u8; 64000];
+    let mut work = [0u8; MOST_RECORD_BYTES];
+    let mut output = [0u8; sweep::MOST_OUTPUT];
     let n = io::read_full(0, &mut input);
     let printed = sweep::run(&input[..n], &mut work, &mut output);
     io::write_all(1, &output[..printed]);

@@ -1,11 +1,14 @@
 -- The loop's invariant: the records before i are good, so that those from i on decide as all do. A number that is not issued ends it.
 use Rattle.lists.specs.Basics.{_≡_, _+_, _-_, leb, _&&_, and-false, drop, arith, le-leb, lt-leb, needs}
 use Rattle.lists.specs.Each.{all}
+use Rattle.lists.specs.Walks.{left-first, left-last}
+use Rattle.sheet_laws.specs.Places.{length-records}
+use Rattle.model.specs.Layouts.{recordLayout, offset}
 use Rattle.model.specs.Records.{records}
 use Rattle.model.specs.Coordinator.{coordinatorOf, namesIssued}
 use Rattle.model.specs.SheetCalls.{allIssued}
 use Rattle.sheet_laws.specs.Decisions.{accepted-length}
-use Rattle.coordinator_check.specs.Issued.{NamedTo, named-first, named-turn, named-last}
+use Rattle.coordinator_check.specs.Issued.{NamedTo, named-turn}
 use Rattle.coordinator_check.proofs.all_issued.Statement.{statement}
 use Rattle.coordinator_check.proofs.all_issued.Tie as tie
 
@@ -21,7 +24,8 @@ half-requires c κs =
     omega arith
 
 loop-holds : tie.Need-loop-holds Inv-loop μ-loop
-loop-holds c = named-first _ _
+unfolding allIssued
+loop-holds c = left-first _ _
 
 -- what the two numbers of record i and the records after it make up
 whole : (c : tie.After-half3 Inv-loop μ-loop)
@@ -30,6 +34,7 @@ whole : (c : tie.After-half3 Inv-loop μ-loop)
     ((leb (c .before .half2 .result) issued && leb (c .half3 .result) issued)
     && all (namesIssued (coordinatorOf (a .coordinator .now) .issued)) (drop (c .before .before .before .loop .i + 1) (records (a .records .now))))
     ≡ allIssued (a .records .now) (a .coordinator .now)
+unfolding offset recordLayout
 whole c =
     let p = c .before .before .before .before .before .before .before in
     let l = c .before .before .before .loop in
@@ -57,14 +62,15 @@ loop-again c =
     let txid = c .before .before .before .half2 in
     let before = c .before .before .half3 in
     record {
-      place = omega arith;
-      left =
+      place = omega (arith, length-records (c .before .before .before .before .before .before .before .before .before .args .records .now));
+      rest =
           rw (le-leb (txid .result) (issued .result) (c .before .if1 .left), le-leb (before .result) (issued .result) (c .if2 .left)) at
           (whole (c .before .before));
     }
 
 returns-3 : tie.Need-returns-3 Inv-loop μ-loop
-returns-3 c = named-last _ _ _ (c .loop-test .left) (c .before .loop .inv)
+unfolding all
+returns-3 c = left-last _ _ _ _ (omega (arith, length-records (c .before .before .before .before .before .args .records .now))) (c .before .loop .inv)
 
 pub all-issued-spec : {M : Type 1} → statement M
 all-issued-spec =

@@ -1,5 +1,6 @@
 -- Each test is one of `sheetMade`, in its order, and `sheetMade` is acceptance.
 use Rattle.lists.specs.Basics.{_≡_, sym, _∙_, true, length, take, length-take, arith, not-true, not-false, needs}
+use Rattle.model.specs.Layouts.{coordinatorBytes}
 use Rattle.model.specs.Coordinator.{coordinatorAccepted}
 use Rattle.coordinator_check.specs.Head.{lettersSet}
 use Rattle.coordinator_check.specs.Sheet.{wholeLines, whole-parts, ofNumber, decisionsMade, accepted-made, not-whole, not-lettered, by-count}
@@ -10,7 +11,7 @@ use Rattle.coordinator_check.proofs.coordinator_ok.Tie as tie
 whole : (c : tie.Else1) → wholeLines (length (c .before .before .before .args .coordinator .now)) ≡ true
 whole c = sym (c .before .whole-lines .ensures) ∙ not-false (c .before .whole-lines .result) (c .if1 .left)
 
-lettered : (c : tie.Else2) → lettersSet (take 15 (c .before .before .before .before .before .before .args .coordinator .now)) ≡ true
+lettered : (c : tie.Else2) → lettersSet (take coordinatorBytes (c .before .before .before .before .before .before .args .coordinator .now)) ≡ true
 lettered c = sym (c .before .letters-ok .ensures) ∙ not-false (c .before .letters-ok .result) (c .if2 .left)
 
 returns : tie.Need-returns

@@ -4,6 +4,7 @@ use Rattle.sweep.specs.FirstLine.{Small, placeOfRecords, first-small, ac
 use Rattle.sweep.specs.Sizes.{parts}
 use Rattle.sweep.specs.Output.{sheets-printed}
 use Rattle.lists.specs.Fill.{front-length}
+use Rattle.model.specs.Visitor.{firstBytes}
 use Rattle.sweep.proofs.print_sheets.Statement.{statement}
 use Rattle.sweep.proofs.print_sheets.Tie as tie
 
@@ -39,7 +40,7 @@ visit-sheets-requires c κs = let p = parts (c .before .before .before .before .
 part-put-end : tie.Need-part-put-end
 part-put-end c =
     let a = c .before .before .before .before .before .before .before .before .before .before .before .before .args in
-    let p = parts (a .input .now) (c .before .before .before .before .before .before .before .records-from .result) (c .before .before .before .before .before .before .before .records-from .ensures ∙ ap placeOfRecords (c .before .before .before .before .before .before .before .before .numbers .ensures)) (c .before .before .before .before .before .before .before .before .before .before .before .before .pre .accepted) in let e = front-length (c .before .before .before .before .before .before .before .records-from .result - 20) (c .before .before .before .before .visit-sheets .last .1 .1 .0) (a .output .now) (c .before .before .before .before .visit-sheets .kept .1 .1 .0) (omega (arith, c .before .before .before .before .before .before .before .before .before .before .before .before .pre .output-room)) in omega (arith, c .before .before .before .before .before .before .before .before .before .before .before .before .pre .output-room)
+    let p = parts (a .input .now) (c .before .before .before .before .before .before .before .records-from .result) (c .before .before .before .before .before .before .before .records-from .ensures ∙ ap placeOfRecords (c .before .before .before .before .before .before .before .before .numbers .ensures)) (c .before .before .before .before .before .before .before .before .before .before .before .before .pre .accepted) in let e = front-length (c .before .before .before .before .before .before .before .records-from .result - firstBytes) (c .before .before .before .before .visit-sheets .last .1 .1 .0) (a .output .now) (c .before .before .before .before .visit-sheets .kept .1 .1 .0) (omega (arith, c .before .before .before .before .before .before .before .before .before .before .before .before .pre .output-room)) in omega (arith, c .before .before .before .before .before .before .before .before .before .before .before .before .pre .output-room)
 
 slice-reshare-prefix-put : tie.Need-slice-reshare-prefix-put
 slice-reshare-prefix-put c =

@@ -3,7 +3,8 @@ use Rattle.lists.specs.Basics.{_≡_, refl, sym, ap, _∙_, ℕ, _+_, _-_, _*_,
 use Rattle.model.specs.Layouts.{layout, lineLayout, coordinatorBytes}
 use Rattle.model.specs.Lines.{lineText}
 use Rattle.sheet_laws.specs.Lines.{lineBytes}
-use Rattle.codec.specs.Parts.{hasLine, line-ends, room-part}
+use Rattle.sheet_laws.specs.Decisions.{numberHasLine}
+use Rattle.codec.specs.Parts.{line-ends, room-part}
 use Rattle.codec.proofs.coordinator.set_decision.Statement.{statement}
 use Rattle.codec.proofs.coordinator.set_decision.Tie as tie
 
@@ -27,13 +28,13 @@ returns c =
     let e : a .n * coordinatorBytes + coordinatorBytes ≤ length (a .coordinator .now) = line-ends (a .n) (a .coordinator .now) (sym (c .before .before .before .before .before .before .before .has-line .ensures) ∙ c .before .before .before .before .before .before .if1 .taken) in
     let k : length (c .before .before .write-row .last .1 .1 .0) ≡ a .n * coordinatorBytes + coordinatorBytes - a .n * coordinatorBytes =
     c .before .before .write-row .kept .1 .1 .0 ∙ simp (length-take, length-drop) (omega arith) in
-    room-part (hasLine (a .n) (a .coordinator .now)) coordinatorBytes (a .n * coordinatorBytes) _ _ _ (sym (c .before .before .before .before .before .before .before .has-line .ensures) ∙ c .before .before .before .before .before .before .if1 .taken) k
+    room-part (numberHasLine (a .n) (a .coordinator .now)) coordinatorBytes (a .n * coordinatorBytes) _ _ _ (sym (c .before .before .before .before .before .before .before .has-line .ensures) ∙ c .before .before .before .before .before .before .if1 .taken) k
     (c .before .before .write-row .ensures ∙ ap (λ (d : ℕ). lineText lineLayout (a .n ∷ d ∷ [])) (c .before .before .before .before .before .decision-number .ensures))
 
 returns-2 : tie.Need-returns-2
 returns-2 c =
     let a = c .before .before .before .before .args in
-    let h : hasLine (a .n) (a .coordinator .now) ≡ false = sym (c .before .has-line .ensures) ∙ c .if1 .left in rw h
+    let h : numberHasLine (a .n) (a .coordinator .now) ≡ false = sym (c .before .has-line .ensures) ∙ c .if1 .left in rw h
 
 pub set-decision-spec : {M : Type 1} → statement M
 set-decision-spec =

@@ -1,78 +1,19 @@
 -- By the place: at each of its columns the layout has that column, and past them none.
-use Rattle.lists.specs.Basics.{sym, _≤_, List·getD-eq-default, arith}
+use Rattle.lists.specs.Basics.{sym, List·getD-eq-default}
+use Rattle.lists.specs.Chosen.{Missed, past-arms}
 use Rattle.model.specs.Layouts.{noColumn, recordLayout}
-use Rattle.codec.specs.Turns.{above}
 use Rattle.codec.proofs.layouts.record_column.Statement.{statement}
 use Rattle.codec.proofs.layouts.record_column.Tie as tie
 
-returns : tie.Need-returns
-unfolding recordLayout
-returns c = rw (c .match .keys1)
-
-returns-2 : tie.Need-returns-2
-unfolding recordLayout
-returns-2 c = rw (c .match .keys2)
-
-returns-3 : tie.Need-returns-3
-unfolding recordLayout
-returns-3 c = rw (c .match .keys3)
-
-returns-4 : tie.Need-returns-4
-unfolding recordLayout
-returns-4 c = rw (c .match .keys4)
-
-returns-5 : tie.Need-returns-5
-unfolding recordLayout
-returns-5 c = rw (c .match .keys5)
-
-returns-6 : tie.Need-returns-6
-unfolding recordLayout
-returns-6 c = rw (c .match .keys6)
-
-returns-7 : tie.Need-returns-7
-unfolding recordLayout
-returns-7 c = rw (c .match .keys7)
-
-returns-8 : tie.Need-returns-8
-unfolding recordLayout
-returns-8 c = rw (c .match .keys8)
-
-returns-9 : tie.Need-returns-9
-unfolding recordLayout
-returns-9 c = rw (c .match .keys9)
-
-returns-10 : tie.Need-returns-10
-unfolding recordLayout
-returns-10 c = rw (c .match .keys10)
-
-returns-11 : tie.Need-returns-11
-unfolding recordLayout
-returns-11 c = rw (c .match .keys11)
-
-returns-12 : tie.Need-returns-12
-unfolding recordLayout
-returns-12 c = rw (c .match .keys12)
-
-returns-13 : tie.Need-returns-13
-unfolding recordLayout
-returns-13 c = rw (c .match .keys13)
-
-returns-14 : tie.Need-returns-14
-unfolding recordLayout
-returns-14 c = rw (c .match .keys14)
-
-returns-15 : tie.Need-returns-15
-unfolding recordLayout
-returns-15 c = rw (c .match .keys15)
-
-returns-16 : tie.Need-returns-16
-unfolding recordLayout
-returns-16 c =
-    let a = c .before .args in
-    let l : 15 ≤ a .i = above 14 (a .i) (above 13 (a .i) (above 12 (a .i) (above 11 (a .i) (above 10 (a .i) (above 9 (a .i) (above 8 (a .i) (above 7 (a .i) (above 6 (a .i) (above 5 (a .i) (above 4 (a .i) (above 3 (a .i) (above 2 (a .i) (above 1 (a .i) (above 0 (a .i) (omega arith) (c .match .rest .0 .0 .0 .0 .0 .0 .0 .0 .0 .0 .0 .0 .0 .0 .1)) (c .match .rest .0 .0 .0 .0 .0 .0 .0 .0 .0 .0 .0 .0 .0 .1)) (c .match .rest .0 .0 .0 .0 .0 .0 .0 .0 .0 .0 .0 .0 .1)) (c .match .rest .0 .0 .0 .0 .0 .0 .0 .0 .0 .0 .0 .1)) (c .match .rest .0 .0 .0 .0 .0 .0 .0 .0 .0 .0 .1)) (c .match .rest .0 .0 .0 .0 .0 .0 .0 .0 .0 .1)) (c .match .rest .0 .0 .0 .0 .0 .0 .0 .0 .1)) (c .match .rest .0 .0 .0 .0 .0 .0 .0 .1)) (c .match .rest .0 .0 .0 .0 .0 .0 .1)) (c .match .rest .0 .0 .0 .0 .0 .1)) (c .match .rest .0 .0 .0 .0 .1)) (c .match .rest .0 .0 .0 .1)) (c .match .rest .0 .0 .1)) (c .match .rest .0 .1)) (c .match .rest .1) in sym (List·getD-eq-default recordLayout noColumn l)
+past : tie.Need-returns-16
+unfolding recordLayout Missed
+past c = sym (List·getD-eq-default recordLayout noColumn (past-arms 15 (c .before .args .i) (c .match .rest)))
 
 pub record-column-spec : {M : Type 1} → statement M
+unfolding recordLayout
 record-column-spec =
     tie.close
-    (tie.spec returns returns-2 returns-3 returns-4 returns-5 returns-6 returns-7 returns-8 returns-9 returns-10 returns-11 returns-12 returns-13
-    returns-14 returns-15 returns-16)
+    (tie.spec (λ c. rw (c .match .keys1)) (λ c. rw (c .match .keys2)) (λ c. rw (c .match .keys3)) (λ c. rw (c .match .keys4))
+    (λ c. rw (c .match .keys5)) (λ c. rw (c .match .keys6)) (λ c. rw (c .match .keys7)) (λ c. rw (c .match .keys8)) (λ c. rw (c .match .keys9))
+    (λ c. rw (c .match .keys10)) (λ c. rw (c .match .keys11)) (λ c. rw (c .match .keys12)) (λ c. rw (c .match .keys13)) (λ c. rw (c .match .keys14))
+    (λ c. rw (c .match .keys15)) past)

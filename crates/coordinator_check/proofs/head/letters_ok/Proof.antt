@@ -1,5 +1,6 @@
 -- The loop's invariant: the letters before place i are units, or one is not, and the others decide with them.
 use Rattle.lists.specs.Basics.{_-_, needs}
+use Rattle.model.specs.Layouts.{lineEnd}
 use Rattle.coordinator_check.specs.Head.{LettersTo, letters-first, letters-next, letters-last}
 use Rattle.coordinator_check.proofs.head.letters_ok.Statement.{statement}
 use Rattle.coordinator_check.proofs.head.letters_ok.Tie as tie
@@ -8,7 +9,7 @@ abbrev Inv-loop : tie.InvT-loop
 Inv-loop head good₀ i₀ good i = LettersTo head i good
 
 abbrev μ-loop : tie.MeasureT-loop
-μ-loop head good₀ i₀ good i = 14 - i
+μ-loop head good₀ i₀ good i = lineEnd - i
 
 loop-holds : tie.Need-loop-holds Inv-loop μ-loop
 loop-holds c = letters-first _

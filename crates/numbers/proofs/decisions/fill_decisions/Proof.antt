@@ -1,13 +1,13 @@
 -- One turn reads line i and stores its decision: those before i are there.
 use Rattle.lists.specs.Basics.{_≡_, refl, _-_, _/_, length, length-take, length-drop, arith, needs}
-use Rattle.model.specs.Layouts.{layout, lineLayout}
+use Rattle.model.specs.Layouts.{layout, lineLayout, coordinatorBytes}
 use Rattle.sheet_laws.specs.Lines.{lineBytes}
 use Rattle.numbers.specs.DecisionFills.{ReadTo, read-first, read-room, read-next, read-last}
 use Rattle.numbers.proofs.decisions.fill_decisions.Statement.{statement}
 use Rattle.numbers.proofs.decisions.fill_decisions.Tie as tie
 
 abbrev Inv-loop : tie.InvT-loop
-Inv-loop lines numbers₀ n i₀ numbers i = (n ≡ length lines / 15) × ReadTo lines numbers i
+Inv-loop lines numbers₀ n i₀ numbers i = (n ≡ length lines / coordinatorBytes) × ReadTo lines numbers i
 
 abbrev μ-loop : tie.MeasureT-loop
 μ-loop lines numbers₀ n i₀ numbers i = n - i

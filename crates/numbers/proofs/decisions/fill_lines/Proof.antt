@@ -1,6 +1,6 @@
 -- One turn writes line i over its part of the target: those before i are there.
 use Rattle.lists.specs.Basics.{_≡_, refl, _∙_, _+_, _-_, _*_, length, length-take, length-drop, arith, needs}
-use Rattle.model.specs.Layouts.{layout, lineLayout}
+use Rattle.model.specs.Layouts.{layout, lineLayout, coordinatorBytes}
 use Rattle.sheet_laws.specs.Lines.{lineBytes}
 use Rattle.numbers.specs.DecisionFills.{WrittenTo, written-first, written-room, written-next, written-last}
 use Rattle.numbers.proofs.decisions.fill_lines.Statement.{statement}
@@ -28,7 +28,7 @@ unfolding layout
 loop-again c =
     let a = c .before .before .before .before .before .before .before .before .before .before .args in
     let r = written-room (a .decisions .now) (c .before .before .before .before .before .before .before .loop .lines) (c .before .before .before .before .before .before .before .loop .i) (c .before .before .before .before .before .before .before .loop .inv .1) in
-    let k : length (c .before .before .write-row .last .1 .1 .0) ≡ c .before .before .before .before .before .before .before .loop .i * 15 + 15 - c .before .before .before .before .before .before .before .loop .i * 15 =
+    let k : length (c .before .before .write-row .last .1 .1 .0) ≡ c .before .before .before .before .before .before .before .loop .i * coordinatorBytes + coordinatorBytes - c .before .before .before .before .before .before .before .loop .i * coordinatorBytes =
     c .before .before .write-row .kept .1 .1 .0 ∙ simp (length-take, length-drop) (omega arith) in
     (c .before .before .before .before .before .before .before .loop .inv .0, written-next (a .decisions .now) (c .before .before .before .before .before .before .before .loop .lines) _ (c .before .before .before .before .before .before .before .loop .i) (c .before .before .before .before .before .before .loop-test .taken) k (c .before .before .write-row .ensures) (c .before .before .before .before .before .before .before .loop .inv .1))
 

@@ -3,7 +3,7 @@ use Rattle.lists.specs.Basics.{_≡_, sym, ap, ap₂, _∙_, ℕ, _/_, List, _+
 use Rattle.model.specs.Lines.{linesOf}
 use Rattle.numbers.specs.DecisionFills.{decisionField, numbersIn}
 use Rattle.lists.specs.Fill.{front-same, rest-part, front-length, front-rest, front-back}
-use Rattle.model.specs.Layouts.{layout, headLayout}
+use Rattle.model.specs.Layouts.{layout, headLayout, coordinatorBytes, headFields}
 use Rattle.sheet_laws.specs.Lines.{lineBytes}
 use Rattle.numbers.proofs.decisions.fill_numbers.Statement.{statement}
 use Rattle.numbers.proofs.decisions.fill_numbers.Tie as tie
@@ -22,27 +22,27 @@ unfolding layout headLayout lineBytes
 read-row-requires c κs = (simp length-take (omega arith), simp length-take (omega arith))
 
 sub-fill-decisions-2 : tie.Need-sub-fill-decisions-2
-sub-fill-decisions-2 c = let e = front-length 10 (c .before .before .before .read-row .last .1 .1 .0) (c .before .before .before .before .before .before .before .before .args .numbers .now) (c .before .before .before .read-row .kept .1 .1 .0) (omega arith) in omega arith
+sub-fill-decisions-2 c = let e = front-length headFields (c .before .before .before .read-row .last .1 .1 .0) (c .before .before .before .before .before .before .before .before .args .numbers .now) (c .before .before .before .read-row .kept .1 .1 .0) (omega arith) in omega arith
 
 part-fill-decisions-start-2 : tie.Need-part-fill-decisions-start-2
-part-fill-decisions-start-2 c = let e = front-length 10 (c .before .before .before .read-row .last .1 .1 .0) (c .before .before .before .before .before .before .before .before .args .numbers .now) (c .before .before .before .read-row .kept .1 .1 .0) (omega arith) in omega arith
+part-fill-decisions-start-2 c = let e = front-length headFields (c .before .before .before .read-row .last .1 .1 .0) (c .before .before .before .before .before .before .before .before .args .numbers .now) (c .before .before .before .read-row .kept .1 .1 .0) (omega arith) in omega arith
 
 fill-decisions-requires : tie.Need-fill-decisions-requires
 fill-decisions-requires c κs =
     let a = c .before .before .before .before .before .before .before .before .before .args in
-    let k : length (drop 10 (a .numbers .now)) ≡ length (drop 15 (a .coordinator .now)) / 15 = rw length-drop (omega arith) in
-    ap length (front-rest 10 (c .before .before .before .before .read-row .last .1 .1 .0) (a .numbers .now) (c .before .before .before .before .read-row .kept .1 .1 .0) (omega arith))
-    ∙ (k ∙ ap (λ (x : List ℕ). length x / 15) (sym (rest-part 15 (a .coordinator .now))))
+    let k : length (drop headFields (a .numbers .now)) ≡ length (drop coordinatorBytes (a .coordinator .now)) / coordinatorBytes = rw length-drop (omega arith) in
+    ap length (front-rest headFields (c .before .before .before .before .read-row .last .1 .1 .0) (a .numbers .now) (c .before .before .before .before .read-row .kept .1 .1 .0) (omega arith))
+    ∙ (k ∙ ap (λ (x : List ℕ). length x / coordinatorBytes) (sym (rest-part coordinatorBytes (a .coordinator .now))))
 
 same-length : tie.Need-same-length
-same-length c = front-same 10 (c .before .before .before .before .before .before .before .read-row .last .1 .1 .0) (c .before .before .before .before .before .before .before .before .before .before .before .before .args .numbers .now) (c .before .before .before .before .before .before .before .read-row .kept .1 .1 .0) (omega arith) (c .before .before .fill-decisions .last .1 .0) (c .before .before .fill-decisions .kept .1 .0)
+same-length c = front-same headFields (c .before .before .before .before .before .before .before .read-row .last .1 .1 .0) (c .before .before .before .before .before .before .before .before .before .before .before .before .args .numbers .now) (c .before .before .before .before .before .before .before .read-row .kept .1 .1 .0) (omega arith) (c .before .before .fill-decisions .last .1 .0) (c .before .before .fill-decisions .kept .1 .0)
 
 returns : tie.Need-returns
 unfolding layout numbersIn
 returns c =
     let a = c .before .before .before .before .before .before .before .before .before .before .before .before .args in
-    front-back 10 (c .before .before .before .before .before .before .before .read-row .last .1 .1 .0) (a .numbers .now) (c .before .before .before .before .before .before .before .read-row .kept .1 .1 .0) (omega arith) (c .before .before .fill-decisions .last .1 .0)
-    ∙ ap₂ _++_ (c .before .before .before .before .before .before .before .read-row .ensures) (c .before .before .fill-decisions .ensures ∙ ap (λ (x : List ℕ). map decisionField (linesOf 15 x)) (rest-part 15 (a .coordinator .now)))
+    front-back headFields (c .before .before .before .before .before .before .before .read-row .last .1 .1 .0) (a .numbers .now) (c .before .before .before .before .before .before .before .read-row .kept .1 .1 .0) (omega arith) (c .before .before .fill-decisions .last .1 .0)
+    ∙ ap₂ _++_ (c .before .before .before .before .before .before .before .read-row .ensures) (c .before .before .fill-decisions .ensures ∙ ap (λ (x : List ℕ). map decisionField (linesOf coordinatorBytes x)) (rest-part coordinatorBytes (a .coordinator .now)))
 
 pub fill-numbers-spec : {M : Type 1} → statement M
 fill-numbers-spec =

@@ -1,5 +1,6 @@
 -- By the conditions in order; where none holds, what was filled is the coordinator's text.
 use Rattle.lists.specs.Basics.{sym, _∙_, _+_, _*_, length, drop, eqb-true, not-true, not-false, needs}
+use Rattle.model.specs.Layouts.{coordinatorBytes, headFields}
 use Rattle.numbers.specs.DecisionAnswers.{sized, write-misfit, write-bad, write-done}
 use Rattle.numbers.proofs.decisions.write_coordinator.Statement.{statement}
 use Rattle.numbers.proofs.decisions.write_coordinator.Tie as tie
@@ -18,7 +19,7 @@ fill-sheet-requires : tie.Need-fill-sheet-requires
 fill-sheet-requires c κs =
     let a = c .before .before .before .before .before .before .before .before .args in
     let z = sized (a .numbers .now) (sym (c .before .before .numbers-ok .ensures) ∙ not-false _ (c .before .if2 .left)) in
-    (z .head, (z .few, eqb-true (length (a .coordinator .now)) (15 + length (drop 10 (a .numbers .now)) * 15) (sym (c .before .before .before .before .has-room .ensures) ∙ not-false _ (c .before .before .before .if1 .left))))
+    (z .head, (z .few, eqb-true (length (a .coordinator .now)) (coordinatorBytes + length (drop headFields (a .numbers .now)) * coordinatorBytes) (sym (c .before .before .before .before .has-room .ensures) ∙ not-false _ (c .before .before .before .if1 .left))))
 
 returns-3 : tie.Need-returns-3
 returns-3 c =

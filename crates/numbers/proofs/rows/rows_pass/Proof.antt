@@ -1,17 +1,19 @@
 -- The rows from i on pass exactly if all do: none before i was bad or out of order.
 use Rattle.lists.specs.Basics.{_≡_, refl, sym, _∙_, _-_, _/_, length, not-true, not-false, needs}
-use Rattle.numbers.specs.RowsPass.{JudgedTo, judge-first, judge-bad, judge-late, judge-next, judge-last}
+use Rattle.lists.specs.Walks.{left-first}
+use Rattle.model.specs.Layouts.{recordFields}
+use Rattle.numbers.specs.RowsPass.{JudgedTo, judge-bad, judge-late, judge-next, judge-last}
 use Rattle.numbers.proofs.rows.rows_pass.Statement.{statement}
 use Rattle.numbers.proofs.rows.rows_pass.Tie as tie
 
 abbrev Inv-loop : tie.InvT-loop
-Inv-loop numbers n i₀ i = (n ≡ length numbers / 15) × JudgedTo numbers i
+Inv-loop numbers n i₀ i = (n ≡ length numbers / recordFields) × JudgedTo numbers i
 
 abbrev μ-loop : tie.MeasureT-loop
 μ-loop numbers n i₀ i = n - i
 
 loop-holds : tie.Need-loop-holds Inv-loop μ-loop
-loop-holds c = (refl, judge-first _)
+loop-holds c = (refl, left-first _ _)
 
 returns : tie.Need-returns Inv-loop μ-loop
 returns c = judge-bad (c .before .before .before .before .before .args .numbers .now) (c .before .before .before .loop .i) (c .before .before .loop-test .taken) (c .before .before .before .loop .inv .1) (sym (c .before .row-ok .ensures) ∙ not-true _ (c .if1 .taken))

@@ -1,9 +1,10 @@
 -- No line before i begins so; line i agrees from field f on. A field that differs passes the line, and five that agree are a match.
 use Rattle.lists.specs.Basics.{_≡_, refl, sym, _∙_, _-_, _/_, _≤_, _<_, length, arith, not-true, not-false, needs}
 use mathlib.Core.Logic.{⊎-elim}
-use Rattle.sheets.specs.Search.{Passed, Agreed, pass-first, agree-first, agree-next, pass-met, pass-next, pass-last}
+use Rattle.sheets.specs.Search.{Passed, Agreed, agree-first, agree-next, pass-met, pass-next, pass-last}
 use Rattle.sheets.proofs.lookup.find_line.Statement.{statement}
 use Rattle.sheets.proofs.lookup.find_line.Tie as tie
+use Rattle.lists.specs.Walks.{left-first}
 use Rattle.model.specs.Layouts.{recordBytes}
 
 abbrev Inv-loop : tie.InvT-loop
@@ -19,7 +20,7 @@ abbrev μ-lines : tie.MeasureT-lines
 μ-lines records text n i₀ i = n - i
 
 lines-holds : tie.Need-lines-holds Inv-loop μ-loop Inv-lines μ-lines
-lines-holds c = (refl, pass-first _ _)
+lines-holds c = (refl, left-first _ _)
 
 loop-holds : tie.Need-loop-holds Inv-loop μ-loop Inv-lines μ-lines
 loop-holds c = (refl, agree-first _ _ _)
@@ -46,7 +47,7 @@ returns-2 c =
     ⊎-elim
     (λ w.
     let past : length (c .before .before .before .before .before .args .records .now) / recordBytes ≤ c .before .before .lines .i = omega arith in
-    pass-last _ _ _ past (c .before .before .lines .inv .1))
+    pass-last _ (c .before .before .before .before .before .args .text .now) _ past (c .before .before .lines .inv .1))
     (λ w. absurd (omega arith))
     (c .before .lines-test .came)
 
