@@ -2,10 +2,9 @@
 use Rattle.lists.specs.Basics.{_≡_, ℕ, List}
 use Rattle.model.specs.Refusals.{refusalOf}
 use Rattle.model.specs.SheetCalls.{checkConditions}
-use Rattle.model.specs.Writes.{Sheets, Write}
+use Rattle.model.specs.Writes.{Sheets}
 use Rattle.model.specs.Results.{Call, Answer, Result, answerOf}
 use Rattle.model.specs.ByteCalls.{sheetsOf, resultOn, recordsAfter, coordinatorAfter}
-use Rattle.model.specs.Histories.{written}
 
 -- the bytes of both sheets
 pub record Bytes : Type 0 where
@@ -34,7 +33,3 @@ answerOn c b = answerOf (resultOn c (b .records) (b .coordinator))
 -- the bytes as the call leaves them
 unfoldable pub afterOn : Call → Bytes → Bytes
 afterOn c b = bytesAfter b (resultOn c (b .records) (b .coordinator))
-
--- what the call writes, made with these bytes
-abbrev pub writtenOn : Call → Bytes → Write
-writtenOn c b = written c (saying b)

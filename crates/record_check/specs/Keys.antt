@@ -12,7 +12,7 @@ use Rattle.decimal.specs.Field.{scanned, number, isNumber}
 use Rattle.decimal.specs.Laws.{isNumber-number}
 use Rattle.decimal.specs.Order.{order-bytes, same-bytes}
 use Rattle.model.specs.Types.{Column}
-use Rattle.model.specs.Layouts.{recordLayout, offset}
+use Rattle.model.specs.Layouts.{recordLayout, stateField, offset, keyBytes}
 use Rattle.model.specs.Lines.{fieldValue, rowOf, lineSet}
 use Rattle.model.specs.Records.{keyLess, keyNumbers, keyOf, recordOf, recordIn}
 use Rattle.sheet_laws.specs.Lines.{lineBytes, line-length}
@@ -52,6 +52,6 @@ order-fields (suc n) (c ∷ cs) a b o h g =
 
 -- the keys of two record lines
 pub key-order : (a b : List ℕ)
-    → lineSet recordLayout a ≡ true → lineSet recordLayout b ≡ true → less (take 20 a) (take 20 b) ≡ keyLess (recordIn a .key) (recordIn b .key)
-unfolding all offset rowOf recordLayout keyLess keyNumbers recordIn recordOf keyOf
-key-order a b h g = order-fields 5 recordLayout a b refl h g
+    → lineSet recordLayout a ≡ true → lineSet recordLayout b ≡ true → less (take keyBytes a) (take keyBytes b) ≡ keyLess (recordIn a .key) (recordIn b .key)
+unfolding all rowOf offset recordLayout keyLess keyNumbers recordIn recordOf keyOf
+key-order a b h g = order-fields stateField recordLayout a b refl h g

@@ -105,14 +105,18 @@ opens c =
     && byKind (c .kind) (leb (c .high) (opened c .high)) (eqb (c .low) 0 && eqb (c .high) (opened c .high))
 
 words-held : (c : Column) (t : List ℕ)
-    → fieldValue (opened c) t ≡ fieldValue c t → columnOk (opened c) ≡ true → c .low ≡ 0 → c .high ≡ opened c .high → length t ≡ c .width
+    → fieldValue (opened c) t ≡ fieldValue c t
+    → (columnOk (opened c) && (eqb (c .low) 0 && eqb (c .high) (opened c .high))) ≡ true → length t ≡ c .width
     → isNumber (fieldValue c t) ≡ held c t
 unfolding held inRange opened
-words-held c t e o z h l =
+words-held c t e o l =
+    let a : columnOk (opened c) ≡ true = search tests in
+    let z : c .low ≡ 0 = search tests in
+    let h : c .high ≡ opened c .high = search tests in
     same-test (isNumber (fieldValue c t)) (held c t)
     (λ g. let f : isNumber (fieldValue (opened c) t) ≡ true = rw e g in
     let v = number (fieldValue (opened c) t) in
-    let r = field-written-read (opened c) t v o l (isNumber-number (fieldValue (opened c) t) f) in
+    let r = field-written-read (opened c) t v a l (isNumber-number (fieldValue (opened c) t) f) in
     and-both f (rw (z, h) (r .1)))
     (λ g. rw e at (and-fst (isNumber (fieldValue (opened c) t)) _ g))
 
@@ -124,25 +128,14 @@ set-held : (c : Column) (t : List ℕ) → opens c ≡ true → length t ≡ c .
 unfolding opens fieldValue opened
 set-held c t = go (c .kind) (c .width) (c .low) (c .high)
   where
-    words-case : (d : Column)
-        → fieldValue (opened d) t ≡ fieldValue d t
-        → (columnOk (opened d) && (eqb (d .low) 0 && eqb (d .high) (opened d .high))) ≡ true
-        → length t ≡ d .width
-        → isNumber (fieldValue d t) ≡ held d t
-    words-case d e o l =
-        let a : columnOk (opened d) ≡ true = search tests in
-        let z : d .low ≡ 0 = search tests in
-        let h : d .high ≡ opened d .high = search tests in
-        words-held d t e a z h l
-
     go : (k : Kind) (w low high : ℕ)
         → opens (column k w low high) ≡ true → length t ≡ w → isNumber (fieldValue (column k w low high) t) ≡ held (column k w low high) t
     go Figure w low high o l =
         let h : high ≤ most w = search tests in
         unfold held inRange in figure-held low high (most w) t h
-    go StateWord w low high o l = words-case (column StateWord w low high) refl o l
-    go DecisionWord w low high o l = words-case (column DecisionWord w low high) refl o l
-    go UnitLetter w low high o l = words-case (column UnitLetter w low high) refl o l
+    go StateWord w low high o l = words-held (column StateWord w low high) t refl o l
+    go DecisionWord w low high o l = words-held (column DecisionWord w low high) t refl o l
+    go UnitLetter w low high o l = words-held (column UnitLetter w low high) t refl o l
 
 -- a line that can be read is one whose numbers are held
 pub set-is-held : (cs : List Column) (s : List ℕ) → all opens cs ≡ true → lineSet cs s ≡ lineHeld cs s

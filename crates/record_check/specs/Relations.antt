@@ -1,9 +1,9 @@
 -- How the versions of a PREPARED line stand to each other, by their bytes, and the clock's bound, which no width says. Where the last digit of a
 -- figure is no 9, the next figure has the same bytes but the last, which is one more; else the digits of a field make its number. The end of
 -- the line orders as the clock does.
-use Rattle.lists.specs.Basics.{_≡_, refl, sym, ap, _∙_, ℕ, suc, _+_, _/_, _%_, _^_, _≤_, _<_, eqb, leb, ltb, Bool, true, false, not, cond, and-false, or-false}
-use Rattle.lists.specs.Basics.{List, [], _∷_, _++_, map, length, take, drop, getD, length-append, length-take, length-drop, arith, eqb-false, ltb-true}
-use Rattle.lists.specs.Basics.{ltb-false, eq-eqb, ne-eqb, le-leb, lt-leb, le-ltb}
+use Rattle.lists.specs.Basics.{_≡_, refl, sym, ap, _∙_, ℕ, suc, _+_, _-_, _/_, _%_, _^_, _≤_, _<_, eqb, leb, ltb, Bool, true, false, not, cond, and-false}
+use Rattle.lists.specs.Basics.{or-false, List, [], _∷_, _++_, map, length, take, drop, getD, length-append, length-take, length-drop, arith, eqb-false}
+use Rattle.lists.specs.Basics.{ltb-true, ltb-false, eq-eqb, ne-eqb, le-leb, lt-leb, le-ltb}
 use native.Mathlib.Nat.{pow-suc}
 use lib.Seq.{take-add, take-length, drop-cons, drop-drop, getD-take, getD-drop, getD-append-seam}
 use lib.Pow.{areBytes}
@@ -17,7 +17,7 @@ use Rattle.decimal.specs.Laws.{figure-scan, scan-written, scan-text, length-fie
 use Rattle.decimal.specs.Order.{order-bytes}
 use Rattle.decimal.specs.Digits.{figureAt}
 use Rattle.model.specs.Types.{Column}
-use Rattle.model.specs.Layouts.{recordLayout, noColumn, recordBytes, offset}
+use Rattle.model.specs.Layouts.{recordLayout, noColumn, recordBytes, offset, recordOffset, recordWidth, imageField, beforeField, clockField}
 use Rattle.model.specs.Lines.{fieldValue, rowOf, lineSet}
 use Rattle.sheet_laws.specs.Fields.{scan-of}
 use Rattle.sheet_laws.specs.Lines.{lineBytes, line-length, fieldAt, field-at, digits-at, line-end}
@@ -26,21 +26,38 @@ use Rattle.places.specs.Loads.{loaded, loaded-append, loaded-equal}
 use Rattle.record_check.specs.Ranges.{opened}
 use Rattle.record_check.specs.Keys.{equal-bytes}
 
+-- where version, before version and clock begin
+abbrev pub versionAt : ℕ
+versionAt = recordOffset imageField
+
+abbrev pub beforeAt : ℕ
+beforeAt = recordOffset beforeField
+
+abbrev pub clockAt : ℕ
+clockAt = recordOffset clockField
+
+-- the columns of a version, and the last of before version
+abbrev pub versionBytes : ℕ
+versionBytes = recordWidth imageField
+
+abbrev beforeLast : ℕ
+beforeLast = beforeAt + (versionBytes - 1)
+
 -- the highest clock as it ends a line
 unfoldable pub highestClock : List ℕ
 highestClock = bytes " 4294967295\n"
 
 -- the end of the line, from the clock on, comes no later
 unfoldable pub clockFits : List ℕ → Bool
-clockFits line = not (less highestClock (take 12 (drop 86 line)))
+clockFits line = not (less highestClock (take 12 (drop clockAt line)))
 
 -- "version = before version + 1": the bytes of before version with one more in the last, or, behind a 9, by their digits
 unfoldable pub follows : List ℕ → Bool
 follows line =
     cond
-    (eqb (getD line 63 0) 57)
-    (eqb (figureAt 30 6 line) (figureAt 58 6 line + 1))
-    (eqb (loaded (take 6 (drop 30 line))) (loaded (take 6 (drop 58 line)) + 2 ^ 40))
+    (eqb (getD line beforeLast 0) 57)
+    (eqb (figureAt versionAt versionBytes line) (figureAt beforeAt versionBytes line + 1))
+    (eqb (loaded (take versionBytes (drop versionAt line))) (loaded (take versionBytes (drop beforeAt line)) + 2 ^ 40))
 
 -- the columns of a record line with the widest ranges
 abbrev pub widest : List Column
@@ -58,17 +75,17 @@ ended-order s t x y p q n =
     go true e = sym (lt-leb y x (ltb-true x y e))
     go false e = sym (le-leb y x (ltb-false x y e))
 
-pub clock-fits : (line : List ℕ) → lineSet widest line ≡ true → clockFits line ≡ leb (getD (rowOf widest line) 14 0) 4294967295
+pub clock-fits : (line : List ℕ) → lineSet widest line ≡ true → clockFits line ≡ leb (getD (rowOf widest line) clockField 0) 4294967295
 unfolding clockFits highestClock bytes scanned stepped offset fieldAt opened recordLayout lineBytes
 clock-fits line h =
-    let clock : List ℕ = take 11 (drop 86 line) in
-    let reads : scanned Blank clock ≡ Number (getD (rowOf widest line) 14 0) =
-    scan-of (getD widest 14 noColumn) clock (getD (rowOf widest line) 14 0) refl (field-at 14 widest line (omega arith) h) in
+    let clock : List ℕ = take 11 (drop clockAt line) in
+    let reads : scanned Blank clock ≡ Number (getD (rowOf widest line) clockField 0) =
+    scan-of (getD widest clockField noColumn) clock (getD (rowOf widest line) clockField 0) refl (field-at clockField widest line (omega arith) h) in
     let whole : length line ≡ recordBytes = line-length widest line h in
     let long : length clock ≡ 11 = simp (length-take, length-drop) (omega arith) in
-    let lf : drop 97 line ≡ 10 ∷ [] = line-end widest line h in
-    let ends : take 12 (drop 86 line) ≡ clock ++ (10 ∷ []) = take-add 11 1 (drop 86 line) ∙ rw (drop-drop 11 86 line, lf) in
-    rw ends (ended-order (bytes " 4294967295") clock 4294967295 (getD (rowOf widest line) 14 0) refl reads (sym long))
+    let lf : drop (recordBytes - 1) line ≡ 10 ∷ [] = line-end widest line h in
+    let ends : take 12 (drop clockAt line) ≡ clock ++ (10 ∷ []) = take-add 11 1 (drop clockAt line) ∙ rw (drop-drop 11 clockAt line, lf) in
+    rw ends (ended-order (bytes " 4294967295") clock 4294967295 (getD (rowOf widest line) clockField 0) refl reads (sym long))
 
 -- a figure that leaves the first of eleven columns blank
 blank-first : (v : ℕ) → v ≤ 9999999999 → getD (fieldText 11 v) 0 0 ≡ 32
@@ -76,18 +93,20 @@ unfolding fieldText ahead
 blank-first v l = rw (eq-eqb (v / 10 / 10 / 10 / 10 / 10 / 10 / 10 / 10 / 10 / 10) 0 (omega arith))
 
 -- a clock whose second column is below `4`
-pub clock-low : (line : List ℕ) → lineSet widest line ≡ true → getD line 87 0 < 52 → clockFits line ≡ true
+pub clock-low : (line : List ℕ) → lineSet widest line ≡ true → getD line (clockAt + 1) 0 < 52 → clockFits line ≡ true
 unfolding clockFits highestClock bytes less fieldValue offset fieldAt opened recordLayout lineBytes
 clock-low line h l =
-    let clock : List ℕ = take 11 (drop 86 line) in
-    let v = getD (rowOf widest line) 14 0 in
-    let read = figure-scan 0 9999999999 clock v (field-at 14 widest line (omega arith) h) in
+    let clock : List ℕ = take 11 (drop clockAt line) in
+    let v = getD (rowOf widest line) clockField 0 in
+    let read = figure-scan 0 9999999999 clock v (field-at clockField widest line (omega arith) h) in
     let whole : length line ≡ recordBytes = line-length widest line h in
     let long : length clock ≡ 11 = simp (length-take, length-drop) (omega arith) in
     let text : clock ≡ fieldText 11 v = rw long at (scan-written clock v (read .0) .0) in
-    let first : getD line 86 0 ≡ 32 =
-    sym (getD-take 11 (drop 86 line) 0 0 (omega arith) ∙ getD-drop 86 line 0 0) ∙ (ap (λ (t : List ℕ). getD t 0 0) text ∙ blank-first v (read .1 .1)) in
-    rw (drop-cons line 86 0 (omega arith), drop-cons line 87 0 (omega arith), first, le-ltb 52 (getD line 87 0) (omega arith), ne-eqb 52 (getD line 87 0) (λ e. omega arith))
+    let first : getD line clockAt 0 ≡ 32 =
+    sym (getD-take 11 (drop clockAt line) 0 0 (omega arith) ∙ getD-drop clockAt line 0 0)
+    ∙ (ap (λ (t : List ℕ). getD t 0 0) text ∙ blank-first v (read .1 .1)) in
+    let b = getD line (clockAt + 1) 0 in
+    rw (drop-cons line clockAt 0 (omega arith), drop-cons line (clockAt + 1) 0 (omega arith), first, le-ltb 52 b (omega arith), ne-eqb 52 b (λ e. omega arith))
 
 -- a figure that does not end in 9, and one that is to be the next
 next-is : (w : ℕ) (s t : List ℕ) (x y : ℕ)
@@ -117,19 +136,21 @@ next-is w s t x y p q n m g h =
     (loaded-equal s u g all same ∙ equal-bytes s u x (y + 1) p (scan-text (suc w) (y + 1) (omega arith) fits) same)
 
 pub follows-is : (line : List ℕ) → ((i : ℕ) → getD line i 0 < 256) → lineSet widest line ≡ true
-    → follows line ≡ eqb (getD (rowOf widest line) 6 0) (getD (rowOf widest line) 10 0 + 1)
+    → follows line ≡ eqb (getD (rowOf widest line) imageField 0) (getD (rowOf widest line) beforeField 0 + 1)
 unfolding follows offset fieldAt opened recordLayout lineBytes
 follows-is line h g =
-    let x = getD (rowOf widest line) 6 0 in
-    let y = getD (rowOf widest line) 10 0 in
-    let s = take 6 (drop 30 line) in
-    let t = take 6 (drop 58 line) in
-    let d6 : figureAt 30 6 line ≡ x = digits-at 6 widest line (omega arith) refl g in
-    let d10 : figureAt 58 6 line ≡ y = digits-at 10 widest line (omega arith) refl g in
-    let p : scanned Blank s ≡ Number x = scan-of (getD widest 6 noColumn) s x refl (field-at 6 widest line (omega arith) g) in
-    let q : scanned Blank t ≡ Number y = scan-of (getD widest 10 noColumn) t y refl (field-at 10 widest line (omega arith) g) in
+    let x = getD (rowOf widest line) imageField 0 in
+    let y = getD (rowOf widest line) beforeField 0 in
+    let s = take versionBytes (drop versionAt line) in
+    let t = take versionBytes (drop beforeAt line) in
+    let same-x : figureAt versionAt versionBytes line ≡ x = digits-at imageField widest line (omega arith) refl g in
+    let same-y : figureAt beforeAt versionBytes line ≡ y = digits-at beforeField widest line (omega arith) refl g in
+    let p : scanned Blank s ≡ Number x = scan-of (getD widest imageField noColumn) s x refl (field-at imageField widest line (omega arith) g) in
+    let q : scanned Blank t ≡ Number y = scan-of (getD widest beforeField noColumn) t y refl (field-at beforeField widest line (omega arith) g) in
     let whole : length line ≡ recordBytes = line-length widest line g in
-    let end : getD t 5 0 ≡ getD line 63 0 = getD-take 6 (drop 58 line) 5 0 (omega arith) ∙ getD-drop 58 line 5 0 in
-    choose-by (λ (r : Bool). r ≡ eqb x (y + 1)) (eqb (getD line 63 0) 57)
-    (λ e. rw (d6, d10))
-    (λ e. next-is 5 s t x y p q (simp (length-take, length-drop) (omega arith)) (simp (length-take, length-drop) (omega arith)) (part-bytes line 6 30 h) (rw end e))
+    let m : length s ≡ versionBytes = simp (length-take, length-drop) (omega arith) in
+    let n : length t ≡ versionBytes = simp (length-take, length-drop) (omega arith) in
+    let end : getD t 5 0 ≡ getD line beforeLast 0 = getD-take versionBytes (drop beforeAt line) 5 0 (omega arith) ∙ getD-drop beforeAt line 5 0 in
+    choose-by (λ (r : Bool). r ≡ eqb x (y + 1)) (eqb (getD line beforeLast 0) 57)
+    (λ e. rw (same-x, same-y))
+    (λ e. next-is 5 s t x y p q m n (part-bytes line versionBytes versionAt h) (rw end e))

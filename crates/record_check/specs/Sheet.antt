@@ -5,7 +5,7 @@ use Rattle.lists.specs.Basics.{List, map, length, take, drop, arith}
 use lib.Seq.{take-take, drop-drop}
 use Rattle.lists.specs.Tests.{and-fst, and-swap}
 use Rattle.lists.specs.Each.{all, pieces, less}
-use Rattle.model.specs.Layouts.{recordLayout, recordBytes}
+use Rattle.model.specs.Layouts.{recordLayout, recordBytes, keyBytes}
 use Rattle.model.specs.Lines.{lineSet, linesOf, linesSet}
 use Rattle.model.specs.Records.{goodAlone, inOrder, rising, recordsGood, recordIn, records, recordsAccepted}
 use Rattle.sheet_laws.specs.Places.{length-records}
@@ -15,7 +15,7 @@ use Rattle.record_check.specs.Line.{lineGood}
 -- the first line's key comes before that of the next, where n lines follow the first
 unfoldable pub keyBefore : ℕ → List ℕ → Bool
 keyBefore zero s = true
-keyBefore (suc n) s = less (take 20 s) (take 20 (drop recordBytes s))
+keyBefore (suc n) s = less (take keyBytes s) (take keyBytes (drop recordBytes s))
 
 -- n lines that are good, with keys that rise
 unfoldable pub linesPass : ℕ → List ℕ → Bool
@@ -30,7 +30,8 @@ key-before (suc n) s h g =
     let a = take recordBytes s in
     let b = take recordBytes (drop recordBytes s) in
     let f = and-fst (lineSet recordLayout b) (all (lineSet recordLayout) (pieces recordBytes n (drop recordBytes (drop recordBytes s)))) g in
-    ap₂ less (sym (take-take 20 recordBytes s (omega arith))) (sym (take-take 20 recordBytes (drop recordBytes s) (omega arith))) ∙ key-order a b h f
+    ap₂ less (sym (take-take keyBytes recordBytes s (omega arith))) (sym (take-take keyBytes recordBytes (drop recordBytes s) (omega arith)))
+    ∙ key-order a b h f
 
 -- the tests of a line and of the lines after it, taken together or kind by kind
 shuffled : (l g o p a b c : Bool) → (l ≡ true → a ≡ true → o ≡ p) → ((l && g) && (o && (a && (b && c)))) ≡ ((l && a) && ((g && b) && (p && c)))

@@ -1,17 +1,19 @@
--- The kinds of line: the rule of a state as limits on the fields of `recordLayout`, so that a line's parts say word, zeros and bounds at once. A
--- PREPARED line over nothing is a kind of its own, since most of it is fixed. That the limits are the rule is computed, once the numbers of state
--- and before version are known.
-use Rattle.lists.specs.Basics.{_≡_, refl, sym, ap, _∙_, ℕ, zero, suc, _+_, _*_, _≤_, eqb, leb, Bool, true, false, not, _&&_, cond, true≢false, and-assoc}
-use Rattle.lists.specs.Basics.{and-true, and-false, List, [], _∷_, _++_, length, take, drop, getD, set, arith, eqb-true, eq-eqb, le-leb}
-use lib.Dec.{eqb·suc-zero, leb·suc-zero}
-use Rattle.lists.specs.Bytes.{bytes, eqList}
-use Rattle.lists.specs.Each.{all}
-use Rattle.lists.specs.Tests.{and-both, same-test, tests}
-use Rattle.model.specs.Types.{Column, StateWord}
-use Rattle.model.specs.Layouts.{recordLayout, words, wordAt, noColumn}
+-- The kinds of line as rows of a table: the rule of a state as limits on the fields of `recordLayout`, so that a line's parts say word, zeros and
+-- bounds at once. PREPARED over nothing is a kind of its own, since most of it is fixed. What is asked of every row is computed over the table; that
+-- the limits are the rule is computed once the numbers of state and before version are known.
+use Rattle.lists.specs.Basics.{_≡_, refl, sym, ap, ap₂, _∙_, ℕ, zero, suc, _+_, _-_, _*_, _≤_, _<_, eqb, leb, Bool, true, false, not, _&&_, cond, and-assoc}
+use Rattle.lists.specs.Basics.{and-true, and-false, List, [], _∷_, _++_, map, length, take, drop, getD, set, arith, eqb-true, eq-eqb, le-leb}
+use lib.Dec.{leb·zero, leb·suc-zero}
+use Rattle.lists.specs.Bytes.{bytes, eqList, eqList-true}
+use Rattle.lists.specs.Each.{all, joined}
+use Rattle.lists.specs.All.{all-at}
+use Rattle.lists.specs.Tests.{and-both, same-test, tests, choose-by}
+use Rattle.types.specs.declared.State.the-variants.{Absent, Committed, Prepared}
+use Rattle.model.specs.Types.{Column, State, StateWord}
+use Rattle.model.specs.Layouts.{recordLayout, words, wordAt, noColumn, stateField, imageField, beforeField, clockField, imageFields, recordFields, wordBytes}
 use Rattle.model.specs.Lines.{fieldValue, fieldBytes, wordFrom, inRange}
-use Rattle.model.specs.Records.{stateOf, byState, imageFrom, recordOf, isZero, absentRule, committedRule, preparedRule}
-use Rattle.sheet_laws.specs.Fields.{columnOk, allBelow, isThe, wordOk}
+use Rattle.model.specs.Records.{stateNumber, stateOf, stateRule, imageFrom, recordOf, isZero, absentRule, committedRule, preparedRule}
+use Rattle.sheet_laws.specs.Fields.{columnOk, allBelow, below, isThe, wordOk}
 use Rattle.places.specs.Parts.{Part}
 use Rattle.places.specs.Places.{bit}
 use Rattle.places.specs.Loads.{loaded}
@@ -19,76 +21,59 @@ use Rattle.record_check.specs.Ranges.{opened, opens}
 use Rattle.record_check.specs.LayoutParts.{sayable, layoutParts}
 use Rattle.record_check.specs.Limits.{Limit, atLeast, atMost, keeps, narrowed, limited, narrows, allNarrow, says}
 
--- "ABSENT: every field after the state word is 0."
-unfoldable pub absentLimits : List Limit
-absentLimits =
-    atMost 5 0
-    ∷ atMost 6 0
-    ∷ atMost 7 0
-    ∷ atMost 8 0
-    ∷ atMost 9 0
-    ∷ atMost 10 0
-    ∷ atMost 11 0
-    ∷ atMost 12 0
-    ∷ atMost 13 0
-    ∷ atMost 14 0
+-- a kind of line: its state, the limits on the fields behind the state word, and whether version = before version + 1 must be seen to besides
+pub record LineKind : Type 0 where
+  pub state : State
+  pub limits : List Limit
+  pub follows : Bool
+
+-- field i has the number n
+abbrev exactly : (i n : ℕ) → List Limit
+exactly i n = atLeast i n ∷ atMost i n ∷ []
+
+-- the n fields from i on are 0
+unfoldable pub zeros : (i n : ℕ) → List Limit
+zeros i zero = []
+zeros i (suc n) = atMost i 0 ∷ zeros (suc i) n
+
+unfoldable pub kinds : List LineKind
+kinds =
+    -- "ABSENT: every field after the state word is 0."
+    record { state = Absent; limits = zeros imageField (recordFields - imageField); follows = false }
+    -- "COMMITTED: version at least 1, before fields and clock 0"
+    ∷ record { state = Committed; limits = atLeast imageField 1 ∷ zeros beforeField (recordFields - beforeField); follows = false }
+    -- "PREPARED: TxID at least 1, version = before version + 1; if before version is 0, the other before fields are 0."
+    ∷ record { state = Prepared; limits = atLeast (imageField + 1) 1 ∷ exactly imageField 1 ++ zeros beforeField imageFields; follows = false }
+    -- the same over a before version of at least 1
+    ∷ record { state = Prepared; limits = atLeast (imageField + 1) 1 ∷ []; follows = true }
     ∷ []
 
--- "COMMITTED: version at least 1, before fields and clock 0"
-unfoldable pub committedLimits : List Limit
-committedLimits =
-    atLeast 5 1
-    ∷ atMost 5 1
-    ∷ atLeast 6 1
-    ∷ atMost 10 0
-    ∷ atMost 11 0
-    ∷ atMost 12 0
-    ∷ atMost 13 0
-    ∷ atMost 14 0
-    ∷ []
+-- what stands past the last row
+abbrev pub noKind : LineKind
+noKind = record { state = Absent; limits = []; follows = false }
 
--- "PREPARED: TxID at least 1, version = before version + 1; if before version is 0, the other before fields are 0"
-unfoldable pub firstLimits : List Limit
-firstLimits =
-    atLeast 5 2
-    ∷ atLeast 7 1
-    ∷ atLeast 6 1
-    ∷ atMost 6 1
-    ∷ atMost 10 0
-    ∷ atMost 11 0
-    ∷ atMost 12 0
-    ∷ atMost 13 0
-    ∷ []
+abbrev pub kindAt : ℕ → LineKind
+kindAt k = getD kinds k noKind
 
--- the same over a before version of at least 1, without how the versions stand to each other
-unfoldable pub preparedLimits : List Limit
-preparedLimits = atLeast 5 2 ∷ atLeast 7 1 ∷ []
-
--- by the number of the kind
-unfoldable pub kindLimits : ℕ → List Limit
-kindLimits zero = absentLimits
-kindLimits (suc zero) = committedLimits
-kindLimits (suc (suc zero)) = firstLimits
-kindLimits (suc (suc (suc k))) = preparedLimits
+-- the limits of a kind, its state word among them
+unfoldable pub kindLimits : LineKind → List Limit
+kindLimits r = exactly stateField (stateNumber (r .state)) ++ r .limits
 
 -- the record layout with the clock up to the widest figure, and the clock's bound
 unfoldable pub openLayout : List Column
-openLayout = set recordLayout 14 (opened (getD recordLayout 14 noColumn))
+openLayout = set recordLayout clockField (opened (getD recordLayout clockField noColumn))
 
 unfoldable pub clockLimit : List Limit
-clockLimit = atMost 14 4294967295 ∷ []
+clockLimit = atMost clockField 4294967295 ∷ []
 
-unfoldable pub kindParts : ℕ → List Part
-kindParts k = layoutParts (limited (kindLimits k) openLayout)
+unfoldable pub kindParts : LineKind → List Part
+kindParts r = layoutParts (limited (kindLimits r) openLayout)
 
 -- What is computed of them.
 
-pub kind-says : (k : ℕ) → says (kindLimits k) openLayout ≡ true
-unfolding says all sayable allNarrow narrows limited narrowed kindLimits absentLimits firstLimits preparedLimits committedLimits openLayout opened recordLayout inRange columnOk words allBelow wordOk isThe fieldValue fieldBytes wordFrom bytes eqList
-kind-says zero = refl
-kind-says (suc zero) = refl
-kind-says (suc (suc zero)) = refl
-kind-says (suc (suc (suc k))) = refl
+pub kind-says : (k : ℕ) → k < length kinds → says (kindLimits (kindAt k)) openLayout ≡ true
+unfolding says all sayable allNarrow narrows limited narrowed kindLimits kinds zeros stateNumber openLayout opened recordLayout inRange columnOk words allBelow wordOk isThe fieldValue fieldBytes wordFrom bytes eqList
+kind-says k l = all-at (λ (r : LineKind). says (kindLimits r) openLayout) kinds noKind k refl l
 
 pub record-opens : all opens recordLayout ≡ true
 unfolding all opens opened recordLayout columnOk words allBelow wordOk isThe fieldValue fieldBytes wordFrom bytes eqList
@@ -102,124 +87,119 @@ pub clock-limited : limited clockLimit openLayout ≡ recordLayout
 unfolding limited narrowed clockLimit openLayout opened recordLayout
 clock-limited = refl
 
+-- the kind whose version the code compares is the one that asks for it
+pub follows-told : (k : ℕ) → k < length kinds → kindAt k .follows ≡ eqb k 3
+unfolding kinds allBelow
+follows-told k l =
+    let e = below (length kinds) (λ (i : ℕ). eqb (bit (kindAt i .follows)) (bit (eqb i 3))) refl k l in
+    sym (told (kindAt k .follows)) ∙ (ap (eqb 1) (eqb-true (bit (kindAt k .follows)) (bit (eqb k 3)) e) ∙ told (eqb k 3))
+  where
+    told : (b : Bool) → eqb 1 (bit b) ≡ b
+    told true = refl
+    told false = refl
+
 -- The words of the kinds, and the kind by the numbers of a line.
 
 -- the state word of each kind, one after another
 unfoldable pub kindWords : List ℕ
-kindWords = wordAt StateWord 0 ++ (wordAt StateWord 1 ++ (wordAt StateWord 2 ++ wordAt StateWord 2))
+kindWords = joined (map (λ (r : LineKind). wordAt StateWord (stateNumber (r .state))) kinds)
 
-pub words-length : length kindWords ≡ 40
-unfolding kindWords words bytes
+pub words-length : length kindWords ≡ length kinds * wordBytes
+unfolding kindWords kinds joined stateNumber words bytes
 words-length = refl
 
 abbrev pub kindWord : ℕ → List ℕ
-kindWord k = take 10 (drop (k * 10) kindWords)
+kindWord k = take wordBytes (drop (k * wordBytes) kindWords)
 
--- the number of the state word that begins with eight bytes, which are taken as one number; that of ABSENT where no other does
+word-at : (k : ℕ) → k < length kinds → kindWord k ≡ wordAt StateWord (stateNumber (kindAt k .state))
+unfolding kindWords kinds joined stateNumber words bytes allBelow eqList
+word-at k l =
+    eqList-true _ _ (below (length kinds) (λ (i : ℕ). eqList (kindWord i) (wordAt StateWord (stateNumber (kindAt i .state)))) refl k l)
+
+-- its first eight bytes as one number
+abbrev kindFront : ℕ → ℕ
+kindFront k = loaded (take 8 (drop (k * wordBytes) kindWords))
+
+-- the number of the state word that begins so; that of ABSENT where no other does
 unfoldable pub stateTold : ℕ → ℕ
-stateTold front = bit (eqb front (loaded (take 8 (wordAt StateWord 1)))) + bit (eqb front (loaded (take 8 (wordAt StateWord 2)))) * 2
+stateTold front = bit (eqb front (kindFront 1)) + bit (eqb front (kindFront 2)) * 2
 
 -- each state word is told by its own bytes
-pub word-told : (n : ℕ) → n ≤ 2 → stateTold (loaded (take 8 (wordAt StateWord n))) ≡ n
-unfolding stateTold loaded words bytes
-word-told zero l = refl
-word-told (suc zero) l = refl
-word-told (suc (suc zero)) l = refl
-word-told (suc (suc (suc n))) l = absurd (omega arith)
+pub word-told : (n : ℕ) → n < length (words StateWord) → stateTold (loaded (take 8 (wordAt StateWord n))) ≡ n
+unfolding kindWords kinds joined stateNumber stateTold loaded words bytes allBelow
+word-told n l =
+    eqb-true _ n (below (length (words StateWord)) (λ (i : ℕ). eqb (stateTold (loaded (take 8 (wordAt StateWord i)))) i) refl n l)
 
-pub told-few : (front : ℕ) → stateTold front ≤ 2
-told-few front = go (eqb front (loaded (take 8 (wordAt StateWord 1)))) refl
-  where
-    twice : (b : Bool) → bit b * 2 ≤ 2
-    twice true = omega arith
-    twice false = omega arith
-
-    go : (b : Bool) → eqb front (loaded (take 8 (wordAt StateWord 1))) ≡ b → stateTold front ≤ 2
-    go true e = omega (arith, ap stateTold (eqb-true front (loaded (take 8 (wordAt StateWord 1))) e) ∙ word-told 1 (omega arith))
-    go false e = unfold stateTold in rw e (omega (arith, twice (eqb front (loaded (take 8 (wordAt StateWord 2))))))
+pub told-few : (front : ℕ) → stateTold front < length (words StateWord)
+unfolding kindWords kinds joined stateNumber stateTold loaded words bytes
+told-few front =
+    choose-by (λ (x : ℕ). x + bit (eqb front (kindFront 2)) * 2 < length (words StateWord)) (eqb front (kindFront 1))
+    (λ e. rw (eqb-true front (kindFront 1) e) (omega arith))
+    (λ e. choose-by (λ (x : ℕ). 0 + x * 2 < length (words StateWord)) (eqb front (kindFront 2)) (λ f. omega arith) (λ f. omega arith))
 
 -- the kind by the number of a line's state word, one more over a version
 abbrev pub kindBy : (state : ℕ) (nothing : Bool) → ℕ
 kindBy state nothing = state + bit (not nothing)
+
+pub kind-few : (state : ℕ) (nothing : Bool) → state < length (words StateWord) → kindBy state nothing < length kinds
+unfolding kinds words bytes
+kind-few s b l = choose-by (λ (x : ℕ). s + x < length kinds) (not b) (λ e. omega arith) (λ e. omega arith)
 
 abbrev pub kindFor : (state before : ℕ) → ℕ
 kindFor state before = kindBy state (eqb before 0)
 
 -- the rule that a row of numbers keeps by its state
 abbrev pub rule : List ℕ → Bool
-rule v =
-    byState (stateOf (getD v 5 0)) (absentRule (recordOf v)) (committedRule (recordOf v)) (preparedRule (recordOf v))
+rule v = stateRule (recordOf v)
 
 -- how the versions stand to each other, where the limits do not say it
 abbrev pub rowFollows : ℕ → List ℕ → Bool
-rowFollows k v = cond (eqb k 3) (eqb (getD v 6 0) (getD v 10 0 + 1)) true
+rowFollows k v = cond (kindAt k .follows) (eqb (getD v imageField 0) (getD v beforeField 0 + 1)) true
 
-none : (x : ℕ) → eqb x 0 ≡ leb x 0
-none zero = refl
-none (suc x) = eqb·suc-zero x ∙ sym (leb·suc-zero x)
+exact : (x n : ℕ) → eqb x n ≡ (leb n x && leb x n)
+exact x n =
+    same-test (eqb x n) (leb n x && leb x n)
+    (λ e. let q : x ≡ n = eqb-true x n e in and-both (le-leb n x (omega arith)) (le-leb x n (omega arith)))
+    (λ e. let l : n ≤ x = search tests in let g : x ≤ n = search tests in eq-eqb x n (omega arith))
 
-one : (x : ℕ) → eqb x 1 ≡ (leb 1 x && leb x 1)
-one x =
-    same-test (eqb x 1) (leb 1 x && leb x 1)
-    (λ e. let q : x ≡ 1 = eqb-true x 1 e in and-both (le-leb 1 x (omega arith)) (le-leb x 1 (omega arith)))
-    (λ e. let l : 1 ≤ x = search tests in let g : x ≤ 1 = search tests in eq-eqb x 1 (omega arith))
+one-more : (x : ℕ) → leb 1 (suc x) ≡ true
+one-more x = le-leb 1 (suc x) (omega arith)
 
--- the first of several limits is not kept
-fails : (p : Limit → Bool) (l : Limit) (ls : List Limit) → p l ≡ false → all p (l ∷ ls) ≡ false
-unfolding all
-fails p l ls e = rw e
+-- tests of a number as limits, and conjunctions nested as `all` nests them
+ruleset asLimits = (exact, one-more, leb·zero, leb·suc-zero, and-assoc, and-true, and-false)
 
--- the rule of each state as the limits of the line's kind
+-- the rule of each state as the limits of the line's kind; of a kind with another state both fail
 module _ (v : List ℕ) where
   Ruled : (state before : ℕ) → Type 0
-  Ruled s b = rule v ≡ (all (keeps v) (kindLimits (kindFor s b)) && rowFollows (kindFor s b) v)
+  Ruled s b = rule v ≡ (all (keeps v) (kindLimits (kindAt (kindFor s b))) && rowFollows (kindFor s b) v)
 
-  -- only PREPARED may be over a version
-  strays : (s b : ℕ) → getD v 5 0 ≡ s → getD v 10 0 ≡ suc b → s ≤ 1 → rule v ≡ false
-  unfolding stateOf recordOf imageFrom isZero absentRule committedRule words bytes
-  strays zero b e f l = rw (e, f) (simp (eqb·suc-zero, and-false))
-  strays (suc zero) b e f l = rw (e, f) (simp (eqb·suc-zero, and-false))
-  strays (suc (suc s)) b e f l = absurd (omega arith)
-
-  by-numbers : (s b : ℕ) → getD v 5 0 ≡ s → getD v 10 0 ≡ b → s ≤ 2 → Ruled s b
-  unfolding stateOf recordOf imageFrom isZero absentRule committedRule preparedRule all keeps kindLimits absentLimits firstLimits preparedLimits committedLimits words bytes Ruled
-  by-numbers zero zero e f l = rw (e, f) (simp (none, and-assoc, and-true))
-  by-numbers zero (suc b) e f l =
-      let right : all (keeps v) committedLimits ≡ false = fails (keeps v) (atLeast 5 1) (drop 1 committedLimits) (ap (leb 1) e) in
-      rw (eqb·suc-zero b) (strays 0 b e f (omega arith) ∙ sym (ap (λ (x : Bool). x && true) right))
-  by-numbers (suc zero) zero e f l = rw (e, f) (simp (none, and-assoc, and-true))
-  by-numbers (suc zero) (suc b) e f l =
-      let right : all (keeps v) firstLimits ≡ false = fails (keeps v) (atLeast 5 2) (drop 1 firstLimits) (ap (leb 2) e) in
-      rw (eqb·suc-zero b) (strays 1 b e f (omega arith) ∙ sym (ap (λ (x : Bool). x && true) right))
-  by-numbers (suc (suc zero)) zero e f l = rw (e, f) (simp (one, none, and-assoc, and-true))
-  by-numbers (suc (suc zero)) (suc b) e f l =
-      rw (f, eqb·suc-zero b, e, le-leb 1 (suc b) (omega arith)) (simp (and-assoc, and-true))
+  by-numbers : (s b : ℕ) → getD v stateField 0 ≡ s → getD v beforeField 0 ≡ b → s < length (words StateWord) → Ruled s b
+  unfolding stateOf recordOf imageFrom isZero absentRule committedRule preparedRule all keeps kindLimits kinds zeros stateNumber words bytes Ruled
+  by-numbers zero zero e f l = rw (e, f) (simp asLimits)
+  by-numbers zero (suc b) e f l = rw (e, f) (simp asLimits)
+  by-numbers (suc zero) zero e f l = rw (e, f) (simp asLimits)
+  by-numbers (suc zero) (suc b) e f l = rw (e, f) (simp asLimits)
+  by-numbers (suc (suc zero)) zero e f l = rw (e, f) (simp asLimits)
+  by-numbers (suc (suc zero)) (suc b) e f l = rw (e, f) (simp asLimits)
   by-numbers (suc (suc (suc s))) b e f l = absurd (omega arith)
 
-  -- the word of a line's kind is that of its state
-  word-by-numbers : (s b : ℕ) → getD v 5 0 ≡ s → getD v 10 0 ≡ b → s ≤ 2 → rule v ≡ true → kindWord (kindFor s b) ≡ wordAt StateWord s
-  unfolding kindWords words bytes
-  word-by-numbers zero zero e f l g = refl
-  word-by-numbers zero (suc b) e f l g = absurd (true≢false (sym g ∙ strays 0 b e f (omega arith)))
-  word-by-numbers (suc zero) zero e f l g = refl
-  word-by-numbers (suc zero) (suc b) e f l g = absurd (true≢false (sym g ∙ strays 1 b e f (omega arith)))
-  word-by-numbers (suc (suc zero)) zero e f l g = refl
-  word-by-numbers (suc (suc zero)) (suc b) e f l g = rw (eqb·suc-zero b)
-  word-by-numbers (suc (suc (suc s))) b e f l g = absurd (omega arith)
-
-  pub kind-word : getD v 5 0 ≤ 2 → rule v ≡ true → kindWord (kindFor (getD v 5 0) (getD v 10 0)) ≡ wordAt StateWord (getD v 5 0)
-  kind-word l g = word-by-numbers (getD v 5 0) (getD v 10 0) refl refl l g
+  pub kind-word : getD v stateField 0 < length (words StateWord) → rule v ≡ true
+      → kindWord (kindFor (getD v stateField 0) (getD v beforeField 0)) ≡ wordAt StateWord (getD v stateField 0)
+  unfolding all keeps kindLimits Ruled
+  kind-word l g =
+      let s = getD v stateField 0 in
+      let k = kindFor s (getD v beforeField 0) in
+      let h = sym (by-numbers s (getD v beforeField 0) refl refl l) ∙ g in
+      let m : stateNumber (kindAt k .state) ≤ s = search tests in
+      let n : s ≤ stateNumber (kindAt k .state) = search tests in
+      word-at k (kind-few s (eqb (getD v beforeField 0) 0) l) ∙ ap (wordAt StateWord) (omega arith)
 
   -- with the clock's bound
-  pub kind-rule : getD v 5 0 ≤ 2
-      → let k = kindFor (getD v 5 0) (getD v 10 0) in
-      (all (keeps v) clockLimit && rule v) ≡ (all (keeps v) (kindLimits k) && (rowFollows k v && leb (getD v 14 0) 4294967295))
+  pub kind-rule : getD v stateField 0 < length (words StateWord)
+      → let k = kindFor (getD v stateField 0) (getD v beforeField 0) in
+      (rule v && all (keeps v) clockLimit) ≡ (all (keeps v) (kindLimits (kindAt k)) && (rowFollows k v && leb (getD v clockField 0) 4294967295))
   unfolding all keeps clockLimit Ruled
   kind-rule l =
-      let k = kindFor (getD v 5 0) (getD v 10 0) in
-      ap (λ (x : Bool). (leb (getD v 14 0) 4294967295 && true) && x) (by-numbers (getD v 5 0) (getD v 10 0) refl refl l)
-      ∙ last (leb (getD v 14 0) 4294967295) (all (keeps v) (kindLimits k)) (rowFollows k v)
-    where
-      last : (c a f : Bool) → ((c && true) && (a && f)) ≡ (a && (f && c))
-      last true a f = ap (λ (x : Bool). a && x) (sym (and-true f))
-      last false a f = sym (ap (λ (x : Bool). a && x) (and-false f) ∙ and-false a)
+      let k = kindFor (getD v stateField 0) (getD v beforeField 0) in
+      ap₂ _&&_ (by-numbers (getD v stateField 0) (getD v beforeField 0) refl refl l) (and-true (leb (getD v clockField 0) 4294967295))
+      ∙ and-assoc (all (keeps v) (kindLimits (kindAt k))) (rowFollows k v) (leb (getD v clockField 0) 4294967295)

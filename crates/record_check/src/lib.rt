@@ -3,25 +3,53 @@
 
 ghost use mathlib.Core.Path.{_≡_};
 ghost use mathlib.Core.Bool.{true, cond};
-ghost use lib.Dec.{eqb};
 ghost use Prim.Native.Nat.{_+_, _-_, _*_, _<_};
 ghost use lib.ListN.{length, drop};
 ghost use Rattle.model.specs.Layouts.{recordBytes};
 ghost use Rattle.model.specs.Records.{recordsAccepted};
 ghost use Rattle.places.specs.Parts.{partsOk};
-ghost use Rattle.record_check.specs.States.{kindParts, kindWords};
+ghost use Rattle.record_check.specs.States.{kinds, kindAt, kindParts, kindWords};
 ghost use Rattle.record_check.specs.Relations.{highestClock, follows};
 ghost use Rattle.record_check.specs.Line.{lineGood, kindOf};
 ghost use Rattle.record_check.specs.Sheet.{keyBefore, linesPass};
 ghost use Rattle.record_check.specs.Tables.{tables};
+use types::BEFORE_AT;
+use types::CLOCK_AT;
 use types::RECORD_BYTES;
+use types::STATE_AT;
+use types::VERSION_AT;
+use types::VERSION_BYTES;
+use types::WORD_BYTES;
 
-// The state word of each kind of line, in ten bytes: ABSENT, COMMITTED, PREPARED over nothing and PREPARED over a version.
-const WORDS: [u8; 40] = *b"    ABSENT COMMITTED  PREPARED  PREPARED";
+// The kinds of line: ABSENT, COMMITTED, PREPARED over nothing and PREPARED over a version. Each is a row of `kinds` (specs/States.antt), of which its
+// word and tables are computed, and has a number in `kind`.
+const KINDS: usize = 4;
 
-// The tables of each kind of line, in three rows of 97 bytes: for each place but LF the lowest byte, which may not follow a space, the highest, and one
+// Where the words of COMMITTED and PREPARED stand among the kinds' words, and the kind whose version must be seen to follow its before version.
+const COMMITTED_AT: usize = WORD_BYTES;
+
+const PREPARED_AT: usize = 2 * WORD_BYTES;
+
+const FOLLOWING: usize = 3;
+
+// The last column of before version, the last two, and the clock's second.
+const BEFORE_LAST: usize = BEFORE_AT + VERSION_BYTES - 1;
+
+const BEFORE_TAIL: usize = BEFORE_AT + VERSION_BYTES - 2;
+
+const CLOCK_HEAD: usize = CLOCK_AT + 1;
+
+// Bytes of a row of the tables, one for each place of a line but LF, and of the three rows of a kind.
+const ROW: usize = RECORD_BYTES - 1;
+
+const TABLE: usize = 3 * ROW;
+
+// The state word of each kind of line.
+const WORDS: [u8; KINDS * WORD_BYTES] = *b"    ABSENT COMMITTED  PREPARED  PREPARED";
+
+// The tables of each kind of line, in three rows: for each place but LF the lowest byte, which may not follow a space, the highest, and one
 // more that may follow a space. A fixed byte is all three, so zeros and blank columns are judged in the same pass as the figures.
-const TABLES: [u8; 1164] = *b"\
+const TABLES: [u8; KINDS * TABLE] = *b"\
 \x200 00 00 00000 00000    ABSENT     0   0        0        0     0   0        0        0          0\
 \x209 99 99 99999 99999    ABSENT     0   0        0        0     0   0        0        0          0\
 \x209  9  9     0     0    ABSENT     0   0        0        0     0   0        0        0          0\
@@ -41,13 +69,13 @@ fn kind(line: &[u8], words: &[u8]) -> usize
     requires { ⌜ length (now line) ≡ recordBytes ⌝ }
     requires { ⌜ now words ≡ kindWords ⌝ }
     ensures { λ r. ⌜ r ≡ kindOf (now (line .entry)) ⌝ }
-    ensures { λ r. ⌜ r < 4 ⌝ }
+    ensures { λ r. ⌜ r < length kinds ⌝ }
 {
-    let front = places::load_eight(line, 20);
-    let committed = front == places::load_eight(words, 10);
-    let prepared = front == places::load_eight(words, 20);
+    let front = places::load_eight(line, STATE_AT);
+    let committed = front == places::load_eight(words, COMMITTED_AT);
+    let prepared = front == places::load_eight(words, PREPARED_AT);
     // before version 0 ends in the bytes ` 0`, and no other does
-    let nothing = places::load_two(line, 62) == 0x3020;
+    let nothing = places::load_two(line, BEFORE_TAIL) == 0x3020;
     let kind = places::bit(committed) + places::bit(prepared) * 2 + places::bit(!nothing);
     kind as usize
 }
@@ -56,37 +84,39 @@ fn kind(line: &[u8], words: &[u8]) -> usize
 fn stands(line: &[u8], lent: &[u8], kind: usize) -> bool
     requires { ⌜ length (now line) ≡ recordBytes ⌝ }
     requires { ⌜ now lent ≡ tables ⌝ }
-    requires { ⌜ kind < 4 ⌝ }
-    ensures { λ r. ⌜ r ≡ partsOk (kindParts kind) (now (line .entry)) ⌝ }
+    requires { ⌜ kind < length kinds ⌝ }
+    ensures { λ r. ⌜ r ≡ partsOk (kindParts (kindAt kind)) (now (line .entry)) ⌝ }
 {
-    let low = kind * 291;
-    let high = low + 97;
-    let also = low + 194;
-    let end = low + 291;
+    let low = kind * TABLE;
+    let high = low + ROW;
+    let also = high + ROW;
+    let end = also + ROW;
     if !places::line_ok(
-        &line[0..97],
+        &line[0..ROW],
         &lent[low..high],
         &lent[high..also],
         &lent[also..end],
     ) {
         return false;
     }
-    (line[0] == b' ') & (line[97] == b'\n')
+    (line[0] == b' ') & (line[ROW] == b'\n')
 }
 
-// Whether version = before version + 1 in a line that stands in its places, if it is PREPARED over a version. Unless before version ends in 9, only
-// the last byte differs, by one.
+// Whether version = before version + 1 in a line that stands in its places, if it is of the kind that asks for it. Unless before version ends in 9,
+// only the last byte differs, by one.
 fn version_follows(line: &[u8], kind: usize) -> bool
     requires { ⌜ length (now line) ≡ recordBytes ⌝ }
-    ensures { λ r. ⌜ r ≡ cond (eqb kind 3) (follows (now (line .entry))) true ⌝ }
+    requires { ⌜ kind < length kinds ⌝ }
+    ensures { λ r. ⌜ r ≡ cond (kindAt kind .follows) (follows (now (line .entry))) true ⌝ }
 {
-    if kind != 3 {
+    if kind != FOLLOWING {
         return true;
     }
-    if line[63] == b'9' {
-        return places::figure(line, 30, 6) == places::figure(line, 58, 6) + 1;
+    if line[BEFORE_LAST] == b'9' {
+        return places::figure(line, VERSION_AT, VERSION_BYTES)
+            == places::figure(line, BEFORE_AT, VERSION_BYTES) + 1;
     }
-    places::load_six(line, 30) == places::load_six(line, 58) + 0x0100_0000_0000
+    places::load_six(line, VERSION_AT) == places::load_six(line, BEFORE_AT) + 0x0100_0000_0000
 }
 
 // Whether the line can be read and its record is good alone. Its ten bytes of state word are compared with the word of its kind, so that a line with none
@@ -100,7 +130,7 @@ fn line_good(line: &[u8], words: &[u8], lent: &[u8], highest: &[u8]) -> bool
     ensures { λ r. ⌜ r ≡ lineGood (now (line .entry)) ⌝ }
 {
     let kind = kind(line, words);
-    if !places::ten_equal(line, 20, words, kind * 10) {
+    if !places::ten_equal(line, STATE_AT, words, kind * WORD_BYTES) {
         return false;
     }
     if !stands(line, lent, kind) {
@@ -110,10 +140,10 @@ fn line_good(line: &[u8], words: &[u8], lent: &[u8], highest: &[u8]) -> bool
         return false;
     }
     // most clocks begin below the highest one
-    if line[87] < b'4' {
+    if line[CLOCK_HEAD] < b'4' {
         return true;
     }
-    !places::twelve_less(highest, 0, line, 86)
+    !places::twelve_less(highest, 0, line, CLOCK_AT)
 }
 
 // Whether the key of line i comes before that of the next line, if there is one among the n lines.

@@ -2,27 +2,29 @@
 -- names.
 use Rattle.lists.specs.Basics.{_≡_, ap, _∙_, _+_, _*_, length, take, drop, arith, needs}
 use Rattle.lists.specs.Bytes.{bytes}
-use Rattle.model.specs.Layouts.{words}
+use Rattle.model.specs.Layouts.{recordLayout, words, offset, recordOffset, stateField}
 use Rattle.places.specs.Loads.{loaded}
-use Rattle.record_check.specs.States.{kindWords, words-length, stateTold, told-few}
-use Rattle.record_check.specs.Line.{kindOf, nothing-is}
+use Rattle.record_check.specs.States.{kinds, words-length, stateTold, told-few}
+use Rattle.record_check.specs.Line.{stateIn, kindOf, nothing, nothing-is}
 use Rattle.record_check.proofs.kind.Statement.{statement}
 use Rattle.record_check.proofs.kind.Tie as tie
 
 load-eight-requires-2 : tie.Need-load-eight-requires-2
+unfolding kinds
 load-eight-requires-2 c κs = let l = ap length (c .before .before .before .pre .1) ∙ words-length in omega arith
 
 load-eight-requires-3 : tie.Need-load-eight-requires-3
+unfolding kinds
 load-eight-requires-3 c κs = let l = ap length (c .before .before .before .before .pre .1) ∙ words-length in omega arith
 
 returns : tie.Need-returns
-unfolding kindOf stateTold kindWords words bytes loaded
+unfolding kinds words bytes loaded nothing kindOf stateTold offset recordLayout
 returns c =
     let b = c .before .before in
     let front = b .before .before .before .before .load-eight in
     let k = b .before .before .before .before .before .before .before in
     let line = k .args .line .now in
-    let told : b .bit .result + c .before .bit2 .result * 2 ≡ stateTold (loaded (take 8 (drop 20 line))) =
+    let told : b .bit .result + c .before .bit2 .result * 2 ≡ stateIn line =
     rw (
       c .before .bit2 .ensures .0,
       b .bit .ensures .0,
@@ -32,7 +34,7 @@ returns c =
       k .pre .1,
     ) in
     let n = nothing-is line (λ i. b .before .before .before .before .before .before .shared-slice-known .given i .fits) (k .pre .0) in
-    (rw (told, c .bit3 .ensures .0, b .before .load-two .ensures, n), omega (arith, told, told-few (loaded (take 8 (drop 20 line)))))
+    (rw (told, c .bit3 .ensures .0, b .before .load-two .ensures, n), omega (arith, told, told-few (loaded (take 8 (drop (recordOffset stateField) line)))))
 
 pub kind-spec : {M : Type 1} → statement M
 kind-spec =

@@ -1,9 +1,11 @@
 -- The law on a line, test by test: a line that has not the word of its kind is not good, each later test that fails makes the answer false, and past them
 -- the clock is the answer, by its first digit where that is enough.
-use Rattle.lists.specs.Basics.{_≡_, sym, ap, _∙_, eqb, true, _&&_, cond, and-false, length, arith, not-true, not-false, needs}
+use Rattle.lists.specs.Basics.{_≡_, sym, ap, _∙_, true, _&&_, cond, and-false, length, arith, not-true, not-false, needs}
 use Rattle.lists.specs.Bytes.{bytes}
+use Rattle.model.specs.Layouts.{recordLayout, offset}
+use Rattle.sheet_laws.specs.Lines.{fieldAt}
 use Rattle.places.specs.Parts.{partsOk}
-use Rattle.record_check.specs.States.{kindParts, words-length}
+use Rattle.record_check.specs.States.{kinds, kindAt, kindParts, words-length}
 use Rattle.record_check.specs.Relations.{highestClock, clockFits, follows}
 use Rattle.record_check.specs.Line.{lineGood, wordHeld, wordless, low-clock, line-is}
 use Rattle.record_check.proofs.line_good.Statement.{statement}
@@ -16,6 +18,7 @@ ten-equal-requires c κs =
 
 -- the word compared is that of the line's kind
 held : (c : tie.After-ten-equal) → c .ten-equal .result ≡ wordHeld (c .before .before .before .before .before .before .args .line .now)
+unfolding fieldAt offset recordLayout
 held c =
     rw (c .before .kind .ensures .0, c .before .before .before .before .before .before .pre .1 .0) at (c .ten-equal .ensures)
 
@@ -29,7 +32,7 @@ returns c =
 law : (c : tie.After-kind)
     → let line = c .before .before .before .before .before .args .line .now in
     let k = c .kind .result in
-    lineGood line ≡ (partsOk (kindParts k) line && (cond (eqb k 3) (follows line) true && clockFits line))
+    lineGood line ≡ (partsOk (kindParts (kindAt k)) line && (cond (kindAt k .follows) (follows line) true && clockFits line))
 law c =
     let k = c .before .before .before .before in
     rw (c .kind .ensures .0) (line-is (k .before .args .line .now) (λ i. k .shared-slice-known .given i .fits))
@@ -47,7 +50,7 @@ returns-3 c =
 -- past the tests of parts and versions the clock decides
 passed : (c : tie.After-shared-slice-known5)
     → let line = c .before .before .before .before .before .before .before .before .before .before .before .before .args .line .now in
-    (partsOk (kindParts (c .before .before .before .before .before .before .before .kind .result)) line ≡ true) × (lineGood line ≡ clockFits line)
+    (partsOk (kindParts (kindAt (c .before .before .before .before .before .before .before .kind .result))) line ≡ true) × (lineGood line ≡ clockFits line)
 passed c =
     let stood = c .before .before .before .before .stands in
     let followed = c .before .before .version-follows in
@@ -56,10 +59,12 @@ passed c =
     (s, law (c .before .before .before .before .before .before .before) ∙ rw (s, f))
 
 returns-4 : tie.Need-returns-4
+unfolding offset recordLayout
 returns-4 c =
     let k = c .before .before .before .before .before .before .before .before .before .before .before .before in
+    let kind = c .before .before .before .before .before .before .before .before .kind in
     let p = passed (c .before) in
-    sym (p .1 ∙ low-clock (k .before .args .line .now) (λ i. k .shared-slice-known .given i .fits) (c .before .before .before .before .before .before .before .before .kind .result) (p .0) (c .if4 .taken))
+    sym (p .1 ∙ low-clock (k .before .args .line .now) (λ i. k .shared-slice-known .given i .fits) (kind .result) (kind .ensures .1) (p .0) (c .if4 .taken))
 
 twelve-less-requires : tie.Need-twelve-less-requires
 unfolding highestClock bytes
@@ -69,10 +74,11 @@ twelve-less-requires c κs =
     (omega arith, omega arith)
 
 returns-5 : tie.Need-returns-5
-unfolding clockFits highestClock bytes
+unfolding clockFits highestClock bytes offset recordLayout
 returns-5 c = rw (passed (c .before .before) .1, c .twelve-less .ensures, c .before .before .before .before .before .before .before .before .before .before .before .before .before .before .pre .1 .1 .1)
 
 pub line-good-spec : {M : Type 1} → statement M
+unfolding kinds
 line-good-spec =
     tie.close
     (tie.spec (λ c κs. search needs) (λ c. search needs) ten-equal-requires returns (λ c κs. search needs) returns-2 (λ c κs. search needs) returns-3

@@ -5,13 +5,14 @@ use Rattle.lists.specs.Each.{joined}
 use Rattle.decimal.specs.Field.{fieldText, ahead}
 use Rattle.model.specs.Layouts.{recordLayout, words, recordBytes}
 use Rattle.model.specs.Lines.{fieldBytes}
+use Rattle.model.specs.Records.{stateNumber}
 use Rattle.places.specs.Places.{columns, partPlaces, places, lows, highs, alsos}
 use Rattle.record_check.specs.Ranges.{opened}
 use Rattle.record_check.specs.LayoutParts.{columnPart, layoutParts}
 use Rattle.record_check.specs.Limits.{narrowed, limited}
-use Rattle.record_check.specs.States.{absentLimits, firstLimits, preparedLimits, committedLimits, kindLimits, openLayout, kindParts, kindWords}
+use Rattle.record_check.specs.States.{kinds, zeros, kindLimits, openLayout, kindParts, kindWords}
 use Rattle.record_check.specs.Relations.{highestClock}
-use Rattle.record_check.specs.Tables.{middle, body, rows, tables}
+use Rattle.record_check.specs.Tables.{middle, tables}
 use Rattle.record_check.specs.Sheet.{sheetSized, accepted-is}
 use Rattle.record_check.proofs.records_ok.Statement.{statement}
 use Rattle.record_check.proofs.records_ok.Tie as tie
@@ -35,7 +36,7 @@ returns-3 c =
     rw (accepted-is s, lt-leb (length s / recordBytes) 500 (c .if3 .taken), and-false, and-false)
 
 lines-pass-requires : tie.Need-lines-pass-requires
-unfolding kindWords tables rows joined lows highs alsos middle body places partPlaces columns kindParts kindLimits layoutParts columnPart limited narrowed absentLimits firstLimits preparedLimits committedLimits openLayout opened recordLayout fieldBytes fieldText ahead words bytes highestClock
+unfolding kindWords tables joined lows highs alsos middle places partPlaces columns kindParts kindLimits layoutParts columnPart limited narrowed kinds zeros stateNumber openLayout opened recordLayout fieldBytes fieldText ahead words bytes highestClock
 lines-pass-requires c κs = (sym (c .before .before .before .before .before .if1 .left), (refl, (refl, refl)))
 
 returns-4 : tie.Need-returns-4

@@ -1,7 +1,8 @@
 -- Each table is a row of the tables lent, at its place, and the law on the tables of a kind says the rest.
-use Rattle.lists.specs.Basics.{_≡_, sym, ap, _∙_, _+_, _-_, _*_, length, take, drop, arith, not-true, not-false, needs}
+use Rattle.lists.specs.Basics.{_≡_, sym, ap, _∙_, ℕ, _+_, _-_, _*_, length, take, arith, not-true, not-false, needs}
 use Rattle.places.specs.Places.{lineOk}
-use Rattle.record_check.specs.Tables.{tables, tables-length, tables-room, tables-are}
+use Rattle.record_check.specs.States.{kinds}
+use Rattle.record_check.specs.Tables.{rowBytes, tableBytes, row, tables-length, tables-room, tables-are}
 use Rattle.record_check.proofs.stands.Statement.{statement}
 use Rattle.record_check.proofs.stands.Tie as tie
 
@@ -14,26 +15,24 @@ part-line-ok-end-3 c = let l = ap length (c .before .before .before .before .pre
 part-line-ok-end-4 : tie.Need-part-line-ok-end-4
 part-line-ok-end-4 c = let l = ap length (c .before .before .before .before .before .pre .1 .0) ∙ tables-length in omega arith
 
+-- the part lent for a row is as long as one
+part : (at : ℕ) → at + rowBytes - at ≡ rowBytes
+part at = omega arith
+
 line-ok-requires : tie.Need-line-ok-requires
 line-ok-requires c κs =
     let k = c .before .before .before .before .before .before in
-    let at = k .args .kind * 291 in
-    let w : at + 97 - at ≡ 97 = omega arith in
-    rw (w, k .pre .1 .0) (tables-room (k .args .kind) (k .pre .1 .1))
+    rw (part (k .args .kind * tableBytes), k .pre .1 .0) (tables-room (k .args .kind) (k .pre .1 .1))
 
 -- the answer of the pass is that by the rows of the kind
 judged : (c : tie.After-line-ok)
     → let a = c .before .before .before .before .before .before .before .args in
-    let at = a .kind * 291 in
-    c .line-ok .result
-    ≡ lineOk (take 97 (a .line .now)) (take 97 (drop at tables)) (take 97 (drop (at + 97) tables)) (take 97 (drop (at + 194) tables))
+    let at = a .kind * tableBytes in
+    c .line-ok .result ≡ lineOk (take rowBytes (a .line .now)) (row at) (row (at + rowBytes)) (row (at + rowBytes + rowBytes))
 judged c =
     let k = c .before .before .before .before .before .before .before in
-    let at = k .args .kind * 291 in
-    let v : at + 97 - at ≡ 97 = omega arith in
-    let w : at + 194 - (at + 97) ≡ 97 = omega arith in
-    let u : at + 291 - (at + 194) ≡ 97 = omega arith in
-    rw (v, w, u, k .pre .1 .0) at (c .line-ok .ensures)
+    let at = k .args .kind * tableBytes in
+    rw (part at, part (at + rowBytes), part (at + rowBytes + rowBytes), k .pre .1 .0) at (c .line-ok .ensures)
 
 returns : tie.Need-returns
 returns c =
@@ -48,6 +47,7 @@ returns-2 c =
     rw f at (tables-are (k .args .kind) (k .pre .1 .1) (k .args .line .now) (k .pre .0))
 
 pub stands-spec : {M : Type 1} → statement M
+unfolding kinds
 stands-spec =
     tie.close
     (tie.spec (λ c. search needs) (λ c. search needs) (λ c. search needs) (λ c. search needs) (λ c. search needs) (λ c. search needs)
