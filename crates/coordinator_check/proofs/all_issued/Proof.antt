@@ -74,6 +74,5 @@ returns-3 c = left-last _ _ _ _ (omega (arith, length-records (c .before .before
 
 pub all-issued-spec : {M : Type 1} → statement M
 all-issued-spec =
-    tie.close
-    (tie.spec Inv-loop μ-loop half-requires loop-holds (λ c. search needs) (λ c. search needs) (λ c κs. search needs) (λ c. search needs)
+    tie.close (tie.spec Inv-loop μ-loop half-requires loop-holds (λ c. search needs) (λ c. search needs) (λ c κs. search needs) (λ c. search needs)
     (λ c. search needs) (λ c κs. search needs) returns returns-2 (λ c. search needs) (λ c. search needs) loop-again returns-3)

@@ -67,6 +67,6 @@ returns-5 c = rw (c .enum-told2 .given .1) at (decided (c .before .before))
 
 pub coordinator-ok-spec : {M : Type 1} → statement M
 coordinator-ok-spec =
-    tie.close
-    (tie.spec (λ c κs. search needs) returns slice-aggregate-letters-ok letters-ok-requires returns-2 slice-aggregate-read (λ c κs. search needs)
-    (λ c. search needs) (λ c. search needs) decisions-ok-requires (λ c. search needs) (λ c. search needs) returns-3 returns-4 returns-5)
+    tie.close (tie.spec (λ c κs. search needs) returns slice-aggregate-letters-ok letters-ok-requires returns-2 slice-aggregate-read
+    (λ c κs. search needs) (λ c. search needs) (λ c. search needs) decisions-ok-requires (λ c. search needs) (λ c. search needs) returns-3 returns-4
+    returns-5)

@@ -9,7 +9,8 @@ use Rattle.engine.proofs.abort.Tie as tie
 returns : tie.Need-returns
 returns c =
     let a = c .before .before .before .before .before .args in
-    turned-away (toReturned (a .t)) (model.abort (a .t)) (a .records .now) (a .coordinator .now) _ (c .before .before .check .ensures) (c .before .if1 .taken) (c .refusal .ensures) .said
+    turned-away (toReturned (a .t)) (model.abort (a .t)) (a .records .now) (a .coordinator .now) _ (c .before .before .check .ensures)
+    (c .before .if1 .taken) (c .refusal .ensures) .said
 
 abort-requires : tie.Need-abort-requires
 abort-requires c κs =
@@ -19,7 +20,8 @@ abort-requires c κs =
 returns-2 : tie.Need-returns-2
 returns-2 c =
     let a = c .before .before .before .before .before .args in
-    passed-answer (toReturned (a .t)) (model.abort (a .t)) (a .records .now) (a .coordinator .now) (sym (c .before .before .check .ensures) ∙ c .before .if1 .left) (c .abort .ensures)
+    passed-answer (toReturned (a .t)) (model.abort (a .t)) (a .records .now) (a .coordinator .now)
+    (sym (c .before .before .check .ensures) ∙ c .before .if1 .left) (c .abort .ensures)
 
 pub abort-spec : {M : Type 1} → statement M
 abort-spec = tie.close (tie.spec (λ c κs. search needs) (λ c κs. search needs) returns abort-requires returns-2)

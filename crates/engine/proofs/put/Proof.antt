@@ -9,7 +9,8 @@ use Rattle.engine.proofs.put.Tie as tie
 returns : tie.Need-returns
 returns c =
     let a = c .before .before .before .before .before .args in
-    turned-away (toReturned (a .t)) (model.put (a .t) (a .key) (a .columns)) (a .records .now) (a .coordinator .now) _ (c .before .before .check .ensures) (c .before .if1 .taken) (c .refusal .ensures) .said
+    turned-away (toReturned (a .t)) (model.put (a .t) (a .key) (a .columns)) (a .records .now) (a .coordinator .now) _ (c .before .before .check .ensures)
+    (c .before .if1 .taken) (c .refusal .ensures) .said
 
 put-requires : tie.Need-put-requires
 put-requires c κs =
@@ -19,7 +20,8 @@ put-requires c κs =
 returns-2 : tie.Need-returns-2
 returns-2 c =
     let a = c .before .before .before .before .before .args in
-    passed-answer (toReturned (a .t)) (model.put (a .t) (a .key) (a .columns)) (a .records .now) (a .coordinator .now) (sym (c .before .before .check .ensures) ∙ c .before .if1 .left) (c .put .ensures)
+    passed-answer (toReturned (a .t)) (model.put (a .t) (a .key) (a .columns)) (a .records .now) (a .coordinator .now)
+    (sym (c .before .before .check .ensures) ∙ c .before .if1 .left) (c .put .ensures)
 
 pub put-spec : {M : Type 1} → statement M
 put-spec = tie.close (tie.spec (λ c κs. search needs) (λ c κs. search needs) returns put-requires returns-2)

@@ -46,6 +46,5 @@ returns c =
 
 pub figure-spec : {M : Type 1} → statement M
 figure-spec =
-    tie.close
-    (tie.spec Inv-loop μ-loop loop-holds mul-v (λ c. search needs) (λ c. search needs) (λ c κs. search needs) add-v (λ c. search needs)
+    tie.close (tie.spec Inv-loop μ-loop loop-holds mul-v (λ c. search needs) (λ c. search needs) (λ c κs. search needs) add-v (λ c. search needs)
     (λ c. search needs) loop-again returns)

@@ -64,6 +64,5 @@ returns-2 c =
 
 pub line-ok-spec : {M : Type 1} → statement M
 line-ok-spec =
-    tie.close
-    (tie.spec Inv-loop μ-loop (λ c κs. search needs) returns loop-holds (λ c. search needs) (λ c. search needs) stands-requires (λ c. search needs)
-    (λ c. search needs) loop-again returns-2)
+    tie.close (tie.spec Inv-loop μ-loop (λ c κs. search needs) returns loop-holds (λ c. search needs) (λ c. search needs) stands-requires
+    (λ c. search needs) (λ c. search needs) loop-again returns-2)

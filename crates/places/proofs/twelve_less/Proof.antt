@@ -30,6 +30,5 @@ returns-2 c =
 
 pub twelve-less-spec : {M : Type 1} → statement M
 twelve-less-spec =
-    tie.close
-    (tie.spec (λ c κs. search needs) (λ c κs. search needs) returns (λ c. search needs) (λ c κs. search needs) (λ c. search needs)
+    tie.close (tie.spec (λ c κs. search needs) (λ c κs. search needs) returns (λ c. search needs) (λ c κs. search needs) (λ c. search needs)
     (λ c κs. search needs) returns-2)

@@ -38,6 +38,5 @@ returns c =
 
 pub kind-spec : {M : Type 1} → statement M
 kind-spec =
-    tie.close
-    (tie.spec (λ c κs. search needs) load-eight-requires-2 load-eight-requires-3 (λ c κs. search needs) (λ c κs. search needs) (λ c κs. search needs)
-    (λ c. search needs) (λ c. search needs) (λ c κs. search needs) (λ c. search needs) (λ c. search needs) returns)
+    tie.close (tie.spec (λ c κs. search needs) load-eight-requires-2 load-eight-requires-3 (λ c κs. search needs) (λ c κs. search needs)
+    (λ c κs. search needs) (λ c. search needs) (λ c. search needs) (λ c κs. search needs) (λ c. search needs) (λ c. search needs) returns)

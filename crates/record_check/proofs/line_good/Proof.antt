@@ -80,6 +80,5 @@ returns-5 c = rw (passed (c .before .before) .1, c .twelve-less .ensures, c .bef
 pub line-good-spec : {M : Type 1} → statement M
 unfolding kinds
 line-good-spec =
-    tie.close
-    (tie.spec (λ c κs. search needs) (λ c. search needs) ten-equal-requires returns (λ c κs. search needs) returns-2 (λ c κs. search needs) returns-3
-    (λ c. search needs) returns-4 twelve-less-requires returns-5)
+    tie.close (tie.spec (λ c κs. search needs) (λ c. search needs) ten-equal-requires returns (λ c κs. search needs) returns-2 (λ c κs. search needs)
+    returns-3 (λ c. search needs) returns-4 twelve-less-requires returns-5)

@@ -50,6 +50,5 @@ returns-4 c =
 
 pub records-ok-spec : {M : Type 1} → statement M
 records-ok-spec =
-    tie.close
-    (tie.spec (λ c. search needs) returns returns-2 returns-3 (λ c. search needs) (λ c. search needs) (λ c. search needs) lines-pass-requires
-    returns-4)
+    tie.close (tie.spec (λ c. search needs) returns returns-2 returns-3 (λ c. search needs) (λ c. search needs) (λ c. search needs)
+    lines-pass-requires returns-4)

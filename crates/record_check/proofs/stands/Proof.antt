@@ -49,7 +49,6 @@ returns-2 c =
 pub stands-spec : {M : Type 1} → statement M
 unfolding kinds
 stands-spec =
-    tie.close
-    (tie.spec (λ c. search needs) (λ c. search needs) (λ c. search needs) (λ c. search needs) (λ c. search needs) (λ c. search needs)
+    tie.close (tie.spec (λ c. search needs) (λ c. search needs) (λ c. search needs) (λ c. search needs) (λ c. search needs) (λ c. search needs)
     (λ c. search needs) (λ c. search needs) (λ c. search needs) part-line-ok-end-2 (λ c. search needs) (λ c. search needs) part-line-ok-end-3
     (λ c. search needs) (λ c. search needs) part-line-ok-end-4 line-ok-requires returns (λ c. search needs) (λ c. search needs) returns-2)

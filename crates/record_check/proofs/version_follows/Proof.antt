@@ -27,6 +27,5 @@ returns-3 c =
 
 pub version-follows-spec : {M : Type 1} → statement M
 version-follows-spec =
-    tie.close
-    (tie.spec returns (λ c. search needs) (λ c κs. search needs) (λ c κs. search needs) (λ c. search needs) returns-2 (λ c κs. search needs)
+    tie.close (tie.spec returns (λ c. search needs) (λ c κs. search needs) (λ c κs. search needs) (λ c. search needs) returns-2 (λ c κs. search needs)
     (λ c κs. search needs) (λ c. search needs) returns-3)

@@ -12,10 +12,15 @@ returns c = rw (sym (c .before .is-prepared .ensures) ∙ not-true _ (c .if1 .ta
 returns-2 : tie.Need-returns-2
 unfolding meeting recovery lineExpired
 returns-2 c =
-    rw (sym (c .before .before .before .before .before .before .is-prepared .ensures) ∙ not-false _ (c .before .before .before .before .before .if1 .left)) (rw (c .before .before .before .decision-at .ensures, c .before .has-expired .ensures, c .before .before .before .before .txid .ensures, c .before .before .clock .ensures) at (c .pending .ensures))
+    rw (sym (c .before .before .before .before .before .before .is-prepared .ensures) ∙ not-false _ (c .before .before .before .before .before .if1 .left))
+    (rw (
+      c .before .before .before .decision-at .ensures,
+      c .before .has-expired .ensures,
+      c .before .before .before .before .txid .ensures,
+      c .before .before .clock .ensures,
+    ) at (c .pending .ensures))
 
 pub meet-spec : {M : Type 1} → statement M
 meet-spec =
-    tie.close
-    (tie.spec (λ c κs. search needs) returns (λ c κs. search needs) (λ c κs. search needs) (λ c κs. search needs) (λ c κs. search needs)
+    tie.close (tie.spec (λ c κs. search needs) returns (λ c κs. search needs) (λ c κs. search needs) (λ c κs. search needs) (λ c κs. search needs)
     (λ c κs. search needs) returns-2)

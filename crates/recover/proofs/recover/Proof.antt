@@ -9,8 +9,11 @@ meet-requires c κs = c .before .before .before .before .pre .accepted .lines
 
 settle-requires : tie.Need-settle-requires
 settle-requires c κs =
-    let a = c .before .before .before .before .before .before .before .args in
-    (c .before .before .before .before .before .before .before .pre, rw (c .before .before .meet .ensures) (meeting-pending (a .clock) (a .decisions .now) (lineAt (a .records .now) (a .i))))
+    let a = c .before .before .before .before .before .before .before .args in (
+      c .before .before .before .before .before .before .before .pre,
+      rw (c .before .before .meet .ensures)
+          (meeting-pending (a .clock) (a .decisions .now) (lineAt (a .records .now) (a .i))),
+    )
 
 returns : tie.Need-returns
 returns c =

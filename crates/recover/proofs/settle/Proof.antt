@@ -25,19 +25,29 @@ returns-2 : tie.Need-returns-2
 unfolding recoveryWrite pending
 returns-2 c =
     let a = c .before .before .before .before .before .before .before .before .args in
-    rw (c .before .before .before .before .enum-told2 .given .1) (settle-forward (a .records .now) (a .decisions .now) (a .i) (c .before .before .before .before .before .before .before .before .pre .0) (rw (c .before .before .before .before .enum-told2 .given .1) at (c .before .before .before .before .before .before .before .before .pre .1)) (c .before .before .roll-forward .ensures))
+    rw (c .before .before .before .before .enum-told2 .given .1)
+    (settle-forward (a .records .now) (a .decisions .now) (a .i) (c .before .before .before .before .before .before .before .before .pre .0)
+    (rw (c .before .before .before .before .enum-told2 .given .1) at (c .before .before .before .before .before .before .before .before .pre .1))
+    (c .before .before .roll-forward .ensures))
 
 returns-3 : tie.Need-returns-3
 unfolding recoveryWrite pending
 returns-3 c =
     let a = c .before .before .before .before .before .before .before .before .args in
-    rw (c .before .before .before .before .enum-told3 .given .1) (settle-back (a .records .now) (a .decisions .now) (a .i) (c .before .before .before .before .before .before .before .before .pre .0) (rw (c .before .before .before .before .enum-told3 .given .1) at (c .before .before .before .before .before .before .before .before .pre .1)) (c .before .before .roll-back .ensures))
+    rw (c .before .before .before .before .enum-told3 .given .1)
+    (settle-back (a .records .now) (a .decisions .now) (a .i) (c .before .before .before .before .before .before .before .before .pre .0)
+    (rw (c .before .before .before .before .enum-told3 .given .1) at (c .before .before .before .before .before .before .before .before .pre .1))
+    (c .before .before .roll-back .ensures))
 
 returns-4 : tie.Need-returns-4
 unfolding recoveryWrite pending
 returns-4 c =
     let a = c .before .before .before .before .before .before .before .before .before .before .args in
-    rw (c .before .before .before .before .before .before .enum-told4 .given .1) (settle-again (a .records .now) (a .decisions .now) (a .i) (c .before .before .before .before .before .before .before .before .before .before .pre .0) (rw (c .before .before .before .before .before .before .enum-told4 .given .1) at (c .before .before .before .before .before .before .before .before .before .before .pre .1)) (rw (c .before .before .before .before .txid .ensures) at (c .before .before .set-decision .ensures)))
+    rw (c .before .before .before .before .before .before .enum-told4 .given .1)
+    (settle-again (a .records .now) (a .decisions .now) (a .i) (c .before .before .before .before .before .before .before .before .before .before .pre .0)
+    (rw (c .before .before .before .before .before .before .enum-told4 .given .1) at
+    (c .before .before .before .before .before .before .before .before .before .before .pre .1))
+    (rw (c .before .before .before .before .txid .ensures) at (c .before .before .set-decision .ensures)))
 
 returns-5 : tie.Need-returns-5
 unfolding recoveryWrite
@@ -47,7 +57,6 @@ returns-5 c =
 
 pub settle-spec : {M : Type 1} → statement M
 settle-spec =
-    tie.close
-    (tie.spec (λ c. search needs) (λ c. search needs) roll-forward-requires (λ c. search needs) roll-back-requires (λ c. search needs) txid-requires
-    (λ c κs. search needs) (λ c. search needs) returns (λ c. search needs) returns-2 (λ c. search needs) returns-3 (λ c. search needs)
+    tie.close (tie.spec (λ c. search needs) (λ c. search needs) roll-forward-requires (λ c. search needs) roll-back-requires (λ c. search needs)
+    txid-requires (λ c κs. search needs) (λ c. search needs) returns (λ c. search needs) returns-2 (λ c. search needs) returns-3 (λ c. search needs)
     (λ c. search needs) returns-4 returns-5)

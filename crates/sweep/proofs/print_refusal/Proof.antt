@@ -19,6 +19,5 @@ returns c =
 
 pub print-refusal-spec : {M : Type 1} → statement M
 print-refusal-spec =
-    tie.close
-    (tie.spec (λ c. search needs) (λ c. search needs) (λ c. search needs) (λ c κs. search needs) (λ c. search needs) slice-aggregate-put
+    tie.close (tie.spec (λ c. search needs) (λ c. search needs) (λ c. search needs) (λ c κs. search needs) (λ c. search needs) slice-aggregate-put
     slice-aggregate-put-2 (λ c κs. search needs) (λ c. search needs) returns)

@@ -59,8 +59,7 @@ returns c =
 
 pub print-sheets-spec : {M : Type 1} → statement M
 print-sheets-spec =
-    tie.close
-    (tie.spec numbers-requires records-from-requires (λ c. search needs) sub-r slice-relend-prefix-visit-sheets slice-aggregate-visit-sheets
+    tie.close (tie.spec numbers-requires records-from-requires (λ c. search needs) sub-r slice-relend-prefix-visit-sheets slice-aggregate-visit-sheets
     slice-relend-prefix-visit-sheets-2 slice-aggregate-visit-sheets-2 visit-sheets-requires (λ c. search needs) (λ c. search needs)
     (λ c. search needs) part-put-end slice-reshare-prefix-put slice-aggregate-put (λ c κs. search needs) (λ c. search needs) (λ c. search needs)
     returns)

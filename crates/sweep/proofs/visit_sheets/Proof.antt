@@ -38,6 +38,5 @@ returns c =
 
 pub visit-sheets-spec : {M : Type 1} → statement M
 visit-sheets-spec =
-    tie.close
-    (tie.spec numbers-requires records-from-requires (λ c. search needs) (λ c. search needs) part-put-end (λ c κs. search needs) sub-put-2
+    tie.close (tie.spec numbers-requires records-from-requires (λ c. search needs) (λ c. search needs) part-put-end (λ c κs. search needs) sub-put-2
     part-put-start-2 (λ c. search needs) (λ c κs. search needs) sweep-requires (λ c. search needs) (λ c. search needs) returns)

@@ -13,6 +13,5 @@ slice-aggregate-write-all c = sym (length-take-le _ _ (answer-within _ _ _ _ _ (
 
 pub main-spec : {M : Type 1} → statement M
 main-spec =
-    tie.close
-    (tie.spec (λ c. search needs) (λ c κs. search needs) (λ c. search needs) (λ c. search needs) (λ c. search needs) (λ c. search needs)
+    tie.close (tie.spec (λ c. search needs) (λ c κs. search needs) (λ c. search needs) (λ c. search needs) (λ c. search needs) (λ c. search needs)
     (λ c κs. search needs) array-share-prefix-output slice-aggregate-write-all (λ c κs. search needs) (λ c. search needs))

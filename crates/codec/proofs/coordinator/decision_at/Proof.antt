@@ -37,5 +37,4 @@ returns-4 c =
 
 pub decision-at-spec : {M : Type 1} → statement M
 decision-at-spec =
-    tie.close
-    (tie.spec (λ c κs. search needs) returns holds-decision-requires returns-2 holds-decision-requires-2 returns-3 returns-4)
+    tie.close (tie.spec (λ c κs. search needs) returns holds-decision-requires returns-2 holds-decision-requires-2 returns-3 returns-4)

@@ -17,5 +17,5 @@ returns-2 c = c .number-of2 .ensures ∙ (ap number (c .before .read2 .ensures) 
 
 pub issued-spec : {M : Type 1} → statement M
 issued-spec =
-    tie.close
-    (tie.spec (λ c κs. search needs) (λ c κs. search needs) returns slice-aggregate-read (λ c κs. search needs) (λ c κs. search needs) returns-2)
+    tie.close (tie.spec (λ c κs. search needs) (λ c κs. search needs) returns slice-aggregate-read (λ c κs. search needs) (λ c κs. search needs)
+    returns-2)

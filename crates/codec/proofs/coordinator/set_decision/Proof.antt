@@ -38,6 +38,5 @@ returns-2 c =
 
 pub set-decision-spec : {M : Type 1} → statement M
 set-decision-spec =
-    tie.close
-    (tie.spec (λ c κs. search needs) (λ c. search needs) (λ c. search needs) (λ c κs. search needs) (λ c. search needs) (λ c. search needs)
+    tie.close (tie.spec (λ c κs. search needs) (λ c. search needs) (λ c. search needs) (λ c κs. search needs) (λ c. search needs) (λ c. search needs)
     (λ c. search needs) part-write-row-end write-row-requires (λ c. search needs) returns (λ c. search needs) returns-2)

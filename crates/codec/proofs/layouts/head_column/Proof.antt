@@ -12,7 +12,6 @@ past c = sym (List·getD-eq-default headLayout noColumn (past-arms 10 (c .before
 pub head-column-spec : {M : Type 1} → statement M
 unfolding headLayout
 head-column-spec =
-    tie.close
-    (tie.spec (λ c. rw (c .match .keys1)) (λ c. rw (c .match .keys2)) (λ c. rw (c .match .keys3)) (λ c. rw (c .match .keys4))
+    tie.close (tie.spec (λ c. rw (c .match .keys1)) (λ c. rw (c .match .keys2)) (λ c. rw (c .match .keys3)) (λ c. rw (c .match .keys4))
     (λ c. rw (c .match .keys5)) (λ c. rw (c .match .keys6)) (λ c. rw (c .match .keys7)) (λ c. rw (c .match .keys8)) (λ c. rw (c .match .keys9))
     (λ c. rw (c .match .keys10)) past)

@@ -21,8 +21,7 @@ no-unit c = let l : 5 ≤ c .before .before .before .before .before .args .n = o
 pub word-spec : {M : Type 1} → statement M
 unfolding words bytes
 word-spec =
-    tie.close
-    (tie.spec (λ c. search needs) (λ c. search needs) (λ c. search needs) (λ c. search needs)
+    tie.close (tie.spec (λ c. search needs) (λ c. search needs) (λ c. search needs) (λ c. search needs)
     (λ c. rw (c .before .before .before .enum-told .given .1, c .before .before .match2 .keys1))
     (λ c. rw (c .before .before .before .enum-told .given .1, c .before .before .match2 .keys2))
     (λ c. rw (c .before .before .before .enum-told .given .1, c .before .before .match2 .keys3)) no-state

@@ -25,6 +25,5 @@ returns-2 c = good-last _ _ _ (omega arith) (c .before .loop .inv .1)
 
 pub row-good-spec : {M : Type 1} → statement M
 row-good-spec =
-    tie.close
-    (tie.spec Inv-loop μ-loop loop-holds (λ c κs. search needs) (λ c. search needs) (λ c. search needs) (λ c κs. search needs) returns
+    tie.close (tie.spec Inv-loop μ-loop loop-holds (λ c κs. search needs) (λ c. search needs) (λ c. search needs) (λ c κs. search needs) returns
     (λ c. search needs) (λ c. search needs) loop-again returns-2)

@@ -43,7 +43,6 @@ returns c = write-last _ _ _ _ _ (omega arith) (c .before .loop .inv .1) .0
 
 pub write-row-spec : {M : Type 1} → statement M
 write-row-spec =
-    tie.close
-    (tie.spec Inv-loop μ-loop loop-holds (λ c κs. search needs) add-end (λ c. search needs) (λ c. search needs) (λ c. search needs)
+    tie.close (tie.spec Inv-loop μ-loop loop-holds (λ c κs. search needs) add-end (λ c. search needs) (λ c. search needs) (λ c. search needs)
     (λ c. search needs) part-write-field-end write-field-requires (λ c. search needs) (λ c. search needs) loop-again slice-write-line same-length
     returns)

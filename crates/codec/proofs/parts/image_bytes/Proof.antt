@@ -18,6 +18,5 @@ returns c =
 
 pub image-bytes-spec : {M : Type 1} → statement M
 image-bytes-spec =
-    tie.close
-    (tie.spec (λ c κs. search needs) (λ c. search needs) (λ c. search needs) (λ c. search needs) (λ c. search needs) part-put-end
+    tie.close (tie.spec (λ c κs. search needs) (λ c. search needs) (λ c. search needs) (λ c. search needs) (λ c. search needs) part-put-end
     (λ c κs. search needs) returns)

@@ -20,6 +20,5 @@ returns-2 c = sym (record-past _ _ (c .if1 .left))
 
 pub record-at-spec : {M : Type 1} → statement M
 record-at-spec =
-    tie.close
-    (tie.spec (λ c. search needs) (λ c. search needs) (λ c. search needs) (λ c. search needs) (λ c. search needs) (λ c. search needs)
+    tie.close (tie.spec (λ c. search needs) (λ c. search needs) (λ c. search needs) (λ c. search needs) (λ c. search needs) (λ c. search needs)
     read-row-requires (λ c. search needs) (λ c κs. search needs) returns returns-2)

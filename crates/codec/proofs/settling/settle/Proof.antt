@@ -21,6 +21,5 @@ returns-2 c = rw (le-ltb _ _ (c .if1 .left))
 
 pub settle-spec : {M : Type 1} → statement M
 settle-spec =
-    tie.close
-    (tie.spec (λ c. search needs) (λ c. search needs) (λ c. search needs) (λ c. search needs) (λ c. search needs) settle-line-requires
+    tie.close (tie.spec (λ c. search needs) (λ c. search needs) (λ c. search needs) (λ c. search needs) (λ c. search needs) settle-line-requires
     (λ c. search needs) returns returns-2)

@@ -22,6 +22,5 @@ returns-2 c = rw (le-ltb _ _ (c .if1 .left))
 
 pub commit-spec : {M : Type 1} → statement M
 commit-spec =
-    tie.close
-    (tie.spec (λ c. search needs) (λ c. search needs) (λ c. search needs) (λ c. search needs) (λ c. search needs) commit-line-requires
+    tie.close (tie.spec (λ c. search needs) (λ c. search needs) (λ c. search needs) (λ c. search needs) (λ c. search needs) commit-line-requires
     (λ c. search needs) returns returns-2)

@@ -22,6 +22,5 @@ returns-2 c = rw (le-ltb _ _ (c .if1 .left))
 
 pub prepare-spec : {M : Type 1} → statement M
 prepare-spec =
-    tie.close
-    (tie.spec (λ c. search needs) (λ c. search needs) (λ c. search needs) (λ c. search needs) (λ c. search needs) prepare-line-requires
+    tie.close (tie.spec (λ c. search needs) (λ c. search needs) (λ c. search needs) (λ c. search needs) (λ c. search needs) prepare-line-requires
     (λ c. search needs) returns returns-2)

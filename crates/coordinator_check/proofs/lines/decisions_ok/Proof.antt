@@ -34,6 +34,5 @@ returns-2 c =
 
 pub decisions-ok-spec : {M : Type 1} → statement M
 decisions-ok-spec =
-    tie.close
-    (tie.spec sub-count returns (λ c κs. search needs) (λ c κs. search needs) (λ c. search needs) (λ c κs. search needs) (λ c. search needs)
+    tie.close (tie.spec sub-count returns (λ c κs. search needs) (λ c κs. search needs) (λ c. search needs) (λ c κs. search needs) (λ c. search needs)
     lines-ok-requires load-four-requires-2 (λ c. search needs) lines-ok-requires-2 returns-2)

@@ -24,6 +24,5 @@ returns c =
 
 pub line-ok-spec : {M : Type 1} → statement M
 line-ok-spec =
-    tie.close
-    (tie.spec (λ c. search needs) (λ c κs. search needs) (λ c κs. search needs) (λ c. search needs) (λ c. search needs) shared-slice-read-result
-    add-result (λ c. search needs) (λ c. search needs) shared-slice-read-result-2 returns)
+    tie.close (tie.spec (λ c. search needs) (λ c κs. search needs) (λ c κs. search needs) (λ c. search needs) (λ c. search needs)
+    shared-slice-read-result add-result (λ c. search needs) (λ c. search needs) shared-slice-read-result-2 returns)

@@ -36,6 +36,5 @@ returns c = judged-last _ _ _ _ _ _ _ (c .loop-test .left) (c .before .loop .inv
 
 pub lines-ok-spec : {M : Type 1} → statement M
 lines-ok-spec =
-    tie.close
-    (tie.spec Inv-loop μ-loop loop-holds next-requires (λ c. search needs) (λ c. search needs) line-ok-requires (λ c. search needs)
+    tie.close (tie.spec Inv-loop μ-loop loop-holds next-requires (λ c. search needs) (λ c. search needs) line-ok-requires (λ c. search needs)
     (λ c. search needs) loop-again returns)

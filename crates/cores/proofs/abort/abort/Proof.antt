@@ -11,22 +11,31 @@ use Rattle.cores.proofs.abort.abort.Tie as tie
 returns : tie.Need-returns
 returns c =
     let a = c .before .before .before .before .before .before .args in
+    let s = sheetsOf (a .records .now) (a .coordinator .now) in
     c .refusal .ensures
-    ∙ ap (toReturned (a .t)) (sym (abort-ill (a .t) (sheetsOf (a .records .now) (a .coordinator .now)) (formed-by (sheetsOf (a .records .now) (a .coordinator .now)) (a .t) false (c .before .before .before .admit .ensures) (not-true _ (c .before .if1 .taken)))))
+    ∙ ap (toReturned (a .t))
+    (sym (abort-ill (a .t) s (formed-by s (a .t) false (c .before .before .before .admit .ensures) (not-true _ (c .before .if1 .taken)))))
 
 returns-2 : tie.Need-returns-2
 returns-2 c =
     let a = c .before .before .before .before .before .before .before .before .args in
-    c .refusal2 .ensures ∙ ap (toReturned (a .t)) (sym (abort-late (a .t) (sheetsOf (a .records .now) (a .coordinator .now)) (formed-by (sheetsOf (a .records .now) (a .coordinator .now)) (a .t) true (c .before .before .before .before .before .admit .ensures) (not-false _ (c .before .before .before .if1 .left))) (sym (c .before .before .cannot-abort .ensures) ∙ c .before .if2 .taken)))
+    let s = sheetsOf (a .records .now) (a .coordinator .now) in
+    c .refusal2 .ensures ∙ ap (toReturned (a .t))
+    (sym (abort-late (a .t) s
+    (formed-by s (a .t) true (c .before .before .before .before .before .admit .ensures) (not-false _ (c .before .before .before .if1 .left)))
+    (sym (c .before .before .cannot-abort .ensures) ∙ c .before .if2 .taken)))
 
 returns-3 : tie.Need-returns-3
 returns-3 c =
     let a = c .before .before .before .before .before .before .before .before .args in
+    let s = sheetsOf (a .records .now) (a .coordinator .now) in
     returned-made (a .t) nothing (c .moved .ensures)
-    ∙ ap (toReturned (a .t)) (sym (abort-made (a .t) (sheetsOf (a .records .now) (a .coordinator .now)) (formed-by (sheetsOf (a .records .now) (a .coordinator .now)) (a .t) true (c .before .before .before .before .before .admit .ensures) (not-false _ (c .before .before .before .if1 .left))) (sym (c .before .before .cannot-abort .ensures) ∙ c .before .if2 .left)))
+    ∙ ap (toReturned (a .t))
+    (sym (abort-made (a .t) s
+    (formed-by s (a .t) true (c .before .before .before .before .before .admit .ensures) (not-false _ (c .before .before .before .if1 .left)))
+    (sym (c .before .before .cannot-abort .ensures) ∙ c .before .if2 .left)))
 
 pub abort-spec : {M : Type 1} → statement M
 abort-spec =
-    tie.close
-    (tie.spec (λ c κs. search needs) (λ c κs. search needs) returns (λ c κs. search needs) (λ c κs. search needs) returns-2 (λ c κs. search needs)
+    tie.close (tie.spec (λ c κs. search needs) (λ c κs. search needs) returns (λ c κs. search needs) (λ c κs. search needs) returns-2 (λ c κs. search needs)
     returns-3)

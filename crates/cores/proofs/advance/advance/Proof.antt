@@ -12,30 +12,57 @@ use Rattle.cores.proofs.advance.advance.Tie as tie
 returns : tie.Need-returns
 returns c =
     let a = c .before .before .before .before .before .before .before .before .args in
+    let s = sheetsOf (a .records .now) (a .coordinator .now) in
     outcome-refused (toReturned (a .t)) (a .records .now) (a .coordinator .now) 3
-    (advance-ill (a .t) (a .clock) (a .records .now) (a .coordinator .now) (formed-by (sheetsOf (a .records .now) (a .coordinator .now)) (a .t) false (c .before .before .before .admit .ensures) (not-true _ (c .before .if1 .taken)))) (c .refusal .ensures)
+    (advance-ill (a .t) (a .clock) (a .records .now) (a .coordinator .now)
+    (formed-by s (a .t) false (c .before .before .before .admit .ensures) (not-true _ (c .before .if1 .taken)))) (c .refusal .ensures)
 
 returns-2 : tie.Need-returns-2
 returns-2 c =
     let a = c .before .before .before .before .before .before .before .before .before .before .before .before .args in
+    let s = sheetsOf (a .records .now) (a .coordinator .now) in
     outcome-refused (toReturned (a .t)) (a .records .now) (a .coordinator .now) 4
-    (advance-forbidden (a .t) (a .clock) (a .records .now) (a .coordinator .now) (formed-by (sheetsOf (a .records .now) (a .coordinator .now)) (a .t) true (c .before .before .before .before .before .before .before .admit .ensures) (not-false _ (c .before .before .before .before .before .if1 .left))) (ap (λ (d : Decision). forbids (a .t .phase) d) (sym (c .before .before .before .decision-at .ensures)) ∙ (sym (c .before .before .forbids .ensures) ∙ c .before .if2 .taken))) (c .refusal2 .ensures)
+    (advance-forbidden (a .t) (a .clock) (a .records .now) (a .coordinator .now)
+    (formed-by s (a .t) true (c .before .before .before .before .before .before .before .admit .ensures)
+    (not-false _ (c .before .before .before .before .before .if1 .left)))
+    (ap (λ (d : Decision). forbids (a .t .phase) d) (sym (c .before .before .before .decision-at .ensures)) ∙
+    (sym (c .before .before .forbids .ensures) ∙ c .before .if2 .taken))) (c .refusal2 .ensures)
 
 step-requires : tie.Need-step-requires
 step-requires c κs =
     let a = c .before .before .before .before .before .before .before .before .before .before .before .before .before .before .args in
-    let f = (formed-by (sheetsOf (a .records .now) (a .coordinator .now)) (a .t) true (c .before .before .before .before .before .before .before .before .before .admit .ensures) (not-false _ (c .before .before .before .before .before .before .before .if1 .left))) in
-    let r = admitted-ready (a .t) (a .records .now) (a .coordinator .now) (c .before .before .before .before .before .before .before .before .before .before .before .before .before .before .good .0) _ (located-by (sheetsOf (a .records .now) (a .coordinator .now)) (a .t) (c .before .before .before .before .before .before .before .before .before .admit .ensures) f) f in
-    record { passing = c .before .before .before .before .before .before .before .before .before .before .before .before .before .before .pre .passing; formed = f; indexed = r .0; grouped = r .1 }
+    let s = sheetsOf (a .records .now) (a .coordinator .now) in
+    let f =
+    (formed-by s (a .t) true (c .before .before .before .before .before .before .before .before .before .admit .ensures)
+    (not-false _ (c .before .before .before .before .before .before .before .if1 .left))) in
+    let r =
+    admitted-ready (a .t) (a .records .now) (a .coordinator .now)
+    (c .before .before .before .before .before .before .before .before .before .before .before .before .before .before .good .0) _
+    (located-by s (a .t) (c .before .before .before .before .before .before .before .before .before .admit .ensures) f) f in
+    record {
+      passing = c .before .before .before .before .before .before .before .before .before .before .before .before .before .before .pre .passing;
+      formed = f;
+      indexed = r .0;
+      grouped = r .1;
+    }
 
 returns-3 : tie.Need-returns-3
 returns-3 c =
-    let a = c .before .before .before .before .before .before .before .before .before .before .before .before .before .before .before .before .before .before .before .args in
-    step-outcome (a .t) (a .clock) (a .records .now) (a .coordinator .now) (formed-by (sheetsOf (a .records .now) (a .coordinator .now)) (a .t) true (c .before .before .before .before .before .before .before .before .before .before .before .before .before .before .admit .ensures) (not-false _ (c .before .before .before .before .before .before .before .before .before .before .before .before .if1 .left))) (ap (λ (d : Decision). forbids (a .t .phase) d) (sym (c .before .before .before .before .before .before .before .before .before .before .decision-at .ensures)) ∙ (sym (c .before .before .before .before .before .before .before .before .before .forbids .ensures) ∙ c .before .before .before .before .before .before .before .before .if2 .left)) (c .before .before .before .before .step .ensures)
+    let a =
+    c .before .before .before .before .before .before .before .before .before .before .before .before .before .before .before .before .before .before .before .args
+    in
+    let s = sheetsOf (a .records .now) (a .coordinator .now) in
+    step-outcome (a .t) (a .clock) (a .records .now) (a .coordinator .now)
+    (formed-by s (a .t) true
+    (c .before .before .before .before .before .before .before .before .before .before .before .before .before .before .admit .ensures)
+    (not-false _ (c .before .before .before .before .before .before .before .before .before .before .before .before .if1 .left)))
+    (ap (λ (d : Decision). forbids (a .t .phase) d)
+    (sym (c .before .before .before .before .before .before .before .before .before .before .decision-at .ensures)) ∙
+    (sym (c .before .before .before .before .before .before .before .before .before .forbids .ensures) ∙
+    c .before .before .before .before .before .before .before .before .if2 .left)) (c .before .before .before .before .step .ensures)
 
 pub advance-spec : {M : Type 1} → statement M
 advance-spec =
-    tie.close
-    (tie.spec (λ c κs. search needs) (λ c κs. search needs) (λ c. search needs) (λ c. search needs) returns (λ c κs. search needs)
+    tie.close (tie.spec (λ c κs. search needs) (λ c κs. search needs) (λ c. search needs) (λ c. search needs) returns (λ c κs. search needs)
     (λ c κs. search needs) (λ c κs. search needs) (λ c. search needs) (λ c. search needs) returns-2 step-requires (λ c. search needs)
     (λ c. search needs) returns-3)

@@ -10,30 +10,41 @@ use Rattle.cores.proofs.put.put.Tie as tie
 returns : tie.Need-returns
 returns c =
     let a = c .before .before .before .before .before .args in
-    c .refusal .ensures ∙ ap (toReturned (a .t)) (sym (put-away (a .t) (a .key) (a .columns) (sheetsOf (a .records .now) (a .coordinator .now)) _ (c .before .before .open-refusal .ensures) (c .before .if1 .taken)))
+    let s = sheetsOf (a .records .now) (a .coordinator .now) in
+    c .refusal .ensures ∙ ap (toReturned (a .t))
+    (sym (put-away (a .t) (a .key) (a .columns) s _ (c .before .before .open-refusal .ensures) (c .before .if1 .taken)))
 
 find-requires : tie.Need-find-requires
 find-requires c κs =
     let a = c .before .before .before .before .args in
-    (c .before .before .before .before .pre .lines, opened (a .t) (a .key) (sheetsOf (a .records .now) (a .coordinator .now)) (sym (c .before .open-refusal .ensures) ∙ c .if1 .left) .ranged)
+    let s = sheetsOf (a .records .now) (a .coordinator .now) in
+    (c .before .before .before .before .pre .lines, opened (a .t) (a .key) s (sym (c .before .open-refusal .ensures) ∙ c .if1 .left) .ranged)
 
 put-held-requires : tie.Need-put-held-requires
 put-held-requires c κs =
     let a = c .before .before .before .before .before .before .before .args in
-    opened (a .t) (a .key) (sheetsOf (a .records .now) (a .coordinator .now)) (sym (c .before .before .before .before .open-refusal .ensures) ∙ c .before .before .before .if1 .left) .few
+    let s = sheetsOf (a .records .now) (a .coordinator .now) in
+    opened (a .t) (a .key) s (sym (c .before .before .before .before .open-refusal .ensures) ∙ c .before .before .before .if1 .left) .few
 
 returns-2 : tie.Need-returns-2
 returns-2 c =
     let a = c .before .before .before .before .before .before .before .before .args in
-    c .put-held .ensures ∙ ap (toReturned (a .t)) (sym (put-found (a .t) (a .key) (a .columns) (sheetsOf (a .records .now) (a .coordinator .now)) (sym (c .before .before .before .before .before .open-refusal .ensures) ∙ c .before .before .before .before .if1 .left) _ (sym (c .before .before .before .find .ensures) ∙ c .before .enum-told .given .1)))
+    let s = sheetsOf (a .records .now) (a .coordinator .now) in
+    c .put-held .ensures ∙ ap (toReturned (a .t))
+    (sym (put-found (a .t) (a .key) (a .columns) s
+    (sym (c .before .before .before .before .before .open-refusal .ensures) ∙ c .before .before .before .before .if1 .left) _
+    (sym (c .before .before .before .find .ensures) ∙ c .before .enum-told .given .1)))
 
 returns-3 : tie.Need-returns-3
 returns-3 c =
     let a = c .before .before .before .before .before .before .before .before .args in
-    c .refusal2 .ensures ∙ ap (toReturned (a .t)) (sym (put-none (a .t) (a .key) (a .columns) (sheetsOf (a .records .now) (a .coordinator .now)) (sym (c .before .before .before .before .before .open-refusal .ensures) ∙ c .before .before .before .before .if1 .left) (sym (c .before .before .before .find .ensures) ∙ c .before .enum-told2 .given .1)))
+    let s = sheetsOf (a .records .now) (a .coordinator .now) in
+    c .refusal2 .ensures ∙ ap (toReturned (a .t))
+    (sym (put-none (a .t) (a .key) (a .columns) s
+    (sym (c .before .before .before .before .before .open-refusal .ensures) ∙ c .before .before .before .before .if1 .left)
+    (sym (c .before .before .before .find .ensures) ∙ c .before .enum-told2 .given .1)))
 
 pub put-spec : {M : Type 1} → statement M
 put-spec =
-    tie.close
-    (tie.spec (λ c κs. search needs) (λ c κs. search needs) returns find-requires (λ c. search needs) put-held-requires (λ c. search needs)
+    tie.close (tie.spec (λ c κs. search needs) (λ c κs. search needs) returns find-requires (λ c. search needs) put-held-requires (λ c. search needs)
     (λ c κs. search needs) returns-2 returns-3)

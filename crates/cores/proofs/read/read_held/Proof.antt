@@ -7,7 +7,9 @@ use Rattle.cores.proofs.read.read_held.Statement.{statement}
 use Rattle.cores.proofs.read.read_held.Tie as tie
 
 returns : tie.Need-returns
-returns c = c .answer .ensures ∙ ap (λ (v : Reading). fetchedAs v (c .before .before .before .args .t)) (c .before .reading .ensures ∙ ap reading (c .before .before .entry-at .ensures))
+returns c =
+    c .answer .ensures ∙ ap (λ (v : Reading). fetchedAs v (c .before .before .before .args .t))
+    (c .before .reading .ensures ∙ ap reading (c .before .before .entry-at .ensures))
 
 pub read-held-spec : {M : Type 1} → statement M
 read-held-spec = tie.close (tie.spec (λ c κs. search needs) (λ c κs. search needs) (λ c κs. search needs) returns)

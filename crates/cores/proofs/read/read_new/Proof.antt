@@ -10,7 +10,8 @@ returns : tie.Need-returns
 returns c =
     let a = c .before .before .before .before .before .args in
     outcome-refused (toFetched (a .t)) (a .records .now) (a .coordinator .now) 9
-    (read-full (a .t) (a .clock) (a .records .now) (a .coordinator .now) (a .i) (c .before .before .before .before .before .pre) (c .before .if1 .taken)) (c .refusal .ensures)
+    (read-full (a .t) (a .clock) (a .records .now) (a .coordinator .now) (a .i) (c .before .before .before .before .before .pre) (c .before .if1 .taken))
+    (c .refusal .ensures)
 
 recover-requires : tie.Need-recover-requires
 recover-requires c κs =
@@ -20,10 +21,12 @@ recover-requires c κs =
 returns-2 : tie.Need-returns-2
 returns-2 c =
     let a = c .before .before .before .before .before .before .before .before .before .before .before .before .before .before .args in
-    read-outcome (a .t) (a .clock) (a .records .now) (a .coordinator .now) (a .i) (c .before .before .before .before .before .before .before .before .before .before .before .before .before .before .pre) _ _ (c .before .before .before .before .before .before .before .before .before .before .if1 .left) (c .before .before .before .before .before .before .before .recover .ensures) (c .before .record-at .ensures) (c .read-met .ensures)
+    read-outcome (a .t) (a .clock) (a .records .now) (a .coordinator .now) (a .i)
+    (c .before .before .before .before .before .before .before .before .before .before .before .before .before .before .pre) _ _
+    (c .before .before .before .before .before .before .before .before .before .before .if1 .left)
+    (c .before .before .before .before .before .before .before .recover .ensures) (c .before .record-at .ensures) (c .read-met .ensures)
 
 pub read-new-spec : {M : Type 1} → statement M
 read-new-spec =
-    tie.close
-    (tie.spec (λ c κs. search needs) returns recover-requires (λ c κs. search needs) (λ c κs. search needs) (λ c. search needs) (λ c. search needs)
-    returns-2)
+    tie.close (tie.spec (λ c κs. search needs) returns recover-requires (λ c κs. search needs) (λ c κs. search needs) (λ c. search needs)
+    (λ c. search needs) returns-2)

@@ -11,8 +11,9 @@ use Rattle.cores.proofs.visit.visit.Tie as tie
 returns : tie.Need-returns
 returns c =
     let a = c .before .before .before .before .before .args in
+    let s = sheetsOf (a .records .now) (a .coordinator .now) in
     outcome-refused toVisited (a .records .now) (a .coordinator .now) 5
-    (visit-out (a .key) (a .clock) (sheetsOf (a .records .now) (a .coordinator .now)) (sym (c .before .before .key-in-range .ensures) ∙ not-true _ (c .before .if1 .taken))) (c .refusal .ensures)
+    (visit-out (a .key) (a .clock) s (sym (c .before .before .key-in-range .ensures) ∙ not-true _ (c .before .if1 .taken))) (c .refusal .ensures)
 
 find-requires : tie.Need-find-requires
 find-requires c κs =
@@ -21,21 +22,27 @@ find-requires c κs =
 visit-line-requires : tie.Need-visit-line-requires
 visit-line-requires c κs =
     let a = c .before .before .before .before .before .before .before .before .before .before .before .args in
-    standing (a .records .now) (a .coordinator .now) (a .key) _ (c .before .before .before .before .before .before .before .before .before .before .before .pre) (sym (c .before .before .before .before .before .find .ensures) ∙ c .before .before .before .i .given .1)
+    standing (a .records .now) (a .coordinator .now) (a .key) _
+    (c .before .before .before .before .before .before .before .before .before .before .before .pre)
+    (sym (c .before .before .before .before .before .find .ensures) ∙ c .before .before .before .i .given .1)
 
 returns-2 : tie.Need-returns-2
 returns-2 c =
     let a = c .before .before .before .before .before .before .before .before .before .before .before .before .before .before .before .before .args in
-    visit-found (a .key) (a .clock) (a .records .now) (a .coordinator .now) _ (sym (c .before .before .before .before .before .before .before .before .before .before .find .ensures) ∙ c .before .before .before .before .before .before .before .before .i .given .1) (c .before .before .before .before .visit-line .ensures)
+    visit-found (a .key) (a .clock) (a .records .now) (a .coordinator .now) _
+    (sym (c .before .before .before .before .before .before .before .before .before .before .find .ensures) ∙
+    c .before .before .before .before .before .before .before .before .i .given .1) (c .before .before .before .before .visit-line .ensures)
 
 returns-3 : tie.Need-returns-3
 returns-3 c =
     let a = c .before .before .before .before .before .before .before .before .before .args in
+    let s = sheetsOf (a .records .now) (a .coordinator .now) in
     outcome-refused toVisited (a .records .now) (a .coordinator .now) 6
-    (visit-none (a .key) (a .clock) (sheetsOf (a .records .now) (a .coordinator .now)) (sym (c .before .before .before .before .before .before .key-in-range .ensures) ∙ not-false _ (c .before .before .before .before .before .if1 .left)) (sym (c .before .before .before .find .ensures) ∙ c .before .enum-told .given .1)) (c .refusal2 .ensures)
+    (visit-none (a .key) (a .clock) s
+    (sym (c .before .before .before .before .before .before .key-in-range .ensures) ∙ not-false _ (c .before .before .before .before .before .if1 .left))
+    (sym (c .before .before .before .find .ensures) ∙ c .before .enum-told .given .1)) (c .refusal2 .ensures)
 
 pub visit-spec : {M : Type 1} → statement M
 visit-spec =
-    tie.close
-    (tie.spec (λ c κs. search needs) (λ c κs. search needs) returns find-requires (λ c. search needs) visit-line-requires (λ c. search needs)
-    (λ c κs. search needs) (λ c. search needs) (λ c. search needs) returns-2 (λ c. search needs) returns-3)
+    tie.close (tie.spec (λ c κs. search needs) (λ c κs. search needs) returns find-requires (λ c. search needs) visit-line-requires
+    (λ c. search needs) (λ c κs. search needs) (λ c. search needs) (λ c. search needs) returns-2 (λ c. search needs) returns-3)

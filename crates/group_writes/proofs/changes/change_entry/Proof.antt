@@ -13,7 +13,8 @@ change-line-requires c κs = c .before .before .before .pre .accepted
 returns-2 : tie.Need-returns-2
 returns-2 c =
     let a = c .before .before .before .before .before .before .args in
-    turned-own (a .c) (a .n) (a .e) (a .records .now) (a .own) (a .index) _ (not-false _ (c .before .before .before .before .if1 .left)) (c .before .before .before .before .before .before .pre) (c .before .before .change-line .ensures)
+    turned-own (a .c) (a .n) (a .e) (a .records .now) (a .own) (a .index) _ (not-false _ (c .before .before .before .before .if1 .left))
+    (c .before .before .before .before .before .before .pre) (c .before .before .change-line .ensures)
 
 pub change-entry-spec : {M : Type 1} → statement M
 change-entry-spec = tie.close (tie.spec returns change-line-requires (λ c. search needs) returns-2)

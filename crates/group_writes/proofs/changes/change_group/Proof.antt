@@ -26,13 +26,21 @@ change-entry-requires : tie.Need-change-entry-requires Inv-loop μ-loop
 change-entry-requires c κs =
     record {
       accepted = c .before .before .before .before .before .loop .inv .1 .accepted;
-      fit = λ h. turn-fits _ _ _ _ _ _ _ (c .before .before .before .before .before .loop .inv .1) (c .before .before .before .before .loop-test .taken) (sym (c .before .before .before .before .before .before .before .before .pre .grouped .own _ (c .before .before .before .before .loop-test .taken)) ∙ h);
+      fit =
+          λ h. turn-fits _ _ _ _ _ _ _ (c .before .before .before .before .before .loop .inv .1) (c .before .before .before .before .loop-test .taken)
+          (sym (c .before .before .before .before .before .before .before .before .pre .grouped .own _
+          (c .before .before .before .before .loop-test .taken)) ∙ h);
       there = c .before .before .before .before .before .loop .inv .1 .indexed .at _ (c .before .before .before .before .loop-test .taken);
     }
 
 loop-again : tie.Need-loop-again Inv-loop μ-loop
-loop-again c =
-    (omega arith, underway-next _ _ _ _ _ _ _ (c .before .before .before .before .before .before .before .before .loop .inv .1) (c .before .before .before .before .before .before .before .loop-test .taken) _ _ (c .before .before .before .before .before .before .before .before .before .before .before .pre .grouped .own _ (c .before .before .before .before .before .before .before .loop-test .taken)) (c .before .before .change-entry .ensures))
+loop-again c = (
+  omega arith,
+  underway-next _ _ _ _ _ _ _ (c .before .before .before .before .before .before .before .before .loop .inv .1)
+      (c .before .before .before .before .before .before .before .loop-test .taken) _ _
+      (c .before .before .before .before .before .before .before .before .before .before .before .pre .grouped .own _
+      (c .before .before .before .before .before .before .before .loop-test .taken)) (c .before .before .change-entry .ensures),
+)
 
 same-length : tie.Need-same-length Inv-loop μ-loop
 same-length c = c .before .loop .inv .0
@@ -46,6 +54,5 @@ returns c =
 
 pub change-group-spec : {M : Type 1} → statement M
 change-group-spec =
-    tie.close
-    (tie.spec Inv-loop μ-loop (λ c. search needs) loop-holds (λ c. search needs) (λ c. search needs) (λ c. search needs) (λ c. search needs)
+    tie.close (tie.spec Inv-loop μ-loop (λ c. search needs) loop-holds (λ c. search needs) (λ c. search needs) (λ c. search needs) (λ c. search needs)
     (λ c. search needs) (λ c. search needs) change-entry-requires (λ c. search needs) (λ c. search needs) loop-again same-length returns)

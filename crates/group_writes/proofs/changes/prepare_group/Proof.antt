@@ -6,7 +6,8 @@ use Rattle.group_writes.proofs.changes.prepare_group.Statement.{stateme
 use Rattle.group_writes.proofs.changes.prepare_group.Tie as tie
 
 change-group-requires : tie.Need-change-group-requires
-change-group-requires c κs = may-prepare _ _ _ _ (c .before .before .before .pre .0) _ (omega (arith, c .before .before .before .fits)) (c .before .before .before .pre .1)
+change-group-requires c κs =
+    may-prepare _ _ _ _ (c .before .before .before .pre .0) _ (omega (arith, c .before .before .before .fits)) (c .before .before .before .pre .1)
 
 returns : tie.Need-returns
 unfolding written

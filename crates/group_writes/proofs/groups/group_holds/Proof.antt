@@ -22,18 +22,30 @@ loop-holds : tie.Need-loop-holds Inv-loop μ-loop
 loop-holds c = pass-first _ _ (c .before .before .good .1 .1 .0) (c .before .before .pre .body .few)
 
 entry-holds-requires : tie.Need-entry-holds-requires Inv-loop μ-loop
-entry-holds-requires c κs =
-    (accepted _ _ _ _ (c .before .before .before .before .before .before .before .pre), c .before .before .before .before .before .before .before .pre .indexed .at _ (c .before .before .before .loop-test .taken))
+entry-holds-requires c κs = (
+  accepted _ _ _ _ (c .before .before .before .before .before .before .before .pre),
+  c .before .before .before .before .before .before .before .pre .indexed .at _ (c .before .before .before .loop-test .taken),
+)
 
 returns : tie.Need-returns Inv-loop μ-loop
 returns c =
     let a = c .before .before .before .before .before .before .before .before .before .args in
-    all-unmet _ _ _ _ (c .before .before .before .before .before .before .loop .inv) (c .before .before .before .before .before .loop-test .taken) (ap (λ (b : Bool). not b || holds (sheetsOf (a .records .now) (a .coordinator .now)) (entryAt (a .t3) (c .before .before .before .before .before .before .loop .i))) (sym (c .before .before .before .before .before .before .before .before .before .pre .grouped .own _ (c .before .before .before .before .before .loop-test .taken))) ∙ (sym (c .before .entry-holds .ensures (a .coordinator .now)) ∙ not-true _ (c .if1 .taken))) ∙ group-all (a .records .now) (a .coordinator .now) (a .t3)
+    let s = sheetsOf (a .records .now) (a .coordinator .now) in
+    all-unmet _ _ _ _ (c .before .before .before .before .before .before .loop .inv) (c .before .before .before .before .before .loop-test .taken)
+    (ap (λ (b : Bool). not b || holds s (entryAt (a .t3) (c .before .before .before .before .before .before .loop .i)))
+    (sym (c .before .before .before .before .before .before .before .before .before .pre .grouped .own _
+    (c .before .before .before .before .before .loop-test .taken))) ∙
+    (sym (c .before .entry-holds .ensures (a .coordinator .now)) ∙ not-true _ (c .if1 .taken))) ∙ group-all (a .records .now) (a .coordinator .now) (a .t3)
 
 loop-again : tie.Need-loop-again Inv-loop μ-loop
 loop-again c =
     let a = c .before .before .before .before .before .before .before .before .before .args in
-    all-next _ _ _ _ (c .before .before .before .before .before .before .loop .inv) (c .before .before .before .before .before .loop-test .taken) (ap (λ (b : Bool). not b || holds (sheetsOf (a .records .now) (a .coordinator .now)) (entryAt (a .t3) (c .before .before .before .before .before .before .loop .i))) (sym (c .before .before .before .before .before .before .before .before .before .pre .grouped .own _ (c .before .before .before .before .before .loop-test .taken))) ∙ (sym (c .before .entry-holds .ensures (a .coordinator .now)) ∙ not-false _ (c .if1 .left)))
+    let s = sheetsOf (a .records .now) (a .coordinator .now) in
+    all-next _ _ _ _ (c .before .before .before .before .before .before .loop .inv) (c .before .before .before .before .before .loop-test .taken)
+    (ap (λ (b : Bool). not b || holds s (entryAt (a .t3) (c .before .before .before .before .before .before .loop .i)))
+    (sym (c .before .before .before .before .before .before .before .before .before .pre .grouped .own _
+    (c .before .before .before .before .before .loop-test .taken))) ∙
+    (sym (c .before .entry-holds .ensures (a .coordinator .now)) ∙ not-false _ (c .if1 .left)))
 
 returns-2 : tie.Need-returns-2 Inv-loop μ-loop
 returns-2 c =
@@ -42,6 +54,5 @@ returns-2 c =
 
 pub group-holds-spec : {M : Type 1} → statement M
 group-holds-spec =
-    tie.close
-    (tie.spec Inv-loop μ-loop (λ c. search needs) loop-holds (λ c. search needs) (λ c. search needs) (λ c. search needs) (λ c. search needs)
+    tie.close (tie.spec Inv-loop μ-loop (λ c. search needs) loop-holds (λ c. search needs) (λ c. search needs) (λ c. search needs) (λ c. search needs)
     (λ c. search needs) (λ c. search needs) entry-holds-requires returns (λ c. search needs) (λ c. search needs) loop-again returns-2)

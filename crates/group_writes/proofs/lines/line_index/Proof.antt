@@ -10,7 +10,10 @@ use Rattle.group_writes.proofs.lines.line_index.Tie as tie
 returns : tie.Need-returns
 returns c =
     let a = c .before .before .before .before .args in
-    c .count .ensures ∙ (sym (length-records (a .records .now)) ∙ index-none (a .key) (records (a .records .now)) (sym (found-in-range _ _ (c .before .before .before .before .pre) (sym (c .before .before .key-in-range .ensures) ∙ not-true _ (c .before .if1 .taken)))))
+    c .count .ensures ∙
+    (sym (length-records (a .records .now)) ∙ index-none (a .key) (records (a .records .now))
+    (
+    sym (found-in-range _ _ (c .before .before .before .before .pre) (sym (c .before .before .key-in-range .ensures) ∙ not-true _ (c .before .if1 .taken)))))
 
 find-requires : tie.Need-find-requires
 find-requires c κs = (c .before .before .before .pre, sym (c .before .key-in-range .ensures) ∙ not-false _ (c .if1 .left))
@@ -23,10 +26,11 @@ returns-2 c =
 returns-3 : tie.Need-returns-3
 returns-3 c =
     let a = c .before .before .before .before .before .before .before .args in
-    c .count2 .ensures ∙ (sym (length-records (a .records .now)) ∙ index-none (a .key) (records (a .records .now)) (sym (c .before .before .before .find .ensures) ∙ c .before .enum-told .given .1))
+    c .count2 .ensures ∙
+    (sym (length-records (a .records .now)) ∙ index-none (a .key) (records (a .records .now))
+    (sym (c .before .before .before .find .ensures) ∙ c .before .enum-told .given .1))
 
 pub line-index-spec : {M : Type 1} → statement M
 line-index-spec =
-    tie.close
-    (tie.spec (λ c κs. search needs) (λ c κs. search needs) returns find-requires (λ c. search needs) (λ c. search needs) (λ c κs. search needs)
-    returns-2 returns-3)
+    tie.close (tie.spec (λ c κs. search needs) (λ c κs. search needs) returns find-requires (λ c. search needs) (λ c. search needs)
+    (λ c κs. search needs) returns-2 returns-3)

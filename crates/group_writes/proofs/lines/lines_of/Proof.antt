@@ -13,7 +13,8 @@ use Rattle.group_writes.proofs.lines.lines_of.Tie as tie
 
 abbrev Inv-loop : tie.InvT-loop
 Inv-loop records t n count all₀ indices₀ i₀ all indices i =
-    PassedTo t (λ (es : List Entry). all && Each.all (λ (e : Entry). hasLine (e .key) (sheet.records records)) es) (linesHeld (sheet.records records) t) i × ((length indices ≡ 8) × (indices ≡ indicesOf (sheet.records records) t i))
+    PassedTo t (λ (es : List Entry). all && Each.all (λ (e : Entry). hasLine (e .key) (sheet.records records)) es) (linesHeld (sheet.records records) t) i
+    × ((length indices ≡ 8) × (indices ≡ indicesOf (sheet.records records) t i))
 
 abbrev μ-loop : tie.MeasureT-loop
 μ-loop records t n count all₀ indices₀ i₀ all indices i =
@@ -28,17 +29,26 @@ line-index-requires c κs = c .before .before .before .before .before .pre .0
 
 loop-again : tie.Need-loop-again Inv-loop μ-loop
 loop-again c =
-    let a = c .before .before .before .before .before .before .args in
-    (rw ((c .before .before .before .before .count .ensures ∙ sym (length-records (a .records .now)))) (lines-next (sheet.records (a .records .now)) (a .t2) (c .before .before .before .loop .all) _ (c .before .before .before .loop .i) (c .line-index .result) (c .before .before .loop-test .taken) (c .before .before .before .loop .inv .0) (c .line-index .ensures)), (length-set (c .before .before .before .loop .indices) (c .before .before .before .loop .i) _ ∙ c .before .before .before .loop .inv .1 .0, indices-next _ _ _ _ _ (c .before .before .before .loop .inv .1 .1) (c .line-index .ensures)))
+    let a = c .before .before .before .before .before .before .args in (
+      rw ((c .before .before .before .before .count .ensures ∙ sym (length-records (a .records .now))))
+          (lines-next (sheet.records (a .records .now)) (a .t2) (c .before .before .before .loop .all) _ (c .before .before .before .loop .i)
+          (c .line-index .result) (c .before .before .loop-test .taken) (c .before .before .before .loop .inv .0) (c .line-index .ensures)),
+      (
+        length-set (c .before .before .before .loop .indices) (c .before .before .before .loop .i) _ ∙ c .before .before .before .loop .inv .1 .0,
+        indices-next _ _ _ _ _ (c .before .before .before .loop .inv .1 .1) (c .line-index .ensures),
+      ),
+    )
 
 returns : tie.Need-returns Inv-loop μ-loop
 unfolding Each.all
 returns c =
-    let a = c .before .before .before .before .args in
-    (sym (and-true (c .before .loop .all)) ∙ pass-last _ _ _ _ (c .loop-test .left) (c .before .loop .inv .0), c .before .loop .inv .1 .1 ∙ ap (indicesOf (sheet.records (a .records .now)) (a .t2)) (omega (arith, c .before .loop .inv .0 .place, c .loop-test .left)))
+    let a = c .before .before .before .before .args in (
+      sym (and-true (c .before .loop .all)) ∙ pass-last _ _ _ _ (c .loop-test .left) (c .before .loop .inv .0),
+      c .before .loop .inv .1 .1 ∙
+          ap (indicesOf (sheet.records (a .records .now)) (a .t2)) (omega (arith, c .before .loop .inv .0 .place, c .loop-test .left)),
+    )
 
 pub lines-of-spec : {M : Type 1} → statement M
 lines-of-spec =
-    tie.close
-    (tie.spec Inv-loop μ-loop (λ c. search needs) (λ c κs. search needs) loop-holds (λ c. search needs) (λ c. search needs) line-index-requires
-    (λ c. search needs) (λ c. search needs) (λ c. search needs) (λ c. search needs) loop-again returns)
+    tie.close (tie.spec Inv-loop μ-loop (λ c. search needs) (λ c κs. search needs) loop-holds (λ c. search needs) (λ c. search needs)
+    line-index-requires (λ c. search needs) (λ c. search needs) (λ c. search needs) (λ c. search needs) loop-again returns)

@@ -34,7 +34,6 @@ returns c = read-last (c .before .before .before .before .args .lines .now) (c .
 
 pub fill-decisions-spec : {M : Type 1} → statement M
 fill-decisions-spec =
-    tie.close
-    (tie.spec Inv-loop μ-loop loop-holds (λ c. search needs) (λ c. search needs) (λ c. search needs) (λ c. search needs) (λ c. search needs)
+    tie.close (tie.spec Inv-loop μ-loop loop-holds (λ c. search needs) (λ c. search needs) (λ c. search needs) (λ c. search needs) (λ c. search needs)
     (λ c. search needs) read-row-requires (λ c. search needs) (λ c. search needs) slice-write-numbers (λ c. search needs) (λ c. search needs)
     loop-again same-length returns)

@@ -40,7 +40,6 @@ returns c = written-last (c .before .before .before .before .args .decisions .no
 
 pub fill-lines-spec : {M : Type 1} → statement M
 fill-lines-spec =
-    tie.close
-    (tie.spec Inv-loop μ-loop loop-holds (λ c. search needs) (λ c. search needs) (λ c. search needs) (λ c. search needs) (λ c. search needs)
+    tie.close (tie.spec Inv-loop μ-loop loop-holds (λ c. search needs) (λ c. search needs) (λ c. search needs) (λ c. search needs) (λ c. search needs)
     (λ c. search needs) (λ c. search needs) (λ c. search needs) (λ c. search needs) part-write-row-end write-row-requires (λ c. search needs)
     (λ c. search needs) loop-again same-length returns)

@@ -46,7 +46,6 @@ returns c =
 
 pub fill-numbers-spec : {M : Type 1} → statement M
 fill-numbers-spec =
-    tie.close
-    (tie.spec slice-aggregate-read-row slice-relend-prefix-read-row slice-aggregate-read-row-2 read-row-requires (λ c. search needs)
+    tie.close (tie.spec slice-aggregate-read-row slice-relend-prefix-read-row slice-aggregate-read-row-2 read-row-requires (λ c. search needs)
     (λ c. search needs) (λ c. search needs) sub-fill-decisions-2 part-fill-decisions-start-2 (λ c. search needs) fill-decisions-requires same-length
     returns)

@@ -46,6 +46,5 @@ returns c =
 
 pub fill-sheet-spec : {M : Type 1} → statement M
 fill-sheet-spec =
-    tie.close
-    (tie.spec slice-aggregate-write-row slice-relend-prefix-write-row slice-aggregate-write-row-2 write-row-requires (λ c. search needs)
+    tie.close (tie.spec slice-aggregate-write-row slice-relend-prefix-write-row slice-aggregate-write-row-2 write-row-requires (λ c. search needs)
     (λ c. search needs) (λ c. search needs) sub-fill-lines-2 part-fill-lines-start-2 (λ c. search needs) fill-lines-requires same-length returns)

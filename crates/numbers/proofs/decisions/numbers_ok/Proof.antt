@@ -47,6 +47,5 @@ returns-6 c =
 
 pub numbers-ok-spec : {M : Type 1} → statement M
 numbers-ok-spec =
-    tie.close
-    (tie.spec returns slice-aggregate-row-good row-good-requires returns-2 (λ c. search needs) returns-3 returns-4 (λ c. search needs)
+    tie.close (tie.spec returns slice-aggregate-row-good row-good-requires returns-2 (λ c. search needs) returns-3 returns-4 (λ c. search needs)
     (λ c κs. search needs) returns-5 (λ c. search needs) (λ c. search needs) (λ c. search needs) (λ c κs. search needs) returns-6)

@@ -29,5 +29,4 @@ returns-3 c =
 
 pub read-coordinator-spec : {M : Type 1} → statement M
 read-coordinator-spec =
-    tie.close
-    (tie.spec (λ c κs. search needs) add-if1 returns (λ c κs. search needs) returns-2 fill-numbers-requires (λ c. search needs) returns-3)
+    tie.close (tie.spec (λ c κs. search needs) add-if1 returns (λ c κs. search needs) returns-2 fill-numbers-requires (λ c. search needs) returns-3)

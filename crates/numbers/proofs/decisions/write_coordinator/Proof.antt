@@ -28,6 +28,5 @@ returns-3 c =
 
 pub write-coordinator-spec : {M : Type 1} → statement M
 write-coordinator-spec =
-    tie.close
-    (tie.spec (λ c κs. search needs) (λ c. search needs) returns (λ c κs. search needs) (λ c. search needs) returns-2 fill-sheet-requires
+    tie.close (tie.spec (λ c κs. search needs) (λ c. search needs) returns (λ c κs. search needs) (λ c. search needs) returns-2 fill-sheet-requires
     (λ c. search needs) returns-3)

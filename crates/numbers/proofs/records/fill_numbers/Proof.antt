@@ -52,7 +52,6 @@ returns c =
 
 pub fill-numbers-spec : {M : Type 1} → statement M
 fill-numbers-spec =
-    tie.close
-    (tie.spec Inv-loop μ-loop loop-holds (λ c. search needs) (λ c. search needs) (λ c. search needs) (λ c. search needs) (λ c. search needs)
+    tie.close (tie.spec Inv-loop μ-loop loop-holds (λ c. search needs) (λ c. search needs) (λ c. search needs) (λ c. search needs) (λ c. search needs)
     (λ c. search needs) (λ c. search needs) (λ c. search needs) (λ c. search needs) (λ c. search needs) part-read-row-end-2 read-row-requires
     (λ c. search needs) (λ c. search needs) loop-again same-length returns)

@@ -53,7 +53,6 @@ returns c =
 
 pub fill-records-spec : {M : Type 1} → statement M
 fill-records-spec =
-    tie.close
-    (tie.spec Inv-loop μ-loop loop-holds (λ c. search needs) (λ c. search needs) (λ c. search needs) (λ c. search needs) (λ c. search needs)
+    tie.close (tie.spec Inv-loop μ-loop loop-holds (λ c. search needs) (λ c. search needs) (λ c. search needs) (λ c. search needs) (λ c. search needs)
     (λ c. search needs) (λ c. search needs) (λ c. search needs) (λ c. search needs) (λ c. search needs) part-write-row-end-2 write-row-requires
     (λ c. search needs) (λ c. search needs) loop-again same-length returns)

@@ -29,6 +29,5 @@ returns-3 c = judge-last (c .before .before .before .args .numbers .now) (c .bef
 
 pub rows-pass-spec : {M : Type 1} → statement M
 rows-pass-spec =
-    tie.close
-    (tie.spec Inv-loop μ-loop loop-holds (λ c κs. search needs) returns (λ c κs. search needs) returns-2 (λ c. search needs) (λ c. search needs)
-    loop-again returns-3)
+    tie.close (tie.spec Inv-loop μ-loop loop-holds (λ c κs. search needs) returns (λ c κs. search needs) returns-2 (λ c. search needs)
+    (λ c. search needs) loop-again returns-3)

@@ -30,7 +30,6 @@ returns c =
 
 pub groups-of-spec : {M : Type 1} → statement M
 groups-of-spec =
-    tie.close
-    (tie.spec (λ c. search needs) (λ c. search needs) (λ c. search needs) (λ c. search needs) (λ c. search needs) (λ c κs. search needs)
+    tie.close (tie.spec (λ c. search needs) (λ c. search needs) (λ c. search needs) (λ c. search needs) (λ c. search needs) (λ c κs. search needs)
     (λ c. search needs) (λ c. search needs) (λ c. search needs) (λ c κs. search needs) (λ c. search needs) (λ c. search needs) part-groups-by-end
     (λ c. search needs) (λ c. search needs) part-groups-by-end-2 (λ c κs. search needs) returns)

@@ -24,6 +24,5 @@ returns c = count-rows-last _ _ _ _ _ _ (c .before .loop .inv) (c .loop-test .le
 
 pub counted-spec : {M : Type 1} → statement M
 counted-spec =
-    tie.close
-    (tie.spec Inv-loop μ-loop loop-holds (λ c. search needs) (λ c. search needs) tally-requires (λ c. search needs) (λ c. search needs) loop-again
-    returns)
+    tie.close (tie.spec Inv-loop μ-loop loop-holds (λ c. search needs) (λ c. search needs) tally-requires (λ c. search needs) (λ c. search needs)
+    loop-again returns)

@@ -52,6 +52,5 @@ returns c =
 
 pub fill-fields-spec : {M : Type 1} → statement M
 fill-fields-spec =
-    tie.close
-    (tie.spec Inv-loop μ-loop (λ c. search needs) loop-holds (λ c. search needs) (λ c. search needs) (λ c κs. search needs) (λ c. search needs)
-    slice-write-fields (λ c. search needs) (λ c. search needs) loop-again same-length returns)
+    tie.close (tie.spec Inv-loop μ-loop (λ c. search needs) loop-holds (λ c. search needs) (λ c. search needs) (λ c κs. search needs)
+    (λ c. search needs) slice-write-fields (λ c. search needs) (λ c. search needs) loop-again same-length returns)

@@ -14,5 +14,5 @@ returns c = five-set (c .args .numbers .now) _ _ _ _ _ (c .pre)
 
 pub fill-key-spec : {M : Type 1} → statement M
 fill-key-spec =
-    tie.close
-    (tie.spec (λ c. search needs) (λ c. search needs) (λ c. search needs) (λ c. search needs) slice-write-numbers-5 (λ c. search needs) returns)
+    tie.close (tie.spec (λ c. search needs) (λ c. search needs) (λ c. search needs) (λ c. search needs) slice-write-numbers-5 (λ c. search needs)
+    returns)

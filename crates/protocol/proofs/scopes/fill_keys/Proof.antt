@@ -49,7 +49,6 @@ returns c =
 
 pub fill-keys-spec : {M : Type 1} → statement M
 fill-keys-spec =
-    tie.close
-    (tie.spec Inv-loop μ-loop (λ c. search needs) loop-holds (λ c. search needs) (λ c. search needs) (λ c. search needs) (λ c. search needs)
+    tie.close (tie.spec Inv-loop μ-loop (λ c. search needs) loop-holds (λ c. search needs) (λ c. search needs) (λ c. search needs) (λ c. search needs)
     (λ c. search needs) (λ c. search needs) (λ c. search needs) part-fill-key-end fill-key-requires (λ c. search needs) (λ c. search needs) loop-again
     same-length returns)

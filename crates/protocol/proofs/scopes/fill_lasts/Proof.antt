@@ -62,7 +62,6 @@ returns c =
 
 pub fill-lasts-spec : {M : Type 1} → statement M
 fill-lasts-spec =
-    tie.close
-    (tie.spec Inv-loop μ-loop loop-holds (λ c. search needs) (λ c. search needs) (λ c. search needs) part-last-fields-start part-last-fields-end
-    (λ c. search needs) (λ c. search needs) part-last-fields-start-2 part-last-fields-end-2 last-fields-requires (λ c. search needs) slice-write-lasts
-    (λ c. search needs) (λ c. search needs) loop-again same-length returns)
+    tie.close (tie.spec Inv-loop μ-loop loop-holds (λ c. search needs) (λ c. search needs) (λ c. search needs) part-last-fields-start
+    part-last-fields-end (λ c. search needs) (λ c. search needs) part-last-fields-start-2 part-last-fields-end-2 last-fields-requires
+    (λ c. search needs) slice-write-lasts (λ c. search needs) (λ c. search needs) loop-again same-length returns)

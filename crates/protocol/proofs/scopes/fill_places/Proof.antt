@@ -60,7 +60,6 @@ returns c =
 
 pub fill-places-spec : {M : Type 1} → statement M
 fill-places-spec =
-    tie.close
-    (tie.spec Inv-loop μ-loop loop-holds (λ c. search needs) (λ c. search needs) (λ c. search needs) (λ c. search needs) (λ c. search needs)
+    tie.close (tie.spec Inv-loop μ-loop loop-holds (λ c. search needs) (λ c. search needs) (λ c. search needs) (λ c. search needs) (λ c. search needs)
     part-place-of-start part-place-of-end place-of-requires (λ c. search needs) slice-write-places (λ c. search needs) (λ c. search needs) loop-again
     same-length returns)

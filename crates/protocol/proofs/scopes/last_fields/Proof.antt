@@ -46,7 +46,6 @@ returns-2 c =
 
 pub last-fields-spec : {M : Type 1} → statement M
 last-fields-spec =
-    tie.close
-    (tie.spec Inv-loop μ-loop shared-slice-read-f loop-holds (λ c. search needs) (λ c. search needs) (λ c. search needs) (λ c. search needs)
+    tie.close (tie.spec Inv-loop μ-loop shared-slice-read-f loop-holds (λ c. search needs) (λ c. search needs) (λ c. search needs) (λ c. search needs)
     (λ c. search needs) part-same-first-start part-same-first-end same-first-requires returns (λ c. search needs) (λ c. search needs) loop-again
     returns-2)

@@ -41,6 +41,6 @@ returns-2 c = rw (le-ltb _ _ (c .before .before .if1 .left)) (count-rows-last _ 
 
 pub place-of-spec : {M : Type 1} → statement M
 place-of-spec =
-    tie.close
-    (tie.spec Inv-loop μ-loop returns loop-holds (λ c. search needs) (λ c. search needs) (λ c. search needs) (λ c. search needs) (λ c. search needs)
-    part-less-first-start part-less-first-end less-first-requires tally-requires (λ c. search needs) (λ c. search needs) loop-again returns-2)
+    tie.close (tie.spec Inv-loop μ-loop returns loop-holds (λ c. search needs) (λ c. search needs) (λ c. search needs) (λ c. search needs)
+    (λ c. search needs) part-less-first-start part-less-first-end less-first-requires tally-requires (λ c. search needs) (λ c. search needs)
+    loop-again returns-2)

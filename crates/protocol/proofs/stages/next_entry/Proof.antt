@@ -22,6 +22,5 @@ returns-3 c = let e : isEmpty (puts (c .before .before .before .before .before .
 
 pub next-entry-spec : {M : Type 1} → statement M
 next-entry-spec =
-    tie.close
-    (tie.spec (λ c κs. search needs) add-next (λ c κs. search needs) returns (λ c κs. search needs) (λ c κs. search needs) returns-2
+    tie.close (tie.spec (λ c κs. search needs) add-next (λ c κs. search needs) returns (λ c κs. search needs) (λ c κs. search needs) returns-2
     (λ c κs. search needs) returns-3)

@@ -28,6 +28,5 @@ returns-2 c = any-last _ _ _ _ (c .before .loop .inv) (c .loop-test .left) ∙ s
 
 pub has-puts-spec : {M : Type 1} → statement M
 has-puts-spec =
-    tie.close
-    (tie.spec Inv-loop μ-loop (λ c. search needs) loop-holds (λ c. search needs) (λ c. search needs) returns (λ c. search needs) (λ c. search needs)
-    loop-again returns-2)
+    tie.close (tie.spec Inv-loop μ-loop (λ c. search needs) loop-holds (λ c. search needs) (λ c. search needs) returns (λ c. search needs)
+    (λ c. search needs) loop-again returns-2)

@@ -42,7 +42,6 @@ returns-2 c = distinct-last _ _ _ (c .before .loop .inv) (c .loop-test .left)
 
 pub distinct-keys-spec : {M : Type 1} → statement M
 distinct-keys-spec =
-    tie.close
-    (tie.spec Inv-loop2 μ-loop2 Inv-loop μ-loop (λ c. search needs) loop-holds (λ c. search needs) (λ c. search needs) (λ c. search needs) loop2-holds
-    (λ c. search needs) (λ c. search needs) (λ c κs. search needs) returns (λ c. search needs) (λ c. search needs) loop2-again (λ c. search needs)
-    (λ c. search needs) loop-again returns-2)
+    tie.close (tie.spec Inv-loop2 μ-loop2 Inv-loop μ-loop (λ c. search needs) loop-holds (λ c. search needs) (λ c. search needs) (λ c. search needs)
+    loop2-holds (λ c. search needs) (λ c. search needs) (λ c κs. search needs) returns (λ c. search needs) (λ c. search needs) loop2-again
+    (λ c. search needs) (λ c. search needs) loop-again returns-2)

@@ -27,6 +27,5 @@ returns-2 c = all-last _ _ _ _ (c .before .loop .inv) (c .loop-test .left)
 
 pub entries-formed-spec : {M : Type 1} → statement M
 entries-formed-spec =
-    tie.close
-    (tie.spec Inv-loop μ-loop (λ c. search needs) loop-holds (λ c. search needs) (λ c. search needs) (λ c κs. search needs) returns
+    tie.close (tie.spec Inv-loop μ-loop (λ c. search needs) loop-holds (λ c. search needs) (λ c. search needs) (λ c κs. search needs) returns
     (λ c. search needs) (λ c. search needs) loop-again returns-2)

@@ -25,5 +25,4 @@ returns c =
 
 pub formed-spec : {M : Type 1} → statement M
 formed-spec =
-    tie.close
-    (tie.spec entries-formed-requires distinct-keys-requires phase-formed-requires place-formed-requires (λ c κs. search needs) returns)
+    tie.close (tie.spec entries-formed-requires distinct-keys-requires phase-formed-requires place-formed-requires (λ c κs. search needs) returns)

@@ -43,5 +43,4 @@ returns-9 c = phase-none _ _ _ _ _ _ _ _ _ _ (c .match .rest)
 
 pub place-formed-spec : {M : Type 1} → statement M
 place-formed-spec =
-    tie.close
-    (tie.spec (λ c κs. search needs) returns returns-2 returns-3 returns-4 returns-5 returns-6 returns-7 returns-8 returns-9)
+    tie.close (tie.spec (λ c κs. search needs) returns returns-2 returns-3 returns-4 returns-5 returns-6 returns-7 returns-8 returns-9)

@@ -8,5 +8,4 @@ slice-aggregate-text c = simp length-take (omega arith)
 
 pub part-spec : {M : Type 1} → statement M
 part-spec =
-    tie.close
-    (tie.spec (λ c. search needs) (λ c. search needs) (λ c κs. search needs) slice-aggregate-text (λ c κs. search needs) (λ c. search needs))
+    tie.close (tie.spec (λ c. search needs) (λ c. search needs) (λ c κs. search needs) slice-aggregate-text (λ c κs. search needs) (λ c. search needs))

@@ -27,6 +27,5 @@ returns-5 c = none-named _ _ _ _ _ _ _ _ _ (sym (c .before .before .before .befo
 
 pub other-slot-kind-spec : {M : Type 1} → statement M
 other-slot-kind-spec =
-    tie.close
-    (tie.spec (λ c. search needs) (λ c κs. search needs) returns (λ c. search needs) (λ c κs. search needs) returns-2 (λ c. search needs)
+    tie.close (tie.spec (λ c. search needs) (λ c κs. search needs) returns (λ c. search needs) (λ c κs. search needs) returns-2 (λ c. search needs)
     (λ c κs. search needs) returns-3 (λ c. search needs) (λ c κs. search needs) returns-4 returns-5)

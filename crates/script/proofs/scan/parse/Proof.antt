@@ -15,5 +15,4 @@ returns c = let s = c .before .before .before .before .before .before .args .lin
 
 pub parse-spec : {M : Type 1} → statement M
 parse-spec =
-    tie.close
-    (tie.spec (λ c κs. search needs) slice-aggregate-kind-of (λ c κs. search needs) (λ c κs. search needs) (λ c κs. search needs) returns)
+    tie.close (tie.spec (λ c κs. search needs) slice-aggregate-kind-of (λ c κs. search needs) (λ c κs. search needs) (λ c κs. search needs) returns)

@@ -53,6 +53,5 @@ returns-2 c =
 
 pub find-line-spec : {M : Type 1} → statement M
 find-line-spec =
-    tie.close
-    (tie.spec Inv-loop μ-loop Inv-lines μ-lines lines-holds (λ c. search needs) loop-holds (λ c. search needs) same-field-requires (λ c. search needs)
-    (λ c. search needs) lines-again (λ c. search needs) loop-again returns returns-2)
+    tie.close (tie.spec Inv-loop μ-loop Inv-lines μ-lines lines-holds (λ c. search needs) loop-holds (λ c. search needs) same-field-requires
+    (λ c. search needs) (λ c. search needs) lines-again (λ c. search needs) loop-again returns returns-2)

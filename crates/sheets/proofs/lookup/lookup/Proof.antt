@@ -48,7 +48,6 @@ returns-4 c =
 
 pub lookup-spec : {M : Type 1} → statement M
 lookup-spec =
-    tie.close
-    (tie.spec (λ c κs. search needs) (λ c. search needs) returns (λ c κs. search needs) (λ c. search needs) returns-2 find-requires
+    tie.close (tie.spec (λ c κs. search needs) (λ c. search needs) returns (λ c κs. search needs) (λ c. search needs) returns-2 find-requires
     (λ c. search needs) mul-at add-end (λ c. search needs) (λ c. search needs) part-result-end (λ c. search needs) (λ c. search needs) returns-3
     returns-4)

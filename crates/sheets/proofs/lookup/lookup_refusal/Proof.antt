@@ -29,6 +29,5 @@ returns-4 c =
 
 pub lookup-refusal-spec : {M : Type 1} → statement M
 lookup-refusal-spec =
-    tie.close
-    (tie.spec (λ c κs. search needs) returns (λ c κs. search needs) returns-2 find-requires (λ c. search needs) (λ c. search needs) returns-3
-    returns-4)
+    tie.close (tie.spec (λ c κs. search needs) returns (λ c κs. search needs) returns-2 find-requires (λ c. search needs) (λ c. search needs)
+    returns-3 returns-4)

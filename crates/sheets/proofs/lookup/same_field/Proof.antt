@@ -46,6 +46,5 @@ returns c =
 
 pub same-field-spec : {M : Type 1} → statement M
 same-field-spec =
-    tie.close
-    (tie.spec (λ c. search needs) (λ c. search needs) (λ c. search needs) (λ c. search needs) (λ c. search needs) add-a add-e sub-same part-same-start
-    part-same-end sub-same-2 part-same-start-2 part-same-end-2 (λ c κs. search needs) returns)
+    tie.close (tie.spec (λ c. search needs) (λ c. search needs) (λ c. search needs) (λ c. search needs) (λ c. search needs) add-a add-e sub-same
+    part-same-start part-same-end sub-same-2 part-same-start-2 part-same-end-2 (λ c κs. search needs) returns)

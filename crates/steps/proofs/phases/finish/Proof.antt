@@ -15,7 +15,10 @@ next-group-requires c κs = let p = c .before .before .before .before .before .b
 
 returns : tie.Need-returns
 unfolding finishStep decisionsAfter
-returns c = wrote-lines _ _ _ refl (coordinator-accepted _ _ _ _ (c .before .before .before .before .before .before .before .pre .0)) _ _ _ (c .next-group .ensures _ (c .before .before .before .before .before .before .before .pre .0 .grouped .count)) (c .before .before .before .forward-group .ensures)
+returns c =
+    wrote-lines _ _ _ refl (coordinator-accepted _ _ _ _ (c .before .before .before .before .before .before .before .pre .0)) _ _ _
+    (c .next-group .ensures _ (c .before .before .before .before .before .before .before .pre .0 .grouped .count))
+    (c .before .before .before .forward-group .ensures)
 
 pub finish-spec : {M : Type 1} → statement M
 finish-spec = tie.close (tie.spec forward-group-requires next-group-requires (λ c. search needs) returns)

@@ -11,19 +11,24 @@ group-holds-requires : tie.Need-group-holds-requires
 group-holds-requires c κs = may-write _ _ _ _ (c .before .before .before .pre)
 
 commit-group-requires : tie.Need-commit-group-requires
-commit-group-requires c κs = (may-write _ _ _ _ (c .before .before .before .before .before .before .pre), sym (c .before .before .group-holds .ensures) ∙ c .before .if1 .taken)
+commit-group-requires c κs =
+    (may-write _ _ _ _ (c .before .before .before .before .before .before .pre), sym (c .before .before .group-holds .ensures) ∙ c .before .if1 .taken)
 
 returns : tie.Need-returns
 unfolding decisionsAfter
-returns c = stepped-as (one-phase-commits _ _ (sym (c .before .before .before .before .before .before .group-holds .ensures) ∙ c .before .before .before .before .before .if1 .taken))
-    (wrote-lines _ _ _ refl (coordinator-accepted _ _ _ _ (c .before .before .before .before .before .before .before .before .before .before .pre)) _ _ _ (c .commits .ensures) (c .before .before .before .commit-group .ensures))
+returns c =
+    stepped-as
+    (one-phase-commits _ _
+    (sym (c .before .before .before .before .before .before .group-holds .ensures) ∙ c .before .before .before .before .before .if1 .taken))
+    (wrote-lines _ _ _ refl (coordinator-accepted _ _ _ _ (c .before .before .before .before .before .before .before .before .before .before .pre)) _ _ _
+    (c .commits .ensures) (c .before .before .before .commit-group .ensures))
 
 returns-2 : tie.Need-returns-2
 returns-2 c = stepped-as (one-phase-fails _ _ (sym (c .before .before .group-holds .ensures) ∙ c .before .if1 .left))
-    (wrote-nothing _ _ (records-accepted _ _ _ _ (c .before .before .before .before .before .before .pre)) (coordinator-accepted _ _ _ _ (c .before .before .before .before .before .before .pre)) _ _ (c .to-phase .ensures))
+    (wrote-nothing _ _ (records-accepted _ _ _ _ (c .before .before .before .before .before .before .pre))
+    (coordinator-accepted _ _ _ _ (c .before .before .before .before .before .before .pre)) _ _ (c .to-phase .ensures))
 
 pub one-phase-spec : {M : Type 1} → statement M
 one-phase-spec =
-    tie.close
-    (tie.spec group-holds-requires commit-group-requires (λ c κs. search needs) (λ c. search needs) returns (λ c κs. search needs) (λ c. search needs)
-    returns-2)
+    tie.close (tie.spec group-holds-requires commit-group-requires (λ c κs. search needs) (λ c. search needs) returns (λ c κs. search needs)
+    (λ c. search needs) returns-2)

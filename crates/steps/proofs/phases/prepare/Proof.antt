@@ -15,13 +15,19 @@ group-holds-requires c κs = may-write _ _ _ _ (c .before .before .before .pre .
 
 returns : tie.Need-returns
 returns c = stepped-as (prepare-fails _ _ _ (sym (c .before .before .group-holds .ensures) ∙ not-true _ (c .before .if1 .taken)))
-    (wrote-nothing _ _ (records-accepted _ _ _ _ (c .before .before .before .before .before .before .pre .0)) (coordinator-accepted _ _ _ _ (c .before .before .before .before .before .before .pre .0)) _ _ (c .to-phase .ensures))
+    (wrote-nothing _ _ (records-accepted _ _ _ _ (c .before .before .before .before .before .before .pre .0))
+    (coordinator-accepted _ _ _ _ (c .before .before .before .before .before .before .pre .0)) _ _ (c .to-phase .ensures))
 
 prepare-group-requires : tie.Need-prepare-group-requires
-prepare-group-requires c κs = (may-write _ _ _ _ (c .before .before .before .before .before .before .pre .0), sym (c .before .before .group-holds .ensures) ∙ not-false _ (c .before .if1 .left))
+prepare-group-requires c κs = (
+  may-write _ _ _ _ (c .before .before .before .before .before .before .pre .0),
+  sym (c .before .before .group-holds .ensures) ∙ not-false _
+      (c .before .if1 .left),
+)
 
 part-after-prepare-end : tie.Need-part-after-prepare-end
-part-after-prepare-end c = omega (arith, accepted-length _ (coordinator-accepted _ _ _ _ (c .before .before .before .before .before .before .before .before .before .pre .0)))
+part-after-prepare-end c =
+    omega (arith, accepted-length _ (coordinator-accepted _ _ _ _ (c .before .before .before .before .before .before .before .before .before .pre .0)))
 
 after-prepare-requires : tie.Need-after-prepare-requires
 after-prepare-requires c κs = few _ _ _ _ (c .before .before .before .before .before .before .before .before .before .before .pre .0)
@@ -35,13 +41,17 @@ returns-2 : tie.Need-returns-2
 unfolding decisionsAfter
 returns-2 c =
     let a = c .before .before .before .before .before .before .before .before .before .before .before .before .args in
+    let s = sheetsOf (a .records .now) (a .coordinator .now) in
     let p = c .before .before .before .before .before .before .before .before .before .before .before .before .pre .0 in
-    stepped-as (prepare-writes _ _ _ (sym (c .before .before .before .before .before .before .before .before .group-holds .ensures) ∙ not-false _ (c .before .before .before .before .before .before .before .if1 .left)))
+    stepped-as
+    (prepare-writes _ _ _
+    (sym (c .before .before .before .before .before .before .before .before .group-holds .ensures) ∙ not-false _
+    (c .before .before .before .before .before .before .before .if1 .left)))
     (wrote-lines _ _ _ refl (coordinator-accepted _ _ _ _ p) _ _ _
-    (c .next-group .ensures _ (p .grouped .count) ∙ ap (λ (q : ℕ). nextGroup q (a .t) (sheetsOf (a .records .now) (a .coordinator .now))) (rw (units _ _ _ _ p) at (c .before .after-prepare .ensures))) (c .before .before .before .before .before .prepare-group .ensures))
+    (c .next-group .ensures _ (p .grouped .count) ∙ ap (λ (q : ℕ). nextGroup q (a .t) s) (rw (units _ _ _ _ p) at (c .before .after-prepare .ensures)))
+    (c .before .before .before .before .before .prepare-group .ensures))
 
 pub prepare-spec : {M : Type 1} → statement M
 prepare-spec =
-    tie.close
-    (tie.spec group-holds-requires (λ c κs. search needs) (λ c. search needs) returns prepare-group-requires (λ c. search needs) (λ c. search needs)
-    part-after-prepare-end after-prepare-requires next-group-requires (λ c. search needs) returns-2)
+    tie.close (tie.spec group-holds-requires (λ c κs. search needs) (λ c. search needs) returns prepare-group-requires (λ c. search needs)
+    (λ c. search needs) part-after-prepare-end after-prepare-requires next-group-requires (λ c. search needs) returns-2)

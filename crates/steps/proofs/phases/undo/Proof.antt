@@ -15,7 +15,10 @@ next-group-requires c κs = let p = c .before .before .before .before .before .b
 
 returns : tie.Need-returns
 unfolding undoStep decisionsAfter
-returns c = wrote-lines _ _ _ refl (coordinator-accepted _ _ _ _ (c .before .before .before .before .before .before .before .pre .0)) _ _ _ (c .next-group .ensures _ (c .before .before .before .before .before .before .before .pre .0 .grouped .count)) (c .before .before .before .back-group .ensures)
+returns c =
+    wrote-lines _ _ _ refl (coordinator-accepted _ _ _ _ (c .before .before .before .before .before .before .before .pre .0)) _ _ _
+    (c .next-group .ensures _ (c .before .before .before .before .before .before .before .pre .0 .grouped .count))
+    (c .before .before .before .back-group .ensures)
 
 pub undo-spec : {M : Type 1} → statement M
 undo-spec = tie.close (tie.spec back-group-requires next-group-requires (λ c. search needs) returns)

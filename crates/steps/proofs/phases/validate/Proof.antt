@@ -20,14 +20,21 @@ index-of-requires c κs = few _ _ _ _ (c .before .before .before .before .before
 
 holds-requires : tie.Need-holds-requires
 holds-requires c κs =
-    let p = c .before .before .before .before .before .before .pre in
-    (records-accepted _ _ _ _ (p .0), indexed-in _ _ _ _ (p .0 .indexed) (rw (c .before .before .to-validate .ensures, units _ _ _ _ (p .0)) (validate-held _ _ (place-validate _ _ _ _ (p .0) (p .1)))) ∙ ap At (sym (c .index-of .ensures)))
+    let p = c .before .before .before .before .before .before .pre in (
+      records-accepted _ _ _ _ (p .0),
+      indexed-in _ _ _ _ (p .0 .indexed)
+          (rw (c .before .before .to-validate .ensures, units _ _ _ _ (p .0)) (validate-held _ _ (place-validate _ _ _ _ (p .0) (p .1)))) ∙ ap At
+          (sym (c .index-of .ensures)),
+    )
 
 returns : tie.Need-returns
 returns c =
     let a = c .before .before .before .before .before .before .before .before .before .args in
     let p = c .before .before .before .before .before .before .before .before .before .pre .0 in
-    stepped-as (validate-fails _ _ (rw (c .before .before .before .before .before .to-validate .ensures, units _ _ _ _ p) at (sym (c .before .before .holds .ensures (a .coordinator .now)) ∙ not-true _ (c .before .if1 .taken))))
+    stepped-as
+    (validate-fails _ _
+    (rw (c .before .before .before .before .before .to-validate .ensures, units _ _ _ _ p) at
+    (sym (c .before .before .holds .ensures (a .coordinator .now)) ∙ not-true _ (c .before .if1 .taken))))
     (wrote-nothing _ _ (records-accepted _ _ _ _ p) (coordinator-accepted _ _ _ _ p) _ _ (c .to-phase .ensures))
 
 next-entry-requires : tie.Need-next-entry-requires
@@ -39,11 +46,13 @@ returns-2 : tie.Need-returns-2
 returns-2 c =
     let a = c .before .before .before .before .before .before .before .before .before .args in
     let p = c .before .before .before .before .before .before .before .before .before .pre .0 in
-    stepped-as (validate-passes _ _ (rw (c .before .before .before .before .before .to-validate .ensures, units _ _ _ _ p) at (sym (c .before .before .holds .ensures (a .coordinator .now)) ∙ not-false _ (c .before .if1 .left))))
+    stepped-as
+    (validate-passes _ _
+    (rw (c .before .before .before .before .before .to-validate .ensures, units _ _ _ _ p) at
+    (sym (c .before .before .holds .ensures (a .coordinator .now)) ∙ not-false _ (c .before .if1 .left))))
     (wrote-nothing _ _ (records-accepted _ _ _ _ p) (coordinator-accepted _ _ _ _ p) _ _ (rw (units _ _ _ _ p) at (c .next-entry .ensures)))
 
 pub validate-spec : {M : Type 1} → statement M
 validate-spec =
-    tie.close
-    (tie.spec (λ c. search needs) (λ c. search needs) part-letters-end to-validate-requires index-of-requires holds-requires (λ c κs. search needs)
-    returns next-entry-requires returns-2)
+    tie.close (tie.spec (λ c. search needs) (λ c. search needs) part-letters-end to-validate-requires index-of-requires holds-requires
+    (λ c κs. search needs) returns next-entry-requires returns-2)

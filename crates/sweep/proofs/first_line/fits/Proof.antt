@@ -24,6 +24,5 @@ returns-3 c =
 
 pub fits-spec : {M : Type 1} → statement M
 fits-spec =
-    tie.close
-    (tie.spec returns (λ c κs. search needs) returns-2 (λ c κs. search needs) records-from-requires (λ c. search needs) (λ c. search needs)
+    tie.close (tie.spec returns (λ c κs. search needs) returns-2 (λ c κs. search needs) records-from-requires (λ c. search needs) (λ c. search needs)
     (λ c. search needs) returns-3)

@@ -40,6 +40,5 @@ returns-2 c =
 
 pub refusal-spec : {M : Type 1} → statement M
 refusal-spec =
-    tie.close
-    (tie.spec (λ c κs. search needs) returns numbers-requires records-from-requires sub-check part-check-start (λ c. search needs) (λ c. search needs)
-    (λ c. search needs) part-check-end-2 (λ c κs. search needs) returns-2)
+    tie.close (tie.spec (λ c κs. search needs) returns numbers-requires records-from-requires sub-check part-check-start (λ c. search needs)
+    (λ c. search needs) (λ c. search needs) part-check-end-2 (λ c κs. search needs) returns-2)

@@ -34,6 +34,5 @@ returns c = pass-last _ _ _ (c .before .loop .i) (omega (arith, c .loop-test .le
 
 pub pass-spec : {M : Type 1} → statement M
 pass-spec =
-    tie.close
-    (tie.spec Inv-loop μ-loop (λ c κs. search needs) loop-holds visit-line-requires (λ c. search needs) (λ c. search needs) loop-again same-length
-    same-length-2 returns)
+    tie.close (tie.spec Inv-loop μ-loop (λ c κs. search needs) loop-holds visit-line-requires (λ c. search needs) (λ c. search needs) loop-again
+    same-length same-length-2 returns)

@@ -30,5 +30,4 @@ returns c = sweep-last _ _ _ (c .before .loop .turn) (omega (arith, c .loop-test
 
 pub sweep-spec : {M : Type 1} → statement M
 sweep-spec =
-    tie.close
-    (tie.spec Inv-loop μ-loop loop-holds pass-requires (λ c. search needs) (λ c. search needs) loop-again same-length same-length-2 returns)
+    tie.close (tie.spec Inv-loop μ-loop loop-holds pass-requires (λ c. search needs) (λ c. search needs) loop-again same-length same-length-2 returns)
