@@ -20,10 +20,10 @@ use Rattle.model.specs.ByteCalls.{sheetsOf}
 use Rattle.call_laws.specs.Choices.{not-first, by-phase-of}
 use Rattle.call_laws.specs.Transactions.{well-formed-parts}
 use Rattle.call_laws.specs.Accepted.{Accepted}
-use Rattle.protocol.specs.Formed.{headFormed, head-few, formed-not}
-use Rattle.protocol.specs.Units.{unitsIn, units-said}
-use Rattle.protocol.specs.Held.{tallied-kept, tallied-few}
-use Rattle.protocol.specs.GroupsIn.{groups-few}
+use Rattle.well_formed.specs.Formed.{headFormed, head-few, formed-not}
+use Rattle.transactions.specs.Units.{unitsIn, units-said}
+use Rattle.transactions.specs.Held.{tallied-kept, tallied-few}
+use Rattle.put_groups.specs.GroupsIn.{groups-few}
 use Rattle.group_writes.specs.declared.lines.Located.{Located}
 use Rattle.group_writes.specs.Located.{locatedIn, Indexed, Grouped, indexed-all, grouped-in}
 use Rattle.admission.specs.declared.Admitted.{Admitted}

@@ -8,8 +8,6 @@ ghost use Rattle.call_laws.specs.Accepted.{Accepted};
 ghost use Rattle.admission.specs.Admission.{nowhere, admitted, admittingOpen};
 use group_writes::lines;
 use group_writes::lines::Located;
-use protocol::groups;
-use protocol::well_formed;
 use types::Key;
 use types::Transaction;
 
@@ -44,7 +42,7 @@ pub fn admit(t: Transaction, records: &[u8], coordinator: &[u8]) -> Admitted
         return ill_formed();
     }
     let letters = &coordinator[5..14];
-    let found = groups::groups_of(letters, t);
+    let found = put_groups::groups_of(letters, t);
     if !well_formed::formed(letters, found.count, issued, t) {
         return ill_formed();
     }

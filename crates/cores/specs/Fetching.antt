@@ -15,7 +15,7 @@ use Rattle.model.specs.Results.{read, Answer, answered, refused, unless}
 use Rattle.model.specs.Conditions.{isNew, conditions}
 use Rattle.model.specs.Calls.{holding, readNew, outcome, result}
 use Rattle.model.specs.ByteCalls.{sheetsOf}
-use Rattle.protocol.specs.Held.{entryAt}
+use Rattle.transactions.specs.Held.{entryAt}
 use Rattle.call_laws.specs.Places.{found-at}
 use Rattle.call_laws.specs.Accepted.{Outcome, outcome-made, Accepted, written-nothing, unless-front, unless-past}
 use Rattle.recover.specs.Recovering.{lineAt, Standing, standing, Recovered, recovered-line, unlessBusy, outcome-met}

@@ -10,7 +10,7 @@ use Rattle.model.specs.WellFormed.{columnsInRange}
 use Rattle.model.specs.Results.{put, Answer, returned, Result, refused, made, unless}
 use Rattle.model.specs.Conditions.{isNew, heldEntry, conditions}
 use Rattle.model.specs.Calls.{afterPut, outcome, result}
-use Rattle.protocol.specs.Held.{entryAt}
+use Rattle.transactions.specs.Held.{entryAt}
 use Rattle.call_laws.specs.Accepted.{unless-front, unless-past}
 use Rattle.admission.specs.Admission.{admittingOpen}
 

@@ -8,7 +8,6 @@ ghost use Rattle.call_laws.specs.Accepted.{Accepted};
 ghost use Rattle.cores.specs.Answers.{toReturned};
 use crate::Returned;
 use crate::refusal;
-use protocol::transactions;
 use types::Transaction;
 
 // Refusal 4: a transaction that is withdrawn or decided can't be given up.

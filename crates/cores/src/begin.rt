@@ -15,7 +15,7 @@ use crate::Returned;
 pub fn refusal(n: u32) -> Returned
     ensures { λ r. ⌜ r ≡ toBegun (refused n) ⌝ }
 {
-    crate::refusal(n, protocol::transactions::new_transaction(0, false))
+    crate::refusal(n, transactions::new_transaction(0, false))
 }
 
 // Every line of the coordinator sheet has its number issued.
@@ -36,7 +36,7 @@ pub fn begin(serializable: bool, coordinator: &mut [u8]) -> Returned
     }
     let n = issued + 1;
     codec::coordinator::set_issued(coordinator, n);
-    let transaction = protocol::transactions::new_transaction(n, serializable);
+    let transaction = transactions::new_transaction(n, serializable);
     Returned {
         refusal: 0,
         transaction,

@@ -9,7 +9,6 @@ ghost use Rattle.cores.specs.Answers.{toReturned};
 ghost use Rattle.cores.specs.Putting.{putHeld, putAt};
 use crate::Returned;
 use crate::refusal;
-use protocol::transactions;
 use types::Columns;
 use types::Entry;
 use types::Found;
@@ -45,7 +44,7 @@ fn put_held(t: Transaction, key: Key, columns: Columns) -> Returned
     requires { ⌜ t .count ≤ 8 ⌝ }
     ensures { λ r. ⌜ r ≡ toReturned t (putHeld t key columns) ⌝ }
 {
-    if !protocol::well_formed::columns_in_range(columns) {
+    if !well_formed::columns_in_range(columns) {
         return refusal(7, t);
     }
     match transactions::held_at(key, t) {

@@ -7,7 +7,7 @@ use Rattle.model.specs.Coordinator.{coordinatorOf}
 use Rattle.model.specs.Transactions.{held}
 use Rattle.model.specs.Steps.{holds, groupAt}
 use Rattle.model.specs.ByteCalls.{sheetsOf}
-use Rattle.protocol.specs.Groups.{inGroup, group-held}
+use Rattle.put_groups.specs.Groups.{inGroup, group-held}
 
 -- the entry is of the group, by the units that the coordinator sheet says
 abbrev pub ofGroup : List ℕ → Transaction → Entry → Bool

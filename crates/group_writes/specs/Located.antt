@@ -18,9 +18,9 @@ use Rattle.sheet_laws.specs.Search.{some-found, first-at, first-map}
 use Rattle.call_laws.specs.Entries.{getD-first}
 use Rattle.call_laws.specs.Keys.{same-key, hasKey}
 use Rattle.call_laws.specs.Places.{found-at}
-use Rattle.protocol.specs.Held.{PassedTo, entryAt, after, held-below, has-room, pass-next}
-use Rattle.protocol.specs.Groups.{inGroup}
-use Rattle.protocol.specs.GroupsIn.{groupsIn, in-group-at}
+use Rattle.transactions.specs.Held.{PassedTo, entryAt, after, held-below, has-room, pass-next}
+use Rattle.put_groups.specs.Groups.{inGroup}
+use Rattle.put_groups.specs.GroupsIn.{groupsIn, in-group-at}
 use Rattle.group_writes.specs.declared.lines.Located.{Located}
 
 -- eight indices that say nothing

@@ -22,7 +22,7 @@ use Rattle.model.specs.ByteCalls.{sheetsOf}
 use Rattle.sheet_laws.specs.Records.{sheet-written-read}
 use Rattle.call_laws.specs.Keys.{hasKey, kept-key}
 use Rattle.call_laws.specs.Places.{atKey}
-use Rattle.protocol.specs.Held.{PassedTo, entryAt, after, pass-first, pass-here, pass-next, pass-last}
+use Rattle.transactions.specs.Held.{PassedTo, entryAt, after, pass-first, pass-here, pass-next, pass-last}
 use Rattle.group_writes.specs.declared.changes.Effect.{Effect}
 use Rattle.group_writes.specs.Groups.{ofGroup, groupIn, group-in}
 use Rattle.group_writes.specs.Changes.{changed, changed-key, written, lines-none, lines-first, at-key-kept, fits, fits-elsewhere, wrote-line}

@@ -11,7 +11,6 @@ ghost use Rattle.model.specs.ByteCalls.{sheetsOf};
 ghost use Rattle.types.specs.declared.Found.the-variants.{At};
 ghost use Rattle.group_writes.specs.Located.{lineIndex, indicesOf, indexIn};
 use codec::reading;
-use protocol::transactions;
 use sheets::lookup;
 use types::Entry;
 use types::Found;

@@ -1,17 +1,55 @@
 // Meeting a line: what a visit of it comes to, and what it writes. A visit reads only the fields that it needs, and rolls a line by moving its bytes.
 ghost use mathlib.Core.Path.{_≡_};
-ghost use mathlib.Core.Bool.{true};
+ghost use mathlib.Core.Bool.{true, _&&_, cond};
+ghost use lib.Dec.{leb};
 ghost use Rattle.model.specs.Records.{recordsAccepted};
 ghost use Rattle.model.specs.Coordinator.{coordinatorOf};
+ghost use Rattle.model.specs.Images as model;
+ghost use Rattle.model.specs.Images.{byDecision};
 ghost use Rattle.model.specs.Visits.{meeting, recoveryWrite};
 ghost use Rattle.call_laws.specs.Accepted.{Written};
+ghost use Rattle.types.specs.declared.Recovery.the-variants.{Forward, Back, Again, Busy};
 ghost use Rattle.recover.specs.Recovering.{lineAt, Standing, Pending, Recovered};
 use codec::coordinator;
 use codec::reading;
 use codec::settling;
-use protocol::images;
 use types::Decision;
 use types::Recovery;
+
+// The ticks since a clock reading, modulo 2^32.
+fn elapsed(now: u32, clock: u32) -> u32
+    ensures { λ t. ⌜ t ≡ model.elapsed now clock ⌝ }
+{
+    std::num::wrapping_sub_u32(now, clock)
+}
+
+// A clock gone back lands at 2^31 or above and never expires.
+fn has_expired(now: u32, clock: u32) -> bool
+    ensures { λ b. ⌜ b ≡ (leb 15000 (model.elapsed now clock) && leb (model.elapsed now clock) 2147483647) ⌝ }
+{
+    let ticks = elapsed(now, clock);
+    (15000 <= ticks) & (ticks <= 2147483647)
+}
+
+// A prepared line by its owner's decision. Undecided: expired, the visit comes again; otherwise the owner may still be at work.
+fn pending(owner: Decision, expired: bool) -> Recovery
+    ensures { λ v. ⌜ v ≡ byDecision owner (cond expired Again Busy) Forward Back ⌝ }
+{
+    match owner {
+        Decision::Committed => Recovery::Forward,
+        Decision::Aborted => Recovery::Back,
+        Decision::Undecided => undecided(expired),
+    }
+}
+
+fn undecided(expired: bool) -> Recovery
+    ensures { λ v. ⌜ v ≡ cond expired Again Busy ⌝ }
+{
+    if expired {
+        return Recovery::Again;
+    }
+    Recovery::Busy
+}
 
 // What a visit of line i comes to.
 fn meet(i: usize, clock: u32, records: &[u8], decisions: &[u8]) -> Recovery
@@ -22,8 +60,8 @@ fn meet(i: usize, clock: u32, records: &[u8], decisions: &[u8]) -> Recovery
         return Recovery::Stays;
     }
     let owner = coordinator::decision_at(decisions, reading::txid(records, i));
-    let expired = images::has_expired(clock, reading::clock(records, i));
-    images::pending(owner, expired)
+    let expired = has_expired(clock, reading::clock(records, i));
+    pending(owner, expired)
 }
 
 // What the visit writes: that line alone, or the decision of its owner.

@@ -295,7 +295,7 @@ fn entry(n: [u32; 14], t: Transaction) -> Done
             column2: n[13],
         },
     };
-    let transaction = protocol::transactions::with_entry(t.count, place as usize, e, t);
+    let transaction = transactions::with_entry(t.count, place as usize, e, t);
     let reply = ok();
     Done { transaction, reply }
 }

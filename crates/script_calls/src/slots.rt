@@ -21,7 +21,7 @@ pub struct Turn {
 pub fn empty() -> [Transaction; 16]
     ensures { λ r. ⌜ r ≡ replicate 16 (newTransaction 0 false) ⌝ }
 {
-    let t = protocol::transactions::new_transaction(0, false);
+    let t = transactions::new_transaction(0, false);
     [t; 16]
 }
 

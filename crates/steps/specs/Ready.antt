@@ -13,7 +13,7 @@ use Rattle.call_laws.specs.Keys.{hasKey, kept-key, same-key-refl}
 use Rattle.call_laws.specs.Transactions.{Body, Stage, well-formed-parts, place-at}
 use Rattle.model.specs.ByteHistories.{Passing}
 use Rattle.call_laws.specs.Lifting.{passing-parts}
-use Rattle.protocol.specs.Units.{unitsIn, units-said}
+use Rattle.transactions.specs.Units.{unitsIn, units-said}
 use Rattle.group_writes.specs.declared.lines.Located.{Located}
 use Rattle.group_writes.specs.Located.{Indexed, Grouped}
 use Rattle.group_writes.specs.Ready.{Ready as MayWrite}

@@ -11,8 +11,7 @@ use group_writes::changes;
 use group_writes::groups;
 use group_writes::lines;
 use group_writes::lines::Located;
-use protocol::stages;
-use protocol::transactions;
+use transactions::stages;
 use types::Decision;
 use types::Transaction;
 

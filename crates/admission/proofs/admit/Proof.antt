@@ -5,9 +5,9 @@ use Rattle.model.specs.Transactions.{puts}
 use Rattle.model.specs.Groups.{groupCount}
 use Rattle.model.specs.ByteCalls.{sheetsOf}
 use Rattle.sheet_laws.specs.Decisions.{accepted-length}
-use Rattle.protocol.specs.Units.{unitsIn, units-said}
-use Rattle.protocol.specs.Formed.{head-few, formed-not}
-use Rattle.protocol.specs.GroupsIn.{groupsIn}
+use Rattle.transactions.specs.Units.{unitsIn, units-said}
+use Rattle.well_formed.specs.Formed.{head-few, formed-not}
+use Rattle.put_groups.specs.GroupsIn.{groupsIn}
 use Rattle.admission.specs.Admission.{well-formed-few, well-formed-not, well-formed-lines, admitted-not, admitted-formed}
 use Rattle.admission.proofs.admit.Statement.{statement}
 use Rattle.admission.proofs.admit.Tie as tie

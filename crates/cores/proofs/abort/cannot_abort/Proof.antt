@@ -1,6 +1,6 @@
 -- By the phase.
 use Rattle.model.specs.Conditions.{cannotAbort}
-use Rattle.protocol.specs.Phases.{phase-none}
+use Rattle.transactions.specs.Phases.{phase-none}
 use Rattle.cores.proofs.abort.cannot_abort.Statement.{statement}
 use Rattle.cores.proofs.abort.cannot_abort.Tie as tie
 

@@ -1,6 +1,6 @@
 -- By the phase, and in each by what the own decision says.
 use Rattle.lists.specs.Basics.{needs}
-use Rattle.protocol.specs.Phases.{phase-none}
+use Rattle.transactions.specs.Phases.{phase-none}
 use Rattle.cores.specs.Advancing.{forbids}
 use Rattle.cores.proofs.advance.forbids.Statement.{statement}
 use Rattle.cores.proofs.advance.forbids.Tie as tie

@@ -4,7 +4,7 @@ use Rattle.lists.specs.Each.{all}
 use Rattle.model.specs.Transactions.{held}
 use Rattle.model.specs.Steps.{holds}
 use Rattle.model.specs.ByteCalls.{sheetsOf}
-use Rattle.protocol.specs.Held.{PassedTo, entryAt, pass-first, all-unmet, all-next, all-last}
+use Rattle.transactions.specs.Held.{PassedTo, entryAt, pass-first, all-unmet, all-next, all-last}
 use Rattle.group_writes.specs.Groups.{holdsInGroup, group-all}
 use Rattle.group_writes.specs.Ready.{accepted}
 use Rattle.group_writes.proofs.groups.group_holds.Statement.{statement}

@@ -1,6 +1,6 @@
 -- By the two cases of what is held.
 use Rattle.lists.specs.Basics.{sym, _∙_, arith, needs}
-use Rattle.protocol.specs.Held.{held-below}
+use Rattle.transactions.specs.Held.{held-below}
 use Rattle.group_writes.proofs.lines.index_of.Statement.{statement}
 use Rattle.group_writes.proofs.lines.index_of.Tie as tie
 

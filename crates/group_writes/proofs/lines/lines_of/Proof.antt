@@ -6,7 +6,7 @@ use Rattle.model.specs.Records as sheet
 use Rattle.model.specs.Records.{hasLine}
 use Rattle.model.specs.WellFormed.{linesHeld}
 use Rattle.sheet_laws.specs.Places.{length-records}
-use Rattle.protocol.specs.Held.{PassedTo, pass-first, pass-last}
+use Rattle.transactions.specs.Held.{PassedTo, pass-first, pass-last}
 use Rattle.group_writes.specs.Located.{indicesOf, indices-next, lines-next}
 use Rattle.group_writes.proofs.lines.lines_of.Statement.{statement}
 use Rattle.group_writes.proofs.lines.lines_of.Tie as tie

@@ -1,0 +1,10 @@
+-- Each number is bounded from above only.
+use Rattle.well_formed.specs.Formed.{image-ranged}
+use Rattle.well_formed.proofs.image_in_range.Statement.{statement}
+use Rattle.well_formed.proofs.image_in_range.Tie as tie
+
+returns : tie.Need-returns
+returns c = image-ranged (c .before .before .before .before .args .m)
+
+pub image-in-range-spec : {M : Type 1} → statement M
+image-in-range-spec = tie.close (tie.spec returns)

@@ -1,0 +1,90 @@
+-- Well-formedness in the order in which the code asks.
+use Rattle.lists.specs.Basics.{_≡_, refl, sym, ap, _∙_, ℕ, _+_, _≤_, _<_, eqb, leb, Bool, true, false, not, _&&_, _||_, and-assoc, and-true, List, arith}
+use Rattle.lists.specs.Basics.{leb-false, eq-eqb}
+use lib.Dec.{leb·zero}
+use Rattle.lists.specs.Tests.{tests}
+use Rattle.lists.specs.Each.{all, any}
+use Rattle.model.specs.Types.{Image, AtomicityUnit, Columns, Entry, Transaction}
+use Rattle.model.specs.Layouts.{recordLayout, imageLayout, columnsLayout}
+use Rattle.model.specs.Lines.{inRange, rowGood}
+use Rattle.model.specs.Records.{imageNumbers, isZero, sameKey}
+use Rattle.model.specs.Transactions.{validatePhase, decidePhase, isSerializable, isEmpty, held, puts}
+use Rattle.model.specs.WellFormed.{imageInRange, columnsInRange, entryFormed, distinctKeys, placeFormed, verdictFormed, formed}
+use Rattle.transactions.specs.Held.{PassedTo, entryAt, after, pass-here, pass-next, pass-last}
+
+-- Numbers that start at 0 are bounded from above only.
+
+pub columns-ranged : (c : Columns) → (leb (c .column1) 99999999 && leb (c .column2) 99999999) ≡ columnsInRange c
+unfolding columnsInRange columnsLayout imageLayout recordLayout rowGood inRange
+columns-ranged c = rw (leb·zero (c .column1), leb·zero (c .column2), and-true (leb (c .column2) 99999999))
+
+pub image-ranged : (m : Image) → (leb (m .version) 99999 && leb (m .txid) 999 && leb (m .column1) 99999999 && leb (m .column2) 99999999) ≡ imageInRange m
+unfolding imageInRange imageLayout recordLayout rowGood inRange imageNumbers
+image-ranged m =
+    rw (leb·zero (m .version), leb·zero (m .txid), leb·zero (m .column1), leb·zero (m .column2), and-true (leb (m .column2) 99999999))
+    (and-assoc (leb (m .version) 99999 && leb (m .txid) 999) (leb (m .column1) 99999999) (leb (m .column2) 99999999)
+    ∙ and-assoc (leb (m .version) 99999) (leb (m .txid) 999) (leb (m .column1) 99999999 && leb (m .column2) 99999999))
+
+-- a version that is not at least 1 is 0
+pub version-zero : (m : Image) → (leb 1 (m .version) || eqb (m .txid) 0 && eqb (m .column1) 0 && eqb (m .column2) 0) ≡ (leb 1 (m .version) || isZero m)
+unfolding isZero
+version-zero m = go (leb 1 (m .version)) refl
+  where
+    go : (b : Bool) → leb 1 (m .version) ≡ b → (leb 1 (m .version) || eqb (m .txid) 0 && eqb (m .column1) 0 && eqb (m .column2) 0) ≡ (leb 1 (m .version) || isZero m)
+    go true e = rw e
+    go false e = rw (e, eq-eqb (m .version) 0 (omega (arith, leb-false 1 (m .version) e)))
+
+-- Distinct keys.
+
+abbrev pub sameKeyAs : Entry → Entry → Bool
+sameKeyAs e f = sameKey (f .key) (e .key)
+
+module _ (t : Transaction) (w : Bool) (i : ℕ) (p : PassedTo t distinctKeys w i) where
+  pub distinct-not : i < t .count → any (sameKeyAs (entryAt t i)) (after t i) ≡ true → false ≡ w
+  unfolding distinctKeys
+  distinct-not l e = rw e at (pass-here t distinctKeys w i l p)
+
+  pub distinct-next : i < t .count → any (sameKeyAs (entryAt t i)) (after t i) ≡ false → PassedTo t distinctKeys w (i + 1)
+  unfolding distinctKeys
+  distinct-next l e = pass-next t distinctKeys distinctKeys w i l p (rw e)
+
+  pub distinct-last : t .count ≤ i → true ≡ w
+  unfolding distinctKeys
+  distinct-last l = pass-last t distinctKeys w i l p
+
+-- The whole.
+
+-- what is asked before the entries are looked at
+abbrev pub headFormed : ℕ → Transaction → Bool
+headFormed issued t = leb 1 (t .number) && leb (t .number) issued && leb (t .serializable) 1 && leb (t .count) 8
+
+-- "decide has a put", "only a checked one is in check"
+abbrev pub phaseFormed : Transaction → Bool
+phaseFormed t =
+    (not (eqb (t .phase) decidePhase) || not (isEmpty (puts t))) && (not (eqb (t .phase) validatePhase) || isSerializable t)
+
+pub head-few : (issued : ℕ) (t : Transaction) → headFormed issued t ≡ true → t .count ≤ 8
+head-few issued t h = search tests
+
+regroup : (h a d p v l r : Bool) → (h && (a && d && (p && v) && l && r)) ≡ (h && a && d && p && v && l && r)
+regroup false a d p v l r = refl
+regroup true a d p v l r = ap (λ (x : Bool). x && l && r) (sym (and-assoc (a && d) p v))
+
+-- what is asked of a transaction whose head is well formed
+abbrev restFormed : List AtomicityUnit → ℕ → Transaction → Bool
+restFormed us issued t =
+    all (entryFormed issued) (held t) && distinctKeys (held t) && phaseFormed t && placeFormed us t && verdictFormed t
+
+module _ (us : List AtomicityUnit) (issued : ℕ) (t : Transaction) where
+  in-order : (headFormed issued t && restFormed us issued t) ≡ formed us issued t
+  unfolding formed
+  in-order =
+      regroup (headFormed issued t) (all (entryFormed issued) (held t)) (distinctKeys (held t))
+      (not (eqb (t .phase) decidePhase) || not (isEmpty (puts t))) (not (eqb (t .phase) validatePhase) || isSerializable t)
+      (placeFormed us t) (verdictFormed t)
+
+  pub formed-not : headFormed issued t ≡ false → false ≡ formed us issued t
+  formed-not e = sym (ap (λ (b : Bool). b && restFormed us issued t) e) ∙ in-order
+
+  pub formed-rest : headFormed issued t ≡ true → restFormed us issued t ≡ formed us issued t
+  formed-rest e = sym (ap (λ (b : Bool). b && restFormed us issued t) e) ∙ in-order

@@ -1,0 +1,2 @@
+-- Well-formedness in the order in which the code asks.
+pub mod Formed
