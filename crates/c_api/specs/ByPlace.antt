@@ -1,7 +1,6 @@
 -- The call by place, from what the two functions that it calls ensure: where the place is listed, and where it isn't.
-use Rattle.lists.specs.Basics.{_≡_, refl, sym, ap, _∙_, ℕ, _+_, _≤_, eqb, Bool, true, false, cond, List, length, set, arith, ne-eqb}
+use Rattle.lists.specs.Basics.{_≡_, refl, sym, ap, _∙_, ℕ, _+_, _≤_, eqb, Bool, true, false, cond, List, length, set, arith, ne-eqb, all}
 use lib.Seq.{set-getD}
-use Rattle.lists.specs.Each.{all}
 use Rattle.model.specs.Types.{Transaction}
 use Rattle.model.specs.Refusals.{refusalOf, lastRefusal}
 use Rattle.model.specs.Results.{advance, Answer, Result, refused, made}

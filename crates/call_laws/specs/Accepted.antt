@@ -1,8 +1,7 @@
 -- What is known of two sheets once the check has let them pass, and what a call on such sheets answers and leaves, as one statement about its result: refused,
 -- or made with a write.
-use Rattle.lists.specs.Basics.{_≡_, refl, sym, ap, subst, _∙_, ℕ, _≤_, eqb, Bool, true, false, cond, List, [], _∷_, _++_, leb-true, ne-eqb}
-use Rattle.lists.specs.Each.{all}
-use Rattle.lists.specs.Tests.{and-fst, and-snd}
+use Rattle.lists.specs.Basics.{_≡_, refl, sym, ap, subst, _∙_, ℕ, _≤_, eqb, Bool, true, false, cond, List, [], _∷_, _++_, leb-true, ne-eqb, all, and-fst}
+use Rattle.lists.specs.Basics.{and-snd}
 use Rattle.model.specs.Types.{Record}
 use Rattle.model.specs.Records.{records, recordsText, recordsAccepted}
 use Rattle.model.specs.Coordinator.{Coordinator, coordinatorOf, coordinatorText, coordinatorAccepted}

@@ -1,9 +1,8 @@
 -- The call by place is the advance of the one named, wherever the list is not over 16 and has the place; elsewhere it is refused. The test of the
 -- place decides its first condition, and the others are those of the advance.
-use Rattle.lists.specs.Basics.{_≡_, refl, sym, ap, subst, _∙_, ℕ, _≤_, _<_, eqb, leb, ltb, Bool, true, false, List, length, length-set, ltb-true}
+use Rattle.lists.specs.Basics.{_≡_, refl, sym, ap, subst, _∙_, ℕ, _≤_, _<_, eqb, leb, ltb, Bool, true, false, List, length, length-set, ltb-true, all, and-snd}
+use Rattle.lists.specs.Basics.{choose-by}
 use lib.Seq.{getD-set-same, getD-set-other}
-use Rattle.lists.specs.Each.{all}
-use Rattle.lists.specs.Tests.{and-snd, choose-by}
 use Rattle.model.specs.Types.{Transaction}
 use Rattle.model.specs.Refusals.{refusalOf, countBefore, firstAsked}
 use Rattle.model.specs.SheetCalls.{checkConditions}

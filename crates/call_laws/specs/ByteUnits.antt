@@ -1,9 +1,8 @@
 -- T2 over bytes: a write to lines of one unit leaves the coordinator's bytes and the bytes of every other line; any other write leaves the record sheet's.
 -- Lines of a sheet that passes stand at multiples of their length, before and after, and a record that stays has the same text.
 use Rattle.lists.specs.Basics.{_≡_, refl, sym, ap, subst, _∙_, ℕ, _*_, _/_, _^_, _≤_, _<_, ltb, Bool, true, false, List, [], map, length, take, drop, getD}
-use Rattle.lists.specs.Basics.{length-map, drop-of-length-le, List·getD-map, arith, ltb-true, ltb-false}
+use Rattle.lists.specs.Basics.{length-map, drop-of-length-le, List·getD-map, arith, ltb-true, ltb-false, tests}
 use Rattle.lists.specs.All.{getD-any}
-use Rattle.lists.specs.Tests.{tests}
 use Rattle.model.specs.Types.{Record, At, Transaction}
 use Rattle.model.specs.Layouts.{recordBytes}
 use Rattle.model.specs.Records.{records, recordsText, recordIn, recordText, recordsGood, recordsAccepted, noRecord}

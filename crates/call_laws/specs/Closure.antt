@@ -1,9 +1,8 @@
 -- T4: after an accepted call the sheets are good and the transaction that it returns is well formed; after a refused one nothing has changed.
 use Rattle.lists.specs.Basics.{_≡_, refl, sym, ap, _∙_, ℕ, suc, _+_, _^_, _≤_, _<_, eqb, leb, Bool, true, false, not, _&&_, _||_, true≢false, List, length}
-use Rattle.lists.specs.Basics.{take, getD, set, some, Option·none-ne-some, arith, add-one, eqb-true, leb-false, le-leb, not-false}
-use Rattle.lists.specs.Each.{all}
+use Rattle.lists.specs.Basics.{take, getD, set, some, Option·none-ne-some, arith, add-one, eqb-true, leb-false, le-leb, not-false, all, and-both, choose-by}
+use Rattle.lists.specs.Basics.{tests}
 use Rattle.lists.specs.All.{all-at}
-use Rattle.lists.specs.Tests.{and-both, tests, choose-by}
 use Rattle.model.specs.Types.{Key, Record, AtomicityUnit, Found, Columns, Entry, Transaction, Recovery}
 use Rattle.types.specs.declared.Recovery.the-variants.{Stays, Forward, Back, Again, Busy}
 use Rattle.model.specs.Records.{isZero, sameKey, hasLine, lineOf, byFound}

@@ -1,9 +1,6 @@
 -- Entries held by a transaction: one more held, one replaced. Each goes by induction on the entries.
 use Rattle.lists.specs.Basics.{_≡_, refl, ap, ap₂, ℕ, zero, suc, _<_, Bool, true, false, not, _&&_, _||_, List, [], _∷_, length, take, getD, set, arith}
-use Rattle.lists.specs.Basics.{not-true}
-use Rattle.lists.specs.Each.{all, any}
-use Rattle.lists.specs.Chosen.{or-fst, or-snd}
-use Rattle.lists.specs.Tests.{and-fst, and-snd, and-both}
+use Rattle.lists.specs.Basics.{not-true, all, any, and-fst, and-snd, and-both, or-fst, or-snd}
 use Rattle.model.specs.Types.{Key, Entry}
 use Rattle.model.specs.Records.{sameKey}
 use Rattle.model.specs.WellFormed.{distinctKeys}

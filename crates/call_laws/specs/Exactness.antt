@@ -1,10 +1,8 @@
 -- T1: for each call the refusal given is the first of its row whose condition holds, in the order of asking, and after it both sheets are as they were.
 -- The first condition that holds is the first of the order, since each call's list keeps it.
 use Rattle.lists.specs.Basics.{_≡_, refl, sym, ap, _∙_, ℕ, _≤_, eqb, leb, Bool, true, false, not, _&&_, _||_, cond, List, [], _∷_, map, arith, eqb-true}
-use Rattle.lists.specs.Basics.{leb-true, eq-eqb, ne-eqb, le-leb}
-use Rattle.lists.specs.Each.{all, any}
+use Rattle.lists.specs.Basics.{leb-true, eq-eqb, ne-eqb, le-leb, all, any, and-fst, and-snd, and-both, choose-by}
 use Rattle.lists.specs.All.{map-map, all-map, all-weaken}
-use Rattle.lists.specs.Tests.{and-fst, and-snd, and-both, choose-by}
 use Rattle.model.specs.Refusals.{Condition, refuse, refusalOf, lastRefusal, askingOrder, countBefore, asked, noneBefore, firstAsked}
 use Rattle.model.specs.SheetCalls.{checkConditions}
 use Rattle.model.specs.Records.{lineOf}

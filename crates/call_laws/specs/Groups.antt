@@ -1,10 +1,9 @@
 -- Groups: keys whose groups have one place agree in the fields of their unit, and every put is in a group. The places count the scopes below, so that a
 -- scope below another has a lower place.
-use Rattle.lists.specs.Basics.{_≡_, refl, sym, ap, _∙_, ℕ, _<_, eqb, Bool, true, false, cond, List, [], _∷_, length, arith, eqb-true}
-use Rattle.lists.specs.Bytes.{eqList, eqList-refl}
-use Rattle.lists.specs.Each.{any, count, less}
+use Rattle.lists.specs.Basics.{_≡_, refl, sym, ap, _∙_, ℕ, _<_, eqb, Bool, true, false, cond, List, [], _∷_, length, arith, eqb-true, any, count, less, eqList}
+use Rattle.lists.specs.Basics.{eqList-refl, or-else, or-left, or-right}
 use Rattle.lists.specs.Order.{less-irrefl, less-trans, less-total}
-use Rattle.lists.specs.Chosen.{or-else, or-left, or-right, count-less, count-all}
+use Rattle.lists.specs.Chosen.{count-less, count-all}
 use Rattle.model.specs.Types.{Key, AtomicityUnit, Entry}
 use Rattle.model.specs.Records.{sameKey}
 use Rattle.model.specs.Groups.{scope, addScope, scopes, groupCount, groupPlace, group}

@@ -1,9 +1,7 @@
 -- A record that keeps the rules keeps them when it is prepared, committed in one phase, rolled forward or back; and what rolling a prepared record gives.
 -- Each goes part by part, the rule of the new state from that of the old.
 use Rattle.lists.specs.Basics.{_≡_, refl, sym, ap, _∙_, ℕ, _+_, _≤_, eqb, leb, Bool, true, false, _||_, cond, true≢false, arith, eqb-true, eqb-false, leb-true}
-use Rattle.lists.specs.Basics.{eq-eqb, ne-eqb, le-leb}
-use Rattle.lists.specs.Tests.{choose-by, and-both, tests}
-use Rattle.lists.specs.Chosen.{or-else, or-right}
+use Rattle.lists.specs.Basics.{eq-eqb, ne-eqb, le-leb, and-both, choose-by, tests, or-else, or-right}
 use Rattle.model.specs.Types.{Key, Image, Record, State}
 use Rattle.types.specs.declared.State.the-variants.{Absent, Committed, Prepared}
 use Rattle.model.specs.Records.{byState, isZero, absentRule, committedRule, preparedRule, stateRule, noImage}

@@ -1,8 +1,7 @@
 -- What a call must keep, and what a write leaves: units, keys, more numbers issued, and with them a transaction's rules.
 use Rattle.lists.specs.Basics.{_≡_, refl, sym, ap, subst, _∙_, ℕ, _≤_, _<_, eqb, leb, true, false, not, List, _∷_, some, Option·none-ne-some}
-use Rattle.lists.specs.Basics.{Option·some-injective, arith, eqb-true, eqb-false, leb-true, leb-false, le-leb, not-false}
+use Rattle.lists.specs.Basics.{Option·some-injective, arith, eqb-true, eqb-false, leb-true, leb-false, le-leb, not-false, tests}
 use Rattle.lists.specs.All.{all-weaken}
-use Rattle.lists.specs.Tests.{tests}
 use Rattle.model.specs.Types.{Key, AtomicityUnit, Entry, Transaction}
 use Rattle.model.specs.Records.{sameKey, hasLine, lineOf}
 use Rattle.model.specs.Coordinator.{Coordinator, withIssued}

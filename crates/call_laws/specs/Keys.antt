@@ -1,10 +1,7 @@
 -- Keys compared as numbers are equal as keys, and entries are found by their keys.
 use Rattle.lists.specs.Basics.{_≡_, refl, sym, ap, _∙_, Bool, true, false, _&&_, _||_, cond, true≢false, List, [], _∷_, none, some, Option·none-ne-some}
-use Rattle.lists.specs.Basics.{Option·some-injective}
-use Rattle.lists.specs.Bytes.{eqList-true, eqList-refl}
-use Rattle.lists.specs.Each.{all, any, filter}
-use Rattle.lists.specs.Chosen.{any-filter, any-weaken, or-else}
-use Rattle.lists.specs.Tests.{and-fst, and-snd}
+use Rattle.lists.specs.Basics.{Option·some-injective, all, any, filter, eqList-true, eqList-refl, and-fst, and-snd, or-else}
+use Rattle.lists.specs.Chosen.{any-filter, any-weaken}
 use Rattle.model.specs.Types.{Key, Entry}
 use Rattle.model.specs.Records.{keyNumbers, keyOf, sameKey}
 use Rattle.model.specs.Writes.{entryFor}

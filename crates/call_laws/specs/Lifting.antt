@@ -1,7 +1,5 @@
 -- The calls on bytes are the calls on decoded sheets: on accepted bytes the answer is the same, and what is written, encoded, says the sheets after the call.
-use Rattle.lists.specs.Basics.{_≡_, refl, sym, ap, subst, _∙_, ℕ, eqb, true, not, _&&_, cond, [], arith, not-false}
-use Rattle.lists.specs.Each.{all}
-use Rattle.lists.specs.Tests.{and-fst, and-snd, and-both}
+use Rattle.lists.specs.Basics.{_≡_, refl, sym, ap, subst, _∙_, ℕ, eqb, true, not, _&&_, cond, [], arith, not-false, all, and-fst, and-snd, and-both}
 use Rattle.model.specs.Records.{records, recordsText, recordsGood, recordsAccepted}
 use Rattle.model.specs.Lines.{linesSet}
 use Rattle.model.specs.Layouts.{recordLayout, recordBytes}

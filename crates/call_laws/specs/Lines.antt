@@ -1,10 +1,8 @@
 -- Lines by their keys: a write keeps keys, so that order and look-up stay; on a sheet in order the line of a record's key is that record.
-use Rattle.lists.specs.Basics.{_≡_, refl, sym, ap, ap₂, _∙_, ℕ, Bool, true, false, _&&_, _||_, cond, true≢false, List, [], _∷_, map, Option, none, some}
-use Rattle.lists.specs.Each.{all, any}
+use Rattle.lists.specs.Basics.{_≡_, refl, sym, ap, ap₂, _∙_, ℕ, Bool, true, false, _&&_, _||_, cond, true≢false, List, [], _∷_, map, Option, none, some, all}
+use Rattle.lists.specs.Basics.{any, and-fst, and-snd, and-both, choose-by, or-else, or-left, or-right, or-fst, or-snd}
 use Rattle.lists.specs.All.{map-unmoved}
 use Rattle.lists.specs.Order.{less-irrefl, less-trans}
-use Rattle.lists.specs.Tests.{and-fst, and-snd, and-both, choose-by}
-use Rattle.lists.specs.Chosen.{or-else, or-fst, or-snd, or-left, or-right}
 use Rattle.model.specs.Types.{Key, Record, Decision, Entry}
 use Rattle.model.specs.Records.{keyNumbers, keyLess, inOrder, rising, sameKey, found, hasLine, absentAt, lineOf}
 use Rattle.model.specs.Images.{preparedBy, prepared, committed, rolledForward, rolledBack, changeOf}

@@ -1,11 +1,8 @@
 -- Writes by place: the line of a key found on a sheet in order, replaced in the bytes, is the line of that key replaced on the decoded sheet; likewise a
 -- decision and the count of numbers issued.
 use Rattle.lists.specs.Basics.{_≡_, refl, sym, ap, ap₂, _∙_, ℕ, zero, suc, _*_, _/_, _≤_, _<_, Bool, true, false, cond, true≢false, List, [], _∷_, map, length}
-use Rattle.lists.specs.Basics.{take, drop, getD, set, arith, le-leb}
-use Rattle.lists.specs.Each.{any}
+use Rattle.lists.specs.Basics.{take, drop, getD, set, arith, le-leb, any, and-snd, and-both, or-left, or-right, or-fst, or-snd}
 use Rattle.lists.specs.Pieces.{over}
-use Rattle.lists.specs.Chosen.{or-left, or-right, or-fst, or-snd}
-use Rattle.lists.specs.Tests.{and-snd, and-both}
 use Rattle.decimal.specs.Field.{fieldText}
 use Rattle.model.specs.Types.{Key, Record, Decision, At}
 use Rattle.model.specs.Layouts.{recordBytes, coordinatorBytes}

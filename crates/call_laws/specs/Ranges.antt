@@ -1,6 +1,6 @@
 -- A record's ranges in parts: key, image, before image and clock. The layout is those of its parts one after another.
-use Rattle.lists.specs.Basics.{_≡_, refl, sym, ap, _∙_, ℕ, _≤_, leb, Bool, true, _&&_, and-assoc, List, [], _∷_, _++_, length, arith, le-leb}
-use Rattle.lists.specs.Tests.{and-fst, and-snd, and-both, tests}
+use Rattle.lists.specs.Basics.{_≡_, refl, sym, ap, _∙_, ℕ, _≤_, leb, Bool, true, _&&_, and-assoc, List, [], _∷_, _++_, length, arith, le-leb, and-fst, and-snd}
+use Rattle.lists.specs.Basics.{and-both, tests}
 use Rattle.model.specs.Types.{Image, Record, State, Column, StateWord}
 use Rattle.types.specs.declared.State.the-variants.{Absent, Committed, Prepared}
 use Rattle.model.specs.Layouts.{figures, word, recordLayout, keyLayout, imageLayout, columnsLayout, wordBytes}

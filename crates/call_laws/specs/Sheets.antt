@@ -1,9 +1,7 @@
 -- Sheets stay good under the writes that calls make: each line by the lemma of its image, order because keys are kept, the coordinator by its own rules.
 use Rattle.lists.specs.Basics.{_≡_, refl, sym, ap, subst, _∙_, ℕ, zero, suc, _+_, _≤_, _<_, true, false, true≢false, List, length, length-map, Option, none}
-use Rattle.lists.specs.Basics.{some, arith, add-one, le-leb}
-use Rattle.lists.specs.Each.{all}
+use Rattle.lists.specs.Basics.{some, arith, add-one, le-leb, all, and-fst, and-snd, and-both, choose-by, tests}
 use Rattle.lists.specs.All.{all-and, all-weaken, all-map}
-use Rattle.lists.specs.Tests.{and-fst, and-snd, and-both, tests, choose-by}
 use Rattle.model.specs.Types.{Key, Record, Decision, Entry}
 use Rattle.model.specs.Records.{goodAlone, rising, recordsGood, absentAt, lineOf}
 use Rattle.model.specs.Coordinator.{Coordinator, coordinatorGood, namesIssued, withDecision, withIssued}

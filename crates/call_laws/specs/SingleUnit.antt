@@ -1,9 +1,8 @@
 -- T2: whatever a call writes, it changes lines of one atomicity unit and leaves the coordinator alone, or it leaves the record sheet alone.
 -- A write of a group changes only lines whose keys are in it, and those agree in the fields of their unit; a visit changes one line.
-use Rattle.lists.specs.Basics.{_≡_, refl, sym, ap, _∙_, ℕ, Bool, true, false, cond, true≢false, and-false, List, [], _∷_, getD, Option, none}
-use Rattle.lists.specs.Each.{all, any}
-use Rattle.lists.specs.Chosen.{any-map, or-left}
-use Rattle.lists.specs.Tests.{choose-by}
+use Rattle.lists.specs.Basics.{_≡_, refl, sym, ap, _∙_, ℕ, Bool, true, false, cond, true≢false, and-false, List, [], _∷_, getD, Option, none, all, any}
+use Rattle.lists.specs.Basics.{choose-by, or-left}
+use Rattle.lists.specs.Chosen.{any-map}
 use Rattle.model.specs.Types.{Key, Record, Decision, AtomicityUnit, Entry, Transaction, Recovery}
 use Rattle.types.specs.declared.Decision.the-variants.{Committed, Aborted}
 use Rattle.types.specs.declared.Recovery.the-variants.{Stays, Forward, Back, Again, Busy}

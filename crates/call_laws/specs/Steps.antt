@@ -1,11 +1,9 @@
 -- T4 for an advance: what a step writes keeps good sheets good, and the transaction that it returns is well formed.
 -- Each phase is a walk of its definition; the facts that a write needs come from the conditions that held and the well-formed entries.
 use Rattle.lists.specs.Basics.{_≡_, sym, ap, subst, _∙_, ℕ, _+_, _≤_, leb, ltb, Bool, true, false, not, _&&_, _||_, length, getD, arith, eqb-true, ltb-true}
-use Rattle.lists.specs.Basics.{not-true}
-use Rattle.lists.specs.Each.{all}
+use Rattle.lists.specs.Basics.{not-true, all, and-fst, and-snd, choose-by, tests}
 use Rattle.lists.specs.All.{all-and}
 use Rattle.lists.specs.Chosen.{all-filter, filter-passes}
-use Rattle.lists.specs.Tests.{and-fst, and-snd, tests, choose-by}
 use Rattle.types.specs.declared.Decision.the-variants.{Committed, Aborted}
 use Rattle.model.specs.Types.{Key, Entry, Transaction}
 use Rattle.model.specs.Records.{hasLine, lineOf}

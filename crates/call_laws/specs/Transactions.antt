@@ -1,9 +1,6 @@
 -- A well-formed transaction in parts: its body, which no step changes, and its stage (phase, place and verdict).
 use Rattle.lists.specs.Basics.{_≡_, refl, sym, ap, _∙_, ℕ, _+_, _≤_, _<_, eqb, leb, ltb, Bool, true, false, not, _&&_, _||_, cond, true≢false, List, [], _∷_}
-use Rattle.lists.specs.Basics.{length, arith, ltb-true, eq-eqb, le-leb, lt-ltb, not-true}
-use Rattle.lists.specs.Each.{all, any, filter}
-use Rattle.lists.specs.Chosen.{or-left}
-use Rattle.lists.specs.Tests.{and-fst, and-snd, and-both, tests}
+use Rattle.lists.specs.Basics.{length, arith, ltb-true, eq-eqb, le-leb, lt-ltb, not-true, all, any, filter, and-fst, and-snd, and-both, tests, or-left}
 use Rattle.model.specs.Types.{AtomicityUnit, Entry, Transaction}
 use Rattle.model.specs.Records.{sameKey}
 use Rattle.model.specs.Transactions.{preparePhase, validatePhase, decidePhase, withdrawPhase, finishPhase, undoPhase, donePhase, noVerdict, committedVerdict}

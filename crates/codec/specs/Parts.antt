@@ -1,13 +1,11 @@
 -- A line lent as a part of a sheet: what is read there, and what stands in the sheet once it has come back.
 use Rattle.lists.specs.Basics.{_≡_, refl, sym, ap, _∙_, ℕ, zero, suc, _+_, _-_, _*_, _/_, _≤_, _<_, leb, ltb, Bool, true, false, _&&_, cond, true≢false, List}
-use Rattle.lists.specs.Basics.{_++_, length, take, drop, getD, length-take, length-drop, List·getD-eq-default, arith, leb-true, leb-false, le-leb, lt-ltb}
-use lib.Seq.{take-all}
-use Rattle.lists.specs.Bytes.{eqList}
+use Rattle.lists.specs.Basics.{_++_, length, take, drop, getD, length-take, length-drop, List·getD-eq-default, take-all, arith, leb-true, leb-false, le-leb}
+use Rattle.lists.specs.Basics.{lt-ltb, eqList, and-snd, tests}
 use Rattle.lists.specs.Pieces.{over, over-part, over-zero}
 use Rattle.model.specs.Types.{Record, DecisionWord}
 use Rattle.types.specs.declared.State.the-variants.{Prepared}
 use Rattle.types.specs.declared.Decision.the-variants.{Undecided, Committed, Aborted}
-use Rattle.lists.specs.Tests.{and-snd, tests}
 use Rattle.decimal.specs.Field.{number, figure, fieldText}
 use Rattle.decimal.specs.Laws.{length-fieldText}
 use Rattle.decimal.specs.Word.{putWord, put-fits}

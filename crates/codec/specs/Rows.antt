@@ -1,9 +1,9 @@
 -- One turn of reading and of writing a line, field i of it.
 use Rattle.lists.specs.Basics.{_≡_, refl, sym, ap, ap₂, _∙_, ℕ, suc, _+_, _-_, _≤_, _<_, true, false, _&&_, List, [], _∷_, _++_, append-nil, append-assoc}
-use Rattle.lists.specs.Basics.{length, take, drop, getD, set, length-append, length-take, length-drop, length-set, drop-of-length-le, arith, add-one}
+use Rattle.lists.specs.Basics.{length, take, drop, getD, set, length-append, length-take, length-drop, length-set, drop-of-length-le, drop-drop, take-at}
+use Rattle.lists.specs.Basics.{take-all, getD-drop, arith, add-one, all}
 use native.Mathlib.Nat.{add-zero}
-use lib.Seq.{drop-drop, take-all, take-at, take-suc-set, append-snoc, set-split, getD-drop}
-use Rattle.lists.specs.Each.{all}
+use lib.Seq.{take-suc-set, append-snoc, set-split}
 use Rattle.lists.specs.All.{all-at}
 use Rattle.decimal.specs.Field.{number}
 use Rattle.lists.specs.Walks.{drop-here}

@@ -1,8 +1,7 @@
 -- One turn of each loop: the definition from place i on, by what stands at i and the definition from i + 1 on.
 use Rattle.lists.specs.Basics.{_≡_, refl, sym, ap, _∙_, ℕ, _+_, _-_, _≤_, _<_, leb, Bool, true, false, cond, true≢false, List, [], length, take, drop}
-use Rattle.lists.specs.Basics.{length-drop, arith, add-one, leb-true}
-use lib.Seq.{drop-cons, drop-length, take-all}
-use Rattle.lists.specs.Bytes.{bytes, eqList}
+use Rattle.lists.specs.Basics.{length-drop, drop-cons, take-all, arith, add-one, leb-true, eqList, bytes}
+use lib.Seq.{drop-length}
 use Rattle.decimal.specs.declared.Scan.{Scan}
 use Rattle.decimal.specs.declared.Scan.the-variants.{Number, Wrong}
 use Rattle.decimal.specs.Field.{figure, fieldText}

@@ -1,10 +1,7 @@
 -- The head: a count, a space, nine unit letters and LF. A column of one letter is a test of one byte, so that nine of them are one test of
 -- nine bytes.
 use Rattle.lists.specs.Basics.{_≡_, refl, sym, ap, _∙_, ℕ, zero, suc, _+_, _-_, _≤_, _<_, eqb, Bool, true, false, _&&_, _||_, cond, and-assoc, and-true, List}
-use Rattle.lists.specs.Basics.{[], _∷_, length, take, drop, getD, replicate, drop-of-length-le, arith, add-one}
-use lib.Seq.{drop-cons, drop-drop}
-use Rattle.lists.specs.Bytes.{bytes, eqList}
-use Rattle.lists.specs.Each.{all}
+use Rattle.lists.specs.Basics.{[], _∷_, length, take, drop, getD, replicate, drop-of-length-le, drop-drop, drop-cons, arith, add-one, all, eqList, bytes}
 use Rattle.decimal.specs.declared.Scan.the-variants.{Number, Wrong}
 use Rattle.decimal.specs.Field.{figure, isNumber}
 use Rattle.model.specs.Types.{Column, UnitLetter}

@@ -1,13 +1,10 @@
 -- No record names a number above the issued count: four columns that hold a figure order as their bytes do, and so as one number.
 -- The loop goes record by record.
 use Rattle.lists.specs.Basics.{_≡_, refl, sym, ap, ap₂, _∙_, ℕ, _+_, _*_, _/_, _≤_, _<_, leb, ltb, Bool, true, false, not, _&&_, List, [], length, take, drop}
-use Rattle.lists.specs.Basics.{getD, length-take, length-drop, arith, leb-true, leb-false, lt-ltb, le-ltb}
-use lib.Seq.{drop-drop}
+use Rattle.lists.specs.Basics.{getD, length-take, length-drop, drop-drop, arith, leb-true, leb-false, lt-ltb, le-ltb, all, pieces, tests}
 use lib.Pow.{areBytes}
-use Rattle.lists.specs.Each.{all, pieces}
 use Rattle.lists.specs.All.{all-at}
 use Rattle.lists.specs.Pieces.{take-drop-take, getD-pieces, length-pieces}
-use Rattle.lists.specs.Tests.{tests}
 use Rattle.decimal.specs.declared.Scan.the-variants.{Number}
 use Rattle.decimal.specs.Field.{figure}
 use Rattle.decimal.specs.Laws.{figure-scan}

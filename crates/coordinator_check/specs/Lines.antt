@@ -2,13 +2,10 @@
 -- to its own LF. The second number tells which decision the line can say, so the line is right if both numbers are those of the text that
 -- says it. Equal numbers are equal bytes.
 use Rattle.lists.specs.Basics.{_≡_, refl, sym, ap, subst, _∙_, ℕ, zero, suc, _+_, _*_, _/_, _%_, _^_, _≤_, _<_, eqb, ltb, Bool, true, _&&_, List, [], _∷_, _++_}
-use Rattle.lists.specs.Basics.{length, take, drop, getD, arith, ltb-true}
-use lib.Seq.{take-all, drop-drop}
+use Rattle.lists.specs.Basics.{length, take, drop, getD, drop-drop, take-all, arith, ltb-true, listed, eqList, bytes, and-fst, and-snd}
 use lib.Pow.{areBytes}
-use Rattle.lists.specs.Bytes.{bytes, eqList, below-append}
-use Rattle.lists.specs.Each.{listed}
+use Rattle.lists.specs.Bytes.{below-append}
 use Rattle.lists.specs.All.{listed-is}
-use Rattle.lists.specs.Tests.{and-fst, and-snd}
 use Rattle.decimal.specs.Field.{fieldText, ahead}
 use Rattle.decimal.specs.Laws.{fieldText-bytes}
 use Rattle.places.specs.Loads.{loaded, split-equal}

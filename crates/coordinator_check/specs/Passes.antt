@@ -1,13 +1,10 @@
 -- The lines in turn. Lines that pass are lines of their numbers whose decisions the table has, and such lines pass: line by line, each ending
 -- in the LF with which the next begins. The code's loop counts the numbers' columns up beside it.
 use Rattle.lists.specs.Basics.{_≡_, refl, sym, ap, ap₂, _∙_, ℕ, zero, suc, _+_, _-_, _*_, _≤_, _<_, eqb, Bool, true, _&&_, and-assoc, and-true, List, [], _∷_}
-use Rattle.lists.specs.Basics.{length, take, drop, getD, length-drop, arith, add-one, eqb-true, eq-eqb}
-use lib.Seq.{take-all, drop-drop, getD-drop, getD-take}
-use Rattle.lists.specs.Bytes.{eqList, eqList-true, eqList-refl}
-use Rattle.lists.specs.Each.{all, pieces}
+use Rattle.lists.specs.Basics.{length, take, drop, getD, length-drop, drop-drop, take-all, getD-take, getD-drop, arith, add-one, eqb-true, eq-eqb, all, pieces}
+use Rattle.lists.specs.Basics.{eqList, eqList-true, eqList-refl, and-fst, and-snd, and-both}
 use Rattle.lists.specs.All.{all-at}
 use Rattle.lists.specs.Pieces.{take-drop-take}
-use Rattle.lists.specs.Tests.{and-fst, and-snd, and-both}
 use Rattle.places.specs.Loads.{loaded}
 use Rattle.model.specs.Types.{Decision}
 use Rattle.types.specs.declared.Decision.the-variants.{Undecided}

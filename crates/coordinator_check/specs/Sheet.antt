@@ -1,15 +1,12 @@
 -- The sheet as the check takes it: whole lines, the head, lines up to the issued count with any decision, and lines above it with none.
 -- That this is acceptance is shown each way from the parts of acceptance, the lines cut at the issued count.
 use Rattle.lists.specs.Basics.{_≡_, refl, sym, ap, ap₂, _∙_, ℕ, suc, _+_, _-_, _*_, _/_, _%_, _≤_, _<_, eqb, leb, Bool, true, false, _&&_, true≢false}
-use Rattle.lists.specs.Basics.{and-assoc, List, [], _∷_, _++_, map, length, take, drop, getD, length-map, length-take, length-drop, arith, eqb-true, leb-true}
-use Rattle.lists.specs.Basics.{eq-eqb, le-leb, lt-leb}
+use Rattle.lists.specs.Basics.{and-assoc, List, [], _∷_, _++_, map, length, take, drop, getD, length-map, length-take, length-drop, drop-drop, take-take}
+use Rattle.lists.specs.Basics.{getD-take, getD-drop, arith, eqb-true, leb-true, eq-eqb, le-leb, lt-leb, all, pieces, bytes, and-fst, and-snd, and-both}
+use Rattle.lists.specs.Basics.{same-test, tests}
 use native.Mathlib.Nat.{add-zero}
-use lib.Seq.{take-take, drop-drop, getD-take, getD-drop}
-use Rattle.lists.specs.Bytes.{bytes}
-use Rattle.lists.specs.Each.{all, pieces}
 use Rattle.lists.specs.All.{all-append, all-always, all-map}
 use Rattle.lists.specs.Pieces.{pieces-add, length-pieces}
-use Rattle.lists.specs.Tests.{and-fst, and-snd, and-both, same-test, tests}
 use Rattle.decimal.specs.declared.Scan.{Scan}
 use Rattle.decimal.specs.declared.Scan.the-variants.{Blank, Number, Wrong}
 use Rattle.decimal.specs.Field.{figure, number, isNumber, fieldText, ahead}

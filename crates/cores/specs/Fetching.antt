@@ -1,6 +1,5 @@
 -- Read, case by case in the order of its conditions: a held key, and a new one by what the visit of its line comes to.
-use Rattle.lists.specs.Basics.{_≡_, refl, sym, ap, subst, _∙_, ℕ, _≤_, _<_, leb, true, false, not, _&&_, cond, List, [], _∷_, le-leb, lt-leb}
-use Rattle.lists.specs.Each.{all}
+use Rattle.lists.specs.Basics.{_≡_, refl, sym, ap, subst, _∙_, ℕ, _≤_, _<_, leb, true, false, not, _&&_, cond, List, [], _∷_, le-leb, lt-leb, all}
 use Rattle.model.specs.Types.{Key, Record, At, Nothing, Transaction, Recovery}
 use Rattle.types.specs.declared.Reading.the-variants.{Again as Read-again}
 use Rattle.types.specs.declared.Recovery.the-variants.{Stays, Forward, Back, Again, Busy}

@@ -1,6 +1,5 @@
 -- Put, case by case in the order of its conditions; it writes nothing.
-use Rattle.lists.specs.Basics.{_≡_, refl, _∙_, ℕ, _≤_, _<_, leb, Bool, true, false, not, cond, List, [], _∷_, le-leb, lt-leb}
-use Rattle.lists.specs.Each.{all}
+use Rattle.lists.specs.Basics.{_≡_, refl, _∙_, ℕ, _≤_, _<_, leb, Bool, true, false, not, cond, List, [], _∷_, le-leb, lt-leb, all}
 use Rattle.model.specs.Types.{Key, At, Nothing, Columns, Transaction}
 use Rattle.model.specs.Records.{found, isMissing, hasLine}
 use Rattle.model.specs.Refusals.{Condition, refuse, refusalOf}

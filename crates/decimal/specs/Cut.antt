@@ -1,9 +1,7 @@
 -- Reading with a limit: the scan stops as soon as the figure is above the highest that is wanted, so that it never grows past its type. It
 -- finds the same figure, since a figure only grows with each digit more.
 use Rattle.lists.specs.Basics.{_≡_, refl, _∙_, ℕ, suc, _+_, _-_, _*_, _≤_, _<_, eqb, leb, Bool, true, false, _&&_, cond, List, [], _∷_, length, drop, getD}
-use Rattle.lists.specs.Basics.{drop-of-length-le, arith, add-one, leb-false, eq-eqb, ne-eqb}
-use lib.Seq.{drop-cons}
-use Rattle.lists.specs.Tests.{choose-by, tests}
+use Rattle.lists.specs.Basics.{drop-of-length-le, drop-cons, arith, add-one, leb-false, eq-eqb, ne-eqb, choose-by, tests}
 use Rattle.decimal.specs.declared.Scan.{Scan}
 use Rattle.decimal.specs.declared.Scan.the-variants.{Blank, Number, Wrong}
 use Rattle.decimal.specs.Field.{isDigit, stepped, scanned, within, figure}

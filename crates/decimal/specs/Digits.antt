@@ -1,8 +1,7 @@
 -- A figure as the number that its digits make. Digits are taken from the left as a scan takes them, and a space counts 0, so what a scan has read so far
 -- is what the digits have made so far.
-use Rattle.lists.specs.Basics.{_≡_, ap, _∙_, ℕ, suc, _+_, _-_, _*_, _%_, _^_, _≤_, _<_, List, [], _∷_, length, take, drop, getD, arith, add-one}
+use Rattle.lists.specs.Basics.{_≡_, ap, _∙_, ℕ, suc, _+_, _-_, _*_, _%_, _^_, _≤_, _<_, List, [], _∷_, length, take, drop, getD, drop-cons, arith, add-one}
 use native.Mathlib.Nat.{pow-suc, pow-le-pow-right}
-use lib.Seq.{drop-cons}
 use Rattle.decimal.specs.declared.Scan.{Scan}
 use Rattle.decimal.specs.declared.Scan.the-variants.{Blank, Number}
 use Rattle.decimal.specs.Field.{scanned, stepped, number}

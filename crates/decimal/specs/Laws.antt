@@ -2,9 +2,9 @@
 -- figure's text, by one step for each byte; and the text of a figure is read digit by digit as it is built.
 use Rattle.lists.specs.Basics.{_≡_, refl, sym, ap, ap₂, subst, _∙_, ℕ, zero, suc, _+_, _-_, _*_, _/_, _%_, _^_, _≤_, _<_, eqb, leb, Bool, true, false, _&&_}
 use Rattle.lists.specs.Basics.{cond, true≢false, List, [], _∷_, _++_, append-nil, length, getD, length-append, arith, eqb-true, eqb-false, ne-eqb, le-leb}
+use Rattle.lists.specs.Basics.{and-both, choose-by, tests}
 use native.Mathlib.Nat.{pow-suc, one-le-pow}
 use lib.Seq.{append-snoc}
-use Rattle.lists.specs.Tests.{and-both, choose-by, tests}
 use Rattle.lists.specs.Bytes.{below-append, below-one}
 use Rattle.decimal.specs.declared.Scan.{Scan}
 use Rattle.decimal.specs.declared.Scan.the-variants.{Blank, Number, Wrong}

@@ -1,9 +1,7 @@
 -- Figures of one width order as their bytes do. Two scans that stand alike part at the first byte in which the fields differ, and the one
 -- that leads then leads to the end, since one digit more never makes up for a lower figure.
 use Rattle.lists.specs.Basics.{_≡_, refl, sym, ap, ap₂, _∙_, ℕ, suc, _+_, _-_, _*_, _≤_, _<_, eqb, ltb, Bool, true, false, List, [], _∷_, length, arith}
-use Rattle.lists.specs.Basics.{eqb-true, eqb-false, ltb-true, ltb-false, lt-ltb, le-ltb}
-use Rattle.lists.specs.Tests.{choose-by}
-use Rattle.lists.specs.Each.{less}
+use Rattle.lists.specs.Basics.{eqb-true, eqb-false, ltb-true, ltb-false, lt-ltb, le-ltb, less, choose-by}
 use Rattle.lists.specs.Order.{less-cons}
 use Rattle.decimal.specs.declared.Scan.{Scan}
 use Rattle.decimal.specs.declared.Scan.the-variants.{Blank, Number, Wrong}

@@ -1,12 +1,9 @@
 -- A group written entry by entry: each change is of the line of one key, and since no two entries have a key in common, one after another they make the map
 -- that the model applies. The new line is written over the old one at its place.
 use Rattle.lists.specs.Basics.{_≡_, refl, sym, ap, ap₂, _∙_, ℕ, _*_, _/_, _<_, ltb, Bool, true, false, _&&_, _||_, cond, List, [], _∷_, map, length, take, drop}
-use Rattle.lists.specs.Basics.{getD, set, Option, none, some, arith, ltb-true, lt-ltb}
-use Rattle.lists.specs.Each.{all, any}
+use Rattle.lists.specs.Basics.{getD, set, Option, none, some, arith, ltb-true, lt-ltb, all, any, choose-by, tests, or-fst, or-snd}
 use Rattle.lists.specs.All.{map-map, map-equal, all-always}
-use Rattle.lists.specs.Chosen.{or-fst, or-snd}
 use Rattle.lists.specs.Pieces.{over, over-same}
-use Rattle.lists.specs.Tests.{choose-by, tests}
 use Rattle.model.specs.Types.{Key, Record, At, Entry}
 use Rattle.model.specs.Layouts.{recordBytes}
 use Rattle.model.specs.Records.{noRecord, recordText, records, recordsGood, recordsAccepted, goodAlone, rising, sameKey, found, lineOf}

@@ -1,7 +1,6 @@
 -- The group at a transaction's place by the bytes of a coordinator sheet: its unit letters are the sheet's units, and a test of the group's entries is one
 -- of all the entries.
-use Rattle.lists.specs.Basics.{_≡_, refl, sym, ap, _∙_, ℕ, Bool, true, false, not, _&&_, _||_, cond, List, [], _∷_}
-use Rattle.lists.specs.Each.{all, filter}
+use Rattle.lists.specs.Basics.{_≡_, refl, sym, ap, _∙_, ℕ, Bool, true, false, not, _&&_, _||_, cond, List, [], _∷_, all, filter}
 use Rattle.model.specs.Types.{Entry, Transaction}
 use Rattle.model.specs.Coordinator.{coordinatorOf}
 use Rattle.model.specs.Transactions.{held}

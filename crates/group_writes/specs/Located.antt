@@ -1,12 +1,12 @@
 -- What a call finds once about the entries of a transaction: the indices of their lines, and their groups. No write moves a key, so that indices hold after every
 -- write too.
 use Rattle.lists.specs.Basics.{_≡_, refl, sym, ap, ap₂, subst, _∙_, ℕ, zero, suc, _+_, _≤_, _<_, eqb, ltb, Bool, true, false, not, _&&_, true≢false, and-assoc}
-use Rattle.lists.specs.Basics.{List, [], _∷_, map, length, take, getD, set, length-take, length-set, arith, add-one, eqb-true, eqb-false, lt-ltb, le-ltb}
-use lib.Seq.{getD-set-same, getD-set-other, getD-take}
+use Rattle.lists.specs.Basics.{List, [], _∷_, map, length, take, getD, set, length-take, length-set, getD-take, arith, add-one, eqb-true, eqb-false, lt-ltb}
+use Rattle.lists.specs.Basics.{le-ltb, all}
+use lib.Seq.{getD-set-same, getD-set-other}
 use mir.Val.{Val}
 use denote.Laws.{Is}
 use denote.Struct.Declared.{row}
-use Rattle.lists.specs.Each.{all}
 use Rattle.lists.specs.All.{all-always, all-at}
 use Rattle.types.proofs.Transaction.{the-type}
 use Rattle.model.specs.Types.{Key, Record, AtomicityUnit, Found, At, Nothing, Entry, Transaction}

@@ -1,7 +1,5 @@
 -- What a look-up by key tells, by the two cases of what is found: a key out of range is found nowhere, and a found place is that of the key's line.
-use Rattle.lists.specs.Basics.{_≡_, refl, sym, ap, _∙_, ℕ, true, false, true≢false, List, getD}
-use Rattle.lists.specs.Each.{all}
-use Rattle.lists.specs.Tests.{tests}
+use Rattle.lists.specs.Basics.{_≡_, refl, sym, ap, _∙_, ℕ, true, false, true≢false, List, getD, all, tests}
 use Rattle.model.specs.Types.{Key, Record, Found, At, Nothing, Entry}
 use Rattle.model.specs.Records.{noRecord, records, recordsGood, recordsAccepted, goodAlone, keyInRange, found, isMissing, hasLine, lineOf}
 use Rattle.model.specs.Images.{unchanged}

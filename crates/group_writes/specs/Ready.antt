@@ -1,10 +1,8 @@
 -- What the writes of a step ask for follows from accepted bytes and a well-formed transaction: puts whose conditions hold may be written over their lines, and
 -- what a number has prepared may be rolled.
-use Rattle.lists.specs.Basics.{_≡_, sym, ap, _∙_, ℕ, _≤_, Bool, true, _&&_, List}
-use Rattle.lists.specs.Each.{all}
+use Rattle.lists.specs.Basics.{_≡_, sym, ap, _∙_, ℕ, _≤_, Bool, true, _&&_, List, all, and-fst, and-snd, choose-by, tests}
 use Rattle.lists.specs.All.{all-and, all-weaken}
 use Rattle.lists.specs.Chosen.{all-filter}
-use Rattle.lists.specs.Tests.{and-fst, and-snd, choose-by, tests}
 use Rattle.model.specs.Types.{Record, Entry, Transaction}
 use Rattle.model.specs.Records.{records, recordsAccepted, goodAlone, hasLine, lineOf}
 use Rattle.model.specs.Coordinator.{coordinatorOf, namesIssued}

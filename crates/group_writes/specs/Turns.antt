@@ -1,13 +1,11 @@
 -- The loop over a transaction's entries that changes the lines of its group: what is left to be done makes, on the sheet as it is now, what all of it makes
 -- on the sheet as it was. A turn changes the line of one key, which no later entry has.
 use Rattle.lists.specs.Basics.{_≡_, refl, sym, ap, ap₂, subst, _∙_, ℕ, _+_, _*_, _/_, _≤_, _<_, ltb, Bool, true, false, not, _&&_, cond, true≢false, List, _∷_}
-use Rattle.lists.specs.Basics.{map, length, getD, not-true}
+use Rattle.lists.specs.Basics.{map, length, getD, not-true, all, filter, and-fst, and-snd, and-both}
 use mir.Val.{Val}
 use denote.Laws.{Is}
 use denote.Struct.Declared.{row}
-use Rattle.lists.specs.Each.{all, filter}
 use Rattle.lists.specs.Pieces.{over}
-use Rattle.lists.specs.Tests.{and-fst, and-snd, and-both}
 use Rattle.types.proofs.Transaction.{the-type}
 use Rattle.model.specs.Types.{Key, Record, At, Entry, Transaction}
 use Rattle.model.specs.Records.{noRecord, records, recordText, recordsText, recordsAccepted, found}

@@ -1,8 +1,7 @@
 -- Laws of `all`, `map` and `set` together, each by induction on the list.
-use Rattle.lists.specs.Basics.{_≡_, refl, sym, ap, ap₂, _∙_, ℕ, zero, suc, _+_, _*_, _≤_, _<_, eqb, Bool, true, _&&_, and-assoc, List, [], _∷_, _++_, map}
-use Rattle.lists.specs.Basics.{length, take, drop, getD, set, length-take, length-drop, drop-of-length-le, arith, eq-eqb}
+use Rattle.lists.specs.Kit.{_≡_, refl, sym, ap, ap₂, _∙_, ℕ, zero, suc, _+_, _*_, _≤_, _<_, eqb, Bool, true, _&&_, and-assoc, List, [], _∷_, _++_, map}
+use Rattle.lists.specs.Kit.{length, take, drop, getD, set, length-take, length-drop, drop-of-length-le, drop-cons, arith, eq-eqb}
 use native.Mathlib.Nat.{suc-mul}
-use lib.Seq.{drop-cons}
 use Rattle.lists.specs.Tests.{and-fst, and-snd, and-both}
 use Rattle.lists.specs.Each.{all, pieces, listed}
 use Rattle.lists.specs.Pieces.{AllOf}

@@ -1,6 +1,6 @@
 -- Text as a list of bytes, and equality of two lists of numbers as a test.
-use Rattle.lists.specs.Basics.{_≡_, refl, sym, ap, ap₂, _∙_, ℕ, zero, suc, _<_, eqb, Bool, true, false, _&&_, true≢false, and-assoc, List, [], _∷_, _++_}
-use Rattle.lists.specs.Basics.{length, getD, arith, eqb-true, eq-eqb}
+use Rattle.lists.specs.Kit.{_≡_, refl, sym, ap, ap₂, _∙_, ℕ, zero, suc, _<_, eqb, Bool, true, false, _&&_, true≢false, and-assoc, List, [], _∷_, _++_}
+use Rattle.lists.specs.Kit.{length, getD, arith, eqb-true, eq-eqb}
 use Prim.Native.Char.{code}
 use Prim.Native.String as String
 use Prim.Native.String.{String}

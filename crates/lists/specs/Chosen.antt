@@ -1,6 +1,6 @@
 -- Laws of `any`, `filter` and `count`: each by induction on the list, with the first element's test at hand.
-use Rattle.lists.specs.Basics.{_≡_, refl, sym, ap, _∙_, ℕ, zero, suc, _≤_, _<_, Bool, true, false, _&&_, _||_, cond, true≢false, List, [], _∷_, map}
-use Rattle.lists.specs.Basics.{length, arith}
+use Rattle.lists.specs.Kit.{_≡_, refl, sym, ap, _∙_, ℕ, zero, suc, _≤_, _<_, Bool, true, false, _&&_, _||_, cond, true≢false, List, [], _∷_, map, length}
+use Rattle.lists.specs.Kit.{arith}
 use Rattle.lists.specs.Bytes.{eqList, eqList-true}
 use Rattle.lists.specs.Tests.{and-fst, and-snd, and-both}
 use Rattle.lists.specs.Each.{all, any, filter, count}
@@ -113,11 +113,10 @@ count-less p q e y f g (x ∷ xs) h =
     step false c false d l = l
 
 -- What the last arm of a match over 0 to n - 1 knows: that the number is none of them, and so at least n.
-unfoldable pub Missed : ℕ → ℕ → Type 0
+abbrev pub Missed : ℕ → ℕ → Type 0
 Missed zero i = Unit {0}
 Missed (suc n) i = Missed n i × (i ≡ n → ⊥)
 
 pub past-arms : (n i : ℕ) → Missed n i → n ≤ i
-unfolding Missed
 past-arms zero i m = omega arith
 past-arms (suc n) i m = omega (arith, past-arms n i (m .0), m .1)

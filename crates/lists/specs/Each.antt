@@ -1,5 +1,5 @@
 -- Lists taken element by element: tests that all, some or so many pass, pieces of equal length, lists joined, lists in order.
-use Rattle.lists.specs.Basics.{ℕ, zero, suc, eqb, ltb, Bool, true, false, _&&_, _||_, cond, List, [], _∷_, _++_, take, drop, getD}
+use Rattle.lists.specs.Kit.{ℕ, zero, suc, eqb, ltb, Bool, true, false, _&&_, _||_, cond, List, [], _∷_, _++_, take, drop, getD}
 
 -- every element passes the test
 unfoldable pub all {ℓ} : {A : Type ℓ} → (A → Bool) → List A → Bool

@@ -1,9 +1,10 @@
 -- Filling a list piece by piece, w elements each, or one by one: those before i are there, and those from i on are still to come.
 -- Filling it in two parts, lent one after the other.
-use Rattle.lists.specs.Basics.{_≡_, refl, sym, ap, ap₂, _∙_, ℕ, zero, suc, _+_, _-_, _*_, _≤_, _<_, List, [], _∷_, _++_, append-nil, append-assoc, length}
-use Rattle.lists.specs.Basics.{take, drop, getD, set, length-append, length-take, length-drop, length-set, drop-of-length-le, arith, add-one}
+use Rattle.lists.specs.Kit.{_≡_, refl, sym, ap, ap₂, _∙_, ℕ, zero, suc, _+_, _-_, _*_, _≤_, _<_, List, [], _∷_, _++_, append-nil, append-assoc, length}
+use Rattle.lists.specs.Kit.{take, drop, getD, set, length-append, length-take, length-drop, length-set, drop-of-length-le, drop-at, take-at, take-all}
+use Rattle.lists.specs.Kit.{arith, add-one}
 use native.Mathlib.Nat.{suc-mul, zero-mul}
-use lib.Seq.{take-at, take-all, take-suc-set, append-snoc, drop-at}
+use lib.Seq.{take-suc-set, append-snoc}
 use Rattle.lists.specs.Each.{joined}
 use Rattle.lists.specs.Pieces.{over, length-over}
 use Rattle.lists.specs.Walks.{drop-here}

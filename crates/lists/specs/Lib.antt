@@ -1,5 +1,5 @@
 -- Definitions and laws on lists, tests and choices that several crates cite.
-pub mod Basics
+pub mod Kit
 pub mod Bytes
 pub mod All
 pub mod Chosen
@@ -10,3 +10,4 @@ pub mod Order
 pub mod Pieces
 pub mod Tests
 pub mod Walks
+pub mod Basics

@@ -1,6 +1,6 @@
 -- Membership in a list, as data: what tests, choices and places say of the members. Each goes by induction on the membership.
-use Rattle.lists.specs.Basics.{_≡_, refl, sym, _∙_, ℕ, zero, suc, _<_, Bool, true, true≢false, List, [], _∷_, _++_, length, take, getD, set, _⊎_, inl}
-use Rattle.lists.specs.Basics.{inr, arith}
+use Rattle.lists.specs.Kit.{_≡_, refl, sym, _∙_, ℕ, zero, suc, _<_, Bool, true, true≢false, List, [], _∷_, _++_, length, take, getD, set, _⊎_, inl, inr}
+use Rattle.lists.specs.Kit.{arith}
 use Rattle.lists.specs.Tests.{and-fst, and-snd, choose-by}
 use Rattle.lists.specs.Each.{all, filter}
 

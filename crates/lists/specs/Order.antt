@@ -1,6 +1,6 @@
 -- Laws of the order of two lists of numbers.
-use Rattle.lists.specs.Basics.{_≡_, refl, sym, ap, ap₂, _∙_, ℕ, _≤_, _<_, eqb, ltb, Bool, true, false, _&&_, _||_, cond, true≢false, List, [], _∷_, _++_}
-use Rattle.lists.specs.Basics.{length, arith, eqb-true, eqb-false, ltb-true, ltb-false, eq-eqb, ne-eqb, lt-ltb, le-ltb}
+use Rattle.lists.specs.Kit.{_≡_, refl, sym, ap, ap₂, _∙_, ℕ, _≤_, _<_, eqb, ltb, Bool, true, false, _&&_, _||_, cond, true≢false, List, [], _∷_, _++_}
+use Rattle.lists.specs.Kit.{length, arith, eqb-true, eqb-false, ltb-true, ltb-false, eq-eqb, ne-eqb, lt-ltb, le-ltb}
 use Rattle.lists.specs.Bytes.{eqList}
 use Rattle.lists.specs.Each.{less}
 

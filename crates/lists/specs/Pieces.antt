@@ -1,10 +1,10 @@
 -- Laws of pieces: a list of n * w elements is its n pieces joined, and a piece is found and replaced by its place.
 -- Each goes by induction on the number of pieces.
-use Rattle.lists.specs.Basics.{_≡_, refl, sym, ap, ap₂, _∙_, ℕ, zero, suc, _+_, _-_, _*_, _≤_, _<_, List, [], _∷_, _++_, append-assoc, length, take, drop}
-use Rattle.lists.specs.Basics.{getD, set, length-append, length-take, length-drop, arith}
+use Rattle.lists.specs.Kit.{_≡_, refl, sym, ap, ap₂, _∙_, ℕ, zero, suc, _+_, _-_, _*_, _≤_, _<_, List, [], _∷_, _++_, append-assoc, length, take, drop}
+use Rattle.lists.specs.Kit.{getD, set, length-append, length-take, length-drop, drop-drop, drop-at, take-at, take-add, take-take, arith}
 use native.Mathlib.Nat.{suc-mul, zero-mul, zero-add, add-assoc}
 use lib.ListN.{take-append-drop}
-use lib.Seq.{take-at, drop-at, drop-drop, take-add, take-take, take-nil}
+use lib.Seq.{take-nil}
 use Rattle.lists.specs.Each.{joined, pieces}
 
 -- an empty list where there is nothing

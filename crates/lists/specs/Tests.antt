@@ -1,5 +1,5 @@
 -- Tests joined by `&&`, and choices by a test: each with the rules that a proof uses.
-use Rattle.lists.specs.Basics.{_≡_, refl, sym, ap, _∙_, Bool, true, false, _&&_, cond, true≢false, eqb-true, leb-true, ltb-true}
+use Rattle.lists.specs.Kit.{_≡_, refl, sym, ap, _∙_, Bool, true, false, _&&_, cond, true≢false, eqb-true, leb-true, ltb-true}
 
 -- the first of two tests that hold together
 pub and-fst : (a b : Bool) → (a && b) ≡ true → a ≡ true

@@ -1,7 +1,7 @@
 -- A loop that goes through a list: f of the elements from i on is what was to be computed, w. Each turn takes the element at i off, and past the last
 -- nothing is left.
-use Rattle.lists.specs.Basics.{_≡_, refl, sym, ap, ap₂, _∙_, ℕ, _+_, _≤_, _<_, List, [], _∷_, length, drop, getD, drop-of-length-le, arith, add-one}
-use lib.Seq.{drop-cons}
+use Rattle.lists.specs.Kit.{_≡_, refl, sym, ap, ap₂, _∙_, ℕ, _+_, _≤_, _<_, List, [], _∷_, length, drop, getD, drop-of-length-le, drop-cons, arith}
+use Rattle.lists.specs.Kit.{add-one}
 
 -- the element at i, by any name, and those after it
 pub drop-here : {A : Type 0} (xs : List A) (i : ℕ) (d x : A) → i < length xs → x ≡ getD xs i d → drop i xs ≡ x ∷ drop (i + 1) xs

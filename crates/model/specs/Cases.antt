@@ -1,6 +1,5 @@
 -- Document 01's twelve cases, section d, as one table, and one theorem: each follows from the definitions by computation.
-use Rattle.lists.specs.Basics.{_≡_, refl, ℕ, cond, List, [], _∷_, _++_, map, set, replicate}
-use Rattle.lists.specs.Bytes.{bytes}
+use Rattle.lists.specs.Basics.{_≡_, refl, ℕ, cond, List, [], _∷_, _++_, map, set, replicate, bytes}
 use Rattle.model.specs.Types.{AtomicityUnit, Entry, Transaction}
 use Rattle.types.specs.declared.AtomicityUnit.the-variants.{Partition, Namespace}
 use Rattle.model.specs.Lines.{text}

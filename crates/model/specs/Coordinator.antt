@@ -1,6 +1,5 @@
 -- The coordinator sheet: numbers issued, units and decisions, and its rules. Document 01, "Coordinator sheet".
-use Rattle.lists.specs.Basics.{ℕ, zero, suc, eqb, leb, Bool, true, false, _&&_, List, [], _∷_, _++_, map, length, take, drop, getD, set}
-use Rattle.lists.specs.Each.{all, joined}
+use Rattle.lists.specs.Basics.{ℕ, zero, suc, eqb, leb, Bool, true, false, _&&_, List, [], _∷_, _++_, map, length, take, drop, getD, set, all, joined}
 use Rattle.model.specs.Types.{Record, Decision, AtomicityUnit}
 use Rattle.types.specs.declared.Decision.the-variants.{Undecided, Committed, Aborted}
 use Rattle.types.specs.declared.AtomicityUnit.the-variants.{Record as RecordUnit, Partition, Table, Namespace, Storage}

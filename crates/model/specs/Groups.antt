@@ -1,7 +1,5 @@
 -- Atomicity units, and the groups of a transaction's puts. Document 01, "Atomicity units".
-use Rattle.lists.specs.Basics.{ℕ, zero, suc, eqb, cond, List, [], _∷_, length, take, getD}
-use Rattle.lists.specs.Bytes.{eqList}
-use Rattle.lists.specs.Each.{any, filter, count, less}
+use Rattle.lists.specs.Basics.{ℕ, zero, suc, eqb, cond, List, [], _∷_, length, take, getD, any, filter, count, less, eqList}
 use Rattle.model.specs.Types.{Key, AtomicityUnit, Entry}
 use Rattle.types.specs.declared.AtomicityUnit.the-variants.{Record as RecordUnit, Partition, Table, Namespace, Storage}
 use Rattle.model.specs.Records.{keyNumbers}

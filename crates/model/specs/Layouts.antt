@@ -1,6 +1,5 @@
 -- The layout of every line, as data: widths, kinds and ranges of its fields, in the order of document 01's tables.
-use Rattle.lists.specs.Basics.{ℕ, zero, suc, _+_, _-_, _*_, List, [], _∷_, take, drop, getD}
-use Rattle.lists.specs.Bytes.{bytes}
+use Rattle.lists.specs.Basics.{ℕ, zero, suc, _+_, _-_, _*_, List, [], _∷_, take, drop, getD, bytes}
 use Rattle.model.specs.Types.{Layout, RecordLine, KeyLine, CoordinatorHead, CoordinatorLine, Column, Kind, Figure, StateWord, DecisionWord, UnitLetter}
 
 -- bytes of a word

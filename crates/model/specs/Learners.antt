@@ -1,7 +1,6 @@
 -- The places where learners go astray, as theorems. Document 01, "Where learners go astray"; the first, on grouping, is in the table of Cases.
 -- Each follows by the case of the definition that it is about.
-use Rattle.lists.specs.Basics.{_≡_, refl, ℕ, false, List}
-use Rattle.lists.specs.Each.{all}
+use Rattle.lists.specs.Basics.{_≡_, refl, ℕ, false, List, all}
 use Rattle.lists.specs.All.{map-unmoved}
 use Rattle.model.specs.Types.{Key, Record, Transaction}
 use Rattle.types.specs.declared.Recovery.the-variants.{Again, Back}

@@ -1,8 +1,7 @@
 -- Fields, lines and sheets of lines, read and written by a layout: one codec for every kind of line.
 -- A line is read into a row of numbers, one for each field.
-use Rattle.lists.specs.Basics.{ℕ, suc, _-_, _*_, _/_, eqb, leb, Bool, true, _&&_, cond, List, [], _∷_, _++_, map, length, take, drop, getD}
-use Rattle.lists.specs.Bytes.{eqList}
-use Rattle.lists.specs.Each.{all, joined, pieces}
+use Rattle.lists.specs.Basics.{ℕ, suc, _-_, _*_, _/_, eqb, leb, Bool, true, _&&_, cond, List, [], _∷_, _++_, map, length, take, drop, getD, all, joined, pieces}
+use Rattle.lists.specs.Basics.{eqList}
 use Rattle.decimal.specs.declared.Scan.{Scan}
 use Rattle.decimal.specs.declared.Scan.the-variants.{Number, Wrong}
 use Rattle.decimal.specs.Field.{figure, fieldText, number, isNumber}

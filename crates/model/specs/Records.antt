@@ -1,7 +1,6 @@
 -- The record sheet: a line as a record, and the rules that records keep. Document 01, "Record sheet".
-use Rattle.lists.specs.Basics.{ℕ, zero, suc, _+_, _*_, _/_, eqb, leb, Bool, true, false, not, _&&_, _||_, cond, List, [], _∷_, _++_, map, length, getD}
-use Rattle.lists.specs.Bytes.{eqList}
-use Rattle.lists.specs.Each.{all, joined, pieces, less}
+use Rattle.lists.specs.Basics.{ℕ, zero, suc, _+_, _*_, _/_, eqb, leb, Bool, true, false, not, _&&_, _||_, cond, List, [], _∷_, _++_, map, length, getD, all}
+use Rattle.lists.specs.Basics.{joined, pieces, less, eqList}
 use Rattle.model.specs.Types.{Key, Image, Record, State, Found, At, Nothing}
 use Rattle.types.specs.declared.State.the-variants.{Absent, Committed, Prepared}
 use Rattle.model.specs.Layouts.{recordLayout, keyLayout, stateField, imageField, beforeField, clockField, recordBytes, recordFields}

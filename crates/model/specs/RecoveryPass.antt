@@ -1,7 +1,6 @@
 -- The recovery pass (document 01: closing visits) after a history: "once every line has then been visited at least twice with no other call,
 -- undecided ones at clock readings where they have expired".
-use Rattle.lists.specs.Basics.{_≡_, ℕ, _^_, _≤_, _<_, Bool, true, not, _&&_, List, [], _∷_}
-use Rattle.lists.specs.Each.{all, count}
+use Rattle.lists.specs.Basics.{_≡_, ℕ, _^_, _≤_, _<_, Bool, true, not, _&&_, List, [], _∷_, all, count}
 use Rattle.model.specs.Types.{Key, Record}
 use Rattle.model.specs.Records.{sameKey, lineOf, hasLine}
 use Rattle.model.specs.Coordinator.{isUndecided}

@@ -1,6 +1,5 @@
 -- Numbered refusals: a call lists its conditions in the order in which they are asked, and the first that holds is the answer.
-use Rattle.lists.specs.Basics.{ℕ, suc, eqb, leb, Bool, not, _&&_, _||_, cond, List, [], _∷_}
-use Rattle.lists.specs.Each.{all, any}
+use Rattle.lists.specs.Basics.{ℕ, suc, eqb, leb, Bool, not, _&&_, _||_, cond, List, [], _∷_, all, any}
 
 -- a number of document 01's table, and whether its condition holds
 pub record Condition : Type 0 where

@@ -1,7 +1,6 @@
 -- The sequential model (document 01: the plain book): a line for each key and a write set (page) for each number. It is fed each call's arguments and
 -- its answer, and never sees the sheets.
-use Rattle.lists.specs.Basics.{ℕ, eqb, Bool, false, _&&_, cond, List, [], _∷_, Option, none, some}
-use Rattle.lists.specs.Each.{any}
+use Rattle.lists.specs.Basics.{ℕ, eqb, Bool, false, _&&_, cond, List, [], _∷_, Option, none, some, any}
 use Rattle.types.specs.declared.State.the-variants.{Committed}
 use Rattle.model.specs.Types.{Key, Record, Transaction}
 use Rattle.model.specs.Records.{noImage, sameKey, lineOf}

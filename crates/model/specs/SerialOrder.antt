@@ -1,7 +1,6 @@
 -- What a checked transaction saw: the order in which the transactions of a history count, the serial run of the committed ones in that order, and what is
 -- claimed of both. Document 02, note 8.
-use Rattle.lists.specs.Basics.{_≡_, ℕ, eqb, leb, Bool, true, _&&_, _||_, cond, List, [], _∷_, Option, none, some}
-use Rattle.lists.specs.Each.{count}
+use Rattle.lists.specs.Basics.{_≡_, ℕ, eqb, leb, Bool, true, _&&_, _||_, cond, List, [], _∷_, Option, none, some, count}
 use Rattle.lists.specs.Members.{Mem}
 use Rattle.model.specs.Types.{Key, Record, Transaction, Reading}
 use Rattle.types.specs.declared.Reading.the-variants.{Again}

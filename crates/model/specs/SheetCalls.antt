@@ -1,7 +1,6 @@
 -- The calls that take no transaction and no clock: the check, sheets to numbers and back, the look-up.
 -- For each, its conditions of refusal in order, and what it answers or leaves in the lent target.
-use Rattle.lists.specs.Basics.{ℕ, _+_, _*_, _/_, eqb, Bool, not, _&&_, cond, List, [], _∷_, map, length, take, drop}
-use Rattle.lists.specs.Each.{all}
+use Rattle.lists.specs.Basics.{ℕ, _+_, _*_, _/_, eqb, Bool, not, _&&_, cond, List, [], _∷_, map, length, take, drop, all}
 use Rattle.model.specs.Types.{Key, Found, At, Nothing}
 use Rattle.model.specs.Layouts.{recordBytes, coordinatorBytes, recordFields, headFields}
 use Rattle.model.specs.Records.{records, recordsAccepted, recordsText, recordOf, rows, rowsAccepted, allNumbers, keyInRange, found, isMissing}

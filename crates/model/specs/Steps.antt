@@ -1,6 +1,5 @@
 -- The step table: what an advance does in each of the eight phases, whether or not it would be refused. Document 01, "Transaction".
-use Rattle.lists.specs.Basics.{ℕ, _+_, eqb, ltb, Bool, not, _&&_, cond, List, map, length, getD}
-use Rattle.lists.specs.Each.{all}
+use Rattle.lists.specs.Basics.{ℕ, _+_, eqb, ltb, Bool, not, _&&_, cond, List, map, length, getD, all}
 use Rattle.model.specs.Types.{Key, AtomicityUnit, Entry, Transaction}
 use Rattle.types.specs.declared.Decision.the-variants.{Committed, Aborted}
 use Rattle.model.specs.Records.{hasLine, lineOf}

@@ -1,6 +1,5 @@
 -- A transaction as its client keeps it: names for its numbers, and the entries that it holds. Document 01, "Transaction".
-use Rattle.lists.specs.Basics.{ℕ, eqb, Bool, true, false, not, _&&_, cond, List, [], _∷_, take, set}
-use Rattle.lists.specs.Each.{filter}
+use Rattle.lists.specs.Basics.{ℕ, eqb, Bool, true, false, not, _&&_, cond, List, [], _∷_, take, set, filter}
 use Rattle.model.specs.Types.{Key, Image, AtomicityUnit, Found, Columns, Entry, Transaction, Reading}
 use Rattle.types.specs.declared.Reading.the-variants.{Absent, Value}
 use Rattle.model.specs.Search.{firstFrom}

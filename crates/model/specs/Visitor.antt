@@ -1,6 +1,5 @@
 -- The visiting program, from its whole input to its whole output. Document 01, "The visiting program".
-use Rattle.lists.specs.Basics.{ℕ, _+_, _*_, eqb, Bool, not, _&&_, cond, List, [], _∷_, _++_, map, length, take, drop, getD}
-use Rattle.lists.specs.Bytes.{bytes}
+use Rattle.lists.specs.Basics.{ℕ, _+_, _*_, eqb, Bool, not, _&&_, cond, List, [], _∷_, _++_, map, length, take, drop, getD, bytes}
 use Rattle.decimal.specs.Field.{fieldText}
 use Rattle.model.specs.Types.{Key, Record, Column}
 use Rattle.model.specs.Layouts.{figures, recordBytes, coordinatorBytes}

@@ -1,6 +1,5 @@
 -- Well-formed transactions (refusal 3): a line for each clause of document 01, "Transaction". Where it leaves room, docs/DECISIONS.md says what was decided.
-use Rattle.lists.specs.Basics.{ℕ, eqb, leb, ltb, Bool, true, false, not, _&&_, _||_, List, [], _∷_, length}
-use Rattle.lists.specs.Each.{all, any}
+use Rattle.lists.specs.Basics.{ℕ, eqb, leb, ltb, Bool, true, false, not, _&&_, _||_, List, [], _∷_, length, all, any}
 use Rattle.model.specs.Types.{Image, Record, AtomicityUnit, Columns, Entry, Transaction}
 use Rattle.model.specs.Layouts.{imageLayout, columnsLayout}
 use Rattle.model.specs.Lines.{rowGood}

@@ -1,6 +1,5 @@
 -- What a call writes, as data: the lines of one group, or the coordinator sheet, or nothing. Only `apply` changes sheets.
-use Rattle.lists.specs.Basics.{ℕ, _+_, eqb, Bool, false, _&&_, cond, List, [], _∷_, map, Option, none, some}
-use Rattle.lists.specs.Each.{all, any}
+use Rattle.lists.specs.Basics.{ℕ, _+_, eqb, Bool, false, _&&_, cond, List, [], _∷_, map, Option, none, some, all, any}
 use Rattle.model.specs.Types.{Key, Record, Decision, Entry}
 use Rattle.model.specs.Records.{sameKey, recordsGood}
 use Rattle.model.specs.Coordinator.{Coordinator, coordinatorGood, namesIssued, withDecision, withIssued}

@@ -1,6 +1,5 @@
 -- What each call answers, case by case in the order of its conditions.
-use Rattle.lists.specs.Basics.{_≡_, refl, _∙_, ℕ, _*_, _/_, true, false, List, map, length, eq-eqb, ne-eqb}
-use Rattle.lists.specs.Each.{joined}
+use Rattle.lists.specs.Basics.{_≡_, refl, _∙_, ℕ, _*_, _/_, true, false, List, map, length, eq-eqb, ne-eqb, joined}
 use Rattle.model.specs.Layouts.{recordLayout, recordBytes, recordFields}
 use Rattle.model.specs.Lines.{rowOf, lineText, linesOf}
 use Rattle.model.specs.Records.{recordsAccepted, rows, rowsAccepted}

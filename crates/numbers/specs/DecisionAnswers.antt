@@ -1,9 +1,7 @@
 -- What the two calls on a coordinator's numbers answer, case by case in the order of their conditions. Where none holds, the head and
 -- the lines say the numbers of the coordinator, part by part.
 use Rattle.lists.specs.Basics.{_≡_, refl, sym, ap, ap₂, _∙_, ℕ, suc, _+_, _*_, _/_, _≤_, eqb, true, false, List, [], _∷_, _++_, map, length, take, drop, getD}
-use Rattle.lists.specs.Basics.{length-map, length-take, arith, eq-eqb, ne-eqb}
-use Rattle.lists.specs.Tests.{and-fst, and-snd, tests}
-use Rattle.lists.specs.Each.{all, joined}
+use Rattle.lists.specs.Basics.{length-map, length-take, arith, eq-eqb, ne-eqb, all, joined, and-fst, and-snd, tests}
 use Rattle.lists.specs.All.{map-map, map-equal}
 use Rattle.model.specs.Layouts.{headLayout, lineLayout, decisionColumn, figures, coordinatorBytes, headFields}
 use Rattle.model.specs.Lines.{rowOf, lineText, lineSet, rowGood, inRange, linesOf, linesSet}

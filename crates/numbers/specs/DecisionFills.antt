@@ -1,8 +1,7 @@
 -- Filling with decisions: number by number from the lines of a sheet, and line by line from the numbers.
 -- Each loop stores element i of a list that is known beforehand.
 use Rattle.lists.specs.Basics.{_≡_, refl, sym, ap, _∙_, ℕ, zero, suc, _+_, _-_, _*_, _/_, _≤_, _<_, List, [], _∷_, _++_, map, length, take, drop, getD, set}
-use Rattle.lists.specs.Basics.{length-map, List·getD-map, arith}
-use Rattle.lists.specs.Each.{joined}
+use Rattle.lists.specs.Basics.{length-map, List·getD-map, arith, joined}
 use Rattle.lists.specs.All.{getD-any}
 use Rattle.lists.specs.Pieces.{over-part, length-pieces, getD-pieces}
 use Rattle.lists.specs.Fill.{FilledTo, fill-first, fill-next, fill-last, StoredTo, store-first, store-next, store-last}

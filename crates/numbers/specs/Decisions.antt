@@ -2,10 +2,9 @@
 -- The two tests of the rules, range and no decision, are one pass, by induction on the decisions.
 use Rattle.lists.specs.Basics.{_≡_, refl, sym, ap, ap₂, _∙_, ℕ, zero, suc, _+_, _-_, _*_, _/_, _%_, _≤_, _<_, eqb, leb, Bool, true, false, _&&_, and-assoc}
 use Rattle.lists.specs.Basics.{and-false, List, [], _∷_, map, length, take, drop, getD, length-map, length-take, length-drop, arith, eqb-true, leb-true, eq-eqb}
-use Rattle.lists.specs.Basics.{ne-eqb, le-leb, lt-leb}
+use Rattle.lists.specs.Basics.{ne-eqb, le-leb, lt-leb, all, same-test}
 use lib.Dec.{leb·zero}
-use Rattle.lists.specs.Tests.{same-test, and-swap}
-use Rattle.lists.specs.Each.{all}
+use Rattle.lists.specs.Tests.{and-swap}
 use Rattle.lists.specs.Walks.{LeftFrom, left-first, left-here, left-last}
 use Rattle.model.specs.Layouts.{headLayout, decisionColumn, coordinatorBytes, headFields}
 use Rattle.model.specs.Lines.{inRange, rowGood}

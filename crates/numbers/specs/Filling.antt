@@ -1,6 +1,6 @@
 -- Filling a target line by line: what the code lends for place i, and what it leaves there.
 use Rattle.lists.specs.Basics.{_≡_, sym, ap, _∙_, ℕ, _+_, _-_, _*_, _≤_, _<_, List, [], _++_, map, length, take, drop, getD, length-map, List·getD-map, arith}
-use Rattle.lists.specs.Each.{joined, pieces}
+use Rattle.lists.specs.Basics.{joined, pieces}
 use Rattle.lists.specs.All.{getD-any}
 use Rattle.lists.specs.Pieces.{over-part, length-pieces, getD-pieces}
 use Rattle.lists.specs.Fill.{FilledTo, fill-first, fill-next, fill-last}

@@ -1,9 +1,7 @@
 -- Records as numbers, judged row by row: each row by itself, and its key against the next row's. Where a row is in range,
 -- its record's numbers are the row again, so that the record's ranges need not be asked twice.
 use Rattle.lists.specs.Basics.{_≡_, refl, sym, ap, ap₂, _∙_, ℕ, _+_, _-_, _*_, _/_, _≤_, _<_, eqb, leb, Bool, true, false, _&&_, and-assoc, List, [], _∷_, map}
-use Rattle.lists.specs.Basics.{length, take, drop, getD, length-map, drop-of-length-le, arith, eqb-true}
-use Rattle.lists.specs.Tests.{and-fst, and-snd, and-both, same-test}
-use Rattle.lists.specs.Each.{all}
+use Rattle.lists.specs.Basics.{length, take, drop, getD, length-map, drop-of-length-le, arith, eqb-true, all, and-fst, and-snd, and-both, same-test}
 use Rattle.lists.specs.All.{pieces-whole}
 use Rattle.lists.specs.Pieces.{getD-pieces}
 use Rattle.lists.specs.Walks.{drop-here, LeftFrom, left-here, left-last}

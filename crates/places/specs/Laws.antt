@@ -3,13 +3,10 @@
 -- digit. The bound on a figure is the blank first column: k columns hold what is below 10 ^ k, and a digit in the first one makes it more.
 use Rattle.lists.specs.Basics.{_≡_, refl, sym, ap, ap₂, _∙_, ℕ, zero, suc, _+_, _-_, _*_, _^_, _≤_, _<_, eqb, leb, ltb, Bool, true, false, not, _&&_, _||_}
 use Rattle.lists.specs.Basics.{cond, true≢false, and-assoc, and-true, and-false, or-true, or-false, List, [], _∷_, _++_, map, length, take, drop, getD}
-use Rattle.lists.specs.Basics.{length-map, length-append, length-take, length-drop, drop-of-length-le, arith, eqb-true, eqb-false, leb-true, ltb-true}
-use Rattle.lists.specs.Basics.{ltb-false, eq-eqb, ne-eqb, le-leb, lt-leb, lt-ltb, le-ltb}
+use Rattle.lists.specs.Basics.{length-map, length-append, length-take, length-drop, drop-of-length-le, drop-cons, arith, eqb-true, eqb-false, leb-true}
+use Rattle.lists.specs.Basics.{ltb-true, ltb-false, eq-eqb, ne-eqb, le-leb, lt-leb, lt-ltb, le-ltb, all, eqList, and-fst, and-snd, and-both, same-test}
+use Rattle.lists.specs.Basics.{choose-by, tests}
 use native.Mathlib.Nat.{add-zero, mul-le-mul-right, pow-suc, pow-le-pow-right}
-use lib.Seq.{drop-cons}
-use Rattle.lists.specs.Bytes.{eqList}
-use Rattle.lists.specs.Each.{all}
-use Rattle.lists.specs.Tests.{and-fst, and-snd, and-both, tests, same-test, choose-by}
 use Rattle.decimal.specs.Field.{isDigit, stepped, scanned, within, figure, isNumber}
 use Rattle.decimal.specs.declared.Scan.the-variants.{Blank, Number, Wrong}
 use Rattle.places.specs.Parts.{Part, text, number, width, partOk, partsOk}

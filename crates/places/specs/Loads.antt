@@ -1,12 +1,11 @@
 -- Bytes as one number of which the first weighs least, as a load takes them, and the turn to the number of which it weighs most: the lowest byte
 -- of the one is taken off as the other takes it in.
 use Rattle.lists.specs.Basics.{_≡_, refl, sym, ap₂, _∙_, ℕ, zero, suc, _+_, _-_, _*_, _/_, _%_, _^_, _≤_, _<_, eqb, true, _&&_, List, [], _∷_, _++_, length}
-use Rattle.lists.specs.Basics.{drop, getD, length-take, length-drop, arith, add-one, eqb-true, eq-eqb}
+use Rattle.lists.specs.Basics.{drop, getD, length-take, length-drop, drop-drop, drop-cons, take-add, arith, add-one, eqb-true, eq-eqb, eqList, and-both}
+use Rattle.lists.specs.Basics.{same-test, tests}
 use native.Mathlib.Nat.{add-assoc, pow-suc}
-use lib.Seq.{drop-cons, drop-drop, take-add}
 use lib.Pow.{areBytes}
-use Rattle.lists.specs.Bytes.{eqList, eqList-append}
-use Rattle.lists.specs.Tests.{and-both, same-test, tests}
+use Rattle.lists.specs.Bytes.{eqList-append}
 use Rattle.places.specs.Order.{numberFrom, numberOf, bytesAt, part-bytes, same-length}
 
 unfoldable pub loaded : List ℕ → ℕ

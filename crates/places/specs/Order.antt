@@ -1,15 +1,11 @@
 -- The order of two texts by their bytes, and a text as one number. Equal lengths of bytes order as their numbers do, since one byte more takes
 -- both numbers times 256 and adds less than that: what was less stays less, and what was equal is decided by the byte.
 use Rattle.lists.specs.Basics.{_≡_, refl, sym, _∙_, ℕ, zero, suc, _+_, _*_, _^_, _≤_, _<_, eqb, ltb, Bool, true, false, _&&_, _||_, cond, and-assoc, and-true}
-use Rattle.lists.specs.Basics.{and-false, or-false, List, [], _∷_, length, take, drop, getD, length-take, length-drop, arith, add-one, eqb-true, eqb-false}
-use Rattle.lists.specs.Basics.{ltb-true, ltb-false, eq-eqb, lt-ltb, le-ltb}
+use Rattle.lists.specs.Basics.{and-false, or-false, List, [], _∷_, length, take, drop, getD, length-take, length-drop, drop-drop, take-add, getD-drop, arith}
+use Rattle.lists.specs.Basics.{add-one, eqb-true, eqb-false, ltb-true, ltb-false, eq-eqb, lt-ltb, le-ltb, less, eqList, and-both, same-test, tests}
 use native.Mathlib.Nat.{pow-suc, pow-le-pow-right}
-use lib.Seq.{drop-drop, take-add, getD-drop}
 use lib.Pow.{areBytes}
-use Rattle.lists.specs.Bytes.{eqList}
-use Rattle.lists.specs.Each.{less}
 use Rattle.lists.specs.Order.{decided, regroup, less-append}
-use Rattle.lists.specs.Tests.{and-both, same-test, tests}
 
 -- the number whose digits to the base 256 are those of v and then the bytes
 unfoldable pub numberFrom : ℕ → List ℕ → ℕ

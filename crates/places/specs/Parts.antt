@@ -1,6 +1,5 @@
 -- A line as a row of parts, each a fixed text or a figure: the plain meaning that the pass over tables is proved equal to.
-use Rattle.lists.specs.Basics.{ℕ, _-_, _^_, eqb, Bool, _&&_, List, [], _∷_, length, take, drop}
-use Rattle.lists.specs.Bytes.{eqList}
+use Rattle.lists.specs.Basics.{ℕ, _-_, _^_, eqb, Bool, _&&_, List, [], _∷_, length, take, drop, eqList}
 use Rattle.decimal.specs.Field.{figure, isNumber}
 
 -- a fixed text, or a figure of at least `least` in `columns` columns of which the first is blank

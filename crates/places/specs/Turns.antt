@@ -1,9 +1,7 @@
 -- The pass as the code's loop takes it, byte after byte: what is left from byte i on is the judgement of that byte and what is left after it.
-use Rattle.lists.specs.Basics.{_≡_, ℕ, _+_, _-_, _≤_, _<_, Bool, true, _&&_, and-assoc, and-true, List, [], _∷_, length, drop, getD, length-drop, arith}
-use Rattle.lists.specs.Basics.{add-one}
+use Rattle.lists.specs.Basics.{_≡_, ℕ, _+_, _-_, _≤_, _<_, Bool, true, _&&_, and-assoc, and-true, List, [], _∷_, length, drop, getD, length-drop, drop-drop}
+use Rattle.lists.specs.Basics.{drop-cons, getD-drop, arith, add-one, tests}
 use native.Mathlib.Nat.{add-zero}
-use lib.Seq.{drop-cons, drop-drop, getD-drop}
-use Rattle.lists.specs.Tests.{tests}
 use Rattle.places.specs.Places.{judgedAt, placed, rest, asLong}
 
 -- what is left of a pass at byte i, where p is left of it: that byte and the rest

@@ -1,8 +1,6 @@
 -- Scopes compared by the fields of their keys, and groups counted one by one: a group counts at the last put of its scope.
-use Rattle.lists.specs.Basics.{_≡_, refl, sym, ap, _∙_, ℕ, suc, _-_, eqb, ltb, Bool, true, false, not, _&&_, _||_, cond, or-false, List}
-use Rattle.lists.specs.Basics.{[], _∷_, take, eqb-true}
-use Rattle.lists.specs.Bytes.{eqList, eqList-true}
-use Rattle.lists.specs.Each.{any, filter, count, less}
+use Rattle.lists.specs.Basics.{_≡_, refl, sym, ap, _∙_, ℕ, suc, _-_, eqb, ltb, Bool, true, false, not, _&&_, _||_, cond, or-false, List, [], _∷_, take}
+use Rattle.lists.specs.Basics.{eqb-true, any, filter, count, less, eqList, eqList-true}
 use Rattle.model.specs.Types.{Key, AtomicityUnit, Entry, Transaction}
 use Rattle.types.specs.declared.AtomicityUnit.the-variants.{Record as RecordUnit, Partition, Table, Namespace, Storage}
 use Rattle.model.specs.Records.{keyNumbers}

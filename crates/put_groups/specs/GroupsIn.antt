@@ -1,10 +1,8 @@
 -- The groups that are found by flat numbers are those of the definitions: entry by entry, the last put of each scope stands for it.
 use Rattle.lists.specs.Basics.{_≡_, refl, sym, ap, ap₂, _∙_, ℕ, suc, _≤_, _<_, eqb, ltb, Bool, true, false, not, _&&_, _||_, cond, and-true, List, [], _∷_}
-use Rattle.lists.specs.Basics.{_++_, map, length, take, drop, getD, length-take, arith, ne-eqb, lt-ltb, le-ltb}
+use Rattle.lists.specs.Basics.{_++_, map, length, take, drop, getD, length-take, arith, ne-eqb, lt-ltb, le-ltb, any, joined, less, choose-by}
 use lib.ListN.{List·getD-append}
-use Rattle.lists.specs.Each.{any, joined, less}
 use Rattle.lists.specs.Chosen.{count-all}
-use Rattle.lists.specs.Tests.{choose-by}
 use Rattle.model.specs.Types.{Key, AtomicityUnit, Entry, Transaction}
 use Rattle.model.specs.Records.{keyNumbers}
 use Rattle.model.specs.Transactions.{isPut, held, puts}

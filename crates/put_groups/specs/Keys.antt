@@ -1,9 +1,7 @@
 -- The first n of five numbers compared, one after another: by the cases of n. The five with which a list begins.
 use Rattle.lists.specs.Basics.{_≡_, refl, sym, ap, _∙_, ℕ, zero, suc, _≤_, eqb, ltb, Bool, _&&_, _||_, and-true, and-false, or-false, List, [], _∷_, length}
-use Rattle.lists.specs.Basics.{take, getD, set, arith, lt-ltb, le-ltb}
+use Rattle.lists.specs.Basics.{take, getD, set, arith, lt-ltb, le-ltb, less, eqList}
 use lib.Seq.{take-nil}
-use Rattle.lists.specs.Bytes.{eqList}
-use Rattle.lists.specs.Each.{less}
 
 module _ (a b c d e a′ b′ c′ d′ e′ : ℕ) where
   pub same-first : (n : ℕ) → (ltb n 1 || eqb a a′ && (ltb n 2 || eqb b b′ && (ltb n 3 || eqb c c′ && (ltb n 4 || eqb d d′ && (ltb n 5 || eqb e e′))))) ≡ eqList (take n (a ∷ b ∷ c ∷ d ∷ e ∷ [])) (take n (a′ ∷ b′ ∷ c′ ∷ d′ ∷ e′ ∷ []))

@@ -1,11 +1,9 @@
 -- The scopes of a transaction's puts by flat numbers: keys, five to an entry, and how many fields of its key make each entry's scope, 0 without a put.
 use Rattle.lists.specs.Basics.{_≡_, refl, sym, ap, _∙_, ℕ, zero, suc, _+_, _-_, _*_, _≤_, _<_, ltb, Bool, true, false, _&&_, _||_, cond, List, [], _∷_, _++_}
-use Rattle.lists.specs.Basics.{map, length, take, drop, getD, set, length-map, drop-of-length-le, arith, add-one}
-use lib.Seq.{drop-cons, drop-drop, getD-drop, take-at}
-use Rattle.lists.specs.Bytes.{eqList}
-use Rattle.lists.specs.Each.{joined, less}
+use Rattle.lists.specs.Basics.{map, length, take, drop, getD, set, length-map, drop-of-length-le, drop-drop, take-at, getD-drop, arith, joined, less, eqList}
 use Rattle.lists.specs.Fill.{FilledTo, fill-first, fill-next, fill-last, StoredTo, store-first, store-next, store-last}
 use Rattle.lists.specs.Pieces.{over-part}
+use Rattle.lists.specs.Walks.{drop-here}
 use Rattle.model.specs.Types.{AtomicityUnit, Entry, Transaction}
 use Rattle.model.specs.Records.{keyNumbers}
 use Rattle.model.specs.Transactions.{isPut, held}
@@ -144,9 +142,7 @@ module _ {A : Type 0} (g : List ℕ → List ℕ → A) (ks fs : List ℕ) (v : 
   -- entry j and those after it
   walk-here : j < length fs → g (drop (j * 5) ks) (getD fs j 0 ∷ drop (j + 1) fs) ≡ v
   walk-here l =
-      let d : drop j fs ≡ getD fs j 0 ∷ drop (j + 1) fs =
-      drop-cons fs j 0 l ∙ ap (λ (k : ℕ). getD fs j 0 ∷ drop k fs) (sym (add-one j)) in
-      ap (g (drop (j * 5) ks)) (sym d) ∙ p .rest
+      sym (ap (g (drop (j * 5) ks)) (drop-here fs j 0 (getD fs j 0) l refl)) ∙ p .rest
 
   -- past entry j, where g of lists that begin with it is h of the rest
   walk-next : (h : List ℕ → List ℕ → A) → j < length fs → g (drop (j * 5) ks) (getD fs j 0 ∷ drop (j + 1) fs) ≡ h (drop 5 (drop (j * 5) ks)) (drop (j + 1) fs) → WalkedTo h ks fs v (j + 1)

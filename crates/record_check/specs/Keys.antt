@@ -1,11 +1,7 @@
 -- Keys compared as bytes. The first fields of two lines order as their bytes do, field by field: a field decides as its figure does, and equal
 -- figures have equal bytes.
-use Rattle.lists.specs.Basics.{_≡_, refl, ap₂, subst, _∙_, ℕ, zero, suc, _+_, eqb, true, _&&_, _||_, List, [], _∷_, length, take, drop, length-take, arith}
-use Rattle.lists.specs.Basics.{eqb-true, eq-eqb}
-use lib.Seq.{take-add}
-use Rattle.lists.specs.Tests.{and-fst, and-snd, same-test}
-use Rattle.lists.specs.Bytes.{eqList, eqList-true, eqList-refl}
-use Rattle.lists.specs.Each.{all, less}
+use Rattle.lists.specs.Basics.{_≡_, refl, ap₂, subst, _∙_, ℕ, zero, suc, _+_, eqb, true, _&&_, _||_, List, [], _∷_, length, take, drop, length-take, take-add}
+use Rattle.lists.specs.Basics.{arith, eqb-true, eq-eqb, all, less, eqList, eqList-true, eqList-refl, and-fst, and-snd, same-test}
 use Rattle.lists.specs.Order.{less-append}
 use Rattle.decimal.specs.declared.Scan.the-variants.{Blank, Number}
 use Rattle.decimal.specs.Field.{scanned, number, isNumber}

@@ -1,10 +1,8 @@
 -- The parts of a layout, and what they say of a line: it is read by the widest ranges, and its numbers are held to the layout's. A part is a text or
 -- a figure. A text is the bytes of one number, by the round trip of its column; a figure is read by the widest range in either case.
 use Rattle.lists.specs.Basics.{_≡_, refl, sym, ap, subst, _∙_, ℕ, _-_, _≤_, eqb, leb, Bool, true, false, _&&_, cond, true≢false, and-true, List, [], _∷_}
-use Rattle.lists.specs.Basics.{length, take, drop, arith, eqb-true, eq-eqb, le-leb}
-use Rattle.lists.specs.Tests.{and-fst, and-snd, and-both, tests, same-test, choose-by}
-use Rattle.lists.specs.Bytes.{eqList, eqList-true, eqList-refl}
-use Rattle.lists.specs.Each.{all}
+use Rattle.lists.specs.Basics.{length, take, drop, arith, eqb-true, eq-eqb, le-leb, all, eqList, eqList-true, eqList-refl, and-fst, and-snd, and-both}
+use Rattle.lists.specs.Basics.{same-test, choose-by, tests}
 use Rattle.decimal.specs.declared.Scan.the-variants.{Number}
 use Rattle.decimal.specs.Field.{number, isNumber}
 use Rattle.decimal.specs.Laws.{isNumber-number}

@@ -1,10 +1,9 @@
 -- Ranges narrowed at some places of a layout. A row of numbers is good by the narrowed layout where it is good by the layout and each number keeps
 -- to its limit: by induction on the limits, and for one limit along the columns up to its place.
 use Rattle.lists.specs.Basics.{_≡_, refl, sym, ap, _∙_, ℕ, zero, suc, _≤_, _<_, leb, ltb, Bool, true, false, _&&_, and-assoc, and-true, and-false, List, []}
-use Rattle.lists.specs.Basics.{_∷_, map, length, drop, getD, set, arith, leb-true, le-leb}
-use lib.Seq.{getD-drop, map-set-same}
-use Rattle.lists.specs.Tests.{and-fst, and-snd, and-move, tests}
-use Rattle.lists.specs.Each.{all}
+use Rattle.lists.specs.Basics.{_∷_, map, length, drop, getD, set, getD-drop, arith, leb-true, le-leb, all, and-fst, and-snd, tests}
+use lib.Seq.{map-set-same}
+use Rattle.lists.specs.Tests.{and-move}
 use Rattle.model.specs.Types.{Column}
 use Rattle.model.specs.Layouts.{noColumn}
 use Rattle.model.specs.Lines.{inRange, rowOf, lineSet, rowGood}

@@ -2,11 +2,9 @@
 -- plain rule are the line read by the widest ranges, with limits on its numbers. In a line that can be read, the bytes that tell its kind
 -- are those of its state and its before version.
 use Rattle.lists.specs.Basics.{_≡_, refl, sym, ap, ap₂, _∙_, ℕ, _+_, _-_, _/_, _%_, _≤_, _<_, eqb, Bool, true, false, _&&_, cond, true≢false, and-assoc, List}
-use Rattle.lists.specs.Basics.{map, length, take, drop, getD, length-take, length-drop, arith, eqb-true, eq-eqb}
-use lib.Seq.{take-take, drop-drop}
-use Rattle.lists.specs.Tests.{and-fst, and-snd, and-same, and-move, same-test, tests, choose-by}
-use Rattle.lists.specs.Bytes.{bytes, eqList, eqList-refl}
-use Rattle.lists.specs.Each.{all}
+use Rattle.lists.specs.Basics.{map, length, take, drop, getD, length-take, length-drop, drop-drop, take-take, arith, eqb-true, eq-eqb, all, eqList, bytes}
+use Rattle.lists.specs.Basics.{eqList-refl, and-fst, and-snd, same-test, choose-by, tests}
+use Rattle.lists.specs.Tests.{and-same, and-move}
 use Rattle.lists.specs.Pieces.{take-drop-take}
 use Rattle.decimal.specs.Field.{ahead, fieldText}
 use Rattle.decimal.specs.Laws.{scan-written}
@@ -22,8 +20,8 @@ use Rattle.places.specs.Order.{part-bytes}
 use Rattle.places.specs.Loads.{loaded, loaded-equal}
 use Rattle.record_check.specs.Ranges.{opened, lineHeld, set-is-held, same-row}
 use Rattle.record_check.specs.Limits.{keeps, limited-line, limited-parts}
-use Rattle.record_check.specs.States.{kinds, kindAt, kindLimits, openLayout, clockLimit, kindParts, kind-says, record-opens, clock-narrow}
-use Rattle.record_check.specs.States.{clock-limited, kindWord, stateTold, word-told, told-few, kindBy, kind-few, kindFor, rule, kind-rule, kind-word}
+use Rattle.record_check.specs.States.{kinds, kindAt, kindLimits, openLayout, clockLimit, kindParts, kind-says, record-opens, clock-narrow, clock-limited}
+use Rattle.record_check.specs.States.{kindWord, stateTold, word-told, told-few, kindBy, kind-few, kindFor, rule, kind-rule, kind-word}
 use Rattle.record_check.specs.Relations.{beforeAt, clockAt, versionBytes, clockFits, follows, widest, clock-fits, clock-low, follows-is}
 
 -- the line can be read, and its record is good alone

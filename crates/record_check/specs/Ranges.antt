@@ -2,10 +2,9 @@
 -- numbers that were read to the layout's own ranges. It goes field by field, since a line that passes has the layout's length, so that no field is
 -- cut short.
 use Rattle.lists.specs.Basics.{_≡_, refl, sym, ap, ap₂, _∙_, ℕ, _-_, _≤_, _<_, eqb, leb, Bool, true, false, _&&_, cond, and-true, and-false, List, [], _∷_, map}
-use Rattle.lists.specs.Basics.{length, take, drop, length-take, length-drop, arith, leb-false, le-leb, lt-leb}
-use Rattle.lists.specs.Tests.{and-fst, and-snd, and-both, tests, same-test, and-swap}
-use Rattle.lists.specs.Bytes.{eqList}
-use Rattle.lists.specs.Each.{all}
+use Rattle.lists.specs.Basics.{length, take, drop, length-take, length-drop, arith, leb-false, le-leb, lt-leb, all, eqList, and-fst, and-snd, and-both}
+use Rattle.lists.specs.Basics.{same-test, tests}
+use Rattle.lists.specs.Tests.{and-swap}
 use Rattle.decimal.specs.declared.Scan.{Scan}
 use Rattle.decimal.specs.declared.Scan.the-variants.{Blank, Number, Wrong}
 use Rattle.decimal.specs.Field.{scanned, within, figure, number, isNumber}

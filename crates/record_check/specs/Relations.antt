@@ -2,15 +2,13 @@
 -- figure is no 9, the next figure has the same bytes but the last, which is one more; else the digits of a field make its number. The end of
 -- the line orders as the clock does.
 use Rattle.lists.specs.Basics.{_≡_, refl, sym, ap, _∙_, ℕ, suc, _+_, _-_, _/_, _%_, _^_, _≤_, _<_, eqb, leb, ltb, Bool, true, false, not, cond, and-false}
-use Rattle.lists.specs.Basics.{or-false, List, [], _∷_, _++_, map, length, take, drop, getD, length-append, length-take, length-drop, arith, eqb-false}
-use Rattle.lists.specs.Basics.{ltb-true, ltb-false, eq-eqb, ne-eqb, le-leb, lt-leb, le-ltb}
+use Rattle.lists.specs.Basics.{or-false, List, [], _∷_, _++_, map, length, take, drop, getD, length-append, length-take, length-drop, drop-drop, drop-cons}
+use Rattle.lists.specs.Basics.{take-add, getD-take, getD-drop, arith, eqb-false, ltb-true, ltb-false, eq-eqb, ne-eqb, le-leb, lt-leb, le-ltb, less, eqList}
+use Rattle.lists.specs.Basics.{bytes, choose-by}
 use native.Mathlib.Nat.{pow-suc}
-use lib.Seq.{take-add, take-length, drop-cons, drop-drop, getD-take, getD-drop, getD-append-seam}
+use lib.Seq.{take-length, getD-append-seam}
 use lib.Pow.{areBytes}
-use Rattle.lists.specs.Bytes.{bytes, eqList}
-use Rattle.lists.specs.Each.{less}
 use Rattle.lists.specs.Order.{less-append}
-use Rattle.lists.specs.Tests.{choose-by}
 use Rattle.decimal.specs.declared.Scan.the-variants.{Blank, Number}
 use Rattle.decimal.specs.Field.{scanned, stepped, ahead, fieldText}
 use Rattle.decimal.specs.Laws.{figure-scan, scan-written, scan-text, length-fieldText, fieldText-bytes}

@@ -1,10 +1,8 @@
 -- The sheet, as the code walks it: line after line, each good, and its key before the next one's. By induction on the lines that is what the
 -- sheet's rules say of all of them.
 use Rattle.lists.specs.Basics.{_≡_, refl, sym, ap, ap₂, _∙_, ℕ, zero, suc, _+_, _-_, _*_, _/_, _<_, eqb, leb, Bool, true, false, _&&_, and-assoc, and-false}
-use Rattle.lists.specs.Basics.{List, map, length, take, drop, arith}
-use lib.Seq.{take-take, drop-drop}
-use Rattle.lists.specs.Tests.{and-fst, and-swap}
-use Rattle.lists.specs.Each.{all, pieces, less}
+use Rattle.lists.specs.Basics.{List, map, length, take, drop, drop-drop, take-take, arith, all, pieces, less, and-fst}
+use Rattle.lists.specs.Tests.{and-swap}
 use Rattle.model.specs.Layouts.{recordLayout, recordBytes, keyBytes}
 use Rattle.model.specs.Lines.{lineSet, linesOf, linesSet}
 use Rattle.model.specs.Records.{goodAlone, inOrder, rising, recordsGood, recordIn, records, recordsAccepted}

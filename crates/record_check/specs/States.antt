@@ -2,14 +2,12 @@
 -- bounds at once. PREPARED over nothing is a kind of its own, since most of it is fixed. What is asked of every row is computed over the table; that
 -- the limits are the rule is computed once the numbers of state and before version are known.
 use Rattle.lists.specs.Basics.{_≡_, refl, sym, ap, ap₂, _∙_, ℕ, zero, suc, _+_, _-_, _*_, _≤_, _<_, eqb, leb, Bool, true, false, not, _&&_, cond, and-assoc}
-use Rattle.lists.specs.Basics.{and-true, and-false, List, [], _∷_, _++_, map, length, take, drop, getD, set, arith, eqb-true, eq-eqb, le-leb}
+use Rattle.lists.specs.Basics.{and-true, and-false, List, [], _∷_, _++_, map, length, take, drop, getD, set, arith, eqb-true, eq-eqb, le-leb, all, joined}
+use Rattle.lists.specs.Basics.{eqList, bytes, eqList-true, and-both, same-test, choose-by, tests}
 use lib.Dec.{leb·zero, leb·suc-zero}
-use Rattle.lists.specs.Bytes.{bytes, eqList, eqList-true}
-use Rattle.lists.specs.Each.{all, joined}
 use Rattle.lists.specs.All.{all-at}
-use Rattle.lists.specs.Tests.{and-both, same-test, tests, choose-by}
 use Rattle.types.specs.declared.State.the-variants.{Absent, Committed, Prepared}
-use Rattle.model.specs.Types.{Column, State, StateWord}
+use Rattle.model.specs.Types.{State, Column, StateWord}
 use Rattle.model.specs.Layouts.{recordLayout, words, wordAt, noColumn, stateField, imageField, beforeField, clockField, imageFields, recordFields, wordBytes}
 use Rattle.model.specs.Lines.{fieldValue, fieldBytes, wordFrom, inRange}
 use Rattle.model.specs.Records.{stateNumber, stateOf, stateRule, imageFrom, recordOf, isZero, absentRule, committedRule, preparedRule}

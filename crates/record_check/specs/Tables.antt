@@ -1,10 +1,7 @@
 -- The tables of the kinds of line as the code holds them, three rows for each kind one after another. The law of the pass over tables applies to the
 -- three rows of a kind: that they stand in their places, and that the kind's parts are such that it does, is computed for every kind.
-use Rattle.lists.specs.Basics.{_≡_, refl, sym, ap, _∙_, ℕ, _+_, _-_, _*_, _<_, eqb, ltb, Bool, true, _&&_, List, [], _∷_, _++_, map, length, take, drop}
-use Rattle.lists.specs.Basics.{getD, List·getD-map}
-use Rattle.lists.specs.Bytes.{bytes, eqList, eqList-true}
-use Rattle.lists.specs.Each.{all, joined}
-use Rattle.lists.specs.Tests.{tests}
+use Rattle.lists.specs.Basics.{_≡_, refl, sym, ap, _∙_, ℕ, _+_, _-_, _*_, _<_, eqb, ltb, Bool, true, _&&_, List, [], _∷_, _++_, map, length, take, drop, getD}
+use Rattle.lists.specs.Basics.{List·getD-map, all, joined, eqList, bytes, eqList-true, tests}
 use Rattle.model.specs.Layouts.{recordLayout, words, recordBytes}
 use Rattle.model.specs.Lines.{fieldBytes}
 use Rattle.model.specs.Records.{stateNumber}

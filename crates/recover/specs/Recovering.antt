@@ -1,10 +1,8 @@
 -- What the visit of line i writes: setting that line in the bytes is the write of its key, and setting its owner's decision is the decide.
 use Rattle.lists.specs.Basics.{_≡_, refl, sym, ap, subst, _∙_, ℕ, _*_, _/_, _≤_, _<_, ltb, Bool, true, false, cond, and-false, List, [], _∷_, map, length, getD}
-use Rattle.lists.specs.Basics.{set, length-map, List·getD-map, arith, eq-eqb, lt-ltb}
+use Rattle.lists.specs.Basics.{set, length-map, List·getD-map, arith, eq-eqb, lt-ltb, any, and-fst, choose-by, tests}
 use Rattle.lists.specs.Pieces.{over}
 use Rattle.lists.specs.All.{getD-any}
-use Rattle.lists.specs.Each.{any}
-use Rattle.lists.specs.Tests.{and-fst, choose-by, tests}
 use Rattle.types.specs.declared.Decision.the-variants.{Aborted}
 use Rattle.model.specs.Types.{Key, Record, At, Recovery}
 use Rattle.types.specs.declared.Recovery.the-variants.{Stays, Forward, Back, Again, Busy}

@@ -1,9 +1,7 @@
 -- Every call keeps the invariant of a history. A refused call changes nothing; a visit makes a gentle write; begin adds a state of a new number; read, put,
 -- abort and advance replace the state that they take.
 use Rattle.lists.specs.Basics.{_≡_, refl, sym, ap, subst, _∙_, ℕ, zero, suc, _+_, _≤_, _<_, eqb, Bool, true, false, not, _&&_, cond, true≢false, List, [], _∷_}
-use Rattle.lists.specs.Basics.{take, drop, getD, set, none, some, arith, add-one, eqb-true, eq-eqb, ne-eqb, not-false}
-use Rattle.lists.specs.Each.{all}
-use Rattle.lists.specs.Tests.{and-snd, and-both, choose-by, tests}
+use Rattle.lists.specs.Basics.{take, drop, getD, set, none, some, arith, add-one, eqb-true, eq-eqb, ne-eqb, not-false, all, and-snd, and-both, choose-by, tests}
 use Rattle.model.specs.Types.{Key, Record, Decision, Found, Nothing, Columns, Entry, Transaction, Recovery}
 use Rattle.types.specs.declared.Decision.the-variants.{Undecided, Committed, Aborted}
 use Rattle.model.specs.Refusals.{refusalOf}

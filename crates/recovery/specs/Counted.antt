@@ -1,9 +1,7 @@
 -- Which numbers the model has committed, and why: by their decision, by their one-phase write, or having put nothing. Beside the invariant of the lines, over
 -- the same histories.
 use Rattle.lists.specs.Basics.{_≡_, refl, sym, ap, subst, _∙_, ℕ, _≤_, _<_, eqb, Bool, true, false, _||_, true≢false, List, _∷_, length, none, some}
-use Rattle.lists.specs.Basics.{Option·none-ne-some, Option·some-injective, _⊎_, inl, inr, arith, eqb-true, eqb-false, eq-eqb}
-use Rattle.lists.specs.Each.{any}
-use Rattle.lists.specs.Chosen.{or-else, or-left, or-right}
+use Rattle.lists.specs.Basics.{Option·none-ne-some, Option·some-injective, _⊎_, inl, inr, arith, eqb-true, eqb-false, eq-eqb, any, or-else, or-left, or-right}
 use Rattle.types.specs.declared.Decision.the-variants.{Undecided, Committed, Aborted}
 use Rattle.model.specs.Types.{Key, Entry, Transaction}
 use Rattle.model.specs.Results.{returns}

@@ -1,6 +1,5 @@
 -- A legal history keeps the invariant from its first sheets on.
-use Rattle.lists.specs.Basics.{_≡_, refl, sym, _∙_, ℕ, Bool, true, false, not, true≢false, List, [], _∷_, some, not-true}
-use Rattle.lists.specs.Each.{any}
+use Rattle.lists.specs.Basics.{_≡_, refl, sym, _∙_, ℕ, Bool, true, false, not, true≢false, List, [], _∷_, some, not-true, any}
 use Rattle.model.specs.Types.{Key, Record, Transaction}
 use Rattle.model.specs.Records.{lineOf}
 use Rattle.model.specs.Images.{isPrepared}

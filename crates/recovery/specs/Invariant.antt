@@ -1,8 +1,7 @@
 -- The invariant of a history: the sheets are good, the settled lines are the model's, and of every state that may be handed on it is remembered what it has
 -- put and prepared; one such state for each number. A call keeps it if its own state and the states of others do.
 use Rattle.lists.specs.Basics.{_≡_, refl, sym, ap, subst, _∙_, ℕ, _≤_, _<_, Bool, true, _||_, true≢false, List, _∷_, length, none, some, Option·none-ne-some}
-use Rattle.lists.specs.Basics.{Option·some-injective, inl, inr, arith, eqb-true, eq-eqb}
-use Rattle.lists.specs.Chosen.{or-else}
+use Rattle.lists.specs.Basics.{Option·some-injective, inl, inr, arith, eqb-true, eq-eqb, or-else}
 use Rattle.types.specs.declared.Decision.the-variants.{Undecided}
 use Rattle.model.specs.Types.{Key, Transaction}
 use Rattle.model.specs.Results.{returns}

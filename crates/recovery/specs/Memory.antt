@@ -1,8 +1,7 @@
 -- What is remembered of a transaction that may still commit: its decision is not COMMITTED, and while it is undecided the columns that it has prepared are
 -- those put in the groups done so far. Writes of others keep it.
 use Rattle.lists.specs.Basics.{_≡_, refl, sym, ap, _∙_, ℕ, zero, suc, eqb, ltb, Bool, true, false, _&&_, cond, and-false, List, [], _∷_, getD, set, Option}
-use Rattle.lists.specs.Basics.{none, some, Option·none-ne-some, eqb-true, eqb-false, ne-eqb}
-use Rattle.lists.specs.Tests.{choose-by}
+use Rattle.lists.specs.Basics.{none, some, Option·none-ne-some, eqb-true, eqb-false, ne-eqb, choose-by}
 use Rattle.model.specs.Types.{Key, Record, Decision, AtomicityUnit, Entry, Transaction}
 use Rattle.types.specs.declared.Decision.the-variants.{Undecided, Committed, Aborted}
 use Rattle.model.specs.Records.{lineOf, sameKey}

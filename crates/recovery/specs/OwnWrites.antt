@@ -1,8 +1,7 @@
 -- A transaction's own writes: preparing a group adds its columns to what is remembered; the one-phase write and the decision COMMITTED move the settled
 -- lines exactly as the model's commit does.
 use Rattle.lists.specs.Basics.{_≡_, refl, sym, ap, ap₂, _∙_, ℕ, _+_, _≤_, _<_, eqb, ltb, Bool, true, false, _&&_, cond, List, length, Option, none, some, arith}
-use Rattle.lists.specs.Basics.{eqb-true, eqb-false, ltb-true, ltb-false, eq-eqb, lt-ltb, le-ltb}
-use Rattle.lists.specs.Tests.{tests, choose-by}
+use Rattle.lists.specs.Basics.{eqb-true, eqb-false, ltb-true, ltb-false, eq-eqb, lt-ltb, le-ltb, choose-by, tests}
 use Rattle.types.specs.declared.State.the-variants as State
 use Rattle.model.specs.Types.{Key, Record, AtomicityUnit, Entry, Transaction}
 use Rattle.types.specs.declared.Decision.the-variants.{Undecided, Committed}

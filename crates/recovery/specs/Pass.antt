@@ -1,9 +1,7 @@
 -- The recovery pass: a visit raises a line from undecided to decided to not prepared, and visits to other lines never lower it. After two visits no line is
 -- prepared, and then every line is its settled line.
 use Rattle.lists.specs.Basics.{_≡_, refl, sym, ap, ap₂, subst, _∙_, ℕ, zero, suc, _+_, _^_, _≤_, _<_, eqb, Bool, true, false, _&&_, cond, true≢false, List, []}
-use Rattle.lists.specs.Basics.{_∷_, map, length, arith, eq-eqb}
-use Rattle.lists.specs.Each.{any, count}
-use Rattle.lists.specs.Tests.{choose-by, tests}
+use Rattle.lists.specs.Basics.{_∷_, map, length, arith, eq-eqb, any, count, choose-by, tests}
 use Rattle.model.specs.Types.{Key, Record, Decision, Recovery}
 use Rattle.types.specs.declared.Decision.the-variants.{Undecided, Aborted}
 use Rattle.types.specs.declared.Recovery.the-variants.{Stays, Forward, Back, Again, Busy}

@@ -1,9 +1,7 @@
 -- A recovery pass exists after every history: each line visited twice, at a reading 15000 ticks after its prepare clock. A line that is still prepared during
 -- the pass is the line that stood there at first, so that the reading fits it.
 use Rattle.lists.specs.Basics.{_≡_, refl, sym, ap, _∙_, ℕ, suc, _+_, _-_, _%_, _^_, _≤_, Bool, true, false, _||_, cond, true≢false, List, [], _∷_, _++_, map}
-use Rattle.lists.specs.Basics.{arith}
-use Rattle.lists.specs.Each.{any, count}
-use Rattle.lists.specs.Tests.{and-fst}
+use Rattle.lists.specs.Basics.{arith, any, count, and-fst}
 use Rattle.model.specs.Types.{Key, Record}
 use Rattle.model.specs.Records.{sameKey, lineOf}
 use Rattle.model.specs.Coordinator.{isUndecided}

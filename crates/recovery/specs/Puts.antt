@@ -1,9 +1,7 @@
 -- The columns put for a key: by the entry that a group has for it, and after a read or a put. Each by induction on the entries.
 use Rattle.lists.specs.Basics.{_≡_, refl, sym, ap, ap₂, _∙_, ℕ, zero, suc, _<_, eqb, Bool, true, false, not, _&&_, _||_, cond, true≢false, List, [], _∷_}
-use Rattle.lists.specs.Basics.{length, take, getD, set, Option, none, some, Option·none-ne-some, arith, not-true}
-use Rattle.lists.specs.Each.{any, filter}
-use Rattle.lists.specs.Chosen.{or-left, or-right}
-use Rattle.lists.specs.Tests.{and-fst, and-snd, choose-by}
+use Rattle.lists.specs.Basics.{length, take, getD, set, Option, none, some, Option·none-ne-some, arith, not-true, any, filter, and-fst, and-snd, choose-by}
+use Rattle.lists.specs.Basics.{or-left, or-right}
 use Rattle.model.specs.Types.{Key, AtomicityUnit, Entry}
 use Rattle.model.specs.Images.{Change}
 use Rattle.model.specs.Records.{sameKey}

@@ -1,9 +1,8 @@
 -- The settled view: what each line would be once its owner is finished with. A prepared line whose owner is COMMITTED counts as rolled forward, any
 -- other prepared line as rolled back; other lines count as they are. All writes but a commit leave the settled lines alone.
 use Rattle.lists.specs.Basics.{_≡_, refl, sym, ap, ap₂, _∙_, ℕ, zero, suc, _+_, _≤_, eqb, Bool, true, false, cond, List, [], _∷_, length, getD, set, Option}
-use Rattle.lists.specs.Basics.{none, some, arith, eqb-true, eqb-false}
+use Rattle.lists.specs.Basics.{none, some, arith, eqb-true, eqb-false, choose-by, tests}
 use lib.Seq.{getD-set-same, getD-set-other}
-use Rattle.lists.specs.Tests.{choose-by, tests}
 use Rattle.model.specs.Types.{Key, Record, Decision, Entry}
 use Rattle.types.specs.declared.Decision.the-variants.{Undecided, Committed, Aborted}
 use Rattle.model.specs.Records.{lineOf, stateRule}

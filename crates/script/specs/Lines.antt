@@ -1,9 +1,7 @@
 -- What a line of a history says (docs/REPLAY.md): words parted by single spaces, the first of them the call's name, the others its numbers. And what reading
 -- it byte by byte tells of that.
 use Rattle.lists.specs.Basics.{_≡_, refl, sym, ap, ap₂, _∙_, ℕ, suc, _+_, _≤_, _<_, eqb, leb, Bool, true, false, _&&_, cond, List, [], _∷_, length, take, drop}
-use Rattle.lists.specs.Basics.{getD, set, replicate, drop-of-length-le, arith, add-one, eq-eqb, ne-eqb}
-use lib.Seq.{drop-cons, drop-drop}
-use Rattle.lists.specs.Bytes.{bytes, eqList}
+use Rattle.lists.specs.Basics.{getD, set, replicate, drop-of-length-le, drop-drop, drop-cons, arith, add-one, eq-eqb, ne-eqb, eqList, bytes}
 use Rattle.decimal.specs.declared.Scan.{Scan}
 use Rattle.decimal.specs.declared.Scan.the-variants.{Blank, Number, Wrong}
 use Rattle.decimal.specs.Field.{figure}

@@ -1,7 +1,6 @@
 -- A look-up that is not refused: the sheet is accepted, the key is in range, and a place that was found is one of 500.
-use Rattle.lists.specs.Basics.{_≡_, ℕ, _≤_, _<_, true, List, length, arith, not-false}
+use Rattle.lists.specs.Basics.{_≡_, ℕ, _≤_, _<_, true, List, length, arith, not-false, tests}
 use Rattle.model.specs.Types.{Key, At}
-use Rattle.lists.specs.Tests.{tests}
 use Rattle.model.specs.Records.{recordsAccepted, recordsGood, keyInRange, records, found}
 use Rattle.model.specs.Refusals.{refusalOf}
 use Rattle.model.specs.SheetCalls.{lookupConditions}

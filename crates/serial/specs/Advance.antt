@@ -2,10 +2,8 @@
 -- its last prepare or on leaving open, validates entry by entry, and commits by its decision or, without puts, by its last step.
 use Rattle.lists.specs.Basics.{_≡_, refl, sym, ap, subst, _∙_, ℕ, zero, suc, _+_, _≤_, _<_, eqb, ltb, Bool, true, false, not, _&&_, cond, true≢false, and-false}
 use Rattle.lists.specs.Basics.{List, _∷_, length, getD, none, some, Option·none-ne-some, _⊎_, inl, inr, arith, eqb-true, ltb-true, ltb-false, eq-eqb, ne-eqb}
-use Rattle.lists.specs.Basics.{le-ltb, not-true}
-use Rattle.lists.specs.Each.{all}
+use Rattle.lists.specs.Basics.{le-ltb, not-true, all, and-snd, choose-by}
 use Rattle.lists.specs.Members.{Mem, mem-passes, mem-filter}
-use Rattle.lists.specs.Tests.{and-snd, choose-by}
 use Rattle.model.specs.Types.{Key, Record, Decision, Entry, Transaction}
 use Rattle.types.specs.declared.Decision.the-variants.{Undecided, Committed, Aborted}
 use Rattle.model.specs.Coordinator.{decision}

@@ -1,7 +1,6 @@
 -- Checked transactions are serializable, over bytes: a legal history of turns on accepted bytes is one on what they say (recovery), and so are the calls that its
 -- turns come to, answer by answer.
-use Rattle.lists.specs.Basics.{_≡_, refl, sym, ap, subst, _∙_, true, List, [], _∷_, map}
-use Rattle.lists.specs.Each.{all}
+use Rattle.lists.specs.Basics.{_≡_, refl, sym, ap, subst, _∙_, true, List, [], _∷_, map, all}
 use Rattle.lists.specs.All.{all-always, map-equal}
 use Rattle.model.specs.Types.{Record}
 use Rattle.model.specs.Records.{records, recordsText}

@@ -1,8 +1,7 @@
 -- Every call keeps what is known of the order and of the answers so far: a refused call and a visit take no state, begin returns a new one, read and put return
 -- one in open, abort one past decide, and advance one of the step table. A new entry is what the visit of its line left, which is the model's line.
 use Rattle.lists.specs.Basics.{_≡_, refl, sym, ap, subst, _∙_, ℕ, _+_, _<_, eqb, leb, Bool, true, false, not, _&&_, cond, true≢false, List, _∷_, length, getD}
-use Rattle.lists.specs.Basics.{length-set, some, Option·none-ne-some, Option·some-injective, arith, eqb-true, leb-false, not-false}
-use Rattle.lists.specs.Tests.{choose-by}
+use Rattle.lists.specs.Basics.{length-set, some, Option·none-ne-some, Option·some-injective, arith, eqb-true, leb-false, not-false, choose-by}
 use Rattle.model.specs.Types.{Key, Record, Found, At, Columns, Entry, Transaction, Recovery, Reading}
 use Rattle.types.specs.declared.Decision.the-variants.{Committed, Aborted}
 use Rattle.types.specs.declared.Reading.the-variants.{Again}

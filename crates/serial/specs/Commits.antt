@@ -1,9 +1,7 @@
 -- The commit of a transaction, by its decision or, without puts, by its last step: all its entries are validated by then, so that it commits at its place in the
 -- order (OrderCommits). Where another has prepared it has put nothing, so that what is prepared stays fresh.
 use Rattle.lists.specs.Basics.{_≡_, refl, sym, ap, subst, _∙_, ℕ, _≤_, eqb, true, false, List, _∷_, Option, none, some, Option·none-ne-some, _⊎_, inl, inr}
-use Rattle.lists.specs.Basics.{arith, eqb-true, eq-eqb, ne-eqb}
-use Rattle.lists.specs.Each.{any}
-use Rattle.lists.specs.Chosen.{or-else, or-left}
+use Rattle.lists.specs.Basics.{arith, eqb-true, eq-eqb, ne-eqb, any, or-else, or-left}
 use Rattle.lists.specs.Members.{Mem, here}
 use Rattle.types.specs.declared.Decision.the-variants.{Undecided, Committed}
 use Rattle.model.specs.Types.{Key, Record, Entry, Transaction}

@@ -1,11 +1,8 @@
 -- The entries of a transaction and what they put: what is put for a key is put by an entry of that key, and since keys are distinct by the only one; and every
 -- entry of a checked transaction is a put or is to be validated. Each by induction on the entries.
 use Rattle.lists.specs.Basics.{_≡_, refl, sym, ap, ap₂, _∙_, Bool, true, false, not, _&&_, cond, true≢false, and-false, List, [], _∷_, none, some}
-use Rattle.lists.specs.Basics.{Option·none-ne-some, _⊎_, inl, inr, not-true}
-use Rattle.lists.specs.Each.{any, filter}
-use Rattle.lists.specs.Chosen.{or-fst, or-snd, or-left, or-right}
+use Rattle.lists.specs.Basics.{Option·none-ne-some, _⊎_, inl, inr, not-true, any, filter, and-fst, and-snd, and-both, or-left, or-right, or-fst, or-snd}
 use Rattle.lists.specs.Members.{Mem, here, there, mem-filter}
-use Rattle.lists.specs.Tests.{and-fst, and-snd, and-both}
 use Rattle.model.specs.Types.{Key, AtomicityUnit, Entry, Transaction}
 use Rattle.model.specs.Images.{Change, changeOf}
 use Rattle.model.specs.Records.{sameKey}

@@ -1,8 +1,6 @@
 -- A legal history in which every transaction is begun as checked keeps what is known of the order and of the answers, from its first sheets on.
-use Rattle.lists.specs.Basics.{_≡_, refl, sym, ℕ, Bool, true, true≢false, List, [], _∷_}
-use Rattle.lists.specs.Each.{all, any}
+use Rattle.lists.specs.Basics.{_≡_, refl, sym, ℕ, Bool, true, true≢false, List, [], _∷_, all, any, and-fst, and-snd}
 use Rattle.lists.specs.Members.{mem-none}
-use Rattle.lists.specs.Tests.{and-fst, and-snd}
 use Rattle.model.specs.Types.{Key, Record}
 use Rattle.model.specs.Records.{lineOf}
 use Rattle.model.specs.Writes.{Sheets}

@@ -1,10 +1,8 @@
 -- What a state holds after a call: a step leaves its entries, a read adds one at the end, and a put replaces one by an entry of the same key that has the same as
 -- first read. So what was held is held on, and no entry becomes newer than its line.
 use Rattle.lists.specs.Basics.{_≡_, refl, sym, ap, subst, _∙_, ℕ, _+_, _<_, ltb, true, false, true≢false, List, [], _∷_, _++_, length, take, getD, set, _⊎_}
-use Rattle.lists.specs.Basics.{inl, inr, add-one, not-true}
+use Rattle.lists.specs.Basics.{inl, inr, add-one, not-true, all, choose-by}
 use lib.Seq.{take-suc-set}
-use Rattle.lists.specs.Each.{all}
-use Rattle.lists.specs.Tests.{choose-by}
 use Rattle.lists.specs.Members.{Mem, mem-before, mem-last, mem-more, mem-set, mem-kept, mem-at, mem-set-at}
 use Rattle.model.specs.Types.{Key, Image, Record, Found, Columns, Entry, Transaction}
 use Rattle.model.specs.Records.{sameKey, isMissing, byFound}

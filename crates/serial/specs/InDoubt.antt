@@ -1,8 +1,7 @@
 -- Transactions in doubt: those that have their place and may still commit. What one of them has put it has prepared (recovery's memory), so that two of them put
 -- to different lines, and a line whose condition holds is put to by none; and an entry whose condition holds is as the line, having no lower version.
 use Rattle.lists.specs.Basics.{_≡_, refl, sym, ap, _∙_, ℕ, _≤_, eqb, Bool, true, false, cond, List, none, some, Option·none-ne-some, inl, inr, arith, eqb-true}
-use Rattle.lists.specs.Basics.{eqb-false, not-true}
-use Rattle.lists.specs.Tests.{and-snd, tests}
+use Rattle.lists.specs.Basics.{eqb-false, not-true, and-snd, tests}
 use Rattle.model.specs.Types.{Key, Record, AtomicityUnit, Entry, Transaction}
 use Rattle.types.specs.declared.Decision.the-variants.{Undecided}
 use Rattle.model.specs.Records.{lineOf, hasLine}

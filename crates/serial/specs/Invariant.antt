@@ -1,8 +1,7 @@
 -- The invariant of the order of a history, beside recovery's: the order is consistent, no entry is newer than its line, what is prepared is fresh, and each place
 -- belongs to an available state.
 use Rattle.lists.specs.Basics.{_≡_, sym, ap, subst, _∙_, ℕ, _≤_, eqb, true, false, _&&_, _||_, cond, and-false, List, [], _∷_, length, take, Option, none, some}
-use Rattle.lists.specs.Basics.{_⊎_}
-use Rattle.lists.specs.Each.{any}
+use Rattle.lists.specs.Basics.{_⊎_, any}
 use Rattle.lists.specs.Members.{Mem}
 use Rattle.model.specs.Types.{Key, Record, AtomicityUnit, Entry, Transaction}
 use Rattle.types.specs.declared.Decision.the-variants.{Undecided}

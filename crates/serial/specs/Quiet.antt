@@ -1,8 +1,7 @@
 -- Calls that commit nothing and return a state that is not in doubt: in open, in prepare, past decide, or aborted by a visitor. The order stays as it is, and who
 -- is in doubt and what is validated afterwards was so before.
 use Rattle.lists.specs.Basics.{_≡_, refl, sym, ap, subst, _∙_, ℕ, _≤_, eqb, true, false, true≢false, List, _∷_, length, none, Option·none-ne-some, inl, inr}
-use Rattle.lists.specs.Basics.{arith}
-use Rattle.lists.specs.Each.{any}
+use Rattle.lists.specs.Basics.{arith, any}
 use Rattle.lists.specs.Members.{Mem}
 use Rattle.types.specs.declared.Decision.the-variants.{Undecided, Aborted}
 use Rattle.model.specs.Types.{Key, Record, Entry, Transaction}

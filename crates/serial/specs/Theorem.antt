@@ -1,10 +1,8 @@
 -- Checked transactions are serializable, over decoded sheets. What is known at the end of a history, of places and entries, says of numbers what is claimed: a
 -- committed transaction has validated all its entries, which are what its reads answered, and the page of a number is what its entries put.
 use Rattle.lists.specs.Basics.{_≡_, refl, sym, ap, ap₂, subst, _∙_, ℕ, suc, eqb, Bool, true, false, cond, List, [], _∷_, map, Option, none, some, inl, eq-eqb}
-use Rattle.lists.specs.Basics.{ne-eqb}
-use Rattle.lists.specs.Each.{all, count}
+use Rattle.lists.specs.Basics.{ne-eqb, all, count, choose-by}
 use Rattle.lists.specs.Members.{Mem, here, there}
-use Rattle.lists.specs.Tests.{choose-by}
 use Rattle.model.specs.Types.{Key, Record, Entry, Transaction, Reading}
 use Rattle.model.specs.Records.{lineOf}
 use Rattle.model.specs.Images.{Change}

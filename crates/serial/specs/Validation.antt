@@ -1,9 +1,7 @@
 -- One more entry validated: its condition holds, so that it is fresh and no one in doubt puts to its line, and the order is consistent with it among what is
 -- validated.
-use Rattle.lists.specs.Basics.{_≡_, refl, sym, ap, subst, _∙_, ℕ, suc, _+_, _≤_, eqb, Bool, true, false, List, _∷_, length, take, getD, none, _⊎_, inl, inr}
-use Rattle.lists.specs.Basics.{arith, add-one, eqb-true, eqb-false}
-use lib.Seq.{take-all}
-use Rattle.lists.specs.Each.{any}
+use Rattle.lists.specs.Basics.{_≡_, refl, sym, ap, subst, _∙_, ℕ, suc, _+_, _≤_, eqb, Bool, true, false, List, _∷_, length, take, getD, take-all, none, _⊎_}
+use Rattle.lists.specs.Basics.{inl, inr, arith, add-one, eqb-true, eqb-false, any}
 use Rattle.lists.specs.Members.{Mem, mem-next}
 use Rattle.types.specs.declared.Decision.the-variants.{Undecided}
 use Rattle.model.specs.Types.{Key, Record, Entry, Transaction}

@@ -1,12 +1,9 @@
 -- The coordinator sheet: both round trips, by the head and then line by line, and as numbers; what setting a decision and
 -- raising the issued count do.
 use Rattle.lists.specs.Basics.{_≡_, refl, ap, ap₂, _∙_, ℕ, zero, suc, _+_, _*_, _/_, _≤_, eqb, leb, true, _&&_, List, [], _∷_, _++_, map, length, take, drop}
-use Rattle.lists.specs.Basics.{getD, length-map, arith, eqb-true, leb-true, eq-eqb, le-leb}
+use Rattle.lists.specs.Basics.{getD, length-map, drop-at, take-at, arith, eqb-true, leb-true, eq-eqb, le-leb, all, joined, pieces, listed, eqList, bytes}
+use Rattle.lists.specs.Basics.{and-fst, and-snd, and-both, tests}
 use lib.ListN.{take-append-drop}
-use lib.Seq.{take-at, drop-at}
-use Rattle.lists.specs.Tests.{and-fst, and-snd, and-both, tests}
-use Rattle.lists.specs.Bytes.{bytes, eqList}
-use Rattle.lists.specs.Each.{all, joined, pieces, listed}
 use Rattle.lists.specs.All.{all-map, all-weaken, all-always, map-map, map-same, listed-is}
 use Rattle.lists.specs.Pieces.{AllOf, joined-pieces, pieces-joined, length-joined}
 use Rattle.model.specs.Types.{Decision, AtomicityUnit, Column}

@@ -1,10 +1,7 @@
 -- A coordinator as numbers, ten for the head and one for each decision: both round trips, part by part.
 use Rattle.lists.specs.Basics.{_≡_, sym, ap, ap₂, _∙_, ℕ, _≤_, true, true≢false, List, [], _∷_, _++_, map, length, take, drop, length-map, length-append}
-use Rattle.lists.specs.Basics.{length-take, arith, le-leb}
+use Rattle.lists.specs.Basics.{length-take, drop-at, take-at, arith, le-leb, all, and-both, tests}
 use lib.ListN.{take-append-drop}
-use lib.Seq.{take-at, drop-at}
-use Rattle.lists.specs.Tests.{and-both, tests}
-use Rattle.lists.specs.Each.{all}
 use Rattle.lists.specs.All.{all-map, all-weaken, all-always, map-map, map-same}
 use Rattle.model.specs.Types.{Decision}
 use Rattle.model.specs.Layouts.{headLayout, decisionColumn, headFields}

@@ -1,11 +1,9 @@
 -- A line of the coordinator sheet by its number, and its head's count: what they say, and what replacing one does.
 -- A line goes by `pieces` of what follows the head; the count by the first column of the head.
 use Rattle.lists.specs.Basics.{_≡_, refl, sym, ap, _∙_, ℕ, zero, suc, _+_, _*_, _/_, _≤_, _<_, eqb, leb, Bool, true, _&&_, List, [], _∷_, _++_, map, length}
-use Rattle.lists.specs.Basics.{take, drop, getD, set, length-map, length-take, length-set, List·getD-map, arith, add-one, eq-eqb, le-leb}
-use lib.Seq.{take-at, drop-at, drop-set-lt, drop-drop, take-add, take-append-add, drop-append-add, take-take}
-use Rattle.lists.specs.Bytes.{bytes, eqList}
-use Rattle.lists.specs.Tests.{and-fst, and-snd, and-both, tests}
-use Rattle.lists.specs.Each.{all, pieces}
+use Rattle.lists.specs.Basics.{take, drop, getD, set, length-map, length-take, length-set, List·getD-map, drop-drop, drop-at, take-at, take-add, take-take}
+use Rattle.lists.specs.Basics.{arith, add-one, eq-eqb, le-leb, all, pieces, eqList, bytes, and-fst, and-snd, and-both, tests}
+use lib.Seq.{drop-set-lt, take-append-add, drop-append-add}
 use Rattle.lists.specs.All.{all-drop, all-set, map-set}
 use Rattle.lists.specs.Pieces.{over, over-after, over-zero, length-over, length-pieces, pieces-over, getD-pieces}
 use Rattle.decimal.specs.declared.Scan.the-variants.{Number}

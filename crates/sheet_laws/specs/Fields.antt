@@ -2,10 +2,8 @@
 -- what would be written for it. A figure has both from the laws of decimal fields. Of a word, the first is tested for each
 -- word of the set, and the second holds since reading compares with the words themselves.
 use Rattle.lists.specs.Basics.{_≡_, refl, sym, ap, subst, _∙_, ℕ, zero, suc, _+_, _-_, _^_, _≤_, _<_, eqb, leb, ltb, Bool, true, false, _&&_, true≢false, List}
-use Rattle.lists.specs.Basics.{[], _∷_, length, getD, length-drop, arith, eqb-true, eqb-false, leb-true, eq-eqb, le-leb}
-use Rattle.lists.specs.Tests.{and-fst, and-snd, and-both, same-test, tests}
-use Rattle.lists.specs.Bytes.{bytes, eqList, eqList-true, eqList-refl}
-use Rattle.lists.specs.Each.{all}
+use Rattle.lists.specs.Basics.{[], _∷_, length, getD, length-drop, arith, eqb-true, eqb-false, leb-true, eq-eqb, le-leb, all, eqList, bytes, eqList-true}
+use Rattle.lists.specs.Basics.{eqList-refl, and-fst, and-snd, and-both, same-test, tests}
 use Rattle.decimal.specs.declared.Scan.{Scan}
 use Rattle.decimal.specs.declared.Scan.the-variants.{Blank, Number, Wrong}
 use Rattle.decimal.specs.Field.{figure, scanned, fieldText}

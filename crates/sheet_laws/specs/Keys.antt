@@ -1,10 +1,7 @@
 -- A key as text: the first twenty bytes of its line. Two keys in range are the same where their texts are, since a key line
 -- reads as its key.
-use Rattle.lists.specs.Basics.{_≡_, refl, sym, ap, _∙_, ℕ, true, List, [], _∷_, _++_, append-nil, length, take, drop, getD, arith}
-use lib.Seq.{take-at}
-use Rattle.lists.specs.Tests.{and-fst, and-snd, and-both, same-test}
-use Rattle.lists.specs.Bytes.{eqList, eqList-true, eqList-refl}
-use Rattle.lists.specs.Each.{all}
+use Rattle.lists.specs.Basics.{_≡_, refl, sym, ap, _∙_, ℕ, true, List, [], _∷_, _++_, append-nil, length, take, drop, getD, take-at, arith, all, eqList}
+use Rattle.lists.specs.Basics.{eqList-true, eqList-refl, and-fst, and-snd, and-both, same-test}
 use Rattle.model.specs.Types.{Key, Record, Column}
 use Rattle.model.specs.Layouts.{recordLayout, keyLayout, stateField, offset, keyBytes}
 use Rattle.model.specs.Lines.{inRange, lineText, lineSet, rowOf, rowGood}

@@ -1,11 +1,8 @@
 -- A line, for any layout whose columns pass `columnOk`: both round trips, field by field from the left.
 use Rattle.lists.specs.Basics.{_≡_, refl, sym, ap, ap₂, _∙_, ℕ, zero, suc, _+_, _≤_, _<_, Bool, true, _&&_, List, [], _∷_, _++_, length, take, drop, getD}
-use Rattle.lists.specs.Basics.{length-take, length-drop, arith}
+use Rattle.lists.specs.Basics.{length-take, length-drop, drop-drop, drop-at, take-at, getD-drop, arith, all, eqList, eqList-true, eqList-refl, and-fst, and-snd}
+use Rattle.lists.specs.Basics.{and-both}
 use lib.ListN.{take-append-drop}
-use lib.Seq.{take-at, drop-at, getD-drop, drop-drop}
-use Rattle.lists.specs.Tests.{and-fst, and-snd, and-both}
-use Rattle.lists.specs.Bytes.{eqList, eqList-true, eqList-refl}
-use Rattle.lists.specs.Each.{all}
 use Rattle.lists.specs.Pieces.{take-drop-take}
 use Rattle.decimal.specs.declared.Scan.the-variants.{Number}
 use Rattle.decimal.specs.Field.{number, isNumber}

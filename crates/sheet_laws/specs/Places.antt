@@ -1,11 +1,9 @@
 -- A line of an accepted record sheet by its place: what it says, and what replacing it does to the records.
 -- Bytes go by `pieces`; the order of keys stays since a record is replaced by one of the same key.
 use Rattle.lists.specs.Basics.{_≡_, refl, sym, ap, ap₂, subst, _∙_, ℕ, zero, suc, _*_, _/_, _≤_, _<_, eqb, leb, ltb, Bool, true, _&&_, cond, List, [], _∷_, map}
-use Rattle.lists.specs.Basics.{length, take, drop, getD, set, length-map, length-set, List·getD-map, List·getD-eq-default, arith, eq-eqb}
-use Rattle.lists.specs.Bytes.{bytes, eqList}
+use Rattle.lists.specs.Basics.{length, take, drop, getD, set, length-map, length-set, List·getD-map, List·getD-eq-default, arith, eq-eqb, all, pieces, eqList}
+use Rattle.lists.specs.Basics.{bytes, and-fst, and-snd, and-both, tests}
 use Rattle.decimal.specs.Field.{number, figure, scanned, within}
-use Rattle.lists.specs.Tests.{and-fst, and-snd, and-both, tests}
-use Rattle.lists.specs.Each.{all, pieces}
 use Rattle.lists.specs.All.{all-at, all-set, map-set}
 use Rattle.lists.specs.Pieces.{over, length-pieces, pieces-over, getD-pieces, length-over}
 use Rattle.model.specs.Types.{Key, Record}

@@ -1,9 +1,7 @@
 -- The record sheet: an accepted sheet is the text of its records, and rule-keeping records are those of their text.
 -- A line goes by the round trips of `recordLayout`, a sheet line by line; replacing a line is replacing a record.
 use Rattle.lists.specs.Basics.{_≡_, refl, ap, _∙_, ℕ, zero, suc, _*_, _/_, _≤_, leb, Bool, true, List, map, length, getD, length-map, arith, leb-true, eq-eqb}
-use Rattle.lists.specs.Tests.{and-snd, and-both, tests}
-use Rattle.lists.specs.Bytes.{bytes, eqList}
-use Rattle.lists.specs.Each.{all, joined, pieces, listed}
+use Rattle.lists.specs.Basics.{all, joined, pieces, listed, eqList, bytes, and-snd, and-both, tests}
 use Rattle.lists.specs.All.{all-map, all-weaken, all-of, map-same, map-map, listed-is}
 use Rattle.lists.specs.Pieces.{joined-pieces, pieces-joined, length-joined}
 use Rattle.model.specs.Types.{Record, State}

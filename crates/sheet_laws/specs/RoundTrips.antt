@@ -1,9 +1,8 @@
 -- T3 over the calls: a sheet read into numbers and written again is the same sheet, and numbers written and read are the same
 -- numbers, for both sheets, into any targets of the right length. Each call does what its definition says, and the definitions
 -- undo each other.
-use Rattle.lists.specs.Basics.{_≡_, ap, _∙_, ℕ, _+_, _*_, _/_, _≤_, true, List, map, length, drop, length-map, length-append, length-drop, arith, eq-eqb}
-use Rattle.lists.specs.Tests.{tests}
-use Rattle.lists.specs.Each.{all}
+use Rattle.lists.specs.Basics.{_≡_, ap, _∙_, ℕ, _+_, _*_, _/_, _≤_, true, List, map, length, drop, length-map, length-append, length-drop, arith, eq-eqb, all}
+use Rattle.lists.specs.Basics.{tests}
 use Rattle.lists.specs.All.{all-weaken}
 use Rattle.model.specs.Types.{Record}
 use Rattle.model.specs.Layouts.{recordBytes, coordinatorBytes, recordFields, headFields}

@@ -1,8 +1,6 @@
 -- The search of an element that passes a test, for any list and test: whether something is found, what is known of its place, and when another search finds the same.
 use Rattle.lists.specs.Basics.{_≡_, refl, ap, ap₂, subst, _∙_, ℕ, suc, _+_, _<_, Bool, true, false, not, _||_, cond, List, [], _∷_, map, length, take, getD}
-use Rattle.lists.specs.Basics.{arith}
-use Rattle.lists.specs.Each.{all, any}
-use Rattle.lists.specs.Tests.{and-fst, and-snd, choose-by}
+use Rattle.lists.specs.Basics.{arith, all, any, and-fst, and-snd, choose-by}
 use Rattle.model.specs.Types.{Found, At, Nothing}
 use Rattle.model.specs.Search.{firstFrom}
 use Rattle.model.specs.Records.{isMissing}

@@ -1,11 +1,9 @@
 -- Single fields of the line at a place, each read without the others: a figure of an accepted record sheet by its digits, and a word of any sheet by
 -- its bytes. The bytes at a field's offset are those of the field, and past the last line every number is 0.
 use Rattle.lists.specs.Basics.{_≡_, refl, sym, ap, ap₂, subst, _∙_, ℕ, zero, suc, _+_, _*_, _/_, _^_, _≤_, _<_, eqb, leb, ltb, Bool, true, false, cond, List}
-use Rattle.lists.specs.Basics.{length, take, drop, getD, length-take, length-drop, arith, eqb-true, leb-true, ltb-true, ltb-false}
-use Rattle.lists.specs.Bytes.{eqList}
-use Rattle.lists.specs.Each.{all}
+use Rattle.lists.specs.Basics.{length, take, drop, getD, length-take, length-drop, arith, eqb-true, leb-true, ltb-true, ltb-false, all, eqList, and-snd}
+use Rattle.lists.specs.Basics.{choose-by}
 use Rattle.lists.specs.All.{all-at}
-use Rattle.lists.specs.Tests.{and-snd, choose-by}
 use Rattle.decimal.specs.declared.Scan.{Scan}
 use Rattle.decimal.specs.declared.Scan.the-variants.{Blank, Number, Wrong}
 use Rattle.decimal.specs.Field.{number}

@@ -1,11 +1,8 @@
 -- Fields that stand one behind another in a line: their text, the bytes where it stands, and the line with other numbers in them. A line is the text
 -- of its fields one after another, each as wide as its column, so that a span begins at its first field's offset.
 use Rattle.lists.specs.Basics.{_≡_, refl, sym, ap, ap₂, _∙_, ℕ, zero, suc, _+_, _≤_, _<_, Bool, true, List, [], _∷_, _++_, append-nil, append-assoc, length}
-use Rattle.lists.specs.Basics.{take, drop, getD, length-append, length-take, arith}
+use Rattle.lists.specs.Basics.{take, drop, getD, length-append, length-take, drop-drop, drop-cons, drop-at, take-at, arith, all, and-fst, and-snd}
 use lib.ListN.{take-append-drop}
-use lib.Seq.{take-at, drop-at, drop-drop, drop-cons}
-use Rattle.lists.specs.Tests.{and-fst, and-snd}
-use Rattle.lists.specs.Each.{all}
 use Rattle.lists.specs.Pieces.{over, over-zero, over-after}
 use Rattle.model.specs.Types.{Column}
 use Rattle.model.specs.Layouts.{noColumn, offset}

@@ -1,11 +1,8 @@
 -- The search of a key, line by line and field by field: the first line whose twenty bytes are those of the key's line.
 use Rattle.lists.specs.Basics.{_≡_, refl, sym, ap, ap₂, _∙_, ℕ, zero, suc, _+_, _-_, _*_, _/_, _≤_, _<_, Bool, true, false, cond, true≢false, List, [], _∷_}
-use Rattle.lists.specs.Basics.{_++_, map, length, take, drop, getD, arith, add-one}
+use Rattle.lists.specs.Basics.{_++_, map, length, take, drop, getD, drop-drop, take-add, arith, add-one, all, eqList, eqList-true, eqList-refl, tests}
 use native.Mathlib.Nat.{zero-add}
-use lib.Seq.{drop-drop, take-add}
-use Rattle.lists.specs.Tests.{tests}
-use Rattle.lists.specs.Bytes.{eqList, eqList-true, eqList-refl, ne-eqList}
-use Rattle.lists.specs.Each.{all}
+use Rattle.lists.specs.Bytes.{ne-eqList}
 use Rattle.lists.specs.Pieces.{take-drop-take, getD-pieces, length-pieces}
 use Rattle.lists.specs.Walks.{LeftFrom, left-here, left-last}
 use Rattle.model.specs.Types.{Key, Record, Found, At, Nothing}

@@ -1,8 +1,8 @@
 -- The step table by its cases: what each outcome of the tests comes to, so that every arm of the code is one of them.
-use Rattle.lists.specs.Basics.{_≡_, refl, sym, ap, subst, ℕ, eqb, true, false, List, getD, ne-eqb}
-use Rattle.lists.specs.Each.{all}
-use Rattle.lists.specs.Tests.{choose-by}
+use Rattle.lists.specs.Basics.{_≡_, refl, sym, ap, subst, _∙_, ℕ, eqb, true, false, List, getD, all, choose-by}
 use Rattle.types.specs.declared.Decision.the-variants.{Undecided, Committed, Aborted}
+use Rattle.lists.specs.Chosen.{Missed}
+use Rattle.transactions.specs.Phases.{phase-past}
 use Rattle.model.specs.Types.{Transaction}
 use Rattle.model.specs.Coordinator.{decision}
 use Rattle.model.specs.Transactions.{byPhase, isEmpty, puts, toValidate, noEntry, moved}
@@ -14,16 +14,6 @@ use Rattle.steps.specs.Stepped.{Stepped}
 -- what has been stepped by a step has been stepped by an equal one
 pub stepped-as : {s : Sheets} {x y : Step} {t : Transaction} {rs cs : List ℕ} → y ≡ x → Stepped s x t rs cs → Stepped s y t rs cs
 stepped-as {s} {x} {y} {t} {rs} {cs} e h = subst (λ (z : Step). Stepped s z t rs cs) (sym e) h
-
--- what the last arm of a match over the seven phases with a step knows
-abbrev pub NoStep : ℕ → Type 0
-NoStep p =
-    (((((((Unit {0} × (p ≡ 0 → ⊥)) × (p ≡ 1 → ⊥)) × (p ≡ 2 → ⊥)) × (p ≡ 3 → ⊥)) × (p ≡ 4 → ⊥)) × (p ≡ 5 → ⊥)) × (p ≡ 6 → ⊥))
-
-rest : (p : ℕ) (o r v d w f u x : Step) → NoStep p → byPhase p o r v d w f u x x ≡ x
-rest p o r v d w f u x n =
-    rw (ne-eqb p 0 (n .0 .0 .0 .0 .0 .0 .1), ne-eqb p 1 (n .0 .0 .0 .0 .0 .1), ne-eqb p 2 (n .0 .0 .0 .0 .1), ne-eqb p 3 (n .0 .0 .0 .1), ne-eqb p 4 (n .0 .0 .1), ne-eqb p 5 (n .0 .1), ne-eqb p 6 (n .1))
-    (choose-by (λ (y : Step). y ≡ x) (eqb p 7) (λ e. refl) (λ e. refl))
 
 module _ (t : Transaction) (s : Sheets) where
   pub open-done : isEmpty (puts t) ≡ true → isEmpty (toValidate (unitsOf s) t) ≡ true → openStep t s ≡ record { transaction = commits t; write = nothing }
@@ -98,7 +88,9 @@ module _ (t : Transaction) (s : Sheets) where
         ap (λ (q : ℕ). byPhase q (openStep t s) (prepareStep t now s) (validateStep t s) (decideStep t s) (withdrawStep t s) (finishStep t s) (undoStep t s) (noStep t) (noStep t)) e
 
     -- in done, or in no phase
-    pub step-none : NoStep (t .phase) → step t now s ≡ noStep t
+    pub step-none : Missed 7 (t .phase) → step t now s ≡ noStep t
     unfolding step
     step-none n =
-        rest (t .phase) (openStep t s) (prepareStep t now s) (validateStep t s) (decideStep t s) (withdrawStep t s) (finishStep t s) (undoStep t s) (noStep t) n
+        phase-past (t .phase) (openStep t s) (prepareStep t now s) (validateStep t s) (decideStep t s) (withdrawStep t s) (finishStep t s) (undoStep t s)
+        (noStep t) (noStep t) n
+        ∙ choose-by (λ (y : Step). y ≡ noStep t) (eqb (t .phase) 7) (λ e. refl) (λ e. refl)

@@ -1,7 +1,6 @@
 -- What the refusals have let pass, in the parts that each phase asks for: accepted bytes, and of a well-formed transaction its body, and its place by its phase.
 use Rattle.lists.specs.Basics.{_≡_, refl, sym, ap, _∙_, ℕ, zero, suc, _≤_, _<_, ltb, Bool, true, _||_, List, [], _∷_, length, take, drop, getD, arith, ltb-true}
-use Rattle.lists.specs.Each.{any}
-use Rattle.lists.specs.Chosen.{or-right}
+use Rattle.lists.specs.Basics.{any, or-right}
 use Rattle.model.specs.Types.{AtomicityUnit, Entry, Transaction}
 use Rattle.model.specs.Records.{records, recordsAccepted, sameKey}
 use Rattle.model.specs.Coordinator.{coordinatorOf, coordinatorAccepted}

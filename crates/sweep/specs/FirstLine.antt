@@ -1,11 +1,9 @@
 -- The first line of an input: its figures as they are read from the bytes, and which inputs it fits.
 use Rattle.lists.specs.Basics.{_≡_, refl, sym, ap, ap₂, _∙_, ℕ, _+_, _-_, _*_, _≤_, _<_, eqb, Bool, true, false, not, _&&_, and-false, List, [], _∷_, length}
-use Rattle.lists.specs.Basics.{take, drop, getD, length-take, drop-of-length-le, arith, eqb-true, not-false}
-use lib.Seq.{take-take, drop-drop, drop-cons, getD-take}
-use Rattle.lists.specs.Bytes.{eqList}
+use Rattle.lists.specs.Basics.{take, drop, getD, length-take, drop-of-length-le, drop-drop, drop-cons, take-take, getD-take, arith, eqb-true, not-false, eqList}
+use Rattle.lists.specs.Basics.{and-fst, and-snd}
 use Rattle.lists.specs.Fill.{rest-part}
 use Rattle.lists.specs.Pieces.{take-drop-take}
-use Rattle.lists.specs.Tests.{and-fst, and-snd}
 use Rattle.decimal.specs.Field.{figure, number, isNumber}
 use Rattle.decimal.specs.Laws.{number-bounded}
 use Rattle.sweep.specs.declared.FirstLine.{FirstLine}

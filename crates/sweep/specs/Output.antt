@@ -1,9 +1,7 @@
 -- What the visiting program's work answers and leaves in lent memory, and how its parts come together.
 use Rattle.lists.specs.Basics.{_≡_, refl, sym, ap, ap₂, _∙_, ℕ, _+_, _-_, _≤_, _<_, eqb, leb, Bool, true, false, _&&_, cond, and-false, List, [], _∷_, _++_}
-use Rattle.lists.specs.Basics.{append-assoc, length, take, drop, length-append, length-take, length-drop, arith, le-leb, lt-leb}
-use lib.Seq.{take-at, drop-at, drop-drop}
-use Rattle.lists.specs.Bytes.{bytes}
-use Rattle.lists.specs.Tests.{and-both}
+use Rattle.lists.specs.Basics.{append-assoc, length, take, drop, length-append, length-take, length-drop, drop-drop, drop-at, take-at, arith, le-leb, lt-leb}
+use Rattle.lists.specs.Basics.{bytes, and-both}
 use Rattle.decimal.specs.Field.{fieldText}
 use Rattle.decimal.specs.Word.{putWord, put-fits}
 use Rattle.model.specs.Layouts.{mostCoordinatorBytes, mostRecordBytes}

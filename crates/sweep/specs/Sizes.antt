@@ -1,10 +1,7 @@
 -- How long sheets and inputs are: an accepted sheet keeps its number of lines, so an input longer than the largest that fits is refused by 1,
 -- and reading a byte more than that is enough.
 use Rattle.lists.specs.Basics.{_≡_, refl, sym, ap, _∙_, ℕ, _+_, _-_, _*_, _/_, _≤_, _<_, eqb, leb, Bool, true, false, cond, List, length, take, drop}
-use Rattle.lists.specs.Basics.{length-take, length-drop, arith, eqb-true, leb-true, leb-false}
-use lib.Seq.{take-all}
-use Rattle.lists.specs.Each.{all}
-use Rattle.lists.specs.Tests.{and-fst, and-snd, tests}
+use Rattle.lists.specs.Basics.{length-take, length-drop, take-all, arith, eqb-true, leb-true, leb-false, all, and-fst, and-snd, tests}
 use Rattle.model.specs.Layouts.{recordLayout, recordBytes, coordinatorBytes, mostCoordinatorBytes, mostRecordBytes}
 use Rattle.model.specs.Lines.{linesOf, linesSet, lineSet}
 use Rattle.model.specs.Records.{records, recordsGood, recordsAccepted}

@@ -1,14 +1,14 @@
 -- The entries in use, one by one: how far a loop over them has come, and what one turn of it does, for each kind of question that a loop answers.
-use Rattle.lists.specs.Basics.{_≡_, refl, sym, ap, ap₂, _∙_, ℕ, suc, _+_, _-_, _≤_, _<_, ltb, Bool, true, false, not, _||_, cond, List, [], _∷_, map, length}
-use Rattle.lists.specs.Basics.{take, drop, getD, length-map, length-take, drop-of-length-le, List·getD-map, arith, add-one, lt-ltb}
-use lib.Seq.{drop-cons, getD-take, length-take-le}
+use Rattle.lists.specs.Basics.{_≡_, refl, sym, ap, _∙_, ℕ, suc, _+_, _-_, _≤_, _<_, ltb, Bool, true, false, not, _||_, cond, List, [], _∷_, map, length, take}
+use Rattle.lists.specs.Basics.{drop, getD, length-map, length-take, drop-of-length-le, List·getD-map, getD-take, arith, add-one, lt-ltb, all, any, filter}
+use Rattle.lists.specs.Basics.{choose-by}
+use lib.Seq.{length-take-le}
 use mir.Val.{Val}
 use denote.Laws.{Is}
 use denote.Struct.Declared.{row}
-use Rattle.lists.specs.Each.{all, any, filter}
 use Rattle.lists.specs.All.{getD-any}
-use Rattle.lists.specs.Tests.{choose-by}
 use Rattle.types.proofs.Transaction.{the-type}
+use Rattle.lists.specs.Walks.{drop-here}
 use Rattle.model.specs.Types.{Key, Found, At, Nothing, Entry, Transaction}
 use Rattle.model.specs.Search.{firstFrom}
 use Rattle.model.specs.Records.{sameKey}
@@ -62,10 +62,7 @@ module _ {A : Type 0} (t : Transaction) (f : List Entry → A) where
   pass-here w i l p =
       let m : t .count ≤ length (t .entries) = p .room in
       let n : i < length (take (t .count) (t .entries)) = simp length-take (omega arith) in
-      let d : drop i (held t) ≡ entryAt t i ∷ after t i =
-      drop-cons (held t) i noEntry n
-      ∙ ap₂ _∷_ (getD-take (t .count) (t .entries) i noEntry l) (ap (λ (k : ℕ). drop k (held t)) (sym (add-one i))) in
-      ap f (sym d) ∙ p .rest
+      sym (ap f (drop-here (held t) i noEntry (entryAt t i) n (sym (getD-take (t .count) (t .entries) i noEntry l)))) ∙ p .rest
 
   -- past entry i, where f of a list that begins with it is g of the rest
   pub pass-next : (g : List Entry → A) (w : A) (i : ℕ) → i < t .count → PassedTo t f w i → f (entryAt t i ∷ after t i) ≡ g (after t i) → PassedTo t g w (i + 1)

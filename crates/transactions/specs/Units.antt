@@ -1,9 +1,6 @@
 -- The units as nine letters, the part of the coordinator's head that says them: letter by letter from the left.
 use Rattle.lists.specs.Basics.{_≡_, refl, sym, ap, ap₂, _∙_, ℕ, zero, suc, _<_, eqb, Bool, true, false, _&&_, cond, true≢false, and-false, List, [], _∷_, map}
-use Rattle.lists.specs.Basics.{length, take, drop, replicate, arith}
-use lib.Seq.{drop-drop}
-use Rattle.lists.specs.Tests.{and-fst, and-snd}
-use Rattle.lists.specs.Bytes.{bytes, eqList}
+use Rattle.lists.specs.Basics.{length, take, drop, replicate, drop-drop, arith, eqList, bytes, and-fst, and-snd}
 use Rattle.lists.specs.Pieces.{take-drop-take}
 use Rattle.decimal.specs.declared.Scan.the-variants.{Number, Wrong}
 use Rattle.decimal.specs.Field.{number, isNumber}

@@ -1,9 +1,7 @@
 -- Well-formedness in the order in which the code asks.
 use Rattle.lists.specs.Basics.{_≡_, refl, sym, ap, _∙_, ℕ, _+_, _≤_, _<_, eqb, leb, Bool, true, false, not, _&&_, _||_, and-assoc, and-true, List, arith}
-use Rattle.lists.specs.Basics.{leb-false, eq-eqb}
+use Rattle.lists.specs.Basics.{leb-false, eq-eqb, all, any, tests}
 use lib.Dec.{leb·zero}
-use Rattle.lists.specs.Tests.{tests}
-use Rattle.lists.specs.Each.{all, any}
 use Rattle.model.specs.Types.{Image, AtomicityUnit, Columns, Entry, Transaction}
 use Rattle.model.specs.Layouts.{recordLayout, imageLayout, columnsLayout}
 use Rattle.model.specs.Lines.{inRange, rowGood}

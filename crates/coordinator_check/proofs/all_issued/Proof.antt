@@ -1,6 +1,5 @@
 -- The loop's invariant: the records before i are good, so that those from i on decide as all do. A number that is not issued ends it.
-use Rattle.lists.specs.Basics.{_≡_, _+_, _-_, leb, _&&_, and-false, drop, arith, le-leb, lt-leb, needs}
-use Rattle.lists.specs.Each.{all}
+use Rattle.lists.specs.Basics.{_≡_, _+_, _-_, leb, _&&_, and-false, drop, arith, le-leb, lt-leb, needs, all}
 use Rattle.lists.specs.Walks.{left-first, left-last}
 use Rattle.sheet_laws.specs.Places.{length-records}
 use Rattle.model.specs.Layouts.{recordLayout, offset}

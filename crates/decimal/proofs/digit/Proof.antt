@@ -1,6 +1,5 @@
 -- Each return knows which tests held, and the limited step is the same tests.
-use Rattle.lists.specs.Basics.{_≡_, _+_, _-_, _*_, true, le-leb, lt-leb, needs}
-use Rattle.lists.specs.Tests.{and-both}
+use Rattle.lists.specs.Basics.{_≡_, _+_, _-_, _*_, true, le-leb, lt-leb, needs, and-both}
 use Rattle.decimal.specs.Field.{isDigit}
 use Rattle.decimal.specs.Cut.{capped}
 use Rattle.decimal.proofs.digit.Statement.{statement}

@@ -1,6 +1,7 @@
 -- The loop keeps that the bytes passed are the word's.
-use Rattle.lists.specs.Basics.{_≡_, refl, sym, _∙_, ℕ, _+_, _-_, _≤_, _<_, List, length, take, getD, set, length-set, arith, add-one, eq-eqb, ne-eqb, needs}
-use lib.Seq.{take-suc, take-suc-set, take-all}
+use Rattle.lists.specs.Basics.{_≡_, refl, sym, _∙_, ℕ, _+_, _-_, _≤_, _<_, List, length, take, getD, set, length-set, take-all, arith, add-one, eq-eqb, ne-eqb}
+use Rattle.lists.specs.Basics.{needs}
+use lib.Seq.{take-suc, take-suc-set}
 use Rattle.decimal.specs.Word.{putWord}
 use Rattle.decimal.proofs.put.Statement.{statement}
 use Rattle.decimal.proofs.put.Tie as tie

@@ -1,8 +1,7 @@
 -- The loop keeps that the bytes already compared are equal; one pair that differs tells the lists apart.
-use Rattle.lists.specs.Basics.{_≡_, refl, sym, ap, ap₂, subst, _∙_, ℕ, _+_, _-_, _≤_, _<_, true, List, _∷_, length, drop, getD, drop-of-length-le, arith}
-use Rattle.lists.specs.Basics.{add-one, needs}
-use lib.Seq.{drop-cons}
-use Rattle.lists.specs.Bytes.{eqList, eqList-refl, ne-eqList}
+use Rattle.lists.specs.Basics.{_≡_, refl, sym, ap, ap₂, subst, _∙_, ℕ, _+_, _-_, _≤_, _<_, true, List, _∷_, length, drop, getD, drop-of-length-le, drop-cons}
+use Rattle.lists.specs.Basics.{arith, add-one, needs, eqList, eqList-refl}
+use Rattle.lists.specs.Bytes.{ne-eqList}
 use Rattle.decimal.proofs.same.Statement.{statement}
 use Rattle.decimal.proofs.same.Tie as tie
 

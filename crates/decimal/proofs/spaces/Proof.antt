@@ -1,6 +1,6 @@
 -- The loop keeps that the spaces passed, and those that the rest begins with, are the field's.
-use Rattle.lists.specs.Basics.{_≡_, ℕ, suc, _+_, _-_, _≤_, _<_, eqb, cond, List, length, drop, getD, drop-of-length-le, arith, add-one, eq-eqb, ne-eqb, needs}
-use lib.Seq.{drop-cons}
+use Rattle.lists.specs.Basics.{_≡_, ℕ, suc, _+_, _-_, _≤_, _<_, eqb, cond, List, length, drop, getD, drop-of-length-le, drop-cons, arith, add-one, eq-eqb}
+use Rattle.lists.specs.Basics.{ne-eqb, needs}
 use Rattle.decimal.specs.Cut.{spaces}
 use Rattle.decimal.proofs.spaces.Statement.{statement}
 use Rattle.decimal.proofs.spaces.Tie as tie

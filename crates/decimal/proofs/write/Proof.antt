@@ -1,7 +1,7 @@
 -- The loop keeps that the columns set, behind the text of what is left of the figure, are the whole field's text.
 use Rattle.lists.specs.Basics.{_≡_, refl, _∙_, ℕ, zero, suc, _+_, _-_, _/_, _%_, _≤_, _<_, List, [], _∷_, _++_, append-nil, length, drop, set, length-set}
-use Rattle.lists.specs.Basics.{drop-of-length-le, arith, needs}
-use lib.Seq.{drop-cons, drop-set-lt, getD-set-same, append-snoc}
+use Rattle.lists.specs.Basics.{drop-of-length-le, drop-cons, arith, needs}
+use lib.Seq.{drop-set-lt, getD-set-same, append-snoc}
 use Rattle.decimal.specs.Field.{place, ahead, fieldText}
 use Rattle.decimal.proofs.write.Statement.{statement}
 use Rattle.decimal.proofs.write.Tie as tie

@@ -1,7 +1,6 @@
 -- Eight bytes of the line as a number are compared with those of the words lent, two of before version with ` 0`, and the rest is what the definition
 -- names.
-use Rattle.lists.specs.Basics.{_≡_, ap, _∙_, _+_, _*_, length, take, drop, arith, needs}
-use Rattle.lists.specs.Bytes.{bytes}
+use Rattle.lists.specs.Basics.{_≡_, ap, _∙_, _+_, _*_, length, take, drop, arith, needs, bytes}
 use Rattle.model.specs.Layouts.{recordLayout, words, offset, recordOffset, stateField}
 use Rattle.places.specs.Loads.{loaded}
 use Rattle.record_check.specs.States.{kinds, words-length, stateTold, told-few}

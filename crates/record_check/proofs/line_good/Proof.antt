@@ -1,7 +1,6 @@
 -- The law on a line, test by test: a line that has not the word of its kind is not good, each later test that fails makes the answer false, and past them
 -- the clock is the answer, by its first digit where that is enough.
-use Rattle.lists.specs.Basics.{_≡_, sym, ap, _∙_, true, _&&_, cond, and-false, length, arith, not-true, not-false, needs}
-use Rattle.lists.specs.Bytes.{bytes}
+use Rattle.lists.specs.Basics.{_≡_, sym, ap, _∙_, true, _&&_, cond, and-false, length, arith, not-true, not-false, needs, bytes}
 use Rattle.model.specs.Layouts.{recordLayout, offset}
 use Rattle.sheet_laws.specs.Lines.{fieldAt}
 use Rattle.places.specs.Parts.{partsOk}

@@ -1,7 +1,5 @@
 -- The law on accepted sheets: whole lines, 1 to 500 of them, and the lines pass. What is lent is what the laws ask for, byte by byte.
-use Rattle.lists.specs.Basics.{refl, sym, _*_, _/_, and-false, length, arith, eq-eqb, ne-eqb, le-leb, lt-leb, needs}
-use Rattle.lists.specs.Bytes.{bytes}
-use Rattle.lists.specs.Each.{joined}
+use Rattle.lists.specs.Basics.{refl, sym, _*_, _/_, and-false, length, arith, eq-eqb, ne-eqb, le-leb, lt-leb, needs, joined, bytes}
 use Rattle.decimal.specs.Field.{fieldText, ahead}
 use Rattle.model.specs.Layouts.{recordLayout, words, recordBytes}
 use Rattle.model.specs.Lines.{fieldBytes}

@@ -1,6 +1,5 @@
 -- The text is made in an array, and put over the first bytes.
-use Rattle.lists.specs.Basics.{length-append, length-take, arith, needs}
-use Rattle.lists.specs.Bytes.{bytes}
+use Rattle.lists.specs.Basics.{length-append, length-take, arith, needs, bytes}
 use Rattle.sweep.specs.Output.{refusal-printed}
 use Rattle.sweep.proofs.print_refusal.Statement.{statement}
 use Rattle.sweep.proofs.print_refusal.Tie as tie

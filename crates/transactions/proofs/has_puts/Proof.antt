@@ -1,6 +1,5 @@
 -- No entry before i has a put.
-use Rattle.lists.specs.Basics.{_∙_, _-_, eq-eqb, ne-eqb, needs}
-use Rattle.lists.specs.Each.{any}
+use Rattle.lists.specs.Basics.{_∙_, _-_, eq-eqb, ne-eqb, needs, any}
 use Rattle.model.specs.Transactions.{held, isPut, puts}
 use Rattle.transactions.specs.Held.{PassedTo, pass-first, any-met, any-next, any-last, some-kept}
 use Rattle.transactions.proofs.has_puts.Statement.{statement}

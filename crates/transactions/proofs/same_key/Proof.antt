@@ -1,6 +1,5 @@
 -- Five fields are compared, one after another, as the lists of their numbers are.
-use Rattle.lists.specs.Basics.{and-assoc, and-true}
-use Rattle.lists.specs.Bytes.{eqList}
+use Rattle.lists.specs.Basics.{and-assoc, and-true, eqList}
 use Rattle.model.specs.Records.{keyNumbers, sameKey}
 use Rattle.transactions.proofs.same_key.Statement.{statement}
 use Rattle.transactions.proofs.same_key.Tie as tie

@@ -1,6 +1,5 @@
 -- No entry before i has the key of a later one, and none between entry i and entry j has that of entry i.
-use Rattle.lists.specs.Basics.{sym, _∙_, _-_, arith, needs}
-use Rattle.lists.specs.Each.{any}
+use Rattle.lists.specs.Basics.{sym, _∙_, _-_, arith, needs, any}
 use Rattle.model.specs.Transactions.{held}
 use Rattle.model.specs.WellFormed.{distinctKeys}
 use Rattle.transactions.specs.Held.{PassedTo, entryAt, after, pass-first, pass-from, any-met, any-next, any-last}

@@ -1,6 +1,5 @@
 -- Every entry before i is well formed.
-use Rattle.lists.specs.Basics.{sym, _∙_, _-_, not-true, not-false, needs}
-use Rattle.lists.specs.Each.{all}
+use Rattle.lists.specs.Basics.{sym, _∙_, _-_, not-true, not-false, needs, all}
 use Rattle.model.specs.Transactions.{held}
 use Rattle.model.specs.WellFormed.{entryFormed}
 use Rattle.transactions.specs.Held.{PassedTo, pass-first, all-unmet, all-next, all-last}

@@ -5,42 +5,12 @@ use Rattle.transactions.specs.Phases.{phase-none}
 use Rattle.well_formed.proofs.place_formed.Statement.{statement}
 use Rattle.well_formed.proofs.place_formed.Tie as tie
 
-returns : tie.Need-returns
-unfolding placeFormed
-returns c = rw (c .before .match .keys1)
-
-returns-2 : tie.Need-returns-2
-unfolding placeFormed
-returns-2 c = rw (c .before .before .before .pre .1, c .before .match .keys2)
-
-returns-3 : tie.Need-returns-3
-unfolding placeFormed
-returns-3 c = rw (c .before .validate-count .ensures, c .before .before .match .keys3)
-
-returns-4 : tie.Need-returns-4
-unfolding placeFormed
-returns-4 c = rw (c .before .match .keys4)
-
-returns-5 : tie.Need-returns-5
-unfolding placeFormed
-returns-5 c = rw (c .before .match .keys5)
-
-returns-6 : tie.Need-returns-6
-unfolding placeFormed
-returns-6 c = rw (c .before .before .before .pre .1, c .before .match .keys6)
-
-returns-7 : tie.Need-returns-7
-unfolding placeFormed
-returns-7 c = rw (c .before .before .before .pre .1, c .before .match .keys7)
-
-returns-8 : tie.Need-returns-8
-unfolding placeFormed
-returns-8 c = rw (c .before .match .keys8)
-
-returns-9 : tie.Need-returns-9
-unfolding placeFormed
-returns-9 c = phase-none _ _ _ _ _ _ _ _ _ _ (c .match .rest)
-
 pub place-formed-spec : {M : Type 1} → statement M
+unfolding placeFormed
 place-formed-spec =
-    tie.close (tie.spec (λ c κs. search needs) returns returns-2 returns-3 returns-4 returns-5 returns-6 returns-7 returns-8 returns-9)
+    tie.close (tie.spec (λ c κs. search needs) (λ c. rw (c .before .match .keys1))
+    (λ c. rw (c .before .before .before .pre .1, c .before .match .keys2))
+    (λ c. rw (c .before .validate-count .ensures, c .before .before .match .keys3)) (λ c. rw (c .before .match .keys4))
+    (λ c. rw (c .before .match .keys5)) (λ c. rw (c .before .before .before .pre .1, c .before .match .keys6))
+    (λ c. rw (c .before .before .before .pre .1, c .before .match .keys7)) (λ c. rw (c .before .match .keys8))
+    (λ c. phase-none _ _ _ _ _ _ _ _ _ _ (c .match .rest)))

@@ -1,6 +1,5 @@
 -- The ten bytes behind the line's number are compared with the word of the decision's number.
-use Rattle.lists.specs.Basics.{ap, _∙_, ℕ, arith, needs}
-use Rattle.lists.specs.Bytes.{eqList}
+use Rattle.lists.specs.Basics.{ap, _∙_, ℕ, arith, needs, eqList}
 use Rattle.model.specs.Types.{DecisionWord}
 use Rattle.model.specs.Layouts.{offset, lineLayout, wordAt}
 use Rattle.sheet_laws.specs.Singles.{decisionWord}

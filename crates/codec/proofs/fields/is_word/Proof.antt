@@ -1,6 +1,5 @@
 -- The part of the word that is compared is its last bytes, as many as the field has columns.
-use Rattle.lists.specs.Basics.{ap, _∙_, needs}
-use Rattle.lists.specs.Bytes.{eqList}
+use Rattle.lists.specs.Basics.{ap, _∙_, needs, eqList}
 use Rattle.codec.specs.Turns.{word-part}
 use Rattle.codec.proofs.fields.is_word.Statement.{statement}
 use Rattle.codec.proofs.fields.is_word.Tie as tie

@@ -1,7 +1,5 @@
 -- The ten bytes that are compared are the whole word.
-use Rattle.lists.specs.Basics.{ap, _∙_, take, drop, arith, needs}
-use lib.Seq.{take-all}
-use Rattle.lists.specs.Bytes.{eqList}
+use Rattle.lists.specs.Basics.{ap, _∙_, take, drop, take-all, arith, needs, eqList}
 use Rattle.model.specs.Layouts.{wordAt, wordBytes}
 use Rattle.sheet_laws.specs.Fields.{length-wordAt}
 use Rattle.codec.proofs.fields.is_word_at.Statement.{statement}

@@ -1,12 +1,12 @@
 -- By the place: at each of its columns the layout has that column, and past them none.
 use Rattle.lists.specs.Basics.{sym, List·getD-eq-default}
-use Rattle.lists.specs.Chosen.{Missed, past-arms}
+use Rattle.lists.specs.Chosen.{past-arms}
 use Rattle.model.specs.Layouts.{noColumn, headLayout}
 use Rattle.codec.proofs.layouts.head_column.Statement.{statement}
 use Rattle.codec.proofs.layouts.head_column.Tie as tie
 
 past : tie.Need-returns-11
-unfolding headLayout Missed
+unfolding headLayout
 past c = sym (List·getD-eq-default headLayout noColumn (past-arms 10 (c .before .args .i) (c .match .rest)))
 
 pub head-column-spec : {M : Type 1} → statement M

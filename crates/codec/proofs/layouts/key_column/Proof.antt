@@ -1,6 +1,5 @@
 -- The first five columns are those of a record line, and past them there is none.
-use Rattle.lists.specs.Basics.{sym, _∙_, _≤_, List·getD-eq-default, arith, needs}
-use lib.Seq.{getD-take}
+use Rattle.lists.specs.Basics.{sym, _∙_, _≤_, List·getD-eq-default, getD-take, arith, needs}
 use Rattle.model.specs.Layouts.{noColumn, recordLayout, keyLayout}
 use Rattle.codec.proofs.layouts.key_column.Statement.{statement}
 use Rattle.codec.proofs.layouts.key_column.Tie as tie

@@ -1,12 +1,12 @@
 -- By the place: at each of its columns the layout has that column, and past them none.
 use Rattle.lists.specs.Basics.{sym, List·getD-eq-default}
-use Rattle.lists.specs.Chosen.{Missed, past-arms}
+use Rattle.lists.specs.Chosen.{past-arms}
 use Rattle.model.specs.Layouts.{noColumn, recordLayout}
 use Rattle.codec.proofs.layouts.record_column.Statement.{statement}
 use Rattle.codec.proofs.layouts.record_column.Tie as tie
 
 past : tie.Need-returns-16
-unfolding recordLayout Missed
+unfolding recordLayout
 past c = sym (List·getD-eq-default recordLayout noColumn (past-arms 15 (c .before .args .i) (c .match .rest)))
 
 pub record-column-spec : {M : Type 1} → statement M

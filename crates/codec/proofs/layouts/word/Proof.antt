@@ -1,6 +1,5 @@
 -- By the kind and the number; past the last word there are spaces.
-use Rattle.lists.specs.Basics.{sym, _≤_, List·getD-eq-default, arith, needs}
-use Rattle.lists.specs.Bytes.{bytes}
+use Rattle.lists.specs.Basics.{sym, _≤_, List·getD-eq-default, arith, needs, bytes}
 use Rattle.model.specs.Types.{StateWord, DecisionWord, UnitLetter}
 use Rattle.model.specs.Layouts.{words}
 use Rattle.codec.proofs.layouts.word.Statement.{statement}

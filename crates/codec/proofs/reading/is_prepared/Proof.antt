@@ -1,6 +1,5 @@
 -- The ten bytes compared tell the state; past the end no line is pending.
-use Rattle.lists.specs.Basics.{sym, ap, _∙_, ℕ, _+_, _*_, take, drop, needs}
-use Rattle.lists.specs.Bytes.{eqList}
+use Rattle.lists.specs.Basics.{sym, ap, _∙_, ℕ, _+_, _*_, take, drop, needs, eqList}
 use Rattle.model.specs.Types.{StateWord}
 use Rattle.model.specs.Layouts.{recordLayout, offset, wordAt, recordBytes, recordOffset, recordWidth, stateField}
 use Rattle.model.specs.Images.{isPrepared}

@@ -1,6 +1,5 @@
 -- Every entry before i that is of the group holds.
-use Rattle.lists.specs.Basics.{sym, ap, _∙_, _-_, Bool, not, _||_, not-true, not-false, needs}
-use Rattle.lists.specs.Each.{all}
+use Rattle.lists.specs.Basics.{sym, ap, _∙_, _-_, Bool, not, _||_, not-true, not-false, needs, all}
 use Rattle.model.specs.Transactions.{held}
 use Rattle.model.specs.Steps.{holds}
 use Rattle.model.specs.ByteCalls.{sheetsOf}

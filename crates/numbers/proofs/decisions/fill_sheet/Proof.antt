@@ -1,6 +1,5 @@
 -- The head comes back as its line, then the rest of the target as the lines: both make the whole.
-use Rattle.lists.specs.Basics.{_≡_, sym, ap, ap₂, _∙_, ℕ, _*_, List, _++_, length, drop, length-take, length-drop, arith, needs}
-use Rattle.lists.specs.Each.{joined}
+use Rattle.lists.specs.Basics.{_≡_, sym, ap, ap₂, _∙_, ℕ, _*_, List, _++_, length, drop, length-take, length-drop, arith, needs, joined}
 use Rattle.model.specs.Layouts.{layout, headLayout, coordinatorBytes, headFields}
 use Rattle.sheet_laws.specs.Lines.{lineBytes}
 use Rattle.numbers.specs.DecisionFills.{lineTexts, sheetFor}

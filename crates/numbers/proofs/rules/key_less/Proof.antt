@@ -1,6 +1,5 @@
 -- The code is the definition written out for five fields; after the last there is nothing to compare.
-use Rattle.lists.specs.Basics.{and-false, or-false}
-use Rattle.lists.specs.Each.{less}
+use Rattle.lists.specs.Basics.{and-false, or-false, less}
 use Rattle.model.specs.Records.{keyLess, keyNumbers}
 use Rattle.numbers.proofs.rules.key_less.Statement.{statement}
 use Rattle.numbers.proofs.rules.key_less.Tie as tie

@@ -1,6 +1,5 @@
 -- Word by word, in the order of the definition.
-use Rattle.lists.specs.Basics.{sym, _∙_, needs}
-use Rattle.lists.specs.Bytes.{bytes}
+use Rattle.lists.specs.Basics.{sym, _∙_, needs, bytes}
 use Rattle.script.specs.Lines.{kindOf, first-named, second-named, third-named, fourth-named, none-named}
 use Rattle.script.proofs.scan.kind_of.Statement.{statement}
 use Rattle.script.proofs.scan.kind_of.Tie as tie

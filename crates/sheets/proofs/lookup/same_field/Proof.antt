@@ -1,7 +1,6 @@
 -- The parts lent are the key field of the line and of the key line; the edges bound them.
-use Rattle.lists.specs.Basics.{sym, ap, _∙_, arith, needs}
+use Rattle.lists.specs.Basics.{sym, ap, _∙_, arith, needs, eqList}
 use Rattle.sheets.specs.Search.{edge, edges, keyField, field-of-text}
-use Rattle.lists.specs.Bytes.{eqList}
 use Rattle.sheets.proofs.lookup.same_field.Statement.{statement}
 use Rattle.sheets.proofs.lookup.same_field.Tie as tie
 
