@@ -57,16 +57,9 @@ returns-3 : tie.Need-returns-3
 unfolding ofNumber
 returns-3 c = c .decisions-ok .ensures ∙ (rw (c .before .before .issued .given .1) at (decided (c .before .before .before .before)))
 
-returns-4 : tie.Need-returns-4
-unfolding ofNumber
-returns-4 c = rw (c .enum-told .given .1) at (decided (c .before .before))
-
-returns-5 : tie.Need-returns-5
-unfolding ofNumber
-returns-5 c = rw (c .enum-told2 .given .1) at (decided (c .before .before))
-
 pub coordinator-ok-spec : {M : Type 1} → statement M
+unfolding ofNumber
 coordinator-ok-spec =
     tie.close (tie.spec (λ c κs. search needs) returns slice-aggregate-letters-ok letters-ok-requires returns-2 slice-aggregate-read
-    (λ c κs. search needs) (λ c. search needs) (λ c. search needs) decisions-ok-requires (λ c. search needs) (λ c. search needs) returns-3 returns-4
-    returns-5)
+    (λ c κs. search needs) (λ c. search needs) (λ c. search needs) decisions-ok-requires (λ c. search needs) (λ c. search needs) returns-3
+    (λ c. rw (c .enum-told .given .1) at (decided (c .before .before))) (λ c. rw (c .enum-told2 .given .1) at (decided (c .before .before))))

@@ -25,18 +25,12 @@ returns : tie.Need-returns Inv-loop μ-loop
 unfolding putWord
 returns c = let a = c .before .args in rw (ne-eqb (length (a .s .now)) (length (a .t .now)) (c .if1 .taken))
 
-loop-holds : tie.Need-loop-holds Inv-loop μ-loop
-loop-holds c = (omega arith, refl, c .if1 .left, refl)
-
 loop-again : tie.Need-loop-again Inv-loop μ-loop
 loop-again c =
     let a = c .before .before .before .before .args in
     let l = c .before .before .loop in
     let e = next-byte (l .s) (a .t .now) (l .i) (omega arith) (omega arith) (l .inv .3) in
     (rw length-set (omega arith), rw length-set (l .inv .1), l .inv .2, e)
-
-same-length : tie.Need-same-length Inv-loop μ-loop
-same-length c = c .before .loop .inv .1
 
 returns-2 : tie.Need-returns-2 Inv-loop μ-loop
 unfolding putWord
@@ -48,5 +42,5 @@ returns-2 c =
 
 pub put-spec : {M : Type 1} → statement M
 put-spec =
-    tie.close (tie.spec Inv-loop μ-loop returns loop-holds (λ c. search needs) (λ c. search needs) (λ c. search needs) (λ c. search needs) loop-again
-    same-length returns-2)
+    tie.close (tie.spec Inv-loop μ-loop returns (λ c. (omega arith, refl, c .if1 .left, refl)) (λ c. search needs) (λ c. search needs)
+    (λ c. search needs) (λ c. search needs) loop-again (λ c. c .before .loop .inv .1) returns-2)

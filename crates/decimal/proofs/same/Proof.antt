@@ -29,9 +29,6 @@ Inv-loop s t i₀ i = (i ≤ length s) × (length s ≡ length t) × (drop i s �
 abbrev μ-loop : tie.MeasureT-loop
 μ-loop s t i₀ i = i
 
-returns : tie.Need-returns Inv-loop μ-loop
-returns c = sym (ne-eqList _ _ (λ e. c .if1 .taken (ap length e)))
-
 loop-holds : tie.Need-loop-holds Inv-loop μ-loop
 loop-holds c =
     let a = c .before .args in
@@ -58,5 +55,6 @@ returns-3 c =
 
 pub same-spec : {M : Type 1} → statement M
 same-spec =
-    tie.close (tie.spec Inv-loop μ-loop returns loop-holds (λ c. search needs) (λ c. search needs) (λ c. search needs) returns-2 (λ c. search needs)
+    tie.close (tie.spec Inv-loop μ-loop (λ c. sym (ne-eqList _ _ (λ e. c .if1 .taken (ap length e)))) loop-holds (λ c. search needs)
+    (λ c. search needs) (λ c. search needs) returns-2 (λ c. search needs)
     loop-again returns-3)

@@ -21,9 +21,6 @@ Inv-loop s n i₀ i = (i ≤ length s) × (i + spaces (drop i s) ≡ spaces s)
 abbrev μ-loop : tie.MeasureT-loop
 μ-loop s n i₀ i = length s - i
 
-loop-holds : tie.Need-loop-holds Inv-loop μ-loop
-loop-holds c = (omega arith, omega arith)
-
 returns : tie.Need-returns Inv-loop μ-loop
 returns c =
     let a = c .before .before .before .before .args in
@@ -48,4 +45,5 @@ returns-2 c =
 
 pub spaces-spec : {M : Type 1} → statement M
 spaces-spec =
-    tie.close (tie.spec Inv-loop μ-loop loop-holds (λ c. search needs) returns (λ c. search needs) (λ c. search needs) loop-again returns-2)
+    tie.close (tie.spec Inv-loop μ-loop (λ c. (omega arith, omega arith)) (λ c. search needs) returns (λ c. search needs) (λ c. search needs)
+    loop-again returns-2)

@@ -26,9 +26,6 @@ returns : tie.Need-returns Inv-loop μ-loop
 unfolding lineOk
 returns c = rw (sym (c .before .as-long .ensures) ∙ not-true (c .before .as-long .result) (c .if1 .taken))
 
-loop-holds : tie.Need-loop-holds Inv-loop μ-loop
-loop-holds c = (omega arith, refl)
-
 stands-requires : tie.Need-stands-requires Inv-loop μ-loop
 stands-requires c κs =
     let l = c .before .before .loop in
@@ -64,5 +61,5 @@ returns-2 c =
 
 pub line-ok-spec : {M : Type 1} → statement M
 line-ok-spec =
-    tie.close (tie.spec Inv-loop μ-loop (λ c κs. search needs) returns loop-holds (λ c. search needs) (λ c. search needs) stands-requires
-    (λ c. search needs) (λ c. search needs) loop-again returns-2)
+    tie.close (tie.spec Inv-loop μ-loop (λ c κs. search needs) returns (λ c. (omega arith, refl)) (λ c. search needs) (λ c. search needs)
+    stands-requires (λ c. search needs) (λ c. search needs) loop-again returns-2)

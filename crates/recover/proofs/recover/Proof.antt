@@ -4,9 +4,6 @@ use Rattle.recover.specs.Recovering.{lineAt, meeting-pending}
 use Rattle.recover.proofs.recover.Statement.{statement}
 use Rattle.recover.proofs.recover.Tie as tie
 
-meet-requires : tie.Need-meet-requires
-meet-requires c κs = c .before .before .before .before .pre .accepted .lines
-
 settle-requires : tie.Need-settle-requires
 settle-requires c κs =
     let a = c .before .before .before .before .before .before .before .args in (
@@ -20,4 +17,6 @@ returns c =
     record { met = c .before .before .before .before .before .before .before .meet .ensures; written = c .before .before .before .before .settle .ensures }
 
 pub recover-spec : {M : Type 1} → statement M
-recover-spec = tie.close (tie.spec meet-requires settle-requires (λ c. search needs) (λ c. search needs) returns)
+recover-spec =
+    tie.close (tie.spec (λ c κs. c .before .before .before .before .pre .accepted .lines) settle-requires (λ c. search needs) (λ c. search needs)
+    returns)

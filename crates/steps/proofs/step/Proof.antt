@@ -6,27 +6,6 @@ use Rattle.steps.specs.Cases.{stepped-as, step-at, step-none}
 use Rattle.steps.proofs.step.Statement.{statement}
 use Rattle.steps.proofs.step.Tie as tie
 
-open-requires : tie.Need-open-requires
-open-requires c κs = c .before .before .before .before .before .pre
-
-prepare-requires : tie.Need-prepare-requires
-prepare-requires c κs = (c .before .before .before .before .before .pre, c .before .before .match .keys2)
-
-validate-requires : tie.Need-validate-requires
-validate-requires c κs = (c .before .before .before .before .before .pre, c .before .before .match .keys3)
-
-decide-requires : tie.Need-decide-requires
-decide-requires c κs = known _ _ _ _ (c .before .before .before .before .pre)
-
-withdraw-requires : tie.Need-withdraw-requires
-withdraw-requires c κs = known _ _ _ _ (c .before .before .before .before .pre)
-
-finish-requires : tie.Need-finish-requires
-finish-requires c κs = (c .before .before .before .before .before .pre, c .before .before .match .keys6)
-
-undo-requires : tie.Need-undo-requires
-undo-requires c κs = (c .before .before .before .before .before .pre, c .before .before .match .keys7)
-
 returns : tie.Need-returns
 returns c = stepped-as (step-at _ _ _ 0 (c .before .before .before .before .before .match .keys1)) (c .before .before .«open» .ensures)
 
@@ -65,7 +44,12 @@ returns-9 c =
 
 pub step-spec : {M : Type 1} → statement M
 step-spec =
-    tie.close (tie.spec open-requires prepare-requires validate-requires decide-requires withdraw-requires finish-requires undo-requires
-    (λ c κs. search needs) (λ c. search needs) (λ c. search needs) returns (λ c. search needs) (λ c. search needs) returns-2 (λ c. search needs)
+    tie.close (tie.spec (λ c κs. c .before .before .before .before .before .pre)
+    (λ c κs. (c .before .before .before .before .before .pre, c .before .before .match .keys2))
+    (λ c κs. (c .before .before .before .before .before .pre, c .before .before .match .keys3))
+    (λ c κs. known _ _ _ _ (c .before .before .before .before .pre)) (λ c κs. known _ _ _ _ (c .before .before .before .before .pre))
+    (λ c κs. (c .before .before .before .before .before .pre, c .before .before .match .keys6))
+    (λ c κs. (c .before .before .before .before .before .pre, c .before .before .match .keys7)) (λ c κs. search needs) (λ c. search needs)
+    (λ c. search needs) returns (λ c. search needs) (λ c. search needs) returns-2 (λ c. search needs)
     (λ c. search needs) returns-3 (λ c. search needs) returns-4 (λ c. search needs) returns-5 (λ c. search needs) (λ c. search needs) returns-6
     (λ c. search needs) (λ c. search needs) returns-7 returns-8 returns-9)

@@ -4,12 +4,6 @@ use Rattle.sweep.specs.Output.{refusal-printed}
 use Rattle.sweep.proofs.print_refusal.Statement.{statement}
 use Rattle.sweep.proofs.print_refusal.Tie as tie
 
-slice-aggregate-put : tie.Need-slice-aggregate-put
-slice-aggregate-put c = simp length-take (omega (arith, c .before .before .before .before .before .pre))
-
-slice-aggregate-put-2 : tie.Need-slice-aggregate-put-2
-slice-aggregate-put-2 c = simp length-append (omega (arith, c .before .before .before .write .kept .0))
-
 returns : tie.Need-returns
 unfolding bytes
 returns c =
@@ -18,5 +12,6 @@ returns c =
 
 pub print-refusal-spec : {M : Type 1} → statement M
 print-refusal-spec =
-    tie.close (tie.spec (λ c. search needs) (λ c. search needs) (λ c. search needs) (λ c κs. search needs) (λ c. search needs) slice-aggregate-put
-    slice-aggregate-put-2 (λ c κs. search needs) (λ c. search needs) returns)
+    tie.close (tie.spec (λ c. search needs) (λ c. search needs) (λ c. search needs) (λ c κs. search needs) (λ c. search needs)
+    (λ c. simp length-take (omega (arith, c .before .before .before .before .before .pre)))
+    (λ c. simp length-append (omega (arith, c .before .before .before .write .kept .0))) (λ c κs. search needs) (λ c. search needs) returns)

@@ -11,9 +11,6 @@ Inv-loop t n i₀ i = PassedTo t (any isPut) (any isPut (held t)) i
 abbrev μ-loop : tie.MeasureT-loop
 μ-loop t n i₀ i = n - i
 
-loop-holds : tie.Need-loop-holds Inv-loop μ-loop
-loop-holds c = pass-first _ _ (c .good .0) (c .pre)
-
 returns : tie.Need-returns Inv-loop μ-loop
 unfolding puts
 returns c = any-met _ _ _ _ (c .before .before .before .before .loop .inv) (c .before .before .before .loop-test .taken) (eq-eqb _ _ (c .if1 .taken)) ∙ some-kept isPut (held (c .before .before .before .before .before .args .t1))
@@ -27,5 +24,6 @@ returns-2 c = any-last _ _ _ _ (c .before .loop .inv) (c .loop-test .left) ∙ s
 
 pub has-puts-spec : {M : Type 1} → statement M
 has-puts-spec =
-    tie.close (tie.spec Inv-loop μ-loop (λ c. search needs) loop-holds (λ c. search needs) (λ c. search needs) returns (λ c. search needs)
+    tie.close (tie.spec Inv-loop μ-loop (λ c. search needs) (λ c. pass-first _ _ (c .good .0) (c .pre)) (λ c. search needs) (λ c. search needs)
+    returns (λ c. search needs)
     (λ c. search needs) loop-again returns-2)

@@ -14,20 +14,15 @@ Inv-loop k t n i₀ i = PassedTo t (firstFrom (λ (e : Entry). sameKey (e .key) 
 abbrev μ-loop : tie.MeasureT-loop
 μ-loop k t n i₀ i = n - i
 
-loop-holds : tie.Need-loop-holds Inv-loop μ-loop
-unfolding heldAt
-loop-holds c = pass-first _ _ (c .good .1 .0) (c .pre)
-
 returns : tie.Need-returns Inv-loop μ-loop
 returns c = first-met _ _ _ _ (c .before .before .before .before .loop .inv) (c .before .before .before .loop-test .taken) (sym (c .before .same-key .ensures) ∙ c .if1 .taken)
 
 loop-again : tie.Need-loop-again Inv-loop μ-loop
 loop-again c = first-next _ _ _ _ (c .before .before .before .before .loop .inv) (c .before .before .before .loop-test .taken) (sym (c .before .same-key .ensures) ∙ c .if1 .left)
 
-returns-2 : tie.Need-returns-2 Inv-loop μ-loop
-returns-2 c = first-last _ _ _ _ (c .before .loop .inv) (c .loop-test .left)
-
 pub held-at-spec : {M : Type 1} → statement M
+unfolding heldAt
 held-at-spec =
-    tie.close (tie.spec Inv-loop μ-loop (λ c. search needs) loop-holds (λ c. search needs) (λ c. search needs) (λ c κs. search needs) returns
-    (λ c. search needs) (λ c. search needs) loop-again returns-2)
+    tie.close (tie.spec Inv-loop μ-loop (λ c. search needs) (λ c. pass-first _ _ (c .good .1 .0) (c .pre)) (λ c. search needs) (λ c. search needs)
+    (λ c κs. search needs) returns (λ c. search needs) (λ c. search needs) loop-again
+    (λ c. first-last _ _ _ _ (c .before .loop .inv) (c .loop-test .left)))

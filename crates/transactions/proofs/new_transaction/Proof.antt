@@ -2,11 +2,5 @@
 use Rattle.transactions.proofs.new_transaction.Statement.{statement}
 use Rattle.transactions.proofs.new_transaction.Tie as tie
 
-returns : tie.Need-returns
-returns c = rw (c .if1 .taken)
-
-returns-2 : tie.Need-returns-2
-returns-2 c = rw (c .if1 .left)
-
 pub new-transaction-spec : {M : Type 1} → statement M
-new-transaction-spec = tie.close (tie.spec returns returns-2)
+new-transaction-spec = tie.close (tie.spec (λ c. rw (c .if1 .taken)) (λ c. rw (c .if1 .left)))

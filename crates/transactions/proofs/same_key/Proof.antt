@@ -4,9 +4,6 @@ use Rattle.model.specs.Records.{keyNumbers, sameKey}
 use Rattle.transactions.proofs.same_key.Statement.{statement}
 use Rattle.transactions.proofs.same_key.Tie as tie
 
-returns : tie.Need-returns
-unfolding sameKey keyNumbers eqList
-returns c = simp (and-assoc, and-true)
-
 pub same-key-spec : {M : Type 1} → statement M
-same-key-spec = tie.close (tie.spec returns)
+unfolding eqList keyNumbers sameKey
+same-key-spec = tie.close (tie.spec (λ c. simp (and-assoc, and-true)))

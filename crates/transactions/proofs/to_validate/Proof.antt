@@ -13,9 +13,6 @@ Inv-loop letters place t n ahead₀ i₀ ahead i = PassedTo t (keptAt (mustValid
 abbrev μ-loop : tie.MeasureT-loop
 μ-loop letters place t n ahead₀ i₀ ahead i = n - i
 
-loop-holds : tie.Need-loop-holds Inv-loop μ-loop
-loop-holds c = pass-first _ _ (c .before .good .1 .0) (c .before .pre)
-
 returns : tie.Need-returns Inv-loop μ-loop
 unfolding toValidate
 returns c = kept-met _ _ _ _ _ (c .before .before .before .before .before .loop .inv) (c .before .before .before .before .loop-test .taken) (sym (c .before .before .must-validate .ensures (c .before .before .before .before .before .before .before .args .t2) refl) ∙ c .before .if1 .taken) (c .if2 .taken)
@@ -30,11 +27,9 @@ loop-again c =
     (λ w. rw (w .1) (kept-skip _ _ _ _ _ i l (m ∙ w .0 .left)))
     (c .if1 .came)
 
-returns-2 : tie.Need-returns-2 Inv-loop μ-loop
-unfolding toValidate
-returns-2 c = kept-last _ _ _ _ _ (c .before .loop .inv) (c .loop-test .left)
-
 pub to-validate-spec : {M : Type 1} → statement M
+unfolding toValidate
 to-validate-spec =
-    tie.close (tie.spec Inv-loop μ-loop (λ c. search needs) loop-holds (λ c. search needs) (λ c. search needs) (λ c κs. search needs) returns
-    (λ c. search needs) (λ c. search needs) (λ c. search needs) loop-again returns-2)
+    tie.close (tie.spec Inv-loop μ-loop (λ c. search needs) (λ c. pass-first _ _ (c .before .good .1 .0) (c .before .pre)) (λ c. search needs)
+    (λ c. search needs) (λ c κs. search needs) returns (λ c. search needs) (λ c. search needs) (λ c. search needs) loop-again
+    (λ c. kept-last _ _ _ _ _ (c .before .loop .inv) (c .loop-test .left)))

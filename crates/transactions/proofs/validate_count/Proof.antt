@@ -13,9 +13,6 @@ Inv-loop letters t n found₀ i₀ found i = TalliedTo t (λ (e : Entry) (es : L
 abbrev μ-loop : tie.MeasureT-loop
 μ-loop letters t n found₀ i₀ found i = n - i
 
-loop-holds : tie.Need-loop-holds Inv-loop μ-loop
-loop-holds c = tally-first _ _ (c .before .good .1 .0) (c .before .pre)
-
 loop-again : tie.Need-loop-again Inv-loop μ-loop
 loop-again c = tally-next _ _ _ _ _ _ (c .before .before .before .before .loop .inv) (c .before .before .before .loop-test .taken) (rw (c .before .must-validate .ensures (c .before .before .before .before .before .before .args .t2) refl) at (c .tally .ensures))
 
@@ -25,5 +22,6 @@ returns c = tally-last _ _ _ _ _ (c .before .loop .inv) (c .loop-test .left) ∙
 
 pub validate-count-spec : {M : Type 1} → statement M
 validate-count-spec =
-    tie.close (tie.spec Inv-loop μ-loop (λ c. search needs) loop-holds (λ c. search needs) (λ c. search needs) (λ c κs. search needs)
+    tie.close (tie.spec Inv-loop μ-loop (λ c. search needs) (λ c. tally-first _ _ (c .before .good .1 .0) (c .before .pre)) (λ c. search needs)
+    (λ c. search needs) (λ c κs. search needs)
     (λ c κs. search needs) (λ c. search needs) (λ c. search needs) loop-again returns)

@@ -19,9 +19,6 @@ Inv-loop t n i₀ i = PassedTo t distinctKeys (distinctKeys (held t)) i
 abbrev μ-loop : tie.MeasureT-loop
 μ-loop t n i₀ i = n - i
 
-loop-holds : tie.Need-loop-holds Inv-loop2 μ-loop2 Inv-loop μ-loop
-loop-holds c = pass-first _ _ (c .good .0) (c .pre)
-
 loop2-holds : tie.Need-loop2-holds Inv-loop2 μ-loop2 Inv-loop μ-loop
 loop2-holds c = pass-from _ _ _ (c .before .before .before .good .0) (c .before .before .before .pre) (omega (arith, c .before .loop-test .taken))
 
@@ -41,6 +38,7 @@ returns-2 c = distinct-last _ _ _ (c .before .loop .inv) (c .loop-test .left)
 
 pub distinct-keys-spec : {M : Type 1} → statement M
 distinct-keys-spec =
-    tie.close (tie.spec Inv-loop2 μ-loop2 Inv-loop μ-loop (λ c. search needs) loop-holds (λ c. search needs) (λ c. search needs) (λ c. search needs)
+    tie.close (tie.spec Inv-loop2 μ-loop2 Inv-loop μ-loop (λ c. search needs) (λ c. pass-first _ _ (c .good .0) (c .pre)) (λ c. search needs)
+    (λ c. search needs) (λ c. search needs)
     loop2-holds (λ c. search needs) (λ c. search needs) (λ c κs. search needs) returns (λ c. search needs) (λ c. search needs) loop2-again
     (λ c. search needs) (λ c. search needs) loop-again returns-2)

@@ -12,19 +12,14 @@ Inv-loop issued t n i₀ i = PassedTo t (all (entryFormed issued)) (all (entryFo
 abbrev μ-loop : tie.MeasureT-loop
 μ-loop issued t n i₀ i = n - i
 
-loop-holds : tie.Need-loop-holds Inv-loop μ-loop
-loop-holds c = pass-first _ _ (c .good .1 .0) (c .pre)
-
 returns : tie.Need-returns Inv-loop μ-loop
 returns c = all-unmet _ _ _ _ (c .before .before .before .before .loop .inv) (c .before .before .before .loop-test .taken) (sym (c .before .entry-formed .ensures) ∙ not-true _ (c .if1 .taken))
 
 loop-again : tie.Need-loop-again Inv-loop μ-loop
 loop-again c = all-next _ _ _ _ (c .before .before .before .before .loop .inv) (c .before .before .before .loop-test .taken) (sym (c .before .entry-formed .ensures) ∙ not-false _ (c .if1 .left))
 
-returns-2 : tie.Need-returns-2 Inv-loop μ-loop
-returns-2 c = all-last _ _ _ _ (c .before .loop .inv) (c .loop-test .left)
-
 pub entries-formed-spec : {M : Type 1} → statement M
 entries-formed-spec =
-    tie.close (tie.spec Inv-loop μ-loop (λ c. search needs) loop-holds (λ c. search needs) (λ c. search needs) (λ c κs. search needs) returns
-    (λ c. search needs) (λ c. search needs) loop-again returns-2)
+    tie.close (tie.spec Inv-loop μ-loop (λ c. search needs) (λ c. pass-first _ _ (c .good .1 .0) (c .pre)) (λ c. search needs) (λ c. search needs)
+    (λ c κs. search needs) returns (λ c. search needs) (λ c. search needs) loop-again
+    (λ c. all-last _ _ _ _ (c .before .loop .inv) (c .loop-test .left)))

@@ -3,8 +3,5 @@ use Rattle.well_formed.specs.Formed.{image-ranged}
 use Rattle.well_formed.proofs.image_in_range.Statement.{statement}
 use Rattle.well_formed.proofs.image_in_range.Tie as tie
 
-returns : tie.Need-returns
-returns c = image-ranged (c .before .before .before .before .args .m)
-
 pub image-in-range-spec : {M : Type 1} → statement M
-image-in-range-spec = tie.close (tie.spec returns)
+image-in-range-spec = tie.close (tie.spec (λ c. image-ranged (c .before .before .before .before .args .m)))

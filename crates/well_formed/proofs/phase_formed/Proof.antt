@@ -3,8 +3,5 @@ use Rattle.lists.specs.Basics.{needs}
 use Rattle.well_formed.proofs.phase_formed.Statement.{statement}
 use Rattle.well_formed.proofs.phase_formed.Tie as tie
 
-returns : tie.Need-returns
-returns c = rw (c .before .before .has-puts .ensures)
-
 pub phase-formed-spec : {M : Type 1} → statement M
-phase-formed-spec = tie.close (tie.spec (λ c κs. search needs) returns)
+phase-formed-spec = tie.close (tie.spec (λ c κs. search needs) (λ c. rw (c .before .before .has-puts .ensures)))

@@ -4,9 +4,6 @@ use Rattle.model.specs.WellFormed.{putFits}
 use Rattle.well_formed.proofs.put_fits.Statement.{statement}
 use Rattle.well_formed.proofs.put_fits.Tie as tie
 
-returns : tie.Need-returns
-unfolding putFits
-returns c = rw (c .columns-in-range .ensures)
-
 pub put-fits-spec : {M : Type 1} → statement M
-put-fits-spec = tie.close (tie.spec (λ c κs. search needs) returns)
+unfolding putFits
+put-fits-spec = tie.close (tie.spec (λ c κs. search needs) (λ c. rw (c .columns-in-range .ensures)))

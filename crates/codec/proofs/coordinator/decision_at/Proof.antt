@@ -9,9 +9,6 @@ returns c =
     let a = c .before .before .before .args in
     decision-past (a .coordinator .now) (a .n) (sym (c .before .has-line .ensures) ∙ not-true _ (c .if1 .taken))
 
-holds-decision-requires : tie.Need-holds-decision-requires
-holds-decision-requires c κs = sym (c .before .has-line .ensures) ∙ not-false _ (c .if1 .left)
-
 returns-2 : tie.Need-returns-2
 returns-2 c =
     let a = c .before .before .before .before .before .args in
@@ -37,4 +34,5 @@ returns-4 c =
 
 pub decision-at-spec : {M : Type 1} → statement M
 decision-at-spec =
-    tie.close (tie.spec (λ c κs. search needs) returns holds-decision-requires returns-2 holds-decision-requires-2 returns-3 returns-4)
+    tie.close (tie.spec (λ c κs. search needs) returns (λ c κs. sym (c .before .has-line .ensures) ∙ not-false _ (c .if1 .left)) returns-2
+    holds-decision-requires-2 returns-3 returns-4)

@@ -9,13 +9,11 @@ use Rattle.codec.proofs.coordinator.issued.Tie as tie
 returns : tie.Need-returns
 returns c = c .number-of .ensures ∙ (ap number (c .before .read .ensures) ∙ issued-short _ (c .before .before .if1 .taken))
 
-slice-aggregate-read : tie.Need-slice-aggregate-read
-slice-aggregate-read c = simp length-take (omega arith)
-
 returns-2 : tie.Need-returns-2
 returns-2 c = c .number-of2 .ensures ∙ (ap number (c .before .read2 .ensures) ∙ issued-at _)
 
 pub issued-spec : {M : Type 1} → statement M
 issued-spec =
-    tie.close (tie.spec (λ c κs. search needs) (λ c κs. search needs) returns slice-aggregate-read (λ c κs. search needs) (λ c κs. search needs)
+    tie.close (tie.spec (λ c κs. search needs) (λ c κs. search needs) returns (λ c. simp length-take (omega arith)) (λ c κs. search needs)
+    (λ c κs. search needs)
     returns-2)

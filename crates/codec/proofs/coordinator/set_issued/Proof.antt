@@ -4,9 +4,6 @@ use Rattle.codec.specs.Parts.{count-part}
 use Rattle.codec.proofs.coordinator.set_issued.Statement.{statement}
 use Rattle.codec.proofs.coordinator.set_issued.Tie as tie
 
-slice-aggregate-write : tie.Need-slice-aggregate-write
-slice-aggregate-write c = simp length-take (omega arith)
-
 returns : tie.Need-returns
 returns c =
     let a = c .before .before .before .before .before .before .args in
@@ -18,4 +15,5 @@ returns-2 c =
     let h : leb 4 (length (a .coordinator .now)) ≡ false = lt-leb 4 (length (a .coordinator .now)) (c .if1 .left) in rw h
 
 pub set-issued-spec : {M : Type 1} → statement M
-set-issued-spec = tie.close (tie.spec (λ c. search needs) slice-aggregate-write (λ c κs. search needs) (λ c. search needs) returns returns-2)
+set-issued-spec =
+    tie.close (tie.spec (λ c. search needs) (λ c. simp length-take (omega arith)) (λ c κs. search needs) (λ c. search needs) returns returns-2)

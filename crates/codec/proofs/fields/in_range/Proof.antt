@@ -4,9 +4,6 @@ use Rattle.model.specs.Lines.{inRange}
 use Rattle.codec.proofs.fields.in_range.Statement.{statement}
 use Rattle.codec.proofs.fields.in_range.Tie as tie
 
-returns : tie.Need-returns
-unfolding inRange
-returns c = search needs
-
 pub in-range-spec : {M : Type 1} → statement M
-in-range-spec = tie.close (tie.spec returns)
+unfolding inRange
+in-range-spec = tie.close (tie.spec (λ c. search needs))

@@ -11,9 +11,6 @@ Inv-loop l row line₀ n at₀ i₀ line at i = (n ≡ length (layout l)) × Wri
 abbrev μ-loop : tie.MeasureT-loop
 μ-loop l row line₀ n at₀ i₀ line at i = n - i
 
-loop-holds : tie.Need-loop-holds Inv-loop μ-loop
-loop-holds c = (c .before .before .pre .0, write-first _ _ _ (c .before .before .pre .1))
-
 add-end : tie.Need-add-end Inv-loop μ-loop
 add-end c =
     let e = field-ends (layout (c .before .before .before .before .before .before .args .l)) (c .before .before .before .loop .i) (c .before .before .before .loop .at) (length (c .before .before .before .loop .line)) (c .before .column .result) (omega arith) (c .before .column .ensures) (c .before .before .before .loop .inv .1 .left) in
@@ -43,6 +40,7 @@ returns c = write-last _ _ _ _ _ (omega arith) (c .before .loop .inv .1) .0
 
 pub write-row-spec : {M : Type 1} → statement M
 write-row-spec =
-    tie.close (tie.spec Inv-loop μ-loop loop-holds (λ c κs. search needs) add-end (λ c. search needs) (λ c. search needs) (λ c. search needs)
+    tie.close (tie.spec Inv-loop μ-loop (λ c. (c .before .before .pre .0, write-first _ _ _ (c .before .before .pre .1))) (λ c κs. search needs)
+    add-end (λ c. search needs) (λ c. search needs) (λ c. search needs)
     (λ c. search needs) part-write-field-end write-field-requires (λ c. search needs) (λ c. search needs) loop-again slice-write-line same-length
     returns)

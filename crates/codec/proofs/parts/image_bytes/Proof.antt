@@ -5,10 +5,6 @@ use Rattle.codec.specs.Parts.{bytes-copied}
 use Rattle.codec.proofs.parts.image_bytes.Statement.{statement}
 use Rattle.codec.proofs.parts.image_bytes.Tie as tie
 
-part-put-end : tie.Need-part-put-end
-unfolding offset recordLayout imageLayout
-part-put-end c = search needs
-
 returns : tie.Need-returns
 unfolding offset recordLayout imageLayout
 returns c =
@@ -17,6 +13,7 @@ returns c =
     bytes-copied _ (a .line .now) _ imageBytes _ _ refl (p .0) (omega arith) (c .before .put .ensures)
 
 pub image-bytes-spec : {M : Type 1} → statement M
+unfolding imageLayout offset recordLayout
 image-bytes-spec =
-    tie.close (tie.spec (λ c κs. search needs) (λ c. search needs) (λ c. search needs) (λ c. search needs) (λ c. search needs) part-put-end
+    tie.close (tie.spec (λ c κs. search needs) (λ c. search needs) (λ c. search needs) (λ c. search needs) (λ c. search needs) (λ c. search needs)
     (λ c κs. search needs) returns)

@@ -8,9 +8,6 @@ use Rattle.sheet_laws.specs.Spans.{fieldsText}
 use Rattle.codec.proofs.parts.put_nothing.Statement.{statement}
 use Rattle.codec.proofs.parts.put_nothing.Tie as tie
 
-returns : tie.Need-returns
-unfolding offset recordLayout fieldsText fieldBytes fieldText ahead imageNumbers
-returns c = c .before .before .put-at .ensures
-
 pub put-nothing-spec : {M : Type 1} → statement M
-put-nothing-spec = tie.close (tie.spec (λ c. search needs) (λ c κs. search needs) (λ c. search needs) returns)
+unfolding ahead fieldBytes fieldText fieldsText imageNumbers offset recordLayout
+put-nothing-spec = tie.close (tie.spec (λ c. search needs) (λ c κs. search needs) (λ c. search needs) (λ c. c .before .before .put-at .ensures))

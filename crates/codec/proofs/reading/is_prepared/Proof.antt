@@ -16,8 +16,7 @@ returns c =
     c .is-word-at .ensures
     ∙ (ap (λ (n : ℕ). eqList word (wordAt StateWord n)) (c .before .state-number .ensures) ∙ prepared-told (a .records .now) (a .i) (c .before .before .if1 .taken))
 
-returns-2 : tie.Need-returns-2
-returns-2 c = sym (ap isPrepared (record-past _ _ (c .if1 .left)))
-
 pub is-prepared-spec : {M : Type 1} → statement M
-is-prepared-spec = tie.close (tie.spec (λ c. search needs) (λ c. search needs) (λ c κs. search needs) (λ c κs. search needs) returns returns-2)
+is-prepared-spec =
+    tie.close (tie.spec (λ c. search needs) (λ c. search needs) (λ c κs. search needs) (λ c κs. search needs) returns
+    (λ c. sym (ap isPrepared (record-past _ _ (c .if1 .left)))))

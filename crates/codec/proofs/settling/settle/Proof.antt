@@ -16,10 +16,7 @@ returns c =
     let a = back .before .before .before .before .args in
     part-changed (a .records .now) (a .i) (back .before .before .if1 .taken) (settledAs (a .state) (a .before)) _ (back .settle-line .kept .0) (back .settle-line .ensures)
 
-returns-2 : tie.Need-returns-2
-returns-2 c = rw (le-ltb _ _ (c .if1 .left))
-
 pub settle-spec : {M : Type 1} → statement M
 settle-spec =
     tie.close (tie.spec (λ c. search needs) (λ c. search needs) (λ c. search needs) (λ c. search needs) (λ c. search needs) settle-line-requires
-    (λ c. search needs) returns returns-2)
+    (λ c. search needs) returns (λ c. rw (le-ltb _ _ (c .if1 .left))))

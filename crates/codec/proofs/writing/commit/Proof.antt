@@ -17,10 +17,7 @@ returns c =
     let a = start .args in
     part-changed (a .records .now) (a .i) (back .before .before .if1 .taken) (committed (a .n) (a .columns)) _ (back .commit-line .kept .0) (back .commit-line .ensures)
 
-returns-2 : tie.Need-returns-2
-returns-2 c = rw (le-ltb _ _ (c .if1 .left))
-
 pub commit-spec : {M : Type 1} → statement M
 commit-spec =
     tie.close (tie.spec (λ c. search needs) (λ c. search needs) (λ c. search needs) (λ c. search needs) (λ c. search needs) commit-line-requires
-    (λ c. search needs) returns returns-2)
+    (λ c. search needs) returns (λ c. rw (le-ltb _ _ (c .if1 .left))))

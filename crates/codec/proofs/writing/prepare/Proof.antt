@@ -17,10 +17,7 @@ returns c =
     let a = start .args in
     part-changed (a .records .now) (a .i) (back .before .before .if1 .taken) (prepared (a .n) (a .clock) (a .columns)) _ (back .prepare-line .kept .0) (back .prepare-line .ensures)
 
-returns-2 : tie.Need-returns-2
-returns-2 c = rw (le-ltb _ _ (c .if1 .left))
-
 pub prepare-spec : {M : Type 1} → statement M
 prepare-spec =
     tie.close (tie.spec (λ c. search needs) (λ c. search needs) (λ c. search needs) (λ c. search needs) (λ c. search needs) prepare-line-requires
-    (λ c. search needs) returns returns-2)
+    (λ c. search needs) returns (λ c. rw (le-ltb _ _ (c .if1 .left))))

@@ -11,9 +11,6 @@ Inv-loop head good₀ i₀ good i = LettersTo head i good
 abbrev μ-loop : tie.MeasureT-loop
 μ-loop head good₀ i₀ good i = lineEnd - i
 
-loop-holds : tie.Need-loop-holds Inv-loop μ-loop
-loop-holds c = letters-first _
-
 loop-again : tie.Need-loop-again Inv-loop μ-loop
 loop-again c =
     let p = c .before .before .before .before .before .before .pre in
@@ -24,5 +21,5 @@ returns c = letters-last _ _ _ (c .before .loop-test .left) (c .before .before .
 
 pub letters-ok-spec : {M : Type 1} → statement M
 letters-ok-spec =
-    tie.close (tie.spec Inv-loop μ-loop (λ c. search needs) loop-holds (λ c. search needs) (λ c κs. search needs) (λ c. search needs)
+    tie.close (tie.spec Inv-loop μ-loop (λ c. search needs) (λ c. letters-first _) (λ c. search needs) (λ c κs. search needs) (λ c. search needs)
     (λ c. search needs) loop-again (λ c. search needs) returns)

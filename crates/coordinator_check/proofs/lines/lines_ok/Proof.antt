@@ -11,9 +11,6 @@ Inv-loop sheet after to before words good₀ number₀ k₀ good number k = Judg
 abbrev μ-loop : tie.MeasureT-loop
 μ-loop sheet after to before words good₀ number₀ k₀ good number k = to - k
 
-loop-holds : tie.Need-loop-holds Inv-loop μ-loop
-loop-holds c = judged-first _ _ _ _ _ (c .before .before .pre .0)
-
 next-requires : tie.Need-next-requires Inv-loop μ-loop
 next-requires c κs =
     let r = c .before .before .before .before .pre .0 in
@@ -36,5 +33,6 @@ returns c = judged-last _ _ _ _ _ _ _ (c .loop-test .left) (c .before .loop .inv
 
 pub lines-ok-spec : {M : Type 1} → statement M
 lines-ok-spec =
-    tie.close (tie.spec Inv-loop μ-loop loop-holds next-requires (λ c. search needs) (λ c. search needs) line-ok-requires (λ c. search needs)
+    tie.close (tie.spec Inv-loop μ-loop (λ c. judged-first _ _ _ _ _ (c .before .before .pre .0)) next-requires (λ c. search needs)
+    (λ c. search needs) line-ok-requires (λ c. search needs)
     (λ c. search needs) loop-again returns)

@@ -4,10 +4,6 @@ use Rattle.coordinator_check.specs.Numbers.{following}
 use Rattle.coordinator_check.proofs.lines.next.Statement.{statement}
 use Rattle.coordinator_check.proofs.lines.next.Tie as tie
 
-returns : tie.Need-returns
-unfolding following
-returns c = rw (lt-ltb (c .before .args .number) (57 * 2 ^ 24) (c .if1 .taken))
-
 returns-2 : tie.Need-returns-2
 unfolding following
 returns-2 c =
@@ -21,6 +17,8 @@ returns-3 c =
     rw (c .gain2 .ensures .0, le-ltb n (57 * 2 ^ 24) (c .before .before .if1 .left), eq-eqb (n / 2 ^ 16 % 256) 57 (c .before .if2 .left))
 
 pub next-spec : {M : Type 1} → statement M
+unfolding following
 next-spec =
-    tie.close (tie.spec (λ c. search needs) returns (λ c. search needs) (λ c κs. search needs) (λ c. search needs) (λ c. search needs) returns-2
-    (λ c. search needs) (λ c κs. search needs) (λ c. search needs) (λ c. search needs) returns-3)
+    tie.close (tie.spec (λ c. search needs) (λ c. rw (lt-ltb (c .before .args .number) (57 * 2 ^ 24) (c .if1 .taken))) (λ c. search needs)
+    (λ c κs. search needs) (λ c. search needs) (λ c. search needs) returns-2 (λ c. search needs) (λ c κs. search needs) (λ c. search needs)
+    (λ c. search needs) returns-3)

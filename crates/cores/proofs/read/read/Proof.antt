@@ -35,9 +35,6 @@ read-found-requires c κs =
           c .before .before .before .i .given .1;
     }
 
-returns-2 : tie.Need-returns-2
-returns-2 c = c .before .before .before .before .read-found .ensures
-
 returns-3 : tie.Need-returns-3
 returns-3 c =
     let a = c .before .before .before .before .before .before .before .before .before .before .before .args in
@@ -50,5 +47,5 @@ returns-3 c =
 pub read-spec : {M : Type 1} → statement M
 read-spec =
     tie.close (tie.spec (λ c κs. search needs) (λ c κs. search needs) (λ c. search needs) (λ c. search needs) returns find-requires
-    (λ c. search needs) read-found-requires (λ c. search needs) (λ c κs. search needs) (λ c. search needs) (λ c. search needs) returns-2
-    (λ c. search needs) (λ c. search needs) returns-3)
+    (λ c. search needs) read-found-requires (λ c. search needs) (λ c κs. search needs) (λ c. search needs) (λ c. search needs)
+    (λ c. c .before .before .before .before .read-found .ensures) (λ c. search needs) (λ c. search needs) returns-3)

@@ -4,12 +4,6 @@ use Rattle.group_writes.specs.Turns.{turned-not, turned-own}
 use Rattle.group_writes.proofs.changes.change_entry.Statement.{statement}
 use Rattle.group_writes.proofs.changes.change_entry.Tie as tie
 
-returns : tie.Need-returns
-returns c = turned-not _ _ _ _ _ (c .before .before .pre .accepted) (not-true _ (c .if1 .taken))
-
-change-line-requires : tie.Need-change-line-requires
-change-line-requires c κs = c .before .before .before .pre .accepted
-
 returns-2 : tie.Need-returns-2
 returns-2 c =
     let a = c .before .before .before .before .before .before .args in
@@ -17,4 +11,6 @@ returns-2 c =
     (c .before .before .before .before .before .before .pre) (c .before .before .change-line .ensures)
 
 pub change-entry-spec : {M : Type 1} → statement M
-change-entry-spec = tie.close (tie.spec returns change-line-requires (λ c. search needs) returns-2)
+change-entry-spec =
+    tie.close (tie.spec (λ c. turned-not _ _ _ _ _ (c .before .before .pre .accepted) (not-true _ (c .if1 .taken)))
+    (λ c κs. c .before .before .before .pre .accepted) (λ c. search needs) returns-2)

@@ -5,12 +5,8 @@ use Rattle.group_writes.specs.Ready.{may-commit}
 use Rattle.group_writes.proofs.changes.commit_group.Statement.{statement}
 use Rattle.group_writes.proofs.changes.commit_group.Tie as tie
 
-change-group-requires : tie.Need-change-group-requires
-change-group-requires c κs = may-commit _ _ _ _ (c .before .before .before .pre .0) (c .before .before .before .pre .1)
-
-returns : tie.Need-returns
-unfolding written
-returns c = c .before .before .change-group .ensures
-
 pub commit-group-spec : {M : Type 1} → statement M
-commit-group-spec = tie.close (tie.spec change-group-requires (λ c. search needs) returns)
+unfolding written
+commit-group-spec =
+    tie.close (tie.spec (λ c κs. may-commit _ _ _ _ (c .before .before .before .pre .0) (c .before .before .before .pre .1)) (λ c. search needs)
+    (λ c. c .before .before .change-group .ensures))

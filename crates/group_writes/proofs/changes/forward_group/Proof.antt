@@ -5,12 +5,8 @@ use Rattle.group_writes.specs.Ready.{may-forward}
 use Rattle.group_writes.proofs.changes.forward_group.Statement.{statement}
 use Rattle.group_writes.proofs.changes.forward_group.Tie as tie
 
-change-group-requires : tie.Need-change-group-requires
-change-group-requires c κs = may-forward _ _ _ _ (c .before .before .before .pre)
-
-returns : tie.Need-returns
-unfolding written
-returns c = c .before .before .change-group .ensures
-
 pub forward-group-spec : {M : Type 1} → statement M
-forward-group-spec = tie.close (tie.spec change-group-requires (λ c. search needs) returns)
+unfolding written
+forward-group-spec =
+    tie.close (tie.spec (λ c κs. may-forward _ _ _ _ (c .before .before .before .pre)) (λ c. search needs)
+    (λ c. c .before .before .change-group .ensures))

@@ -9,9 +9,6 @@ change-group-requires : tie.Need-change-group-requires
 change-group-requires c κs =
     may-prepare _ _ _ _ (c .before .before .before .pre .0) _ (omega (arith, c .before .before .before .fits)) (c .before .before .before .pre .1)
 
-returns : tie.Need-returns
-unfolding written
-returns c = c .before .before .change-group .ensures
-
 pub prepare-group-spec : {M : Type 1} → statement M
-prepare-group-spec = tie.close (tie.spec change-group-requires (λ c. search needs) returns)
+unfolding written
+prepare-group-spec = tie.close (tie.spec change-group-requires (λ c. search needs) (λ c. c .before .before .change-group .ensures))

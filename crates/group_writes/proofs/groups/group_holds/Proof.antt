@@ -17,9 +17,6 @@ abbrev μ-loop : tie.MeasureT-loop
 μ-loop records coordinator t located n i₀ i =
     n - i
 
-loop-holds : tie.Need-loop-holds Inv-loop μ-loop
-loop-holds c = pass-first _ _ (c .before .before .good .1 .1 .0) (c .before .before .pre .body .few)
-
 entry-holds-requires : tie.Need-entry-holds-requires Inv-loop μ-loop
 entry-holds-requires c κs = (
   accepted _ _ _ _ (c .before .before .before .before .before .before .before .pre),
@@ -53,5 +50,7 @@ returns-2 c =
 
 pub group-holds-spec : {M : Type 1} → statement M
 group-holds-spec =
-    tie.close (tie.spec Inv-loop μ-loop (λ c. search needs) loop-holds (λ c. search needs) (λ c. search needs) (λ c. search needs) (λ c. search needs)
+    tie.close (tie.spec Inv-loop μ-loop (λ c. search needs)
+    (λ c. pass-first _ _ (c .before .before .good .1 .1 .0) (c .before .before .pre .body .few)) (λ c. search needs) (λ c. search needs)
+    (λ c. search needs) (λ c. search needs)
     (λ c. search needs) (λ c. search needs) entry-holds-requires returns (λ c. search needs) (λ c. search needs) loop-again returns-2)

@@ -16,11 +16,8 @@ array-read-result c =
     held-below _ _ _ (sym (c .before .before .before .held-at .ensures) ∙ c .before .i .given .1) in
     omega (arith, l, c .before .before .before .before .pre)
 
-returns : tie.Need-returns
-returns c = rw (sym (c .before .before .before .held-at .ensures) ∙ c .before .i .given .1)
-
-returns-2 : tie.Need-returns-2
-returns-2 c = rw (sym (c .before .before .held-at .ensures) ∙ c .enum-told .given .1)
-
 pub index-of-spec : {M : Type 1} → statement M
-index-of-spec = tie.close (tie.spec (λ c κs. search needs) (λ c. search needs) mul-result array-read-result (λ c. search needs) returns returns-2)
+index-of-spec =
+    tie.close (tie.spec (λ c κs. search needs) (λ c. search needs) mul-result array-read-result (λ c. search needs)
+    (λ c. rw (sym (c .before .before .before .held-at .ensures) ∙ c .before .i .given .1))
+    (λ c. rw (sym (c .before .before .held-at .ensures) ∙ c .enum-told .given .1)))

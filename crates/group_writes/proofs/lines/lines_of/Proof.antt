@@ -20,10 +20,6 @@ abbrev μ-loop : tie.MeasureT-loop
 μ-loop records t n count all₀ indices₀ i₀ all indices i =
     n - i
 
-loop-holds : tie.Need-loop-holds Inv-loop μ-loop
-unfolding linesHeld indicesOf
-loop-holds c = (pass-first _ _ (c .before .before .good .1 .0) (c .before .before .pre .1), (refl, refl))
-
 line-index-requires : tie.Need-line-index-requires Inv-loop μ-loop
 line-index-requires c κs = c .before .before .before .before .before .pre .0
 
@@ -49,6 +45,8 @@ returns c =
     )
 
 pub lines-of-spec : {M : Type 1} → statement M
+unfolding indicesOf linesHeld
 lines-of-spec =
-    tie.close (tie.spec Inv-loop μ-loop (λ c. search needs) (λ c κs. search needs) loop-holds (λ c. search needs) (λ c. search needs)
+    tie.close (tie.spec Inv-loop μ-loop (λ c. search needs) (λ c κs. search needs)
+    (λ c. (pass-first _ _ (c .before .before .good .1 .0) (c .before .before .pre .1), (refl, refl))) (λ c. search needs) (λ c. search needs)
     line-index-requires (λ c. search needs) (λ c. search needs) (λ c. search needs) (λ c. search needs) loop-again returns)

@@ -10,9 +10,6 @@ Inv-loop decisions issued n i₀ i = (n ≡ length decisions) × PassedTo issued
 abbrev μ-loop : tie.MeasureT-loop
 μ-loop decisions issued n i₀ i = n - i
 
-loop-holds : tie.Need-loop-holds Inv-loop μ-loop
-loop-holds c = (refl, pass-first _ _)
-
 returns : tie.Need-returns Inv-loop μ-loop
 returns c =
     let a = c .before .before .before .before .before .before .args in
@@ -30,5 +27,6 @@ returns-2 c =
 
 pub decisions-pass-spec : {M : Type 1} → statement M
 decisions-pass-spec =
-    tie.close (tie.spec Inv-loop μ-loop loop-holds (λ c κs. search needs) (λ c. search needs) (λ c. search needs) returns (λ c. search needs)
+    tie.close (tie.spec Inv-loop μ-loop (λ c. (refl, pass-first _ _)) (λ c κs. search needs) (λ c. search needs) (λ c. search needs) returns
+    (λ c. search needs)
     (λ c. search needs) loop-again returns-2)

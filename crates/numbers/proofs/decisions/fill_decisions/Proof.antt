@@ -12,9 +12,6 @@ Inv-loop lines numbers₀ n i₀ numbers i = (n ≡ length lines / coordinatorBy
 abbrev μ-loop : tie.MeasureT-loop
 μ-loop lines numbers₀ n i₀ numbers i = n - i
 
-loop-holds : tie.Need-loop-holds Inv-loop μ-loop
-loop-holds c = (refl, read-first _ _ (c .before .before .pre))
-
 read-row-requires : tie.Need-read-row-requires Inv-loop μ-loop
 unfolding layout lineLayout lineBytes
 read-row-requires c κs = (simp (length-take, length-drop) (omega arith), refl)
@@ -34,6 +31,7 @@ returns c = read-last (c .before .before .before .before .args .lines .now) (c .
 
 pub fill-decisions-spec : {M : Type 1} → statement M
 fill-decisions-spec =
-    tie.close (tie.spec Inv-loop μ-loop loop-holds (λ c. search needs) (λ c. search needs) (λ c. search needs) (λ c. search needs) (λ c. search needs)
+    tie.close (tie.spec Inv-loop μ-loop (λ c. (refl, read-first _ _ (c .before .before .pre))) (λ c. search needs) (λ c. search needs)
+    (λ c. search needs) (λ c. search needs) (λ c. search needs)
     (λ c. search needs) read-row-requires (λ c. search needs) (λ c. search needs) slice-write-numbers (λ c. search needs) (λ c. search needs)
     loop-again same-length returns)

@@ -12,9 +12,6 @@ Inv-loop decisions lines₀ n i₀ lines i = (n ≡ length decisions) × Written
 abbrev μ-loop : tie.MeasureT-loop
 μ-loop decisions lines₀ n i₀ lines i = n - i
 
-loop-holds : tie.Need-loop-holds Inv-loop μ-loop
-loop-holds c = (refl, written-first _ _ (c .before .before .pre .1))
-
 part-write-row-end : tie.Need-part-write-row-end Inv-loop μ-loop
 part-write-row-end c = let r = written-room (c .before .before .before .before .before .before .args .decisions .now) (c .before .before .before .loop .lines) (c .before .before .before .loop .i) (c .before .before .before .loop .inv .1) in omega arith
 
@@ -40,6 +37,7 @@ returns c = written-last (c .before .before .before .before .args .decisions .no
 
 pub fill-lines-spec : {M : Type 1} → statement M
 fill-lines-spec =
-    tie.close (tie.spec Inv-loop μ-loop loop-holds (λ c. search needs) (λ c. search needs) (λ c. search needs) (λ c. search needs) (λ c. search needs)
+    tie.close (tie.spec Inv-loop μ-loop (λ c. (refl, written-first _ _ (c .before .before .pre .1))) (λ c. search needs) (λ c. search needs)
+    (λ c. search needs) (λ c. search needs) (λ c. search needs)
     (λ c. search needs) (λ c. search needs) (λ c. search needs) (λ c. search needs) part-write-row-end write-row-requires (λ c. search needs)
     (λ c. search needs) loop-again same-length returns)

@@ -8,19 +8,6 @@ use Rattle.sheet_laws.specs.Lines.{lineBytes}
 use Rattle.numbers.proofs.decisions.fill_numbers.Statement.{statement}
 use Rattle.numbers.proofs.decisions.fill_numbers.Tie as tie
 
-slice-aggregate-read-row : tie.Need-slice-aggregate-read-row
-slice-aggregate-read-row c = simp length-take (omega arith)
-
-slice-relend-prefix-read-row : tie.Need-slice-relend-prefix-read-row
-slice-relend-prefix-read-row c = omega arith
-
-slice-aggregate-read-row-2 : tie.Need-slice-aggregate-read-row-2
-slice-aggregate-read-row-2 c = simp length-take (omega arith)
-
-read-row-requires : tie.Need-read-row-requires
-unfolding layout headLayout lineBytes
-read-row-requires c κs = (simp length-take (omega arith), simp length-take (omega arith))
-
 sub-fill-decisions-2 : tie.Need-sub-fill-decisions-2
 sub-fill-decisions-2 c = let e = front-length headFields (c .before .before .before .read-row .last .1 .1 .0) (c .before .before .before .before .before .before .before .before .args .numbers .now) (c .before .before .before .read-row .kept .1 .1 .0) (omega arith) in omega arith
 
@@ -45,7 +32,9 @@ returns c =
     ∙ ap₂ _++_ (c .before .before .before .before .before .before .before .read-row .ensures) (c .before .before .fill-decisions .ensures ∙ ap (λ (x : List ℕ). map decisionField (linesOf coordinatorBytes x)) (rest-part coordinatorBytes (a .coordinator .now)))
 
 pub fill-numbers-spec : {M : Type 1} → statement M
+unfolding headLayout layout lineBytes
 fill-numbers-spec =
-    tie.close (tie.spec slice-aggregate-read-row slice-relend-prefix-read-row slice-aggregate-read-row-2 read-row-requires (λ c. search needs)
+    tie.close (tie.spec (λ c. simp length-take (omega arith)) (λ c. omega arith) (λ c. simp length-take (omega arith))
+    (λ c κs. (simp length-take (omega arith), simp length-take (omega arith))) (λ c. search needs)
     (λ c. search needs) (λ c. search needs) sub-fill-decisions-2 part-fill-decisions-start-2 (λ c. search needs) fill-decisions-requires same-length
     returns)

@@ -7,19 +7,6 @@ use Rattle.lists.specs.Fill.{rest-part, front-length, front-rest, front-back, f
 use Rattle.numbers.proofs.decisions.fill_sheet.Statement.{statement}
 use Rattle.numbers.proofs.decisions.fill_sheet.Tie as tie
 
-slice-aggregate-write-row : tie.Need-slice-aggregate-write-row
-slice-aggregate-write-row c = simp length-take (omega arith)
-
-slice-relend-prefix-write-row : tie.Need-slice-relend-prefix-write-row
-slice-relend-prefix-write-row c = omega arith
-
-slice-aggregate-write-row-2 : tie.Need-slice-aggregate-write-row-2
-slice-aggregate-write-row-2 c = simp length-take (omega arith)
-
-write-row-requires : tie.Need-write-row-requires
-unfolding layout headLayout lineBytes
-write-row-requires c κs = (simp length-take (omega arith), simp length-take (omega arith))
-
 sub-fill-lines-2 : tie.Need-sub-fill-lines-2
 sub-fill-lines-2 c = let e = front-length coordinatorBytes (c .before .before .before .write-row .last .1 .1 .0) (c .before .before .before .before .before .before .before .before .args .coordinator .now) (c .before .before .before .write-row .kept .1 .1 .0) (omega arith) in omega arith
 
@@ -44,6 +31,8 @@ returns c =
     ∙ ap₂ _++_ (c .before .before .before .before .before .before .before .write-row .ensures) (c .before .before .fill-lines .ensures ∙ ap (λ (x : List ℕ). joined (lineTexts 1 x)) (rest-part headFields (a .numbers .now)))
 
 pub fill-sheet-spec : {M : Type 1} → statement M
+unfolding headLayout layout lineBytes
 fill-sheet-spec =
-    tie.close (tie.spec slice-aggregate-write-row slice-relend-prefix-write-row slice-aggregate-write-row-2 write-row-requires (λ c. search needs)
+    tie.close (tie.spec (λ c. simp length-take (omega arith)) (λ c. omega arith) (λ c. simp length-take (omega arith))
+    (λ c κs. (simp length-take (omega arith), simp length-take (omega arith))) (λ c. search needs)
     (λ c. search needs) (λ c. search needs) sub-fill-lines-2 part-fill-lines-start-2 (λ c. search needs) fill-lines-requires same-length returns)

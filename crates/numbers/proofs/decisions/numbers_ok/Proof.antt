@@ -7,16 +7,6 @@ use Rattle.numbers.specs.Decisions.{decisionsPass, accepted-numbers}
 use Rattle.numbers.proofs.decisions.numbers_ok.Statement.{statement}
 use Rattle.numbers.proofs.decisions.numbers_ok.Tie as tie
 
-returns : tie.Need-returns
-returns c = rw (accepted-numbers, lt-leb _ _ (c .if1 .taken))
-
-slice-aggregate-row-good : tie.Need-slice-aggregate-row-good
-slice-aggregate-row-good c = simp length-take (omega arith)
-
-row-good-requires : tie.Need-row-good-requires
-unfolding layout headLayout
-row-good-requires c κs = simp length-take (omega arith)
-
 returns-2 : tie.Need-returns-2
 unfolding layout
 returns-2 c = let g : rowGood headLayout (take headFields (c .before .before .before .before .before .args .numbers .now)) ≡ false = sym (c .before .row-good .ensures) ∙ not-true _ (c .if2 .taken) in
@@ -46,6 +36,8 @@ returns-6 c =
     (c .decisions-pass .ensures ∙ ap₂ decisionsPass (c .before .before .before .as-count .ensures) (rest-part headFields (a .numbers .now)))
 
 pub numbers-ok-spec : {M : Type 1} → statement M
+unfolding headLayout layout
 numbers-ok-spec =
-    tie.close (tie.spec returns slice-aggregate-row-good row-good-requires returns-2 (λ c. search needs) returns-3 returns-4 (λ c. search needs)
+    tie.close (tie.spec (λ c. rw (accepted-numbers, lt-leb _ _ (c .if1 .taken))) (λ c. simp length-take (omega arith))
+    (λ c κs. simp length-take (omega arith)) returns-2 (λ c. search needs) returns-3 returns-4 (λ c. search needs)
     (λ c κs. search needs) returns-5 (λ c. search needs) (λ c. search needs) (λ c. search needs) (λ c κs. search needs) returns-6)

@@ -12,9 +12,6 @@ Inv-loop numbers n i₀ i = (n ≡ length numbers / recordFields) × JudgedTo nu
 abbrev μ-loop : tie.MeasureT-loop
 μ-loop numbers n i₀ i = n - i
 
-loop-holds : tie.Need-loop-holds Inv-loop μ-loop
-loop-holds c = (refl, left-first _ _)
-
 returns : tie.Need-returns Inv-loop μ-loop
 returns c = judge-bad (c .before .before .before .before .before .args .numbers .now) (c .before .before .before .loop .i) (c .before .before .loop-test .taken) (c .before .before .before .loop .inv .1) (sym (c .before .row-ok .ensures) ∙ not-true _ (c .if1 .taken))
 
@@ -29,5 +26,6 @@ returns-3 c = judge-last (c .before .before .before .args .numbers .now) (c .bef
 
 pub rows-pass-spec : {M : Type 1} → statement M
 rows-pass-spec =
-    tie.close (tie.spec Inv-loop μ-loop loop-holds (λ c κs. search needs) returns (λ c κs. search needs) returns-2 (λ c. search needs)
+    tie.close (tie.spec Inv-loop μ-loop (λ c. (refl, left-first _ _)) (λ c κs. search needs) returns (λ c κs. search needs) returns-2
+    (λ c. search needs)
     (λ c. search needs) loop-again returns-3)

@@ -4,9 +4,7 @@ use Rattle.model.specs.Records.{absentRule}
 use Rattle.numbers.proofs.rules.absent_rule.Statement.{statement}
 use Rattle.numbers.proofs.rules.absent_rule.Tie as tie
 
-returns : tie.Need-returns
-unfolding absentRule
-returns c = rw (c .before .is-zero2 .ensures, c .before .before .is-zero .ensures)
-
 pub absent-rule-spec : {M : Type 1} → statement M
-absent-rule-spec = tie.close (tie.spec (λ c κs. search needs) (λ c κs. search needs) returns)
+unfolding absentRule
+absent-rule-spec =
+    tie.close (tie.spec (λ c κs. search needs) (λ c κs. search needs) (λ c. rw (c .before .is-zero2 .ensures, c .before .before .is-zero .ensures)))

@@ -4,9 +4,6 @@ use Rattle.model.specs.Records.{committedRule}
 use Rattle.numbers.proofs.rules.committed_rule.Statement.{statement}
 use Rattle.numbers.proofs.rules.committed_rule.Tie as tie
 
-returns : tie.Need-returns
-unfolding committedRule
-returns c = rw (c .before .is-zero .ensures)
-
 pub committed-rule-spec : {M : Type 1} → statement M
-committed-rule-spec = tie.close (tie.spec (λ c κs. search needs) returns)
+unfolding committedRule
+committed-rule-spec = tie.close (tie.spec (λ c κs. search needs) (λ c. rw (c .before .is-zero .ensures)))

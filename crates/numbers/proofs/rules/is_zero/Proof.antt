@@ -4,9 +4,6 @@ use Rattle.model.specs.Records.{isZero}
 use Rattle.numbers.proofs.rules.is_zero.Statement.{statement}
 use Rattle.numbers.proofs.rules.is_zero.Tie as tie
 
-returns : tie.Need-returns
-unfolding isZero
-returns c = search needs
-
 pub is-zero-spec : {M : Type 1} → statement M
-is-zero-spec = tie.close (tie.spec returns)
+unfolding isZero
+is-zero-spec = tie.close (tie.spec (λ c. search needs))

@@ -4,9 +4,6 @@ use Rattle.model.specs.Records.{keyLess, keyNumbers}
 use Rattle.numbers.proofs.rules.key_less.Statement.{statement}
 use Rattle.numbers.proofs.rules.key_less.Tie as tie
 
-returns : tie.Need-returns
-unfolding keyLess less keyNumbers
-returns c = simp (and-false, or-false)
-
 pub key-less-spec : {M : Type 1} → statement M
-key-less-spec = tie.close (tie.spec returns)
+unfolding keyLess keyNumbers less
+key-less-spec = tie.close (tie.spec (λ c. simp (and-false, or-false)))

@@ -4,9 +4,7 @@ use Rattle.model.specs.Records.{preparedRule}
 use Rattle.numbers.proofs.rules.prepared_rule.Statement.{statement}
 use Rattle.numbers.proofs.rules.prepared_rule.Tie as tie
 
-returns : tie.Need-returns
-unfolding preparedRule
-returns c = rw (c .is-zero .ensures)
-
 pub prepared-rule-spec : {M : Type 1} → statement M
-prepared-rule-spec = tie.close (tie.spec (λ c. search needs) (λ c. search needs) (λ c. search needs) (λ c κs. search needs) returns)
+unfolding preparedRule
+prepared-rule-spec =
+    tie.close (tie.spec (λ c. search needs) (λ c. search needs) (λ c. search needs) (λ c κs. search needs) (λ c. rw (c .is-zero .ensures)))

@@ -10,9 +10,6 @@ Inv-loop lasts n found₀ i₀ found i = CountedTo (λ (js : List ℕ) (l : ℕ)
 abbrev μ-loop : tie.MeasureT-loop
 μ-loop lasts n found₀ i₀ found i = n - i
 
-loop-holds : tie.Need-loop-holds Inv-loop μ-loop
-loop-holds c = count-rows-first _ _ _
-
 tally-requires : tie.Need-tally-requires Inv-loop μ-loop
 tally-requires c κs = omega (arith, c .before .before .loop .inv .few, c .before .loop-test .taken, c .before .before .before .before .pre)
 
@@ -24,5 +21,6 @@ returns c = count-rows-last _ _ _ _ _ _ (c .before .loop .inv) (c .loop-test .le
 
 pub counted-spec : {M : Type 1} → statement M
 counted-spec =
-    tie.close (tie.spec Inv-loop μ-loop loop-holds (λ c. search needs) (λ c. search needs) tally-requires (λ c. search needs) (λ c. search needs)
+    tie.close (tie.spec Inv-loop μ-loop (λ c. count-rows-first _ _ _) (λ c. search needs) (λ c. search needs) tally-requires (λ c. search needs)
+    (λ c. search needs)
     loop-again returns)

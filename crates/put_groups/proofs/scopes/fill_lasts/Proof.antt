@@ -17,12 +17,6 @@ loop-holds c =
     let many = length-each lastFields (s .args .keys .now) (s .args .fields .now) in
     stored-first _ _ many _ (s .pre .0)
 
-part-last-fields-start : tie.Need-part-last-fields-start Inv-loop μ-loop
-part-last-fields-start c = omega (arith, c .before .before .before .before .before .pre .1 .1, c .loop-test .taken)
-
-part-last-fields-end : tie.Need-part-last-fields-end Inv-loop μ-loop
-part-last-fields-end c = omega (arith, c .before .before .before .before .before .pre .1 .1, c .loop-test .taken)
-
 part-last-fields-start-2 : tie.Need-part-last-fields-start-2 Inv-loop μ-loop
 part-last-fields-start-2 c = omega (arith, c .before .before .before .before .before .before .pre .1 .1, c .before .loop-test .taken)
 
@@ -62,6 +56,8 @@ returns c =
 
 pub fill-lasts-spec : {M : Type 1} → statement M
 fill-lasts-spec =
-    tie.close (tie.spec Inv-loop μ-loop loop-holds (λ c. search needs) (λ c. search needs) (λ c. search needs) part-last-fields-start
-    part-last-fields-end (λ c. search needs) (λ c. search needs) part-last-fields-start-2 part-last-fields-end-2 last-fields-requires
-    (λ c. search needs) slice-write-lasts (λ c. search needs) (λ c. search needs) loop-again same-length returns)
+    tie.close (tie.spec Inv-loop μ-loop loop-holds (λ c. search needs) (λ c. search needs) (λ c. search needs)
+    (λ c. omega (arith, c .before .before .before .before .before .pre .1 .1, c .loop-test .taken))
+    (λ c. omega (arith, c .before .before .before .before .before .pre .1 .1, c .loop-test .taken)) (λ c. search needs) (λ c. search needs)
+    part-last-fields-start-2 part-last-fields-end-2 last-fields-requires (λ c. search needs) slice-write-lasts (λ c. search needs) (λ c. search needs)
+    loop-again same-length returns)

@@ -11,12 +11,6 @@ Inv-loop keys fields n f j₀ j = WalkedTo (recurs keys fields) keys fields (rec
 abbrev μ-loop : tie.MeasureT-loop
 μ-loop keys fields n f j₀ j = n - j
 
-shared-slice-read-f : tie.Need-shared-slice-read-f Inv-loop μ-loop
-shared-slice-read-f c = omega (arith, c .before .before .before .pre .0)
-
-loop-holds : tie.Need-loop-holds Inv-loop μ-loop
-loop-holds c = record { place = c .before .before .before .pre .0; rest = refl }
-
 part-same-first-start : tie.Need-part-same-first-start Inv-loop μ-loop
 part-same-first-start c = omega (arith, c .before .before .before .before .before .before .pre .1 .1, c .before .loop-test .taken)
 
@@ -46,6 +40,8 @@ returns-2 c =
 
 pub last-fields-spec : {M : Type 1} → statement M
 last-fields-spec =
-    tie.close (tie.spec Inv-loop μ-loop shared-slice-read-f loop-holds (λ c. search needs) (λ c. search needs) (λ c. search needs) (λ c. search needs)
+    tie.close (tie.spec Inv-loop μ-loop (λ c. omega (arith, c .before .before .before .pre .0))
+    (λ c. record { place = c .before .before .before .pre .0; rest = refl }) (λ c. search needs) (λ c. search needs) (λ c. search needs)
+    (λ c. search needs)
     (λ c. search needs) part-same-first-start part-same-first-end same-first-requires returns (λ c. search needs) (λ c. search needs) loop-again
     returns-2)

@@ -11,12 +11,6 @@ Inv-loop fields key keys lasts n found₀ j₀ found j = CountedTo (before key) 
 abbrev μ-loop : tie.MeasureT-loop
 μ-loop fields key keys lasts n found₀ j₀ found j = n - j
 
-returns : tie.Need-returns Inv-loop μ-loop
-returns c = rw (lt-ltb _ _ (c .if1 .taken))
-
-loop-holds : tie.Need-loop-holds Inv-loop μ-loop
-loop-holds c = count-rows-first _ _ _
-
 part-less-first-start : tie.Need-part-less-first-start Inv-loop μ-loop
 part-less-first-start c = omega (arith, c .before .before .before .before .before .before .before .pre .1 .1, c .before .loop-test .taken)
 
@@ -41,6 +35,7 @@ returns-2 c = rw (le-ltb _ _ (c .before .before .if1 .left)) (count-rows-last _ 
 
 pub place-of-spec : {M : Type 1} → statement M
 place-of-spec =
-    tie.close (tie.spec Inv-loop μ-loop returns loop-holds (λ c. search needs) (λ c. search needs) (λ c. search needs) (λ c. search needs)
+    tie.close (tie.spec Inv-loop μ-loop (λ c. rw (lt-ltb _ _ (c .if1 .taken))) (λ c. count-rows-first _ _ _) (λ c. search needs) (λ c. search needs)
+    (λ c. search needs) (λ c. search needs)
     (λ c. search needs) part-less-first-start part-less-first-end less-first-requires tally-requires (λ c. search needs) (λ c. search needs)
     loop-again returns-2)

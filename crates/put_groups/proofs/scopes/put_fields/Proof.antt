@@ -3,11 +3,7 @@ use Rattle.lists.specs.Basics.{eq-eqb, ne-eqb, needs}
 use Rattle.put_groups.proofs.scopes.put_fields.Statement.{statement}
 use Rattle.put_groups.proofs.scopes.put_fields.Tie as tie
 
-returns : tie.Need-returns
-returns c = rw (ne-eqb _ _ (c .if1 .taken))
-
-returns-2 : tie.Need-returns-2
-returns-2 c = rw (eq-eqb _ _ (c .before .if1 .left)) (c .scope-fields .ensures)
-
 pub put-fields-spec : {M : Type 1} → statement M
-put-fields-spec = tie.close (tie.spec returns (λ c κs. search needs) returns-2)
+put-fields-spec =
+    tie.close (tie.spec (λ c. rw (ne-eqb _ _ (c .if1 .taken))) (λ c κs. search needs)
+    (λ c. rw (eq-eqb _ _ (c .before .if1 .left)) (c .scope-fields .ensures)))

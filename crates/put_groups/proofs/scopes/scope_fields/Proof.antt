@@ -4,14 +4,10 @@ use Rattle.put_groups.specs.Units.{unit-none, unit-past, unit-at}
 use Rattle.put_groups.proofs.scopes.scope_fields.Statement.{statement}
 use Rattle.put_groups.proofs.scopes.scope_fields.Tie as tie
 
-returns : tie.Need-returns
-returns c = unit-none _ _ (c .if1 .taken)
-
-returns-2 : tie.Need-returns-2
-returns-2 c = unit-past _ _ (c .before .if1 .left) (c .if2 .taken)
-
 returns-3 : tie.Need-returns-3
 returns-3 c = c .unit-fields .ensures ∙ unit-at _ _ (c .before .before .before .if1 .left) (c .before .before .if2 .left)
 
 pub scope-fields-spec : {M : Type 1} → statement M
-scope-fields-spec = tie.close (tie.spec returns (λ c. search needs) returns-2 (λ c. search needs) (λ c κs. search needs) returns-3)
+scope-fields-spec =
+    tie.close (tie.spec (λ c. unit-none _ _ (c .if1 .taken)) (λ c. search needs) (λ c. unit-past _ _ (c .before .if1 .left) (c .if2 .taken))
+    (λ c. search needs) (λ c κs. search needs) returns-3)

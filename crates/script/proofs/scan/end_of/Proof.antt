@@ -11,9 +11,6 @@ Inv-loop s at mark n i₀ i =
 abbrev μ-loop : tie.MeasureT-loop
 μ-loop s at mark n i₀ i = length s - i
 
-loop-holds : tie.Need-loop-holds Inv-loop μ-loop
-loop-holds c = ((omega arith, c .pre), refl)
-
 returns : tie.Need-returns Inv-loop μ-loop
 returns c =
     let a = c .before .before .before .before .args in
@@ -31,4 +28,5 @@ returns-2 c =
 
 pub end-of-spec : {M : Type 1} → statement M
 end-of-spec =
-    tie.close (tie.spec Inv-loop μ-loop loop-holds (λ c. search needs) returns (λ c. search needs) (λ c. search needs) loop-again returns-2)
+    tie.close (tie.spec Inv-loop μ-loop (λ c. ((omega arith, c .pre), refl)) (λ c. search needs) returns (λ c. search needs) (λ c. search needs)
+    loop-again returns-2)

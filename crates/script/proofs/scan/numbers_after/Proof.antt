@@ -12,9 +12,6 @@ Inv-loop line from n numbers₀ at₀ numbers at =
 abbrev μ-loop : tie.MeasureT-loop
 μ-loop line from n numbers₀ at₀ numbers at = length line - at
 
-loop-holds : tie.Need-loop-holds Inv-loop μ-loop
-loop-holds c = (c .before .pre, refl)
-
 loop-again : tie.Need-loop-again Inv-loop μ-loop
 loop-again c = let s = c .before .before .before .before .before .before .args .line .now in
     let l = c .before .before .before .before .loop in
@@ -30,5 +27,6 @@ returns c = sym (no-word (c .before .before .before .args .line .now) (c .before
 
 pub numbers-after-spec : {M : Type 1} → statement M
 numbers-after-spec =
-    tie.close (tie.spec Inv-loop μ-loop loop-holds (λ c. search needs) (λ c κs. search needs) (λ c. search needs) (λ c. search needs)
+    tie.close (tie.spec Inv-loop μ-loop (λ c. (c .before .pre, refl)) (λ c. search needs) (λ c κs. search needs) (λ c. search needs)
+    (λ c. search needs)
     (λ c. search needs) (λ c κs. search needs) (λ c. search needs) loop-again returns)

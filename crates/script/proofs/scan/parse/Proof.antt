@@ -4,9 +4,6 @@ use Rattle.script.specs.Lines.{called, upTo, said-read}
 use Rattle.script.proofs.scan.parse.Statement.{statement}
 use Rattle.script.proofs.scan.parse.Tie as tie
 
-slice-aggregate-kind-of : tie.Need-slice-aggregate-kind-of
-slice-aggregate-kind-of c = simp length-take (omega arith)
-
 returns : tie.Need-returns
 returns c = let s = c .before .before .before .before .before .before .args .line .now in
     let end = c .before .before .before .before .end-of .result in
@@ -15,4 +12,5 @@ returns c = let s = c .before .before .before .before .before .before .args .lin
 
 pub parse-spec : {M : Type 1} → statement M
 parse-spec =
-    tie.close (tie.spec (λ c κs. search needs) slice-aggregate-kind-of (λ c κs. search needs) (λ c κs. search needs) (λ c κs. search needs) returns)
+    tie.close (tie.spec (λ c κs. search needs) (λ c. simp length-take (omega arith)) (λ c κs. search needs) (λ c κs. search needs)
+    (λ c κs. search needs) returns)

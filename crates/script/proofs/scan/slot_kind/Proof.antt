@@ -4,10 +4,6 @@ use Rattle.script.specs.Lines.{slotKind, first-named, second-named, thir
 use Rattle.script.proofs.scan.slot_kind.Statement.{statement}
 use Rattle.script.proofs.scan.slot_kind.Tie as tie
 
-returns : tie.Need-returns
-unfolding slotKind bytes
-returns c = first-named _ _ _ _ _ _ _ _ _ (sym (c .before .same .ensures) ∙ c .if1 .taken)
-
 returns-2 : tie.Need-returns-2
 unfolding slotKind bytes
 returns-2 c = second-named _ _ _ _ _ _ _ _ _ (sym (c .before .before .before .before .same .ensures) ∙ c .before .before .before .if1 .left) (sym (c .before .same2 .ensures) ∙ c .if2 .taken)
@@ -25,6 +21,9 @@ unfolding slotKind bytes
 returns-5 c = c .other-slot-kind .ensures ∙ none-named _ _ _ _ _ _ _ _ _ (sym (c .before .before .before .before .before .before .before .before .before .before .before .same .ensures) ∙ c .before .before .before .before .before .before .before .before .before .before .if1 .left) (sym (c .before .before .before .before .before .before .before .before .same2 .ensures) ∙ c .before .before .before .before .before .before .before .if2 .left) (sym (c .before .before .before .before .before .same3 .ensures) ∙ c .before .before .before .before .if3 .left) (sym (c .before .before .same4 .ensures) ∙ c .before .if4 .left)
 
 pub slot-kind-spec : {M : Type 1} → statement M
+unfolding bytes slotKind
 slot-kind-spec =
-    tie.close (tie.spec (λ c. search needs) (λ c κs. search needs) returns (λ c. search needs) (λ c κs. search needs) returns-2 (λ c. search needs)
+    tie.close (tie.spec (λ c. search needs) (λ c κs. search needs)
+    (λ c. first-named _ _ _ _ _ _ _ _ _ (sym (c .before .same .ensures) ∙ c .if1 .taken)) (λ c. search needs) (λ c κs. search needs) returns-2
+    (λ c. search needs)
     (λ c κs. search needs) returns-3 (λ c. search needs) (λ c κs. search needs) returns-4 (λ c κs. search needs) returns-5)

@@ -4,10 +4,6 @@ use Rattle.script.specs.Lines.{withFigure, withWord}
 use Rattle.script.proofs.scan.with_word.Statement.{statement}
 use Rattle.script.proofs.scan.with_word.Tie as tie
 
-returns : tie.Need-returns
-unfolding withWord
-returns c = rw (le-leb 14 (c .before .before .before .args .numbers .count) (c .if1 .taken))
-
 returns-2 : tie.Need-returns-2
 unfolding withWord withFigure
 returns-2 c = rw (lt-leb 14 (c .before .before .before .before .before .before .args .numbers .count) (c .before .before .before .if1 .left), sym (c .before .before .read .ensures) ∙ c .enum-told .given .1)
@@ -21,6 +17,8 @@ unfolding withWord withFigure
 returns-4 c = rw (lt-leb 14 (c .before .before .before .before .before .before .args .numbers .count) (c .before .before .before .if1 .left), sym (c .before .before .read .ensures) ∙ c .enum-told2 .given .1)
 
 pub with-word-spec : {M : Type 1} → statement M
+unfolding withWord
 with-word-spec =
-    tie.close (tie.spec returns (λ c κs. search needs) (λ c. search needs) (λ c. search needs) (λ c. search needs) (λ c. search needs)
+    tie.close (tie.spec (λ c. rw (le-leb 14 (c .before .before .before .args .numbers .count) (c .if1 .taken))) (λ c κs. search needs)
+    (λ c. search needs) (λ c. search needs) (λ c. search needs) (λ c. search needs)
     (λ c. search needs) (λ c. search needs) returns-2 returns-3 returns-4)

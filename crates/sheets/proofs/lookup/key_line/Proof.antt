@@ -6,13 +6,10 @@ use Rattle.sheet_laws.specs.Lines.{lineBytes}
 use Rattle.sheets.proofs.lookup.key_line.Statement.{statement}
 use Rattle.sheets.proofs.lookup.key_line.Tie as tie
 
-write-row-requires : tie.Need-write-row-requires
-unfolding layout keyLayout recordLayout lineBytes
-write-row-requires c κs = search needs
-
 returns : tie.Need-returns
 unfolding layout
 returns c = c .before .write-row .ensures ∙ ap (lineText keyLayout) (c .before .before .before .before .numbers-of .ensures)
 
 pub key-line-spec : {M : Type 1} → statement M
-key-line-spec = tie.close (tie.spec (λ c κs. search needs) (λ c. search needs) (λ c. search needs) write-row-requires returns)
+unfolding keyLayout layout lineBytes recordLayout
+key-line-spec = tie.close (tie.spec (λ c κs. search needs) (λ c. search needs) (λ c. search needs) (λ c κs. search needs) returns)

@@ -4,9 +4,6 @@ use Rattle.model.specs.Records.{keyNumbers}
 use Rattle.sheets.proofs.lookup.numbers_of.Statement.{statement}
 use Rattle.sheets.proofs.lookup.numbers_of.Tie as tie
 
-returns : tie.Need-returns
-unfolding keyNumbers
-returns c = search needs
-
 pub numbers-of-spec : {M : Type 1} → statement M
-numbers-of-spec = tie.close (tie.spec returns)
+unfolding keyNumbers
+numbers-of-spec = tie.close (tie.spec (λ c. search needs))

@@ -7,9 +7,6 @@ use Rattle.model.specs.Steps.{finishStep}
 use Rattle.steps.proofs.phases.finish.Statement.{statement}
 use Rattle.steps.proofs.phases.finish.Tie as tie
 
-forward-group-requires : tie.Need-forward-group-requires
-forward-group-requires c κs = may-write _ _ _ _ (c .before .before .before .pre .0)
-
 next-group-requires : tie.Need-next-group-requires
 next-group-requires c κs = let p = c .before .before .before .before .before .before .pre in place-finish _ _ _ _ (p .0) (p .1)
 
@@ -21,4 +18,4 @@ returns c =
     (c .before .before .before .forward-group .ensures)
 
 pub finish-spec : {M : Type 1} → statement M
-finish-spec = tie.close (tie.spec forward-group-requires next-group-requires (λ c. search needs) returns)
+finish-spec = tie.close (tie.spec (λ c κs. may-write _ _ _ _ (c .before .before .before .pre .0)) next-group-requires (λ c. search needs) returns)

@@ -4,13 +4,8 @@ use Rattle.model.specs.Steps.{nextGroup}
 use Rattle.steps.proofs.phases.next_group.Statement.{statement}
 use Rattle.steps.proofs.phases.next_group.Tie as tie
 
-returns : tie.Need-returns
-unfolding nextGroup
-returns c = λ s e. rw (sym e, lt-ltb _ _ (c .before .if1 .taken)) (c .moved .ensures)
-
-returns-2 : tie.Need-returns-2
-unfolding nextGroup
-returns-2 c = λ s e. rw (sym e, le-ltb _ _ (c .before .if1 .left)) (c .to-phase .ensures)
-
 pub next-group-spec : {M : Type 1} → statement M
-next-group-spec = tie.close (tie.spec (λ c. search needs) (λ c κs. search needs) returns (λ c κs. search needs) returns-2)
+unfolding nextGroup
+next-group-spec =
+    tie.close (tie.spec (λ c. search needs) (λ c κs. search needs) (λ c. λ s e. rw (sym e, lt-ltb _ _ (c .before .if1 .taken)) (c .moved .ensures))
+    (λ c κs. search needs) (λ c. λ s e. rw (sym e, le-ltb _ _ (c .before .if1 .left)) (c .to-phase .ensures)))

@@ -7,9 +7,6 @@ use Rattle.steps.specs.Cases.{stepped-as, one-phase-fails, one-phase-com
 use Rattle.steps.proofs.phases.one_phase.Statement.{statement}
 use Rattle.steps.proofs.phases.one_phase.Tie as tie
 
-group-holds-requires : tie.Need-group-holds-requires
-group-holds-requires c κs = may-write _ _ _ _ (c .before .before .before .pre)
-
 commit-group-requires : tie.Need-commit-group-requires
 commit-group-requires c κs =
     (may-write _ _ _ _ (c .before .before .before .before .before .before .pre), sym (c .before .before .group-holds .ensures) ∙ c .before .if1 .taken)
@@ -30,5 +27,6 @@ returns-2 c = stepped-as (one-phase-fails _ _ (sym (c .before .before .group-hol
 
 pub one-phase-spec : {M : Type 1} → statement M
 one-phase-spec =
-    tie.close (tie.spec group-holds-requires commit-group-requires (λ c κs. search needs) (λ c. search needs) returns (λ c κs. search needs)
+    tie.close (tie.spec (λ c κs. may-write _ _ _ _ (c .before .before .before .pre)) commit-group-requires (λ c κs. search needs) (λ c. search needs)
+    returns (λ c κs. search needs)
     (λ c. search needs) returns-2)

@@ -4,9 +4,6 @@ use Rattle.model.specs.Steps.{onePhaseAllowed}
 use Rattle.steps.proofs.phases.one_phase_allowed.Statement.{statement}
 use Rattle.steps.proofs.phases.one_phase_allowed.Tie as tie
 
-returns : tie.Need-returns
-unfolding onePhaseAllowed
-returns c = λ s e. rw (sym e)
-
 pub one-phase-allowed-spec : {M : Type 1} → statement M
-one-phase-allowed-spec = tie.close (tie.spec returns)
+unfolding onePhaseAllowed
+one-phase-allowed-spec = tie.close (tie.spec (λ c. λ s e. rw (sym e)))

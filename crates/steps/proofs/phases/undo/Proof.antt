@@ -7,9 +7,6 @@ use Rattle.model.specs.Steps.{undoStep}
 use Rattle.steps.proofs.phases.undo.Statement.{statement}
 use Rattle.steps.proofs.phases.undo.Tie as tie
 
-back-group-requires : tie.Need-back-group-requires
-back-group-requires c κs = may-write _ _ _ _ (c .before .before .before .pre .0)
-
 next-group-requires : tie.Need-next-group-requires
 next-group-requires c κs = let p = c .before .before .before .before .before .before .pre in place-undo _ _ _ _ (p .0) (p .1)
 
@@ -21,4 +18,4 @@ returns c =
     (c .before .before .before .back-group .ensures)
 
 pub undo-spec : {M : Type 1} → statement M
-undo-spec = tie.close (tie.spec back-group-requires next-group-requires (λ c. search needs) returns)
+undo-spec = tie.close (tie.spec (λ c κs. may-write _ _ _ _ (c .before .before .before .pre .0)) next-group-requires (λ c. search needs) returns)

@@ -12,12 +12,6 @@ use Rattle.steps.proofs.phases.validate.Tie as tie
 part-letters-end : tie.Need-part-letters-end
 part-letters-end c = omega (arith, accepted-length _ (coordinator-accepted _ _ _ _ (c .before .before .pre .0)))
 
-to-validate-requires : tie.Need-to-validate-requires
-to-validate-requires c κs = few _ _ _ _ (c .before .before .before .pre .0)
-
-index-of-requires : tie.Need-index-of-requires
-index-of-requires c κs = few _ _ _ _ (c .before .before .before .before .before .pre .0)
-
 holds-requires : tie.Need-holds-requires
 holds-requires c κs =
     let p = c .before .before .before .before .before .before .pre in (
@@ -54,5 +48,6 @@ returns-2 c =
 
 pub validate-spec : {M : Type 1} → statement M
 validate-spec =
-    tie.close (tie.spec (λ c. search needs) (λ c. search needs) part-letters-end to-validate-requires index-of-requires holds-requires
-    (λ c κs. search needs) returns next-entry-requires returns-2)
+    tie.close (tie.spec (λ c. search needs) (λ c. search needs) part-letters-end (λ c κs. few _ _ _ _ (c .before .before .before .pre .0))
+    (λ c κs. few _ _ _ _ (c .before .before .before .before .before .pre .0)) holds-requires (λ c κs. search needs) returns next-entry-requires
+    returns-2)

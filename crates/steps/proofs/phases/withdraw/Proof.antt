@@ -7,9 +7,6 @@ use Rattle.model.specs.ByteCalls.{sheetsOf}
 use Rattle.steps.proofs.phases.withdraw.Statement.{statement}
 use Rattle.steps.proofs.phases.withdraw.Tie as tie
 
-withdrawn-requires : tie.Need-withdrawn-requires
-withdrawn-requires c κs = c .before .before .before .before .before .before .before .before .before .pre .few
-
 withdrawn-requires-2 : tie.Need-withdrawn-requires-2
 withdrawn-requires-2 c κs = c .before .before .before .before .before .pre .few
 
@@ -44,5 +41,6 @@ returns-3 c = record {
 
 pub withdraw-spec : {M : Type 1} → statement M
 withdraw-spec =
-    tie.close (tie.spec (λ c κs. search needs) (λ c. search needs) (λ c κs. search needs) withdrawn-requires (λ c. search needs) (λ c. search needs)
+    tie.close (tie.spec (λ c κs. search needs) (λ c. search needs) (λ c κs. search needs)
+    (λ c κs. c .before .before .before .before .before .before .before .before .before .pre .few) (λ c. search needs) (λ c. search needs)
     withdrawn-requires-2 (λ c. search needs) returns (λ c. search needs) returns-2 (λ c. search needs) returns-3)

@@ -6,9 +6,6 @@ use Rattle.sweep.proofs.first_line.fits.Statement.{statement}
 use Rattle.sweep.proofs.first_line.fits.Tie as tie
 use Rattle.model.specs.Layouts.{recordBytes}
 
-returns : tie.Need-returns
-returns c = sym (short-unfit (c .before .before .args .input .now) (omega (arith, c .if1 .taken)))
-
 returns-2 : tie.Need-returns-2
 returns-2 c = sym (unset-unfit (c .before .before .before .before .args .input .now) (sym (c .before .well-set .ensures) ∙ not-true _ (c .if2 .taken)))
 
@@ -24,5 +21,6 @@ returns-3 c =
 
 pub fits-spec : {M : Type 1} → statement M
 fits-spec =
-    tie.close (tie.spec returns (λ c κs. search needs) returns-2 (λ c κs. search needs) records-from-requires (λ c. search needs) (λ c. search needs)
+    tie.close (tie.spec (λ c. sym (short-unfit (c .before .before .args .input .now) (omega (arith, c .if1 .taken)))) (λ c κs. search needs) returns-2
+    (λ c κs. search needs) records-from-requires (λ c. search needs) (λ c. search needs)
     (λ c. search needs) returns-3)

@@ -11,9 +11,6 @@ Inv-loop clock records₀ coordinator₀ n i₀ records coordinator i = (length 
 abbrev μ-loop : tie.MeasureT-loop
 μ-loop clock records₀ coordinator₀ n i₀ records coordinator i = n - i
 
-loop-holds : tie.Need-loop-holds Inv-loop μ-loop
-loop-holds c = (refl, (refl, pass-first _ _ (c .before .before .before .before .pre)))
-
 visit-line-requires : tie.Need-visit-line-requires Inv-loop μ-loop
 visit-line-requires c κs =
     let v = c .before .before .before .loop .inv .1 .1 in
@@ -23,16 +20,10 @@ loop-again : tie.Need-loop-again Inv-loop μ-loop
 loop-again c = let l : c .before .before .before .before .before .before .before .before .loop .i < length (c .before .before .before .before .before .before .before .before .before .before .before .before .before .args .records .now) / recordBytes = omega (arith, c .before .before .before .before .before .before .before .loop-test .taken, c .before .before .before .before .before .before .before .before .before .count .ensures) in
     (omega arith, (omega arith, pass-next _ _ (both (c .before .before .before .before .before .before .before .before .loop .records) (c .before .before .before .before .before .before .before .before .loop .coordinator)) _ _ (omega arith) l (c .before .before .before .before .before .before .before .before .loop .inv .1 .1) (c .before .before .before .before .visit-line .ensures)))
 
-same-length : tie.Need-same-length Inv-loop μ-loop
-same-length c = c .before .loop .inv .0
-
-same-length-2 : tie.Need-same-length-2 Inv-loop μ-loop
-same-length-2 c = c .before .loop .inv .1 .0
-
 returns : tie.Need-returns Inv-loop μ-loop
 returns c = pass-last _ _ _ (c .before .loop .i) (omega (arith, c .loop-test .left, c .before .before .count .ensures)) (c .before .loop .inv .1 .1)
 
 pub pass-spec : {M : Type 1} → statement M
 pass-spec =
-    tie.close (tie.spec Inv-loop μ-loop (λ c κs. search needs) loop-holds visit-line-requires (λ c. search needs) (λ c. search needs) loop-again
-    same-length same-length-2 returns)
+    tie.close (tie.spec Inv-loop μ-loop (λ c κs. search needs) (λ c. (refl, (refl, pass-first _ _ (c .before .before .before .before .pre))))
+    visit-line-requires (λ c. search needs) (λ c. search needs) loop-again (λ c. c .before .loop .inv .0) (λ c. c .before .loop .inv .1 .0) returns)
