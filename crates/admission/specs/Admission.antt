@@ -54,8 +54,7 @@ module _ (t : Transaction) (rs cs : List ℕ) (a : Accepted rs cs) (n : ℕ) (e 
 
 -- Read and put want an open transaction and name a key.
 unfoldable pub admittingOpen : Transaction → Key → Sheets → List Condition
-admittingOpen t k s =
-    refuse 3 (not (wellFormed s t)) ∷ refuse 4 (notOpen t) ∷ refuse 5 (not (keyInRange k)) ∷ []
+admittingOpen t k s = refuse 3 (not (wellFormed s t)) ∷ refuse 4 (notOpen t) ∷ refuse 5 (not (keyInRange k)) ∷ []
 
 module _ (t : Transaction) (k : Key) (s : Sheets) where
   pub open-ill : wellFormed s t ≡ false → 3 ≡ refusalOf (admittingOpen t k s)
@@ -84,18 +83,12 @@ opened t k s h =
     let o = not-first 4 (notOpen t) (refuse 5 (not (keyInRange k)) ∷ []) (omega arith) (w .1) in
     let g = not-first 5 (not (keyInRange k)) [] (omega arith) (o .1) in
     let f : wellFormed s t ≡ true = not-false (wellFormed s t) (w .0) in
-    record {
-      formed = f;
-      few = well-formed-parts s t f .0 .few;
-      phase = o .0;
-      ranged = not-false (keyInRange k) (g .0);
-    }
+    record { formed = f; few = well-formed-parts s t f .0 .few; phase = o .0; ranged = not-false (keyInRange k) (g .0) }
 
 -- What is found of a transaction's entries where it is well formed.
 
 abbrev pub nowhere : Located
-nowhere =
-    record { indices = 0 ∷ 0 ∷ 0 ∷ 0 ∷ 0 ∷ 0 ∷ 0 ∷ 0 ∷ []; groups = 0; of = 0 ∷ 0 ∷ 0 ∷ 0 ∷ 0 ∷ 0 ∷ 0 ∷ 0 ∷ [] }
+nowhere = record { indices = 0 ∷ 0 ∷ 0 ∷ 0 ∷ 0 ∷ 0 ∷ 0 ∷ 0 ∷ []; groups = 0; of = 0 ∷ 0 ∷ 0 ∷ 0 ∷ 0 ∷ 0 ∷ 0 ∷ 0 ∷ [] }
 
 abbrev admittedIf : Bool → Sheets → Transaction → Admitted
 admittedIf b s t = record { formed = b; located = cond b (locatedIn (s .lines) (unitsOf s) t) nowhere }

@@ -34,11 +34,7 @@ module _ {B : Type 0} (f : Result Answer → B) (rs cs : List ℕ) {result : Res
   pub outcome-refused : (n : ℕ) → result ≡ refused n → answer ≡ f (refused n) → Outcome f result rs cs answer rs cs
   unfolding recordsAfter coordinatorAfter
   outcome-refused n e a =
-      record {
-        said = a ∙ ap f (sym e);
-        lines = ap (recordsAfter rs cs) (sym e);
-        decisions = ap (coordinatorAfter rs cs) (sym e);
-      }
+      record { said = a ∙ ap f (sym e); lines = ap (recordsAfter rs cs) (sym e); decisions = ap (coordinatorAfter rs cs) (sym e) }
 
   pub outcome-made : (x : Answer) (w : Write) {rs′ cs′ : List ℕ} → result ≡ made x w → answer ≡ f (made x w) → Written w rs cs rs′ cs′ → Outcome f result rs cs answer rs′ cs′
   unfolding recordsAfter coordinatorAfter
@@ -52,8 +48,7 @@ module _ {B : Type 0} (f : Result Answer → B) (rs cs : List ℕ) {result : Res
 -- Results by their conditions.
 
 pub unless-held : {A : Type 0} (cs : List Condition) (r : Result A) (n : ℕ) → refusalOf cs ≡ n → (n ≡ 0 → ⊥) → unless cs r ≡ refused n
-unless-held cs r n e z =
-    ap (λ (m : ℕ). cond (eqb m 0) r (refused m)) e ∙ ap (λ (b : Bool). cond b r (refused n)) (ne-eqb n 0 z)
+unless-held cs r n e z = ap (λ (m : ℕ). cond (eqb m 0) r (refused m)) e ∙ ap (λ (b : Bool). cond b r (refused n)) (ne-eqb n 0 z)
 
 pub unless-free : {A : Type 0} (cs : List Condition) (r : Result A) → refusalOf cs ≡ 0 → unless cs r ≡ r
 unless-free cs r e = ap (λ (m : ℕ). cond (eqb m 0) r (refused m)) e
@@ -96,12 +91,7 @@ pub accepted : (rs cs : List ℕ) → refusalOf (checkConditions rs cs) ≡ 0 �
 accepted rs cs h =
     let b : Bytes = record { records = rs; coordinator = cs } in
     let p = passing-parts b h in
-    record {
-      passing = h;
-      lines = p .0;
-      decisions = p .1 .0;
-      good = good-parts (sheetsOf rs cs) (passing-good b h);
-    }
+    record { passing = h; lines = p .0; decisions = p .1 .0; good = good-parts (sheetsOf rs cs) (passing-good b h) }
 
 -- Every call: refused by the check, or what it comes to on the decoded sheets.
 module _ {B : Type 0} (f : Result Answer → B) (c : Call) (rs cs : List ℕ) {answer : B} where
@@ -133,7 +123,4 @@ module _ (rs cs : List ℕ) (a : Accepted rs cs) where
   pub written-nothing : Written nothing rs cs rs cs
   unfolding lineAfter decisionsAfter
   written-nothing =
-      record {
-        lines = lines-kept rs cs a nothing (λ r. refl);
-        decisions = decisions-kept rs cs a nothing (λ c. refl);
-      }
+      record { lines = lines-kept rs cs a nothing (λ r. refl); decisions = decisions-kept rs cs a nothing (λ c. refl) }

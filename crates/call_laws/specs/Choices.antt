@@ -1,9 +1,7 @@
 -- What holds of a choice holds of each of its cases: one rule for each combinator of the specification, with the case's equation at hand.
 use Rattle.lists.specs.Basics.{_≡_, refl, ℕ, _≤_, eqb, leb, Bool, true, false, cond, List, [], _∷_, arith, eqb-true, eqb-false, leb-true, all, and-fst, and-snd}
 use Rattle.lists.specs.Basics.{choose-by}
-use Rattle.model.specs.Types.{Key, Record, Decision, Recovery}
-use Rattle.types.specs.declared.Decision.the-variants.{Undecided, Committed, Aborted}
-use Rattle.types.specs.declared.Recovery.the-variants.{Stays, Forward, Back, Again, Busy}
+use Rattle.model.specs.Types.{Key, Record, Decision, Undecided, Committed, Aborted, Recovery, Stays, Forward, Back, Again, Busy}
 use Rattle.model.specs.Records.{lineOf}
 use Rattle.model.specs.Refusals.{Condition, refuse, refusalOf}
 use Rattle.model.specs.Transactions.{byPhase}

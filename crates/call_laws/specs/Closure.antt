@@ -3,8 +3,7 @@ use Rattle.lists.specs.Basics.{_≡_, refl, sym, ap, _∙_, ℕ, suc, _+_, _^_,
 use Rattle.lists.specs.Basics.{take, getD, set, some, Option·none-ne-some, arith, add-one, eqb-true, leb-false, le-leb, not-false, all, and-both, choose-by}
 use Rattle.lists.specs.Basics.{tests}
 use Rattle.lists.specs.All.{all-at}
-use Rattle.model.specs.Types.{Key, Record, AtomicityUnit, Found, Columns, Entry, Transaction, Recovery}
-use Rattle.types.specs.declared.Recovery.the-variants.{Stays, Forward, Back, Again, Busy}
+use Rattle.model.specs.Types.{Key, Record, AtomicityUnit, Found, Columns, Entry, Transaction, Recovery, Stays, Forward, Back, Again, Busy}
 use Rattle.model.specs.Records.{isZero, sameKey, hasLine, lineOf, byFound}
 use Rattle.model.specs.Coordinator.{withIssued}
 use Rattle.model.specs.Transactions.{withdrawPhase, noVerdict, held, noEntry, heldAt, entryAs, withPut, moved, withEntry}
@@ -114,10 +113,7 @@ module _ (s : Sheets) (good : GoodSheets s) where
   unfolding outcome conditions returns testOf
   visit-keeps k now z =
       let c6 : not (hasLine k (s .lines)) ≡ false = accepted 6 (visit k now) s z in
-      record {
-        fits = visit-fits k now (not-false (hasLine k (s .lines)) c6);
-        formed = λ t e. absurd (Option·none-ne-some t e);
-      }
+      record { fits = visit-fits k now (not-false (hasLine k (s .lines)) c6); formed = λ t e. absurd (Option·none-ne-some t e) }
 
   -- Read.
 

@@ -19,8 +19,7 @@ module _ (p : Entry → Bool) (x : Entry) where
   unfolding all
   all-more n [] h g = refl
   all-more zero (e ∷ es) h g = and-both g refl
-  all-more (suc n) (e ∷ es) h g =
-      and-both (and-fst (p e) (all p (take n es)) h) (all-more n es (and-snd (p e) (all p (take n es)) h) g)
+  all-more (suc n) (e ∷ es) h g = and-both (and-fst (p e) (all p (take n es)) h) (all-more n es (and-snd (p e) (all p (take n es)) h) g)
 
   none-more : (n : ℕ) (es : List Entry) → any p (take n es) ≡ false → p x ≡ false → any p (take (suc n) (set es n x)) ≡ false
   unfolding any

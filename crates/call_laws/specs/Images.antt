@@ -185,5 +185,4 @@ forward-plain r = refl
 
 pub back-plain : (r : Record) → isPrepared (rolledBack r) ≡ false
 unfolding rolledBack
-back-plain r =
-    choose-by (λ (x : State). byState x false false true ≡ false) (eqb (r .before .version) 0) (λ e. refl) (λ e. refl)
+back-plain r = choose-by (λ (x : State). byState x false false true ≡ false) (eqb (r .before .version) 0) (λ e. refl) (λ e. refl)

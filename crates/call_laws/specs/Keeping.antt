@@ -87,18 +87,14 @@ keeps-refused s n = record { fits = fit-nothing; formed = λ t e. absurd (Option
 
 pub keeps-made : (s : Sheets) (a : Answer) (w : Write) (t : Transaction) → returns a ≡ some t → Fit s w → wellFormed (apply w s) t ≡ true → Keeps s (made a w)
 keeps-made s a w t e g h =
-    record {
-      fits = g;
-      formed = λ u q. ap (wellFormed (apply w s)) (Option·some-injective u t (sym q ∙ e)) ∙ h;
-    }
+    record { fits = g; formed = λ u q. ap (wellFormed (apply w s)) (Option·some-injective u t (sym q ∙ e)) ∙ h }
 
 pub strictly : (m n : ℕ) → m ≤ n → eqb m n ≡ false → m < n
 strictly m n l h = omega (arith, eqb-false m n h)
 
 -- an accepted call that takes a transaction takes a well-formed one
 pub taken-parts : (s : Sheets) (t : Transaction) (cs : List Condition) → refusalOf (refuse 3 (not (wellFormed s t)) ∷ cs) ≡ 0 → Body s t × Stage (unitsOf s) t
-taken-parts s t cs z =
-    well-formed-parts s t (not-false (wellFormed s t) (not-first 3 (not (wellFormed s t)) cs (omega arith) z .0))
+taken-parts s t cs z = well-formed-parts s t (not-false (wellFormed s t) (not-first 3 (not (wellFormed s t)) cs (omega arith) z .0))
 
 -- the line of a key is a good one
 pub line-good : (s : Sheets) → GoodSheets s → (k : Key) → hasLine k (s .lines) ≡ true → GoodParts (s .coordinator .issued) (lineOf k (s .lines))

@@ -56,8 +56,7 @@ encoded-says s h =
 -- Calls on accepted bytes.
 
 pub on-passing : {A : Type 0} (b : Bytes) (call : Sheets → Result A) → Passing b → onSheets (b .records) (b .coordinator) call ≡ call (saying b)
-on-passing b call h =
-    ap (λ (n : ℕ). cond (eqb n 0) (call (saying b)) (refused n)) h
+on-passing b call h = ap (λ (n : ℕ). cond (eqb n 0) (call (saying b)) (refused n)) h
 
 pub same-result : (c : Call) (b : Bytes) → Passing b → resultOn c (b .records) (b .coordinator) ≡ result c (saying b)
 unfolding resultOn
@@ -75,10 +74,7 @@ apply-nothing s = λ i. record { lines = lines-unmoved nothing (λ x. refl) (s .
 pub passing-encoded : (b : Bytes) → Passing b → encoded (saying b) ≡ b
 passing-encoded b h =
     let p = passing-parts b h in
-    λ i. record {
-      records = sheet-written-read (b .records) (p .0) i;
-      coordinator = coordinator-written-read (b .coordinator) (p .1 .0) i;
-    }
+    λ i. record { records = sheet-written-read (b .records) (p .0) i; coordinator = coordinator-written-read (b .coordinator) (p .1 .0) i }
 
 -- the bytes after a result on accepted bytes are the sheets after it, encoded
 pub bytes-of-result : {A : Type 0} (b : Bytes) (r : Result A) → Passing b → bytesAfter b r ≡ encoded (apply (writeOf r) (saying b))

@@ -145,8 +145,7 @@ still-back rs n ks k h = refl
 pub line-of-key : (k : Key) (rs : List Record) → lineOf k rs .key ≡ k
 unfolding lineOf
 line-of-key k [] = refl
-line-of-key k (r ∷ rs) =
-    choose-by (λ (x : Record). x .key ≡ k) (sameKey (r .key) k) (λ e. same-key (r .key) k e) (λ e. line-of-key k rs)
+line-of-key k (r ∷ rs) = choose-by (λ (x : Record). x .key ≡ k) (sameKey (r .key) k) (λ e. same-key (r .key) k e) (λ e. line-of-key k rs)
 
 -- a key after the first of a sheet in order is another
 key-later : (r : Record) (rs : List Record) (k : Key) → rising (r ∷ rs) ≡ true → listsKey k rs ≡ true → keyLess (r .key) k ≡ true
@@ -179,8 +178,7 @@ each-line Q P (r ∷ rs) h base more f =
 -- every line passes a test that each record passes that is the line of its key
 pub all-lines : (p : Record → Bool) (rs : List Record) → rising rs ≡ true → ((r : Record) → listsKey (r .key) rs ≡ true → lineOf (r .key) rs ≡ r → p r ≡ true) → all p rs ≡ true
 unfolding all
-all-lines p rs h =
-    each-line (λ (r : Record). p r ≡ true) (λ (ls : List Record). all p ls ≡ true) rs h refl (λ r ls e g. and-both e g)
+all-lines p rs h = each-line (λ (r : Record). p r ≡ true) (λ (ls : List Record). all p ls ≡ true) rs h refl (λ r ls e g. and-both e g)
 
 -- what all lines pass, the line of a key passes
 pub line-passes : (p : Record → Bool) (k : Key) (rs : List Record) → all p rs ≡ true → listsKey k rs ≡ true → p (lineOf k rs) ≡ true
@@ -195,5 +193,4 @@ line-passes p k (r ∷ rs) h g =
 
 -- a map that leaves alone each record that is the line of its key leaves a sheet in order alone
 pub map-lines : (f : Record → Record) (rs : List Record) → rising rs ≡ true → ((r : Record) → listsKey (r .key) rs ≡ true → lineOf (r .key) rs ≡ r → f r ≡ r) → map f rs ≡ rs
-map-lines f rs h =
-    each-line (λ (r : Record). f r ≡ r) (λ (ls : List Record). map f ls ≡ ls) rs h refl (λ r ls e g. ap₂ _∷_ e g)
+map-lines f rs h = each-line (λ (r : Record). f r ≡ r) (λ (ls : List Record). map f ls ≡ ls) rs h refl (λ r ls e g. ap₂ _∷_ e g)

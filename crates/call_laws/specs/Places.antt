@@ -45,12 +45,7 @@ unfolding found
 found-at k rs i e =
     let x = first-at (λ (r : Record). sameKey (r .key) k) rs noRecord i e in
     let m : getD rs i noRecord .key ≡ k = same-key (getD rs i noRecord .key) k (x .passes) in
-    record {
-      within = x .within;
-      line = first-line k rs i (x .within) (x .passes) (x .before);
-      listed = lists-at k rs i (x .within) m;
-      key = m;
-    }
+    record { within = x .within; line = first-line k rs i (x .within) (x .passes) (x .before); listed = lists-at k rs i (x .within) m; key = m }
 
 -- on a sheet in order each line is the line of its key
 own-line : (rs : List Record) (i : ℕ) → rising rs ≡ true → i < length rs → getD rs i noRecord ≡ lineOf (getD rs i noRecord .key) rs
@@ -63,8 +58,7 @@ own-line (r ∷ rs) (suc i) h l =
     rw e (own-line rs i (and-snd (inOrder r rs) (rising rs) h) (omega arith))
 
 pub found-own : (rs : List Record) (i : ℕ) → rising rs ≡ true → i < length rs → FoundAt (getD rs i noRecord .key) rs i
-found-own rs i h l =
-    record { within = l; line = own-line rs i h l; listed = lists-at (getD rs i noRecord .key) rs i l refl; key = refl }
+found-own rs i h l = record { within = l; line = own-line rs i h l; listed = lists-at (getD rs i noRecord .key) rs i l refl; key = refl }
 
 -- a map that changes only the line of one key
 abbrev pub atKey : Key → (Record → Record) → Record → Record

@@ -119,8 +119,7 @@ module _ (s : Sheets) (good : GoodSheets s) where
   line-fit : {w : Write} → Fit s w → (r : Record) → listsKey (r .key) (s .lines) ≡ true → lineOf (r .key) (s .lines) ≡ r → GoodParts (s .coordinator .issued) r → GoodParts (decisionsAfter w (s .coordinator) .issued) (lineAfter w r)
   unfolding lineAfter decisionsAfter withIssued
   line-fit fit-nothing r k e g = g
-  line-fit (fit-issue l) r k e g =
-      more-issued (s .coordinator .issued) (s .coordinator .issued + 1) r (omega arith) g
+  line-fit (fit-issue l) r k e g = more-issued (s .coordinator .issued) (s .coordinator .issued + 1) r (omega arith) g
   line-fit (fit-decide n d l) r k e g =
       more-issued (s .coordinator .issued) (withDecision n d (s .coordinator) .issued) r (omega (arith, decided-issued n d (s .coordinator))) g
   line-fit (fit-commit n es m) r k e g =

@@ -3,9 +3,7 @@
 use Rattle.lists.specs.Basics.{_≡_, refl, sym, ap, _∙_, ℕ, Bool, true, false, cond, true≢false, and-false, List, [], _∷_, getD, Option, none, all, any}
 use Rattle.lists.specs.Basics.{choose-by, or-left}
 use Rattle.lists.specs.Chosen.{any-map}
-use Rattle.model.specs.Types.{Key, Record, Decision, AtomicityUnit, Entry, Transaction, Recovery}
-use Rattle.types.specs.declared.Decision.the-variants.{Committed, Aborted}
-use Rattle.types.specs.declared.Recovery.the-variants.{Stays, Forward, Back, Again, Busy}
+use Rattle.model.specs.Types.{Key, Record, Decision, Committed, Aborted, AtomicityUnit, Entry, Transaction, Recovery, Stays, Forward, Back, Again, Busy}
 use Rattle.model.specs.Records.{sameKey, lineOf}
 use Rattle.model.specs.Coordinator.{Coordinator, decision}
 use Rattle.model.specs.Groups.{scope, group}

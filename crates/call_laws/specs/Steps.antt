@@ -4,8 +4,7 @@ use Rattle.lists.specs.Basics.{_≡_, sym, ap, subst, _∙_, ℕ, _+_, _≤_, l
 use Rattle.lists.specs.Basics.{not-true, all, and-fst, and-snd, choose-by, tests}
 use Rattle.lists.specs.All.{all-and}
 use Rattle.lists.specs.Chosen.{all-filter, filter-passes}
-use Rattle.types.specs.declared.Decision.the-variants.{Committed, Aborted}
-use Rattle.model.specs.Types.{Key, Entry, Transaction}
+use Rattle.model.specs.Types.{Key, Committed, Aborted, Entry, Transaction}
 use Rattle.model.specs.Records.{hasLine, lineOf}
 use Rattle.model.specs.Coordinator.{decision}
 use Rattle.model.specs.Transactions.{preparePhase, validatePhase, decidePhase, withdrawPhase, finishPhase, undoPhase, donePhase, noVerdict, committedVerdict}

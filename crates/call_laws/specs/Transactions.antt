@@ -89,15 +89,7 @@ parts-well-formed s t b g =
 pub body-moved : (s : Sheets) (t : Transaction) (phase place verdict : ℕ) → Body s t → Body s (moved phase place verdict t)
 unfolding held linesHeld
 body-moved s t phase place verdict b =
-    record {
-      number = b .number;
-      known = b .known;
-      flag = b .flag;
-      few = b .few;
-      entries = b .entries;
-      distinct = b .distinct;
-      lines = b .lines;
-    }
+    record { number = b .number; known = b .known; flag = b .flag; few = b .few; entries = b .entries; distinct = b .distinct; lines = b .lines }
 
 -- What the stage says in a phase.
 
@@ -181,28 +173,17 @@ module _ (us : List AtomicityUnit) (t : Transaction) where
 
   pub to-decide : t .verdict ≡ noVerdict → isEmpty (puts t) ≡ false → Stage us (moved decidePhase 0 (t .verdict) t)
   unfolding placeFormed verdictFormed puts held
-  to-decide v n =
-      record { decides = ap not n; validates = refl; place = refl; verdict = eq-eqb (t .verdict) 0 v }
+  to-decide v n = record { decides = ap not n; validates = refl; place = refl; verdict = eq-eqb (t .verdict) 0 v }
 
   pub to-finish : isEmpty (puts t) ≡ false → Stage us (moved finishPhase 0 committedVerdict t)
   unfolding placeFormed verdictFormed puts held
   to-finish n =
-      record {
-        decides = refl;
-        validates = refl;
-        place = lt-ltb 0 (groupCount us (puts t)) (groups-some us (puts t) n);
-        verdict = refl;
-      }
+      record { decides = refl; validates = refl; place = lt-ltb 0 (groupCount us (puts t)) (groups-some us (puts t) n); verdict = refl }
 
   pub to-undo : isEmpty (puts t) ≡ false → Stage us (moved undoPhase 0 abortedVerdict t)
   unfolding placeFormed verdictFormed puts held
   to-undo n =
-      record {
-        decides = refl;
-        validates = refl;
-        place = lt-ltb 0 (groupCount us (puts t)) (groups-some us (puts t) n);
-        verdict = refl;
-      }
+      record { decides = refl; validates = refl; place = lt-ltb 0 (groupCount us (puts t)) (groups-some us (puts t) n); verdict = refl }
 
   pub to-done-committed : Stage us (moved donePhase 0 committedVerdict t)
   unfolding placeFormed verdictFormed
@@ -237,8 +218,7 @@ module _ (us : List AtomicityUnit) (t : Transaction) where
 
   -- "decide has a put"
   pub has-put : Stage us t → t .phase ≡ decidePhase → isEmpty (puts t) ≡ false
-  has-put g e =
-      not-true (isEmpty (puts t)) (ap (λ (p : ℕ). not (eqb p decidePhase) || not (isEmpty (puts t))) (sym e) ∙ g .decides)
+  has-put g e = not-true (isEmpty (puts t)) (ap (λ (p : ℕ). not (eqb p decidePhase) || not (isEmpty (puts t))) (sym e) ∙ g .decides)
 
   -- open, at place 0, without a verdict
   pub stage-open : t .phase ≡ 0 → t .place ≡ 0 → t .verdict ≡ noVerdict → Stage us t

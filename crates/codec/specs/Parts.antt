@@ -3,9 +3,8 @@ use Rattle.lists.specs.Basics.{_≡_, refl, sym, ap, _∙_, ℕ, zero, suc, _+_
 use Rattle.lists.specs.Basics.{_++_, length, take, drop, getD, length-take, length-drop, List·getD-eq-default, take-all, arith, leb-true, leb-false, le-leb}
 use Rattle.lists.specs.Basics.{lt-ltb, eqList, and-snd, tests}
 use Rattle.lists.specs.Pieces.{over, over-part, over-zero}
-use Rattle.model.specs.Types.{Record, DecisionWord}
+use Rattle.model.specs.Types.{Record, Undecided, Committed, Aborted, DecisionWord}
 use Rattle.types.specs.declared.State.the-variants.{Prepared}
-use Rattle.types.specs.declared.Decision.the-variants.{Undecided, Committed, Aborted}
 use Rattle.decimal.specs.Field.{number, figure, fieldText}
 use Rattle.decimal.specs.Laws.{length-fieldText}
 use Rattle.decimal.specs.Word.{putWord, put-fits}

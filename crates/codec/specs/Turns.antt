@@ -30,8 +30,7 @@ is-word UnitLetter a b w = refl
 
 pub read-figure : (c : Column) (s : List ℕ) → c .kind ≡ Figure → figure (c .low) (c .high) s ≡ fieldValue c s
 unfolding fieldValue
-read-figure c s e =
-    sym (ap (λ (k : Kind). byKind k (figure (c .low) (c .high) s) (wordFrom (c .width) (words (c .kind)) 0 s)) e)
+read-figure c s e = sym (ap (λ (k : Kind). byKind k (figure (c .low) (c .high) s) (wordFrom (c .width) (words (c .kind)) 0 s)) e)
 
 pub read-a-word : (c : Column) (s : List ℕ) (k : Kind) → isWord k ≡ true → c .kind ≡ k → wordFrom (c .width) (words (c .kind)) 0 s ≡ fieldValue c s
 unfolding fieldValue

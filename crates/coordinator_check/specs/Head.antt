@@ -51,8 +51,7 @@ letters-set : (n : ℕ) (s : List ℕ) → lineSet (replicate n (letter 1)) s �
 unfolding lineSet all
 letters-set zero s = refl
 letters-set (suc n) [] = unfold fieldValue wordFrom words bytes eqList isNumber in refl
-letters-set (suc n) (b ∷ s) =
-    rw (letter-set b, letters-set n s) (sym (and-assoc (isUnit b) (all isUnit (take n s)) (eqList (drop n s) (10 ∷ []))))
+letters-set (suc n) (b ∷ s) = rw (letter-set b, letters-set n s) (sym (and-assoc (isUnit b) (all isUnit (take n s)) (eqList (drop n s) (10 ∷ []))))
 
 head-fields : (h : List ℕ)
     → lineSet headLayout h
@@ -95,10 +94,7 @@ letters-next head i good unit n l e t =
     let m : lineEnd - i ≡ suc (lineEnd - (i + 1)) = omega arith in
     let d : drop i head ≡ getD head i 0 ∷ drop (i + 1) head = rw (add-one, drop-cons head i 0 (omega arith)) in
     let a : all isUnit (take (lineEnd - i) (drop i head)) ≡ (unit && all isUnit (take (lineEnd - (i + 1)) (drop (i + 1) head))) = rw (m, d, e) in
-    record {
-      place = omega arith;
-      left = and-assoc good unit _ ∙ (ap (λ (b : Bool). good && b) (sym a) ∙ t .left);
-    }
+    record { place = omega arith; left = and-assoc good unit _ ∙ (ap (λ (b : Bool). good && b) (sym a) ∙ t .left) }
 
 pub letters-last : (head : List ℕ) (i : ℕ) (good : Bool) → lineEnd ≤ i → LettersTo head i good → (good && eqb (getD head lineEnd 0) 10) ≡ lettersSet head
 unfolding all lettersSet

@@ -9,8 +9,7 @@ use Rattle.lists.specs.All.{listed-is}
 use Rattle.decimal.specs.Field.{fieldText, ahead}
 use Rattle.decimal.specs.Laws.{fieldText-bytes}
 use Rattle.places.specs.Loads.{loaded, split-equal}
-use Rattle.model.specs.Types.{Decision, DecisionWord}
-use Rattle.types.specs.declared.Decision.the-variants.{Undecided, Committed, Aborted}
+use Rattle.model.specs.Types.{Decision, Undecided, Committed, Aborted, DecisionWord}
 use Rattle.model.specs.Layouts.{lineLayout, words, wordAt}
 use Rattle.model.specs.Lines.{fieldBytes, lineText}
 use Rattle.model.specs.Coordinator.{decisionNumber}
@@ -59,8 +58,7 @@ pub record Table (words : List ℕ) : Type 0 where
 -- The judgement.
 
 abbrev pub judged : (number front back : ℕ) (words : List ℕ) → Bool
-judged number front back words =
-    eqb front (number * 256 + getD words (told back) 0) && eqb back (getD words (told back + 4) 0)
+judged number front back words = eqb front (number * 256 + getD words (told back) 0) && eqb back (getD words (told back + 4) 0)
 
 -- r begins with an LF, and the line after it has these columns and a word of the table
 unfoldable pub lineMade : (number : ℕ) (words r : List ℕ) → Bool
@@ -164,10 +162,7 @@ module _ (a b c d : Decision) where
 
   fits : Table (table a b c d)
   fits =
-      record {
-        eight = unfold table in refl;
-        room = λ i l. rw (entries i l .0) (front-room (decisionFor i));
-      }
+      record { eight = unfold table in refl; room = λ i l. rw (entries i l .0) (front-room (decisionFor i)) }
 
   pub table-fits : {words : List ℕ} → words ≡ table a b c d → (words ≡ table a b c d) × Table words
   table-fits e = (e, rw e fits)

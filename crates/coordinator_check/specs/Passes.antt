@@ -6,8 +6,7 @@ use Rattle.lists.specs.Basics.{eqList, eqList-true, eqList-refl, and-fst, and-s
 use Rattle.lists.specs.All.{all-at}
 use Rattle.lists.specs.Pieces.{take-drop-take}
 use Rattle.places.specs.Loads.{loaded}
-use Rattle.model.specs.Types.{Decision}
-use Rattle.types.specs.declared.Decision.the-variants.{Undecided}
+use Rattle.model.specs.Types.{Decision, Undecided}
 use Rattle.model.specs.Layouts.{lineLayout, coordinatorBytes, lineEnd}
 use Rattle.model.specs.Lines.{lineSet, rowOf}
 use Rattle.model.specs.Coordinator.{decisionIn, numbered}
@@ -36,8 +35,7 @@ reads-more P k d line ls l m e p r =
     rw e
     (record {
       readable = and-both (decision-text-set k d l m) (r .readable);
-      in-turn =
-          and-both (eq-eqb (getD (rowOf lineLayout (decisionText k d)) 0 0) k (ap (λ (v : List ℕ). getD v 0 0) (t .0))) (r .in-turn);
+      in-turn = and-both (eq-eqb (getD (rowOf lineLayout (decisionText k d)) 0 0) k (ap (λ (v : List ℕ). getD v 0 0) (t .0))) (r .in-turn);
       decided = and-both (ap P (t .1) ∙ p) (r .decided);
     })
 
@@ -114,8 +112,7 @@ module _ (a b c d : Decision) (P : Decision → Bool) where
       let y : getD (drop coordinatorBytes r) 0 0 ≡ 10 =
       getD-drop coordinatorBytes r 0 0
       ∙ (sym (getD-take 16 r coordinatorBytes 0 (omega arith)) ∙ (ap (λ (i : List ℕ). getD i coordinatorBytes 0) q ∙ lfText-ends (suc k) e)) in
-      let rest =
-      read-made tells (suc k) n (drop coordinatorBytes r) (bytes-after r f) (simp length-drop (omega arith)) (omega arith) y
+      let rest = read-made tells (suc k) n (drop coordinatorBytes r) (bytes-after r f) (simp length-drop (omega arith)) (omega arith) y
       (rw (line-after r) at (t .others)) in
       let j : coordinatorBytes + n * coordinatorBytes ≡ suc n * coordinatorBytes = omega arith in
       (and-both made (rest .0), ap (λ (i : ℕ). getD r i 0) (sym j) ∙ (sym (getD-drop coordinatorBytes r (n * coordinatorBytes) 0) ∙ rest .1))

@@ -12,8 +12,7 @@ use Rattle.decimal.specs.declared.Scan.the-variants.{Blank, Number, Wrong}
 use Rattle.decimal.specs.Field.{figure, number, isNumber, fieldText, ahead}
 use Rattle.decimal.specs.Laws.{isNumber-number, written-read}
 use Rattle.places.specs.Loads.{loaded}
-use Rattle.model.specs.Types.{Decision}
-use Rattle.types.specs.declared.Decision.the-variants.{Undecided, Committed, Aborted}
+use Rattle.model.specs.Types.{Decision, Undecided, Committed, Aborted}
 use Rattle.model.specs.Layouts.{headLayout, lineLayout, words, coordinatorBytes, leastCoordinatorBytes, lineEnd, mostCoordinatorBytes}
 use Rattle.model.specs.Lines.{rowOf, lineSet, linesOf}
 use Rattle.model.specs.Coordinator.{decisionNumber, unitOf, isUndecided, coordinatorGood, decisionIn, coordinatorOf, numbered, coordinatorAccepted}
@@ -174,8 +173,7 @@ module _ (s : List ℕ) (each : Bytes s) where
     reads-pass : v ≤ count s → getD s lineEnd 0 ≡ 10 → LowReads → HighReads → decisionsMade v s ≡ true
     unfolding decisionsMade
     reads-pass l z r t =
-        let p =
-        read-made Undecided Committed Aborted Undecided (λ (d : Decision). true) tells-any 0 v (drop lineEnd s) (each-from lineEnd)
+        let p = read-made Undecided Committed Aborted Undecided (λ (d : Decision). true) tells-any 0 v (drop lineEnd s) (each-from lineEnd)
         (simp length-drop (omega arith)) (omega arith) (getD-drop lineEnd s 0 0 ∙ z) (rw (after 0) r) in
         let e : lineEnd + v * coordinatorBytes ≡ v * coordinatorBytes + lineEnd + 0 = omega arith in
         let lf : getD (drop (v * coordinatorBytes + lineEnd) s) 0 0 ≡ 10 =
@@ -189,8 +187,7 @@ module _ (s : List ℕ) (each : Bytes s) where
     unfolding decisionsMade all isUndecided
     pass-reads h =
         let l : v ≤ count s = search tests in
-        let r =
-        made-read Undecided Committed Aborted Undecided (λ (d : Decision). true) refl 0 v (drop lineEnd s) (each-from lineEnd)
+        let r = made-read Undecided Committed Aborted Undecided (λ (d : Decision). true) refl 0 v (drop lineEnd s) (each-from lineEnd)
         (simp length-drop (omega arith)) (omega arith) (search tests) in
         let t =
         made-read Undecided Undecided Undecided Undecided isUndecided refl v (count s - v) (drop (v * coordinatorBytes + lineEnd) s) (each-from (v * coordinatorBytes + lineEnd))
@@ -219,8 +216,7 @@ module _ (s : List ℕ) (each : Bytes s) where
       let r = sym (readable-cut s v (count s - v) rest) ∙ a .readable in
       let t = sym (in-turn-cut s v (count s - v) rest) ∙ a .in-turn in
       let u = sym (decided-cut s v (count s - v) rest) ∙ (ap (λ (ds : List Decision). all isUndecided (drop v ds)) (sym (decisions-read s)) ∙ above) in
-      let pass =
-      reads-pass v (omega arith) (omega arith) (omega arith) lf
+      let pass = reads-pass v (omega arith) (omega arith) (omega arith) lf
       (record { readable = search (tests, r); in-turn = search (tests, t); decided = all-always (pieces coordinatorBytes v (drop coordinatorBytes s)) })
       (record { readable = search (tests, r); in-turn = search (tests, t); decided = u }) in
       and-both
@@ -245,8 +241,7 @@ module _ (s : List ℕ) (each : Bytes s) where
       let above : all isUndecided (drop (coordinatorOf s .issued) (coordinatorOf s .decisions)) ≡ true =
       ap₂ (λ (k : ℕ) (ds : List Decision). all isUndecided (drop k ds)) issued (decisions-read s)
       ∙ (decided-cut s v (count s - v) rest ∙ p .1 .1 .decided) in
-      let bounded =
-      and-both
+      let bounded = and-both
       (and-both (eq-eqb (length (coordinatorOf s .units)) 9 (nine-units s)) (le-leb 1 n (omega arith)))
       (le-leb n 999 (omega arith)) in
       parts-accepted s

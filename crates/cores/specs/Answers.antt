@@ -1,8 +1,7 @@
 -- What the calls answer, as numbers: a refusal or 0, and what an accepted call gives.
 use Rattle.lists.specs.Basics.{_≡_, ap, ℕ, false}
-use Rattle.model.specs.Types.{Columns, Transaction, Recovery, Reading}
+use Rattle.model.specs.Types.{Columns, Transaction, Recovery, Stays, Reading}
 use Rattle.types.specs.declared.Reading.the-variants.{Absent, Value, Again}
-use Rattle.types.specs.declared.Recovery.the-variants.{Stays}
 use Rattle.model.specs.Images.{byRecovery}
 use Rattle.model.specs.Writes.{Write}
 use Rattle.model.specs.Results.{Answer, turnedAway, returned, answered, visited, heldAfter, Result, refused, made}

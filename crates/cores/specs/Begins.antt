@@ -26,8 +26,7 @@ pub record Begins (b : Bool) (cs : List ℕ) (r : Returned) (cs′ : List ℕ) :
 module _ (b : Bool) (cs : List ℕ) (a : coordinatorAccepted cs ≡ true) where
   pub begin-spent : eqb (coordinatorOf cs .issued) (length (drop coordinatorBytes cs) / coordinatorBytes) ≡ true → (r : Returned) → r ≡ toBegun (refused 8) → Begins b cs r cs
   unfolding result conditions refusalOf
-  begin-spent spent r e =
-      record { beside = λ rs h. outcome-refused toBegun rs cs 8 (rw (length-decisions cs, spent)) e }
+  begin-spent spent r e = record { beside = λ rs h. outcome-refused toBegun rs cs 8 (rw (length-decisions cs, spent)) e }
 
   module _ (left : eqb (coordinatorOf cs .issued) (length (drop coordinatorBytes cs) / coordinatorBytes) ≡ false) where
     issued-below : coordinatorOf cs .issued < length (coordinatorOf cs .decisions)

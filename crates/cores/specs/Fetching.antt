@@ -1,8 +1,7 @@
 -- Read, case by case in the order of its conditions: a held key, and a new one by what the visit of its line comes to.
 use Rattle.lists.specs.Basics.{_≡_, refl, sym, ap, subst, _∙_, ℕ, _≤_, _<_, leb, true, false, not, _&&_, cond, List, [], _∷_, le-leb, lt-leb, all}
-use Rattle.model.specs.Types.{Key, Record, At, Nothing, Transaction, Recovery}
+use Rattle.model.specs.Types.{Key, Record, At, Nothing, Transaction, Recovery, Stays, Forward, Back, Again, Busy}
 use Rattle.types.specs.declared.Reading.the-variants.{Again as Read-again}
-use Rattle.types.specs.declared.Recovery.the-variants.{Stays, Forward, Back, Again, Busy}
 use Rattle.model.specs.Records.{records, found, isMissing, hasLine, lineOf}
 use Rattle.model.specs.Coordinator.{coordinatorOf}
 use Rattle.model.specs.Refusals.{Condition, refuse, refusalOf}
@@ -24,13 +23,11 @@ use Rattle.cores.specs.Answers.{toFetched, fetchedAs}
 
 -- the read of a record that is then held
 abbrev pub fetchedHeld : Record → Transaction → Fetched
-fetchedHeld r t =
-    fetchedAs (reading (entryAs (r .key) (r .image))) (holding (entryAs (r .key) (r .image)) t)
+fetchedHeld r t = fetchedAs (reading (entryAs (r .key) (r .image))) (holding (entryAs (r .key) (r .image)) t)
 
 -- the read of a record as its visit leaves it, by what the visit came to
 abbrev pub fetchedMet : Recovery → Record → Transaction → Fetched
-fetchedMet v r t =
-    byRecovery v (fetchedHeld r t) (fetchedHeld r t) (fetchedHeld r t) (fetchedAs Read-again t) (toFetched t (refused 12))
+fetchedMet v r t = byRecovery v (fetchedHeld r t) (fetchedHeld r t) (fetchedHeld r t) (fetchedAs Read-again t) (toFetched t (refused 12))
 
 -- what a read of a new key answers, by what the visit of its line comes to
 abbrev readMet : Recovery → Record → Transaction → Answer
@@ -103,10 +100,7 @@ pub new-read : (t : Transaction) (k : Key) (rs cs : List ℕ) (i : ℕ) → Read
 unfolding isMissing
 new-read t k rs cs i a e =
     let f : lineAt rs i .key ≡ k = found-at k (records rs) i (a .index) .key in
-    record {
-      line = subst (λ (x : Key). ReadAt t x rs cs i) (sym f) a;
-      new = ap (λ (x : Key). isNew x t) f ∙ ap isMissing e;
-    }
+    record { line = subst (λ (x : Key). ReadAt t x rs cs i) (sym f) a; new = ap (λ (x : Key). isNew x t) f ∙ ap isMissing e }
 
 -- the read of a new key is that of the key of its line
 pub read-found : (t : Transaction) (k : Key) (now : ℕ) (rs cs : List ℕ) (i : ℕ) {answer : Fetched} {rs′ cs′ : List ℕ} → ReadAt t k rs cs i → Outcome (toFetched t) (result (read t (lineAt rs i .key) now) (sheetsOf rs cs)) rs cs answer rs′ cs′ → Outcome (toFetched t) (result (read t k now) (sheetsOf rs cs)) rs cs answer rs′ cs′

@@ -15,8 +15,7 @@ use Rattle.admission.specs.Admission.{admittingOpen}
 
 -- what is asked of a put of a key that has a line
 abbrev heldConditions : Transaction → Key → Columns → List Condition
-heldConditions t k c =
-    refuse 7 (not (columnsInRange c)) ∷ refuse 10 (isNew k t) ∷ refuse 11 (leb 99999 (heldEntry k t .seen .version)) ∷ []
+heldConditions t k c = refuse 7 (not (columnsInRange c)) ∷ refuse 10 (isNew k t) ∷ refuse 11 (leb 99999 (heldEntry k t .seen .version)) ∷ []
 
 -- a put of a key that has a line
 unfoldable pub putHeld : Transaction → Key → Columns → Result Answer
@@ -57,8 +56,7 @@ module _ (t : Transaction) (k : Key) (c : Columns) where
   module _ (s : Sheets) where
     pub put-away : (n : ℕ) → n ≡ refusalOf (admittingOpen t k s) → (n ≡ 0 → ⊥) → result (put t k c) s ≡ refused n
     unfolding result conditions admittingOpen
-    put-away n e z =
-        unless-front (admittingOpen t k s) (refuse 6 (not (hasLine k (s .lines))) ∷ heldConditions t k c) (outcome (put t k c) s) n e z
+    put-away n e z = unless-front (admittingOpen t k s) (refuse 6 (not (hasLine k (s .lines))) ∷ heldConditions t k c) (outcome (put t k c) s) n e z
 
     module _ (free : refusalOf (admittingOpen t k s) ≡ 0) where
       put-rest : result (put t k c) s ≡ unless (refuse 6 (not (hasLine k (s .lines))) ∷ heldConditions t k c) (outcome (put t k c) s)

@@ -1,7 +1,6 @@
 -- Visit, case by case in the order of its conditions.
 use Rattle.lists.specs.Basics.{_≡_, refl, sym, ap, ap₂, subst, _∙_, ℕ, Bool, true, false, not, cond, List, [], _∷_}
-use Rattle.model.specs.Types.{Key, Record, At, Nothing, Recovery}
-use Rattle.types.specs.declared.Recovery.the-variants.{Stays, Forward, Back, Again, Busy}
+use Rattle.model.specs.Types.{Key, Record, At, Nothing, Recovery, Stays, Forward, Back, Again, Busy}
 use Rattle.model.specs.Records.{records, keyInRange, found, isMissing, hasLine, lineOf}
 use Rattle.model.specs.Coordinator.{coordinatorOf}
 use Rattle.model.specs.Refusals.{refuse, refusalOf}

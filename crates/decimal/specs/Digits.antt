@@ -30,8 +30,7 @@ step-digit s v wrong h = let z : _≡_ {A = ℕ} 0 1 = cc (scan-wrong s) in absu
 digits-after : (s : List ℕ) (st : Scan) (v : ℕ) → scanned st s ≡ Number v → digitsFrom (number st) s ≡ v
 unfolding scanned digitsFrom
 digits-after [] st v h = unfold number in ap number h
-digits-after (b ∷ s) st v h =
-    ap (λ (n : ℕ). digitsFrom n s) (step-digit s v (step-kind st b) h) ∙ digits-after s (stepped st b) v h
+digits-after (b ∷ s) st v h = ap (λ (n : ℕ). digitsFrom n s) (step-digit s v (step-kind st b) h) ∙ digits-after s (stepped st b) v h
 
 -- a field that holds a figure
 pub digits-are : (s : List ℕ) (v : ℕ) → scanned Blank s ≡ Number v → digits s ≡ v

@@ -80,8 +80,7 @@ passed-scan (b ∷ s) st w n p e h =
 -- a field that reads as a figure is the figure's text
 pub scan-written : (s : List ℕ) (v : ℕ) → scanned Blank s ≡ Number v → (s ≡ fieldText (length s) v) × (v < 10 ^ length s)
 unfolding ahead
-scan-written s v e =
-    subst (λ (st : Scan). Passed (length s) st s) e (passed-scan s Blank 0 (length s) [] (omega arith) refl)
+scan-written s v e = subst (λ (st : Scan). Passed (length s) st s) e (passed-scan s Blank 0 (length s) [] (omega arith) refl)
 
 -- a fact about a field that is read, from the fact about `Wrong` and the fact about each figure that it may hold
 pub figure-by : (P : Scan → Type 0) (low high : ℕ) (s : List ℕ) → P Wrong → ((v : ℕ) → scanned Blank s ≡ Number v → low ≤ v → v ≤ high → P (Number v)) → P (figure low high s)
@@ -150,21 +149,18 @@ last-column v = go (eqb v 0) refl
 scan-ahead : (w v : ℕ) → v < 10 ^ w → scanned Blank (ahead w v) ≡ standing v
 unfolding scanned ahead standing
 scan-ahead zero v l = let z : v ≡ 0 = omega arith in rw z
-scan-ahead (suc w) v l =
-    rw (scan-append, scan-ahead w (v / 10) (omega (arith, pow-suc 10 w))) (last-column v)
+scan-ahead (suc w) v l = rw (scan-append, scan-ahead w (v / 10) (omega (arith, pow-suc 10 w))) (last-column v)
 
 -- the text of a figure reads as the figure
 pub scan-text : (w v : ℕ) → 0 < w → v < 10 ^ w → scanned Blank (fieldText w v) ≡ Number v
 unfolding scanned fieldText
 scan-text zero v n l = absurd (omega arith)
-scan-text (suc w) v n l =
-    rw (scan-append, scan-ahead w (v / 10) (omega (arith, pow-suc 10 w))) (last-digit v)
+scan-text (suc w) v n l = rw (scan-append, scan-ahead w (v / 10) (omega (arith, pow-suc 10 w))) (last-digit v)
 
 -- what is written for a figure in range reads as the figure
 pub read-written : (w v low high : ℕ) → 0 < w → v < 10 ^ w → low ≤ v → v ≤ high → figure low high (fieldText w v) ≡ Number v
 unfolding figure within
-read-written w v low high n l a b =
-    rw (scan-text w v n l, le-leb low v a, le-leb v high b)
+read-written w v low high n l a b = rw (scan-text w v n l, le-leb low v a, le-leb v high b)
 
 length-ahead : (w v : ℕ) → length (ahead w v) ≡ w
 unfolding ahead

@@ -46,5 +46,4 @@ abbrev pub holdsInGroup : List ℕ → List ℕ → Transaction → Entry → Bo
 holdsInGroup rs cs t e = not (ofGroup cs t e) || holds (sheetsOf rs cs) e
 
 pub group-all : (rs cs : List ℕ) (t : Transaction) → all (holdsInGroup rs cs t) (held t) ≡ all (holds (sheetsOf rs cs)) (groupAt t (sheetsOf rs cs))
-group-all rs cs t =
-    all-kept (holds (sheetsOf rs cs)) (ofGroup cs t) (held t) ∙ ap (all (holds (sheetsOf rs cs))) (sym (group-in rs cs t))
+group-all rs cs t = all-kept (holds (sheetsOf rs cs)) (ofGroup cs t) (held t) ∙ ap (all (holds (sheetsOf rs cs))) (sym (group-in rs cs t))

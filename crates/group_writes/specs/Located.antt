@@ -38,8 +38,7 @@ indicesOf rs t (suc n) = set (indicesOf rs t n) n (lineIndex (entryAt t n .key) 
 
 -- what is found of a transaction's entries, by the lines and the units
 abbrev pub locatedIn : List Record → List AtomicityUnit → Transaction → Located
-locatedIn rs us t =
-    record { indices = indicesOf rs t (t .count); groups = groupCount us (puts t); of = groupsIn us t }
+locatedIn rs us t = record { indices = indicesOf rs t (t .count); groups = groupCount us (puts t); of = groupsIn us t }
 
 -- of these indices the one of a key, 0 if the transaction does not hold it
 abbrev pub indexIn : Key → Transaction → List ℕ → ℕ
@@ -127,9 +126,7 @@ module _ (rs : List Record) (t : Transaction) where
 
     pub indexed-all : Indexed rs t (indicesOf rs t (t .count)) (t .count)
     indexed-all =
-        record {
-          at = λ i l. found-line (entryAt t i .key) rs (has-line i l) ∙ ap At (sym (index-stays (t .count) i l few));
-        }
+        record { at = λ i l. found-line (entryAt t i .key) rs (has-line i l) ∙ ap At (sym (index-stays (t .count) i l few)) }
 
 -- The groups found are those of the units.
 pub grouped-in : (rs : List Record) (us : List AtomicityUnit) (t : Transaction) {vs : List Val} → Is (row the-type) t vs → t .count ≤ 8 → t .place < 8 → Grouped us t (locatedIn rs us t)
@@ -152,8 +149,7 @@ module _ (k : Key) (t : Transaction) where
       ap (λ (y : Entry). y .key) (sym (getD-first (t .count) (t .entries) i noEntry (x .within))) ∙ same-key _ k (x .passes)
 
   indexed-held : (rs : List Record) (is : List ℕ) (i : ℕ) → heldAt k t ≡ At i → Indexed rs t is (t .count) → found k rs ≡ At (getD is i 0)
-  indexed-held rs is i e h =
-      ap (λ (j : Key). found j rs) (sym (held-key i e)) ∙ h .at i (held-below t k i e)
+  indexed-held rs is i e h = ap (λ (j : Key). found j rs) (sym (held-key i e)) ∙ h .at i (held-below t k i e)
 
   held-somewhere : heldAt k t ≡ Nothing → hasKey k (held t) ≡ true → ⊥
   unfolding heldAt isMissing

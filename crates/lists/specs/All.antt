@@ -99,8 +99,7 @@ getD-any (x ∷ xs) (suc i) d e l = getD-any xs i d e (omega arith)
 pub listed-is : (i n : ℕ) (v : List ℕ) → length v ≡ i + n → listed i n v ≡ drop i v
 unfolding listed
 listed-is i zero v e = let l : length v ≤ i = omega arith in sym (drop-of-length-le v l)
-listed-is i (suc n) v e =
-    ap (λ (t : List ℕ). getD v i 0 ∷ t) (listed-is (suc i) n v (omega arith)) ∙ sym (drop-cons v i 0 (omega arith))
+listed-is i (suc n) v e = ap (λ (t : List ℕ). getD v i 0 ∷ t) (listed-is (suc i) n v (omega arith)) ∙ sym (drop-cons v i 0 (omega arith))
 
 -- two maps that agree on every element of a list
 pub map-equal {ℓ κ} : {A : Type ℓ} {B : Type κ} (p : A → Bool) (f g : A → B) → ((x : A) → p x ≡ true → f x ≡ g x) → (xs : List A) → all p xs ≡ true → map f xs ≡ map g xs

@@ -23,8 +23,7 @@ unfolding eqList
 eqList-true [] [] e = refl
 eqList-true [] (b ∷ t) e = absurd (true≢false (sym e))
 eqList-true (a ∷ s) [] e = absurd (true≢false (sym e))
-eqList-true (a ∷ s) (b ∷ t) e =
-    ap₂ _∷_ (eqb-true a b (and-fst _ _ e)) (eqList-true s t (and-snd (eqb a b) (eqList s t) e))
+eqList-true (a ∷ s) (b ∷ t) e = ap₂ _∷_ (eqb-true a b (and-fst _ _ e)) (eqList-true s t (and-snd (eqb a b) (eqList s t) e))
 
 pub eqList-refl : (s : List ℕ) → eqList s s ≡ true
 unfolding eqList

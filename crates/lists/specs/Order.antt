@@ -30,8 +30,7 @@ unfolding less eqList
 less-append [] [] s′ t′ n = refl
 less-append [] (b ∷ t) s′ t′ n = absurd (omega arith)
 less-append (a ∷ s) [] s′ t′ n = absurd (omega arith)
-less-append (a ∷ s) (b ∷ t) s′ t′ n =
-    rw (less-append s t s′ t′ (omega arith)) (regroup (ltb a b) (eqb a b) (less s t) (eqList s t) (less s′ t′))
+less-append (a ∷ s) (b ∷ t) s′ t′ n = rw (less-append s t s′ t′ (omega arith)) (regroup (ltb a b) (eqb a b) (less s t) (eqList s t) (less s′ t′))
 
 -- A strict and total order.
 

@@ -21,10 +21,7 @@ Passing b = refusalOf (checkConditions (b .records) (b .coordinator)) ≡ 0
 -- the bytes after a result
 abbrev pub bytesAfter : {A : Type 0} → Bytes → Result A → Bytes
 bytesAfter b r =
-    record {
-      records = recordsAfter (b .records) (b .coordinator) r;
-      coordinator = coordinatorAfter (b .records) (b .coordinator) r;
-    }
+    record { records = recordsAfter (b .records) (b .coordinator) r; coordinator = coordinatorAfter (b .records) (b .coordinator) r }
 
 -- what the call answers, made with these bytes
 unfoldable pub answerOn : Call → Bytes → Answer

@@ -19,8 +19,7 @@ named list place = getD list place (newTransaction 0 false)
 
 -- "transaction (in a list, the one named) not well formed, list over 16, or no such list place", then as for an advance
 unfoldable pub conditionsAt : List Transaction → ℕ → ℕ → Sheets → List Condition
-conditionsAt list place now s =
-    refuse 3 (not (listed (length list) place)) ∷ conditions (advance (named list place) now) s
+conditionsAt list place now s = refuse 3 (not (listed (length list) place)) ∷ conditions (advance (named list place) now) s
 
 -- all its conditions, in the order of the table
 unfoldable pub allConditionsAt : List Transaction → ℕ → ℕ → List ℕ → List ℕ → List Condition
@@ -28,8 +27,7 @@ allConditionsAt list place now rs cs = checkConditions rs cs ++ conditionsAt lis
 
 -- "taking and returning the one named"
 unfoldable pub advanceAtResult : List Transaction → ℕ → ℕ → Sheets → Result Answer
-advanceAtResult list place now s =
-    unless (conditionsAt list place now s) (outcome (advance (named list place) now) s)
+advanceAtResult list place now s = unless (conditionsAt list place now s) (outcome (advance (named list place) now) s)
 
 unfoldable pub advanceAtOn : List Transaction → ℕ → ℕ → List ℕ → List ℕ → Result Answer
 advanceAtOn list place now rs cs = onSheets rs cs (advanceAtResult list place now)

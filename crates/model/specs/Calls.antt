@@ -41,8 +41,7 @@ readNew t v r =
 
 -- "Put replaces an earlier put."
 unfoldable pub afterPut : Transaction → Key → Columns → Transaction
-afterPut t k c =
-    byFound (heldAt k t) t (λ (i : ℕ). withEntry (t .count) i (withPut c (getD (t .entries) i noEntry)) t)
+afterPut t k c = byFound (heldAt k t) t (λ (i : ℕ). withEntry (t .count) i (withPut c (getD (t .entries) i noEntry)) t)
 
 -- What an accepted call comes to, whether or not it would be refused.
 unfoldable pub outcome : Call → Sheets → Result Answer

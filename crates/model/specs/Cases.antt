@@ -41,16 +41,13 @@ pub record Case : Type 0 where
 -- The line of the examples, in its states.
 
 abbrev pub committedLine : List ℕ
-committedLine =
-    bytes " 1  1  1     1     1 COMMITTED     3   1      500      250     0   0        0        0          0"
+committedLine = bytes " 1  1  1     1     1 COMMITTED     3   1      500      250     0   0        0        0          0"
 
 abbrev pub preparedLine : List ℕ
-preparedLine =
-    bytes " 1  1  1     1     1  PREPARED     4   2      600      300     3   1      500      250       7000"
+preparedLine = bytes " 1  1  1     1     1  PREPARED     4   2      600      300     3   1      500      250       7000"
 
 abbrev pub writtenLine : List ℕ
-writtenLine =
-    bytes " 1  1  1     1     1 COMMITTED     4   2      600      300     0   0        0        0          0"
+writtenLine = bytes " 1  1  1     1     1 COMMITTED     4   2      600      300     0   0        0        0          0"
 
 -- the coordinator sheet, with the line of number 2
 abbrev pub coordinatorWith : List ℕ → List ℕ
@@ -84,15 +81,11 @@ expiryCase now expected =
 -- Grouping (2,1,1,7,1) with (2,1,2,7,1).
 
 abbrev pub keyIn : ℕ → Entry
-keyIn table =
-    entryAs (record { storage = 2; namespace = 1; table = table; partition = 7; clustering = 1 }) noImage
+keyIn table = entryAs (record { storage = 2; namespace = 1; table = table; partition = 7; clustering = 1 }) noImage
 
 abbrev pub groupCase : AtomicityUnit → ℕ → Case
 groupCase unit expected =
-    record {
-      given = groupCount (replicate 9 unit) (keyIn 1 ∷ keyIn 2 ∷ []) ∷ [];
-      expected = expected ∷ [];
-    }
+    record { given = groupCount (replicate 9 unit) (keyIn 1 ∷ keyIn 2 ∷ []) ∷ []; expected = expected ∷ [] }
 
 -- An advance of number 2, which has put 600 and 300 over version 3 of the line: both sheets, and phase, place and verdict.
 

@@ -43,8 +43,7 @@ unfoldable pub cannotAbort : Transaction → Bool
 cannotAbort t = byPhase (t .phase) false false false false true true true true true
 
 unfoldable pub conditions : Call → Sheets → List Condition
-conditions (begin serializable) s =
-    refuse 8 (eqb (s .coordinator .issued) (length (s .coordinator .decisions))) ∷ []
+conditions (begin serializable) s = refuse 8 (eqb (s .coordinator .issued) (length (s .coordinator .decisions))) ∷ []
 conditions (read t k now) s =
     refuse 3 (not (wellFormed s t))
     ∷ refuse 4 (notOpen t)
@@ -64,8 +63,7 @@ conditions (put t k c) s =
     ∷ []
 conditions (advance t now) s = refuse 3 (not (wellFormed s t)) ∷ refuse 4 (cannotAdvance t s) ∷ []
 conditions (abort t) s = refuse 3 (not (wellFormed s t)) ∷ refuse 4 (cannotAbort t) ∷ []
-conditions (visit k now) s =
-    refuse 5 (not (keyInRange k)) ∷ refuse 6 (not (hasLine k (s .lines))) ∷ refuse 12 (busy k now s) ∷ []
+conditions (visit k now) s = refuse 5 (not (keyInRange k)) ∷ refuse 6 (not (hasLine k (s .lines))) ∷ refuse 12 (busy k now s) ∷ []
 
 -- the numbers that a call can give, and no others
 unfoldable pub refusals : Call → List ℕ

@@ -1,7 +1,6 @@
 -- The coordinator sheet: numbers issued, units and decisions, and its rules. Document 01, "Coordinator sheet".
 use Rattle.lists.specs.Basics.{ℕ, zero, suc, eqb, leb, Bool, true, false, _&&_, List, [], _∷_, _++_, map, length, take, drop, getD, set, all, joined}
-use Rattle.model.specs.Types.{Record, Decision, AtomicityUnit}
-use Rattle.types.specs.declared.Decision.the-variants.{Undecided, Committed, Aborted}
+use Rattle.model.specs.Types.{Record, Decision, Undecided, Committed, Aborted, AtomicityUnit}
 use Rattle.types.specs.declared.AtomicityUnit.the-variants.{Record as RecordUnit, Partition, Table, Namespace, Storage}
 use Rattle.model.specs.Layouts.{headLayout, lineLayout, decisionColumn, decisionField, coordinatorBytes, headFields}
 use Rattle.model.specs.Lines.{rowOf, lineText, lineSet, inRange, rowGood, linesOf, linesSet}
@@ -120,11 +119,7 @@ coordinatorNumbers c = headNumbers c ++ map decisionNumber (c .decisions)
 
 unfoldable pub coordinatorFrom : List ℕ → Coordinator
 coordinatorFrom v =
-    record {
-      issued = getD v 0 0;
-      units = map unitOf (take 9 (drop 1 v));
-      decisions = map decisionOf (drop headFields v);
-    }
+    record { issued = getD v 0 0; units = map unitOf (take 9 (drop 1 v)); decisions = map decisionOf (drop headFields v) }
 
 -- numbers in range that keep the rules
 unfoldable pub numbersAccepted : List ℕ → Bool

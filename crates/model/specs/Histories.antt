@@ -46,8 +46,7 @@ taken e = takenBy (e .call) (e .answer)
 -- over the events so far, the last one first
 abbrev pub Available : Transaction → List Event → Type 0
 Available t [] = ⊥
-Available t (e ∷ es) =
-    (returns (e .answer) ≡ some t) ⊎ ((taken e ≡ some t → ⊥) × Available t es)
+Available t (e ∷ es) = (returns (e .answer) ≡ some t) ⊎ ((taken e ≡ some t → ⊥) × Available t es)
 
 -- the clock reading of a call is a number below 2^32
 abbrev pub ClockFits : Call → Type 0

@@ -1,9 +1,8 @@
 -- What becomes of one record: prepared, committed in one phase, rolled forward or back; and what a visit comes to. Document 01, "Transaction".
 use Rattle.lists.specs.Basics.{ℕ, _+_, _-_, _%_, _^_, eqb, leb, Bool, true, false, not, _&&_, cond}
-use Rattle.model.specs.Types.{Image, Record, State, Decision, Columns, Entry, Recovery}
+use Rattle.model.specs.Types.{Image, Record, State, Decision, Columns, Entry, Recovery, Stays, Forward, Back, Again, Busy}
 use Rattle.types.specs.declared.State.the-variants.{Absent, Committed, Prepared}
 use Rattle.types.specs.declared.Decision.the-variants as Decided
-use Rattle.types.specs.declared.Recovery.the-variants.{Stays, Forward, Back, Again, Busy}
 use Rattle.model.specs.Records.{byState, noImage}
 
 -- pending: prepared by a transaction, and neither rolled forward nor back
@@ -35,27 +34,19 @@ changeIn r = record { column1 = r .image .column1; column2 = r .image .column2 }
 -- the image that a change writes under a number: "version + 1"
 abbrev pub writtenImage : ℕ → Change → Record → Image
 writtenImage n c r =
-    record {
-      version = r .image .version + 1;
-      txid = n;
-      column1 = c .column1;
-      column2 = c .column2;
-    }
+    record { version = r .image .version + 1; txid = n; column1 = c .column1; column2 = c .column2 }
 
 -- "write its lines PREPARED, old values to the before fields, version + 1, clock = now"
 unfoldable pub prepared : ℕ → ℕ → Change → Record → Record
-prepared n now c r =
-    record { key = r .key; state = Prepared; image = writtenImage n c r; before = r .image; clock = now }
+prepared n now c r = record { key = r .key; state = Prepared; image = writtenImage n c r; before = r .image; clock = now }
 
 -- one-phase: "write the puts as COMMITTED under this number, version + 1"
 unfoldable pub committed : ℕ → Change → Record → Record
-committed n c r =
-    record { key = r .key; state = Committed; image = writtenImage n c r; before = noImage; clock = 0 }
+committed n c r = record { key = r .key; state = Committed; image = writtenImage n c r; before = noImage; clock = 0 }
 
 -- "Forward: COMMITTED, before fields and clock 0."
 unfoldable pub rolledForward : Record → Record
-rolledForward r =
-    record { key = r .key; state = Committed; image = r .image; before = noImage; clock = 0 }
+rolledForward r = record { key = r .key; state = Committed; image = r .image; before = noImage; clock = 0 }
 
 -- the state of a before image: ABSENT if its version is 0
 abbrev pub beforeState : Image → State
@@ -63,8 +54,7 @@ beforeState m = cond (eqb (m .version) 0) Absent Committed
 
 -- "Back: the before image as COMMITTED, or ABSENT if its version is 0."
 unfoldable pub rolledBack : Record → Record
-rolledBack r =
-    record { key = r .key; state = beforeState (r .before); image = r .before; before = noImage; clock = 0 }
+rolledBack r = record { key = r .key; state = beforeState (r .before); image = r .before; before = noImage; clock = 0 }
 
 -- "the clock minus its prepare clock, modulo 4294967296"
 unfoldable pub elapsed : ℕ → ℕ → ℕ
@@ -82,8 +72,7 @@ byDecision Decided.Aborted u c a = a
 
 -- "Visit: a line not PREPARED stays. Owner COMMITTED: forward. Owner ABORTED: back. Undecided and expired: .. again"; not expired: refusal 12.
 unfoldable pub recovery : Record → Decision → Bool → Recovery
-recovery r owner expired =
-    cond (isPrepared r) (byDecision owner (cond expired Again Busy) Forward Back) Stays
+recovery r owner expired = cond (isPrepared r) (byDecision owner (cond expired Again Busy) Forward Back) Stays
 
 -- a choice by what a visit comes to
 abbrev pub byRecovery {ℓ} : {A : Type ℓ} → Recovery → A → A → A → A → A → A

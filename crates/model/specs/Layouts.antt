@@ -11,8 +11,7 @@ unfoldable pub words : Kind → List (List ℕ)
 words Figure = []
 words StateWord = bytes "    ABSENT" ∷ bytes " COMMITTED" ∷ bytes "  PREPARED" ∷ []
 words DecisionWord = bytes "         -" ∷ bytes " COMMITTED" ∷ bytes "   ABORTED" ∷ []
-words UnitLetter =
-    bytes "         R" ∷ bytes "         P" ∷ bytes "         T" ∷ bytes "         N" ∷ bytes "         S" ∷ []
+words UnitLetter = bytes "         R" ∷ bytes "         P" ∷ bytes "         T" ∷ bytes "         N" ∷ bytes "         S" ∷ []
 
 -- word n of a kind, ten spaces where there is none
 abbrev pub wordAt : Kind → ℕ → List ℕ

@@ -2,8 +2,7 @@
 -- Each follows by the case of the definition that it is about.
 use Rattle.lists.specs.Basics.{_≡_, refl, ℕ, false, List, all}
 use Rattle.lists.specs.All.{map-unmoved}
-use Rattle.model.specs.Types.{Key, Record, Transaction}
-use Rattle.types.specs.declared.Recovery.the-variants.{Again, Back}
+use Rattle.model.specs.Types.{Key, Record, Transaction, Back, Again}
 use Rattle.model.specs.Images.{preparedBy}
 use Rattle.model.specs.Writes.{Sheets, nothing, forward, back, isOf, lineAfter, linesAfter, decisionsAfter, apply}
 use Rattle.model.specs.Visits.{recoveryWrite}

@@ -26,13 +26,11 @@ byKind UnitLetter a b = b
 
 -- what a field holds: its number, or `Wrong`
 unfoldable pub fieldValue : Column → List ℕ → Scan
-fieldValue c s =
-    byKind (c .kind) (figure (c .low) (c .high) s) (wordFrom (c .width) (words (c .kind)) 0 s)
+fieldValue c s = byKind (c .kind) (figure (c .low) (c .high) s) (wordFrom (c .width) (words (c .kind)) 0 s)
 
 -- the field's bytes for a number
 unfoldable pub fieldBytes : Column → ℕ → List ℕ
-fieldBytes c v =
-    byKind (c .kind) (fieldText (c .width) v) (lastBytes (c .width) (wordAt (c .kind) v))
+fieldBytes c v = byKind (c .kind) (fieldText (c .width) v) (lastBytes (c .width) (wordAt (c .kind) v))
 
 -- a number that the field can hold
 unfoldable pub inRange : Column → ℕ → Bool

@@ -34,23 +34,12 @@ imageNumbers m = m .version ∷ m .txid ∷ m .column1 ∷ m .column2 ∷ []
 
 unfoldable pub keyOf : List ℕ → Key
 keyOf v =
-    record {
-      storage = getD v 0 0;
-      namespace = getD v 1 0;
-      table = getD v 2 0;
-      partition = getD v 3 0;
-      clustering = getD v 4 0;
-    }
+    record { storage = getD v 0 0; namespace = getD v 1 0; table = getD v 2 0; partition = getD v 3 0; clustering = getD v 4 0 }
 
 -- the image whose numbers start at place i
 unfoldable pub imageFrom : ℕ → List ℕ → Image
 imageFrom i v =
-    record {
-      version = getD v i 0;
-      txid = getD v (i + 1) 0;
-      column1 = getD v (i + 2) 0;
-      column2 = getD v (i + 3) 0;
-    }
+    record { version = getD v i 0; txid = getD v (i + 1) 0; column1 = getD v (i + 2) 0; column2 = getD v (i + 3) 0 }
 
 unfoldable pub recordOf : List ℕ → Record
 recordOf v =

@@ -1,7 +1,6 @@
 -- What demand 3 claims, of bytes, a history of turns on them and visits that follow it.
 use Rattle.lists.specs.Basics.{_≡_, ℕ, _<_, Bool, true, List, [], map, some, _⊎_}
-use Rattle.model.specs.Types.{Key, Record, Decision}
-use Rattle.types.specs.declared.Decision.the-variants.{Committed}
+use Rattle.model.specs.Types.{Key, Record, Decision, Committed}
 use Rattle.model.specs.Records.{records, recordsText}
 use Rattle.model.specs.Coordinator.{coordinatorOf, decision}
 use Rattle.model.specs.Images.{Change}

@@ -24,44 +24,27 @@ pub record Model : Type 0 where
 -- "a line for each key, at first the record sheet's"
 unfoldable pub firstModel : List Record → Model
 firstModel rs =
-    record {
-      line = λ (k : Key). lineOf k rs;
-      writes = λ (n : ℕ) (k : Key). none;
-      committed = [];
-    }
+    record { line = λ (k : Key). lineOf k rs; writes = λ (n : ℕ) (k : Key). none; committed = [] }
 
 -- "accepted begin: an empty page for the number given"
 unfoldable pub modelBegin : ℕ → Model → Model
 modelBegin n m =
-    record {
-      line = m .line;
-      writes = λ (i : ℕ). cond (eqb i n) (λ (k : Key). none) (m .writes i);
-      committed = m .committed;
-    }
+    record { line = m .line; writes = λ (i : ℕ). cond (eqb i n) (λ (k : Key). none) (m .writes i); committed = m .committed }
 
 -- "accepted put: key and columns go on that number's page, in place of earlier ones for the key"
 unfoldable pub modelPut : ℕ → Key → Change → Model → Model
 modelPut n k c m =
-    record {
-      line = m .line;
-      writes = λ (i : ℕ) (j : Key). cond (eqb i n && sameKey k j) (some c) (m .writes i j);
-      committed = m .committed;
-    }
+    record { line = m .line; writes = λ (i : ℕ) (j : Key). cond (eqb i n && sameKey k j) (some c) (m .writes i j); committed = m .committed }
 
 -- "the book's line becomes COMMITTED, version + 1, TxID its number, the page's columns, before fields and clock 0"
 unfoldable pub overwritten : ℕ → Option Change → Record → Record
 overwritten n none r = r
-overwritten n (some c) r =
-    record { key = r .key; state = Committed; image = writtenImage n c r; before = noImage; clock = 0 }
+overwritten n (some c) r = record { key = r .key; state = Committed; image = writtenImage n c r; before = noImage; clock = 0 }
 
 -- "the transaction is committed", for each key on its page
 unfoldable pub modelCommit : ℕ → Model → Model
 modelCommit n m =
-    record {
-      line = λ (k : Key). overwritten n (m .writes n k) (m .line k);
-      writes = m .writes;
-      committed = n ∷ m .committed;
-    }
+    record { line = λ (k : Key). overwritten n (m .writes n k) (m .line k); writes = m .writes; committed = n ∷ m .committed }
 
 -- "an accepted call that takes a transaction with verdict none and returns it committed"
 abbrev pub commitsIt : Option Transaction → Option Transaction → Bool

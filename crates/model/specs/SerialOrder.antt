@@ -38,8 +38,7 @@ lastPrepare t t′ = eqb (t .phase) preparePhase && (eqb (t′ .phase) validateP
 
 -- "those without .. in the order of the advance that left open": the step from open to check or done
 abbrev pub leftOpen : Transaction → Transaction → Bool
-leftOpen t t′ =
-    eqb (t .phase) openPhase && isEmpty (puts t) && (eqb (t′ .phase) validatePhase || eqb (t′ .phase) donePhase)
+leftOpen t t′ = eqb (t .phase) openPhase && isEmpty (puts t) && (eqb (t′ .phase) validatePhase || eqb (t′ .phase) donePhase)
 
 abbrev pub getsPlace : Transaction → Transaction → Bool
 getsPlace t t′ = lastPrepare t t′ || leftOpen t t′
@@ -65,8 +64,7 @@ placedBefore n (i ∷ ns) = cond (eqb n i) ns (placedBefore n ns)
 -- "those without [puts] once their verdict says so".
 unfoldable pub serialLine : List Record → Model → List ℕ → Key → Record
 serialLine rs m [] k = lineOf k rs
-serialLine rs m (n ∷ ns) k =
-    cond (isCommitted n m) (overwritten n (m .writes n k) (serialLine rs m ns k)) (serialLine rs m ns k)
+serialLine rs m (n ∷ ns) k = cond (isCommitted n m) (overwritten n (m .writes n k) (serialLine rs m ns k)) (serialLine rs m ns k)
 
 -- A read of a key that answered v and returned t′ saw this line: the answer is the entry that t′ holds for the key, "as last put, else as first read", and what
 -- that entry has as first read (version, TxID and columns; version 0 is absent) is the line's.

@@ -19,8 +19,7 @@ unfoldable pub allIssued : List ℕ → List ℕ → Bool
 allIssued rs cs = all (namesIssued (coordinatorOf cs .issued)) (records rs)
 
 unfoldable pub checkConditions : List ℕ → List ℕ → List Condition
-checkConditions rs cs =
-    refuse 1 (not (recordsAccepted rs)) ∷ refuse 2 (not (coordinatorAccepted cs && allIssued rs cs)) ∷ []
+checkConditions rs cs = refuse 1 (not (recordsAccepted rs)) ∷ refuse 2 (not (coordinatorAccepted cs && allIssued rs cs)) ∷ []
 
 -- Record sheet to numbers, one for each field, and back. The target is exactly as long as whole lines or records need.
 
@@ -32,12 +31,10 @@ unfoldable pub numbersRead : List ℕ → List ℕ → List ℕ
 numbersRead s target = unlessRefused (readRecordsConditions s target) (allNumbers (records s)) target
 
 unfoldable pub writeRecordsConditions : List ℕ → List ℕ → List Condition
-writeRecordsConditions v target =
-    refuse 1 (not (rowsAccepted v)) ∷ refuse 1 (not (eqb (length target) (length v / recordFields * recordBytes))) ∷ []
+writeRecordsConditions v target = refuse 1 (not (rowsAccepted v)) ∷ refuse 1 (not (eqb (length target) (length v / recordFields * recordBytes))) ∷ []
 
 unfoldable pub recordsWritten : List ℕ → List ℕ → List ℕ
-recordsWritten v target =
-    unlessRefused (writeRecordsConditions v target) (recordsText (map recordOf (rows v))) target
+recordsWritten v target = unlessRefused (writeRecordsConditions v target) (recordsText (map recordOf (rows v))) target
 
 -- Coordinator sheet to numbers, ten for the head and one for each line, and back.
 
@@ -48,8 +45,7 @@ readCoordinatorConditions s target =
     ∷ []
 
 unfoldable pub decisionsRead : List ℕ → List ℕ → List ℕ
-decisionsRead s target =
-    unlessRefused (readCoordinatorConditions s target) (coordinatorNumbers (coordinatorOf s)) target
+decisionsRead s target = unlessRefused (readCoordinatorConditions s target) (coordinatorNumbers (coordinatorOf s)) target
 
 unfoldable pub writeCoordinatorConditions : List ℕ → List ℕ → List Condition
 writeCoordinatorConditions v target =
@@ -58,14 +54,12 @@ writeCoordinatorConditions v target =
     ∷ []
 
 unfoldable pub coordinatorWritten : List ℕ → List ℕ → List ℕ
-coordinatorWritten v target =
-    unlessRefused (writeCoordinatorConditions v target) (coordinatorText (coordinatorFrom v)) target
+coordinatorWritten v target = unlessRefused (writeCoordinatorConditions v target) (coordinatorText (coordinatorFrom v)) target
 
 -- The look-up of a key.
 
 unfoldable pub lookupConditions : List ℕ → Key → List Condition
-lookupConditions s k =
-    refuse 1 (not (recordsAccepted s)) ∷ refuse 5 (not (keyInRange k)) ∷ refuse 6 (isMissing (found k (records s))) ∷ []
+lookupConditions s k = refuse 1 (not (recordsAccepted s)) ∷ refuse 5 (not (keyInRange k)) ∷ refuse 6 (isMissing (found k (records s))) ∷ []
 
 -- the bytes of the line at a place, none at no place
 unfoldable pub lineAt : List ℕ → Found → List ℕ

@@ -1,7 +1,6 @@
 -- The step table: what an advance does in each of the eight phases, whether or not it would be refused. Document 01, "Transaction".
 use Rattle.lists.specs.Basics.{ℕ, _+_, eqb, ltb, Bool, not, _&&_, cond, List, map, length, getD, all}
-use Rattle.model.specs.Types.{Key, AtomicityUnit, Entry, Transaction}
-use Rattle.types.specs.declared.Decision.the-variants.{Committed, Aborted}
+use Rattle.model.specs.Types.{Key, Committed, Aborted, AtomicityUnit, Entry, Transaction}
 use Rattle.model.specs.Records.{hasLine, lineOf}
 use Rattle.model.specs.Coordinator.{decision}
 use Rattle.model.specs.Transactions.{byPhase, preparePhase, validatePhase, decidePhase, withdrawPhase, finishPhase, undoPhase, donePhase}
@@ -50,8 +49,7 @@ onePhaseAllowed t s = eqb (groupsOf t s) 1 && not (isSerializable t)
 
 -- "no puts: to check if checked with entries, else done, committed"
 unfoldable pub openWithoutPuts : List AtomicityUnit → Transaction → Step
-openWithoutPuts us t =
-    cond (isEmpty (toValidate us t)) (record { transaction = commits t; write = nothing }) (to validatePhase t)
+openWithoutPuts us t = cond (isEmpty (toValidate us t)) (record { transaction = commits t; write = nothing }) (to validatePhase t)
 
 -- "if all conditions in the group hold, write the puts as COMMITTED under this number, version + 1, to done, committed (one-phase); if not, to withdraw"
 unfoldable pub onePhase : Transaction → Sheets → Step
@@ -61,8 +59,7 @@ onePhase t s =
     (to withdrawPhase t)
 
 unfoldable pub openStep : Transaction → Sheets → Step
-openStep t s =
-    cond (isEmpty (puts t)) (openWithoutPuts (unitsOf s) t) (cond (onePhaseAllowed t s) (onePhase t s) (to preparePhase t))
+openStep t s = cond (isEmpty (puts t)) (openWithoutPuts (unitsOf s) t) (cond (onePhaseAllowed t s) (onePhase t s) (to preparePhase t))
 
 -- "after the last check (if checked with entries not put) or decide"
 abbrev pub afterPrepare : List AtomicityUnit → Transaction → ℕ
@@ -78,10 +75,7 @@ nextGroup after t s =
 unfoldable pub prepareStep : Transaction → ℕ → Sheets → Step
 prepareStep t now s =
     cond (all (holds s) (groupAt t s))
-    (record {
-      transaction = nextGroup (afterPrepare (unitsOf s) t) t s;
-      write = prepare (t .number) now (groupAt t s);
-    })
+    (record { transaction = nextGroup (afterPrepare (unitsOf s) t) t s; write = prepare (t .number) now (groupAt t s) })
     (to withdrawPhase t)
 
 -- "next, after the last decide, or done, committed, without puts"
@@ -119,12 +113,10 @@ withdrawStep t s =
 
 -- "roll forward, or back, the group's lines that are PREPARED by this number, skip the rest; next group, then done"
 unfoldable pub finishStep : Transaction → Sheets → Step
-finishStep t s =
-    record { transaction = nextGroup donePhase t s; write = forward (t .number) (keysOf (groupAt t s)) }
+finishStep t s = record { transaction = nextGroup donePhase t s; write = forward (t .number) (keysOf (groupAt t s)) }
 
 unfoldable pub undoStep : Transaction → Sheets → Step
-undoStep t s =
-    record { transaction = nextGroup donePhase t s; write = back (t .number) (keysOf (groupAt t s)) }
+undoStep t s = record { transaction = nextGroup donePhase t s; write = back (t .number) (keysOf (groupAt t s)) }
 
 -- "Every call is a decision over eight phases."
 unfoldable pub step : Transaction → ℕ → Sheets → Step

@@ -76,8 +76,7 @@ unfoldable pub toValidate : List AtomicityUnit → Transaction → List Entry
 toValidate us t = filter (mustValidate us t) (held t)
 
 abbrev pub noEntry : Entry
-noEntry =
-    record { key = noRecord .key; seen = noImage; wrote = 0; put = record { column1 = 0; column2 = 0 } }
+noEntry = record { key = noRecord .key; seen = noImage; wrote = 0; put = record { column1 = 0; column2 = 0 } }
 
 abbrev pub isEmpty {ℓ} : {A : Type ℓ} → List A → Bool
 isEmpty [] = true

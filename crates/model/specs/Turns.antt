@@ -19,10 +19,7 @@ pub data Turn : Type 0 where
 unfoldable pub turnEvent : Turn → Sheets → Event
 turnEvent (single c) s = event answer after c s
 turnEvent (advanceAt list place now) s =
-    record {
-      call = advance (named list place) now;
-      answer = answerOf (advanceAtResult list place now s);
-    }
+    record { call = advance (named list place) now; answer = answerOf (advanceAtResult list place now s) }
 
 -- the sheets as the turn leaves them
 unfoldable pub turnAfter : Turn → Sheets → Sheets
@@ -49,10 +46,7 @@ expanded (x ∷ xs) s = comesTo x s ++ expanded xs (turnAfter x s)
 unfoldable pub turnEventOn : Turn → Bytes → Event
 turnEventOn (single c) b = event answerOn afterOn c b
 turnEventOn (advanceAt list place now) b =
-    record {
-      call = advance (named list place) now;
-      answer = answerOf (advanceAtOn list place now (b .records) (b .coordinator));
-    }
+    record { call = advance (named list place) now; answer = answerOf (advanceAtOn list place now (b .records) (b .coordinator)) }
 
 unfoldable pub turnAfterOn : Turn → Bytes → Bytes
 turnAfterOn (single c) b = afterOn c b
@@ -83,5 +77,4 @@ module _ {S : Type 0} (leaves : Turn → S → S) where
     -- a legal history of turns from these sheets, after these events
     abbrev pub LegalTurns : List Turn → S → List Event → Type 0
     LegalTurns [] s es = Unit {0}
-    LegalTurns (x ∷ xs) s es =
-        Permitted (events x s .call) (events x s .answer) es × LegalTurns xs (leaves x s) (events x s ∷ es)
+    LegalTurns (x ∷ xs) s es = Permitted (events x s .call) (events x s .answer) es × LegalTurns xs (leaves x s) (events x s ∷ es)

@@ -1,9 +1,11 @@
--- The types that code and specification share, passed on in one import. Declared in crates/types/src/lib.rt.
+-- The types that code and specification share, passed on in one import. Declared in crates/types/src/lib.rt. Where two of them have a variant of one
+-- name, it is the decision's or the recovery's here; that of a state or of a reading is brought in from its type.
 pub use Rattle.types.specs.declared.Key.{Key}
 pub use Rattle.types.specs.declared.Image.{Image}
 pub use Rattle.types.specs.declared.Record.{Record}
 pub use Rattle.types.specs.declared.State.{State}
 pub use Rattle.types.specs.declared.Decision.{Decision}
+pub use Rattle.types.specs.declared.Decision.the-variants.{Undecided, Committed, Aborted}
 pub use Rattle.types.specs.declared.AtomicityUnit.{AtomicityUnit}
 pub use Rattle.types.specs.declared.Layout.{Layout}
 pub use Rattle.types.specs.declared.Layout.the-variants.{RecordLine, KeyLine, CoordinatorHead, CoordinatorLine}
@@ -16,4 +18,5 @@ pub use Rattle.types.specs.declared.Columns.{Columns}
 pub use Rattle.types.specs.declared.Entry.{Entry}
 pub use Rattle.types.specs.declared.Transaction.{Transaction}
 pub use Rattle.types.specs.declared.Recovery.{Recovery}
+pub use Rattle.types.specs.declared.Recovery.the-variants.{Stays, Forward, Back, Again, Busy}
 pub use Rattle.types.specs.declared.Reading.{Reading}

@@ -34,14 +34,10 @@ inputFits input =
 -- "the coordinator sheet; the record sheet"
 abbrev pub inputSheets : List ℕ → Bytes
 inputSheets input =
-    record {
-      records = drop (firstBytes + coordinatorSize input) input;
-      coordinator = take (coordinatorSize input) (drop firstBytes input);
-    }
+    record { records = drop (firstBytes + coordinatorSize input) input; coordinator = take (coordinatorSize input) (drop firstBytes input) }
 
 unfoldable pub inputConditions : List ℕ → List Condition
-inputConditions input =
-    refuse 1 (not (inputFits input)) ∷ checkConditions (inputSheets input .records) (inputSheets input .coordinator)
+inputConditions input = refuse 1 (not (inputFits input)) ∷ checkConditions (inputSheets input .records) (inputSheets input .coordinator)
 
 -- the keys visited one after another, "passing over 12"
 unfoldable pub visitedAll : ℕ → List Key → Bytes → Bytes

@@ -1,7 +1,6 @@
 -- Meeting a line: what a visit of its key comes to, makes of the line and writes. Document 01, "Visit".
 use Rattle.lists.specs.Basics.{ℕ, Bool, true, false, [], _∷_}
-use Rattle.model.specs.Types.{Record, Decision, Recovery}
-use Rattle.types.specs.declared.Decision.the-variants.{Aborted}
+use Rattle.model.specs.Types.{Record, Decision, Aborted, Recovery}
 use Rattle.model.specs.Coordinator.{Coordinator, decision}
 use Rattle.model.specs.Images.{rolledForward, rolledBack, lineExpired, recovery, byRecovery}
 use Rattle.model.specs.Writes.{Write, nothing, decide, forward, back}

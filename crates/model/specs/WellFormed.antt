@@ -68,5 +68,4 @@ unfoldable pub linesHeld : List Record → Transaction → Bool
 linesHeld rs t = all (λ (e : Entry). hasLine (e .key) rs) (held t)
 
 unfoldable pub wellFormed : Sheets → Transaction → Bool
-wellFormed s t =
-    formed (s .coordinator .units) (s .coordinator .issued) t && linesHeld (s .lines) t
+wellFormed s t = formed (s .coordinator .units) (s .coordinator .issued) t && linesHeld (s .lines) t

@@ -82,8 +82,7 @@ pass-last issued ds i l p = left-last ds (decisionsPass (issued - i)) (decisions
 -- the decisions judged last
 reorder : (g a b c d z : Bool) → (g && a && (b && c && d && z)) ≡ (g && (b && (c && (d && (a && z)))))
 reorder false a b c d z = refl
-reorder true a b c d z =
-    and-swap true a (b && c && d) z ∙ (and-assoc (b && c) d (a && z) ∙ and-assoc b c (d && (a && z)))
+reorder true a b c d z = and-swap true a (b && c && d) z ∙ (and-assoc (b && c) d (a && z) ∙ and-assoc b c (d && (a && z)))
 
 -- the acceptance of numbers, in the order in which the code asks
 pub accepted-numbers : (v : List ℕ) → numbersAccepted v ≡ (leb headFields (length v) && (rowGood headLayout (take headFields v) && (leb 1 (length v - headFields) && (leb (length v - headFields) 999 && (leb (getD v 0 0) (length v - headFields) && decisionsPass (getD v 0 0) (drop headFields v))))))

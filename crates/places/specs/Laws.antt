@@ -49,8 +49,7 @@ drawn b from high l = go (ltb b from) refl (ltb high b) refl
     go false e true f =
         let n : high < b = ltb-true high b f in
         rw (e, f, lt-leb b high n, and-false) (ne-eqb high b (omega arith))
-    go false e false f =
-        rw (e, f, le-leb from b (ltb-false b from e), le-leb b high (ltb-false high b f)) (eq-eqb b b refl)
+    go false e false f = rw (e, f, le-leb from b (ltb-false b from e), le-leb b high (ltb-false high b f)) (eq-eqb b b refl)
 
 -- right of anything but a space a figure's column is a digit
 closed : (p b also : ℕ) → eqb p 32 ≡ false → judged p b 48 57 also ≡ isDigit b
@@ -169,8 +168,7 @@ in-number (suc k) least high p v (b ∷ s) l e h m n =
     digit-step p b 32 least high v (pass b (columns k least) s) s e h
     (λ d. let a : 48 ≤ b = search tests in
     let g : b ≤ 57 = search tests in
-    let r : (v * 10 + (b - 48) + 1) * 10 ^ suc k ≤ (v + 1) * 10 ^ suc (suc k) =
-    scale (v * 10 + (b - 48) + 1) (v + 1) (suc k) (omega arith) in
+    let r : (v * 10 + (b - 48) + 1) * 10 ^ suc k ≤ (v + 1) * 10 ^ suc (suc k) = scale (v * 10 + (b - 48) + 1) (v + 1) (suc k) (omega arith) in
     in-number k least high b (v * 10 + (b - 48)) s l (ne-eqb b 32 (omega arith)) (omega arith) (omega arith) (omega arith))
 
 -- a number that is too large with its columns to come stays so
@@ -178,8 +176,7 @@ too-large : (low high v : ℕ) (s : List ℕ) → high < v * 10 ^ length s → i
 unfolding scanned stepped within isNumber
 too-large low high v [] h = rw (lt-leb v high (omega arith), and-false)
 too-large low high v (b ∷ s) h =
-    let r : v * 10 ^ suc (length s) ≤ (v * 10 + (b - 48)) * 10 ^ length s =
-    scale-back (v * 10 + (b - 48)) v (length s) (omega arith) in
+    let r : v * 10 ^ suc (length s) ≤ (v * 10 + (b - 48)) * 10 ^ length s = scale-back (v * 10 + (b - 48)) v (length s) (omega arith) in
     go (eqb v 0) (isDigit b) (too-large low high (v * 10 + (b - 48)) s (omega arith))
   where
     go : (t u : Bool) → isNumber (within low high (scanned (Number (v * 10 + (b - 48))) s)) ≡ false

@@ -96,8 +96,7 @@ module _ (s t : List ℕ) (of-s : (i : ℕ) → getD s i 0 < 256) (of-t : (i : �
   same-length n a b f g = simp (length-take, length-drop) (omega arith)
 
   pub part-less : (n a b : ℕ) → a + n ≤ length s → b + n ≤ length t → less (bytesAt s n a) (bytesAt t n b) ≡ ltb (numberOf (bytesAt s n a)) (numberOf (bytesAt t n b))
-  part-less n a b f g =
-      less-is (bytesAt s n a) (bytesAt t n b) (part-bytes s n a of-s) (part-bytes t n b of-t) (same-length n a b f g)
+  part-less n a b f g = less-is (bytesAt s n a) (bytesAt t n b) (part-bytes s n a of-s) (part-bytes t n b of-t) (same-length n a b f g)
 
   -- of n and m bytes the first n decide as numbers, unless they are equal
   pub part-split : (n m a b : ℕ) → a + (n + m) ≤ length s → b + (n + m) ≤ length t

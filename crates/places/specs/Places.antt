@@ -22,8 +22,7 @@ judgedAt i p low high also line = judged p (getD line i 0) (getD low i 0) (getD 
 -- every byte of a line may stand in its place, where p is left of the line
 unfoldable pub placed : (p : ℕ) (low high also line : List ℕ) → Bool
 placed p low high also [] = true
-placed p low high also (b ∷ s) =
-    judged p b (getD low 0 0) (getD high 0 0) (getD also 0 0) && placed b (drop 1 low) (drop 1 high) (drop 1 also) s
+placed p low high also (b ∷ s) = judged p b (getD low 0 0) (getD high 0 0) (getD also 0 0) && placed b (drop 1 low) (drop 1 high) (drop 1 also) s
 
 -- each table has an entry for each byte of the line
 abbrev pub asLong : (line low high also : List ℕ) → Bool

@@ -34,8 +34,7 @@ module _ (us : List AtomicityUnit) (a b : Key) where
   by-scope f decided = go (eqb (a .storage) (b .storage)) refl
     where
       go : (e : Bool) → eqb (a .storage) (b .storage) ≡ e → f (take (unitFields (unitFor (a .storage) us)) (keyNumbers a)) (take (unitFields (unitFor (a .storage) us)) (keyNumbers b)) ≡ f (scope us a) (scope us b)
-      go true e =
-          ap (λ (n : ℕ). f (scope us a) (take (unitFields (unitFor n us)) (keyNumbers b))) (eqb-true (a .storage) (b .storage) e)
+      go true e = ap (λ (n : ℕ). f (scope us a) (take (unitFields (unitFor n us)) (keyNumbers b))) (eqb-true (a .storage) (b .storage) e)
       go false e =
           rw (some-field (unitFor (a .storage) us), some-field (unitFor (b .storage) us))
           (decided (unitFields (unitFor (a .storage) us) - 1) (unitFields (unitFor (b .storage) us) - 1) (a .storage) (b .storage) _ _ e)

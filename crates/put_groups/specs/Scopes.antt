@@ -141,16 +141,12 @@ next-key ks j = let e : j * 5 + 5 ≡ (j + 1) * 5 = omega arith in drop-drop 5 (
 module _ {A : Type 0} (g : List ℕ → List ℕ → A) (ks fs : List ℕ) (v : A) (j : ℕ) (p : WalkedTo g ks fs v j) where
   -- entry j and those after it
   walk-here : j < length fs → g (drop (j * 5) ks) (getD fs j 0 ∷ drop (j + 1) fs) ≡ v
-  walk-here l =
-      sym (ap (g (drop (j * 5) ks)) (drop-here fs j 0 (getD fs j 0) l refl)) ∙ p .rest
+  walk-here l = sym (ap (g (drop (j * 5) ks)) (drop-here fs j 0 (getD fs j 0) l refl)) ∙ p .rest
 
   -- past entry j, where g of lists that begin with it is h of the rest
   walk-next : (h : List ℕ → List ℕ → A) → j < length fs → g (drop (j * 5) ks) (getD fs j 0 ∷ drop (j + 1) fs) ≡ h (drop 5 (drop (j * 5) ks)) (drop (j + 1) fs) → WalkedTo h ks fs v (j + 1)
   walk-next h l e =
-      record {
-        place = omega arith;
-        rest = ap (λ (x : List ℕ). h x (drop (j + 1) fs)) (sym (next-key ks j)) ∙ (sym e ∙ walk-here l);
-      }
+      record { place = omega arith; rest = ap (λ (x : List ℕ). h x (drop (j + 1) fs)) (sym (next-key ks j)) ∙ (sym e ∙ walk-here l) }
 
   walk-last : length fs ≤ j → g (drop (j * 5) ks) [] ≡ v
   walk-last l = ap (g (drop (j * 5) ks)) (sym (drop-of-length-le fs l)) ∙ p .rest

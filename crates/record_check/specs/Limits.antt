@@ -69,8 +69,7 @@ row-set : (cs : List Column) (i : ℕ) (d : Column) (t : Bool) (v : List ℕ)
     → rowGood (set cs i d) v ≡ (rowGood cs v && t)
 unfolding rowGood
 row-set [] i d t v l e = absurd (omega arith)
-row-set (c ∷ cs) zero d t v l e =
-    ap (λ (x : Bool). x && rowGood cs (drop 1 v)) e ∙ and-move (inRange c (getD v 0 0)) t (rowGood cs (drop 1 v))
+row-set (c ∷ cs) zero d t v l e = ap (λ (x : Bool). x && rowGood cs (drop 1 v)) e ∙ and-move (inRange c (getD v 0 0)) t (rowGood cs (drop 1 v))
 row-set (c ∷ cs) (suc i) d t v l e =
     let g : getD (drop 1 v) i 0 ≡ getD v (suc i) 0 = getD-drop 1 v i 0 ∙ ap (λ (k : ℕ). getD v k 0) (omega arith) in
     ap (λ (x : Bool). inRange c (getD v 0 0) && x) (row-set cs i d t (drop 1 v) (omega arith) (rw g e))
@@ -102,10 +101,8 @@ limited-row (l ∷ ls) cs v o =
 same-opened : (ls : List Limit) (cs : List Column) → map opened (limited ls cs) ≡ map opened cs
 unfolding limited narrowed opened
 same-opened [] cs = refl
-same-opened (atLeast i n ∷ ls) cs =
-    map-set-same opened (limited ls cs) i (from n (getD (limited ls cs) i noColumn)) noColumn refl ∙ same-opened ls cs
-same-opened (atMost i n ∷ ls) cs =
-    map-set-same opened (limited ls cs) i (upTo n (getD (limited ls cs) i noColumn)) noColumn refl ∙ same-opened ls cs
+same-opened (atLeast i n ∷ ls) cs = map-set-same opened (limited ls cs) i (from n (getD (limited ls cs) i noColumn)) noColumn refl ∙ same-opened ls cs
+same-opened (atMost i n ∷ ls) cs = map-set-same opened (limited ls cs) i (upTo n (getD (limited ls cs) i noColumn)) noColumn refl ∙ same-opened ls cs
 
 -- the numbers of a line, read by the widest ranges
 abbrev pub widestRow : List Column → List ℕ → List ℕ

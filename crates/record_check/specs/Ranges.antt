@@ -43,12 +43,7 @@ module _ (p q : Column → List ℕ → Bool) (ok : Column → Bool)
 -- the column with the widest range: all that leaves a figure's first column blank, or all the words
 unfoldable pub opened : Column → Column
 opened c =
-    record {
-      width = c .width;
-      kind = c .kind;
-      low = 0;
-      high = byKind (c .kind) (most (c .width)) (length (words (c .kind)) - 1);
-    }
+    record { width = c .width; kind = c .kind; low = 0; high = byKind (c .kind) (most (c .width)) (length (words (c .kind)) - 1) }
 
 -- the field, read by the widest range, holds a number in the column's own range
 unfoldable pub held : Column → List ℕ → Bool

@@ -119,8 +119,7 @@ next-is w s t x y p q n m g h =
     let text : t ≡ a ++ ((48 + y % 10) ∷ []) = rw m at (written .0) in
     let room : y < 10 ^ suc w = rw m at (written .1) in
     let long : length a ≡ w = omega (arith, length-fieldText (suc w) y, length-append a ((48 + y % 10) ∷ [])) in
-    let end : getD t w 0 ≡ 48 + y % 10 =
-    ap (λ (r : List ℕ). getD r w 0) text ∙ rw long at (getD-append-seam a (48 + y % 10) [] 0) in
+    let end : getD t w 0 ≡ 48 + y % 10 = ap (λ (r : List ℕ). getD r w 0) text ∙ rw long at (getD-append-seam a (48 + y % 10) [] 0) in
     let nine : (getD t w 0 ≡ 57 → ⊥) = eqb-false (getD t w 0) 57 h in
     let tens : (y + 1) / 10 ≡ y / 10 = omega arith in
     let ones : (y + 1) % 10 ≡ y % 10 + 1 = omega arith in

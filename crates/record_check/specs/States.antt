@@ -111,8 +111,7 @@ kindWord k = take wordBytes (drop (k * wordBytes) kindWords)
 
 word-at : (k : ℕ) → k < length kinds → kindWord k ≡ wordAt StateWord (stateNumber (kindAt k .state))
 unfolding kindWords kinds joined stateNumber words bytes allBelow eqList
-word-at k l =
-    eqList-true _ _ (below (length kinds) (λ (i : ℕ). eqList (kindWord i) (wordAt StateWord (stateNumber (kindAt i .state)))) refl k l)
+word-at k l = eqList-true _ _ (below (length kinds) (λ (i : ℕ). eqList (kindWord i) (wordAt StateWord (stateNumber (kindAt i .state)))) refl k l)
 
 -- its first eight bytes as one number
 abbrev kindFront : ℕ → ℕ
@@ -125,8 +124,7 @@ stateTold front = bit (eqb front (kindFront 1)) + bit (eqb front (kindFront 2)) 
 -- each state word is told by its own bytes
 pub word-told : (n : ℕ) → n < length (words StateWord) → stateTold (loaded (take 8 (wordAt StateWord n))) ≡ n
 unfolding kindWords kinds joined stateNumber stateTold loaded words bytes allBelow
-word-told n l =
-    eqb-true _ n (below (length (words StateWord)) (λ (i : ℕ). eqb (stateTold (loaded (take 8 (wordAt StateWord i)))) i) refl n l)
+word-told n l = eqb-true _ n (below (length (words StateWord)) (λ (i : ℕ). eqb (stateTold (loaded (take 8 (wordAt StateWord i)))) i) refl n l)
 
 pub told-few : (front : ℕ) → stateTold front < length (words StateWord)
 unfolding kindWords kinds joined stateNumber stateTold loaded words bytes

@@ -3,9 +3,7 @@ use Rattle.lists.specs.Basics.{_≡_, refl, sym, ap, subst, _∙_, ℕ, _*_, _/
 use Rattle.lists.specs.Basics.{set, length-map, List·getD-map, arith, eq-eqb, lt-ltb, any, and-fst, choose-by, tests}
 use Rattle.lists.specs.Pieces.{over}
 use Rattle.lists.specs.All.{getD-any}
-use Rattle.types.specs.declared.Decision.the-variants.{Aborted}
-use Rattle.model.specs.Types.{Key, Record, At, Recovery}
-use Rattle.types.specs.declared.Recovery.the-variants.{Stays, Forward, Back, Again, Busy}
+use Rattle.model.specs.Types.{Key, Record, Aborted, At, Recovery, Stays, Forward, Back, Again, Busy}
 use Rattle.model.specs.Layouts.{recordBytes, coordinatorBytes}
 use Rattle.model.specs.Records.{noRecord, records, recordText, recordsText, recordsGood, goodAlone, sameKey, found, lineOf, preparedRule}
 use Rattle.model.specs.Coordinator.{Coordinator, coordinatorOf, namesIssued}

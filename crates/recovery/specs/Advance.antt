@@ -1,8 +1,7 @@
 -- An advance moves the settled lines as the model does, and what is remembered of its transaction stays true: phase by phase, a walk of the step table.
 use Rattle.lists.specs.Basics.{_≡_, refl, sym, ap, subst, _∙_, ℕ, _+_, _≤_, _<_, eqb, ltb, Bool, true, false, not, _&&_, cond, true≢false, and-false, length}
 use Rattle.lists.specs.Basics.{getD, none, arith, eqb-true, ltb-true, ltb-false, ne-eqb, le-ltb, all, and-fst, choose-by}
-use Rattle.model.specs.Types.{Key, Decision, Transaction}
-use Rattle.types.specs.declared.Decision.the-variants.{Undecided, Committed, Aborted}
+use Rattle.model.specs.Types.{Key, Decision, Undecided, Committed, Aborted, Transaction}
 use Rattle.model.specs.Records.{lineOf}
 use Rattle.model.specs.Coordinator.{decision}
 use Rattle.model.specs.Transactions.{preparePhase, validatePhase, decidePhase, withdrawPhase, finishPhase, undoPhase, donePhase, noVerdict, committedVerdict}

@@ -2,8 +2,7 @@
 -- abort and advance replace the state that they take.
 use Rattle.lists.specs.Basics.{_≡_, refl, sym, ap, subst, _∙_, ℕ, zero, suc, _+_, _≤_, _<_, eqb, Bool, true, false, not, _&&_, cond, true≢false, List, [], _∷_}
 use Rattle.lists.specs.Basics.{take, drop, getD, set, none, some, arith, add-one, eqb-true, eq-eqb, ne-eqb, not-false, all, and-snd, and-both, choose-by, tests}
-use Rattle.model.specs.Types.{Key, Record, Decision, Found, Nothing, Columns, Entry, Transaction, Recovery}
-use Rattle.types.specs.declared.Decision.the-variants.{Undecided, Committed, Aborted}
+use Rattle.model.specs.Types.{Key, Record, Decision, Undecided, Committed, Aborted, Found, Nothing, Columns, Entry, Transaction, Recovery}
 use Rattle.model.specs.Refusals.{refusalOf}
 use Rattle.model.specs.Records.{sameKey, lineOf, isMissing, byFound}
 use Rattle.model.specs.Coordinator.{Coordinator, decision, isUndecided, coordinatorGood}
@@ -111,8 +110,7 @@ module _ {base : ℕ} {one : ℕ → Bool} (s : Sheets) (es : List Event) (m : M
 
   kept-refused : (c : Call) (n : ℕ) → Kept c (refused n)
   unfolding modelStep returns
-  kept-refused c n g w a =
-      inv-free s es m nothing _ inv refl g gentle-nothing (λ j. away-nothing)
+  kept-refused c n g w a = inv-free s es m nothing _ inv refl g gentle-nothing (λ j. away-nothing)
 
   visit-kept : (k : Key) (now : ℕ) → refusalOf (conditions (visit k now) s) ≡ 0 → Kept (visit k now) (outcome (visit k now) s)
   unfolding outcome conditions testOf modelStep returns

@@ -1,8 +1,7 @@
 -- A transaction with puts is committed in the model exactly when its coordinator line says so or its one-phase write was made: from the count that the
 -- history keeps, which the visits of a recovery pass leave alone.
 use Rattle.lists.specs.Basics.{_≡_, refl, sym, ap, _∙_, ℕ, _<_, Bool, true, false, _||_, List, [], _∷_, map, none, some, Option·none-ne-some, _⊎_, inl, inr}
-use Rattle.model.specs.Types.{Key, Decision}
-use Rattle.types.specs.declared.Decision.the-variants.{Committed}
+use Rattle.model.specs.Types.{Key, Decision, Committed}
 use Rattle.model.specs.Images.{Change}
 use Rattle.model.specs.Records.{lineOf}
 use Rattle.model.specs.Coordinator.{decision}
@@ -54,17 +53,12 @@ or-none false = refl
 
 -- "A transaction with puts is committed exactly when its coordinator line says so or its one-phase write was made", for a number begun in the history.
 abbrev pub Exactly : ℕ → List Visit → List Call → Sheets → Type 0
-Exactly n vs cs s =
-    CommittedExactly (isCommitted n (modelOf cs s)) (decision n (recoveredBy vs cs s .coordinator)) (onePhaseIn written after n cs s)
+Exactly n vs cs s = CommittedExactly (isCommitted n (modelOf cs s)) (decision n (recoveredBy vs cs s .coordinator)) (onePhaseIn written after n cs s)
 
 -- the same of what is equal
 pub exactly-same : {a b : Bool} {d e : Decision} {o p : Bool} → a ≡ b → d ≡ e → o ≡ p → CommittedExactly a d o → CommittedExactly b e p
 exactly-same {d = d} {e = e} {o = o} {p = p} f g h x =
-    record {
-      only-if = λ q. either (x .only-if (f ∙ q));
-      decided = λ q. sym f ∙ x .decided (g ∙ q);
-      one-phased = λ q. sym f ∙ x .one-phased (h ∙ q);
-    }
+    record { only-if = λ q. either (x .only-if (f ∙ q)); decided = λ q. sym f ∙ x .decided (g ∙ q); one-phased = λ q. sym f ∙ x .one-phased (h ∙ q) }
   where
     either : (d ≡ Committed) ⊎ (o ≡ true) → (e ≡ Committed) ⊎ (p ≡ true)
     either (inl q) = inl (sym g ∙ q)

@@ -1,7 +1,6 @@
 -- What learners doubt, as corollaries of the invariant.
 use Rattle.lists.specs.Basics.{_≡_, sym, ap, _∙_, ℕ, _<_, Bool, true, false, _||_, List, [], _∷_, map}
-use Rattle.types.specs.declared.Decision.the-variants.{Undecided, Committed}
-use Rattle.model.specs.Types.{Key, Record}
+use Rattle.model.specs.Types.{Key, Record, Undecided, Committed}
 use Rattle.model.specs.Records.{lineOf}
 use Rattle.model.specs.Coordinator.{decision}
 use Rattle.model.specs.Images.{isPrepared, rolledBack}

@@ -2,8 +2,7 @@
 -- the same histories.
 use Rattle.lists.specs.Basics.{_≡_, refl, sym, ap, subst, _∙_, ℕ, _≤_, _<_, eqb, Bool, true, false, _||_, true≢false, List, _∷_, length, none, some}
 use Rattle.lists.specs.Basics.{Option·none-ne-some, Option·some-injective, _⊎_, inl, inr, arith, eqb-true, eqb-false, eq-eqb, any, or-else, or-left, or-right}
-use Rattle.types.specs.declared.Decision.the-variants.{Undecided, Committed, Aborted}
-use Rattle.model.specs.Types.{Key, Entry, Transaction}
+use Rattle.model.specs.Types.{Key, Undecided, Committed, Aborted, Entry, Transaction}
 use Rattle.model.specs.Results.{returns}
 use Rattle.model.specs.Coordinator.{decision}
 use Rattle.model.specs.Writes.{Sheets, Write, nothing, decide, commit, decisionsAfter, apply, isOnePhase}
@@ -189,8 +188,7 @@ module _ {base : ℕ} {one : ℕ → Bool} (s : Sheets) (es : List Event) (m m�
 
       -- a committed number is this one or was committed before
       either : {P : Type 0} (n : ℕ) → (eqb n (t .number) || isCommitted n m) ≡ true → (n ≡ t .number → P) → ((n ≡ t .number → ⊥) → isCommitted n m ≡ true → P) → P
-      either n h f g =
-          or-else (eqb n (t .number)) (isCommitted n m) h (λ p. f (eqb-true n (t .number) p)) (λ p k. g (eqb-false n (t .number) p) k)
+      either n h f g = or-else (eqb n (t .number)) (isCommitted n m) h (λ p. f (eqb-true n (t .number) p)) (λ p k. g (eqb-false n (t .number) p) k)
 
       bound-later : (n : ℕ) → n ≤ s .coordinator .issued → n ≤ decisionsAfter w (s .coordinator) .issued
       bound-later n x = let y : s .coordinator .issued ≤ decisionsAfter w (s .coordinator) .issued = issued-grows w (s .coordinator) in omega arith

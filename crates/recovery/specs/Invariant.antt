@@ -2,8 +2,7 @@
 -- put and prepared; one such state for each number. A call keeps it if its own state and the states of others do.
 use Rattle.lists.specs.Basics.{_≡_, refl, sym, ap, subst, _∙_, ℕ, _≤_, _<_, Bool, true, _||_, true≢false, List, _∷_, length, none, some, Option·none-ne-some}
 use Rattle.lists.specs.Basics.{Option·some-injective, inl, inr, arith, eqb-true, eq-eqb, or-else}
-use Rattle.types.specs.declared.Decision.the-variants.{Undecided}
-use Rattle.model.specs.Types.{Key, Transaction}
+use Rattle.model.specs.Types.{Key, Undecided, Transaction}
 use Rattle.model.specs.Results.{returns}
 use Rattle.model.specs.Records.{lineOf}
 use Rattle.model.specs.Coordinator.{decision}
@@ -66,8 +65,7 @@ number-fits s g t f =
 
 -- in open nothing is prepared
 pub open-unprepared : (s : Sheets) (m : Model) (t : Transaction) → Remembered s m t → t .phase ≡ 0 → (k : Key) → preparedChange (t .number) (lineOf k (s .lines)) ≡ none
-open-unprepared s m t r e k =
-    r .memory (omega (arith, e)) .changes (r .open-undecided e) k ∙ done-in-open (s .coordinator .units) t e k
+open-unprepared s m t r e k = r .memory (omega (arith, e)) .changes (r .open-undecided e) k ∙ done-in-open (s .coordinator .units) t e k
 
 -- the state of another number
 other-kept : (s : Sheets) (w : Write) (m m′ : Model) (u : Transaction) → GoodSheets s → Away s (u .number) w → ((k : Key) → m′ .writes (u .number) k ≡ m .writes (u .number) k) → Remembered s m u → Remembered (apply w s) m′ u
@@ -180,10 +178,7 @@ inv-free {base} {one} s es m w e inv rt g v a =
     finished : (n : ℕ) → oneAfter w one n ≡ true → Finished n (apply w s) (e ∷ es)
     finished n h =
         let o : one n ≡ true = ap (λ (b : Bool). b || one n) (sym (gentle-one s w v n)) ∙ h in
-        record {
-          silent = silent-kept n s w (a n) (inv .finished n o .silent);
-          done = λ u b q. inv .finished n o .done u (before u b) q;
-        }
+        record { silent = silent-kept n s w (a n) (inv .finished n o .silent); done = λ u b q. inv .finished n o .done u (before u b) q }
 
 -- A call that returns the state of a new number.
 pub inv-begun : {base : ℕ} {one : ℕ → Bool} (s : Sheets) (es : List Event) (m m′ : Model) (t′ : Transaction) (w : Write) (e : Event) → Inv base one s es m → s .coordinator .issued < t′ .number → returns (e .answer) ≡ some t′ → GoodSheets (apply w s) → Gentle s w → View (apply w s) m′ → ((j : ℕ) → Away s j w) → ((j : ℕ) (k : Key) → (j ≡ t′ .number → ⊥) → m′ .writes j k ≡ m .writes j k) → m′ .committed ≡ m .committed → Remembered (apply w s) m′ t′ → Inv base (oneAfter w one) (apply w s) (e ∷ es) m′
@@ -204,8 +199,7 @@ inv-begun {base} {one} s es m m′ t′ w e inv new rt g gentle v a o c own =
 
     known : (u : Transaction) → Available u (e ∷ es) → Remembered (apply w s) m′ u
     known u (inl q) = subst (Remembered (apply w s) m′) (Option·some-injective t′ u (sym rt ∙ q)) own
-    known u (inr b) =
-        other-kept s w m m′ u (inv .good) (a (u .number)) (λ k. o (u .number) k (apart u (b .1))) (inv .known u (b .1))
+    known u (inr b) = other-kept s w m m′ u (inv .good) (a (u .number)) (λ k. o (u .number) k (apart u (b .1))) (inv .known u (b .1))
 
     unique : (u x : Transaction) → Available u (e ∷ es) → Available x (e ∷ es) → u .number ≡ x .number → u ≡ x
     unique u x (inl p) (inl q) n = Option·some-injective u x (sym p ∙ q)

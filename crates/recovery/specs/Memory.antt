@@ -2,8 +2,7 @@
 -- those put in the groups done so far. Writes of others keep it.
 use Rattle.lists.specs.Basics.{_≡_, refl, sym, ap, _∙_, ℕ, zero, suc, eqb, ltb, Bool, true, false, _&&_, cond, and-false, List, [], _∷_, getD, set, Option}
 use Rattle.lists.specs.Basics.{none, some, Option·none-ne-some, eqb-true, eqb-false, ne-eqb, choose-by}
-use Rattle.model.specs.Types.{Key, Record, Decision, AtomicityUnit, Entry, Transaction}
-use Rattle.types.specs.declared.Decision.the-variants.{Undecided, Committed, Aborted}
+use Rattle.model.specs.Types.{Key, Record, Decision, Undecided, Committed, Aborted, AtomicityUnit, Entry, Transaction}
 use Rattle.model.specs.Records.{lineOf, sameKey}
 use Rattle.model.specs.Coordinator.{Coordinator, decision, withDecision}
 use Rattle.model.specs.Transactions.{byPhase, isPut, held, puts}
@@ -25,13 +24,11 @@ putIn k (e ∷ es) = cond (isPut e && sameKey (e .key) k) (some (changeOf e)) (p
 
 -- what a number has prepared on a line, if anything
 unfoldable pub preparedChange : ℕ → Record → Option Change
-preparedChange n r =
-    cond (preparedBy n r) (some (changeIn r)) none
+preparedChange n r = cond (preparedBy n r) (some (changeIn r)) none
 
 -- the groups done so far: none in open, those before the place in prepare, all in validate and decide
 unfoldable pub groupsDone : List AtomicityUnit → Transaction → ℕ
-groupsDone us t =
-    byPhase (t .phase) 0 (t .place) (groupCount us (puts t)) (groupCount us (puts t)) 0 0 0 0 0
+groupsDone us t = byPhase (t .phase) 0 (t .place) (groupCount us (puts t)) (groupCount us (puts t)) 0 0 0 0 0
 
 -- what is put for a key that is in a group done so far
 unfoldable pub doneAt : List AtomicityUnit → Transaction → Key → Option Change
@@ -106,10 +103,8 @@ module _ (s : Sheets) (j : ℕ) (u : decision j (s .coordinator) ≡ Undecided) 
       put-away i es (λ (e : Entry). committed i (changeOf e) r) m (λ e. not-prepared j (committed i (changeOf e) r) refl)
   away-columns w (away-prepare i now es n m) =
       put-away i es (λ (e : Entry). prepared i now (changeOf e) r) m (λ e. other-owner j (prepared i now (changeOf e) r) n)
-  away-columns w (away-forward i ks h) =
-      roll-away i ks (rolledForward r) (λ e. undecided-committed (sym u ∙ h e)) (forward-plain r)
-  away-columns w (away-back i ks h) =
-      roll-away i ks (rolledBack r) (λ e. undecided-aborted (sym u ∙ h e)) (back-plain r)
+  away-columns w (away-forward i ks h) = roll-away i ks (rolledForward r) (λ e. undecided-committed (sym u ∙ h e)) (forward-plain r)
+  away-columns w (away-back i ks h) = roll-away i ks (rolledBack r) (λ e. undecided-aborted (sym u ∙ h e)) (back-plain r)
 
 -- The decision.
 

@@ -1,9 +1,7 @@
 -- "if COMMITTED was written, the next reader finishes it": whoever next visits a line PREPARED by a COMMITTED owner, or reads it as a key that it doesn't hold,
 -- leaves it rolled forward, at any reading of the clock. The owner is decided, so that neither expiry nor refusal 12 is asked.
 use Rattle.lists.specs.Basics.{_≡_, refl, sym, ap, ap₂, _∙_, ℕ, _^_, _<_, Bool, true, false, _&&_, cond, true≢false, [], _∷_, choose-by}
-use Rattle.model.specs.Types.{Key, Record, Decision, Transaction, Recovery}
-use Rattle.types.specs.declared.Decision.the-variants.{Committed}
-use Rattle.types.specs.declared.Recovery.the-variants.{Stays, Forward, Back, Again, Busy}
+use Rattle.model.specs.Types.{Key, Record, Decision, Committed, Transaction, Recovery, Stays, Forward, Back, Again, Busy}
 use Rattle.model.specs.Records.{records, lineOf, hasLine}
 use Rattle.model.specs.Coordinator.{coordinatorOf, isUndecided}
 use Rattle.model.specs.Images.{isPrepared, byDecision, rolledForward, recovery}

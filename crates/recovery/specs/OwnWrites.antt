@@ -3,8 +3,7 @@
 use Rattle.lists.specs.Basics.{_≡_, refl, sym, ap, ap₂, _∙_, ℕ, _+_, _≤_, _<_, eqb, ltb, Bool, true, false, _&&_, cond, List, length, Option, none, some, arith}
 use Rattle.lists.specs.Basics.{eqb-true, eqb-false, ltb-true, ltb-false, eq-eqb, lt-ltb, le-ltb, choose-by, tests}
 use Rattle.types.specs.declared.State.the-variants as State
-use Rattle.model.specs.Types.{Key, Record, AtomicityUnit, Entry, Transaction}
-use Rattle.types.specs.declared.Decision.the-variants.{Undecided, Committed}
+use Rattle.model.specs.Types.{Key, Record, Undecided, Committed, AtomicityUnit, Entry, Transaction}
 use Rattle.model.specs.Records.{lineOf, preparedRule, noImage}
 use Rattle.model.specs.Coordinator.{Coordinator, decision, withDecision}
 use Rattle.model.specs.Transactions.{held, puts}
@@ -27,8 +26,7 @@ abbrev pub doneTo : List AtomicityUnit → Transaction → ℕ → Key → Optio
 doneTo us t p k = cond (ltb (groupPlace us (puts t) k) p) (putIn k (held t)) none
 
 pub no-put : (us : List AtomicityUnit) (t : Transaction) (p : ℕ) (k : Key) → putIn k (held t) ≡ none → doneTo us t p k ≡ none
-no-put us t p k e =
-    choose-by (λ (x : Option Change). x ≡ none) (ltb (groupPlace us (puts t) k) p) (λ b. e) (λ b. refl)
+no-put us t p k e = choose-by (λ (x : Option Change). x ≡ none) (ltb (groupPlace us (puts t) k) p) (λ b. e) (λ b. refl)
 
 -- a key with a put is in one of the groups
 pub all-done : (us : List AtomicityUnit) (t : Transaction) (k : Key) → doneTo us t (groupCount us (puts t)) k ≡ putIn k (held t)
@@ -200,8 +198,7 @@ module _ (s : Sheets) (good : GoodSheets s) (t : Transaction) where
           ap (λ (x : ℕ). decision x (withDecision n Committed (s .coordinator))) o ∙ decided-own n Committed (s .coordinator) one known in
           let b : m .line k ≡ rolledBack r =
           sym (v k) ∙ settled-back (s .coordinator) r p (λ e. undecided-committed (sym u ∙ (ap (λ (x : ℕ). decision x (s .coordinator)) (sym o) ∙ e))) in
-          let c : putIn k (held t) ≡ some (changeIn r) =
-          sym (done k) ∙ prepared-some n r q in
+          let c : putIn k (held t) ≡ some (changeIn r) = sym (done k) ∙ prepared-some n r q in
           settled-by (withDecision n Committed (s .coordinator)) r Committed p d
           ∙ (forward-overwrites n r (when-prepared r p (own-rule s good k)) o
           ∙ ap₂ (λ (y : Option Change) (z : Record). overwritten n y z) (sym c) (sym b))

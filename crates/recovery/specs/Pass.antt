@@ -2,9 +2,7 @@
 -- prepared, and then every line is its settled line.
 use Rattle.lists.specs.Basics.{_≡_, refl, sym, ap, ap₂, subst, _∙_, ℕ, zero, suc, _+_, _^_, _≤_, _<_, eqb, Bool, true, false, _&&_, cond, true≢false, List, []}
 use Rattle.lists.specs.Basics.{_∷_, map, length, arith, eq-eqb, any, count, choose-by, tests}
-use Rattle.model.specs.Types.{Key, Record, Decision, Recovery}
-use Rattle.types.specs.declared.Decision.the-variants.{Undecided, Aborted}
-use Rattle.types.specs.declared.Recovery.the-variants.{Stays, Forward, Back, Again, Busy}
+use Rattle.model.specs.Types.{Key, Record, Decision, Undecided, Aborted, Recovery, Stays, Forward, Back, Again, Busy}
 use Rattle.model.specs.Calls.{outcome, result}
 use Rattle.model.specs.Records.{sameKey, lineOf, hasLine, keyInRange, preparedRule}
 use Rattle.model.specs.Coordinator.{decision, withDecision, isUndecided}
@@ -94,8 +92,7 @@ rank-kept (suc zero) s w k v a = λ p u.
     let e : lineOf k (apply w s .lines) ≡ lineOf k (s .lines) = l ∙ prepared-before w v (lineOf k (s .lines)) q in
     a (ap isPrepared (sym e) ∙ p)
     (undecided-before w v s (lineOf k (s .lines) .image .txid) (ap (λ (r : Record). ownerDecision r (decisionsAfter w (s .coordinator))) (sym e) ∙ u))
-rank-kept (suc (suc n)) s w k v a =
-    ap isPrepared (line-after s w (visiting-still (s .lines) w v) k) ∙ settled-stays w v (lineOf k (s .lines)) a
+rank-kept (suc (suc n)) s w k v a = ap isPrepared (line-after s w (visiting-still (s .lines) w v) k) ∙ settled-stays w v (lineOf k (s .lines)) a
 
 -- A visit at a reading at which an undecided line has expired.
 module _ (s : Sheets) (good : GoodSheets s) (k : Key) (now : ℕ) (listed : listsKey k (s .lines) ≡ true) (expiring : lineUndecided s (lineOf k (s .lines)) ≡ true → ownerExpired now (lineOf k (s .lines)) ≡ true) where
@@ -237,8 +234,7 @@ pub record Passed (m : Model) (vs : List Visit) (s s′ : Sheets) : Type 0 where
 
 pub pass-kept : (m : Model) (vs : List Visit) (s : Sheets) → GoodSheets s → View s m → Expiring (λ (x : Sheets). x) after vs s → Passed m vs s (leftBy answer after (map visitCall vs) s)
 unfolding leftBy count
-pass-kept m [] s g w x =
-    record { good = g; view = w; rank = λ k n p h l a. lower n p s k (omega arith) a; lists = λ k. refl }
+pass-kept m [] s g w x = record { good = g; view = w; rank = λ k n p h l a. lower n p s k (omega arith) a; lists = λ k. refl }
 pass-kept m (v ∷ vs) s g w x =
     let r = pass-kept m vs (after (visitCall v) s) (visit-good m v (x .0) s g) (visit-view m v (x .0) s g w) (x .1 .1) in
     record {

@@ -59,8 +59,7 @@ fits-then s s′ g x k u = go (listsKey k (s .lines)) refl
     p = and-fst (isPrepared (lineOf k (s′ .lines))) (isUndecided (ownerDecision (lineOf k (s′ .lines)) (s′ .coordinator))) u
 
     go : (b : Bool) → listsKey k (s .lines) ≡ b → ownerExpired (reading (lineOf k (s .lines))) (lineOf k (s′ .lines)) ≡ true
-    go true h =
-        ap (lineExpired (reading (lineOf k (s .lines)))) (x .line k h p) ∙ expired-then (lineOf k (s .lines)) (listed-good s g k h .clock)
+    go true h = ap (lineExpired (reading (lineOf k (s .lines)))) (x .line k h p) ∙ expired-then (lineOf k (s .lines)) (listed-good s g k h .clock)
     go false h = absurd (true≢false (sym p ∙ ap isPrepared (unlisted k (s′ .lines) (x .lists k ∙ h))))
 
 expiring-for : (ks : List Key) (s s′ : Sheets) → GoodSheets s → Same s s′ → Expiring (λ (y : Sheets). y) after (map (visitFor s) ks) s′

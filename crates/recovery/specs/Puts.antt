@@ -68,8 +68,7 @@ pub put-in-more : (k : Key) (x : Entry) → isPut x ≡ false → (n : ℕ) (es 
 unfolding putIn
 put-in-more k x h n [] = put-in-none k n
 put-in-more k x h zero (e ∷ es) = rw h refl
-put-in-more k x h (suc n) (e ∷ es) =
-    ap (cond (isPut e && sameKey (e .key) k) (some (e .put))) (put-in-more k x h n es)
+put-in-more k x h (suc n) (e ∷ es) = ap (cond (isPut e && sameKey (e .key) k) (some (e .put))) (put-in-more k x h n es)
 
 -- One entry replaced by one of the same key with a put.
 

@@ -3,8 +3,7 @@
 use Rattle.lists.specs.Basics.{_≡_, refl, sym, ap, ap₂, _∙_, ℕ, zero, suc, _+_, _≤_, eqb, Bool, true, false, cond, List, [], _∷_, length, getD, set, Option}
 use Rattle.lists.specs.Basics.{none, some, arith, eqb-true, eqb-false, choose-by, tests}
 use lib.Seq.{getD-set-same, getD-set-other}
-use Rattle.model.specs.Types.{Key, Record, Decision, Entry}
-use Rattle.types.specs.declared.Decision.the-variants.{Undecided, Committed, Aborted}
+use Rattle.model.specs.Types.{Key, Record, Decision, Undecided, Committed, Aborted, Entry}
 use Rattle.model.specs.Records.{lineOf, stateRule}
 use Rattle.model.specs.Coordinator.{Coordinator, decisionNumber, decision, withDecision, withIssued}
 use Rattle.model.specs.Images.{isPrepared, preparedBy, prepared, rolledForward, rolledBack, byDecision, Change, changeOf}
@@ -15,8 +14,7 @@ use Rattle.call_laws.specs.Lines.{Still, still-nothing, still-issue, still-deci
 use Rattle.call_laws.specs.Sheets.{MayPutAll, still-prepare}
 
 unfoldable pub settle : Coordinator → Record → Record
-settle c r =
-    cond (isPrepared r) (byDecision (ownerDecision r c) (rolledBack r) (rolledForward r) (rolledBack r)) r
+settle c r = cond (isPrepared r) (byDecision (ownerDecision r c) (rolledBack r) (rolledForward r) (rolledBack r)) r
 
 -- A decision that was written, and the others.
 
@@ -39,8 +37,7 @@ settled-plain c r p = ap (λ (b : Bool). cond b (byDecision (ownerDecision r c) 
 
 pub settled-by : (c : Coordinator) (r : Record) (d : Decision) → isPrepared r ≡ true → ownerDecision r c ≡ d → settle c r ≡ byDecision d (rolledBack r) (rolledForward r) (rolledBack r)
 unfolding settle
-settled-by c r d p e =
-    ap₂ (λ (b : Bool) (x : Decision). cond b (byDecision x (rolledBack r) (rolledForward r) (rolledBack r)) r) p e
+settled-by c r d p e = ap₂ (λ (b : Bool) (x : Decision). cond b (byDecision x (rolledBack r) (rolledForward r) (rolledBack r)) r) p e
 
 -- The writes that leave every settled line alone.
 pub data Gentle (s : Sheets) : Write → Type 0 where
@@ -90,8 +87,7 @@ pub abort-commits-none : (c : Coordinator) (i j : ℕ) → decision j (withDecis
 abort-commits-none c i j e = go (eqb i j) refl
   where
     go : (b : Bool) → eqb i j ≡ b → decision j c ≡ Committed
-    go true q =
-        absurd (own-aborted j c (ap (λ (x : ℕ). decision j (withDecision x Aborted c)) (sym (eqb-true i j q)) ∙ e))
+    go true q = absurd (own-aborted j c (ap (λ (x : ℕ). decision j (withDecision x Aborted c)) (sym (eqb-true i j q)) ∙ e))
     go false q = sym (decided-other i j Aborted c (eqb-false i j q)) ∙ e
 
 -- a line before and after ABORTED is written for an undecided number
@@ -126,8 +122,7 @@ rolled-settled d c n ks r x p q e =
 -- a line that is prepared by a number without COMMITTED still counts as it was
 prepare-settled : (c : Coordinator) (n now : ℕ) (x : Change) (r : Record) → stateRule r ≡ true → isPrepared r ≡ false → (decision n c ≡ Committed → ⊥) → settle c (prepared n now x r) ≡ settle c r
 unfolding prepared
-prepare-settled c n now x r g f d =
-    settled-back c (prepared n now x r) refl d ∙ (back-is-before n now x r f g ∙ sym (settled-plain c r f))
+prepare-settled c n now x r g f d = settled-back c (prepared n now x r) refl d ∙ (back-is-before n now x r f g ∙ sym (settled-plain c r f))
 
 -- one more number decides nothing
 pub issued-decision : (n j : ℕ) (c : Coordinator) → decision j (withIssued n c) ≡ decision j c

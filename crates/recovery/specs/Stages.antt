@@ -39,10 +39,8 @@ module _ (us : List AtomicityUnit) (t : Transaction) where
   -- in validate and decide all
   pub done-in-validate : t .phase ≡ 2 → (k : Key) → doneAt us t k ≡ putIn k (held t)
   unfolding groupsDone puts held
-  done-in-validate e k =
-      done-to (groupCount us (puts t)) (ap (λ (p : ℕ). groupsDone us (moved p (t .place) (t .verdict) t)) e) k ∙ all-done us t k
+  done-in-validate e k = done-to (groupCount us (puts t)) (ap (λ (p : ℕ). groupsDone us (moved p (t .place) (t .verdict) t)) e) k ∙ all-done us t k
 
   pub done-in-decide : t .phase ≡ 3 → (k : Key) → doneAt us t k ≡ putIn k (held t)
   unfolding groupsDone puts held
-  done-in-decide e k =
-      done-to (groupCount us (puts t)) (ap (λ (p : ℕ). groupsDone us (moved p (t .place) (t .verdict) t)) e) k ∙ all-done us t k
+  done-in-decide e k = done-to (groupCount us (puts t)) (ap (λ (p : ℕ). groupsDone us (moved p (t .place) (t .verdict) t)) e) k ∙ all-done us t k

@@ -39,8 +39,7 @@ own-rule s g k = by-line (λ (r : Record). stateRule r ≡ true) k (s .lines) (�
 
 -- and names an issued number
 pub own-txid : (s : Sheets) → GoodSheets s → (k : Key) → lineOf k (s .lines) .image .txid ≤ s .coordinator .issued
-own-txid s g k =
-    by-line (λ (r : Record). r .image .txid ≤ s .coordinator .issued) k (s .lines) (λ h. listed-good s g k h .txid) (omega arith)
+own-txid s g k = by-line (λ (r : Record). r .image .txid ≤ s .coordinator .issued) k (s .lines) (λ h. listed-good s g k h .txid) (omega arith)
 
 -- the line of a key after a write that leaves keys without a line as they are
 pub line-after : (s : Sheets) (w : Write) → Still (s .lines) w → (k : Key) → lineOf k (apply w s .lines) ≡ lineAfter w (lineOf k (s .lines))

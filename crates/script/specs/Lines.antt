@@ -121,8 +121,7 @@ said line = calledBy (words line)
 
 -- by what the two tests say
 pub called-by : (k : Kind) (n : Numbers) (b d : Bool) → n .good ≡ b → eqb (n .count) (arity k) ≡ d → cond (b && d) (record { kind = k; numbers = n .values }) badCommand ≡ called k n
-called-by k n b d e f =
-    ap₂ (λ (x y : Bool). cond (x && y) (record { kind = k; numbers = n .values }) badCommand) (sym e) (sym f)
+called-by k n b d e f = ap₂ (λ (x y : Bool). cond (x && y) (record { kind = k; numbers = n .values }) badCommand) (sym e) (sym f)
 
 -- How it is read: up to the first space, then word by word.
 
@@ -198,8 +197,7 @@ next-word line n at end size l e f =
     let s = drop (at + 1) line in
     let k : size ≡ length (upTo 32 s) = omega arith in
     let w : take size s ≡ upTo 32 s = ap (λ (j : ℕ). take j s) k ∙ take-up-to 32 s in
-    let r : drop end line ≡ from 32 s =
-    ap (λ (j : ℕ). drop j line) e ∙ (sym (drop-drop (length (upTo 32 s)) (at + 1) line) ∙ drop-up-to 32 s) in
+    let r : drop end line ≡ from 32 s = ap (λ (j : ℕ). drop j line) e ∙ (sym (drop-drop (length (upTo 32 s)) (at + 1) line) ∙ drop-up-to 32 s) in
     let h : wordsAfter (drop at line) ≡ upTo 32 s ∷ wordsAfter (from 32 s) =
     ap wordsAfter (drop-cons line at 0 l) ∙ (ap (λ (j : ℕ). words (drop j line)) (sym (add-one at)) ∙ first-word s) in
     ap₂ (λ (x y : List ℕ). withWords (withWord n x) (wordsAfter y)) w r ∙ ap (withWords n) (sym h)

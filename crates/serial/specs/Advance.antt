@@ -4,8 +4,7 @@ use Rattle.lists.specs.Basics.{_≡_, refl, sym, ap, subst, _∙_, ℕ, zero, s
 use Rattle.lists.specs.Basics.{List, _∷_, length, getD, none, some, Option·none-ne-some, _⊎_, inl, inr, arith, eqb-true, ltb-true, ltb-false, eq-eqb, ne-eqb}
 use Rattle.lists.specs.Basics.{le-ltb, not-true, all, and-snd, choose-by}
 use Rattle.lists.specs.Members.{Mem, mem-passes, mem-filter}
-use Rattle.model.specs.Types.{Key, Record, Decision, Entry, Transaction}
-use Rattle.types.specs.declared.Decision.the-variants.{Undecided, Committed, Aborted}
+use Rattle.model.specs.Types.{Key, Record, Decision, Undecided, Committed, Aborted, Entry, Transaction}
 use Rattle.model.specs.Coordinator.{decision}
 use Rattle.model.specs.Groups.{groupCount, groupPlace, group}
 use Rattle.model.specs.Images.{Change}

@@ -2,8 +2,7 @@
 -- one in open, abort one past decide, and advance one of the step table. A new entry is what the visit of its line left, which is the model's line.
 use Rattle.lists.specs.Basics.{_≡_, refl, sym, ap, subst, _∙_, ℕ, _+_, _<_, eqb, leb, Bool, true, false, not, _&&_, cond, true≢false, List, _∷_, length, getD}
 use Rattle.lists.specs.Basics.{length-set, some, Option·none-ne-some, Option·some-injective, arith, eqb-true, leb-false, not-false, choose-by}
-use Rattle.model.specs.Types.{Key, Record, Found, At, Columns, Entry, Transaction, Recovery, Reading}
-use Rattle.types.specs.declared.Decision.the-variants.{Committed, Aborted}
+use Rattle.model.specs.Types.{Key, Record, Committed, Aborted, Found, At, Columns, Entry, Transaction, Recovery, Reading}
 use Rattle.types.specs.declared.Reading.the-variants.{Again}
 use Rattle.model.specs.Refusals.{refusalOf}
 use Rattle.model.specs.Records.{lineOf, sameKey, byFound}
@@ -159,8 +158,7 @@ module _ {first : Key → Record} {s : Sheets} {es : List Event} {m : Model} {ps
   comes-back : {w : Write} {e : Event} {m′ : Model} (t : Transaction) → Handover s w es e m m′ t t → Away s (t .number) w → t .phase ≡ 0
       → m′ .line ≡ m .line → m′ .committed ≡ m .committed → Told (e ∷ es) (e .call) (e .answer)
       → SoFar first (apply w s) (e ∷ es) m′ (placedAs (some t) (some t) ps)
-  comes-back t h away ph lines committed new =
-      opens t t h away ph ph lines committed refl refl (o .aged t (h .available)) (holds-same t t refl) new
+  comes-back t h away ph lines committed new = opens t t h away ph ph lines committed refl refl (o .aged t (h .available)) (holds-same t t refl) new
 
   in-open : (t : Transaction) → not (eqb (t .phase) 0) ≡ false → t .phase ≡ 0
   in-open t c = eqb-true (t .phase) 0 (not-false (eqb (t .phase) 0) c)

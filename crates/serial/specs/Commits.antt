@@ -3,8 +3,7 @@
 use Rattle.lists.specs.Basics.{_≡_, refl, sym, ap, subst, _∙_, ℕ, _≤_, eqb, true, false, List, _∷_, Option, none, some, Option·none-ne-some, _⊎_, inl, inr}
 use Rattle.lists.specs.Basics.{arith, eqb-true, eq-eqb, ne-eqb, any, or-else, or-left}
 use Rattle.lists.specs.Members.{Mem, here}
-use Rattle.types.specs.declared.Decision.the-variants.{Undecided, Committed}
-use Rattle.model.specs.Types.{Key, Record, Entry, Transaction}
+use Rattle.model.specs.Types.{Key, Record, Undecided, Committed, Entry, Transaction}
 use Rattle.model.specs.Records.{lineOf}
 use Rattle.model.specs.Coordinator.{decision}
 use Rattle.model.specs.Images.{Change}

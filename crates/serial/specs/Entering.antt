@@ -2,8 +2,7 @@
 -- and no one in doubt puts to their lines, which it has prepared itself.
 use Rattle.lists.specs.Basics.{_≡_, refl, sym, ap, subst, _∙_, ℕ, _≤_, true, false, true≢false, List, _∷_, none, inl, inr, arith}
 use Rattle.lists.specs.Members.{Mem, here, there, mem-none}
-use Rattle.types.specs.declared.Decision.the-variants.{Undecided}
-use Rattle.model.specs.Types.{Key, Record, Entry, Transaction}
+use Rattle.model.specs.Types.{Key, Record, Undecided, Entry, Transaction}
 use Rattle.model.specs.Coordinator.{decision}
 use Rattle.model.specs.Transactions.{held, isPut, puts, toValidate, isEmpty, moved}
 use Rattle.model.specs.Writes.{Sheets, Write, apply}

@@ -45,8 +45,7 @@ put-entry k (e ∷ es) c h = go (isPut e && sameKey (e .key) k) refl h (put-entr
 -- something is put for the key of a put
 pub put-there : (e : Entry) (es : List Entry) → Mem e es → isPut e ≡ true → (c : Change) × (putIn (e .key) es ≡ some c)
 unfolding putIn
-put-there e (x ∷ es) here p =
-    (changeOf e, ap₂ (λ (a b : Bool). cond (a && b) (some (changeOf e)) (putIn (e .key) es)) p (same-key-refl (e .key)))
+put-there e (x ∷ es) here p = (changeOf e, ap₂ (λ (a b : Bool). cond (a && b) (some (changeOf e)) (putIn (e .key) es)) p (same-key-refl (e .key)))
 put-there e (x ∷ es) (there m) p = go (isPut x && sameKey (x .key) (e .key)) refl (put-there e es m p)
   where
     go : (b : Bool) → (isPut x && sameKey (x .key) (e .key)) ≡ b → (c : Change) × (putIn (e .key) es ≡ some c)

@@ -3,8 +3,7 @@
 use Rattle.lists.specs.Basics.{_≡_, refl, sym, ap, subst, _∙_, ℕ, _≤_, eqb, Bool, true, false, List, _∷_, length, Option, none, some, Option·some-injective}
 use Rattle.lists.specs.Basics.{_⊎_, inl, inr, eqb-true, eqb-false}
 use Rattle.lists.specs.Members.{Mem, here, there}
-use Rattle.model.specs.Types.{Key, Record, AtomicityUnit, Entry, Transaction}
-use Rattle.types.specs.declared.Decision.the-variants.{Undecided}
+use Rattle.model.specs.Types.{Key, Record, Undecided, AtomicityUnit, Entry, Transaction}
 use Rattle.model.specs.Results.{returns}
 use Rattle.model.specs.Coordinator.{decision}
 use Rattle.model.specs.Images.{Change}
@@ -63,8 +62,7 @@ module _ {s : Sheets} {w : Write} {es : List Event} {e : Event} {m m′ : Model}
 
   -- the states of other numbers
   pub was-available : (u : Transaction) → Available u (e ∷ es) → (u .number ≡ t .number → ⊥) → Available u es
-  was-available u (inl q) d =
-      absurd (d (ap (λ (x : Transaction). x .number) (Option·some-injective u t′ (sym q ∙ h .gives)) ∙ h .number))
+  was-available u (inl q) d = absurd (d (ap (λ (x : Transaction). x .number) (Option·some-injective u t′ (sym q ∙ h .gives)) ∙ h .number))
   was-available u (inr b) d = b .1
 
   pub still-available : (u : Transaction) → Available u es → (u .number ≡ t .number → ⊥) → Available u (e ∷ es)

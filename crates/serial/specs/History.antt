@@ -27,8 +27,7 @@ call-keeps c s es m inv p q k = result-keeps (facts inv) k c q (facts (call-kept
 earlier : (p : Event → Bool) (cs : List Call) (s : Sheets) (es : List Event) → all p (eventsAfter answer after cs s es) ≡ true → all p es ≡ true
 unfolding all eventsAfter
 earlier p [] s es h = h
-earlier p (c ∷ cs) s es h =
-    and-snd (p (event answer after c s)) (all p es) (earlier p cs (after c s) (event answer after c s ∷ es) h)
+earlier p (c ∷ cs) s es h = and-snd (p (event answer after c s)) (all p es) (earlier p cs (after c s) (event answer after c s ∷ es) h)
 
 pub history-keeps : {base : ℕ} {one : ℕ → Bool} {first : Key → Record} (cs : List Call) (s : Sheets) (es : List Event) (m : Model)
     → Inv base one s es (modelAfter es m) → Legal answer after cs s es → all begunChecked (eventsAfter answer after cs s es) ≡ true

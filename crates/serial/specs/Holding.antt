@@ -58,8 +58,7 @@ held-entry k t old =
 -- One entry more.
 pub holds-more : (e : Entry) (t : Transaction) → t .count < length (t .entries) → held (holding e t) ≡ held t ++ (e ∷ [])
 unfolding held
-holds-more e t l =
-    ap (λ (n : ℕ). take n (set (t .entries) (t .count) e)) (add-one (t .count)) ∙ take-suc-set (t .entries) (t .count) e l
+holds-more e t l = ap (λ (n : ℕ). take n (set (t .entries) (t .count) e)) (add-one (t .count)) ∙ take-suc-set (t .entries) (t .count) e l
 
 module _ (e : Entry) (t : Transaction) (l : t .count < length (t .entries)) where
   pub holds-on-more : HoldsOn t (holding e t)

@@ -2,8 +2,7 @@
 -- to different lines, and a line whose condition holds is put to by none; and an entry whose condition holds is as the line, having no lower version.
 use Rattle.lists.specs.Basics.{_≡_, refl, sym, ap, _∙_, ℕ, _≤_, eqb, Bool, true, false, cond, List, none, some, Option·none-ne-some, inl, inr, arith, eqb-true}
 use Rattle.lists.specs.Basics.{eqb-false, not-true, and-snd, tests}
-use Rattle.model.specs.Types.{Key, Record, AtomicityUnit, Entry, Transaction}
-use Rattle.types.specs.declared.Decision.the-variants.{Undecided}
+use Rattle.model.specs.Types.{Key, Record, Undecided, AtomicityUnit, Entry, Transaction}
 use Rattle.model.specs.Records.{lineOf, hasLine}
 use Rattle.model.specs.Coordinator.{decision}
 use Rattle.model.specs.Images.{Change, changeIn, isPrepared, preparedBy, unchanged}
@@ -104,11 +103,7 @@ module _ {s : Sheets} {es : List Event} {m : Model} (f : Facts s es m) where
   held-line e h =
       let u : unchanged e (lineOf (e .key) (s .lines)) ≡ true = and-snd (hasLine (e .key) (s .lines)) (unchanged e (lineOf (e .key) (s .lines))) h in
       let p : isPrepared (lineOf (e .key) (s .lines)) ≡ false = not-true (isPrepared (lineOf (e .key) (s .lines))) (search (tests, u)) in
-      record {
-        free = p;
-        line = sym (f .view (e .key)) ∙ settled-plain (s .coordinator) (lineOf (e .key) (s .lines)) p;
-        version = search (tests, u);
-      }
+      record { free = p; line = sym (f .view (e .key)) ∙ settled-plain (s .coordinator) (lineOf (e .key) (s .lines)) p; version = search (tests, u) }
 
   -- it is as the line
   pub holds-fresh : (e : Entry) → holds s e ≡ true → NoNewer (m .line) e → Fresh (m .line) e

@@ -3,8 +3,7 @@
 use Rattle.lists.specs.Basics.{_≡_, sym, ap, subst, _∙_, ℕ, _≤_, eqb, true, false, _&&_, _||_, cond, and-false, List, [], _∷_, length, take, Option, none, some}
 use Rattle.lists.specs.Basics.{_⊎_, any}
 use Rattle.lists.specs.Members.{Mem}
-use Rattle.model.specs.Types.{Key, Record, AtomicityUnit, Entry, Transaction}
-use Rattle.types.specs.declared.Decision.the-variants.{Undecided}
+use Rattle.model.specs.Types.{Key, Record, Undecided, AtomicityUnit, Entry, Transaction}
 use Rattle.model.specs.Results.{returns}
 use Rattle.model.specs.Coordinator.{Coordinator, decision}
 use Rattle.model.specs.Images.{Change}
@@ -31,8 +30,7 @@ placedAs none u ps = ps
 -- nobody gets a place by a call that returns a state in open, prepare or withdraw
 pub unplaced : (t t′ : Transaction) (ps : List Placing) (p : ℕ) → t′ .phase ≡ p → (eqb p validatePhase || eqb p decidePhase) ≡ false
     → (eqb p validatePhase || eqb p donePhase) ≡ false → placedAs (some t) (some t′) ps ≡ ps
-unplaced t t′ ps p e x y =
-    rw (e, x, y, and-false (eqb (t .phase) preparePhase), and-false (eqb (t .phase) openPhase && isEmpty (puts t)))
+unplaced t t′ ps p e x y = rw (e, x, y, and-false (eqb (t .phase) preparePhase), and-false (eqb (t .phase) openPhase && isEmpty (puts t)))
 
 unfoldable pub placings : List Event → List Placing
 placings [] = []
@@ -52,8 +50,7 @@ Validated s es committed p e = (any (eqb (p .number)) committed ≡ true) ⊎ Va
 
 -- consistent with these lines and committed numbers
 abbrev pub ConsistentAt : (Key → Record) → Sheets → List Event → (Key → Record) → List ℕ → List Placing → Type 0
-ConsistentAt first s es line committed ps =
-    Consistent first line (λ (n : ℕ). any (eqb n) committed) (InDoubt s es) (Validated s es committed) ps
+ConsistentAt first s es line committed ps = Consistent first line (λ (n : ℕ). any (eqb n) committed) (InDoubt s es) (Validated s es committed) ps
 
 -- the same order with a model of the same lines and committed numbers
 pub same-model : {first : Key → Record} {s : Sheets} {es : List Event} {ps : List Placing} (m m′ : Model) → m′ .line ≡ m .line → m′ .committed ≡ m .committed

@@ -44,10 +44,7 @@ module _ {first line : Key → Record} {c : ℕ → Bool} {doubt : ℕ → Type 
     each-weaker ps f g none-placed = none-placed
     each-weaker ps f g (one-more p xs x a i) =
         one-more p xs
-        (record {
-          saw = λ e m h. x .saw e m (g p here e h);
-          safe = λ e m h q n w. x .safe e m (g p here e h) q n (f q (there n) w);
-        })
+        (record { saw = λ e m h. x .saw e m (g p here e h); safe = λ e m h q n w. x .safe e m (g p here e h) q n (f q (there n) w) })
         (λ q n. record { other = a q n .other; clear = λ w. a q n .clear (f q (there n) w) })
         (each-weaker xs (λ q n. f q (there n)) (λ q n. g q (there n)) i)
 
@@ -120,10 +117,7 @@ pub finds : {first line : Key → Record} {c : ℕ → Bool} {doubt : ℕ → Ty
     → ((q : Placing) → Mem q ps → (e : Entry) → Mem e (q .entries) → valid′ q e → valid q e ⊎ Found line c doubt ps q e)
     → Consistent first line c doubt valid′ ps
 finds {first} {line} {c} {doubt} {valid} {valid′} ps o h =
-    record {
-      each = each-found first line c doubt valid valid′ ps ps (λ q m. m) (λ q n e m w. go q e (h q n e m w)) (o .each);
-      lines = o .lines;
-    }
+    record { each = each-found first line c doubt valid valid′ ps ps (λ q m. m) (λ q n e m w. go q e (h q n e m w)) (o .each); lines = o .lines }
   where
     go : (q : Placing) (e : Entry) → valid q e ⊎ Found line c doubt ps q e → OrFound first line c doubt valid valid′ ps ps q e
     go q e (inl w) = inl w

@@ -3,8 +3,7 @@
 use Rattle.lists.specs.Basics.{_≡_, refl, sym, ap, subst, _∙_, ℕ, _≤_, eqb, true, false, true≢false, List, _∷_, length, none, Option·none-ne-some, inl, inr}
 use Rattle.lists.specs.Basics.{arith, any}
 use Rattle.lists.specs.Members.{Mem}
-use Rattle.types.specs.declared.Decision.the-variants.{Undecided, Aborted}
-use Rattle.model.specs.Types.{Key, Record, Entry, Transaction}
+use Rattle.model.specs.Types.{Key, Record, Undecided, Aborted, Entry, Transaction}
 use Rattle.model.specs.Coordinator.{decision}
 use Rattle.model.specs.Transactions.{held, puts, isEmpty, isSerializable, moved}
 use Rattle.model.specs.Writes.{Sheets, Write, nothing, decisionsAfter, apply}

@@ -1,8 +1,7 @@
 -- A call that takes no state keeps the invariant of the order: its write is away from every number, and a state that it returns is new and holds nothing.
 use Rattle.lists.specs.Basics.{_≡_, sym, ap, subst, _∙_, ℕ, _≤_, _<_, eqb, true, List, [], _∷_, length, none, some, Option·none-ne-some, inl, inr, arith, any}
 use Rattle.lists.specs.Members.{Mem}
-use Rattle.types.specs.declared.Decision.the-variants.{Undecided}
-use Rattle.model.specs.Types.{Key, Record, Entry, Transaction}
+use Rattle.model.specs.Types.{Key, Record, Undecided, Entry, Transaction}
 use Rattle.model.specs.Results.{returns}
 use Rattle.model.specs.Records.{lineOf}
 use Rattle.model.specs.Coordinator.{decision}

@@ -3,8 +3,7 @@
 use Rattle.lists.specs.Basics.{_≡_, refl, sym, ap, subst, _∙_, ℕ, suc, _+_, _≤_, eqb, Bool, true, false, List, _∷_, length, take, getD, take-all, none, _⊎_}
 use Rattle.lists.specs.Basics.{inl, inr, arith, add-one, eqb-true, eqb-false, any}
 use Rattle.lists.specs.Members.{Mem, mem-next}
-use Rattle.types.specs.declared.Decision.the-variants.{Undecided}
-use Rattle.model.specs.Types.{Key, Record, Entry, Transaction}
+use Rattle.model.specs.Types.{Key, Record, Undecided, Entry, Transaction}
 use Rattle.model.specs.Coordinator.{decision}
 use Rattle.model.specs.Transactions.{validatePhase, held, isPut, puts, toValidate, noEntry, isSerializable, moved}
 use Rattle.model.specs.Writes.{Sheets, nothing, decisionsAfter, apply}

@@ -6,8 +6,7 @@ use Rattle.lists.specs.Basics.{and-fst, and-snd, and-both, tests}
 use lib.ListN.{take-append-drop}
 use Rattle.lists.specs.All.{all-map, all-weaken, all-always, map-map, map-same, listed-is}
 use Rattle.lists.specs.Pieces.{AllOf, joined-pieces, pieces-joined, length-joined}
-use Rattle.model.specs.Types.{Decision, AtomicityUnit, Column}
-use Rattle.types.specs.declared.Decision.the-variants.{Undecided, Committed, Aborted}
+use Rattle.model.specs.Types.{Decision, Undecided, Committed, Aborted, AtomicityUnit, Column}
 use Rattle.types.specs.declared.AtomicityUnit.the-variants.{Record as RecordUnit, Partition, Table, Namespace, Storage}
 use Rattle.model.specs.Layouts.{headLayout, lineLayout, decisionColumn, words, figures, coordinatorBytes, headFields}
 use Rattle.model.specs.Lines.{fieldValue, fieldBytes, wordFrom, rowOf, lineSet, lineText, rowGood, inRange, linesOf, linesSet}

@@ -36,8 +36,7 @@ coordinator-of-numbers c h =
       decisions = (ap (map decisionOf) d ∙ decisions-back (c .decisions)) i;
     } in
     let l : headFields ≤ length (coordinatorNumbers c) = simp length-append (omega arith) in
-    let head : rowGood headLayout (take headFields (coordinatorNumbers c)) ≡ true =
-    rw u (head-ranged c (omega arith) nine) in
+    let head : rowGood headLayout (take headFields (coordinatorNumbers c)) ≡ true = rw u (head-ranged c (omega arith) nine) in
     let each : all (inRange decisionColumn) (drop headFields (coordinatorNumbers c)) ≡ true =
     rw d
     (all-map (inRange decisionColumn) decisionNumber (c .decisions)

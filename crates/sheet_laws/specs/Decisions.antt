@@ -9,8 +9,7 @@ use Rattle.lists.specs.Pieces.{over, over-after, over-zero, length-over, length
 use Rattle.decimal.specs.declared.Scan.the-variants.{Number}
 use Rattle.decimal.specs.Field.{figure, fieldText, number}
 use Rattle.decimal.specs.Laws.{read-written, length-fieldText}
-use Rattle.model.specs.Types.{Decision}
-use Rattle.types.specs.declared.Decision.the-variants.{Undecided}
+use Rattle.model.specs.Types.{Decision, Undecided}
 use Rattle.model.specs.Layouts.{headLayout, lineLayout, words, figures, coordinatorBytes}
 use Rattle.model.specs.Lines.{fieldValue, wordFrom, rowOf, lineSet, linesOf, linesSet}
 use Rattle.model.specs.Coordinator.{Coordinator, isUndecided, decisionOf, decision, withDecision, withIssued, coordinatorGood, decisionIn, decisionLines}
@@ -67,8 +66,7 @@ pub record Accepted (s : List ℕ) : Type 0 where
 
 pub accepted-parts : (s : List ℕ) → coordinatorAccepted s ≡ true → Accepted s
 unfolding coordinatorAccepted linesSet linesOf
-accepted-parts s h =
-    record { head = search tests; whole = search tests; readable = search tests; in-turn = search tests; good = search tests }
+accepted-parts s h = record { head = search tests; whole = search tests; readable = search tests; in-turn = search tests; good = search tests }
 
 pub parts-accepted : (s : List ℕ) → Accepted s → coordinatorAccepted s ≡ true
 unfolding coordinatorAccepted linesSet linesOf
@@ -196,8 +194,7 @@ good-raised c h l =
     let d : all isUndecided (drop (c .issued) (c .decisions)) ≡ true = search tests in
     let e : drop 1 (drop (c .issued) (c .decisions)) ≡ drop (suc (c .issued)) (c .decisions) =
     drop-drop 1 (c .issued) (c .decisions) ∙ ap (λ (n : ℕ). drop n (c .decisions)) (add-one (c .issued)) in
-    let f : all isUndecided (drop (suc (c .issued)) (c .decisions)) ≡ true =
-    rw e at (all-drop isUndecided 1 (drop (c .issued) (c .decisions)) d) in
+    let f : all isUndecided (drop (suc (c .issued)) (c .decisions)) ≡ true = rw e at (all-drop isUndecided 1 (drop (c .issued) (c .decisions)) d) in
     and-both (and-both (and-both (and-both u p) q) (le-leb (suc (c .issued)) (length (c .decisions)) l)) f
 
 -- an accepted sheet stays accepted where there is a line for the number

@@ -70,8 +70,7 @@ word-read w d (t ∷ ts) n s v e = go (eqList s (lastBytes w t)) refl (word-read
 
 -- the test on a column of words
 abbrev WordsOk : Column → Type 0
-WordsOk c =
-    (eqb (c .low) 0 && eqb (length (words (c .kind))) (c .high + 1) && allBelow (c .high + 1) (wordOk c)) ≡ true
+WordsOk c = (eqb (c .low) 0 && eqb (length (words (c .kind))) (c .high + 1) && allBelow (c .high + 1) (wordOk c)) ≡ true
 
 words-read-written : (c : Column) (v : ℕ) → WordsOk c → inRange c v ≡ true → (fieldValue c (fieldBytes c v) ≡ Number v) × (length (fieldBytes c v) ≡ c .width)
 unfolding wordOk inRange

@@ -42,8 +42,7 @@ pub field-length : (p : Column → List ℕ → Bool) (cs : List Column) (s : Li
 unfolding eachField lineBytes
 field-length p [] s h = ap length (eqList-true s (10 ∷ []) h)
 field-length p (c ∷ cs) s h =
-    let r : length (drop (c .width) s) ≡ lineBytes cs =
-    field-length p cs (drop (c .width) s) (and-snd (p c (take (c .width) s)) _ h) in
+    let r : length (drop (c .width) s) ≡ lineBytes cs = field-length p cs (drop (c .width) s) (and-snd (p c (take (c .width) s)) _ h) in
     let l : 1 ≤ lineBytes cs = positive cs in
     omega (arith, length-drop (c .width) s)
 
@@ -55,8 +54,7 @@ set-fields (c ∷ cs) s = ap (λ (x : Bool). isNumber (fieldValue c (take (c .wi
 
 -- a line that can be read has its layout's length; so none of its fields is cut short
 pub line-length : (cs : List Column) (s : List ℕ) → lineSet cs s ≡ true → length s ≡ lineBytes cs
-line-length cs s h =
-    field-length (λ (c : Column) (t : List ℕ). isNumber (fieldValue c t)) cs s (sym (set-fields cs s) ∙ h)
+line-length cs s h = field-length (λ (c : Column) (t : List ℕ). isNumber (fieldValue c t)) cs s (sym (set-fields cs s) ∙ h)
 
 -- what reads as a row is what would be written for it, and its numbers are in range
 pub line-written-read : (cs : List Column) (s : List ℕ) → layoutOk cs ≡ true → lineSet cs s ≡ true → (lineText cs (rowOf cs s) ≡ s) × (rowGood cs (rowOf cs s) ≡ true)

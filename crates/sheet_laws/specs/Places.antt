@@ -66,8 +66,7 @@ pub rising-set : (rs : List Record) (i : ℕ) (r d : Record) → i < length rs �
 unfolding rising
 rising-set [] i r d l e = absurd (omega arith)
 rising-set (x ∷ rs) zero r d l e = ap (λ (b : Bool). b && rising rs) (order-left r x rs e)
-rising-set (x ∷ rs) (suc i) r d l e =
-    ap₂ _&&_ (order-right x r d rs i (omega arith) e) (rising-set rs i r d (omega arith) e)
+rising-set (x ∷ rs) (suc i) r d l e = ap₂ _&&_ (order-right x r d rs i (omega arith) e) (rising-set rs i r d (omega arith) e)
 
 module _ (s : List ℕ) (i : ℕ) (r : Record) (place : i < length s / recordBytes) (fits : ranged r ≡ true) where
   -- the text of a record over the bytes of a place

@@ -93,8 +93,7 @@ line-numbers line h =
 -- a line that can be read is the text of its record
 pub record-written-read : (line : List ℕ) → lineSet recordLayout line ≡ true → recordText (recordIn line) ≡ line
 unfolding recordText
-record-written-read line h =
-    ap (lineText recordLayout) (line-numbers line h) ∙ line-written-read recordLayout line record-layout-ok h .0
+record-written-read line h = ap (lineText recordLayout) (line-numbers line h) ∙ line-written-read recordLayout line record-layout-ok h .0
 
 -- numbers in their ranges
 abbrev pub ranged : Record → Bool

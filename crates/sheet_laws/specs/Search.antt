@@ -10,8 +10,7 @@ module _ {ℓ} {A : Type ℓ} (p : A → Bool) where
   pub some-found : (i : ℕ) (xs : List A) → not (isMissing (firstFrom p i xs)) ≡ any p xs
   unfolding firstFrom isMissing any
   some-found i [] = refl
-  some-found i (x ∷ xs) =
-      choose-by (λ (f : Found). not (isMissing f) ≡ (p x || any p xs)) (p x) (λ e. rw e) (λ e. rw e (some-found (suc i) xs))
+  some-found i (x ∷ xs) = choose-by (λ (f : Found). not (isMissing f) ≡ (p x || any p xs)) (p x) (λ e. rw e) (λ e. rw e (some-found (suc i) xs))
 
   -- the first element that passes stands at place m
   pub record FirstAt (xs : List A) (d : A) (m : ℕ) : Type 0 where
@@ -35,8 +34,7 @@ module _ {ℓ} {A : Type ℓ} (p : A → Bool) where
 
   -- a fact about the place found: of none if no element passes, else of the place of the first that does
   pub first-by {κ} : (P : Found → Type κ) (xs : List A) (d : A) → (any p xs ≡ false → P Nothing) → ((m : ℕ) → FirstAt xs d m → P (At m)) → P (firstFrom p 0 xs)
-  first-by P xs d f g =
-      first-from P 0 xs d f (λ m x. let z : m ≡ 0 + m = omega arith in subst (λ (n : ℕ). P (At n)) z (g m x))
+  first-by P xs d f g = first-from P 0 xs d f (λ m x. let z : m ≡ 0 + m = omega arith in subst (λ (n : ℕ). P (At n)) z (g m x))
 
   -- a place that was found
   pub first-at : (xs : List A) (d : A) (i : ℕ) → firstFrom p 0 xs ≡ At i → FirstAt xs d i

@@ -8,8 +8,7 @@ use Rattle.decimal.specs.declared.Scan.{Scan}
 use Rattle.decimal.specs.declared.Scan.the-variants.{Blank, Number, Wrong}
 use Rattle.decimal.specs.Field.{number}
 use Rattle.decimal.specs.Digits.{digits, figureAt}
-use Rattle.model.specs.Types.{Record, Column, StateWord, DecisionWord}
-use Rattle.types.specs.declared.Decision.the-variants.{Undecided, Committed, Aborted}
+use Rattle.model.specs.Types.{Record, Undecided, Committed, Aborted, Column, StateWord, DecisionWord}
 use Rattle.types.specs.declared.State.the-variants.{Prepared}
 use Rattle.model.specs.Layouts.{recordLayout, lineLayout, decisionColumn, noColumn, wordAt, word, stateField, decisionField, offset, recordOffset, recordWidth}
 use Rattle.model.specs.Layouts.{recordBytes, recordFields, coordinatorBytes, wordBytes}
@@ -28,8 +27,7 @@ use Rattle.sheet_laws.specs.Decisions.{decision-at}
 -- every number past the last line is 0
 no-number : (k : ℕ) → k < recordFields → getD (recordNumbers noRecord) k 0 ≡ 0
 unfolding allBelow recordNumbers keyNumbers imageNumbers stateNumber
-no-number k l =
-    eqb-true (getD (recordNumbers noRecord) k 0) 0 (below recordFields (λ (j : ℕ). eqb (getD (recordNumbers noRecord) j 0) 0) refl k l)
+no-number k l = eqb-true (getD (recordNumbers noRecord) k 0) 0 (below recordFields (λ (j : ℕ). eqb (getD (recordNumbers noRecord) j 0) 0) refl k l)
 
 -- no column holds more
 columns-low : all (λ (c : Column). leb (c .high) 4294967295) recordLayout ≡ true

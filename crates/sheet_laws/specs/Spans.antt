@@ -95,8 +95,7 @@ span-there (suc k) m (c ∷ cs) vs w l =
 pub span-over : (k : ℕ) (cs : List Column) (us vs : List ℕ) → layoutWide cs ≡ true → k + length us ≤ length cs → length vs ≡ length cs
     → over (lineText cs vs) (offset k cs) (fieldsText (take (length us) (drop k cs)) us) ≡ lineText cs (over vs k us)
 unfolding all offset lineText
-span-over zero cs us vs w l n =
-    front-over (length us) cs vs w (omega arith) us refl ∙ ap (lineText cs) (sym (over-zero vs us))
+span-over zero cs us vs w l n = front-over (length us) cs vs w (omega arith) us refl ∙ ap (lineText cs) (sym (over-zero vs us))
 span-over (suc k) [] us vs w l n = absurd (omega arith)
 span-over (suc k) (c ∷ cs) us [] w l n = absurd (omega arith)
 span-over (suc k) (c ∷ cs) us (x ∷ vs) w l n =

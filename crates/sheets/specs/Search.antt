@@ -73,8 +73,7 @@ module _ (line text : List ℕ) (o p n : ℕ) (rising : o ≤ p) (within : p ≤
   agree-not e h =
       let a = take-drop-take (p - o) o n line (omega arith) in
       let b = take-drop-take (p - o) o n text (omega arith) in
-      let q : take (p - o) (drop o line) ≡ take (p - o) (drop o text) =
-      sym a ∙ (ap (λ (t : List ℕ). take (p - o) (drop o t)) h ∙ b) in
+      let q : take (p - o) (drop o line) ≡ take (p - o) (drop o text) = sym a ∙ (ap (λ (t : List ℕ). take (p - o) (drop o t)) h ∙ b) in
       true≢false (sym (eqList-refl (take (p - o) (drop o text))) ∙ (ap (λ (t : List ℕ). eqList t (take (p - o) (drop o text))) (sym q) ∙ e))
 
 -- the place of the first line, counted from i, that begins as the text does

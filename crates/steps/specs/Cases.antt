@@ -1,9 +1,8 @@
 -- The step table by its cases: what each outcome of the tests comes to, so that every arm of the code is one of them.
 use Rattle.lists.specs.Basics.{_≡_, refl, sym, ap, subst, _∙_, ℕ, eqb, true, false, List, getD, all, choose-by}
-use Rattle.types.specs.declared.Decision.the-variants.{Undecided, Committed, Aborted}
+use Rattle.model.specs.Types.{Undecided, Committed, Aborted, Transaction}
 use Rattle.lists.specs.Chosen.{Missed}
 use Rattle.transactions.specs.Phases.{phase-past}
-use Rattle.model.specs.Types.{Transaction}
 use Rattle.model.specs.Coordinator.{decision}
 use Rattle.model.specs.Transactions.{byPhase, isEmpty, puts, toValidate, noEntry, moved}
 use Rattle.model.specs.Writes.{Sheets, nothing, decide, commit, prepare}

@@ -68,18 +68,12 @@ module _ (rs cs : List ℕ) (t : Transaction) (l : Located) (ready : Ready rs cs
 
   pub known : Known cs t
   known =
-      record {
-        accepted = coordinator-accepted;
-        number = body .number;
-        issued = body .known;
-        few = few;
-      }
+      record { accepted = coordinator-accepted; number = body .number; issued = body .known; few = few }
 
   -- Where there is a place, it is below a number.
 
   place-below : (p n : ℕ) → placeFormed (coordinatorOf cs .units) (moved p (t .place) (t .verdict) t) ≡ ltb (t .place) n → t .phase ≡ p → t .place < n
-  place-below p n h e =
-      ltb-true (t .place) n (sym h ∙ place-at (coordinatorOf cs .units) t stage p e)
+  place-below p n h e = ltb-true (t .place) n (sym h ∙ place-at (coordinatorOf cs .units) t stage p e)
 
   abbrev pub InGroups : Type 0
   InGroups = t .place < l .groups

@@ -26,29 +26,20 @@ pub record ByCoordinator (f : Sheets → Step) (cs : List ℕ) (t : Transaction)
 
 -- a write that changes no line
 lines-stay : (w : Write) (rs : List ℕ) → ((r : Record) → lineAfter w r ≡ r) → recordsAccepted rs ≡ true → rs ≡ recordsText (linesAfter w (records rs))
-lines-stay w rs h a =
-    sym (ap recordsText (lines-unmoved w h (records rs)) ∙ sheet-written-read rs a)
+lines-stay w rs h a = sym (ap recordsText (lines-unmoved w h (records rs)) ∙ sheet-written-read rs a)
 
 module _ (rs cs : List ℕ) where
   -- nothing is written
   pub wrote-nothing : recordsAccepted rs ≡ true → coordinatorAccepted cs ≡ true → (t u : Transaction) → u ≡ t → Stepped (sheetsOf rs cs) (record { transaction = t; write = nothing }) u rs cs
   unfolding apply lineAfter decisionsAfter
   wrote-nothing a b t u e =
-      record {
-        transaction = e;
-        records = lines-stay nothing rs (λ r. refl) a;
-        coordinator = sym (coordinator-written-read cs b);
-      }
+      record { transaction = e; records = lines-stay nothing rs (λ r. refl) a; coordinator = sym (coordinator-written-read cs b) }
 
   -- the lines of a group, by a write that leaves the coordinator alone
   pub wrote-lines : (w : Write) → decisionsAfter w (coordinatorOf cs) ≡ coordinatorOf cs → coordinatorAccepted cs ≡ true → (t u : Transaction) (rs′ : List ℕ) → u ≡ t → rs′ ≡ recordsText (linesAfter w (records rs)) → Stepped (sheetsOf rs cs) (record { transaction = t; write = w }) u rs′ cs
   unfolding apply
   wrote-lines w h a t u rs′ e r =
-      record {
-        transaction = e;
-        records = r;
-        coordinator = sym (ap coordinatorText h ∙ coordinator-written-read cs a);
-      }
+      record { transaction = e; records = r; coordinator = sym (ap coordinatorText h ∙ coordinator-written-read cs a) }
 
   pub wrote-decision : (t u v : Transaction) (d : Decision) (cs′ : List ℕ) → recordsAccepted rs ≡ true → Known cs v → u ≡ t → cs′ ≡ cond (numberHasLine (v .number) cs) (over cs (v .number * coordinatorBytes) (decisionText (v .number) d)) cs → Stepped (sheetsOf rs cs) (record { transaction = t; write = decide (v .number) d }) u rs cs′
   unfolding apply lineAfter decisionsAfter

@@ -38,8 +38,7 @@ outputAfter input work output = cond (hasRoom work output) (onto (visitorOutput 
 
 -- the lent work area: it begins with the record sheet as the visits leave it, if there were any
 unfoldable pub workAfter : List ℕ → List ℕ → List ℕ → List ℕ
-workAfter input work output =
-    cond (hasRoom work output && eqb (refusalOf (inputConditions input)) 0) (onto (visitedSheets input .records) work) work
+workAfter input work output = cond (hasRoom work output && eqb (refusalOf (inputConditions input)) 0) (onto (visitedSheets input .records) work) work
 
 -- two slices of the lengths of an accepted input's sheets
 pub record Loaded (input records coordinator : List ℕ) : Type 0 where
@@ -61,8 +60,7 @@ put-part s t u e l = put-fits s t (l ∙ ap length (sym e)) ∙ e
 pub loaded : (input rs cs rs′ cs′ : List ℕ) (n : ℕ) → Loaded input rs cs → n ≡ placeOfRecords (firstOf input) → rs′ ≡ putWord rs (take (length input - n) (drop n input)) → cs′ ≡ putWord cs (take (n - firstBytes) (drop firstBytes input)) → both rs′ cs′ ≡ inputSheets input
 loaded input rs cs rs′ cs′ n h e p q =
     let a = parts input n e (h .accepted) in
-    let l : length cs ≡ length (inputSheets input .coordinator) =
-    h .decisions ∙ sym (simp (length-take, length-drop) (omega arith)) in
+    let l : length cs ≡ length (inputSheets input .coordinator) = h .decisions ∙ sym (simp (length-take, length-drop) (omega arith)) in
     let r = p ∙ put-part rs _ (inputSheets input .records) (records-part input n e) (h .lines) in
     let c = q ∙ put-part cs _ (inputSheets input .coordinator) (coordinator-part input n e) l in
     λ i. record { records = r i; coordinator = c i }
@@ -164,5 +162,4 @@ answer-within input work output output′ r e f = go (hasRoom work output) e f
   where
     go : (b : Bool) → r ≡ cond b (length (visitorOutput input)) 0 → output′ ≡ cond b (onto (visitorOutput input) output) output → r ≤ length output′
     go false p q = omega arith
-    go true p q =
-        omega (arith, ap length q ∙ length-append (visitorOutput input) (drop (length (visitorOutput input)) output))
+    go true p q = omega (arith, ap length q ∙ length-append (visitorOutput input) (drop (length (visitorOutput input)) output))

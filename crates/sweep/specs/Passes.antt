@@ -121,8 +121,7 @@ sweep-next now first b c n l m v e =
     record {
       place = omega arith;
       kept = subst (Kept (keysIn first)) (sym e) (visited-kept now (keysIn b) (keysIn first) b l (v .kept));
-      done =
-          e ∙ (ap₂ (visitedAll now) (v .kept .keys) (v .done) ∙ ap (λ (i : ℕ). passed now i first) (sym (add-one n)));
+      done = e ∙ (ap₂ (visitedAll now) (v .kept .keys) (v .done) ∙ ap (λ (i : ℕ). passed now i first) (sym (add-one n)));
     }
 
 -- "all lines in order, then all again"

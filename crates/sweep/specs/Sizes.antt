@@ -52,14 +52,7 @@ parts s n e h =
     let k : coordinatorSize s ≡ n - firstBytes = omega (arith, e) in
     let l : length (inputSheets s .records) ≡ length s - n = length-drop (firstBytes + coordinatorSize s) s ∙ ap (λ (m : ℕ). length s - m) (sym e) in
     let m : length (inputSheets s .coordinator) ≡ coordinatorSize s = simp (length-take, length-drop) (omega (arith, e)) in
-    record {
-      after-first = w .0;
-      within = w .1;
-      coordinator-bytes = k;
-      record-bytes = l;
-      coordinator-room = omega arith;
-      record-room = omega arith;
-    }
+    record { after-first = w .0; within = w .1; coordinator-bytes = k; record-bytes = l; coordinator-room = omega arith; record-room = omega arith }
 
 -- The largest input that 1 need not refuse: the first line, a head and 9,999 coordinator lines, 500 record lines.
 abbrev pub longest : ℕ
@@ -68,8 +61,7 @@ longest = firstBytes + coordinatorBytes * 10000 + recordBytes * 500
 -- one condition that holds gives its number
 refused-text : (s : List ℕ) → refusalOf (inputConditions s) ≡ 1 → visitorOutput s ≡ refusedText 1
 unfolding visitorOutput
-refused-text s h =
-    ap (λ (n : ℕ). cond (eqb n 0) (printed (swept (firstNumber 2 s) (inputSheets s))) (refusedText n)) h
+refused-text s h = ap (λ (n : ℕ). cond (eqb n 0) (printed (swept (firstNumber 2 s) (inputSheets s))) (refusedText n)) h
 
 many-refused : (rs cs : List ℕ) → mostRecordBytes < length rs → refusalOf (checkConditions rs cs) ≡ 1
 unfolding checkConditions refusalOf

@@ -28,10 +28,7 @@ use Rattle.model.specs.Histories as Histories
 -- the head, the lines of numbers 3 and 4, and the three record lines
 abbrev sheets : List ℕ → List ℕ → List ℕ → List ℕ → List ℕ → List ℕ → Bytes
 sheets head third fourth a b c =
-    record {
-      records = text (a ∷ b ∷ c ∷ []);
-      coordinator = text (head ∷ bytes "   1 COMMITTED" ∷ bytes "   2         -" ∷ third ∷ fourth ∷ []);
-    }
+    record { records = text (a ∷ b ∷ c ∷ []); coordinator = text (head ∷ bytes "   1 COMMITTED" ∷ bytes "   2         -" ∷ third ∷ fourth ∷ []) }
 
 abbrev issued1 : List ℕ
 issued1 = bytes "   1 SRSSSSSSS"

@@ -1,9 +1,7 @@
 -- What is proved of the engine: every headline statement, in the words of the definitions of `model`, each by citing the law that proves it.
 -- The engine's contracts cite the same definitions, so that what holds of `answerOn`, `afterOn` and `advanceAtOn` holds of the functions that run.
 use Rattle.lists.specs.Basics.{_≡_, ap, _∙_, ℕ, _^_, _≤_, _<_, true, List, [], _∷_, map, some, all}
-use Rattle.types.specs.declared.Decision.the-variants.{Committed}
-use Rattle.model.specs.Types.{Key, Record, Transaction}
-use Rattle.types.specs.declared.Recovery.the-variants.{Forward}
+use Rattle.model.specs.Types.{Key, Record, Committed, Transaction, Forward}
 use Rattle.model.specs.Records.{records, recordsText, recordsGood, recordsAccepted, lineOf, hasLine}
 use Rattle.model.specs.Coordinator.{Coordinator, coordinatorOf, coordinatorText, coordinatorGood, coordinatorAccepted}
 use Rattle.model.specs.Refusals.{Condition, askingOrder, firstAsked}

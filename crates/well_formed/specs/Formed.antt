@@ -58,8 +58,7 @@ headFormed issued t = leb 1 (t .number) && leb (t .number) issued && leb (t .ser
 
 -- "decide has a put", "only a checked one is in check"
 abbrev pub phaseFormed : Transaction → Bool
-phaseFormed t =
-    (not (eqb (t .phase) decidePhase) || not (isEmpty (puts t))) && (not (eqb (t .phase) validatePhase) || isSerializable t)
+phaseFormed t = (not (eqb (t .phase) decidePhase) || not (isEmpty (puts t))) && (not (eqb (t .phase) validatePhase) || isSerializable t)
 
 pub head-few : (issued : ℕ) (t : Transaction) → headFormed issued t ≡ true → t .count ≤ 8
 head-few issued t h = search tests
@@ -70,8 +69,7 @@ regroup true a d p v l r = ap (λ (x : Bool). x && l && r) (sym (and-assoc (a &&
 
 -- what is asked of a transaction whose head is well formed
 abbrev restFormed : List AtomicityUnit → ℕ → Transaction → Bool
-restFormed us issued t =
-    all (entryFormed issued) (held t) && distinctKeys (held t) && phaseFormed t && placeFormed us t && verdictFormed t
+restFormed us issued t = all (entryFormed issued) (held t) && distinctKeys (held t) && phaseFormed t && placeFormed us t && verdictFormed t
 
 module _ (us : List AtomicityUnit) (issued : ℕ) (t : Transaction) where
   in-order : (headFormed issued t && restFormed us issued t) ≡ formed us issued t

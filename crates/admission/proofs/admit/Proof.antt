@@ -16,8 +16,7 @@ returns : tie.Need-returns
 returns c =
     let a = c .before .before .before .before .before .before .args in
     let s = sheetsOf (a .records .now) (a .coordinator .now) in
-    let h =
-    formed-not (unitsIn (take 9 (drop 5 (a .coordinator .now)))) _ (a .t)
+    let h = formed-not (unitsIn (take 9 (drop 5 (a .coordinator .now)))) _ (a .t)
     (sym (c .before .before .head-formed .ensures) ∙ not-true _ (c .before .if1 .taken)) in
     c .ill-formed .ensures ∙ admitted-not s (a .t)
     (sym (well-formed-not (a .t) (a .records .now) (a .coordinator .now) (c .before .before .before .before .before .before .pre) _
@@ -34,8 +33,7 @@ groups-of-requires c κs =
     head-few _ (a .t) (sym (c .before .before .head-formed .ensures) ∙ not-false _ (c .before .if1 .left))
 
 formed-requires : tie.Need-formed-requires
-formed-requires c κs =
-    (sym (c .before .before .before .head-formed .ensures) ∙ not-false _ (c .before .before .if1 .left), c .groups-of .ensures .0)
+formed-requires c κs = (sym (c .before .before .before .head-formed .ensures) ∙ not-false _ (c .before .before .if1 .left), c .groups-of .ensures .0)
 
 returns-2 : tie.Need-returns-2
 returns-2 c =

@@ -21,7 +21,9 @@ returns : tie.Need-returns
 returns c =
     let a = c .before .before .before .before .before .before .before .before .before .before .before .args in (
       ap (λ (n : ℕ). as-advanced n (c .before .before .before .before .before .before .advance .result .transaction)) (c .before .number .ensures)
-          ∙ (ap (λ (s : Returned). as-advanced (cond (eqb (s .refusal) 0) 0 (1000 + s .refusal)) (s .transaction)) (c .before .before .before .before .before .before .advance .ensures .0)
+          ∙
+          (ap (λ (s : Returned). as-advanced (cond (eqb (s .refusal) 0) 0 (1000 + s .refusal)) (s .transaction))
+          (c .before .before .before .before .before .before .advance .ensures .0)
           ∙ advance-numbered (a .t) (a .clock) (a .records .now) (a .coordinator .now) .1),
       (
         c .before .before .before .before .before .before .advance .ensures .1 .0,

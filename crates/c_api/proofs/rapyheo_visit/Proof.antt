@@ -10,14 +10,17 @@ number-requires : tie.Need-number-requires
 number-requires c κs =
     let a = c .before .before .before .before .before .before .before .before .before .args in
     subst (λ (v : Visited). v .refusal ≤ lastRefusal) (sym (c .before .before .before .before .visit .ensures .0))
-    (visit-numbered (record { storage = a .storage; namespace = a .namespace; table = a .table; partition = a .partition; clustering = a .clustering }) (a .clock) (a .records .now) (a .coordinator .now) .0)
+    (visit-numbered (record { storage = a .storage; namespace = a .namespace; table = a .table; partition = a .partition; clustering = a .clustering })
+    (a .clock) (a .records .now) (a .coordinator .now) .0)
 
 returns : tie.Need-returns
 returns c =
     let a = c .before .before .before .before .before .before .before .before .before .before .args in (
       c .number .ensures
           ∙ (ap (λ (v : Visited). cond (eqb (v .refusal) 0) (v .reply) (1000 + v .refusal)) (c .before .before .before .before .before .visit .ensures .0)
-          ∙ visit-numbered (record { storage = a .storage; namespace = a .namespace; table = a .table; partition = a .partition; clustering = a .clustering }) (a .clock) (a .records .now) (a .coordinator .now) .1),
+          ∙ visit-numbered
+          (record { storage = a .storage; namespace = a .namespace; table = a .table; partition = a .partition; clustering = a .clustering }) (a .clock)
+          (a .records .now) (a .coordinator .now) .1),
       (
         c .before .before .before .before .before .visit .ensures .1 .0,
         c .before .before .before .before .before .visit .ensures .1 .1,

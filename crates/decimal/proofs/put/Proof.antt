@@ -15,8 +15,7 @@ all-set : (s t : List ℕ) (i : ℕ) → length s ≤ i → length t ≤ i → t
 all-set s t i l m e = sym (take-all i s l) ∙ (e ∙ take-all i t m)
 
 abbrev Inv-loop : tie.InvT-loop
-Inv-loop s₀ t n i₀ s i =
-    (i ≤ length s) × (length s ≡ length s₀) × (length s₀ ≡ length t) × (take i s ≡ take i t)
+Inv-loop s₀ t n i₀ s i = (i ≤ length s) × (length s ≡ length s₀) × (length s₀ ≡ length t) × (take i s ≡ take i t)
 
 abbrev μ-loop : tie.MeasureT-loop
 μ-loop s₀ t n i₀ s i = n - i

@@ -38,8 +38,7 @@ no-column [] v e = refl
 no-column (b ∷ s) v e = absurd (omega arith)
 
 abbrev Inv-loop : tie.InvT-loop
-Inv-loop s₀ v i₀ rest₀ s i rest =
-    (i ≤ length s) × (length s ≡ length s₀) × (ahead i rest ++ drop i s ≡ fieldText (length s₀) v)
+Inv-loop s₀ v i₀ rest₀ s i rest = (i ≤ length s) × (length s ≡ length s₀) × (ahead i rest ++ drop i s ≡ fieldText (length s₀) v)
 
 abbrev μ-loop : tie.MeasureT-loop
 μ-loop s₀ v i₀ rest₀ s i rest = i

@@ -9,8 +9,7 @@ use Rattle.engine.proofs.begin.Tie as tie
 returns : tie.Need-returns
 returns c =
     let a = c .before .before .before .before .before .before .args in
-    let o =
-    turned-away toBegun (model.begin (a .serializable)) (a .records .now) (a .coordinator .now) _ (c .before .before .check .ensures)
+    let o = turned-away toBegun (model.begin (a .serializable)) (a .records .now) (a .coordinator .now) _ (c .before .before .check .ensures)
     (c .before .if1 .taken) (c .refusal .ensures) in
     (o .said, o .decisions)
 
@@ -22,8 +21,7 @@ begin-requires c κs =
 returns-2 : tie.Need-returns-2
 returns-2 c =
     let a = c .before .before .before .before .before .before .before .before .before .args in
-    let o =
-    let-pass toBegun (model.begin (a .serializable)) (a .records .now) (a .coordinator .now)
+    let o = let-pass toBegun (model.begin (a .serializable)) (a .records .now) (a .coordinator .now)
     (sym (c .before .before .before .before .before .check .ensures) ∙ c .before .before .before .before .if1 .left)
     (c .before .before .begin .ensures .beside (a .records .now)
     (accepted (a .records .now) (a .coordinator .now)

@@ -9,8 +9,7 @@ use Rattle.engine.proofs.visit.Tie as tie
 returns : tie.Need-returns
 returns c =
     let a = c .before .before .before .before .before .before .before .args in
-    let o =
-    turned-away (toVisited) (model.visit (a .key) (a .clock)) (a .records .now) (a .coordinator .now) _ (c .before .before .check .ensures)
+    let o = turned-away (toVisited) (model.visit (a .key) (a .clock)) (a .records .now) (a .coordinator .now) _ (c .before .before .check .ensures)
     (c .before .if1 .taken) (c .refusal .ensures) in
     (o .said, (o .lines, o .decisions))
 
@@ -22,8 +21,7 @@ visit-requires c κs =
 returns-2 : tie.Need-returns-2
 returns-2 c =
     let a = c .before .before .before .before .before .before .before .before .before .before .before .before .before .args in
-    let o =
-    let-pass (toVisited) (model.visit (a .key) (a .clock)) (a .records .now) (a .coordinator .now)
+    let o = let-pass (toVisited) (model.visit (a .key) (a .clock)) (a .records .now) (a .coordinator .now)
     (sym (c .before .before .before .before .before .before .before .before .check .ensures) ∙
     c .before .before .before .before .before .before .before .if1 .left) (c .before .before .before .before .visit .ensures) in
     (o .said, (o .lines, o .decisions))

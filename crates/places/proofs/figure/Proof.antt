@@ -5,8 +5,7 @@ use Rattle.places.proofs.figure.Statement.{statement}
 use Rattle.places.proofs.figure.Tie as tie
 
 abbrev Inv-loop : tie.InvT-loop
-Inv-loop s at n v₀ i₀ v i =
-    (i ≤ n) × (v < 16 ^ i) × (digitsLeft v at n i s ≡ figureAt at n s)
+Inv-loop s at n v₀ i₀ v i = (i ≤ n) × (v < 16 ^ i) × (digitsLeft v at n i s ≡ figureAt at n s)
 
 abbrev μ-loop : tie.MeasureT-loop
 μ-loop s at n v₀ i₀ v i = n - i

@@ -18,8 +18,7 @@ ten-equal-requires c κs =
 -- the word compared is that of the line's kind
 held : (c : tie.After-ten-equal) → c .ten-equal .result ≡ wordHeld (c .before .before .before .before .before .before .args .line .now)
 unfolding fieldAt offset recordLayout
-held c =
-    rw (c .before .kind .ensures .0, c .before .before .before .before .before .before .pre .1 .0) at (c .ten-equal .ensures)
+held c = rw (c .before .kind .ensures .0, c .before .before .before .before .before .before .pre .1 .0) at (c .ten-equal .ensures)
 
 returns : tie.Need-returns
 returns c =

@@ -31,8 +31,7 @@ loop-again : tie.Need-loop-again Inv-loop μ-loop
 loop-again c = (c .before .before .before .before .before .before .loop .inv .0, read-next _ _ _ _ _ _ _ (omega arith) (c .before .before .before .before .column .ensures) (c .number-of .ensures ∙ ap number (c .before .read-field .ensures)) (c .before .before .before .before .before .before .loop .inv .1))
 
 returns : tie.Need-returns Inv-loop μ-loop
-returns c =
-    read-last _ _ _ _ _ (omega arith) (c .before .loop .inv .1)
+returns c = read-last _ _ _ _ _ (omega arith) (c .before .loop .inv .1)
 
 pub read-row-spec : {M : Type 1} → statement M
 read-row-spec =

@@ -12,8 +12,7 @@ returns c =
     let word = image .before .before .before .before in
     let start = word .before .before .before .before .before in
     let a = start .args in
-    let i =
-    image .write-image .ensures
+    let i = image .write-image .ensures
     ∙ ap₂ (λ (m : Image) (t : List ℕ). imageOver (imageText m) t) (word .before .before .written-image .ensures) (word .put-state .ensures) in
     nothing .put-nothing .ensures ∙ (ap (beforeOver nothingText) i ∙ line-committed (a .line .now) (start .pre .set) (a .n) (a .columns))
 

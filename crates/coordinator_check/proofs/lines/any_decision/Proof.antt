@@ -1,6 +1,6 @@
 -- Each number is that of its word, and the words are the layout's by computation.
 use Rattle.lists.specs.Basics.{needs, bytes}
-use Rattle.types.specs.declared.Decision.the-variants.{Undecided, Committed, Aborted}
+use Rattle.model.specs.Types.{Undecided, Committed, Aborted}
 use Rattle.model.specs.Layouts.{words}
 use Rattle.model.specs.Coordinator.{decisionNumber}
 use Rattle.coordinator_check.specs.Lines.{table, table-fits}

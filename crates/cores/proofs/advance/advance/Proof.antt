@@ -32,11 +32,9 @@ step-requires : tie.Need-step-requires
 step-requires c κs =
     let a = c .before .before .before .before .before .before .before .before .before .before .before .before .before .before .args in
     let s = sheetsOf (a .records .now) (a .coordinator .now) in
-    let f =
-    (formed-by s (a .t) true (c .before .before .before .before .before .before .before .before .before .admit .ensures)
+    let f = (formed-by s (a .t) true (c .before .before .before .before .before .before .before .before .before .admit .ensures)
     (not-false _ (c .before .before .before .before .before .before .before .if1 .left))) in
-    let r =
-    admitted-ready (a .t) (a .records .now) (a .coordinator .now)
+    let r = admitted-ready (a .t) (a .records .now) (a .coordinator .now)
     (c .before .before .before .before .before .before .before .before .before .before .before .before .before .before .good .0) _
     (located-by s (a .t) (c .before .before .before .before .before .before .before .before .before .admit .ensures) f) f in
     record {

@@ -8,5 +8,4 @@ returns : tie.Need-returns
 returns c = c .answer .ensures ∙ ap₂ fetchedAs (c .before .reading .ensures) (c .before .before .with-entry .ensures)
 
 pub hold-spec : {M : Type 1} → statement M
-hold-spec =
-    tie.close (tie.spec (λ c. search needs) (λ c. search needs) (λ c κs. search needs) (λ c κs. search needs) (λ c κs. search needs) returns)
+hold-spec = tie.close (tie.spec (λ c. search needs) (λ c. search needs) (λ c κs. search needs) (λ c κs. search needs) (λ c κs. search needs) returns)

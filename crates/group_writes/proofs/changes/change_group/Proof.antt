@@ -16,8 +16,7 @@ Inv-loop c records₀ coordinator t located n i₀ records i =
     (length records ≡ length records₀) × Underway c coordinator t (located .indices) (leaves c coordinator t records₀ (held t)) records i
 
 abbrev μ-loop : tie.MeasureT-loop
-μ-loop c records₀ coordinator t located n i₀ records i =
-    n - i
+μ-loop c records₀ coordinator t located n i₀ records i = n - i
 
 loop-holds : tie.Need-loop-holds Inv-loop μ-loop
 loop-holds c = (refl, underway-first _ _ _ _ _ (c .before .before .good .1 .0) (c .before .before .pre))

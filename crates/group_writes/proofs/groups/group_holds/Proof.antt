@@ -14,8 +14,7 @@ Inv-loop records coordinator t located n i₀ i =
     PassedTo t (all (holdsInGroup records coordinator t)) (all (holdsInGroup records coordinator t) (held t)) i
 
 abbrev μ-loop : tie.MeasureT-loop
-μ-loop records coordinator t located n i₀ i =
-    n - i
+μ-loop records coordinator t located n i₀ i = n - i
 
 entry-holds-requires : tie.Need-entry-holds-requires Inv-loop μ-loop
 entry-holds-requires c κs = (

@@ -6,14 +6,12 @@ use Rattle.group_writes.proofs.lines.index_of.Tie as tie
 
 mul-result : tie.Need-mul-result
 mul-result c =
-    let l =
-    held-below _ _ _ (sym (c .before .before .before .held-at .ensures) ∙ c .before .i .given .1) in
+    let l = held-below _ _ _ (sym (c .before .before .before .held-at .ensures) ∙ c .before .i .given .1) in
     omega (arith, l, c .before .before .before .before .pre)
 
 array-read-result : tie.Need-array-read-result
 array-read-result c =
-    let l =
-    held-below _ _ _ (sym (c .before .before .before .held-at .ensures) ∙ c .before .i .given .1) in
+    let l = held-below _ _ _ (sym (c .before .before .before .held-at .ensures) ∙ c .before .i .given .1) in
     omega (arith, l, c .before .before .before .before .pre)
 
 pub index-of-spec : {M : Type 1} → statement M

@@ -17,8 +17,7 @@ Inv-loop records t n count all₀ indices₀ i₀ all indices i =
     × ((length indices ≡ 8) × (indices ≡ indicesOf (sheet.records records) t i))
 
 abbrev μ-loop : tie.MeasureT-loop
-μ-loop records t n count all₀ indices₀ i₀ all indices i =
-    n - i
+μ-loop records t n count all₀ indices₀ i₀ all indices i = n - i
 
 line-index-requires : tie.Need-line-index-requires Inv-loop μ-loop
 line-index-requires c κs = c .before .before .before .before .before .pre .0

@@ -5,8 +5,7 @@ use Rattle.script.proofs.scan.end_of.Statement.{statement}
 use Rattle.script.proofs.scan.end_of.Tie as tie
 
 abbrev Inv-loop : tie.InvT-loop
-Inv-loop s at mark n i₀ i =
-    ((at ≤ i) × (i ≤ length s)) × (at + length (upTo mark (drop at s)) ≡ i + length (upTo mark (drop i s)))
+Inv-loop s at mark n i₀ i = ((at ≤ i) × (i ≤ length s)) × (at + length (upTo mark (drop at s)) ≡ i + length (upTo mark (drop i s)))
 
 abbrev μ-loop : tie.MeasureT-loop
 μ-loop s at mark n i₀ i = length s - i
