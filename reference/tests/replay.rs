@@ -49,6 +49,21 @@ fn a_key_s_line_is_handed_back_or_nothing() {
 }
 
 #[test]
+fn sheets_are_printed_where_they_are_asked_for() {
+    let at_first = format!("sheets\n{COORDINATOR}{ABSENT}");
+    let begun = at_first.replacen('0', "1", 1);
+    let calls = "sheets\nbegin 0 0\nsheets\nsheets 0\n";
+    let input = format!("   1   2\n{COORDINATOR}{ABSENT}{calls}");
+    let output = String::from_utf8(replay(input.as_bytes())).unwrap();
+    assert_eq!(output, format!("{at_first}ok 1\n{begun}bad line\n{begun}"));
+    // Damaged ones too, byte for byte.
+    let damaged = [COORDINATOR.as_bytes(), &[255; 98]].concat();
+    let input = [b"   1   2\n", &damaged[..], b"sheets"].concat();
+    let printed = [b"sheets\n", &damaged[..]].concat();
+    assert_eq!(replay(&input), printed.repeat(2));
+}
+
+#[test]
 fn transactions_are_forged_field_by_field() {
     let calls =
         "begin 0 1\nset 0 1 1 6 0 2 1\nentry 0 0 1 1 1 1 1 0 0 0 0 1 5 6\nshow 0\nadvance 0 0\n\
@@ -76,6 +91,8 @@ fn lines_of_another_form_are_bad_lines() {
         "check ",
         " check",
         "Check",
+        "sheets ",
+        "sheets 1",
         "begin 0",
         "begin 0 2",
         "begin 16 0",
@@ -187,6 +204,8 @@ fn a_line_is_read_as_it_is_written() {
         Line::Abort { slot: 1 },
         Line::Visit { key, now: 6 },
         Line::Lookup { key },
+        Line::LineOf { key },
+        Line::Sheets,
         Line::Show { slot: 2 },
         Line::Set { slot: 3, fields },
         Line::Entry {

@@ -1,4 +1,5 @@
-// Runs a history of calls from standard input and prints every answer, then both sheets. docs/REPLAY.md has the form of a history.
+// Runs a history of calls from standard input and prints every answer, and both sheets where a line asks for them and at the end. docs/REPLAY.md has the form
+// of a history.
 ghost use mathlib.Core.Path.{_≡_};
 ghost use Prim.Native.Nat.{_+_, _≤_};
 ghost use lib.ListN.{length, replicate};
@@ -7,6 +8,7 @@ mod print;
 
 use script::reply::Reply;
 use script::scan::Command;
+use script::scan::Kind;
 use types::COORDINATOR_BYTES;
 use types::RECORD_BYTES;
 
@@ -26,10 +28,11 @@ fn blank_sheet() -> [u8; 150000]
     [0u8; 150000]
 }
 
-// The reply to a call as a line, with the part of the record sheet that the call asks for.
+// Both sheets where a line asks for them; else the reply to a call as a line, with the part of the record sheet that the call asks for.
 fn answer(
     command: Command,
     reply: Reply,
+    coordinator: &[u8],
     records: &[u8],
     out: &mut [u8; 4096],
     fill: usize,
@@ -38,8 +41,14 @@ fn answer(
     requires { ⌜ fill ≤ 4096 ⌝ }
     ensures { λ r. ⌜ r ≤ 4096 ⌝ }
 {
-    let part = script_calls::calls::part(command, records);
-    print::line(reply, part, out, fill)
+    let kind = command.kind;
+    match kind {
+        Kind::Sheets => print::sheets(coordinator, records, out, fill),
+        _ => {
+            let part = script_calls::calls::part(command, records);
+            print::line(reply, part, out, fill)
+        }
+    }
 }
 
 // The answers to the calls after the sheets, in order. The record sheet is input[from..to].
@@ -64,7 +73,7 @@ fn answer_calls(
         let turn = script_calls::slots::run(command, slots, &mut input[from..to], coordinator);
         slots = turn.slots;
         let reply = turn.reply;
-        fill = answer(command, reply, &input[from..to], out, fill);
+        fill = answer(command, reply, coordinator, &input[from..to], out, fill);
         at = next;
     }
     fill
@@ -77,10 +86,7 @@ fn replay(input: &mut [u8], from: usize, to: usize, coordinator: &mut [u8])
     decimal::put(coordinator, &input[9..from]);
     let mut out = [0u8; 4096];
     let fill = answer_calls(input, from, to, coordinator, &mut out);
-    print::flush(&out, fill);
-    io::write_all(1, b"sheets\n");
-    io::write_all(1, coordinator);
-    io::write_all(1, &input[from..to]);
+    print::sheets(coordinator, &input[from..to], &out, fill);
 }
 
 // A history, whose first line says how long its sheets are.

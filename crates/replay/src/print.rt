@@ -99,11 +99,23 @@ pub fn line(r: Reply, s: &[u8], out: &mut [u8; 4096], fill: usize) -> usize
 }
 
 // What the buffer holds is written, so that nothing of it is taken.
-pub fn flush(out: &[u8; 4096], fill: usize) -> usize
+fn flush(out: &[u8; 4096], fill: usize) -> usize
     requires { ⌜ fill ≤ 4096 ⌝ }
     ensures { λ r. ⌜ r ≡ 0 ⌝ }
 {
     let text: &[u8] = out;
     io::write_all(1, &text[..fill]);
     0
+}
+
+// Both sheets, in the middle of a history and at its end. They follow what the buffer holds and don't pass through it.
+pub fn sheets(coordinator: &[u8], records: &[u8], out: &[u8; 4096], fill: usize) -> usize
+    requires { ⌜ fill ≤ 4096 ⌝ }
+    ensures { λ r. ⌜ r ≤ 4096 ⌝ }
+{
+    let taken = flush(out, fill);
+    io::write_all(1, b"sheets\n");
+    io::write_all(1, coordinator);
+    io::write_all(1, records);
+    taken
 }

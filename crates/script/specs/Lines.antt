@@ -1,5 +1,5 @@
--- What a line of a history says (docs/REPLAY.md): words parted by single spaces, the first of them the call's name, the others its numbers. And what reading
--- it byte by byte tells of that.
+-- What a line of a history says (docs/REPLAY.md): words parted by single spaces, the first of them the call's name or `sheets`, the others its numbers. And
+-- what reading it byte by byte tells of that.
 use Rattle.lists.specs.Basics.{_≡_, refl, sym, ap, ap₂, _∙_, ℕ, suc, _+_, _≤_, _<_, eqb, leb, Bool, true, false, _&&_, cond, List, [], _∷_, length, take, drop}
 use Rattle.lists.specs.Basics.{getD, set, replicate, drop-of-length-le, drop-drop, drop-cons, arith, add-one, eq-eqb, ne-eqb, eqList, bytes}
 use Rattle.decimal.specs.declared.Scan.{Scan}
@@ -7,7 +7,7 @@ use Rattle.decimal.specs.declared.Scan.the-variants.{Blank, Number, Wrong}
 use Rattle.decimal.specs.Field.{figure}
 use Rattle.script.specs.declared.scan.Command.{Command}
 use Rattle.script.specs.declared.scan.Kind.{Kind}
-use Rattle.script.specs.declared.scan.Kind.the-variants.{Check, Begin, Read, Put, Advance, Abort, Visit, Lookup, Line, Show, Set, Entry, BadLine}
+use Rattle.script.specs.declared.scan.Kind.the-variants.{Check, Begin, Read, Put, Advance, Abort, Visit, Lookup, Line, Show, Set, Entry, Sheets, BadLine}
 use Rattle.script.specs.declared.scan.Numbers.{Numbers}
 
 -- The words.
@@ -39,9 +39,13 @@ slotKind w =
     firstNamed (eqList w (bytes "begin")) Begin (eqList w (bytes "read")) Read (eqList w (bytes "put")) Put (eqList w (bytes "advance")) Advance (otherSlotKind w)
 
 -- any call
-unfoldable pub kindOf : List ℕ → Kind
-kindOf w =
+unfoldable pub callKind : List ℕ → Kind
+callKind w =
     firstNamed (eqList w (bytes "check")) Check (eqList w (bytes "visit")) Visit (eqList w (bytes "lookup")) Lookup (eqList w (bytes "line")) Line (slotKind w)
+
+-- a call, or both sheets
+unfoldable pub kindOf : List ℕ → Kind
+kindOf w = cond (eqList w (bytes "sheets")) Sheets (callKind w)
 
 module _ (a b c d : Bool) (k l m n other : Kind) where
   pub first-named : a ≡ true → k ≡ firstNamed a k b l c m d n other
@@ -78,6 +82,7 @@ arity Line = 5
 arity Show = 1
 arity Set = 7
 arity Entry = 14
+arity Sheets = 0
 arity BadLine = 0
 
 -- The numbers.

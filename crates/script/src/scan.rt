@@ -2,11 +2,12 @@
 ghost use mathlib.Core.Path.{_≡_};
 ghost use Prim.Native.Nat.{_+_, _≤_};
 ghost use lib.ListN.{length, drop};
-ghost use Rattle.script.specs.Lines.{otherSlotKind, slotKind, kindOf, noNumbers, withWord, withWords, wordsAfter, badCommand, called, said, upTo};
+ghost use Rattle.script.specs.Lines.{otherSlotKind, slotKind, callKind, kindOf};
+ghost use Rattle.script.specs.Lines.{noNumbers, withWord, withWords, wordsAfter, badCommand, called, said, upTo};
 ghost use Rattle.script.specs.Lines as model;
 use decimal::Scan;
 
-// The calls of a history. BadLine is a line of another form.
+// The calls of a history; Sheets asks for both sheets, and BadLine is a line of another form.
 pub enum Kind {
     Check,
     Begin,
@@ -20,6 +21,7 @@ pub enum Kind {
     Show,
     Set,
     Entry,
+    Sheets,
     BadLine,
 }
 
@@ -92,8 +94,8 @@ fn slot_kind(word: &[u8]) -> Kind
 }
 
 // The call that a word names.
-fn kind_of(word: &[u8]) -> Kind
-    ensures { λ r. ⌜ r ≡ kindOf (now (word .entry)) ⌝ }
+fn call_kind(word: &[u8]) -> Kind
+    ensures { λ r. ⌜ r ≡ callKind (now (word .entry)) ⌝ }
 {
     if decimal::same(word, b"check") {
         return Kind::Check;
@@ -108,6 +110,16 @@ fn kind_of(word: &[u8]) -> Kind
         return Kind::Line;
     }
     slot_kind(word)
+}
+
+// What a line with this first word asks for.
+fn kind_of(word: &[u8]) -> Kind
+    ensures { λ r. ⌜ r ≡ kindOf (now (word .entry)) ⌝ }
+{
+    if decimal::same(word, b"sheets") {
+        return Kind::Sheets;
+    }
+    call_kind(word)
 }
 
 // How many numbers a call has.
@@ -127,6 +139,7 @@ fn arity(kind: Kind) -> usize
         Kind::Show => 1,
         Kind::Set => 7,
         Kind::Entry => 14,
+        Kind::Sheets => 0,
         Kind::BadLine => 0,
     }
 }

@@ -4,7 +4,7 @@ use Rattle.model.specs.Types.{Key}
 use Rattle.model.specs.SheetCalls.{lookedUp}
 use Rattle.script.specs.declared.scan.Command.{Command}
 use Rattle.script.specs.declared.scan.Kind.{Kind}
-use Rattle.script.specs.declared.scan.Kind.the-variants.{Check, Begin, Read, Put, Advance, Abort, Visit, Lookup, Line, Show, Set, Entry, BadLine}
+use Rattle.script.specs.declared.scan.Kind.the-variants.{Check, Begin, Read, Put, Advance, Abort, Visit, Lookup, Line, Show, Set, Entry, Sheets, BadLine}
 
 -- the key whose five numbers begin at a place
 abbrev pub keyFrom : List ℕ → ℕ → Key
@@ -30,6 +30,7 @@ asksLine Line = true
 asksLine Show = false
 asksLine Set = false
 asksLine Entry = false
+asksLine Sheets = false
 asksLine BadLine = false
 
 -- the part asked for, an empty one where none is

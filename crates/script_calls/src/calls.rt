@@ -93,6 +93,7 @@ fn asks_line(kind: Kind) -> bool
         Kind::Show => false,
         Kind::Set => false,
         Kind::Entry => false,
+        Kind::Sheets => false,
         Kind::BadLine => false,
     }
 }

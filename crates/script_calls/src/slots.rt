@@ -50,6 +50,7 @@ fn on_slot(c: Command, slots: [Transaction; 16], records: &mut [u8], coordinator
     }
 }
 
+// A line's call. `sheets` makes none, and what is printed for it is the sheets alone.
 pub fn run(c: Command, slots: [Transaction; 16], records: &mut [u8], coordinator: &mut [u8]) -> Turn
     ensures { λ r. ⌜ r .reply .count ≤ 102 ⌝ }
 {
@@ -72,7 +73,7 @@ pub fn run(c: Command, slots: [Transaction; 16], records: &mut [u8], coordinator
             slots,
             reply: calls::lookup(n, records),
         },
-        Kind::Line => Turn {
+        Kind::Line | Kind::Sheets => Turn {
             slots,
             reply: calls::ok(),
         },

@@ -90,10 +90,9 @@ fn call_in(case: &Case, subject: &Faulty) -> u64 {
         return 1;
     };
     let output = subject.replay(input).unwrap_or_default();
-    let lines = output.split(|b| *b == b'\n');
-    let same = lines.zip(expected.split(|b| *b == b'\n'));
-    let same = same.take_while(|(one, other)| one == other).count();
-    reference::compare::calls_among(input, same + 1)
+    let both = output.iter().zip(expected);
+    let same = both.take_while(|(one, other)| one == other).count();
+    reference::compare::calls_until(input, same)
 }
 
 fn report(seeds: &[u64], found: &[Found]) -> usize {

@@ -119,8 +119,14 @@ impl Case {
     }
 }
 
-/// How many of the first so many lines of a replay's calls are calls.
-pub fn calls_among(input: &[u8], lines: usize) -> u64 {
-    let calls = replay::calls(input).take(lines);
-    calls.filter(|line| is_call(line)).count() as u64
+/// How many calls a replay has made when it prints the byte at this place of its output.
+pub fn calls_until(input: &[u8], place: usize) -> u64 {
+    let mut printed = 0;
+    let answers = replay::answers(input).into_iter();
+    let begun = answers.take_while(|(_, answer)| {
+        let start = printed;
+        printed += answer.len();
+        start <= place
+    });
+    begun.filter(|(line, _)| is_call(line)).count() as u64
 }

@@ -26,6 +26,9 @@ const WORDS: [&str; 18] = [
     "\u{663}",
 ];
 
+/// What is added to a line; the last is a number more.
+const ENDS: [&str; 7] = [" ", "\r", "\t", "\0", ",", "1", " 0"];
+
 /// A good line changed in one place.
 pub fn bad_line(random: &mut Random, good: &str) -> Vec<u8> {
     let mut line = good.as_bytes().to_vec();
@@ -35,7 +38,7 @@ pub fn bad_line(random: &mut Random, good: &str) -> Vec<u8> {
         1 => line.insert(place, random.pick(TELLING)),
         2 => drop(line.remove(place)),
         3 => line.truncate(place),
-        4 => line.push(random.pick(b" \r\t\0,1")),
+        4 => line.extend(random.pick(&ENDS).bytes()),
         5 => line.insert(0, b' '),
         6 => line.resize(line.len() + random.pick(&[1, 100, 5_000]), b'7'),
         // Two spaces for one.

@@ -40,8 +40,8 @@ impl Script {
 
     /// The whole output expected.
     pub fn expected(&self) -> Vec<u8> {
-        let ending = replay::ending(&self.state.sheets);
-        [self.answers.clone(), ending].concat()
+        let sheets = replay::both_sheets(&self.state.sheets);
+        [self.answers.clone(), sheets].concat()
     }
 
     /// Whether there is room for more calls, and for those that close the history.
@@ -58,7 +58,7 @@ impl Script {
         self.calls += u64::from(seen.note(line.as_ref(), taken, &reply));
         self.input.extend(text);
         self.input.push(b'\n');
-        self.answers.extend(reply.to_string().bytes());
+        self.answers.extend(reply.printed());
     }
 
     pub fn add(&mut self, seen: &mut Seen, line: Line) {

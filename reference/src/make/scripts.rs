@@ -130,6 +130,7 @@ fn beside(random: &mut Random, seen: &mut Seen, script: &mut Script, history: &H
             let good = Line::Advance { slot, now: 0 };
             return unfit(random, seen, script, &good);
         }
+        14 => Line::Sheets,
         _ => return,
     };
     if random.once_in(8) {
@@ -170,13 +171,14 @@ pub fn damaged(random: &mut Random, seen: &mut Seen) -> Script {
         let slot = random.below(SLOTS);
         let key = any_key(random, records);
         let now = clock(random, records);
-        match random.below(10) {
-            0 => script.add(seen, Line::Check),
+        match random.below(11) {
+            0 => script.add(seen, random.pick(&[Line::Check, Line::Sheets])),
             1 => script.add(seen, looked_up(random, records)),
             2 => script.add(seen, Line::Visit { key, now }),
             3 => script.ask(seen, &begin(random)),
             4 => any_line(random, seen, &mut script, &Line::Read { slot, key, now }),
             5 => any_line(random, seen, &mut script, &Line::Abort { slot }),
+            6 => any_line(random, seen, &mut script, &Line::Sheets),
             _ => script.ask(seen, &stray(random, &[], &store)),
         }
     }

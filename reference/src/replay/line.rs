@@ -56,6 +56,8 @@ pub enum Line {
         place: usize,
         numbers: [u32; 12],
     },
+    /// Both sheets as they stand.
+    Sheets,
 }
 
 impl Line {
@@ -70,6 +72,7 @@ impl Line {
     fn of(call: &[u8], numbers: &[u32]) -> Option<Line> {
         Some(match (call, numbers) {
             (b"check", []) => Line::Check,
+            (b"sheets", []) => Line::Sheets,
             (b"visit", [key @ .., now]) => Line::Visit {
                 key: key_of(key)?,
                 now: *now,
@@ -166,6 +169,7 @@ impl fmt::Display for Line {
                 place,
                 numbers,
             } => write!(out, "entry {slot} {place} {}", words(numbers)),
+            Line::Sheets => write!(out, "sheets"),
         }
     }
 }

@@ -1,8 +1,8 @@
 //! A history of calls as text: both sheets, then one call a line, answered line by line.
 //!
 //! The input is a line with the numbers of record lines and of coordinator lines without head, 4 columns each, the
-//! coordinator sheet, the record sheet, both perhaps damaged, and the calls. The output has a line for each call, the
-//! line `sheets` and both sheets in the same order.
+//! coordinator sheet, the record sheet, both perhaps damaged, and the calls. The output has a line for each call, and the
+//! line `sheets` and both sheets in the same order where a line asks for them and at the end.
 
 pub mod line;
 pub mod reply;
@@ -28,9 +28,9 @@ pub fn replay(input: &[u8]) -> Vec<u8> {
     let mut state = ReplayState::new(sheets);
     let mut output = Vec::new();
     for line in lines(calls) {
-        output.extend(reply(&mut state, line).to_string().bytes());
+        output.extend(reply(&mut state, line).printed());
     }
-    output.extend(ending(&state.sheets));
+    output.extend(both_sheets(&state.sheets));
     output
 }
 
@@ -42,8 +42,8 @@ pub fn reply(state: &mut ReplayState, line: &[u8]) -> Reply {
     }
 }
 
-/// What stands after the last answer.
-pub fn ending(sheets: &Sheets) -> Vec<u8> {
+/// Both sheets as they are printed, after the last answer too.
+pub fn both_sheets(sheets: &Sheets) -> Vec<u8> {
     [b"sheets\n", &sheets.coordinator[..], &sheets.records].concat()
 }
 
@@ -72,9 +72,14 @@ fn parts(input: &[u8]) -> Option<(Sheets, &[u8])> {
     Some((sheets, calls))
 }
 
-/// The lines of an input's calls, none of a bad input.
-pub fn calls(input: &[u8]) -> impl Iterator<Item = &[u8]> {
-    lines(parts(input).map_or(&[], |(_, calls)| calls))
+/// Each line of an input's calls with what is printed for it; none of a bad input.
+pub fn answers(input: &[u8]) -> Vec<(&[u8], Vec<u8>)> {
+    let Some((sheets, calls)) = parts(input) else {
+        return Vec::new();
+    };
+    let mut state = ReplayState::new(sheets);
+    let mut answer = |line| reply(&mut state, line).printed();
+    lines(calls).map(|line| (line, answer(line))).collect()
 }
 
 /// The lines without their LF, which the last one may lack.

@@ -1,12 +1,13 @@
 //! What a line is answered, and how the answer is written.
 
+use super::both_sheets;
 use super::line::words;
+use crate::make::Sheets;
 use crate::plain::record;
 use crate::plain::store::Visit;
 use crate::plain::transaction::{Reading, Transaction, MOST_ENTRIES};
-use std::fmt;
 
-#[derive(Clone, Copy, Debug, PartialEq, Eq)]
+#[derive(Clone, Debug, PartialEq, Eq)]
 pub enum Reply {
     Refused(u32),
     /// Accepted, and there is nothing to tell.
@@ -21,24 +22,28 @@ pub enum Reply {
     /// A record line without its LF.
     Line([u8; record::LINE - 1]),
     Shown(Transaction),
+    /// Both, as they stand.
+    Sheets(Sheets),
     BadLine,
 }
 
-impl fmt::Display for Reply {
-    /// One line, LF last.
-    fn fmt(&self, out: &mut fmt::Formatter) -> fmt::Result {
-        match self {
-            Reply::Refused(number) => writeln!(out, "refused {number}"),
-            Reply::Done => writeln!(out, "ok"),
-            Reply::Begun(number) => writeln!(out, "ok {number}"),
-            Reply::Read(reading) => writeln!(out, "ok {}", reading_text(reading)),
-            Reply::Advanced(t) => writeln!(out, "ok {}", words(&[t.phase, t.place, t.verdict])),
-            Reply::Visited(visit) => writeln!(out, "ok {}", visit_text(*visit)),
-            Reply::Found(place) => writeln!(out, "ok {place}"),
-            Reply::Line(line) => writeln!(out, "ok {}", String::from_utf8_lossy(line)),
-            Reply::Shown(transaction) => writeln!(out, "ok {}", words(&shown(transaction))),
-            Reply::BadLine => writeln!(out, "bad line"),
-        }
+impl Reply {
+    /// One line, LF last, or both sheets.
+    pub fn printed(&self) -> Vec<u8> {
+        let line = match self {
+            Reply::Refused(number) => format!("refused {number}"),
+            Reply::Done => "ok".into(),
+            Reply::Begun(number) => format!("ok {number}"),
+            Reply::Read(reading) => format!("ok {}", reading_text(reading)),
+            Reply::Advanced(t) => format!("ok {}", words(&[t.phase, t.place, t.verdict])),
+            Reply::Visited(visit) => format!("ok {}", visit_text(*visit)),
+            Reply::Found(place) => format!("ok {place}"),
+            Reply::Line(line) => format!("ok {}", String::from_utf8_lossy(line)),
+            Reply::Shown(transaction) => format!("ok {}", words(&shown(transaction))),
+            Reply::Sheets(sheets) => return both_sheets(sheets),
+            Reply::BadLine => "bad line".into(),
+        };
+        [line.as_bytes(), b"\n"].concat()
     }
 }
 

@@ -41,6 +41,7 @@ impl ReplayState {
                 self.slots[slot].entries[place] = Entry::from_numbers(numbers);
                 Reply::Done
             }
+            Line::Sheets => Reply::Sheets(self.sheets.clone()),
             _ => self.call(line),
         }
     }

@@ -92,7 +92,7 @@ fn call_of(line: &Line) -> Option<usize> {
         Line::Visit { .. } => 6,
         Line::Lookup { .. } => 7,
         Line::LineOf { .. } => 8,
-        Line::Show { .. } | Line::Set { .. } | Line::Entry { .. } => return None,
+        Line::Show { .. } | Line::Set { .. } | Line::Entry { .. } | Line::Sheets => return None,
     })
 }
 
