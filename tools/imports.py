@@ -3,11 +3,13 @@
 
     tools/imports.py unused [--fix] FILE..        names that are imported and not used
     tools/imports.py move NAME FROM TO FILE..     import NAME from module TO where FROM was named; a module is `model.Images`
+    tools/imports.py gather FILE..                import what lists Basics and model Types pass on from there, one group of lines for each module
 """
 import pathlib
 import re
 import sys
 
+ROOT = pathlib.Path(__file__).resolve().parent.parent
 USE = re.compile(r"^(?P<ghost>ghost )?use (?P<path>[^\s{;]+)\.\{(?P<names>[^}]*)\}(?P<end>;?)[ \t]*\n", re.M)
 
 
@@ -88,6 +90,52 @@ def move(path, name, origin, target):
     path.write_text(text, encoding="utf-8")
 
 
+def passed_on(crate, name):
+    """What a module passes on: of each name, the module that has it."""
+    text = (ROOT / "crates" / crate / "specs" / f"{name}.antt").read_text(encoding="utf-8")
+    found = {}
+    for use in re.finditer(r"^(?:unfoldable )?pub use (\S+?)\.\{([^}]*)\}", text, re.M):
+        for each in filter(None, map(str.strip, use[2].split(","))):
+            origin = re.match(r"Rattle·(\w+)·specs\.specs\.(\w+)$", use[1])
+            home = passed_on(origin[1], origin[2]).get(each) if origin else None
+            found[each] = home or use[1].replace("·specs.specs", ".specs")
+    return found
+
+
+def filled(path, names):
+    """`use` lines of at most 160 characters."""
+    lines = [[]]
+    for name in names:
+        if lines[-1] and len(written("", path, lines[-1] + [name], "")) > 161:
+            lines.append([])
+        lines[-1].append(name)
+    return "".join(written("", path, each, "") for each in lines)
+
+
+def gather(path):
+    text = path.read_text(encoding="utf-8")
+    crate = path.parts[path.parts.index("crates") + 1]
+    gathered = [("lists", "Kit" if crate == "lists" else "Basics"), ("model", "Types")]
+    through = {}
+    for each, name in gathered:
+        module = module_path(path, f"{each}.{name}")
+        order = passed_on(each, name)
+        through |= {(home, known): module for known, home in order.items()} | {(module, known): module for known in order}
+    uses = [use for use in USE.finditer(text) if not use["ghost"]]
+    groups = {}
+    for use in uses:
+        for name in names_of(use):
+            group = groups.setdefault(through.get((use["path"], name), use["path"]), [])
+            if name not in group:
+                group.append(name)
+    if all(through.get((use["path"], name), use["path"]) == use["path"] for use in uses for name in names_of(use)):
+        return
+    first = module_path(path, "lists." + gathered[0][1])
+    paths = sorted(groups, key=lambda each: each != first)
+    start, rest = uses[0].start(), USE.sub(lambda use: use[0] if use["ghost"] else "", text[uses[0].start() :])
+    path.write_text(text[:start] + "".join(filled(each, groups[each]) for each in paths) + rest, encoding="utf-8")
+
+
 def main():
     match sys.argv[1:]:
         case ["unused", "--fix", *files]:
@@ -99,6 +147,9 @@ def main():
         case ["move", name, origin, target, *files]:
             for file in files:
                 move(pathlib.Path(file), name, origin, target)
+        case ["gather", *files]:
+            for file in files:
+                gather(pathlib.Path(file))
         case _:
             sys.exit(__doc__)
 
