@@ -17,7 +17,7 @@ use Rattle.model.specs.AtomicWrites.{OneUnit, lines-of-one-unit, coordinator-on
 use Rattle.model.specs.Turns.{advanceAt, turnEvent, turnAfter, turnAfterOn}
 use Rattle.sheet_laws.specs.Records.{record-written-read, records-read-written, sheet-written-read}
 use Rattle.sheet_laws.specs.Coordinator.{coordinator-written-read}
-use Rattle.sheet_laws.specs.Places.{whole-lines, length-records, record-at, line-set}
+use Rattle.sheet_laws.specs.ByIndex.{whole-lines, length-records, record-at, line-set}
 use Rattle.call_laws.specs.Lines.{lines-mapped, lines-unmoved}
 use Rattle.call_laws.specs.Closure.{sheets-stay-good}
 use Rattle.call_laws.specs.Lifting.{passing-parts, passing-good, encoded, same-bytes}

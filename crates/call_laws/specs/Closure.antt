@@ -196,7 +196,7 @@ module _ (s : Sheets) (good : GoodSheets s) where
       and-both (and-both (and-both (and-both refl b) d) e) (and-both a r)
 
   module _ (t : Transaction) (b : Body s t) (c : Columns) where
-    -- the entry at a place replaced by one with a put
+    -- the entry at an index replaced by one with a put
     put-body : (m : ℕ) → m < length (held t) → columnsInRange c ≡ true → leb 99999 (getD (t .entries) m noEntry .seen .version) ≡ false → Body s (withEntry (t .count) m (withPut c (getD (t .entries) m noEntry)) t)
     unfolding held linesHeld
     put-body m l r v =

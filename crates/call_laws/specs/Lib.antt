@@ -7,7 +7,7 @@ pub mod SingleUnit
 pub mod Ranges
 pub mod Images
 pub mod Lines
-pub mod Places
+pub mod ByIndex
 pub mod Sheets
 pub mod Transactions
 pub mod Steps

@@ -13,7 +13,7 @@ use Rattle.model.specs.Lines.{rowOf, lineSet}
 use Rattle.model.specs.Records.{stateOf, recordOf, recordIn, recordText, records, recordsAccepted, noRecord}
 use Rattle.model.specs.Coordinator.{decisionNumber, decision, coordinatorOf}
 use Rattle.sheet_laws.specs.Records.{Readable, readable}
-use Rattle.sheet_laws.specs.Places.{changedAt, record-at, line-set}
+use Rattle.sheet_laws.specs.ByIndex.{changedAt, record-at, line-set}
 use Rattle.sheet_laws.specs.Decisions.{numberHasLine, issued-at, length-decisions}
 use Rattle.sheet_laws.specs.Singles.{decisionWord, decision-told}
 
@@ -24,7 +24,7 @@ state-else zero z o = absurd (z refl)
 state-else (suc zero) z o = absurd (o refl)
 state-else (suc (suc n)) z o = refl
 
--- the row read from the part of place i is that of the record there
+-- the row read from the part that is line i is that of the record there
 pub record-part : (s row : List ℕ) (i : ℕ) → i < length s / recordBytes → row ≡ rowOf recordLayout (take (i * recordBytes + recordBytes - i * recordBytes) (drop (i * recordBytes) s)) → recordOf row ≡ getD (records s) i noRecord
 unfolding recordIn
 record-part s row i l e =
@@ -35,15 +35,15 @@ record-part s row i l e =
 pub room-part : (b : Bool) (w a : ℕ) (s t u : List ℕ) → b ≡ true → length t ≡ a + w - a → t ≡ u → take a s ++ (t ++ drop (a + w - a) (drop a s)) ≡ cond b (over s a u) s
 room-part b w a s t u h e q = rw h (over-part s t a (a + w) e ∙ ap (over s a) q)
 
--- The line at place i of an accepted record sheet, lent as a part: it can be read, and comes back as the text of its record changed.
-module _ (s : List ℕ) (i : ℕ) (place : i < length s / recordBytes) where
+-- Line i of an accepted record sheet, lent as a part: it can be read, and comes back as the text of its record changed.
+module _ (s : List ℕ) (i : ℕ) (inside : i < length s / recordBytes) where
   part-line : take (i * recordBytes + recordBytes - i * recordBytes) (drop (i * recordBytes) s) ≡ take recordBytes (drop (i * recordBytes) s)
   part-line =
       let w : i * recordBytes + recordBytes - i * recordBytes ≡ recordBytes = omega arith in
       ap (λ (n : ℕ). take n (drop (i * recordBytes) s)) w
 
   pub part-readable : recordsAccepted s ≡ true → Readable (take (i * recordBytes + recordBytes - i * recordBytes) (drop (i * recordBytes) s))
-  part-readable a = readable _ (ap (lineSet recordLayout) part-line ∙ line-set s i a place)
+  part-readable a = readable _ (ap (lineSet recordLayout) part-line ∙ line-set s i a inside)
 
   pub part-changed : (f : Record → Record) (t : List ℕ)
       → length t ≡ length (take (i * recordBytes + recordBytes - i * recordBytes) (drop (i * recordBytes) s))
@@ -52,8 +52,8 @@ module _ (s : List ℕ) (i : ℕ) (place : i < length s / recordBytes) where
       ≡ changedAt f i s
   part-changed f t n e =
       let k : length t ≡ i * recordBytes + recordBytes - i * recordBytes = n ∙ simp (length-take, length-drop) (omega arith) in
-      room-part (ltb i (length s / recordBytes)) recordBytes (i * recordBytes) s t _ (lt-ltb i (length s / recordBytes) place) k
-      (e ∙ ap (λ (r : Record). recordText (f r)) (ap recordIn part-line ∙ sym (record-at s i place)))
+      room-part (ltb i (length s / recordBytes)) recordBytes (i * recordBytes) s t _ (lt-ltb i (length s / recordBytes) inside) k
+      (e ∙ ap (λ (r : Record). recordText (f r)) (ap recordIn part-line ∙ sym (record-at s i inside)))
 
 -- a text over a part of its length
 pub text-over : (s t u : List ℕ) (a : ℕ) → a + length t ≤ length s → u ≡ putWord (take (a + length t - a) (drop a s)) t → take a s ++ (u ++ drop (a + length t - a) (drop a s)) ≡ over s a t

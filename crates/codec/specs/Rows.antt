@@ -24,12 +24,12 @@ layout-wide CoordinatorLine = refl
 pub column-wide : (l : Layout) (i : ℕ) (c : Column) → i < length (layout l) → c ≡ getD (layout l) i noColumn → wideEnough c ≡ true
 column-wide l i c h e = ap wideEnough e ∙ all-at wideEnough (layout l) noColumn i (layout-wide l) h
 
-module _ (cs : List Column) (i at : ℕ) (c : Column) (place : i < length cs) (e : c ≡ getD cs i noColumn) where
+module _ (cs : List Column) (i at : ℕ) (c : Column) (inside : i < length cs) (e : c ≡ getD cs i noColumn) where
   -- what is left of the line after this field
   bytes-turn : (n : ℕ) → at + lineBytes (drop i cs) ≡ n → (at + c .width + lineBytes (drop (i + 1) cs) ≡ n) × (at + c .width ≤ n)
   unfolding lineBytes
   bytes-turn n h =
-      let f : lineBytes (drop i cs) ≡ c .width + lineBytes (drop (i + 1) cs) = ap lineBytes (drop-here cs i noColumn c place e) in
+      let f : lineBytes (drop i cs) ≡ c .width + lineBytes (drop (i + 1) cs) = ap lineBytes (drop-here cs i noColumn c inside e) in
       (omega arith, omega arith)
 
   row-turn : (line row whole : List ℕ) (v : ℕ) → length row ≡ length cs → v ≡ number (fieldValue c (take (at + c .width - at) (drop at line))) → take i row ++ rowOf (drop i cs) (drop at line) ≡ whole → take (i + 1) (set row i v) ++ rowOf (drop (i + 1) cs) (drop (at + c .width) line) ≡ whole
@@ -39,7 +39,7 @@ module _ (cs : List Column) (i at : ℕ) (c : Column) (place : i < length cs) (e
       let t : take (i + 1) (set row i v) ≡ take i row ++ (v ∷ []) =
       ap (λ (k : ℕ). take k (set row i v)) (add-one i) ∙ take-suc-set row i v (omega arith) in
       let r : rowOf (drop i cs) (drop at line) ≡ v ∷ rowOf (drop (i + 1) cs) (drop (at + c .width) line) =
-      ap (λ (ds : List Column). rowOf ds (drop at line)) (drop-here cs i noColumn c place e)
+      ap (λ (ds : List Column). rowOf ds (drop at line)) (drop-here cs i noColumn c inside e)
       ∙ ap₂ _∷_ (sym (rw w at q)) (ap (rowOf (drop (i + 1) cs)) (drop-drop (c .width) at line)) in
       rw t (append-snoc (take i row) v (rowOf (drop (i + 1) cs) (drop (at + c .width) line)) ∙ (ap (λ (x : List ℕ). take i row ++ x) (sym r) ∙ h))
 
@@ -53,19 +53,19 @@ module _ (cs : List Column) (i at : ℕ) (c : Column) (place : i < length cs) (e
       ap (take (at + c .width)) (sym (append-assoc (take at line) b rest)) ∙ take-at (take at line ++ b) rest (at + c .width) k in
       let v : getD (drop i row) 0 0 ≡ getD row i 0 = getD-drop i row 0 0 ∙ ap (λ (j : ℕ). getD row j 0) (add-zero i) in
       let r : lineText (drop i cs) (drop i row) ≡ b ++ lineText (drop (i + 1) cs) (drop (i + 1) row) =
-      ap (λ (ds : List Column). lineText ds (drop i row)) (drop-here cs i noColumn c place e)
+      ap (λ (ds : List Column). lineText ds (drop i row)) (drop-here cs i noColumn c inside e)
       ∙ ap₂ _++_ (ap (fieldBytes c) v) (ap (lineText (drop (i + 1) cs)) (drop-drop 1 i row)) in
       rw t (append-assoc (take at line) b (lineText (drop (i + 1) cs) (drop (i + 1) row)) ∙ (ap (λ (x : List ℕ). take at line ++ x) (sym r) ∙ h))
 
 -- How far a line has been read into a row: fields before i are there, and the bytes from `at` on are those of the others.
 pub record ReadTo (cs : List Column) (line row : List ℕ) (at i : ℕ) : Type 0 where
-  pub place : i ≤ length cs
+  pub reached : i ≤ length cs
   pub room : length row ≡ length cs
   pub left : at + lineBytes (drop i cs) ≡ length line
   pub done : take i row ++ rowOf (drop i cs) (drop at line) ≡ rowOf cs line
 
 pub read-first : (cs : List Column) (line row : List ℕ) → length line ≡ lineBytes cs → length row ≡ length cs → ReadTo cs line row 0 0
-read-first cs line row n m = record { place = omega arith; room = m; left = omega arith; done = refl }
+read-first cs line row n m = record { reached = omega arith; room = m; left = omega arith; done = refl }
 
 -- the field is within the line
 pub field-ends : (cs : List Column) (i at n : ℕ) (c : Column) → i < length cs → c ≡ getD cs i noColumn → at + lineBytes (drop i cs) ≡ n → at + c .width ≤ n
@@ -74,7 +74,7 @@ field-ends cs i at n c l e h = bytes-turn cs i at c l e n h .1
 pub read-next : (cs : List Column) (line row : List ℕ) (at i : ℕ) (c : Column) (v : ℕ) → i < length cs → c ≡ getD cs i noColumn → v ≡ number (fieldValue c (take (at + c .width - at) (drop at line))) → ReadTo cs line row at i → ReadTo cs line (set row i v) (at + c .width) (i + 1)
 read-next cs line row at i c v l e q r =
     record {
-      place = omega arith;
+      reached = omega arith;
       room = length-set row i v ∙ r .room;
       left = bytes-turn cs i at c l e (length line) (r .left) .0;
       done = row-turn cs i at c l e line row (rowOf cs line) v (r .room) q (r .done);
@@ -91,13 +91,13 @@ read-last cs line row at i l r =
 
 -- How far a line has been written from a row.
 pub record WrittenTo (cs : List Column) (row line : List ℕ) (at i : ℕ) : Type 0 where
-  pub place : i ≤ length cs
+  pub reached : i ≤ length cs
   pub room : length line ≡ lineBytes cs
   pub left : at + lineBytes (drop i cs) ≡ length line
   pub done : take at line ++ lineText (drop i cs) (drop i row) ≡ lineText cs row
 
 pub write-first : (cs : List Column) (row line : List ℕ) → length line ≡ lineBytes cs → WrittenTo cs row line 0 0
-write-first cs row line n = record { place = omega arith; room = n; left = omega arith; done = refl }
+write-first cs row line n = record { reached = omega arith; room = n; left = omega arith; done = refl }
 
 pub write-next : (cs : List Column) (row line t : List ℕ) (at i : ℕ) (c : Column) → length row ≡ length cs → i < length cs → c ≡ getD cs i noColumn → t ≡ fieldBytes c (getD row i 0) → wideEnough c ≡ true → WrittenTo cs row line at i → WrittenTo cs row (take at line ++ (t ++ drop (at + c .width - at) (drop at line))) (at + c .width) (i + 1)
 write-next cs row line t at i c n l e q w r =
@@ -106,7 +106,7 @@ write-next cs row line t at i c n l e q w r =
     let m : length (take at line ++ (t ++ drop (at + c .width - at) (drop at line))) ≡ length line =
     simp (length-append, length-take, length-drop) (omega arith) in
     record {
-      place = omega arith;
+      reached = omega arith;
       room = m ∙ r .room;
       left = bytes-turn cs i at c l e (length line) (r .left) .0 ∙ sym m;
       done =
@@ -126,24 +126,24 @@ write-last cs row line at i l r =
 
 -- How far a row has been found in range.
 pub record GoodTo (cs : List Column) (row : List ℕ) (i : ℕ) : Type 0 where
-  pub place : i ≤ length cs
+  pub reached : i ≤ length cs
   pub rest : rowGood (drop i cs) (drop i row) ≡ rowGood cs row
 
 pub good-first : (cs : List Column) (row : List ℕ) → GoodTo cs row 0
-good-first cs row = record { place = omega arith; rest = refl }
+good-first cs row = record { reached = omega arith; rest = refl }
 
-module _ (cs : List Column) (row : List ℕ) (i : ℕ) (c : Column) (place : i < length cs) (e : c ≡ getD cs i noColumn) (g : GoodTo cs row i) where
+module _ (cs : List Column) (row : List ℕ) (i : ℕ) (c : Column) (inside : i < length cs) (e : c ≡ getD cs i noColumn) (g : GoodTo cs row i) where
   good-turn : (inRange c (getD row i 0) && rowGood (drop (i + 1) cs) (drop (i + 1) row)) ≡ rowGood cs row
   unfolding rowGood
   good-turn =
       let v : getD (drop i row) 0 0 ≡ getD row i 0 = getD-drop i row 0 0 ∙ ap (λ (j : ℕ). getD row j 0) (add-zero i) in
       let r : rowGood (drop i cs) (drop i row) ≡ (inRange c (getD row i 0) && rowGood (drop (i + 1) cs) (drop (i + 1) row)) =
-      ap (λ (ds : List Column). rowGood ds (drop i row)) (drop-here cs i noColumn c place e)
+      ap (λ (ds : List Column). rowGood ds (drop i row)) (drop-here cs i noColumn c inside e)
       ∙ ap₂ _&&_ (ap (inRange c) v) (ap (rowGood (drop (i + 1) cs)) (drop-drop 1 i row)) in
       sym r ∙ g .rest
 
   pub good-next : inRange c (getD row i 0) ≡ true → GoodTo cs row (i + 1)
-  good-next h = record { place = omega arith; rest = rw h at good-turn }
+  good-next h = record { reached = omega arith; rest = rw h at good-turn }
 
   pub good-not : inRange c (getD row i 0) ≡ false → false ≡ rowGood cs row
   good-not h = rw h at good-turn

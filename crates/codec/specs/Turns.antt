@@ -1,4 +1,4 @@
--- One turn of each loop: the definition from place i on, by what stands at i and the definition from i + 1 on.
+-- One turn of each loop: the definition from i on, by what stands at i and the definition from i + 1 on.
 use Rattle.lists.specs.Basics.{_≡_, refl, sym, ap, _∙_, ℕ, _+_, _-_, _≤_, _<_, leb, Bool, true, false, cond, true≢false, List, [], length, take, drop}
 use Rattle.lists.specs.Basics.{length-drop, drop-cons, take-all, arith, add-one, leb-true, eqList, bytes}
 use lib.Seq.{drop-length}

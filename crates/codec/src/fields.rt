@@ -40,7 +40,7 @@ pub fn is_word_at(s: &[u8], at: usize, kind: Kind, n: u32) -> bool
     ensures { λ r. ⌜ r ≡ eqList (take wordBytes (drop at (now (s .entry)))) (wordAt kind n) ⌝ }
 {
     let t = layouts::word(kind, n);
-    places::ten_equal(s, at, &t, 0)
+    line_bytes::ten_equal(s, at, &t, 0)
 }
 
 // Which word of a kind the field s of w columns holds.

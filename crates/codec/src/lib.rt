@@ -1,4 +1,4 @@
-// The bytes of both sheets, read and written by place, so that calls above can speak of records, decisions and counts.
+// The bytes of both sheets, read and written by index, so that calls above can speak of records, decisions and counts.
 pub mod coordinator;
 pub mod fields;
 pub mod layouts;

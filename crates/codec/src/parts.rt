@@ -5,7 +5,7 @@ ghost use lib.ListN.{length};
 ghost use Rattle.lists.specs.Pieces.{over};
 ghost use Rattle.decimal.specs.Field.{fieldText};
 ghost use Rattle.model.specs.Layouts.{recordBytes, imageBytes};
-ghost use Rattle.sheet_laws.specs.Changed.{imageText, nothingText, stateOver, imageOver, beforeOver, imagePlace, imageIn};
+ghost use Rattle.sheet_laws.specs.Changed.{imageText, nothingText, stateOver, imageOver, beforeOver, imageOffset, imageIn};
 use crate::layouts;
 use crate::records;
 use types::BEFORE_AT;
@@ -48,8 +48,8 @@ pub fn write_at(line: &mut [u8], at: usize, n: usize, v: u32)
 }
 
 // Where an image begins: the image before, or the line's own.
-fn image_place(before: bool) -> usize
-    ensures { λ r. ⌜ r ≡ imagePlace before ⌝ }
+fn image_offset(before: bool) -> usize
+    ensures { λ r. ⌜ r ≡ imageOffset before ⌝ }
     ensures { λ r. ⌜ r + imageBytes ≤ recordBytes ⌝ }
 {
     if before {
@@ -63,7 +63,7 @@ pub fn image_bytes(line: &[u8], before: bool) -> [u8; IMAGE_BYTES]
     requires { ⌜ length (now line) ≡ recordBytes ⌝ }
     ensures { λ r. ⌜ r ≡ imageIn before (now (line .entry)) ⌝ }
 {
-    let from = image_place(before);
+    let from = image_offset(before);
     let to = from + IMAGE_BYTES;
     let mut image = [0u8; IMAGE_BYTES];
     decimal::put(&mut image, &line[from..to]);

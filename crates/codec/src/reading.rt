@@ -1,4 +1,4 @@
-// Single fields of the line at a place of a record sheet, each read without the others.
+// Single fields of a line of a record sheet by its index, each read without the others.
 ghost use mathlib.Core.Path.{_≡_};
 ghost use mathlib.Core.Bool.{cond, true};
 ghost use Prim.Native.Nat.{_+_, _*_, _/_, _≤_};
@@ -23,7 +23,7 @@ use types::TXID_BYTES;
 use types::VERSION_AT;
 use types::VERSION_BYTES;
 
-// Whether the line at place i is pending; past the end none is.
+// Whether line i is pending; past the end none is.
 pub fn is_prepared(records: &[u8], i: usize) -> bool
     ensures { λ r. ⌜ r ≡ isPrepared (getD (model.records (now (records .entry))) i noRecord) ⌝ }
 {
@@ -39,19 +39,19 @@ pub fn is_prepared(records: &[u8], i: usize) -> bool
     false
 }
 
-// The figure of n columns that begins `from` bytes into the line at place i, 0 past the end.
+// The figure of n columns that begins `from` bytes into line i, 0 past the end.
 fn figure(records: &[u8], i: usize, from: usize, n: usize) -> u64
     requires { ⌜ from + n ≤ recordBytes ⌝ }
     requires { ⌜ n ≤ 15 ⌝ }
     ensures { λ r. ⌜ r ≡ cond (ltb i (length (now (records .entry)) / recordBytes)) (figureAt (i * recordBytes + from) n (now (records .entry))) 0 ⌝ }
 {
     if i < records.len() / RECORD_BYTES {
-        return places::figure(records, i * RECORD_BYTES + from, n);
+        return line_bytes::figure(records, i * RECORD_BYTES + from, n);
     }
     0
 }
 
-// The version of the line at place i.
+// The version of line i.
 pub fn version(records: &[u8], i: usize) -> u32
     requires { ⌜ recordsAccepted (now records) ≡ true ⌝ }
     ensures { λ r. ⌜ r ≡ getD (model.records (now (records .entry))) i noRecord .image .version ⌝ }

@@ -1,4 +1,4 @@
-// Records of a sheet by their place: what a call with a transaction reads and writes of a record sheet.
+// Records of a sheet by their index: what a call with a transaction reads and writes of a record sheet.
 ghost use mathlib.Core.Path.{_≡_};
 ghost use Prim.Native.Nat.{_*_, _/_};
 ghost use lib.ListN.{length, getD};
@@ -83,7 +83,7 @@ pub fn count(records: &[u8]) -> usize
     records.len() / RECORD_BYTES
 }
 
-// The record at place i, an absent one of no key past the end.
+// Record i, an absent one of no key past the end.
 pub fn record_at(records: &[u8], i: usize) -> Record
     ensures { λ r. ⌜ r ≡ getD (model.records (now (records .entry))) i noRecord ⌝ }
 {

@@ -7,14 +7,14 @@ ghost use Rattle.model.specs.Records.{recordIn, recordText, recordsAccepted};
 ghost use Rattle.model.specs.Images.{rolledForward, rolledBack};
 ghost use Rattle.sheet_laws.specs.Records.{Readable};
 ghost use Rattle.sheet_laws.specs.Changed.{imageOver, imageIn, settledAs};
-ghost use Rattle.sheet_laws.specs.Places.{changedAt};
+ghost use Rattle.sheet_laws.specs.ByIndex.{changedAt};
 use crate::parts;
 use crate::reading;
 use types::RECORD_BYTES;
 use types::State;
 use types::VERSION_AT;
 
-// The image that stays in its place: that of before is moved there, the line's own stands there.
+// The image that stays as the line's: that of before is moved there, the line's own stands there.
 fn keep_image(line: &mut [u8], before: bool)
     requires { ⌜ length (now line) ≡ recordBytes ⌝ }
     ensures { λ u. ⌜ now (line .exit) ≡ imageOver (imageIn before (now (line .entry))) (now (line .entry)) ⌝ }
@@ -35,7 +35,7 @@ fn settle_line(line: &mut [u8], state: State, before: bool)
     parts::put_nothing(line);
 }
 
-// The line at place i settled; past the end nothing changes.
+// Line i settled; past the end nothing changes.
 pub fn settle(records: &mut [u8], i: usize, state: State, before: bool)
     requires { ⌜ recordsAccepted (now records) ≡ true ⌝ }
     ensures { λ u. ⌜ now (records .exit) ≡ changedAt (settledAs state before) i (now (records .entry)) ⌝ }
@@ -47,7 +47,7 @@ pub fn settle(records: &mut [u8], i: usize, state: State, before: bool)
     }
 }
 
-// The line at place i rolled forward.
+// Line i rolled forward.
 pub fn roll_forward(records: &mut [u8], i: usize)
     requires { ⌜ recordsAccepted (now records) ≡ true ⌝ }
     ensures { λ u. ⌜ now (records .exit) ≡ changedAt rolledForward i (now (records .entry)) ⌝ }
@@ -55,7 +55,7 @@ pub fn roll_forward(records: &mut [u8], i: usize)
     settle(records, i, State::Committed, false);
 }
 
-// The line at place i rolled back.
+// Line i rolled back.
 pub fn roll_back(records: &mut [u8], i: usize)
     requires { ⌜ recordsAccepted (now records) ≡ true ⌝ }
     ensures { λ u. ⌜ now (records .exit) ≡ changedAt rolledBack i (now (records .entry)) ⌝ }

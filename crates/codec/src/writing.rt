@@ -4,7 +4,7 @@ ghost use mathlib.Core.Bool.{true};
 ghost use Rattle.model.specs.Records.{recordIn, recordText, recordsAccepted};
 ghost use Rattle.model.specs.Images.{writtenImage, prepared, committed};
 ghost use Rattle.sheet_laws.specs.Records.{Readable};
-ghost use Rattle.sheet_laws.specs.Places.{changedAt};
+ghost use Rattle.sheet_laws.specs.ByIndex.{changedAt};
 use crate::parts;
 use types::BEFORE_AT;
 use types::CLOCK_AT;
@@ -21,7 +21,7 @@ fn written_image(line: &[u8], n: u32, columns: Columns) -> Image
     requires { ⌜ Readable (now line) ⌝ }
     ensures { λ m. ⌜ m ≡ writtenImage n columns (recordIn (now (line .entry))) ⌝ }
 {
-    let version = places::figure(line, VERSION_AT, VERSION_BYTES) as u32;
+    let version = line_bytes::figure(line, VERSION_AT, VERSION_BYTES) as u32;
     Image {
         version: version + 1,
         txid: n,
@@ -54,7 +54,7 @@ fn commit_line(line: &mut [u8], n: u32, columns: Columns)
     parts::put_nothing(line);
 }
 
-// The line at place i prepared under number n at a clock reading; past the end nothing changes.
+// Line i prepared under number n at a clock reading; past the end nothing changes.
 pub fn prepare(records: &mut [u8], i: usize, n: u32, columns: Columns, clock: u32)
     requires { ⌜ recordsAccepted (now records) ≡ true ⌝ }
     ensures { λ u. ⌜ now (records .exit) ≡ changedAt (prepared n clock columns) i (now (records .entry)) ⌝ }
@@ -66,7 +66,7 @@ pub fn prepare(records: &mut [u8], i: usize, n: u32, columns: Columns, clock: u3
     }
 }
 
-// The line at place i committed in one phase under number n; past the end nothing changes.
+// Line i committed in one phase under number n; past the end nothing changes.
 pub fn commit(records: &mut [u8], i: usize, n: u32, columns: Columns)
     requires { ⌜ recordsAccepted (now records) ≡ true ⌝ }
     ensures { λ u. ⌜ now (records .exit) ≡ changedAt (committed n columns) i (now (records .entry)) ⌝ }

@@ -79,13 +79,13 @@ head-set h n =
     ∙ ap (λ (t : Bool). isNumber (figure 0 999 (take 4 h)) && t)
     (rw (four, five, first-set x y, letters-set 8 (drop 6 h), drop-drop 8 6 h, last) (grouped (eqb x 32) (isUnit y) (all isUnit (take 8 (drop 6 h))) (eqb z 10)))
 
--- How far the letters have been looked at: those before place i are units, or one is not.
+-- How far the letters have been looked at: those before column i are units, or one is not.
 pub record LettersTo (head : List ℕ) (i : ℕ) (good : Bool) : Type 0 where
-  pub place : i ≤ lineEnd
+  pub reached : i ≤ lineEnd
   pub left : (good && all isUnit (take (lineEnd - i) (drop i head))) ≡ (eqb (getD head 4 0) 32 && all isUnit (take 9 (drop 5 head)))
 
 pub letters-first : (head : List ℕ) → LettersTo head 5 (eqb (getD head 4 0) 32)
-letters-first head = record { place = omega arith; left = refl }
+letters-first head = record { reached = omega arith; left = refl }
 
 pub letters-next : (head : List ℕ) (i : ℕ) (good unit : Bool) → length head ≡ coordinatorBytes → i < lineEnd → unit ≡ isUnit (getD head i 0)
     → LettersTo head i good → LettersTo head (i + 1) (good && unit)
@@ -94,7 +94,7 @@ letters-next head i good unit n l e t =
     let m : lineEnd - i ≡ suc (lineEnd - (i + 1)) = omega arith in
     let d : drop i head ≡ getD head i 0 ∷ drop (i + 1) head = rw (add-one, drop-cons head i 0 (omega arith)) in
     let a : all isUnit (take (lineEnd - i) (drop i head)) ≡ (unit && all isUnit (take (lineEnd - (i + 1)) (drop (i + 1) head))) = rw (m, d, e) in
-    record { place = omega arith; left = and-assoc good unit _ ∙ (ap (λ (b : Bool). good && b) (sym a) ∙ t .left) }
+    record { reached = omega arith; left = and-assoc good unit _ ∙ (ap (λ (b : Bool). good && b) (sym a) ∙ t .left) }
 
 pub letters-last : (head : List ℕ) (i : ℕ) (good : Bool) → lineEnd ≤ i → LettersTo head i good → (good && eqb (getD head lineEnd 0) 10) ≡ lettersSet head
 unfolding all lettersSet

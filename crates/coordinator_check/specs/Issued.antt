@@ -9,7 +9,7 @@ use Rattle.decimal.specs.declared.Scan.the-variants.{Number}
 use Rattle.decimal.specs.Field.{figure}
 use Rattle.decimal.specs.Laws.{figure-scan}
 use Rattle.decimal.specs.Order.{order-bytes}
-use Rattle.places.specs.Order.{numberOf, bytesAt, less-is, part-bytes}
+use Rattle.line_bytes.specs.Order.{numberOf, bytesAt, less-is, part-bytes}
 use Rattle.lists.specs.Walks.{LeftFrom, left-here}
 use Rattle.model.specs.Layouts.{recordLayout, txidField, beforeTxidField, offset, recordOffset, recordBytes, coordinatorBytes}
 use Rattle.model.specs.Lines.{fieldValue, lineSet, linesOf, linesSet}
@@ -17,7 +17,7 @@ use Rattle.model.specs.Records.{noRecord, recordOf, imageFrom, recordIn, record
 use Rattle.model.specs.Coordinator.{coordinatorOf, coordinatorAccepted, namesIssued}
 use Rattle.model.specs.SheetCalls.{allIssued}
 use Rattle.sheet_laws.specs.Lines.{fieldAt, field-at}
-use Rattle.sheet_laws.specs.Places.{record-at, length-records}
+use Rattle.sheet_laws.specs.ByIndex.{record-at, length-records}
 use Rattle.sheet_laws.specs.Decisions.{accepted-length}
 use Rattle.coordinator_check.specs.Lines.{Bytes}
 use Rattle.coordinator_check.specs.Sheet.{accepted-head}

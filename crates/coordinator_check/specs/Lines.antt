@@ -8,7 +8,7 @@ use Rattle.lists.specs.Bytes.{below-append}
 use Rattle.lists.specs.All.{listed-is}
 use Rattle.decimal.specs.Field.{fieldText, ahead}
 use Rattle.decimal.specs.Laws.{fieldText-bytes}
-use Rattle.places.specs.Loads.{loaded, split-equal}
+use Rattle.line_bytes.specs.Loads.{loaded, split-equal}
 use Rattle.model.specs.Types.{Decision, Undecided, Committed, Aborted, DecisionWord}
 use Rattle.model.specs.Layouts.{lineLayout, words, wordAt}
 use Rattle.model.specs.Lines.{fieldBytes, lineText}
@@ -30,14 +30,14 @@ frontOf w = loaded (take 3 w) * 2 ^ 40 + 10
 abbrev pub backOf : List ℕ → ℕ
 backOf w = loaded (drop 3 w ++ (10 ∷ []))
 
--- the place that the word's fifth byte tells: ` `, `M` and `B` leave 0, 1 and 2 by 4
+-- the index that the word's fifth byte tells: ` `, `M` and `B` leave 0, 1 and 2 by 4
 abbrev pub told : ℕ → ℕ
 told back = back / 256 % 4
 
 abbrev pub wordFor : Decision → List ℕ
 wordFor d = wordAt DecisionWord (decisionNumber d)
 
--- the fronts for the decisions of the four places, and then their backs
+-- the fronts for the four decisions, and then their backs
 unfoldable pub table : (a b c d : Decision) → List ℕ
 table a b c d =
     frontOf (wordFor a)
@@ -147,7 +147,7 @@ front-room Committed = omega arith
 front-room Aborted = omega arith
 
 module _ (a b c d : Decision) where
-  -- the decision for a place
+  -- the decision for an index
   abbrev pub decisionFor : ℕ → Decision
   decisionFor i = getD (a ∷ b ∷ c ∷ d ∷ []) i Undecided
 

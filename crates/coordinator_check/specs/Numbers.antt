@@ -1,7 +1,7 @@
 -- The four columns of a line's number, taken as one number and counted up. The step from each number to the next is tested for all of them.
 use Rattle.lists.specs.Basics.{_≡_, refl, ap, _∙_, ℕ, suc, _+_, _-_, _*_, _/_, _%_, _^_, _≤_, _<_, eqb, ltb, Bool, cond, arith, eqb-true, ltb-true}
 use Rattle.decimal.specs.Field.{fieldText, ahead}
-use Rattle.places.specs.Loads.{loaded}
+use Rattle.line_bytes.specs.Loads.{loaded}
 use Rattle.sheet_laws.specs.Fields.{allBelow, below}
 
 -- the columns of the number k, the first weighing least

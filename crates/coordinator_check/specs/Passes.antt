@@ -5,7 +5,7 @@ use Rattle.lists.specs.Basics.{length, take, drop, getD, length-drop, drop-drop
 use Rattle.lists.specs.Basics.{eqList, eqList-true, eqList-refl, and-fst, and-snd, and-both}
 use Rattle.lists.specs.All.{all-at}
 use Rattle.lists.specs.Pieces.{take-drop-take}
-use Rattle.places.specs.Loads.{loaded}
+use Rattle.line_bytes.specs.Loads.{loaded}
 use Rattle.model.specs.Types.{Decision, Undecided}
 use Rattle.model.specs.Layouts.{lineLayout, coordinatorBytes, lineEnd}
 use Rattle.model.specs.Lines.{lineSet, rowOf}
@@ -128,12 +128,12 @@ pub record Ready (s : List ℕ) (after to before : ℕ) : Type 0 where
 
 -- How far it has come: the lines up to k, whose columns are `number`, are good, or one is not.
 pub record JudgedTo (words s : List ℕ) (after to k number : ℕ) (good : Bool) : Type 0 where
-  pub place : k ≤ to
+  pub reached : k ≤ to
   pub counted : number ≡ columns k
   pub left : (good && linesMade words k (to - k) (drop (k * coordinatorBytes + lineEnd) s)) ≡ linesMade words after (to - after) (drop (after * coordinatorBytes + lineEnd) s)
 
 pub judged-first : (words s : List ℕ) (after to before : ℕ) → Ready s after to before → JudgedTo words s after to after before true
-judged-first words s after to before t = record { place = t .order; counted = t .counted; left = refl }
+judged-first words s after to before t = record { reached = t .order; counted = t .counted; left = refl }
 
 pub judged-next : (words s : List ℕ) (after to k number next : ℕ) (good made : Bool) → k < to → to ≤ 999 → next ≡ following number
     → made ≡ lineMade next words (drop (k * coordinatorBytes + lineEnd) s) → JudgedTo words s after to k number good
@@ -150,7 +150,7 @@ judged-next words s after to k number next good made l m e q t =
     ∙ ap₂ _&&_ (ap (λ (i : ℕ). lineMade i words r) (sym c) ∙ sym q)
     (ap₂ (λ (i : ℕ) (u : List ℕ). linesMade words i (to - (k + 1)) u) (sym (add-one k)) d) in
     record {
-      place = omega arith;
+      reached = omega arith;
       counted = c ∙ ap columns (sym (add-one k));
       left = and-assoc good made _ ∙ (ap (λ (b : Bool). good && b) (sym o) ∙ t .left);
     }

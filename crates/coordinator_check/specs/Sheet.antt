@@ -11,7 +11,7 @@ use Rattle.decimal.specs.declared.Scan.{Scan}
 use Rattle.decimal.specs.declared.Scan.the-variants.{Blank, Number, Wrong}
 use Rattle.decimal.specs.Field.{figure, number, isNumber, fieldText, ahead}
 use Rattle.decimal.specs.Laws.{isNumber-number, written-read}
-use Rattle.places.specs.Loads.{loaded}
+use Rattle.line_bytes.specs.Loads.{loaded}
 use Rattle.model.specs.Types.{Decision, Undecided, Committed, Aborted}
 use Rattle.model.specs.Layouts.{headLayout, lineLayout, words, coordinatorBytes, leastCoordinatorBytes, lineEnd, mostCoordinatorBytes}
 use Rattle.model.specs.Lines.{rowOf, lineSet, linesOf}
@@ -37,7 +37,7 @@ pub whole-parts : (n : ℕ) → wholeLines n ≡ true → Whole n
 unfolding wholeLines
 whole-parts n h = record { least = search tests; most = search tests; turns = search tests }
 
--- the table for lines with any decision; nothing that is read tells the fourth place
+-- the table for lines with any decision; nothing that is read tells the fourth index
 abbrev pub anyDecision : List ℕ
 anyDecision = table Undecided Committed Aborted Undecided
 
@@ -264,7 +264,7 @@ pub columns-zero : loaded (32 ∷ 32 ∷ 32 ∷ 48 ∷ []) ≡ columns 0
 unfolding fieldText ahead
 columns-zero = refl
 
-module _ (s : List ℕ) (issued : ℕ) (whole : wholeLines (length s) ≡ true) (place : issued ≤ count s) where
+module _ (s : List ℕ) (issued : ℕ) (whole : wholeLines (length s) ≡ true) (inside : issued ≤ count s) where
   pub ready-low : (before : ℕ) → before ≡ columns 0 → Ready s 0 issued before
   ready-low before q =
       let w = whole-parts (length s) whole in
@@ -275,7 +275,7 @@ module _ (s : List ℕ) (issued : ℕ) (whole : wholeLines (length s) ≡ true) 
       let w = whole-parts (length s) whole in
       let n : length (take 4 s) ≡ 4 = simp length-take (omega arith) in
       let t : take 4 s ≡ fieldText 4 issued = written-read 0 999 (take 4 s) issued f .0 ∙ ap (λ (k : ℕ). fieldText k issued) n in
-      record { order = place; few = omega arith; long = omega arith; counted = q ∙ ap loaded t }
+      record { order = inside; few = omega arith; long = omega arith; counted = q ∙ ap loaded t }
 
 -- The code's tests in turn.
 

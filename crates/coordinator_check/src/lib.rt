@@ -10,7 +10,7 @@ mod head;
 mod lines;
 
 use decimal::Scan;
-use places::half;
+use line_bytes::half;
 use types::BEFORE_TXID_AT;
 use types::COORDINATOR_BYTES;
 use types::LEAST_COORDINATOR_BYTES;

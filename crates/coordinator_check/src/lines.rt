@@ -12,8 +12,8 @@ ghost use Rattle.coordinator_check.specs.Numbers.{gained, following};
 ghost use Rattle.coordinator_check.specs.Lines.{frontOf, backOf, Table, lineMade};
 ghost use Rattle.coordinator_check.specs.Passes.{linesMade, Ready};
 ghost use Rattle.coordinator_check.specs.Sheet.{wholeLines, anyDecision, noDecision, decisionsMade};
-use places::load_eight;
-use places::load_four;
+use line_bytes::load_eight;
+use line_bytes::load_four;
 use types::COORDINATOR_BYTES;
 use types::LINE_END;
 
@@ -60,7 +60,7 @@ fn back(text: &[u8]) -> u64
     load_eight(text, 2) / 256 + 0x0a00_0000_0000_0000
 }
 
-// Fronts and then backs, each at the place that the word's fifth byte tells: ` `, `M` and `B` leave 0, 1 and 2 by 4, and no word's leaves 3.
+// Fronts and then backs, each at the index that the word's fifth byte tells: ` `, `M` and `B` leave 0, 1 and 2 by 4, and no word's leaves 3.
 fn any_decision() -> [u64; 8]
     ensures { λ r. ⌜ r ≡ anyDecision ⌝ }
     ensures { λ r. ⌜ Table r ⌝ }

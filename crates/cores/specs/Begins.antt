@@ -14,7 +14,7 @@ use Rattle.model.specs.ByteCalls.{sheetsOf}
 use Rattle.sheet_laws.specs.Coordinator.{bounds}
 use Rattle.sheet_laws.specs.Decisions.{length-decisions, accepted-length, accepted-parts}
 use Rattle.call_laws.specs.Keeping.{strictly}
-use Rattle.call_laws.specs.Places.{count-raised}
+use Rattle.call_laws.specs.ByIndex.{count-raised}
 use Rattle.call_laws.specs.Accepted.{Written, Outcome, outcome-refused, outcome-made, Accepted, lines-kept}
 use Rattle.cores.specs.declared.Returned.{Returned}
 use Rattle.cores.specs.Answers.{toBegun, returned-made}

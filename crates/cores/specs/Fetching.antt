@@ -14,7 +14,7 @@ use Rattle.model.specs.Conditions.{isNew, conditions}
 use Rattle.model.specs.Calls.{holding, readNew, outcome, result}
 use Rattle.model.specs.ByteCalls.{sheetsOf}
 use Rattle.transactions.specs.Held.{entryAt}
-use Rattle.call_laws.specs.Places.{found-at}
+use Rattle.call_laws.specs.ByIndex.{found-at}
 use Rattle.call_laws.specs.Accepted.{Outcome, outcome-made, Accepted, written-nothing, unless-front, unless-past}
 use Rattle.recover.specs.Recovering.{lineAt, Standing, standing, Recovered, recovered-line, unlessBusy, outcome-met}
 use Rattle.admission.specs.Admission.{admittingOpen, opened}
@@ -124,7 +124,7 @@ module _ (t : Transaction) (now : ℕ) (rs cs : List ℕ) (i : ℕ) (a : NewRead
       let n : leb 8 (t .count) ≡ false = lt-leb 8 (t .count) l in
       read-has t (here .key) now rs cs i (a .line)
       ∙ (rw (a .new, n) (met-new t (meeting now (coordinatorOf cs) (lineOf (here .key) (records rs))) (lineOf (here .key) (records rs)))
-      ∙ ap (λ (r : Record). unlessBusy (meeting now (coordinatorOf cs) r) (readMet (meeting now (coordinatorOf cs) r) r t) r) (sym (read-standing .place .line)))
+      ∙ ap (λ (r : Record). unlessBusy (meeting now (coordinatorOf cs) r) (readMet (meeting now (coordinatorOf cs) r) r t) r) (sym (read-standing .index .line)))
 
   -- the record is that of line i after the visit
   pub read-outcome : (v : Recovery) (r : Record) {answer : Fetched} {rs′ cs′ : List ℕ} → t .count < 8 → Recovered now i rs cs v rs′ cs′ → r ≡ lineAt rs′ i → answer ≡ fetchedMet v r t → Outcome (toFetched t) (result (read t (here .key) now) (sheetsOf rs cs)) rs cs answer rs′ cs′

@@ -21,7 +21,7 @@ heldConditions t k c = refuse 7 (not (columnsInRange c)) ∷ refuse 10 (isNew k 
 unfoldable pub putHeld : Transaction → Key → Columns → Result Answer
 putHeld t k c = unless (heldConditions t k c) (made (returned (afterPut t k c)) nothing)
 
--- a put over the entry at a place
+-- a put over the entry at an index
 unfoldable pub putAt : Transaction → ℕ → Columns → Result Answer
 putAt t i c =
     cond (leb 99999 (entryAt t i .seen .version)) (refused 11)

@@ -11,7 +11,7 @@ use Rattle.model.specs.Conditions.{conditions}
 use Rattle.model.specs.Calls.{outcome, result}
 use Rattle.model.specs.ByteCalls.{sheetsOf}
 use Rattle.call_laws.specs.Lines.{has-line}
-use Rattle.call_laws.specs.Places.{found-at}
+use Rattle.call_laws.specs.ByIndex.{found-at}
 use Rattle.call_laws.specs.Accepted.{Outcome}
 use Rattle.recover.specs.Recovering.{lineAt, Standing, Recovered, line-parts, unlessBusy, outcome-met}
 use Rattle.cores.specs.declared.Visited.{Visited}
@@ -44,11 +44,11 @@ module _ (now : ℕ) (rs cs : List ℕ) (i : ℕ) (s : Standing rs cs i) where
   visit-met =
       let k = lineAt rs i .key in
       let v = meeting now (coordinatorOf cs) (lineOf k (records rs)) in
-      let h : hasLine k (records rs) ≡ true = has-line k (records rs) ∙ s .place .listed in
+      let h : hasLine k (records rs) ≡ true = has-line k (records rs) ∙ s .index .listed in
       ap₂ (λ (x y : Bool). unless (refuse 5 (not x) ∷ refuse 6 (not y) ∷ refuse 12 (isBusy v) ∷ []) (made (visited v) (recoveryWrite v (lineOf k (records rs)))))
       (line-parts rs cs i s .key) h
       ∙ (unless-busy (isBusy v) _
-      ∙ ap (λ (r : Record). unlessBusy (meeting now (coordinatorOf cs) r) (visited (meeting now (coordinatorOf cs) r)) r) (sym (s .place .line)))
+      ∙ ap (λ (r : Record). unlessBusy (meeting now (coordinatorOf cs) r) (visited (meeting now (coordinatorOf cs) r)) r) (sym (s .index .line)))
 
   pub visit-outcome : (v : Recovery) {answer : Visited} {rs′ cs′ : List ℕ} → Recovered now i rs cs v rs′ cs′ → answer ≡ visitedBy v → Outcome toVisited (result (visit (lineAt rs i .key) now) (sheetsOf rs cs)) rs cs answer rs′ cs′
   visit-outcome v h a =

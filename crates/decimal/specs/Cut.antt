@@ -45,7 +45,7 @@ unfolding scannedTo steppedTo stepped capped
 scan-to-wrong high [] = refl
 scan-to-wrong high (b ∷ s) = scan-to-wrong high s
 
--- The byte at place i, met with spaces alone before it or behind a figure.
+-- The byte in column i, met with spaces alone before it or behind a figure.
 module _ (high : ℕ) (s : List ℕ) (i : ℕ) (within : i < length s) where
   next-byte : (st : Scan) → scannedTo high st (drop i s) ≡ scannedTo high (steppedTo high st (getD s i 0)) (drop (i + 1) s)
   unfolding scannedTo

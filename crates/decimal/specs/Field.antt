@@ -42,13 +42,13 @@ isNumber (Number v) = true
 isNumber Wrong = false
 
 -- a digit, or a space where nothing is left of the figure
-abbrev pub place : ℕ → ℕ
-place v = cond (eqb v 0) 32 (48 + v % 10)
+abbrev pub columnByte : ℕ → ℕ
+columnByte v = cond (eqb v 0) 32 (48 + v % 10)
 
 -- w columns that hold the figure v, all of them spaces where v is 0
 unfoldable pub ahead : ℕ → ℕ → List ℕ
 ahead zero v = []
-ahead (suc w) v = ahead w (v / 10) ++ (place v ∷ [])
+ahead (suc w) v = ahead w (v / 10) ++ (columnByte v ∷ [])
 
 -- the field of w columns that holds the figure v
 unfoldable pub fieldText : ℕ → ℕ → List ℕ

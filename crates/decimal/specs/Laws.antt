@@ -8,7 +8,7 @@ use lib.Seq.{append-snoc}
 use Rattle.lists.specs.Bytes.{below-append, below-one}
 use Rattle.decimal.specs.declared.Scan.{Scan}
 use Rattle.decimal.specs.declared.Scan.the-variants.{Blank, Number, Wrong}
-use Rattle.decimal.specs.Field.{isDigit, stepped, scanned, within, figure, number, isNumber, place, ahead, fieldText}
+use Rattle.decimal.specs.Field.{isDigit, stepped, scanned, within, figure, number, isNumber, columnByte, ahead, fieldText}
 
 -- what one byte b does to a scan
 pub data Step (b : ℕ) : Scan → Scan → Type 0 where
@@ -138,7 +138,7 @@ last-digit v = choose-by (λ (st : Scan). stepped st (48 + v % 10) ≡ Number v)
     behind e = let m : v / 10 * 10 + (48 + v % 10 - 48) ≡ v = omega arith in rw (e, digit, m)
 
 -- the last column of v, a digit or a space
-last-column : (v : ℕ) → stepped (standing (v / 10)) (place v) ≡ standing v
+last-column : (v : ℕ) → stepped (standing (v / 10)) (columnByte v) ≡ standing v
 unfolding standing stepped
 last-column v = go (eqb v 0) refl
   where
@@ -180,9 +180,9 @@ ahead-bytes (suc w) v i =
     below-append
     256
     (ahead w (v / 10))
-    (place v ∷ [])
+    (columnByte v ∷ [])
     (ahead-bytes w (v / 10))
-    (below-one 256 (place v) (choose-by (λ (b : ℕ). b < 256) (eqb v 0) (λ e. omega arith) (λ e. omega arith)))
+    (below-one 256 (columnByte v) (choose-by (λ (b : ℕ). b < 256) (eqb v 0) (λ e. omega arith) (λ e. omega arith)))
     i
 
 pub fieldText-bytes : (w v i : ℕ) → getD (fieldText w v) i 0 < 256

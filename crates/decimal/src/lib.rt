@@ -5,7 +5,7 @@ ghost use mathlib.Core.Bool.{false};
 ghost use lib.Dec.{eqb};
 ghost use lib.ListN.{length, getD, drop};
 ghost use Rattle.lists.specs.Bytes.{eqList};
-ghost use Rattle.decimal.specs.Field.{within, figure, place, fieldText};
+ghost use Rattle.decimal.specs.Field.{within, figure, columnByte, fieldText};
 ghost use Rattle.decimal.specs.Cut.{longer, scannedTo, spaces};
 ghost use Rattle.decimal.specs.Word.{putWord};
 
@@ -67,7 +67,7 @@ fn spaces(s: &[u8]) -> usize
     n
 }
 
-// The digits from place `from` on, behind the figure `first`: nothing follows a leading `0`.
+// The digits from column `from` on, behind the figure `first`: nothing follows a leading `0`.
 fn digits(s: &[u8], from: usize, first: u32, high: u32) -> Scan
     ensures { λ r. ⌜ r ≡ scannedTo high (Scan.Number first) (drop from (now (s .entry))) ⌝ }
 {
@@ -88,7 +88,7 @@ fn digits(s: &[u8], from: usize, first: u32, high: u32) -> Scan
     Scan::Number(v)
 }
 
-// The figure whose first digit is at place `start`, behind spaces.
+// The figure whose first digit is in column `start`, behind spaces.
 fn behind(s: &[u8], start: usize, high: u32) -> Scan
     requires { ⌜ start < length (now s) ⌝ }
     requires { ⌜ eqb (getD (now s) start 0) 32 ≡ false ⌝ }
@@ -114,7 +114,7 @@ pub fn read(s: &[u8], low: u32, high: u32) -> Scan
 
 // The last digit of what is left of a figure, or a space where nothing is left.
 fn column(rest: u32) -> u8
-    ensures { λ r. ⌜ r ≡ place rest ⌝ }
+    ensures { λ r. ⌜ r ≡ columnByte rest ⌝ }
 {
     if rest == 0 {
         return 32;

@@ -1,5 +1,5 @@
 -- A group written entry by entry: each change is of the line of one key, and since no two entries have a key in common, one after another they make the map
--- that the model applies. The new line is written over the old one at its place.
+-- that the model applies. The new line is written over the old one at its index.
 use Rattle.lists.specs.Basics.{_≡_, refl, sym, ap, ap₂, _∙_, ℕ, _*_, _/_, _<_, ltb, Bool, true, false, _&&_, _||_, cond, List, [], _∷_, map, length, take, drop}
 use Rattle.lists.specs.Basics.{getD, set, Option, none, some, arith, ltb-true, lt-ltb, all, any, choose-by, tests, or-fst, or-snd}
 use Rattle.lists.specs.All.{map-map, map-equal, all-always}
@@ -11,10 +11,10 @@ use Rattle.model.specs.Images.{Change, changeOf, preparedBy, prepared, committe
 use Rattle.model.specs.Writes.{Write, commit, prepare, forward, back, entryFor, byEntry, isOf, lineAfter, linesAfter}
 use Rattle.model.specs.Steps.{keysOf}
 use Rattle.sheet_laws.specs.Records.{good-ranged, record-written-read}
-use Rattle.sheet_laws.specs.Places.{whole-lines, length-records, record-at, line-set, records-over}
+use Rattle.sheet_laws.specs.ByIndex.{whole-lines, length-records, record-at, line-set, records-over}
 use Rattle.call_laws.specs.Lines.{lines-unmoved}
 use Rattle.call_laws.specs.Keys.{same-key, same-key-refl, same-key-flip, hasKey, no-entry}
-use Rattle.call_laws.specs.Places.{FoundAt, found-at, atKey, set-at-key, line-replaced}
+use Rattle.call_laws.specs.ByIndex.{FoundAt, found-at, atKey, set-at-key, line-replaced}
 use Rattle.group_writes.specs.declared.changes.Effect.{Effect}
 use Rattle.group_writes.specs.declared.changes.Effect.the-variants.{Commit, Prepare, Forward, Back}
 

@@ -17,7 +17,7 @@ use Rattle.model.specs.WellFormed.{linesHeld}
 use Rattle.sheet_laws.specs.Search.{some-found, first-at, first-map}
 use Rattle.call_laws.specs.Entries.{getD-first}
 use Rattle.call_laws.specs.Keys.{same-key, hasKey}
-use Rattle.call_laws.specs.Places.{found-at}
+use Rattle.call_laws.specs.ByIndex.{found-at}
 use Rattle.transactions.specs.Held.{PassedTo, entryAt, after, held-below, has-room, pass-next}
 use Rattle.put_groups.specs.Groups.{inGroup}
 use Rattle.put_groups.specs.GroupsIn.{groupsIn, in-group-at}

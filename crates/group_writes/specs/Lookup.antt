@@ -1,4 +1,4 @@
--- What a look-up by key tells, by the two cases of what is found: a key out of range is found nowhere, and a found place is that of the key's line.
+-- What a look-up by key tells, by the two cases of what is found: a key out of range is found nowhere, and a found index is that of the key's line.
 use Rattle.lists.specs.Basics.{_≡_, refl, sym, ap, _∙_, ℕ, true, false, true≢false, List, getD, all, tests}
 use Rattle.model.specs.Types.{Key, Record, Found, At, Nothing, Entry}
 use Rattle.model.specs.Records.{noRecord, records, recordsGood, recordsAccepted, goodAlone, keyInRange, found, isMissing, hasLine, lineOf}
@@ -8,7 +8,7 @@ use Rattle.model.specs.Steps.{holds}
 use Rattle.sheet_laws.specs.Records.{good-ranged}
 use Rattle.sheet_laws.specs.Keys.{key-ranged}
 use Rattle.call_laws.specs.Lines.{listsKey, line-of-key, line-passes}
-use Rattle.call_laws.specs.Places.{found-at}
+use Rattle.call_laws.specs.ByIndex.{found-at}
 
 -- every line of an accepted sheet is good alone
 accepted-good : (s : List ℕ) → recordsAccepted s ≡ true → all goodAlone (records s) ≡ true
@@ -28,7 +28,7 @@ found-in-range s k a h = go (found k (records s)) refl
     go Nothing e = refl
     go (At i) e = absurd (true≢false (sym (line-in-range s k a (found-at k (records s) i e .listed)) ∙ h))
 
--- What the line at a found place tells.
+-- What the line at a found index tells.
 module _ (k : Key) (rs : List Record) where
   pub has-line-at : (i : ℕ) → found k rs ≡ At i → true ≡ hasLine k rs
   unfolding isMissing

@@ -19,7 +19,7 @@ use Rattle.model.specs.Steps.{groupAt}
 use Rattle.model.specs.ByteCalls.{sheetsOf}
 use Rattle.sheet_laws.specs.Records.{sheet-written-read}
 use Rattle.call_laws.specs.Keys.{hasKey, kept-key}
-use Rattle.call_laws.specs.Places.{atKey}
+use Rattle.call_laws.specs.ByIndex.{atKey}
 use Rattle.transactions.specs.Held.{PassedTo, entryAt, after, pass-first, pass-here, pass-next, pass-last}
 use Rattle.group_writes.specs.declared.changes.Effect.{Effect}
 use Rattle.group_writes.specs.Groups.{ofGroup, groupIn, group-in}
@@ -90,7 +90,7 @@ module _ (c : Effect) (cs : List ℕ) (t : Transaction) where
       record {
         accepted = m .accepted;
         lines = pass-first t (leaves rs) p (m .few);
-        ahead = record { place = a .place; room = a .room; rest = and-both (m .distinct) f };
+        ahead = record { reached = a .reached; room = a .room; rest = and-both (m .distinct) f };
         indexed = m .indexed;
       }
 

@@ -31,7 +31,7 @@ unfoldable pub pieces {ℓ} : {A : Type ℓ} → ℕ → ℕ → List A → List
 pieces w zero s = []
 pieces w (suc n) s = take w s ∷ pieces w n (drop w s)
 
--- the n elements from place i on, 0 past the end
+-- the n elements from i on, 0 past the end
 unfoldable pub listed : ℕ → ℕ → List ℕ → List ℕ
 listed i zero v = []
 listed i (suc n) v = getD v i 0 ∷ listed (suc i) n v

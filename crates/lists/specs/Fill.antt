@@ -10,14 +10,14 @@ use Rattle.lists.specs.Pieces.{over, length-over}
 use Rattle.lists.specs.Walks.{drop-here}
 
 pub record FilledTo (w : ℕ) (parts : List (List ℕ)) (target : List ℕ) (i : ℕ) : Type 0 where
-  pub place : i ≤ length parts
+  pub reached : i ≤ length parts
   pub room : length target ≡ length parts * w
   pub done : take (i * w) target ++ joined (drop i parts) ≡ joined parts
 
 pub fill-first : (w : ℕ) (parts : List (List ℕ)) (target : List ℕ) → length target ≡ length parts * w → FilledTo w parts target 0
 fill-first w parts target n =
     let z : 0 * w ≡ 0 = zero-mul w in
-    record { place = omega arith; room = n; done = rw z }
+    record { reached = omega arith; room = n; done = rw z }
 
 -- there is room for piece i
 pub fill-room : (w n i : ℕ) → i < n → i * w + w ≤ n * w
@@ -41,7 +41,7 @@ fill-next w parts target t i l e n f =
     ap₂ take s (sym (append-assoc (take (i * w) target) t (drop (i * w + length t) target)))
     ∙ take-at (take (i * w) target ++ t) (drop (i * w + length t) target) (i * w + w) k in
     record {
-      place = omega arith;
+      reached = omega arith;
       room = length-over target t (i * w) (omega arith) ∙ m;
       done =
           ap (λ (x : List ℕ). x ++ joined (drop (i + 1) parts)) a
@@ -52,7 +52,7 @@ fill-next w parts target t i l e n f =
 pub fill-last : (w : ℕ) (parts : List (List ℕ)) (target : List ℕ) (i : ℕ) → length parts ≤ i → FilledTo w parts target i → target ≡ joined parts
 unfolding joined
 fill-last w parts target i l f =
-    let p : i ≤ length parts = f .place in
+    let p : i ≤ length parts = f .reached in
     let e : i ≡ length parts = omega arith in
     let d : drop i parts ≡ [] = drop-of-length-le parts l in
     let m : length target ≡ length parts * w = f .room in
@@ -62,12 +62,12 @@ fill-last w parts target i l f =
 
 -- One by one.
 pub record StoredTo (parts target : List ℕ) (i : ℕ) : Type 0 where
-  pub place : i ≤ length parts
+  pub reached : i ≤ length parts
   pub room : length target ≡ length parts
   pub done : take i target ++ drop i parts ≡ parts
 
 pub store-first : (parts target : List ℕ) → length target ≡ length parts → StoredTo parts target 0
-store-first parts target n = record { place = omega arith; room = n; done = refl }
+store-first parts target n = record { reached = omega arith; room = n; done = refl }
 
 pub store-next : (parts target : List ℕ) (v i : ℕ) → i < length parts → v ≡ getD parts i 0 → StoredTo parts target i → StoredTo parts (set target i v) (i + 1)
 store-next parts target v i l e f =
@@ -76,7 +76,7 @@ store-next parts target v i l e f =
     ap (λ (k : ℕ). take k (set target i v)) (add-one i) ∙ take-suc-set target i v (omega arith) in
     let d : drop i parts ≡ v ∷ drop (i + 1) parts = drop-here parts i 0 v l e in
     record {
-      place = omega arith;
+      reached = omega arith;
       room = length-set target i v ∙ m;
       done =
           ap (λ (x : List ℕ). x ++ drop (i + 1) parts) t

@@ -1,4 +1,4 @@
--- Membership in a list, as data: what tests, choices and places say of the members. Each goes by induction on the membership.
+-- Membership in a list, as data: what tests, choices and indices say of the members. Each goes by induction on the membership.
 use Rattle.lists.specs.Kit.{_≡_, refl, sym, _∙_, ℕ, zero, suc, _<_, Bool, true, true≢false, List, [], _∷_, _++_, length, take, getD, set, _⊎_, inl, inr}
 use Rattle.lists.specs.Kit.{arith}
 use Rattle.lists.specs.Tests.{and-fst, and-snd, choose-by}
@@ -72,7 +72,7 @@ module _ {A : Type 0} {x : A} where
   mem-kept d y (suc i) (z ∷ xs) here = inl here
   mem-kept d y (suc i) (z ∷ xs) (there m) = later (mem-kept d y i xs m)
 
--- The element at a place.
+-- The element at an index.
 module _ {A : Type 0} where
   pub mem-at : (xs : List A) (i : ℕ) (d : A) → i < length xs → Mem (getD xs i d) xs
   mem-at [] i d l = absurd (omega arith)

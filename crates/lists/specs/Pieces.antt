@@ -1,4 +1,4 @@
--- Laws of pieces: a list of n * w elements is its n pieces joined, and a piece is found and replaced by its place.
+-- Laws of pieces: a list of n * w elements is its n pieces joined, and a piece is found and replaced by its index.
 -- Each goes by induction on the number of pieces.
 use Rattle.lists.specs.Kit.{_≡_, refl, sym, ap, ap₂, _∙_, ℕ, zero, suc, _+_, _-_, _*_, _≤_, _<_, List, [], _∷_, _++_, append-assoc, length, take, drop}
 use Rattle.lists.specs.Kit.{getD, set, length-append, length-take, length-drop, drop-drop, drop-at, take-at, take-add, take-take, arith}
@@ -79,7 +79,7 @@ pub over-zero {ℓ} : {A : Type ℓ} (s t : List A) → over s 0 t ≡ t ++ drop
 unfolding over
 over-zero s t = rw zero-add
 
--- what stands in a place, written there again
+-- what stands from a on, written there again
 pub over-same {ℓ} : {A : Type ℓ} (s : List A) (a n : ℕ) → a + n ≤ length s → over s a (take n (drop a s)) ≡ s
 unfolding over
 over-same s a n l =
@@ -91,7 +91,7 @@ pub over-part {ℓ} : {A : Type ℓ} (s t : List A) (a e : ℕ) → length t ≡
 unfolding over
 over-part s t a e n = rw (drop-drop, ← n)
 
--- what stands before the place replaced
+-- what stands before the part replaced
 pub over-after {ℓ} : {A : Type ℓ} (s t : List A) (w a : ℕ) → over s (w + a) t ≡ take w s ++ over (drop w s) a t
 unfolding over
 over-after s t w a =

@@ -8,12 +8,12 @@ pub drop-here : {A : Type 0} (xs : List A) (i : ℕ) (d x : A) → i < length xs
 drop-here xs i d x l e = drop-cons xs i d l ∙ ap₂ _∷_ (sym e) (ap (λ (k : ℕ). drop k xs) (sym (add-one i)))
 
 pub record LeftFrom {A B : Type 0} (xs : List A) (f : List A → B) (w : B) (i : ℕ) : Type 0 where
-  pub place : i ≤ length xs
+  pub reached : i ≤ length xs
   pub rest : f (drop i xs) ≡ w
 
 module _ {A B : Type 0} (xs : List A) (f : List A → B) where
   pub left-first : LeftFrom xs f (f xs) 0
-  left-first = record { place = omega arith; rest = refl }
+  left-first = record { reached = omega arith; rest = refl }
 
   -- element i and those after it
   pub left-here : (d x : A) (w : B) (i : ℕ) → i < length xs → x ≡ getD xs i d → LeftFrom xs f w i → f (x ∷ drop (i + 1) xs) ≡ w

@@ -7,7 +7,7 @@ use Rattle.model.specs.SheetCalls.{lineAt}
 use Rattle.model.specs.Groups.{scope}
 use Rattle.model.specs.ByteHistories.{Bytes}
 
--- the fields of the key of the line at place i that the unit of its storage compares
+-- the fields of the key of line i that the unit of its storage compares
 abbrev pub scopeAt : ℕ → Bytes → List ℕ
 scopeAt i b = scope (coordinatorOf (b .coordinator) .units) (recordIn (lineAt (b .records) (At i)) .key)
 

@@ -11,7 +11,7 @@ pub record Coordinator : Type 0 where
   pub units : List AtomicityUnit
   pub decisions : List Decision
 
--- Words by their place among the words.
+-- Words by their index among the words.
 
 unfoldable pub decisionNumber : Decision → ℕ
 decisionNumber Undecided = 0

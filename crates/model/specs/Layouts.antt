@@ -53,7 +53,7 @@ recordLayout =
 abbrev pub imageFields : ℕ
 imageFields = 4
 
--- The fields of a record line by their places: after the key the state word, then the image, the image before it, the clock.
+-- The fields of a record line by their indices: after the key the state word, then the image, the image before it, the clock.
 abbrev pub stateField : ℕ
 stateField = 5
 

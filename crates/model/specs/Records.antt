@@ -7,7 +7,7 @@ use Rattle.model.specs.Layouts.{recordLayout, keyLayout, stateField, ima
 use Rattle.model.specs.Lines.{rowOf, lineText, rowGood, linesOf, linesSet}
 use Rattle.model.specs.Search.{firstFrom}
 
--- State words by their place among the words.
+-- State words by their index among the words.
 
 unfoldable pub stateNumber : State → ℕ
 stateNumber Absent = 0
@@ -36,7 +36,7 @@ unfoldable pub keyOf : List ℕ → Key
 keyOf v =
     record { storage = getD v 0 0; namespace = getD v 1 0; table = getD v 2 0; partition = getD v 3 0; clustering = getD v 4 0 }
 
--- the image whose numbers start at place i
+-- the image whose numbers start at number i
 unfoldable pub imageFrom : ℕ → List ℕ → Image
 imageFrom i v =
     record { version = getD v i 0; txid = getD v (i + 1) 0; column1 = getD v (i + 2) 0; column2 = getD v (i + 3) 0 }
@@ -163,7 +163,7 @@ keyInRange k = rowGood keyLayout (keyNumbers k)
 unfoldable pub sameKey : Key → Key → Bool
 sameKey a b = eqList (keyNumbers a) (keyNumbers b)
 
--- the place of the line that has the key
+-- the index of the line that has the key
 unfoldable pub found : Key → List Record → Found
 found k rs = firstFrom (λ (r : Record). sameKey (r .key) k) 0 rs
 

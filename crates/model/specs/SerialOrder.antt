@@ -30,7 +30,7 @@ toldChecked (visit k now) = true
 abbrev pub begunChecked : Event → Bool
 begunChecked e = leb 1 (refusalIn (e .answer)) || toldChecked (e .call)
 
--- "all in one order by these steps": the step that takes t and returns t′ gives the transaction its place.
+-- "all in one order by these steps": the step that takes t and returns t′ gives the transaction its position.
 
 -- "those with puts .. in the order of their last prepare": the step from prepare to check or decide
 abbrev pub lastPrepare : Transaction → Transaction → Bool
@@ -40,21 +40,21 @@ lastPrepare t t′ = eqb (t .phase) preparePhase && (eqb (t′ .phase) validateP
 abbrev pub leftOpen : Transaction → Transaction → Bool
 leftOpen t t′ = eqb (t .phase) openPhase && isEmpty (puts t) && (eqb (t′ .phase) validatePhase || eqb (t′ .phase) donePhase)
 
-abbrev pub getsPlace : Transaction → Transaction → Bool
-getsPlace t t′ = lastPrepare t t′ || leftOpen t t′
+abbrev pub getsPosition : Transaction → Transaction → Bool
+getsPosition t t′ = lastPrepare t t′ || leftOpen t t′
 
 -- the order after a call that took the first and returned the second
 abbrev pub placedBy : Option Transaction → Option Transaction → List ℕ → List ℕ
-placedBy (some t) (some t′) ns = cond (getsPlace t t′) (t .number ∷ ns) ns
+placedBy (some t) (some t′) ns = cond (getsPosition t t′) (t .number ∷ ns) ns
 placedBy (some t) none ns = ns
 placedBy none u ns = ns
 
--- the numbers by their places after these events, the last one first, like the events. One that is not committed has its place too, and doesn't run.
+-- the numbers by their positions after these events, the last one first, like the events. One that is not committed has its position too, and doesn't run.
 unfoldable pub serialOrder : List Event → List ℕ
 serialOrder [] = []
 serialOrder (e ∷ es) = placedBy (taken e) (returns (e .answer)) (serialOrder es)
 
--- the numbers that have their place before n
+-- the numbers that have their position before n
 unfoldable pub placedBefore : ℕ → List ℕ → List ℕ
 placedBefore n [] = []
 placedBefore n (i ∷ ns) = cond (eqb n i) ns (placedBefore n ns)
@@ -74,7 +74,7 @@ pub record Saw (line : Record) (k : Key) (v : Reading) (t′ : Transaction) : Ty
 
 -- "the committed ones read and wrote what they would have", of the first record sheet, the sequential model at the end of the history and the calls made in it
 pub record Serializable (first : List Record) (m : Model) (es : List Event) : Type 0 where
-  -- each committed one has one place
+  -- each committed one has one position
   pub placed : (n : ℕ) → isCommitted n m ≡ true → count (eqb n) (serialOrder es) ≡ 1
   -- each of its reads saw the line that those before it leave. "Refused reads, *again* .. don't count as reads."
   pub reads : (t : Transaction) (k : Key) (now : ℕ) (v : Reading) (t′ : Transaction) → Mem (record { call = read t k now; answer = answered v t′ }) es

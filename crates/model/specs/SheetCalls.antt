@@ -61,7 +61,7 @@ coordinatorWritten v target = unlessRefused (writeCoordinatorConditions v target
 unfoldable pub lookupConditions : List ℕ → Key → List Condition
 lookupConditions s k = refuse 1 (not (recordsAccepted s)) ∷ refuse 5 (not (keyInRange k)) ∷ refuse 6 (isMissing (found k (records s))) ∷ []
 
--- the bytes of the line at a place, none at no place
+-- the bytes of the line at an index, none where nothing was found
 unfoldable pub lineAt : List ℕ → Found → List ℕ
 lineAt s (At i) = take recordBytes (drop (i * recordBytes) s)
 lineAt s Nothing = []

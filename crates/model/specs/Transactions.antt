@@ -82,7 +82,7 @@ abbrev pub isEmpty {ℓ} : {A : Type ℓ} → List A → Bool
 isEmpty [] = true
 isEmpty (x ∷ xs) = false
 
--- the place of the entry that holds the key
+-- the index of the entry that holds the key
 unfoldable pub heldAt : Key → Transaction → Found
 heldAt k t = firstFrom (λ (e : Entry). sameKey (e .key) k) 0 (held t)
 
@@ -116,7 +116,7 @@ moved phase place verdict t =
       entries = t .entries;
     }
 
--- the first n entries in use, and e at place i
+-- the first n entries in use, and e as entry i
 abbrev pub withEntry : ℕ → ℕ → Entry → Transaction → Transaction
 withEntry n i e t =
     record {

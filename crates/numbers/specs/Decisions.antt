@@ -73,7 +73,7 @@ module _ (issued : ℕ) (ds : List ℕ) (i : ℕ) (here : i < length ds) (p : Pa
   pass-bad l = rw (lt-leb (getD ds i 0) (highest (issued - i)) l) at pass-turn
 
   pub pass-next : getD ds i 0 ≤ highest (issued - i) → PassedTo issued ds (i + 1)
-  pass-next l = record { place = omega arith; rest = rw (le-leb (getD ds i 0) (highest (issued - i)) l) at pass-turn }
+  pass-next l = record { reached = omega arith; rest = rw (le-leb (getD ds i 0) (highest (issued - i)) l) at pass-turn }
 
 pub pass-last : (issued : ℕ) (ds : List ℕ) (i : ℕ) → length ds ≤ i → PassedTo issued ds i → true ≡ decisionsPass issued ds
 unfolding decisionsPass

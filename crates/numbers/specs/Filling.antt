@@ -1,4 +1,4 @@
--- Filling a target line by line: what the code lends for place i, and what it leaves there.
+-- Filling a target line by line: what the code lends for line i, and what it leaves there.
 use Rattle.lists.specs.Basics.{_≡_, sym, ap, _∙_, ℕ, _+_, _-_, _*_, _≤_, _<_, List, [], _++_, map, length, take, drop, getD, length-map, List·getD-map, arith}
 use Rattle.lists.specs.Basics.{joined, pieces}
 use Rattle.lists.specs.All.{getD-any}

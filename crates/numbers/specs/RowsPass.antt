@@ -88,7 +88,7 @@ module _ (v : List ℕ) (i : ℕ) (here : i < length v / recordFields) where
   judge-late j e f = rw (e, f) at (judge-turn j)
 
   pub judge-next : JudgedTo v i → rowOk (rowAt v i) ≡ true → before (rowAt v i) (drop (i + 1) (rows v)) ≡ true → JudgedTo v (i + 1)
-  judge-next j e f = record { place = omega (arith, length-rows v); rest = rw (e, f) at (judge-turn j) }
+  judge-next j e f = record { reached = omega (arith, length-rows v); rest = rw (e, f) at (judge-turn j) }
 
 -- the last row comes before none
 pub before-none : (v : List ℕ) (i : ℕ) → length v / recordFields ≤ i + 1 → true ≡ before (rowAt v i) (drop (i + 1) (rows v))

@@ -16,7 +16,7 @@ use types::COORDINATOR_BYTES;
 use types::HEAD_FIELDS;
 use types::Layout;
 
-// The highest decision that may stand at place i: none from the issued count on.
+// The highest decision that may stand in line i: none from the issued count on.
 fn highest_at(issued: usize, i: usize) -> u32
     ensures { λ r. ⌜ r ≡ highest (issued - i) ⌝ }
 {

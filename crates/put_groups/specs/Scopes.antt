@@ -131,7 +131,7 @@ module _ (parts : List ℕ) (n : ℕ) (many : length parts ≡ n) (target : List
 
 -- A loop over the entries. g of the lists from entry j on is what was to be computed, v.
 pub record WalkedTo {A : Type 0} (g : List ℕ → List ℕ → A) (ks fs : List ℕ) (v : A) (j : ℕ) : Type 0 where
-  pub place : j ≤ length fs
+  pub reached : j ≤ length fs
   pub rest : g (drop (j * 5) ks) (drop j fs) ≡ v
 
 -- past the key of entry j
@@ -146,7 +146,7 @@ module _ {A : Type 0} (g : List ℕ → List ℕ → A) (ks fs : List ℕ) (v : 
   -- past entry j, where g of lists that begin with it is h of the rest
   walk-next : (h : List ℕ → List ℕ → A) → j < length fs → g (drop (j * 5) ks) (getD fs j 0 ∷ drop (j + 1) fs) ≡ h (drop 5 (drop (j * 5) ks)) (drop (j + 1) fs) → WalkedTo h ks fs v (j + 1)
   walk-next h l e =
-      record { place = omega arith; rest = ap (λ (x : List ℕ). h x (drop (j + 1) fs)) (sym (next-key ks j)) ∙ (sym e ∙ walk-here l) }
+      record { reached = omega arith; rest = ap (λ (x : List ℕ). h x (drop (j + 1) fs)) (sym (next-key ks j)) ∙ (sym e ∙ walk-here l) }
 
   walk-last : length fs ≤ j → g (drop (j * 5) ks) [] ≡ v
   walk-last l = ap (g (drop (j * 5) ks)) (sym (drop-of-length-le fs l)) ∙ p .rest
@@ -172,7 +172,7 @@ pub record CountedTo (q : List ℕ → ℕ → Bool) (ks fs : List ℕ) (v n j :
 
 module _ (q : List ℕ → ℕ → Bool) (ks fs : List ℕ) where
   pub count-rows-first : CountedTo q ks fs (countRows q ks fs) 0 0
-  count-rows-first = record { few = omega arith; walked = record { place = omega arith; rest = omega arith } }
+  count-rows-first = record { few = omega arith; walked = record { reached = omega arith; rest = omega arith } }
 
   pub count-rows-next : (v n j m : ℕ) → CountedTo q ks fs v n j → j < length fs → m ≡ cond (q (drop (j * 5) ks) (getD fs j 0)) (n + 1) n → CountedTo q ks fs v m (j + 1)
   unfolding countRows

@@ -10,7 +10,7 @@ use Rattle.model.specs.Types.{Column, Kind, Figure, StateWord, DecisionWord, Un
 use Rattle.model.specs.Layouts.{words}
 use Rattle.model.specs.Lines.{byKind, fieldValue, fieldBytes, inRange}
 use Rattle.sheet_laws.specs.Fields.{columnOk, field-read-written, field-written-read}
-use Rattle.places.specs.Parts.{Part, text, number as numbers, width, most, partOk, partsOk}
+use Rattle.line_bytes.specs.Parts.{Part, text, number as numbers, width, most, partOk, partsOk}
 use Rattle.sheet_laws.specs.Lines.{eachField}
 use Rattle.record_check.specs.Ranges.{fields-same, opened, held, lineHeld, held-fields, figure-held, column}
 

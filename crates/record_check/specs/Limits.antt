@@ -1,5 +1,5 @@
--- Ranges narrowed at some places of a layout. A row of numbers is good by the narrowed layout where it is good by the layout and each number keeps
--- to its limit: by induction on the limits, and for one limit along the columns up to its place.
+-- Ranges narrowed at some fields of a layout. A row of numbers is good by the narrowed layout where it is good by the layout and each number keeps
+-- to its limit: by induction on the limits, and for one limit along the columns up to its field.
 use Rattle.lists.specs.Basics.{_≡_, refl, sym, ap, _∙_, ℕ, zero, suc, _≤_, _<_, leb, ltb, Bool, true, false, _&&_, and-assoc, and-true, and-false, List, []}
 use Rattle.lists.specs.Basics.{_∷_, map, length, drop, getD, set, getD-drop, arith, leb-true, le-leb, all, and-fst, and-snd, tests}
 use lib.Seq.{map-set-same}
@@ -7,14 +7,14 @@ use Rattle.lists.specs.Tests.{and-move}
 use Rattle.model.specs.Types.{Column}
 use Rattle.model.specs.Layouts.{noColumn}
 use Rattle.model.specs.Lines.{inRange, rowOf, lineSet, rowGood}
-use Rattle.places.specs.Parts.{partsOk}
+use Rattle.line_bytes.specs.Parts.{partsOk}
 use Rattle.record_check.specs.Ranges.{opened, lineHeld}
 use Rattle.record_check.specs.LayoutParts.{layoutParts, sayable, parts-are-held}
 
--- a bound on the number at a place of the row
+-- a bound on number i of the row
 pub data Limit : Type 0 where
-  atLeast : (place bound : ℕ) → Limit
-  atMost : (place bound : ℕ) → Limit
+  atLeast : (i bound : ℕ) → Limit
+  atMost : (i bound : ℕ) → Limit
 
 unfoldable pub keeps : List ℕ → Limit → Bool
 keeps v (atLeast i n) = leb n (getD v i 0)
@@ -62,7 +62,7 @@ up-to-range n v c l =
     ap (λ (x : Bool). leb (c .low) v && x) (weaker (leb v n) (leb v (c .high)) (λ e. le-leb v (c .high) (omega (arith, leb-true v n e))))
     ∙ sym (and-assoc (leb (c .low) v) (leb v (c .high)) (leb v n))
 
--- another column at a place, whose range is that of the first and a test more
+-- another column for field i, whose range is that of the first and a test more
 row-set : (cs : List Column) (i : ℕ) (d : Column) (t : Bool) (v : List ℕ)
     → i < length cs
     → inRange d (getD v i 0) ≡ (inRange (getD cs i noColumn) (getD v i 0) && t)

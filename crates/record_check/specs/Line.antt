@@ -15,9 +15,9 @@ use Rattle.model.specs.Records.{recordOf, goodAlone, recordIn}
 use Rattle.sheet_laws.specs.Fields.{columnOk, allBelow, wordOk, isThe, field-written-read, scan-of}
 use Rattle.sheet_laws.specs.Lines.{lineBytes, line-length, line-written-read, fieldAt, field-at}
 use Rattle.sheet_laws.specs.Records.{record-layout-ok, line-numbers}
-use Rattle.places.specs.Parts.{partsOk}
-use Rattle.places.specs.Order.{part-bytes}
-use Rattle.places.specs.Loads.{loaded, loaded-equal}
+use Rattle.line_bytes.specs.Parts.{partsOk}
+use Rattle.line_bytes.specs.Order.{part-bytes}
+use Rattle.line_bytes.specs.Loads.{loaded, loaded-equal}
 use Rattle.record_check.specs.Ranges.{opened, lineHeld, set-is-held, same-row}
 use Rattle.record_check.specs.Limits.{keeps, limited-line, limited-parts}
 use Rattle.record_check.specs.States.{kinds, kindAt, kindLimits, openLayout, clockLimit, kindParts, kind-says, record-opens, clock-narrow, clock-limited}
@@ -145,7 +145,7 @@ module _ (line : List ℕ) (of-bytes : (i : ℕ) → getD line i 0 < 256) where
   unfolding kindParts row held
   said k l = rw same-widest at (limited-parts (kindLimits (kindAt k)) openLayout line (kind-says k l))
 
-  -- in its places, and with a clock that begins below the highest one
+  -- by its tables, and with a clock that begins below the highest one
   pub low-clock : (k : ℕ) → k < length kinds → partsOk (kindParts (kindAt k)) line ≡ true → getD line (clockAt + 1) 0 < 52 → clockFits line ≡ true
   unfolding held
   low-clock k n g l =

@@ -14,7 +14,7 @@ use Rattle.model.specs.Layouts.{words}
 use Rattle.model.specs.Lines.{byKind, fieldValue, inRange, rowOf, lineSet, rowGood}
 use Rattle.sheet_laws.specs.Fields.{columnOk, field-written-read}
 use Rattle.sheet_laws.specs.Lines.{lineBytes, eachField, field-length, set-fields}
-use Rattle.places.specs.Parts.{width, most}
+use Rattle.line_bytes.specs.Parts.{width, most}
 
 -- Lines judged field by field.
 

@@ -19,8 +19,8 @@ use Rattle.model.specs.Layouts.{recordLayout, noColumn, recordBytes, offset, re
 use Rattle.model.specs.Lines.{fieldValue, rowOf, lineSet}
 use Rattle.sheet_laws.specs.Fields.{scan-of}
 use Rattle.sheet_laws.specs.Lines.{lineBytes, line-length, fieldAt, field-at, digits-at, line-end}
-use Rattle.places.specs.Order.{part-bytes}
-use Rattle.places.specs.Loads.{loaded, loaded-append, loaded-equal}
+use Rattle.line_bytes.specs.Order.{part-bytes}
+use Rattle.line_bytes.specs.Loads.{loaded, loaded-append, loaded-equal}
 use Rattle.record_check.specs.Ranges.{opened}
 use Rattle.record_check.specs.Keys.{equal-bytes}
 

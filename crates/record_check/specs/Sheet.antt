@@ -6,7 +6,7 @@ use Rattle.lists.specs.Tests.{and-swap}
 use Rattle.model.specs.Layouts.{recordLayout, recordBytes, keyBytes}
 use Rattle.model.specs.Lines.{lineSet, linesOf, linesSet}
 use Rattle.model.specs.Records.{goodAlone, inOrder, rising, recordsGood, recordIn, records, recordsAccepted}
-use Rattle.sheet_laws.specs.Places.{length-records}
+use Rattle.sheet_laws.specs.ByIndex.{length-records}
 use Rattle.record_check.specs.Keys.{key-order}
 use Rattle.record_check.specs.Line.{lineGood}
 

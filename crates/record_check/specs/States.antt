@@ -12,9 +12,9 @@ use Rattle.model.specs.Layouts.{recordLayout, words, wordAt, noColumn, stateFie
 use Rattle.model.specs.Lines.{fieldValue, fieldBytes, wordFrom, inRange}
 use Rattle.model.specs.Records.{stateNumber, stateOf, stateRule, imageFrom, recordOf, isZero, absentRule, committedRule, preparedRule}
 use Rattle.sheet_laws.specs.Fields.{columnOk, allBelow, below, isThe, wordOk}
-use Rattle.places.specs.Parts.{Part}
-use Rattle.places.specs.Places.{bit}
-use Rattle.places.specs.Loads.{loaded}
+use Rattle.line_bytes.specs.Parts.{Part}
+use Rattle.line_bytes.specs.Tables.{bit}
+use Rattle.line_bytes.specs.Loads.{loaded}
 use Rattle.record_check.specs.Ranges.{opened, opens}
 use Rattle.record_check.specs.LayoutParts.{sayable, layoutParts}
 use Rattle.record_check.specs.Limits.{Limit, atLeast, atMost, keeps, narrowed, limited, narrows, allNarrow, says}

@@ -7,7 +7,7 @@ ghost use Prim.Native.Nat.{_+_, _-_, _*_, _<_};
 ghost use lib.ListN.{length, drop};
 ghost use Rattle.model.specs.Layouts.{recordBytes};
 ghost use Rattle.model.specs.Records.{recordsAccepted};
-ghost use Rattle.places.specs.Parts.{partsOk};
+ghost use Rattle.line_bytes.specs.Parts.{partsOk};
 ghost use Rattle.record_check.specs.States.{kinds, kindAt, kindParts, kindWords};
 ghost use Rattle.record_check.specs.Relations.{highestClock, follows};
 ghost use Rattle.record_check.specs.Line.{lineGood, kindOf};
@@ -39,7 +39,7 @@ const BEFORE_TAIL: usize = BEFORE_AT + VERSION_BYTES - 2;
 
 const CLOCK_HEAD: usize = CLOCK_AT + 1;
 
-// Bytes of a row of the tables, one for each place of a line but LF, and of the three rows of a kind.
+// Bytes of a row of the tables, one for each column of a line but LF, and of the three rows of a kind.
 const ROW: usize = RECORD_BYTES - 1;
 
 const TABLE: usize = 3 * ROW;
@@ -47,7 +47,7 @@ const TABLE: usize = 3 * ROW;
 // The state word of each kind of line.
 const WORDS: [u8; KINDS * WORD_BYTES] = *b"    ABSENT COMMITTED  PREPARED  PREPARED";
 
-// The tables of each kind of line, in three rows: for each place but LF the lowest byte, which may not follow a space, the highest, and one
+// The tables of each kind of line, in three rows: for each column but LF the lowest byte, which may not follow a space, the highest, and one
 // more that may follow a space. A fixed byte is all three, so zeros and blank columns are judged in the same pass as the figures.
 const TABLES: [u8; KINDS * TABLE] = *b"\
 \x200 00 00 00000 00000    ABSENT     0   0        0        0     0   0        0        0          0\
@@ -71,16 +71,18 @@ fn kind(line: &[u8], words: &[u8]) -> usize
     ensures { λ r. ⌜ r ≡ kindOf (now (line .entry)) ⌝ }
     ensures { λ r. ⌜ r < length kinds ⌝ }
 {
-    let front = places::load_eight(line, STATE_AT);
-    let committed = front == places::load_eight(words, COMMITTED_AT);
-    let prepared = front == places::load_eight(words, PREPARED_AT);
+    let front = line_bytes::load_eight(line, STATE_AT);
+    let committed = front == line_bytes::load_eight(words, COMMITTED_AT);
+    let prepared = front == line_bytes::load_eight(words, PREPARED_AT);
     // before version 0 ends in the bytes ` 0`, and no other does
-    let nothing = places::load_two(line, BEFORE_TAIL) == 0x3020;
-    let kind = places::bit(committed) + places::bit(prepared) * 2 + places::bit(!nothing);
+    let nothing = line_bytes::load_two(line, BEFORE_TAIL) == 0x3020;
+    let kind = line_bytes::bit(committed)
+        + line_bytes::bit(prepared) * 2
+        + line_bytes::bit(!nothing);
     kind as usize
 }
 
-// Whether the line stands in the places of the tables of its kind.
+// Whether each byte of the line may stand in its column by the tables of its kind.
 fn stands(line: &[u8], lent: &[u8], kind: usize) -> bool
     requires { ⌜ length (now line) ≡ recordBytes ⌝ }
     requires { ⌜ now lent ≡ tables ⌝ }
@@ -91,7 +93,7 @@ fn stands(line: &[u8], lent: &[u8], kind: usize) -> bool
     let high = low + ROW;
     let also = high + ROW;
     let end = also + ROW;
-    if !places::line_ok(
+    if !line_bytes::line_ok(
         &line[0..ROW],
         &lent[low..high],
         &lent[high..also],
@@ -102,7 +104,7 @@ fn stands(line: &[u8], lent: &[u8], kind: usize) -> bool
     (line[0] == b' ') & (line[ROW] == b'\n')
 }
 
-// Whether version = before version + 1 in a line that stands in its places, if it is of the kind that asks for it. Unless before version ends in 9,
+// Whether version = before version + 1 in a line that stands by its tables, if it is of the kind that asks for it. Unless before version ends in 9,
 // only the last byte differs, by one.
 fn version_follows(line: &[u8], kind: usize) -> bool
     requires { ⌜ length (now line) ≡ recordBytes ⌝ }
@@ -113,10 +115,11 @@ fn version_follows(line: &[u8], kind: usize) -> bool
         return true;
     }
     if line[BEFORE_LAST] == b'9' {
-        return places::figure(line, VERSION_AT, VERSION_BYTES)
-            == places::figure(line, BEFORE_AT, VERSION_BYTES) + 1;
+        return line_bytes::figure(line, VERSION_AT, VERSION_BYTES)
+            == line_bytes::figure(line, BEFORE_AT, VERSION_BYTES) + 1;
     }
-    places::load_six(line, VERSION_AT) == places::load_six(line, BEFORE_AT) + 0x0100_0000_0000
+    line_bytes::load_six(line, VERSION_AT)
+        == line_bytes::load_six(line, BEFORE_AT) + 0x0100_0000_0000
 }
 
 // Whether the line can be read and its record is good alone. Its ten bytes of state word are compared with the word of its kind, so that a line with none
@@ -130,7 +133,7 @@ fn line_good(line: &[u8], words: &[u8], lent: &[u8], highest: &[u8]) -> bool
     ensures { λ r. ⌜ r ≡ lineGood (now (line .entry)) ⌝ }
 {
     let kind = kind(line, words);
-    if !places::ten_equal(line, STATE_AT, words, kind * WORD_BYTES) {
+    if !line_bytes::ten_equal(line, STATE_AT, words, kind * WORD_BYTES) {
         return false;
     }
     if !stands(line, lent, kind) {
@@ -143,7 +146,7 @@ fn line_good(line: &[u8], words: &[u8], lent: &[u8], highest: &[u8]) -> bool
     if line[CLOCK_HEAD] < b'4' {
         return true;
     }
-    !places::twelve_less(highest, 0, line, CLOCK_AT)
+    !line_bytes::twelve_less(highest, 0, line, CLOCK_AT)
 }
 
 // Whether the key of line i comes before that of the next line, if there is one among the n lines.
@@ -157,7 +160,7 @@ fn key_rises(s: &[u8], i: usize, n: usize) -> bool
     }
     let at = i * RECORD_BYTES;
     let next = at + RECORD_BYTES;
-    places::key_less(s, at, next)
+    line_bytes::key_less(s, at, next)
 }
 
 // Whether each of the n lines is good, and keys rise.

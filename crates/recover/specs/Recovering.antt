@@ -14,7 +14,7 @@ use Rattle.model.specs.Results.{Answer, Result, refused, made}
 use Rattle.model.specs.ByteCalls.{sheetsOf, recordsAfter, coordinatorAfter}
 use Rattle.sheet_laws.specs.Records.{records-read-written}
 use Rattle.sheet_laws.specs.Coordinator.{decisionText}
-use Rattle.sheet_laws.specs.Places.{length-records}
+use Rattle.sheet_laws.specs.ByIndex.{length-records}
 use Rattle.sheet_laws.specs.Decisions.{numberHasLine}
 use Rattle.call_laws.specs.Choices.{by-meeting}
 use Rattle.call_laws.specs.Keys.{same-key-refl, same-key-flip}
@@ -24,22 +24,22 @@ use Rattle.call_laws.specs.Lines.{has-line, line-key, lines-mapped}
 use Rattle.call_laws.specs.Sheets.{Fit, write-closed, parts-good}
 use Rattle.call_laws.specs.Keeping.{line-good}
 use Rattle.call_laws.specs.Closure.{visit-fits}
-use Rattle.call_laws.specs.Places.{FoundAt, found-at, atKey, set-at-key, line-replaced, decision-written}
+use Rattle.call_laws.specs.ByIndex.{FoundAt, found-at, atKey, set-at-key, line-replaced, decision-written}
 use Rattle.call_laws.specs.Accepted.{Written, Outcome, outcome-made, Accepted, lines-kept, decisions-kept, written-nothing}
 
 abbrev pub lineAt : List ℕ → ℕ → Record
 lineAt rs i = getD (records rs) i noRecord
 
--- Accepted sheets, and a place that has a line.
+-- Accepted sheets, and an index that has a line.
 pub record Standing (rs cs : List ℕ) (i : ℕ) : Type 0 where
   pub accepted : Accepted rs cs
-  pub place : FoundAt (lineAt rs i .key) (records rs) i
+  pub index : FoundAt (lineAt rs i .key) (records rs) i
 
--- the place that a search gave
+-- the index that a search gave
 pub standing : (rs cs : List ℕ) (k : Key) (i : ℕ) → Accepted rs cs → found k (records rs) ≡ At i → Standing rs cs i
 standing rs cs k i a e =
     let x = found-at k (records rs) i e in
-    record { accepted = a; place = subst (λ (j : Key). FoundAt j (records rs) i) (sym (x .key)) x }
+    record { accepted = a; index = subst (λ (j : Key). FoundAt j (records rs) i) (sym (x .key)) x }
 
 -- a visit changes something only where the line is prepared
 unfoldable pub pending : Recovery → Record → Bool
@@ -54,7 +54,7 @@ meeting-pending now cs r =
     by-meeting (λ (v : Recovery). Pending v r) r (ownerDecision r (coordinatorOf cs)) (ownerExpired now r)
     (λ p. refl) (λ p d. p) (λ p d. p) (λ p d x. p) (λ p d x. refl)
 
--- What a visit of the line at a place gives and leaves.
+-- What a visit of line i gives and leaves.
 pub record Recovered (now i : ℕ) (rs cs : List ℕ) (v : Recovery) (rs′ cs′ : List ℕ) : Type 0 where
   pub met : v ≡ meeting now (coordinatorOf cs) (lineAt rs i)
   pub written : Written (recoveryWrite v (lineAt rs i)) rs cs rs′ cs′
@@ -87,18 +87,18 @@ module _ (rs cs : List ℕ) (i : ℕ) (s : Standing rs cs i) where
 
   pub line-parts : GoodParts (coordinatorOf cs .issued) here
   line-parts =
-      subst (GoodParts (coordinatorOf cs .issued)) (sym (s .place .line))
-      (line-good (sheetsOf rs cs) (s .accepted .good) (here .key) (has-line (here .key) (records rs) ∙ s .place .listed))
+      subst (GoodParts (coordinatorOf cs .issued)) (sym (s .index .line))
+      (line-good (sheetsOf rs cs) (s .accepted .good) (here .key) (has-line (here .key) (records rs) ∙ s .index .listed))
 
   -- the line of one key replaced
   line-set : (w : Write) (r : Record) → Alone w (here .key) → lineAfter w here ≡ r → GoodParts (coordinatorOf cs .issued) r → cond (ltb i (length rs / recordBytes)) (over rs (i * recordBytes) (recordText r)) rs ≡ recordsText (apply w (sheetsOf rs cs) .lines)
   unfolding apply
   line-set w r h e g =
-      let l : i < length (records rs) = s .place .within in
+      let l : i < length (records rs) = s .index .within in
       let m : ltb i (length rs / recordBytes) ≡ true = lt-ltb i (length rs / recordBytes) (omega (arith, length-records rs)) in
       let q : goodAlone r ≡ true = and-fst (goodAlone r) (namesIssued (coordinatorOf cs .issued) r) (parts-fine (coordinatorOf cs .issued) r g) in
       let k : r .key ≡ here .key = ap (λ (x : Record). x .key) (sym e) ∙ line-key w here in
-      let f : r ≡ lineAfter w (lineOf (here .key) (records rs)) = sym e ∙ ap (lineAfter w) (s .place .line) in
+      let f : r ≡ lineAfter w (lineOf (here .key) (records rs)) = sym e ∙ ap (lineAfter w) (s .index .line) in
       ap (λ (b : Bool). cond b (over rs (i * recordBytes) (recordText r)) rs) m
       ∙ (line-replaced rs i r (s .accepted .lines) l q k .0
       ∙ (ap (λ (x : Record). recordsText (set (records rs) i x)) f
@@ -154,10 +154,10 @@ module _ (now : ℕ) (rs cs : List ℕ) (i : ℕ) (s : Standing rs cs i) (v : Re
   visit-fit : Fit (sheetsOf rs cs) (recoveryWrite v (lineAt rs i))
   visit-fit =
       let k = lineAt rs i .key in
-      let met : v ≡ meeting now (coordinatorOf cs) (lineOf k (records rs)) = h .met ∙ ap (meeting now (coordinatorOf cs)) (s .place .line) in
-      subst (λ (r : Record). Fit (sheetsOf rs cs) (recoveryWrite v r)) (sym (s .place .line))
+      let met : v ≡ meeting now (coordinatorOf cs) (lineOf k (records rs)) = h .met ∙ ap (meeting now (coordinatorOf cs)) (s .index .line) in
+      subst (λ (r : Record). Fit (sheetsOf rs cs) (recoveryWrite v r)) (sym (s .index .line))
       (subst (λ (x : Recovery). Fit (sheetsOf rs cs) (recoveryWrite x (lineOf k (records rs)))) (sym met)
-      (visit-fits (sheetsOf rs cs) (s .accepted .good) k now (has-line k (records rs) ∙ s .place .listed)))
+      (visit-fits (sheetsOf rs cs) (s .accepted .good) k now (has-line k (records rs) ∙ s .index .listed)))
 
   pub recovered-line : lineAt rs′ i ≡ recovered v (lineAt rs i)
   unfolding sheetsGood apply
@@ -165,7 +165,7 @@ module _ (now : ℕ) (rs cs : List ℕ) (i : ℕ) (s : Standing rs cs i) (v : Re
       let w = recoveryWrite v (lineAt rs i) in
       let good : sheetsGood (apply w (sheetsOf rs cs)) ≡ true = parts-good (apply w (sheetsOf rs cs)) (write-closed (sheetsOf rs cs) (s .accepted .good) visit-fit) in
       let g : recordsGood (linesAfter w (records rs)) ≡ true = search (tests, good) in
-      let l : i < length (records rs) = s .place .within in
+      let l : i < length (records rs) = s .index .within in
       let m : i < length (map (lineAfter w) (records rs)) = omega (arith, length-map (records rs) (lineAfter w)) in
       let p : Pending v (lineAt rs i) = subst (λ (x : Recovery). Pending x (lineAt rs i)) (sym (h .met)) (meeting-pending now cs (lineAt rs i)) in
       ap (λ (x : List ℕ). getD (records x) i noRecord) (h .written .lines)

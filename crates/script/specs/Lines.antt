@@ -164,7 +164,7 @@ module _ (mark : ℕ) where
       go true h = refl
       go false h = h
 
-  -- the search of a mark, from place i on
+  -- the search of a mark, from column i on
   module _ (s : List ℕ) (i : ℕ) where
     pub mark-here : i < length s → getD s i 0 ≡ mark → length (upTo mark (drop i s)) ≡ 0
     unfolding upTo
@@ -187,7 +187,7 @@ first-word (b ∷ s) = go (eqb b 32) (first-word s)
     go true h = refl
     go false h = ap (longer b) h
 
--- the line by its first word, which ends at a place, and the words after it
+-- the line by its first word, which ends at a column, and the words after it
 pub said-read : (line : List ℕ) (end : ℕ) → end ≡ length (upTo 32 line) → called (kindOf (take end line)) (withWords noNumbers (wordsAfter (drop end line))) ≡ said line
 unfolding calledBy
 said-read line end e =
@@ -195,7 +195,7 @@ said-read line end e =
     (ap (λ (k : ℕ). take k line) e ∙ take-up-to 32 line) (ap (λ (k : ℕ). drop k line) e ∙ drop-up-to 32 line)
     ∙ ap calledBy (sym (first-word line))
 
--- one word more, between the space at a place and the end that was found
+-- one word more, between the space in a column and the end that was found
 pub next-word : (line : List ℕ) (n : Numbers) (at end size : ℕ) → at < length line → end ≡ at + 1 + length (upTo 32 (drop (at + 1) line)) → size + (at + 1) ≡ end → withWords (withWord n (take size (drop (at + 1) line))) (wordsAfter (drop end line)) ≡ withWords n (wordsAfter (drop at line))
 unfolding withWords wordsAfter
 next-word line n at end size l e f =

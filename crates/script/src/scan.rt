@@ -38,11 +38,11 @@ struct Numbers {
     values: [u32; 14],
 }
 
-// The first place from `at` on that has the byte `mark`, or the end.
+// The first column from `at` on that has the byte `mark`, or the end.
 pub fn end_of(s: &[u8], at: usize, mark: u8) -> usize
     requires { ⌜ at ≤ length (now s) ⌝ }
     ensures within { λ r. ⌜ (at ≤ r) × (r ≤ length (now (s .entry))) ⌝ }
-    ensures place { λ r. ⌜ r ≡ at + length (upTo mark (drop at (now (s .entry)))) ⌝ }
+    ensures column { λ r. ⌜ r ≡ at + length (upTo mark (drop at (now (s .entry)))) ⌝ }
 {
     let n = s.len();
     let mut i = at;

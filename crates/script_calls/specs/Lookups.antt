@@ -1,10 +1,10 @@
--- A look-up that is not refused: the sheet is accepted, the key is in range, and a place that was found is one of 500.
+-- A look-up that is not refused: the sheet is accepted, the key is in range, and an index that was found is below 500.
 use Rattle.lists.specs.Basics.{_≡_, ℕ, _≤_, _<_, true, List, length, arith, not-false, tests}
 use Rattle.model.specs.Types.{Key, At}
 use Rattle.model.specs.Records.{recordsAccepted, recordsGood, keyInRange, records, found}
 use Rattle.model.specs.Refusals.{refusalOf}
 use Rattle.model.specs.SheetCalls.{lookupConditions}
-use Rattle.sheet_laws.specs.Places.{length-records}
+use Rattle.sheet_laws.specs.ByIndex.{length-records}
 use Rattle.call_laws.specs.Choices.{not-first}
 use Rattle.sheets.specs.Answers.{found-fits}
 
@@ -20,8 +20,8 @@ few-lines : (s : List ℕ) → recordsAccepted s ≡ true → length (records s)
 unfolding recordsAccepted recordsGood
 few-lines s a = search tests
 
-pub place-below : (s : List ℕ) (k : Key) (i : ℕ) → recordsAccepted s ≡ true → found k (records s) ≡ At i → i < 500
-place-below s k i a e =
+pub index-below : (s : List ℕ) (k : Key) (i : ℕ) → recordsAccepted s ≡ true → found k (records s) ≡ At i → i < 500
+index-below s k i a e =
     let f = found-fits s k i e in
     let l = few-lines s a in
     omega (arith, length-records s)

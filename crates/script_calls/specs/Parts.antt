@@ -6,7 +6,7 @@ use Rattle.script.specs.declared.scan.Command.{Command}
 use Rattle.script.specs.declared.scan.Kind.{Kind}
 use Rattle.script.specs.declared.scan.Kind.the-variants.{Check, Begin, Read, Put, Advance, Abort, Visit, Lookup, Line, Show, Set, Entry, Sheets, BadLine}
 
--- the key whose five numbers begin at a place
+-- the key whose five numbers begin at number i
 abbrev pub keyFrom : List ℕ → ℕ → Key
 keyFrom n at =
     record {

@@ -270,12 +270,12 @@ fn set(n: [u32; 14], t: Transaction) -> Done
     Done { transaction, reply }
 }
 
-// A transaction with another entry at a place.
+// A transaction with another entry at an index.
 fn entry(n: [u32; 14], t: Transaction) -> Done
     ensures { λ r. ⌜ r .reply .count ≤ 102 ⌝ }
 {
-    let place = n[1];
-    if 7 < place {
+    let index = n[1];
+    if 7 < index {
         let reply = reply::bad_line();
         return Done {
             transaction: t,
@@ -296,7 +296,7 @@ fn entry(n: [u32; 14], t: Transaction) -> Done
             column2: n[13],
         },
     };
-    let transaction = transactions::with_entry(t.count, place as usize, e, t);
+    let transaction = transactions::with_entry(t.count, index as usize, e, t);
     let reply = ok();
     Done { transaction, reply }
 }

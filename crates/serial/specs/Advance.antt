@@ -1,5 +1,5 @@
--- An advance keeps the invariant of the order: phase by phase, a walk of the step table. A checked transaction never commits in one phase; it gets its place by
--- its last prepare or on leaving open, validates entry by entry, and commits by its decision or, without puts, by its last step.
+-- An advance keeps the invariant of the order: phase by phase, a walk of the step table. A checked transaction never commits in one phase; it gets its position
+-- by its last prepare or on leaving open, validates entry by entry, and commits by its decision or, without puts, by its last step.
 use Rattle.lists.specs.Basics.{_≡_, refl, sym, ap, subst, _∙_, ℕ, zero, suc, _+_, _≤_, _<_, eqb, ltb, Bool, true, false, not, _&&_, cond, true≢false, and-false}
 use Rattle.lists.specs.Basics.{List, _∷_, length, getD, none, some, Option·none-ne-some, _⊎_, inl, inr, arith, eqb-true, ltb-true, ltb-false, eq-eqb, ne-eqb}
 use Rattle.lists.specs.Basics.{le-ltb, not-true, all, and-snd, choose-by}
@@ -31,7 +31,7 @@ use Rattle.serial.specs.Invariant.{placing, placedAs, unplaced, Validate
 use Rattle.serial.specs.Handover.{Handover}
 use Rattle.serial.specs.Quiet.{ended, to-prepare, aborted-goes-on}
 use Rattle.serial.specs.Validation.{ValidatedNow, next-validated, last-validated, validates}
-use Rattle.serial.specs.Entering.{gets-place}
+use Rattle.serial.specs.Entering.{gets-position}
 use Rattle.serial.specs.Commits.{decides, reads-validated, reads-nothing}
 
 module _ {first : Key → Record} {s : Sheets} {es : List Event} {m : Model} {ps : List Placing} (f : Facts s es m) (o : Ordered first s es m ps)
@@ -66,7 +66,7 @@ module _ {first : Key → Record} {s : Sheets} {es : List Event} {m : Model} {ps
   commits : (t′ : Transaction) → t .verdict ≡ noVerdict → t′ .verdict ≡ committedVerdict → modelFor t′ ≡ modelCommit (t .number) m
   commits t′ v v′ = rw (v, v′)
 
-  -- from validate on nobody gets a place
+  -- from validate on nobody gets a position
   late-step : (t′ : Transaction) → 2 ≤ t .phase → placedAs (some t) (some t′) ps ≡ ps
   late-step t′ l =
       let x : eqb (t .phase) 1 ≡ false = ne-eqb (t .phase) 1 (λ q. omega (arith, q, l)) in
@@ -143,7 +143,7 @@ module _ {first : Key → Record} {s : Sheets} {es : List Event} {m : Model} {ps
           → StepKept (record { transaction = moved p 0 (t .verdict) t; write = w })
       last p lo hi c l put order =
           becomes w (moved p 0 (t .verdict) t) m (placing t ∷ ps) (same (moved p 0 (t .verdict) t) (never-both (t .verdict))) order
-          (λ h. gets-place p (t .verdict) h o (omega (arith, ph)) lo hi fresh put (λ z. absurd (true≢false (sym z ∙ some-put))))
+          (λ h. gets-position p (t .verdict) h o (omega (arith, ph)) lo hi fresh put (λ z. absurd (true≢false (sym z ∙ some-put))))
         where
           full : groupCount (unitsOf s) (puts t) ≡ t .place + 1
           full = let x : groupsOf t s ≤ t .place + 1 = ltb-false (t .place + 1) (groupsOf t s) l in omega (arith, x, below)
@@ -199,7 +199,7 @@ module _ {first : Key → Record} {s : Sheets} {es : List Event} {m : Model} {ps
       (λ h. reads-nothing donePhase 0 committedVerdict h o (omega arith) e ph (λ x n. none-held e g x n)))
       (λ g. let t′ = moved validatePhase 0 (t .verdict) t in
       becomes nothing t′ m (placing t ∷ ps) (same t′ (never-both (t .verdict))) (rw (ph, e))
-      (λ h. gets-place validatePhase (t .verdict) h o (omega (arith, ph)) (omega arith) (omega arith)
+      (λ h. gets-position validatePhase (t .verdict) h o (omega (arith, ph)) (omega arith) (omega arith)
       (λ u x n i. absurd (none-in (puts t) (mem-filter isPut (held t) n i) e))
       (λ q. absurd (omega (arith, q)))
       (λ z. o .calm t a (omega (arith, ph)) e))))

@@ -1,5 +1,5 @@
--- The commit of a transaction, by its decision or, without puts, by its last step: all its entries are validated by then, so that it commits at its place in the
--- order (OrderCommits). Where another has prepared it has put nothing, so that what is prepared stays fresh.
+-- The commit of a transaction, by its decision or, without puts, by its last step: all its entries are validated by then, so that it commits at its position in
+-- the order (OrderCommits). Where another has prepared it has put nothing, so that what is prepared stays fresh.
 use Rattle.lists.specs.Basics.{_≡_, refl, sym, ap, subst, _∙_, ℕ, _≤_, eqb, true, false, List, _∷_, Option, none, some, Option·none-ne-some, _⊎_, inl, inr}
 use Rattle.lists.specs.Basics.{arith, eqb-true, eq-eqb, ne-eqb, any, or-else, or-left}
 use Rattle.lists.specs.Members.{Mem, here}
@@ -19,10 +19,10 @@ use Rattle.serial.specs.Order.{Consistent, weaker, enters}
 use Rattle.serial.specs.OrderCommits.{FreshPut, commits}
 use Rattle.serial.specs.Entries.{put-entry}
 use Rattle.serial.specs.InDoubt.{Facts, InDoubt, in-doubt, all-prepared, uncommitted, owns, puts-elsewhere}
-use Rattle.serial.specs.Invariant.{placing, Validated, ConsistentAt, Ordered, own-place, aged-in-doubt}
+use Rattle.serial.specs.Invariant.{placing, Validated, ConsistentAt, Ordered, own-position, aged-in-doubt}
 use Rattle.serial.specs.Handover.{Handover, doubt-before, validated-before, Extends, as-it-is, one-placed, extends-back, ordered-handover}
 use Rattle.serial.specs.Validation.{ValidatedNow, OrHolds, entries-validated}
-use Rattle.serial.specs.Entering.{no-place-yet}
+use Rattle.serial.specs.Entering.{no-position-yet}
 
 -- the transaction counts as in doubt, and all its entries as validated
 abbrev OrOwn : Transaction → (ℕ → Type 0) → ℕ → Type 0
@@ -47,7 +47,7 @@ module _ {first : Key → Record} {s : Sheets} {w : Write} {es : List Event} {e 
       → ((n : ℕ) → (n ≡ t .number → ⊥) → (k : Key) → lineOf k (s .lines) .image .txid ≡ n → putIn k (held t) ≡ none)
       → Ordered first (apply w s) (e ∷ es) (modelCommit (t .number) m) ps′
   unfolding held modelCommit any
-  commits-kept h o ps′ ext place early late ready fresh elsewhere =
+  commits-kept h o ps′ ext position early late ready fresh elsewhere =
       ordered-handover h o
       (record {
         consistent = consistent;
@@ -57,13 +57,13 @@ module _ {first : Key → Record} {s : Sheets} {w : Write} {es : List Event} {e 
         aged = λ x n. no-newer-after (m .line) (modelCommit (t .number) m .line) x (t .number) (m .writes (t .number) (x .key)) refl (o .aged t a x n);
         prepared-fresh = λ l. absurd (omega (arith, l, late));
         member = λ l z. absurd (omega (arith, z, late));
-        own-place = λ q n z. (own q z (extends-back ext q n), omega (arith, late));
+        own-position = λ q n z. (own q z (extends-back ext q n), omega (arith, late));
         calm = λ l. absurd (omega (arith, l, late));
         checked = o .checked t a;
         room = o .room t a;
         extends = ext;
         placed = λ n y. or-else (eqb n (t .number)) (isCommitted n m) y
-            (λ d. inr (record { place = placing t; member = place; number = sym (eqb-true n (t .number) d) })) (λ d z. inl z);
+            (λ d. inr (record { position = placing t; member = position; number = sym (eqb-true n (t .number) d) })) (λ d z. inl z);
       })
     where
       f : Facts s es m
@@ -76,7 +76,7 @@ module _ {first : Key → Record} {s : Sheets} {w : Write} {es : List Event} {e 
       sets = f .known t a .sets
 
       own : (q : Placing) → t .number ≡ q .number → Mem q ps ⊎ (q ≡ placing t) → placing t ≡ q
-      own q z (inl n) = own-place f o q n t a z .0
+      own q z (inl n) = own-position f o q n t a z .0
       own q z (inr d) = sym d
 
       out : 2 ≤ p → p ≤ 3 → decision (t .number) (apply w s .coordinator) ≡ Undecided → ⊥
@@ -107,7 +107,7 @@ module _ {first : Key → Record} {s : Sheets} {w : Write} {es : List Event} {e 
           commits
           (record {
             consistent = ready;
-            member = place;
+            member = position;
             in-doubt = inr refl;
             committing =
                 record {
@@ -156,8 +156,8 @@ module _ {first : Key → Record} {s : Sheets} {es : List Event} {e : Event} {m 
 
   reads-kept : (ps′ : List Placing) → Extends (placing t) ps ps′ → Mem (placing t) ps′ → t .phase ≤ 4 → ReadyAt first s es m t ps′
       → Ordered first (apply nothing s) (e ∷ es) (modelCommit (t .number) m) ps′
-  reads-kept ps′ ext place early ready =
-      commits-kept p i v h o ps′ ext place early late ready
+  reads-kept ps′ ext position early ready =
+      commits-kept p i v h o ps′ ext position early late ready
       (λ x n c g. absurd (Option·none-ne-some c (sym (nothing-put (x .key)) ∙ g)))
       (λ n d k q. nothing-put k)
 
@@ -184,13 +184,13 @@ module _ {first : Key → Record} {s : Sheets} {es : List Event} {e : Event} {m 
       valid : (q : Placing) → Mem q ps → (x : Entry) → Mem x (q .entries) → OrOwnEntry t (Validated s es (m .committed)) q x
           → OrHolds s es (m .committed) t q x
       valid q n x j (inl y) = inl y
-      valid q n x j (inr d) = by (all-valid x (subst (λ (r : Placing). Mem x (r .entries)) (sym (own-place (h .before) o q n t a (sym d) .0)) j))
+      valid q n x j (inr d) = by (all-valid x (subst (λ (r : Placing). Mem x (r .entries)) (sym (own-position (h .before) o q n t a (sym d) .0)) j))
         where
           by : ValidatedNow s t x → OrHolds s es (m .committed) t q x
           by (inl y) = inl (inr (record { doubt = in-doubt s es t a lo hi u (q .number) d; validated = y }))
           by (inr y) = inr (d, y)
 
-  -- from open at once, if nothing was read: it gets its place by the same step
+  -- from open at once, if nothing was read: it gets its position by the same step
   pub reads-nothing : t .phase ≡ 0 → ((x : Entry) → Mem x (held t) → ⊥)
       → Ordered first (apply nothing s) (e ∷ es) (modelCommit (t .number) m) (placing t ∷ ps)
   reads-nothing ph empty =
@@ -200,7 +200,7 @@ module _ {first : Key → Record} {s : Sheets} {es : List Event} {e : Event} {m 
       (λ x n y. absurd (empty x n)) (λ x n y. absurd (empty x n)))
     where
       new : (q : Placing) → Mem q ps → t .number ≡ q .number → ⊥
-      new = no-place-yet (h .before) o t (h .available) (omega (arith, ph))
+      new = no-position-yet (h .before) o t (h .available) (omega (arith, ph))
 
       doubt : (q : Placing) → Mem q ps → OrOwn t (InDoubt s es) (q .number) → InDoubt s es (q .number)
       doubt q n (inl x) = x

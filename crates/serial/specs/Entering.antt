@@ -1,5 +1,5 @@
--- A transaction gets its place, by its last prepare or on leaving open without puts: it comes last in the order. Its puts are fresh, as when they were prepared,
--- and no one in doubt puts to their lines, which it has prepared itself.
+-- A transaction gets its position, by its last prepare or on leaving open without puts: it comes last in the order. Its puts are fresh, as when they were
+-- prepared, and no one in doubt puts to their lines, which it has prepared itself.
 use Rattle.lists.specs.Basics.{_≡_, refl, sym, ap, subst, _∙_, ℕ, _≤_, true, false, true≢false, List, _∷_, none, inl, inr, arith}
 use Rattle.lists.specs.Members.{Mem, here, there, mem-none}
 use Rattle.model.specs.Types.{Key, Record, Undecided, Entry, Transaction}
@@ -15,21 +15,21 @@ use Rattle.serial.specs.Runs.{Placing, wrote, Fresh}
 use Rattle.serial.specs.Order.{enters}
 use Rattle.serial.specs.Entries.{put-there, only-put}
 use Rattle.serial.specs.InDoubt.{Facts, InDoubt, all-prepared, uncommitted, two-in-doubt}
-use Rattle.serial.specs.Invariant.{placing, ValidatedIn, Validated, ConsistentAt, Ordered, own-place}
+use Rattle.serial.specs.Invariant.{placing, ValidatedIn, Validated, ConsistentAt, Ordered, own-position}
 use Rattle.serial.specs.Handover.{same-validated, Handover, own-state, was-in-doubt, one-placed, ordered-handover}
 
--- a state up to prepare has no place yet
-pub no-place-yet : {first : Key → Record} {s : Sheets} {es : List Event} {m : Model} {ps : List Placing} → Facts s es m → Ordered first s es m ps
+-- a state up to prepare has no position yet
+pub no-position-yet : {first : Key → Record} {s : Sheets} {es : List Event} {m : Model} {ps : List Placing} → Facts s es m → Ordered first s es m ps
     → (t : Transaction) → Available t es → t .phase ≤ 1 → (q : Placing) → Mem q ps → t .number ≡ q .number → ⊥
-no-place-yet f o t a ph q n d = let l : 2 ≤ t .phase = own-place f o q n t a d .1 in omega (arith, l, ph)
+no-position-yet f o t a ph q n d = let l : 2 ≤ t .phase = own-position f o q n t a d .1 in omega (arith, l, ph)
 
 module _ {first : Key → Record} {s : Sheets} {w : Write} {es : List Event} {e : Event} {m : Model} {t : Transaction} {ps : List Placing} (p v : ℕ) where
-  pub gets-place : Handover s w es e m m t (moved p 0 v t) → Ordered first s es m ps → t .phase ≤ 1 → 2 ≤ p → p ≤ 3
+  pub gets-position : Handover s w es e m m t (moved p 0 v t) → Ordered first s es m ps → t .phase ≤ 1 → 2 ≤ p → p ≤ 3
       → (decision (t .number) (apply w s .coordinator) ≡ Undecided → (x : Entry) → Mem x (held t) → isPut x ≡ true → Fresh (m .line) x)
       → (p ≡ 3 → (x : Entry) → Mem x (held t) → isPut x ≡ true) → (isEmpty (puts t) ≡ true → decision (t .number) (apply w s .coordinator) ≡ Undecided)
       → Ordered first (apply w s) (e ∷ es) m (placing t ∷ ps)
   unfolding held puts toValidate was-in-doubt overwritten
-  gets-place h o ph lo hi fresh all-put calm =
+  gets-position h o ph lo hi fresh all-put calm =
       ordered-handover h o
       (record {
         consistent = consistent;
@@ -41,7 +41,7 @@ module _ {first : Key → Record} {s : Sheets} {w : Write} {es : List Event} {e 
             (only-put (held t) (well-formed-parts s t (f .known t a .formed) .0 .distinct) x n c
             (sym (all-prepared (unitsOf s) (moved p 0 v t) lo hi (x .key)) ∙ g));
         member = λ l z. here;
-        own-place = own;
+        own-position = own;
         calm = λ l. calm;
         checked = o .checked t a;
         room = o .room t a;
@@ -56,7 +56,7 @@ module _ {first : Key → Record} {s : Sheets} {w : Write} {es : List Event} {e 
       a = h .available
 
       new : (q : Placing) → Mem q ps → t .number ≡ q .number → ⊥
-      new = no-place-yet f o t a ph
+      new = no-position-yet f o t a ph
 
       own : (q : Placing) → Mem q (placing t ∷ ps) → t .number ≡ q .number → (placing t ≡ q) × (2 ≤ p)
       own q here d = (refl, lo)
@@ -93,7 +93,7 @@ module _ {first : Key → Record} {s : Sheets} {w : Write} {es : List Event} {e 
       safe x n i y q l z =
           let c = put-there x (held t) n i in
           let d : InDoubt s es (q .number) = doubt q l z in
-          ap (λ (r : Placing). wrote (x .key) r) (sym (own-place f o q l (z .state) (d .available) (z .number) .0))
+          ap (λ (r : Placing). wrote (x .key) r) (sym (own-position f o q l (z .state) (d .available) (z .number) .0))
           ∙ two-in-doubt (h .after) y z (new q l) (x .key) (c .0)
           (ap (λ (u : Transaction). putIn (x .key) (held u)) (own-state h (y .state) (y .available) (y .number)) ∙ c .1)
 

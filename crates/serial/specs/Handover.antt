@@ -18,7 +18,7 @@ use Rattle.recovery.specs.OwnWrites.{no-put}
 use Rattle.recovery.specs.Puts.{put-in-empty}
 use Rattle.serial.specs.Runs.{Placing, overwritten-none, Fresh, no-newer-after}
 use Rattle.serial.specs.InDoubt.{Facts, InDoubt}
-use Rattle.serial.specs.Invariant.{placing, ValidatedIn, ValidatedInDoubt, ConsistentAt, Holder, InOrder, Aged, PreparedFresh, HasPlace, Calm, Ordered}
+use Rattle.serial.specs.Invariant.{placing, ValidatedIn, ValidatedInDoubt, ConsistentAt, Holder, InOrder, Aged, PreparedFresh, HasPosition, Calm, Ordered}
 
 -- a number that is undecided after a write away from it was so before
 pub stood-undecided : (s : Sheets) (w : Write) (j : ℕ) → Away s j w → decision j (apply w s .coordinator) ≡ Undecided
@@ -131,9 +131,9 @@ pub record OwnCase (first : Key → Record) (s : Sheets) (w : Write) (es : List 
       → (k : Key) (c : Change) → doneAt (unitsOf s) u k ≡ some c → commits k ≡ none
   pub aged : Aged (m′ .line) t′
   pub prepared-fresh : PreparedFresh (unitsOf s) (apply w s .coordinator) (m′ .line) t′
-  pub member : HasPlace ps′ t′
-  -- a place of its number is its own
-  pub own-place : (p : Placing) → Mem p ps′ → t .number ≡ p .number → (placing t′ ≡ p) × (2 ≤ t′ .phase)
+  pub member : HasPosition ps′ t′
+  -- a position of its number is its own
+  pub own-position : (p : Placing) → Mem p ps′ → t .number ≡ p .number → (placing t′ ≡ p) × (2 ≤ t′ .phase)
   pub calm : Calm (apply w s .coordinator) t′
   pub checked : isSerializable t′ ≡ true
   pub room : length (t′ .entries) ≡ 8
@@ -150,7 +150,7 @@ ordered-handover {first} {s} {w} {es} {e} {m} {m′} {t} {t′} {ps} {ps′} h o
       prepared-fresh = λ u b. by-number h (PreparedFresh (unitsOf (apply w s)) (apply w s .coordinator) (m′ .line)) u b
           (λ l v y n z g. c .prepared-fresh l v y n z (same-done s w t′ (y .key) ∙ g))
           (λ a d l v y n z g. fresh-kept u a d l (stood-undecided s w (u .number) (h .away (u .number) d) v) y n z (same-done s w u (y .key) ∙ g));
-      member = λ u b. by-number h (HasPlace ps′) u b (c .member)
+      member = λ u b. by-number h (HasPosition ps′) u b (c .member)
           (λ a d l i. extends-more (c .extends) (placing u) (o .member u a l i));
       holder = λ p n. held-by p n (eqb (t .number) (p .number)) refl;
       calm = λ u b. by-number h (Calm (apply w s .coordinator)) u b (c .calm)
@@ -169,7 +169,7 @@ ordered-handover {first} {s} {w} {es} {e} {m} {m′} {t} {t′} {ps} {ps′} h o
 
     held-by : (p : Placing) → Mem p ps′ → (b : Bool) → eqb (t .number) (p .number) ≡ b → Holder (e ∷ es) p
     held-by p n true q =
-        let x = c .own-place p n (eqb-true (t .number) (p .number) q) in
+        let x = c .own-position p n (eqb-true (t .number) (p .number) q) in
         record { state = t′; available = now-available h; same = x .0; late = x .1 }
     held-by p n false q = other (extends-back (c .extends) p n)
       where
@@ -188,5 +188,5 @@ ordered-handover {first} {s} {w} {es} {e} {m} {m′} {t} {t′} {ps} {ps′} h o
     in-order : (n : ℕ) → (isCommitted n m ≡ true) ⊎ InOrder n ps′ → InOrder n ps′
     in-order n (inl q) =
         let x = o .placed n q in
-        record { place = x .place; member = extends-more (c .extends) (x .place) (x .member); number = x .number }
+        record { position = x .position; member = extends-more (c .extends) (x .position) (x .member); number = x .number }
     in-order n (inr x) = x

@@ -41,7 +41,7 @@ history-keeps (c ∷ cs) s es m inv l q k =
     (call-keeps c s es (modelAfter es m) inv (l .0)
     (and-fst (begunChecked (event answer after c s)) (all begunChecked es) (earlier begunChecked cs (after c s) (event answer after c s ∷ es) q)) k)
 
--- at first nobody has a place
+-- at first nobody has a position
 pub nothing-so-far : (s : Sheets) → SoFar (λ (k : Key). lineOf k (s .lines)) s [] (firstModel (s .lines)) []
 unfolding firstModel runLine any
 nothing-so-far s =

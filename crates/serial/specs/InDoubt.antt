@@ -1,5 +1,5 @@
--- Transactions in doubt: those that have their place and may still commit. What one of them has put it has prepared (recovery's memory), so that two of them put
--- to different lines, and a line whose condition holds is put to by none; and an entry whose condition holds is as the line, having no lower version.
+-- Transactions in doubt: those that have their position and may still commit. What one of them has put it has prepared (recovery's memory), so that two of them
+-- put to different lines, and a line whose condition holds is put to by none; and an entry whose condition holds is as the line, having no lower version.
 use Rattle.lists.specs.Basics.{_≡_, refl, sym, ap, _∙_, ℕ, _≤_, eqb, Bool, true, false, cond, List, none, some, Option·none-ne-some, inl, inr, arith, eqb-true}
 use Rattle.lists.specs.Basics.{eqb-false, not-true, and-snd, tests}
 use Rattle.model.specs.Types.{Key, Record, Undecided, AtomicityUnit, Entry, Transaction}

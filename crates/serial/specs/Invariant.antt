@@ -1,5 +1,5 @@
--- The invariant of the order of a history, beside recovery's: the order is consistent, no entry is newer than its line, what is prepared is fresh, and each place
--- belongs to an available state.
+-- The invariant of the order of a history, beside recovery's: the order is consistent, no entry is newer than its line, what is prepared is fresh, and each
+-- position belongs to an available state.
 use Rattle.lists.specs.Basics.{_≡_, sym, ap, subst, _∙_, ℕ, _≤_, eqb, true, false, _&&_, _||_, cond, and-false, List, [], _∷_, length, take, Option, none, some}
 use Rattle.lists.specs.Basics.{_⊎_, any}
 use Rattle.lists.specs.Members.{Mem}
@@ -12,7 +12,7 @@ use Rattle.model.specs.Writes.{Sheets}
 use Rattle.model.specs.Steps.{unitsOf}
 use Rattle.model.specs.Histories.{Event, Available, taken}
 use Rattle.model.specs.SequentialModel.{Model, isCommitted}
-use Rattle.model.specs.SerialOrder.{getsPlace}
+use Rattle.model.specs.SerialOrder.{getsPosition}
 use Rattle.recovery.specs.Memory.{doneAt}
 use Rattle.serial.specs.Runs.{Placing, Fresh, NoNewer}
 use Rattle.serial.specs.Order.{Consistent}
@@ -23,11 +23,11 @@ placing t = record { number = t .number; entries = held t }
 
 -- the order, as serialOrder has it by numbers: after a call that took the first and returned the second, and after events
 abbrev pub placedAs : Option Transaction → Option Transaction → List Placing → List Placing
-placedAs (some t) (some t′) ps = cond (getsPlace t t′) (placing t ∷ ps) ps
+placedAs (some t) (some t′) ps = cond (getsPosition t t′) (placing t ∷ ps) ps
 placedAs (some t) none ps = ps
 placedAs none u ps = ps
 
--- nobody gets a place by a call that returns a state in open, prepare or withdraw
+-- nobody gets a position by a call that returns a state in open, prepare or withdraw
 pub unplaced : (t t′ : Transaction) (ps : List Placing) (p : ℕ) → t′ .phase ≡ p → (eqb p validatePhase || eqb p decidePhase) ≡ false
     → (eqb p validatePhase || eqb p donePhase) ≡ false → placedAs (some t) (some t′) ps ≡ ps
 unplaced t t′ ps p e x y = rw (e, x, y, and-false (eqb (t .phase) preparePhase), and-false (eqb (t .phase) openPhase && isEmpty (puts t)))
@@ -36,7 +36,7 @@ unfoldable pub placings : List Event → List Placing
 placings [] = []
 placings (e ∷ es) = placedAs (taken e) (returns (e .answer)) (placings es)
 
--- an entry whose condition has held since the place was given: in decide every one, in validate the puts and those before the place
+-- an entry whose condition has held since the position was given: in decide every one, in validate the puts and those before the place
 abbrev pub ValidatedIn : List AtomicityUnit → Transaction → Entry → Type 0
 ValidatedIn us t e = (t .phase ≡ decidePhase) ⊎ ((isPut e ≡ true) ⊎ Mem e (take (t .place) (toValidate us t)))
 
@@ -66,11 +66,11 @@ pub record Holder (es : List Event) (p : Placing) : Type 0 where
   pub same : placing state ≡ p
   pub late : 2 ≤ state .phase
 
--- a number that has its place
+-- a number that has its position
 pub record InOrder (n : ℕ) (ps : List Placing) : Type 0 where
-  pub place : Placing
-  pub member : Mem place ps
-  pub number : place .number ≡ n
+  pub position : Placing
+  pub member : Mem position ps
+  pub number : position .number ≡ n
 
 -- What is known of an available state.
 
@@ -85,9 +85,9 @@ PreparedFresh us c line t =
     → decision (t .number) c ≡ Undecided
     → (e : Entry) → Mem e (held t) → (x : Change) → doneAt us t (e .key) ≡ some x → Fresh line e
 
--- in validate and decide it has its place
-abbrev pub HasPlace : List Placing → Transaction → Type 0
-HasPlace ps t = 2 ≤ t .phase → t .phase ≤ 3 → Mem (placing t) ps
+-- in validate and decide it has its position
+abbrev pub HasPosition : List Placing → Transaction → Type 0
+HasPosition ps t = 2 ≤ t .phase → t .phase ≤ 3 → Mem (placing t) ps
 
 -- nobody aborts it up to decide if it has put nothing
 abbrev pub Calm : Coordinator → Transaction → Type 0
@@ -97,19 +97,19 @@ pub record Ordered (first : Key → Record) (s : Sheets) (es : List Event) (m : 
   pub consistent : ConsistentAt first s es (m .line) (m .committed) ps
   pub aged : (t : Transaction) → Available t es → Aged (m .line) t
   pub prepared-fresh : (t : Transaction) → Available t es → PreparedFresh (unitsOf s) (s .coordinator) (m .line) t
-  pub member : (t : Transaction) → Available t es → HasPlace ps t
+  pub member : (t : Transaction) → Available t es → HasPosition ps t
   pub holder : (p : Placing) → Mem p ps → Holder es p
   pub calm : (t : Transaction) → Available t es → Calm (s .coordinator) t
   pub checked : (t : Transaction) → Available t es → isSerializable t ≡ true
   -- as begin gave it, it has room for eight entries
   pub room : (t : Transaction) → Available t es → length (t .entries) ≡ 8
-  -- every committed number has its place
+  -- every committed number has its position
   pub placed : (n : ℕ) → isCommitted n m ≡ true → InOrder n ps
 
 module _ {first : Key → Record} {s : Sheets} {es : List Event} {m : Model} {ps : List Placing} (f : Facts s es m) (o : Ordered first s es m ps) where
-  -- the place of a state is its own
-  pub own-place : (p : Placing) → Mem p ps → (t : Transaction) → Available t es → t .number ≡ p .number → (placing t ≡ p) × (2 ≤ t .phase)
-  own-place p n t a q =
+  -- the position of a state is its own
+  pub own-position : (p : Placing) → Mem p ps → (t : Transaction) → Available t es → t .number ≡ p .number → (placing t ≡ p) × (2 ≤ t .phase)
+  own-position p n t a q =
       let h = o .holder p n in
       let e : t ≡ h .state = f .unique t (h .state) a (h .available) (q ∙ sym (ap (λ (x : Placing). x .number) (h .same))) in
       (ap placing e ∙ h .same, subst (λ (x : Transaction). 2 ≤ x .phase) (sym e) (h .late))
@@ -117,4 +117,4 @@ module _ {first : Key → Record} {s : Sheets} {es : List Event} {m : Model} {ps
   -- entries of one in doubt are no newer than their lines
   pub aged-in-doubt : (p : Placing) → Mem p ps → InDoubt s es (p .number) → (e : Entry) → Mem e (p .entries) → NoNewer (m .line) e
   aged-in-doubt p n x e i =
-      o .aged (x .state) (x .available) e (subst (λ (y : Placing). Mem e (y .entries)) (sym (own-place p n (x .state) (x .available) (x .number) .0)) i)
+      o .aged (x .state) (x .available) e (subst (λ (y : Placing). Mem e (y .entries)) (sym (own-position p n (x .state) (x .available) (x .number) .0)) i)

@@ -1,12 +1,13 @@
 -- An order of transactions and what is known in it, apart from sheets: what each has validated is what the committed ones before it leave, and a committed one
--- that comes later has not written what it may still commit by. This stays so when a transaction gets its place, since at the end of the order what is fresh is
--- what all the committed ones leave, and when one more entry of one in doubt is found unchanged, since none after it has written it.
+-- that comes later has not written what it may still commit by. This stays so when a transaction gets its position, since at the end of the order what is fresh
+-- is what all the committed ones leave, and when one more entry of one in doubt is found unchanged, since none after it has written it.
 use Rattle.lists.specs.Basics.{_≡_, refl, sym, ap, _∙_, ℕ, Bool, true, false, true≢false, List, [], _∷_, none, _⊎_, inl, inr}
 use Rattle.lists.specs.Members.{Mem, here, there}
 use Rattle.model.specs.Types.{Key, Record, Entry}
 use Rattle.serial.specs.Runs.{Placing, wrote, ran, runLine, unwritten, Fresh}
 
--- Of the numbers those that are committed pass c, and doubt are those in doubt, which have their place and may still commit; valid are the entries validated.
+-- Of the numbers those that are committed pass c, and doubt are those in doubt, which have their position and may still commit; valid are the entries
+-- validated.
 
 -- q comes later than p: if p is in doubt and has seen what is there, a committed q has not written it
 pub record Later (line : Key → Record) (c : ℕ → Bool) (doubt : ℕ → Type 0) (q p : Placing) : Type 0 where
@@ -29,7 +30,7 @@ pub record Consistent (first line : Key → Record) (c : ℕ → Bool) (doubt : 
   pub lines : (k : Key) → runLine c first ps k ≡ line k
 
 module _ {first line : Key → Record} {c : ℕ → Bool} {doubt : ℕ → Type 0} {valid : Placing → Entry → Type 0} where
-  -- a number has one place
+  -- a number has one position
   pub same-number : (ps : List Placing) → EachStands first line c doubt valid ps → (p q : Placing) → Mem p ps → Mem q ps → p .number ≡ q .number → p ≡ q
   same-number ps (one-more x xs f a i) p q here here e = refl
   same-number ps (one-more x xs f a i) p q here (there n) e = absurd (a q n .other e)

@@ -1,5 +1,6 @@
--- A commit at its place in the order, apart from sheets: its puts are fresh, so that none after it has written their keys and they are the last of the serial run
--- there; what others have validated is not touched, since no one in doubt before them writes it; and what is fresh afterwards was fresh before and not written.
+-- A commit at its position in the order, apart from sheets: its puts are fresh, so that none after it has written their keys and they are the last of the
+-- serial run there; what others have validated is not touched, since no one in doubt before them writes it; and what is fresh afterwards was fresh before and
+-- not written.
 use Rattle.lists.specs.Basics.{_≡_, refl, sym, ap, subst, _∙_, ℕ, eqb, Bool, true, false, List, Option, none, some, _⊎_, inl, inr, eqb-true, eqb-false}
 use Rattle.lists.specs.Members.{Mem, here, there}
 use Rattle.model.specs.Types.{Key, Record, Entry}

@@ -16,15 +16,15 @@ use Rattle.recovery.specs.Stages.{done-in-open}
 use Rattle.recovery.specs.Invariant.{open-unprepared}
 use Rattle.serial.specs.Runs.{Placing, Fresh, NoNewer}
 use Rattle.serial.specs.Order.{weaker}
-use Rattle.serial.specs.Invariant.{placing, Validated, same-model, Aged, PreparedFresh, HasPlace, Calm, Ordered, own-place}
+use Rattle.serial.specs.Invariant.{placing, Validated, same-model, Aged, PreparedFresh, HasPosition, Calm, Ordered, own-position}
 use Rattle.serial.specs.Handover.{Handover, doubt-before, validated-before, as-it-is, ordered-handover}
 
 pub record OutOfDoubt (s : Sheets) (w : Write) (m : Model) (t t′ : Transaction) (ps : List Placing) : Type 0 where
   pub out : 2 ≤ t′ .phase → t′ .phase ≤ 3 → decision (t .number) (apply w s .coordinator) ≡ Undecided → ⊥
   pub aged : Aged (m .line) t′
   pub prepared-fresh : PreparedFresh (unitsOf s) (apply w s .coordinator) (m .line) t′
-  pub member : HasPlace ps t′
-  pub place : 2 ≤ t .phase → (placing t′ ≡ placing t) × (2 ≤ t′ .phase)
+  pub member : HasPosition ps t′
+  pub position : 2 ≤ t .phase → (placing t′ ≡ placing t) × (2 ≤ t′ .phase)
   pub calm : Calm (apply w s .coordinator) t′
   pub checked : isSerializable t′ ≡ true
   pub room : length (t′ .entries) ≡ 8
@@ -43,7 +43,7 @@ module _ {first : Key → Record} {s : Sheets} {w : Write} {es : List Event} {e 
         aged = λ x n. subst (λ (l : Key → Record). NoNewer l x) (sym lines) (q .aged x n);
         prepared-fresh = λ l v x n c g. subst (λ (k : Key → Record). Fresh k x) (sym lines) (q .prepared-fresh l v x n c g);
         member = q .member;
-        own-place = λ p n z. let x = own-place (h .before) o p n t (h .available) z in let y = q .place (x .1) in (y .0 ∙ x .0, y .1);
+        own-position = λ p n z. let x = own-position (h .before) o p n t (h .available) z in let y = q .position (x .1) in (y .0 ∙ x .0, y .1);
         calm = q .calm;
         checked = q .checked;
         room = q .room;
@@ -67,7 +67,7 @@ module _ {first : Key → Record} {s : Sheets} {w : Write} {es : List Event} {e 
         aged = aged;
         prepared-fresh = λ l v x n c g. absurd (Option·none-ne-some c (sym (done-in-open (unitsOf s) t′ ph′ (x .key)) ∙ g));
         member = λ l i. absurd (omega (arith, l, ph′));
-        place = λ l. absurd (omega (arith, l, ph));
+        position = λ l. absurd (omega (arith, l, ph));
         calm = λ l z. let known = h .before .known t (h .available) in
             ap (λ (j : ℕ). decision j (decisionsAfter w (s .coordinator))) (h .number)
             ∙ undecided-kept s (t .number) w away (open-unprepared s m t known ph) (known .open-undecided ph);
@@ -88,7 +88,7 @@ module _ {first : Key → Record} {s : Sheets} {es : List Event} {e : Event} {m 
         aged = o .aged t (h .available);
         prepared-fresh = λ l. absurd (omega (arith, late, l));
         member = λ l j. absurd (omega (arith, late, j));
-        place = λ l. (refl, omega (arith, late));
+        position = λ l. (refl, omega (arith, late));
         calm = λ l. absurd (omega (arith, late, l));
         checked = o .checked t (h .available);
         room = o .room t (h .available);
@@ -106,13 +106,13 @@ module _ {first : Key → Record} {s : Sheets} {es : List Event} {e : Event} {m 
         aged = o .aged t (h .available);
         prepared-fresh = fresh;
         member = λ l j. absurd (omega (arith, one, l));
-        place = λ l. absurd (omega (arith, ph, l));
+        position = λ l. absurd (omega (arith, ph, l));
         calm = λ l z. absurd (true≢false (sym z ∙ some-put));
         checked = o .checked t (h .available);
         room = o .room t (h .available);
       })
 
-  -- on in validate or to decide with the own line ABORTED: it has its place, but may not commit any more
+  -- on in validate or to decide with the own line ABORTED: it has its position, but may not commit any more
   pub aborted-goes-on : Handover s nothing es e m m t (moved p i v t) → Ordered first s es m ps → t .phase ≡ 2 → 2 ≤ p
       → decision (t .number) (s .coordinator) ≡ Aborted → Ordered first (apply nothing s) (e ∷ es) m ps
   unfolding held puts apply decisionsAfter
@@ -123,7 +123,7 @@ module _ {first : Key → Record} {s : Sheets} {es : List Event} {e : Event} {m 
         aged = o .aged t (h .available);
         prepared-fresh = λ l z. absurd (undecided-aborted (sym z ∙ u));
         member = λ l j. o .member t (h .available) (omega (arith, ph)) (omega (arith, ph));
-        place = λ l. (refl, lo);
+        position = λ l. (refl, lo);
         calm = λ l z. o .calm t (h .available) (omega (arith, ph)) z;
         checked = o .checked t (h .available);
         room = o .room t (h .available);

@@ -7,7 +7,7 @@ use Rattle.model.specs.Images.{Change}
 use Rattle.model.specs.SequentialModel.{overwritten}
 use Rattle.recovery.specs.Memory.{putIn}
 
--- a transaction in the order: its number, and what it held when it got its place
+-- a transaction in the order: its number, and what it held when it got its position
 pub record Placing : Type 0 where
   pub number : ℕ
   pub entries : List Entry

@@ -1,5 +1,5 @@
--- Checked transactions are serializable, over decoded sheets. What is known at the end of a history, of places and entries, says of numbers what is claimed: a
--- committed transaction has validated all its entries, which are what its reads answered, and the page of a number is what its entries put.
+-- Checked transactions are serializable, over decoded sheets. What is known at the end of a history, of positions and entries, says of numbers what is claimed:
+-- a committed transaction has validated all its entries, which are what its reads answered, and the page of a number is what its entries put.
 use Rattle.lists.specs.Basics.{_≡_, refl, sym, ap, ap₂, subst, _∙_, ℕ, suc, eqb, Bool, true, false, cond, List, [], _∷_, map, Option, none, some, inl, eq-eqb}
 use Rattle.lists.specs.Basics.{ne-eqb, all, count, choose-by}
 use Rattle.lists.specs.Members.{Mem, here, there}
@@ -12,14 +12,14 @@ use Rattle.model.specs.Histories.{Event, answer, taken, after, eventsAfter, Leg
 use Rattle.model.specs.SequentialModel.{Model, firstModel, overwritten, modelAfter, isCommitted}
 use Rattle.model.specs.RecoveryPass.{nonePrepared}
 use Rattle.model.specs.Turns.{Turn, turnEvent, turnAfter, expanded, LegalTurns}
-use Rattle.model.specs.SerialOrder.{begunChecked, getsPlace, placedBy, serialOrder, placedBefore, serialLine, Saw, Serializable}
+use Rattle.model.specs.SerialOrder.{begunChecked, getsPosition, placedBy, serialOrder, placedBefore, serialLine, Saw, Serializable}
 use Rattle.recovery.specs.History.{first-inv, history-kept}
 use Rattle.recovery.specs.Theorem.{modelOf}
 use Rattle.recovery.specs.Turns.{modelOfTurns, Reduced, reduce}
 use Rattle.serial.specs.Runs.{Placing, wrote, runLine}
 use Rattle.serial.specs.Order.{EachStands, one-more}
 use Rattle.serial.specs.InDoubt.{Facts, facts, InDoubt}
-use Rattle.serial.specs.Invariant.{placedAs, placings, Validated, Ordered, own-place}
+use Rattle.serial.specs.Invariant.{placedAs, placings, Validated, Ordered, own-position}
 use Rattle.serial.specs.Answers.{ReadHeld, told-of}
 use Rattle.serial.specs.Calls.{SoFar}
 use Rattle.serial.specs.History.{history-keeps, nothing-so-far}
@@ -31,7 +31,7 @@ numbers ps = map (λ (p : Placing). p .number) ps
 
 placed-is : (t t′ : Option Transaction) (ps : List Placing) → placedBy t t′ (numbers ps) ≡ numbers (placedAs t t′ ps)
 placed-is (some t) (some t′) ps =
-    choose-by (λ (qs : List Placing). cond (getsPlace t t′) (t .number ∷ numbers ps) (numbers ps) ≡ numbers qs) (getsPlace t t′)
+    choose-by (λ (qs : List Placing). cond (getsPosition t t′) (t .number ∷ numbers ps) (numbers ps) ≡ numbers qs) (getsPosition t t′)
     (λ e. ap (λ (b : Bool). cond b (t .number ∷ numbers ps) (numbers ps)) e)
     (λ e. ap (λ (b : Bool). cond b (t .number ∷ numbers ps) (numbers ps)) e)
 placed-is (some t) none ps = refl
@@ -51,7 +51,7 @@ run-is rs m k (p ∷ ps) page =
     ap₂ (λ (c : Option Change) (r : Record). cond (isCommitted (p .number) m) (overwritten (p .number) c r) r)
     (page p here) (run-is rs m k ps (λ q n. page q (there n)))
 
--- those before a place, and what it has validated by them
+-- those before a position, and what it has validated by them
 record Preceded (first : Key → Record) (c : ℕ → Bool) (valid : Placing → Entry → Type 0) (ps : List Placing) (p : Placing) : Type 0 where
   pub earlier : List Placing
   pub sub : (q : Placing) → Mem q earlier → Mem q ps
@@ -82,7 +82,7 @@ module _ {first line : Key → Record} {c : ℕ → Bool} {doubt : ℕ → Type 
         saw = r .saw;
       }
 
-  -- a number has one place
+  -- a number has one position
   one-of : (ps : List Placing) → EachStands first line c doubt valid ps → (p : Placing) → Mem p ps → count (eqb (p .number)) (numbers ps) ≡ 1
   unfolding count
   one-of ps (one-more p xs f a i) q here =
@@ -98,7 +98,7 @@ end-serializable : (rs : List Record) {s : Sheets} (es : List Event) (m : Model)
 end-serializable rs {s} es m f k =
     record {
       placed = λ n c. let x = o .placed n c in
-          ap₂ (λ (i : ℕ) (ns : List ℕ). count (eqb i) ns) (sym (x .number)) (order-is es) ∙ one-of ps each (x .place) (x .member);
+          ap₂ (λ (i : ℕ) (ns : List ℕ). count (eqb i) ns) (sym (x .number)) (order-is es) ∙ one-of ps each (x .position) (x .member);
       reads = λ t j now v t′ n d c. saw t j v t′ c (told-of es es n (k .told) d);
       writes = λ j. ap (λ (ns : List ℕ). serialLine rs m ns j) (order-is es) ∙ (run-is rs m j ps (λ p n. page p n j) ∙ o .consistent .lines j);
     }
@@ -124,14 +124,14 @@ end-serializable rs {s} es m f k =
         → Saw (serialLine rs m (placedBefore (t .number) (serialOrder es)) j) j v t′
     saw t j v t′ c r =
         let x = o .placed (t .number) c in
-        let p = x .place in
+        let p = x .position in
         let h = r .holds in
         let u = h .state in
         let y = h .seen in
         let b = preceded ps each p (x .member) in
         let same : u .number ≡ p .number = h .number ∙ (r .number ∙ sym (x .number)) in
         let held : Mem (y .entry) (p .entries) =
-        subst (λ (q : Placing). Mem (y .entry) (q .entries)) (own-place f o p (x .member) u (h .available) same .0) (y .member) in
+        subst (λ (q : Placing). Mem (y .entry) (q .entries)) (own-position f o p (x .member) u (h .available) same .0) (y .member) in
         let line : serialLine rs m (placedBefore (t .number) (serialOrder es)) j ≡ run (b .earlier) j =
         ap₂ (λ (n : ℕ) (ns : List ℕ). serialLine rs m (placedBefore n ns) j) (sym (x .number)) (order-is es)
         ∙ (ap (λ (ns : List ℕ). serialLine rs m ns j) (b .is) ∙ run-is rs m j (b .earlier) (λ q n. page q (b .sub q n) j)) in

@@ -14,7 +14,7 @@ use Rattle.serial.specs.Runs.{Placing, wrote}
 use Rattle.serial.specs.Order.{Consistent, weaker, Found, finds}
 use Rattle.serial.specs.Entries.{put-or-validated}
 use Rattle.serial.specs.InDoubt.{Facts, InDoubt, in-doubt, all-prepared, uncommitted, holds-fresh, holds-free}
-use Rattle.serial.specs.Invariant.{placing, ValidatedIn, Validated, Ordered, own-place, aged-in-doubt}
+use Rattle.serial.specs.Invariant.{placing, ValidatedIn, Validated, Ordered, own-position, aged-in-doubt}
 use Rattle.serial.specs.Handover.{Handover, own-state, was-in-doubt, as-it-is, ordered-handover}
 
 -- an entry that was validated before, or whose condition holds now
@@ -42,7 +42,7 @@ entries-validated {first} {s} {es} {m} {ps} f o t a ph u valid′ new =
           in-doubt = d;
           uncommitted = ap (λ (j : ℕ). any (eqb j) (m .committed)) (w .0) ∙ uncommitted f t a (omega (arith, ph));
           fresh = holds-fresh f x (w .1) (aged-in-doubt f o q n d x i);
-          alone = λ r l y z. ap (λ (p : Placing). wrote (x .key) p) (sym (own-place f o r l (y .state) (y .available) (y .number) .0)) ∙ holds-free f x (w .1) y;
+          alone = λ r l y z. ap (λ (p : Placing). wrote (x .key) p) (sym (own-position f o r l (y .state) (y .available) (y .number) .0)) ∙ holds-free f x (w .1) y;
         })
 
 -- The entry at the place has been found unchanged.
@@ -87,8 +87,8 @@ module _ {first : Key → Record} {s : Sheets} {es : List Event} {e : Event} {m 
         aged = o .aged t a;
         prepared-fresh = λ l z x n c g. o .prepared-fresh t a (omega (arith, ph)) u x n c
             (all-prepared (unitsOf s) t (omega (arith, ph)) (omega (arith, ph)) (x .key) ∙ (sym (all-prepared (unitsOf s) (moved p i v t) lo hi (x .key)) ∙ g));
-        member = λ l z. place;
-        own-place = λ q n z. (own-place f o q n t a z .0, lo);
+        member = λ l z. position;
+        own-position = λ q n z. (own-position f o q n t a z .0, lo);
         calm = λ l z. u;
         checked = o .checked t a;
         room = o .room t a;
@@ -102,8 +102,8 @@ module _ {first : Key → Record} {s : Sheets} {es : List Event} {e : Event} {m 
       a : Available t es
       a = h .available
 
-      place : Mem (placing t) ps
-      place = o .member t a (omega (arith, ph)) (omega (arith, ph))
+      position : Mem (placing t) ps
+      position = o .member t a (omega (arith, ph)) (omega (arith, ph))
 
       own : (n : ℕ) → n ≡ t .number → InDoubt s es n
       own n q = in-doubt s es t a (omega (arith, ph)) (omega (arith, ph)) u n q
@@ -118,7 +118,7 @@ module _ {first : Key → Record} {s : Sheets} {es : List Event} {e : Event} {m 
       validated q n x j (inr y) false d =
           inl (inr (record { doubt = was-in-doubt h (y .doubt) (eqb-false (q .number) (t .number) d); validated = y .validated }))
       validated q n x j (inr y) true d =
-          by (newly x (subst (λ (r : Placing). Mem x (r .entries)) (sym (own-place f o q n t a (sym same) .0)) j)
+          by (newly x (subst (λ (r : Placing). Mem x (r .entries)) (sym (own-position f o q n t a (sym same) .0)) j)
           (subst (λ (r : Transaction). ValidatedIn (unitsOf s) r x) (own-state h (y .doubt .state) (y .doubt .available) (y .doubt .number ∙ same)) (y .validated)))
         where
           same : q .number ≡ t .number

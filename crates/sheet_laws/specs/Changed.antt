@@ -43,11 +43,11 @@ figureOver k v line = over line (recordOffset k) (fieldText (recordWidth k) v)
 abbrev pub imageOf : Bool → Record → Image
 imageOf before r = cond before (r .before) (r .image)
 
-abbrev pub imagePlace : Bool → ℕ
-imagePlace before = cond before (recordOffset beforeField) (recordOffset imageField)
+abbrev pub imageOffset : Bool → ℕ
+imageOffset before = cond before (recordOffset beforeField) (recordOffset imageField)
 
 abbrev pub imageIn : Bool → List ℕ → List ℕ
-imageIn before line = take imageBytes (drop (imagePlace before) line)
+imageIn before line = take imageBytes (drop (imageOffset before) line)
 
 -- a record's key with other parts behind it
 abbrev behind : Record → State → Image → Image → ℕ → Record
@@ -132,7 +132,7 @@ module _ (line : List ℕ) (set : lineSet recordLayout line ≡ true) where
       ∙ (ap (beforeOver nothingText) (image-over (behind r Committed (r .image) (r .before) (r .clock)) m)
       ∙ nothing-over (behind r Committed m (r .before) (r .clock)))
 
-  -- the line's image moved, a new one in its place, and a clock
+  -- the line's image moved, a new one where it stood, and a clock
   pub line-prepared : (n now : ℕ) (c : Change)
       → figureOver clockField now (imageOver (imageText (writtenImage n c (recordIn line))) (stateOver Prepared (beforeOver (imageIn false line) line)))
       ≡ recordText (prepared n now c (recordIn line))

@@ -84,7 +84,7 @@ accepted-length s h =
     omega (arith, length-take coordinatorBytes s)
 
 -- Setting the decision of a number.
-module _ (s : List ℕ) (i : ℕ) (d : Decision) (head : coordinatorBytes ≤ length s) (place : i < length (drop coordinatorBytes s) / coordinatorBytes) (few : i < 999) where
+module _ (s : List ℕ) (i : ℕ) (d : Decision) (head : coordinatorBytes ≤ length s) (inside : i < length (drop coordinatorBytes s) / coordinatorBytes) (few : i < 999) where
   text-length : length (decisionText (suc i) d) ≡ coordinatorBytes
   text-length = length-decisionText (suc i) d (omega arith) (omega arith)
 
@@ -105,7 +105,7 @@ module _ (s : List ℕ) (i : ℕ) (d : Decision) (head : coordinatorBytes ≤ le
   module _ (whole : length (drop coordinatorBytes s) ≡ length (drop coordinatorBytes s) / coordinatorBytes * coordinatorBytes) where
     lines-over : pieces coordinatorBytes (length (over (drop coordinatorBytes s) (i * coordinatorBytes) (decisionText (suc i) d)) / coordinatorBytes) (over (drop coordinatorBytes s) (i * coordinatorBytes) (decisionText (suc i) d)) ≡ set (pieces coordinatorBytes (length (drop coordinatorBytes s) / coordinatorBytes) (drop coordinatorBytes s)) i (decisionText (suc i) d)
     lines-over =
-        rw over-lines-length (pieces-over coordinatorBytes i (length (drop coordinatorBytes s) / coordinatorBytes) (drop coordinatorBytes s) (decisionText (suc i) d) place whole text-length)
+        rw over-lines-length (pieces-over coordinatorBytes i (length (drop coordinatorBytes s) / coordinatorBytes) (drop coordinatorBytes s) (decisionText (suc i) d) inside whole text-length)
 
     -- the sheet says the new decision, and nothing else changes
     pub coordinator-over : coordinatorOf (over s (suc i * coordinatorBytes) (decisionText (suc i) d)) ≡ withDecision (suc i) d (coordinatorOf s)
@@ -133,11 +133,11 @@ accepted-decided s i d h l =
     let most : coordinatorOf s .issued ≤ length (coordinatorOf s .decisions) = b .issued in
     let count : length (coordinatorOf s .decisions) ≡ length (drop coordinatorBytes s) / coordinatorBytes = length-decisions s in
     let head : coordinatorBytes ≤ length s = accepted-length s h in
-    let place : i < length (drop coordinatorBytes s) / coordinatorBytes = omega arith in
+    let inside : i < length (drop coordinatorBytes s) / coordinatorBytes = omega arith in
     let k : i < 999 = omega arith in
-    let o = over-line s i d head place k in
-    let m = over-lines-length s i d head place k in
-    let p = lines-over s i d head place k (a .whole) in
+    let o = over-line s i d head inside k in
+    let m = over-lines-length s i d head inside k in
+    let p = lines-over s i d head inside k (a .whole) in
     let t = decision-read-written (suc i) d (omega arith) (omega arith) in
     parts-accepted (over s (suc i * coordinatorBytes) (decisionText (suc i) d))
     (record {
@@ -151,7 +151,7 @@ accepted-decided s i d h l =
           rw (o .1, p)
           (numbered-set 1 i (pieces coordinatorBytes (length (drop coordinatorBytes s) / coordinatorBytes) (drop coordinatorBytes s)) (decisionText (suc i) d) (a .in-turn)
           (ap (λ (v : List ℕ). getD v 0 0) (t .0) ∙ omega arith));
-      good = rw (coordinator-over s i d head place k (a .whole)) (good-decided i d (coordinatorOf s) (a .good) l);
+      good = rw (coordinator-over s i d head inside k (a .whole)) (good-decided i d (coordinatorOf s) (a .good) l);
     })
 
 -- Setting the count of numbers issued: the first four bytes of the head.

@@ -3,7 +3,7 @@ pub mod Fields
 pub mod Lines
 pub mod Spans
 pub mod Records
-pub mod Places
+pub mod ByIndex
 pub mod Search
 pub mod Numbers
 pub mod Keys

@@ -114,7 +114,7 @@ module _ (c : Column) (cs : List Column) (t s : List ℕ) (n : ℕ) (wide : leng
       rw (take-at t (drop (c .width) s) (c .width) wide, drop-at t (drop (c .width) s) (c .width) wide, reads)
       (and-snd (isNumber (fieldValue c (take (c .width) s))) (lineSet cs (drop (c .width) s)) h)
 
--- A field by its place.
+-- A field by its index.
 
 -- the bytes of field i
 unfoldable pub fieldAt : ℕ → List Column → List ℕ → List ℕ
@@ -139,7 +139,7 @@ row-at i [] s l = absurd (omega arith)
 row-at zero (c ∷ cs) s l = refl
 row-at (suc i) (c ∷ cs) s l = rw drop-drop at (row-at i cs (drop (c .width) s) (omega arith))
 
--- a field of the line of w bytes at a place of a sheet
+-- a field of line i, of w bytes, of a sheet
 pub field-there : (i w at : ℕ) (cs : List Column) (s : List ℕ) → offset i cs + getD cs i noColumn .width ≤ w
     → take (getD cs i noColumn .width) (drop (at + offset i cs) s) ≡ fieldAt i cs (take w (drop at s))
 unfolding fieldAt

@@ -14,7 +14,7 @@ use Rattle.model.specs.SheetCalls.{readRecordsConditions, numbersRead, writeRec
 use Rattle.model.specs.SheetCalls.{writeCoordinatorConditions, coordinatorWritten}
 use Rattle.sheet_laws.specs.Records.{ranged, good-ranged, sheet-written-read, records-read-written, lines-of-text}
 use Rattle.sheet_laws.specs.Numbers.{length-rows, numbers-read-written, numbers-written-read, rows-of-numbers}
-use Rattle.sheet_laws.specs.Places.{whole-lines, length-records}
+use Rattle.sheet_laws.specs.ByIndex.{whole-lines, length-records}
 use Rattle.sheet_laws.specs.Coordinator.{bounds, coordinator-written-read, coordinator-read-written}
 use Rattle.sheet_laws.specs.Decisions.{accepted-parts, accepted-length, length-decisions}
 use Rattle.sheet_laws.specs.CoordinatorNumbers.{coordinator-of-numbers, numbers-of-coordinator}

@@ -1,4 +1,4 @@
--- Single fields of the line at a place, each read without the others: a figure of an accepted record sheet by its digits, and a word of any sheet by
+-- Single fields of a line by its index, each read without the others: a figure of an accepted record sheet by its digits, and a word of any sheet by
 -- its bytes. The bytes at a field's offset are those of the field, and past the last line every number is 0.
 use Rattle.lists.specs.Basics.{_≡_, refl, sym, ap, ap₂, subst, _∙_, ℕ, zero, suc, _+_, _*_, _/_, _^_, _≤_, _<_, eqb, leb, ltb, Bool, true, false, cond, List}
 use Rattle.lists.specs.Basics.{length, take, drop, getD, length-take, length-drop, arith, eqb-true, leb-true, ltb-true, ltb-false, all, eqList, and-snd}
@@ -19,7 +19,7 @@ use Rattle.model.specs.Coordinator.{decisionNumber, decisionOf, decision, decis
 use Rattle.sheet_laws.specs.Fields.{allBelow, below, columnOk, field-written-read, field-is, isThe, isFigure}
 use Rattle.sheet_laws.specs.Lines.{layoutOk, row-in-range, fieldAt, row-at, field-there, field-within, digits-at}
 use Rattle.sheet_laws.specs.Records.{record-layout-ok, record-bytes, record-fields, line-numbers}
-use Rattle.sheet_laws.specs.Places.{record-at, record-past, line-set}
+use Rattle.sheet_laws.specs.ByIndex.{record-at, record-past, line-set}
 use Rattle.sheet_laws.specs.Keys.{line-ranged}
 use Rattle.sheet_laws.specs.Coordinator.{line-layout-ok}
 use Rattle.sheet_laws.specs.Decisions.{decision-at}
@@ -49,17 +49,17 @@ module _ (line : List ℕ) (set : lineSet recordLayout line ≡ true) (k : ℕ) 
       let l : k < length recordLayout = omega (arith, record-fields) in
       digits-at k recordLayout line l f set ∙ ap (λ (v : List ℕ). getD v k 0) (sym (line-numbers line set))
 
--- a number that was read at place i as that of field k: the record's, and it fits
+-- a number that was read in line i as that of field k: the record's, and it fits
 pub record Told (s : List ℕ) (i k v : ℕ) : Type 0 where
   pub is : v ≡ getD (recordNumbers (getD (records s) i noRecord)) k 0
   pub fits : v < 2 ^ 32
 
--- The figure of field k at place i of an accepted sheet.
+-- The figure of field k in line i of an accepted sheet.
 module _ (s : List ℕ) (i k : ℕ) (accepted : recordsAccepted s ≡ true) (field : k < recordFields) where
   figure-there : isFigure (getD recordLayout k noColumn) ≡ true → i < length s / recordBytes → Told s i k (figureAt (i * recordBytes + recordOffset k) (recordWidth k) s)
-  figure-there f place =
+  figure-there f inside =
       let line = take recordBytes (drop (i * recordBytes) s) in
-      let set = line-set s i accepted place in
+      let set = line-set s i accepted inside in
       let l : k < length recordLayout = omega (arith, record-fields) in
       let w : recordOffset k + recordWidth k ≤ recordBytes = omega (arith, field-within k recordLayout l, record-bytes) in
       let v : figureAt (i * recordBytes + recordOffset k) (recordWidth k) s ≡ getD (recordNumbers (recordIn line)) k 0 =
@@ -67,7 +67,7 @@ module _ (s : List ℕ) (i k : ℕ) (accepted : recordsAccepted s ≡ true) (fie
       let m = line-number line set k field in
       let h : getD recordLayout k noColumn .high ≤ 4294967295 =
       leb-true (getD recordLayout k noColumn .high) 4294967295 (all-at (λ (d : Column). leb (d .high) 4294967295) recordLayout noColumn k columns-low l) in
-      record { is = v ∙ ap (λ (r : Record). getD (recordNumbers r) k 0) (sym (record-at s i place)); fits = omega arith }
+      record { is = v ∙ ap (λ (r : Record). getD (recordNumbers r) k 0) (sym (record-at s i inside)); fits = omega arith }
 
   pub figure-told : (v : ℕ) → isFigure (getD recordLayout k noColumn) ≡ true
       → v ≡ cond (ltb i (length s / recordBytes)) (figureAt (i * recordBytes + recordOffset k) (recordWidth k) s) 0 → Told s i k v
@@ -79,7 +79,7 @@ module _ (s : List ℕ) (i k : ℕ) (accepted : recordsAccepted s ≡ true) (fie
       let q = ap (λ (r : Record). getD (recordNumbers r) k 0) (record-past s i (ltb-false i (length s / recordBytes) h)) ∙ no-number k field in
       record { is = sym q; fits = omega arith }))
 
--- A word in the line of w bytes at a place of any sheet: its bytes are those of word n exactly if the field holds n, which is then in range.
+-- A word in a line of w bytes of any sheet: its bytes are those of word n exactly if the field holds n, which is then in range.
 module _ (k w at : ℕ) (cs : List Column) (s : List ℕ) (ok : layoutOk cs ≡ true) (field : k < length cs)
     (within : offset k cs + getD cs k noColumn .width ≤ w) (room : at + w ≤ length s) where
   sized : length (fieldAt k cs (take w (drop at s))) ≡ getD cs k noColumn .width
@@ -113,14 +113,14 @@ state-told (Number (suc (suc (suc v)))) b =
 pub prepared-told : (s : List ℕ) (i : ℕ) → i < length s / recordBytes
     → eqList (take (recordWidth stateField) (drop (i * recordBytes + recordOffset stateField) s)) (wordAt StateWord (stateNumber Prepared)) ≡ isPrepared (getD (records s) i noRecord)
 unfolding recordIn recordOf recordLayout offset fieldBytes stateNumber inRange
-prepared-told s i place =
+prepared-told s i inside =
     let line = take recordBytes (drop (i * recordBytes) s) in
     let x = fieldValue (getD recordLayout stateField noColumn) (fieldAt stateField recordLayout line) in
     let room : i * recordBytes + recordBytes ≤ length s = omega arith in
     word-there stateField recordBytes (i * recordBytes) recordLayout s record-layout-ok (omega arith) (omega arith) room 2 refl
     ∙ (state-told x (number-ranged stateField recordBytes (i * recordBytes) recordLayout s record-layout-ok (omega arith) (omega arith) room)
     ∙ (ap (λ (n : ℕ). byState (stateOf n) false false true) (sym (row-at stateField recordLayout line (omega arith)))
-    ∙ ap isPrepared (sym (record-at s i place))))
+    ∙ ap isPrepared (sym (record-at s i inside))))
 
 -- a decision is told by the words COMMITTED and ABORTED
 decision-from : (x : Scan) → ((v : ℕ) → x ≡ Number v → inRange decisionColumn v ≡ true) → decisionOf (number x) ≡ cond (isThe 1 x) Committed (cond (isThe 2 x) Aborted Undecided)
@@ -142,13 +142,13 @@ pub decision-told : (s : List ℕ) (i : ℕ) → i < length (drop coordinatorByt
     ≡ cond (eqList (decisionWord (suc i) s) (wordAt DecisionWord (decisionNumber Committed))) Committed
     (cond (eqList (decisionWord (suc i) s) (wordAt DecisionWord (decisionNumber Aborted))) Aborted Undecided)
 unfolding decisionIn lineLayout offset fieldBytes decisionNumber inRange
-decision-told s i place =
+decision-told s i inside =
     let at = suc i * coordinatorBytes in
     let line = take coordinatorBytes (drop at s) in
     let x = fieldValue (getD lineLayout decisionField noColumn) (fieldAt decisionField lineLayout line) in
     let room : at + coordinatorBytes ≤ length s = omega (arith, length-drop coordinatorBytes s) in
     let is = word-there decisionField coordinatorBytes at lineLayout s line-layout-ok (omega arith) (omega arith) room in
-    decision-at s i place
+    decision-at s i inside
     ∙ (ap decisionOf (row-at decisionField lineLayout line (omega arith))
     ∙ (decision-from x (number-ranged decisionField coordinatorBytes at lineLayout s line-layout-ok (omega arith) (omega arith) room)
     ∙ ap₂ (λ (p q : Bool). cond p Committed (cond q Aborted Undecided)) (sym (is 1 refl)) (sym (is 2 refl))))

@@ -7,7 +7,7 @@ use Rattle.model.specs.Records.{noRecord, keyNumbers, records, recordsAccepted,
 use Rattle.model.specs.Refusals.{refusalOf}
 use Rattle.model.specs.Coordinator.{coordinatorAccepted}
 use Rattle.model.specs.SheetCalls.{allIssued, checkConditions, lookupConditions, lineAt, lookedUp}
-use Rattle.sheet_laws.specs.Places.{length-records}
+use Rattle.sheet_laws.specs.ByIndex.{length-records}
 use Rattle.sheet_laws.specs.Search.{first-at}
 
 -- a key is in range if each of its numbers is in its column's
@@ -44,7 +44,7 @@ module _ (s : List ℕ) (k : Key) where
   unfolding lookedUp lookupConditions refusalOf isMissing lineAt
   lookup-met i e g f = rw (e, g, f) (refl, refl)
 
--- a place that was found is one of the sheet's
+-- an index that was found is that of a line of the sheet
 pub found-fits : (s : List ℕ) (k : Key) (i : ℕ) → found k (records s) ≡ At i → i * recordBytes + recordBytes ≤ length s
 unfolding found
 found-fits s k i e =

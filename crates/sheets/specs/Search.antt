@@ -34,7 +34,7 @@ edges (suc (suc (suc (suc (suc f))))) l = absurd (omega arith)
 abbrev pub keyField : ℕ → ℕ → List ℕ → List ℕ
 keyField f at s = take (at + edge (f + 1) - (at + edge f)) (drop (at + edge f) s)
 
--- the line at a place
+-- the line at an index
 abbrev lineBytesAt : List ℕ → ℕ → List ℕ
 lineBytesAt s i = take recordBytes (drop (i * recordBytes) s)
 
@@ -76,7 +76,7 @@ module _ (line text : List ℕ) (o p n : ℕ) (rising : o ≤ p) (within : p ≤
       let q : take (p - o) (drop o line) ≡ take (p - o) (drop o text) = sym a ∙ (ap (λ (t : List ℕ). take (p - o) (drop o t)) h ∙ b) in
       true≢false (sym (eqList-refl (take (p - o) (drop o text))) ∙ (ap (λ (t : List ℕ). eqList t (take (p - o) (drop o text))) (sym q) ∙ e))
 
--- the place of the first line, counted from i, that begins as the text does
+-- the index of the first line, counted from i, that begins as the text does
 abbrev pub foundLine : ℕ → List ℕ → List (List ℕ) → Found
 foundLine i text ls = firstFrom (λ (l : List ℕ). eqList (take keyBytes l) (take keyBytes text)) i ls
 
@@ -90,20 +90,20 @@ length-lines s = length-pieces recordBytes (length s / recordBytes) s
 
 -- How far line i agrees with the key's line: from field f on.
 pub record Agreed (s text : List ℕ) (i f : ℕ) : Type 0 where
-  pub place : f ≤ 5
+  pub reached : f ≤ 5
   pub same : take (keyBytes - edge f) (drop (edge f) (lineBytesAt s i)) ≡ take (keyBytes - edge f) (drop (edge f) text)
 
 pub agree-first : (s text : List ℕ) (i : ℕ) → Agreed s text i 5
 unfolding edge
-agree-first s text i = record { place = omega arith; same = refl }
+agree-first s text i = record { reached = omega arith; same = refl }
 
 pub agree-next : (s text : List ℕ) (i g f : ℕ) → g ≡ f + 1 → f < 5 → eqList (keyField f (i * recordBytes) s) (keyField f 0 text) ≡ true → Agreed s text i g → Agreed s text i f
 agree-next s text i g f n l e a =
     let k = edges f l in
     let h : take (keyBytes - edge (f + 1)) (drop (edge (f + 1)) (lineBytesAt s i)) ≡ take (keyBytes - edge (f + 1)) (drop (edge (f + 1)) text) = rw n at (a .same) in
-    record { place = omega arith; same = agree-more (lineBytesAt s i) text (edge f) (edge (f + 1)) keyBytes (k .0) (k .1) h (parts-compared s text i f true l e) }
+    record { reached = omega arith; same = agree-more (lineBytesAt s i) text (edge f) (edge (f + 1)) keyBytes (k .0) (k .1) h (parts-compared s text i f true l e) }
 
--- The line at place i, by whether it begins as the text does.
+-- Line i, by whether it begins as the text does.
 module _ (s text : List ℕ) (i : ℕ) (here : i < length s / recordBytes) (p : Passed s text i) where
   from-here : cond (eqList (take keyBytes (lineBytesAt s i)) (take keyBytes text)) (At i) (foundLine (i + 1) text (drop (i + 1) (linesOf recordBytes s))) ≡ foundLine 0 text (linesOf recordBytes s)
   unfolding firstFrom linesOf
@@ -127,7 +127,7 @@ module _ (s text : List ℕ) (i : ℕ) (here : i < length s / recordBytes) (p : 
       let x : take keyBytes (lineBytesAt s i) ≡ take keyBytes text → ⊥ =
       agree-not (lineBytesAt s i) text (edge f) (edge (f + 1)) keyBytes (k .0) (k .1) (parts-compared s text i f false l d) in
       let m : eqList (take keyBytes (lineBytesAt s i)) (take keyBytes text) ≡ false = ne-eqList (take keyBytes (lineBytesAt s i)) (take keyBytes text) x in
-      record { place = omega (arith, length-lines s); rest = rw m at from-here }
+      record { reached = omega (arith, length-lines s); rest = rw m at from-here }
 
 pub pass-last : (s text : List ℕ) (i : ℕ) → length s / recordBytes ≤ i → Passed s text i → Nothing ≡ foundLine 0 text (linesOf recordBytes s)
 unfolding firstFrom

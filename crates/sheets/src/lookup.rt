@@ -60,7 +60,7 @@ fn same_field(records: &[u8], at: usize, text: &[u8], f: usize) -> bool
     decimal::same(&records[a..e], &text[from..to])
 }
 
-// The place of the first line that begins as a key line does. Fields are compared from the last, in which neighbouring lines differ most often.
+// The index of the first line that begins as a key line does. Fields are compared from the last, in which neighbouring lines differ most often.
 fn find_line(records: &[u8], text: &[u8]) -> Found
     requires { ⌜ 21 ≤ length (now text) ⌝ }
     ensures { λ r. ⌜ r ≡ foundLine 0 (now (text .entry)) (linesOf recordBytes (now (records .entry))) ⌝ }
@@ -85,7 +85,7 @@ fn find_line(records: &[u8], text: &[u8]) -> Found
     Found::Nothing
 }
 
-// The place of the line that has the key, in an accepted sheet.
+// The index of the line that has the key, in an accepted sheet.
 pub fn find(records: &[u8], key: Key) -> Found
     requires { ⌜ recordsAccepted (now records) ≡ true ⌝ }
     requires { ⌜ keyInRange key ≡ true ⌝ }

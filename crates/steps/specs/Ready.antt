@@ -31,7 +31,7 @@ pub record Known (cs : List ℕ) (t : Transaction) : Type 0 where
   pub issued : t .number ≤ coordinatorOf cs .issued
   pub few : t .count ≤ 8
 
--- an entry at a place of the list has its key in the list
+-- an entry of the list has its key in the list
 key-at : (es : List Entry) (i : ℕ) → i < length es → hasKey (getD es i noEntry .key) es ≡ true
 unfolding any
 key-at [] i l = absurd (omega arith)

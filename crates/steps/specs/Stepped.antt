@@ -12,7 +12,7 @@ use Rattle.sheet_laws.specs.Records.{sheet-written-read}
 use Rattle.sheet_laws.specs.Coordinator.{decisionText, coordinator-written-read}
 use Rattle.sheet_laws.specs.Decisions.{numberHasLine}
 use Rattle.call_laws.specs.Lines.{lines-unmoved}
-use Rattle.call_laws.specs.Places.{decision-written}
+use Rattle.call_laws.specs.ByIndex.{decision-written}
 use Rattle.steps.specs.Ready.{Known}
 
 pub record Stepped (s : Sheets) (x : Step) (t : Transaction) (rs cs : List ℕ) : Type 0 where

@@ -20,8 +20,8 @@ abbrev pub firstOf : List ℕ → FirstLine
 firstOf input = record { lines = firstNumber 0 input; decisions = firstNumber 1 input; clock = firstNumber 2 input }
 
 -- where the record sheet begins
-abbrev pub placeOfRecords : FirstLine → ℕ
-placeOfRecords f = firstBytes + (f .decisions + 1) * coordinatorBytes
+abbrev pub recordsFrom : FirstLine → ℕ
+recordsFrom f = firstBytes + (f .decisions + 1) * coordinatorBytes
 
 -- numbers of lines that four columns hold
 pub record Small (f : FirstLine) : Type 0 where
@@ -167,9 +167,9 @@ module _ (s : List ℕ) where
       record { fits = fit (not-false (inputFits s) (p .0)); passing = p .1 }
 
 -- The parts of an input that are lent as its sheets.
-module _ (s : List ℕ) (n : ℕ) (e : n ≡ placeOfRecords (firstOf s)) where
-  pub place-within : Fit s → (firstBytes ≤ n) × (n ≤ length s)
-  place-within f = (omega (arith, e), omega (arith, e, f .whole))
+module _ (s : List ℕ) (n : ℕ) (e : n ≡ recordsFrom (firstOf s)) where
+  pub records-within : Fit s → (firstBytes ≤ n) × (n ≤ length s)
+  records-within f = (omega (arith, e), omega (arith, e, f .whole))
 
   pub coordinator-part : take (n - firstBytes) (drop firstBytes s) ≡ inputSheets s .coordinator
   coordinator-part = let k : n - firstBytes ≡ coordinatorSize s = omega arith in ap (λ (m : ℕ). take m (drop firstBytes s)) k

@@ -9,7 +9,7 @@ use Rattle.model.specs.Refusals.{refusalOf}
 use Rattle.model.specs.ByteHistories.{Bytes}
 use Rattle.model.specs.Visitor.{firstNumber, coordinatorSize, inputConditions, inputSheets, swept, printed, refusedText, visitorOutput, firstBytes}
 use Rattle.sweep.specs.Passes.{both}
-use Rattle.sweep.specs.FirstLine.{firstOf, placeOfRecords, coordinator-part, records-part}
+use Rattle.sweep.specs.FirstLine.{firstOf, recordsFrom, coordinator-part, records-part}
 use Rattle.sweep.specs.Sizes.{Parts, parts}
 
 -- the sheets of an input, as the visits leave them
@@ -57,7 +57,7 @@ pub put-part : (s t u : List ℕ) → t ≡ u → length s ≡ length u → putW
 put-part s t u e l = put-fits s t (l ∙ ap length (sym e)) ∙ e
 
 -- both slices, with the parts of the input put over them
-pub loaded : (input rs cs rs′ cs′ : List ℕ) (n : ℕ) → Loaded input rs cs → n ≡ placeOfRecords (firstOf input) → rs′ ≡ putWord rs (take (length input - n) (drop n input)) → cs′ ≡ putWord cs (take (n - firstBytes) (drop firstBytes input)) → both rs′ cs′ ≡ inputSheets input
+pub loaded : (input rs cs rs′ cs′ : List ℕ) (n : ℕ) → Loaded input rs cs → n ≡ recordsFrom (firstOf input) → rs′ ≡ putWord rs (take (length input - n) (drop n input)) → cs′ ≡ putWord cs (take (n - firstBytes) (drop firstBytes input)) → both rs′ cs′ ≡ inputSheets input
 loaded input rs cs rs′ cs′ n h e p q =
     let a = parts input n e (h .accepted) in
     let l : length cs ≡ length (inputSheets input .coordinator) = h .decisions ∙ sym (simp (length-take, length-drop) (omega arith)) in

@@ -10,11 +10,11 @@ use Rattle.model.specs.Results.{visit}
 use Rattle.model.specs.Histories.{written, after}
 use Rattle.model.specs.ByteHistories.{Bytes, saying, Passing, afterOn}
 use Rattle.model.specs.Visitor.{visitedAll, keysIn, swept}
-use Rattle.sheet_laws.specs.Places.{length-records}
+use Rattle.sheet_laws.specs.ByIndex.{length-records}
 use Rattle.model.specs.Calls.{result}
 use Rattle.model.specs.ByteCalls.{sheetsOf}
 use Rattle.call_laws.specs.Lines.{keys-after}
-use Rattle.call_laws.specs.Places.{found-own}
+use Rattle.call_laws.specs.ByIndex.{found-own}
 use Rattle.call_laws.specs.Lifting.{bytes-stay-passing}
 use Rattle.call_laws.specs.Accepted.{Outcome, accepted, let-pass}
 use Rattle.recover.specs.Recovering.{Standing}
@@ -31,7 +31,7 @@ keyAt rs i = getD (records rs) i noRecord .key
 pub line-stands : (rs cs : List ℕ) (i : ℕ) → Passing (both rs cs) → i < length rs / recordBytes → Standing rs cs i
 line-stands rs cs i h l =
     let a = accepted rs cs h in
-    record { accepted = a; place = found-own (records rs) i (a .good .order) (omega (arith, length-records rs)) }
+    record { accepted = a; index = found-own (records rs) i (a .good .order) (omega (arith, length-records rs)) }
 
 -- and its visit leaves what the definition says
 pub line-visited : (rs cs : List ℕ) (i now : ℕ) {answer : Visited} {rs′ cs′ : List ℕ} → Passing (both rs cs) → Outcome toVisited (result (visit (keyAt rs i) now) (sheetsOf rs cs)) rs cs answer rs′ cs′ → both rs′ cs′ ≡ afterOn (visit (keyAt rs i) now) (both rs cs)
@@ -68,12 +68,12 @@ visited-append now (k ∷ ks) ls b = visited-append now ks ls (afterOn (visit k 
 
 -- A pass that has visited the keys before line i.
 pub record VisitedTo (now : ℕ) (first b : Bytes) (i : ℕ) : Type 0 where
-  pub place : i ≤ length (keysIn first)
+  pub reached : i ≤ length (keysIn first)
   pub kept : Kept (keysIn first) b
   pub rest : visitedAll now (drop i (keysIn first)) b ≡ visitedAll now (keysIn first) first
 
 pub pass-first : (now : ℕ) (first : Bytes) → Passing first → VisitedTo now first first 0
-pass-first now first h = record { place = omega arith; kept = record { passing = h; keys = refl }; rest = refl }
+pass-first now first h = record { reached = omega arith; kept = record { passing = h; keys = refl }; rest = refl }
 
 length-keys : (b : Bytes) → length (keysIn b) ≡ length (b .records) / recordBytes
 length-keys b = length-map (records (b .records)) (λ (r : Record). r .key) ∙ length-records (b .records)
@@ -89,7 +89,7 @@ pass-next now first b c i l m v e =
     drop-here (keysIn first) i (noRecord .key) (keyAt (b .records) i) n k in
     subst (λ (x : Bytes). VisitedTo now first x (i + 1)) (sym e)
     (record {
-      place = omega arith;
+      reached = omega arith;
       kept = kept-visit (keyAt (b .records) i) now (keysIn first) b l (v .kept);
       rest = ap (λ (ks : List Key). visitedAll now ks b) (sym d) ∙ v .rest;
     })
@@ -107,19 +107,19 @@ passed now (suc n) first = visitedAll now (keysIn first) (passed now n first)
 
 -- A sweep that has made n passes.
 pub record PassedTo (now : ℕ) (first b : Bytes) (n : ℕ) : Type 0 where
-  pub place : n ≤ 2
+  pub reached : n ≤ 2
   pub kept : Kept (keysIn first) b
   pub done : b ≡ passed now n first
 
 pub sweep-first : (now : ℕ) (first : Bytes) → Passing first → PassedTo now first first 0
 unfolding passed
-sweep-first now first h = record { place = omega arith; kept = record { passing = h; keys = refl }; done = refl }
+sweep-first now first h = record { reached = omega arith; kept = record { passing = h; keys = refl }; done = refl }
 
 pub sweep-next : (now : ℕ) (first b c : Bytes) (n : ℕ) → now < 2 ^ 32 → n < 2 → PassedTo now first b n → c ≡ visitedAll now (keysIn b) b → PassedTo now first c (n + 1)
 unfolding passed
 sweep-next now first b c n l m v e =
     record {
-      place = omega arith;
+      reached = omega arith;
       kept = subst (Kept (keysIn first)) (sym e) (visited-kept now (keysIn b) (keysIn first) b l (v .kept));
       done = e ∙ (ap₂ (visitedAll now) (v .kept .keys) (v .done) ∙ ap (λ (i : ℕ). passed now i first) (sym (add-one n)));
     }
@@ -128,7 +128,7 @@ sweep-next now first b c n l m v e =
 pub sweep-last : (now : ℕ) (first b : Bytes) (n : ℕ) → 2 ≤ n → PassedTo now first b n → b ≡ swept now first
 unfolding passed swept
 sweep-last now first b n m v =
-    let p : n ≤ 2 = v .place in
+    let p : n ≤ 2 = v .reached in
     let e : n ≡ 2 = omega arith in
     v .done
     ∙ (ap (λ (i : ℕ). passed now i first) e ∙ sym (visited-append now (keysIn first) (keysIn first) first))

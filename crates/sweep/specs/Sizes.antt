@@ -9,11 +9,11 @@ use Rattle.model.specs.Coordinator.{coordinatorOf, coordinatorAccepted}
 use Rattle.model.specs.Refusals.{refusalOf}
 use Rattle.model.specs.SheetCalls.{checkConditions}
 use Rattle.model.specs.Visitor.{firstNumber, coordinatorSize, inputFits, inputSheets, inputConditions, printed, refusedText, swept, visitorOutput, firstBytes}
-use Rattle.sheet_laws.specs.Places.{length-records}
+use Rattle.sheet_laws.specs.ByIndex.{length-records}
 use Rattle.sheet_laws.specs.Coordinator.{bounds}
 use Rattle.sheet_laws.specs.Decisions.{length-decisions, accepted-parts}
 use Rattle.call_laws.specs.Lifting.{passing-parts}
-use Rattle.sweep.specs.FirstLine.{firstOf, placeOfRecords, first-small, fit, unfit-refused, fit-refused, accepted-input, place-within}
+use Rattle.sweep.specs.FirstLine.{firstOf, recordsFrom, first-small, fit, unfit-refused, fit-refused, accepted-input, records-within}
 
 -- 1 to 500 lines of 98 bytes
 records-few : (s : List ℕ) → recordsAccepted s ≡ true → length s ≤ mostRecordBytes
@@ -33,7 +33,7 @@ coordinator-few s h =
     let w : length (drop coordinatorBytes s) ≡ length (drop coordinatorBytes s) / coordinatorBytes * coordinatorBytes = p .whole in
     omega (arith, length-decisions s, length-drop coordinatorBytes s)
 
--- The sheets of an accepted input, the record sheet from place n on.
+-- The sheets of an accepted input, the record sheet from byte n on.
 pub record Parts (s : List ℕ) (n : ℕ) : Type 0 where
   pub after-first : firstBytes ≤ n
   pub within : n ≤ length s
@@ -42,10 +42,10 @@ pub record Parts (s : List ℕ) (n : ℕ) : Type 0 where
   pub coordinator-room : n - firstBytes ≤ mostCoordinatorBytes
   pub record-room : length s - n ≤ mostRecordBytes
 
-pub parts : (s : List ℕ) (n : ℕ) → n ≡ placeOfRecords (firstOf s) → refusalOf (inputConditions s) ≡ 0 → Parts s n
+pub parts : (s : List ℕ) (n : ℕ) → n ≡ recordsFrom (firstOf s) → refusalOf (inputConditions s) ≡ 0 → Parts s n
 parts s n e h =
     let a = accepted-input s h in
-    let w = place-within s n e (a .fits) in
+    let w = records-within s n e (a .fits) in
     let p = passing-parts (inputSheets s) (a .passing) in
     let r : length (inputSheets s .records) ≤ mostRecordBytes = records-few (inputSheets s .records) (p .0) in
     let c : length (inputSheets s .coordinator) ≤ mostCoordinatorBytes = coordinator-few (inputSheets s .coordinator) (p .1 .0) in

@@ -6,7 +6,7 @@ ghost use Rattle.decimal.specs.Field.{isNumber};
 ghost use Rattle.model.specs.Lines.{lineSet};
 ghost use Rattle.model.specs.Refusals.{refusalOf};
 ghost use Rattle.model.specs.Visitor.{firstLayout, inputFits, inputConditions, firstBytes};
-ghost use Rattle.sweep.specs.FirstLine.{firstOf, placeOfRecords, Small};
+ghost use Rattle.sweep.specs.FirstLine.{firstOf, recordsFrom, Small};
 use crate::FIRST_BYTES;
 use crate::FirstLine;
 use decimal::Scan;
@@ -58,7 +58,7 @@ pub fn numbers(input: &[u8]) -> FirstLine
 // Where the record sheet begins: after the first line and the coordinator sheet with its head.
 pub fn records_from(first: FirstLine) -> usize
     requires { ⌜ Small first ⌝ }
-    ensures { λ r. ⌜ r ≡ placeOfRecords first ⌝ }
+    ensures { λ r. ⌜ r ≡ recordsFrom first ⌝ }
 {
     FIRST_BYTES + (first.decisions as usize + 1) * COORDINATOR_BYTES
 }

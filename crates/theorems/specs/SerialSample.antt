@@ -131,15 +131,15 @@ story =
     ∷ row (read z0 keyB 100) (answered (Value (columns 40 7)) z1) (sheets issued3 first third firstA firstB)
     ∷ row (put z1 keyB (columns 41 8)) (returned z2) (sheets issued3 first third firstA firstB)
     ∷ row (advance x3 101) (returned (xIn preparePhase 0 0)) (sheets issued3 first third firstA firstB)
-    -- number 1 gets its place, by its last prepare
+    -- number 1 gets its position, by its last prepare
     ∷ row (advance (xIn preparePhase 0 0) 101) (returned (xIn validatePhase 0 0)) (sheets issued3 first third pendingA firstB)
     ∷ row (read y2 keyA 101) (turnedAway 12) (sheets issued3 first third pendingA firstB)
-    -- number 2 gets its place: without puts it leaves open
+    -- number 2 gets its position: without puts it leaves open
     ∷ row (advance y2 101) (returned (yIn validatePhase 0 0)) (sheets issued3 first third pendingA firstB)
     ∷ row (advance (yIn validatePhase 0 0) 101) (returned (yIn validatePhase 1 0)) (sheets issued3 first third pendingA firstB)
     ∷ row (advance (xIn validatePhase 0 0) 102) (returned (xIn decidePhase 0 0)) (sheets issued3 first third pendingA firstB)
     ∷ row (advance z2 102) (returned (zIn preparePhase 0 0)) (sheets issued3 first third pendingA firstB)
-    -- number 3 gets its place
+    -- number 3 gets its position
     ∷ row (advance (zIn preparePhase 0 0) 102) (returned (zIn decidePhase 0 0)) (sheets issued3 first third pendingA pendingB)
     -- and they commit: 3, 2, 1
     ∷ row (advance (zIn decidePhase 0 0) 103) (returned (zIn finishPhase 0 1)) (sheets issued3 first thirdCommitted pendingA pendingB)

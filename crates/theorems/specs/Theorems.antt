@@ -120,8 +120,8 @@ pub next-read-finishes : (b : Bytes) → Passing b → (k : Key) (now : ℕ) →
 next-read-finishes b p k now l h m d t n a = NextReader.next-read-finishes b p k now l h m d t n a
 
 -- DOCUMENT 02, NOTE 8, for the calls that stand: "Suppose every transaction is begun as checked, in a list as demand 3 and the cut-off rule allow." Over bytes
--- and every turn of a history, a turn counting as the calls that it comes to: each committed transaction has one place in the order, each of its reads saw what
--- the committed ones before it leave, run whole one after another from the first sheets, and all of them together leave the sequential model's lines.
+-- and every turn of a history, a turn counting as the calls that it comes to: each committed transaction has one position in the order, each of its reads saw
+-- what the committed ones before it leave, run whole one after another from the first sheets, and all of them together leave the sequential model's lines.
 pub checked-serializable : (b : Bytes) → Passing b → nonePrepared (records (b .records)) ≡ true → (xs : List Turn)
     → LegalTurns turnAfterOn turnEventOn xs b [] → all begunChecked (callsOn xs b) ≡ true
     → Serializable (records (b .records)) (modelOn xs b) (callsOn xs b)

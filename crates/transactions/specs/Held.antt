@@ -22,11 +22,11 @@ eight t p = sym (length-map (t .entries) _) ∙ p .1 .1 .1 .1 .1 .1 .1 .1 .0 .1 
 abbrev pub entryAt : Transaction → ℕ → Entry
 entryAt t i = getD (t .entries) i noEntry
 
--- the entries after place i
+-- the entries after entry i
 abbrev pub after : Transaction → ℕ → List Entry
 after t i = drop (i + 1) (held t)
 
--- As many are in use as the count says, each at its place.
+-- As many are in use as the count says, each at its index.
 
 pub has-room : (t : Transaction) {vs : List Val} → Is (row the-type) t vs → t .count ≤ 8 → t .count ≤ length (t .entries)
 has-room t p l = let n = eight t p in omega arith
@@ -43,15 +43,15 @@ module _ (t : Transaction) (room : t .count ≤ length (t .entries)) {A : Type 0
       getD-any (map f (held t)) i d (f noEntry) (omega arith)
       ∙ (List·getD-map f (held t) i noEntry ∙ ap f (getD-take (t .count) (t .entries) i noEntry l))
 
--- f of the entries from place i on is what was to be computed, w
+-- f of the entries from i on is what was to be computed, w
 pub record PassedTo {A : Type 0} (t : Transaction) (f : List Entry → A) (w : A) (i : ℕ) : Type 0 where
-  pub place : i ≤ t .count
+  pub reached : i ≤ t .count
   pub room : t .count ≤ length (t .entries)
   pub rest : f (drop i (held t)) ≡ w
 
 module _ {A : Type 0} (t : Transaction) (f : List Entry → A) where
   pub pass-from : (i : ℕ) {vs : List Val} → Is (row the-type) t vs → t .count ≤ 8 → i ≤ t .count → PassedTo t f (f (drop i (held t))) i
-  pass-from i p l m = record { place = m; room = has-room t p l; rest = refl }
+  pass-from i p l m = record { reached = m; room = has-room t p l; rest = refl }
 
   pub pass-first : {vs : List Val} → Is (row the-type) t vs → t .count ≤ 8 → PassedTo t f (f (held t)) 0
   pass-first p l = pass-from 0 p l (omega arith)
@@ -66,7 +66,7 @@ module _ {A : Type 0} (t : Transaction) (f : List Entry → A) where
 
   -- past entry i, where f of a list that begins with it is g of the rest
   pub pass-next : (g : List Entry → A) (w : A) (i : ℕ) → i < t .count → PassedTo t f w i → f (entryAt t i ∷ after t i) ≡ g (after t i) → PassedTo t g w (i + 1)
-  pass-next g w i l p e = record { place = omega arith; room = p .room; rest = sym e ∙ pass-here w i l p }
+  pass-next g w i l p e = record { reached = omega arith; room = p .room; rest = sym e ∙ pass-here w i l p }
 
   pub pass-last : (w : A) (i : ℕ) → t .count ≤ i → PassedTo t f w i → f [] ≡ w
   unfolding held
@@ -88,7 +88,7 @@ module _ (t : Transaction) (q : Entry → Bool) (w : Found) (i : ℕ) (p : Passe
   unfolding firstFrom
   first-last l = pass-last t (firstFrom q i) w i l p
 
--- a place that was found is one of the entries in use
+-- an index that was found is one of the entries in use
 pub held-below : (t : Transaction) (k : Key) (i : ℕ) → heldAt k t ≡ At i → i < t .count
 unfolding heldAt held
 held-below t k i e =
@@ -137,7 +137,7 @@ pub one-few : (b : Bool) (n m i : ℕ) → n ≤ i → m ≡ cond b (n + 1) n �
 one-few true n m i l e = omega arith
 one-few false n m i l e = omega arith
 
--- How many entries pass? n of those before place i did.
+-- How many entries pass? n of those before i did.
 pub record TalliedTo (t : Transaction) (q : Entry → List Entry → Bool) (w : ℕ) (n i : ℕ) : Type 0 where
   pub few : n ≤ i
   pub passed : PassedTo t (λ (es : List Entry). n + tallied q es) w i
@@ -146,7 +146,7 @@ module _ (t : Transaction) (q : Entry → List Entry → Bool) where
   pub tally-first : {vs : List Val} → Is (row the-type) t vs → t .count ≤ 8 → TalliedTo t q (tallied q (held t)) 0 0
   tally-first p l =
       let e = pass-first t (tallied q) p l in
-      record { few = omega arith; passed = record { place = e .place; room = e .room; rest = omega arith } }
+      record { few = omega arith; passed = record { reached = e .reached; room = e .room; rest = omega arith } }
 
   pub tally-next : (w n i m : ℕ) → TalliedTo t q w n i → i < t .count → m ≡ cond (q (entryAt t i) (after t i)) (n + 1) n → TalliedTo t q w m (i + 1)
   unfolding tallied
@@ -193,7 +193,7 @@ pub some-counted : (es : List Entry) → ltb 0 (length es) ≡ not (isEmpty es)
 some-counted [] = refl
 some-counted (e ∷ es) = lt-ltb 0 (suc (length es)) (omega arith)
 
--- the entry kept at a place
+-- entry n of those kept
 abbrev pub keptAt : (Entry → Bool) → ℕ → List Entry → Entry
 keptAt q n es = getD (filter q es) n noEntry
 

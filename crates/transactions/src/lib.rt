@@ -67,7 +67,7 @@ pub fn entry_at(t: Transaction, i: usize) -> Entry
     t.entries[i]
 }
 
-// The place of the entry that holds the key.
+// The index of the entry that holds the key.
 pub fn held_at(k: Key, t: Transaction) -> Found
     requires { ⌜ t .count ≤ 8 ⌝ }
     ensures { λ r. ⌜ r ≡ heldAt k t ⌝ }
@@ -192,7 +192,7 @@ pub fn to_validate(letters: &[u8], t: Transaction, place: u32) -> Entry
     NO_ENTRY
 }
 
-// The transaction with the first n entries in use, and e at place i.
+// The transaction with the first n entries in use, and e as entry i.
 pub fn with_entry(n: u32, i: usize, e: Entry, t: Transaction) -> Transaction
     requires { ⌜ i < 8 ⌝ }
     ensures { λ r. ⌜ r ≡ withEntry n i e t ⌝ }

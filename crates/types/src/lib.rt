@@ -73,7 +73,7 @@ pub enum Kind {
     UnitLetter,
 }
 
-// A field of a line: its width in bytes, its kind and its range. A word counts by its place in its set, from 0.
+// A field of a line: its width in bytes, its kind and its range. A word counts by its index in its set, from 0.
 pub struct Column {
     pub width: usize,
     pub kind: Kind,
@@ -145,7 +145,7 @@ pub enum Layout {
     CoordinatorLine,
 }
 
-// The place of what was looked for, counted from 0.
+// The index of what was looked for, counted from 0.
 pub enum Found {
     At(usize),
     Nothing,

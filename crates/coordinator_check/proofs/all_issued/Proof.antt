@@ -1,7 +1,7 @@
 -- The loop's invariant: the records before i are good, so that those from i on decide as all do. A number that is not issued ends it.
 use Rattle.lists.specs.Basics.{_≡_, _+_, _-_, leb, _&&_, and-false, drop, arith, le-leb, lt-leb, needs, all}
 use Rattle.lists.specs.Walks.{left-first, left-last}
-use Rattle.sheet_laws.specs.Places.{length-records}
+use Rattle.sheet_laws.specs.ByIndex.{length-records}
 use Rattle.model.specs.Layouts.{recordLayout, offset}
 use Rattle.model.specs.Records.{records}
 use Rattle.model.specs.Coordinator.{coordinatorOf, namesIssued}
@@ -61,7 +61,7 @@ loop-again c =
     let txid = c .before .before .before .half2 in
     let before = c .before .before .half3 in
     record {
-      place = omega (arith, length-records (c .before .before .before .before .before .before .before .before .before .args .records .now));
+      reached = omega (arith, length-records (c .before .before .before .before .before .before .before .before .before .args .records .now));
       rest =
           rw (le-leb (txid .result) (issued .result) (c .before .if1 .left), le-leb (before .result) (issued .result) (c .if2 .left)) at
           (whole (c .before .before));

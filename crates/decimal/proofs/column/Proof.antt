@@ -1,4 +1,4 @@
--- The two returns are the two cases of `place`.
+-- The two returns are the two cases of `columnByte`.
 use Rattle.lists.specs.Basics.{eq-eqb, ne-eqb, needs}
 use Rattle.decimal.proofs.column.Statement.{statement}
 use Rattle.decimal.proofs.column.Tie as tie

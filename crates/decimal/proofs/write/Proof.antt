@@ -2,7 +2,7 @@
 use Rattle.lists.specs.Basics.{_≡_, refl, _∙_, ℕ, zero, suc, _+_, _-_, _/_, _%_, _≤_, _<_, List, [], _∷_, _++_, append-nil, length, drop, set, length-set}
 use Rattle.lists.specs.Basics.{drop-of-length-le, drop-cons, arith, needs}
 use lib.Seq.{drop-set-lt, getD-set-same, append-snoc}
-use Rattle.decimal.specs.Field.{place, ahead, fieldText}
+use Rattle.decimal.specs.Field.{columnByte, ahead, fieldText}
 use Rattle.decimal.proofs.write.Statement.{statement}
 use Rattle.decimal.proofs.write.Tie as tie
 
@@ -12,12 +12,12 @@ column-set s p j b l =
     let m : j < length (set s j b) = rw length-set l in
     rw (drop-cons (set s j b) j 0 m, getD-set-same s j b 0 l, drop-set-lt (suc j) s j b (omega arith), append-snoc)
 
-next-column : (s : List ℕ) (i v : ℕ) → 0 < i → i ≤ length s → ahead (i - 1) (v / 10) ++ drop (i - 1) (set s (i - 1) (place v)) ≡ ahead i v ++ drop i s
+next-column : (s : List ℕ) (i v : ℕ) → 0 < i → i ≤ length s → ahead (i - 1) (v / 10) ++ drop (i - 1) (set s (i - 1) (columnByte v)) ≡ ahead i v ++ drop i s
 unfolding ahead
 next-column s zero v n l = absurd (omega arith)
 next-column s (suc j) v n l =
     let e : suc j - 1 ≡ j = omega arith in
-    rw e (column-set s (ahead j (v / 10)) j (place v) l)
+    rw e (column-set s (ahead j (v / 10)) j (columnByte v) l)
 
 last-column : (s : List ℕ) (n v : ℕ) → length s ≡ n → 0 < n → ahead (n - 1) (v / 10) ++ drop (n - 1) (set s (n - 1) (48 + v % 10)) ≡ fieldText n v
 unfolding fieldText

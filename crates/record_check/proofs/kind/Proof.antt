@@ -2,7 +2,7 @@
 -- names.
 use Rattle.lists.specs.Basics.{_≡_, ap, _∙_, _+_, _*_, length, take, drop, arith, needs, bytes}
 use Rattle.model.specs.Layouts.{recordLayout, words, offset, recordOffset, stateField}
-use Rattle.places.specs.Loads.{loaded}
+use Rattle.line_bytes.specs.Loads.{loaded}
 use Rattle.record_check.specs.States.{kinds, words-length, stateTold, told-few}
 use Rattle.record_check.specs.Line.{stateIn, kindOf, nothing, nothing-is}
 use Rattle.record_check.proofs.kind.Statement.{statement}

@@ -3,7 +3,7 @@
 use Rattle.lists.specs.Basics.{_≡_, sym, ap, _∙_, true, _&&_, cond, and-false, length, arith, not-true, not-false, needs, bytes}
 use Rattle.model.specs.Layouts.{recordLayout, offset}
 use Rattle.sheet_laws.specs.Lines.{fieldAt}
-use Rattle.places.specs.Parts.{partsOk}
+use Rattle.line_bytes.specs.Parts.{partsOk}
 use Rattle.record_check.specs.States.{kinds, kindAt, kindParts, words-length}
 use Rattle.record_check.specs.Relations.{highestClock, clockFits, follows}
 use Rattle.record_check.specs.Line.{lineGood, wordHeld, wordless, low-clock, line-is}

@@ -4,7 +4,7 @@ use Rattle.decimal.specs.Field.{fieldText, ahead}
 use Rattle.model.specs.Layouts.{recordLayout, words, recordBytes}
 use Rattle.model.specs.Lines.{fieldBytes}
 use Rattle.model.specs.Records.{stateNumber}
-use Rattle.places.specs.Places.{columns, partPlaces, places, lows, highs, alsos}
+use Rattle.line_bytes.specs.Tables.{columns, partColumns, layoutColumns, lows, highs, alsos}
 use Rattle.record_check.specs.Ranges.{opened}
 use Rattle.record_check.specs.LayoutParts.{columnPart, layoutParts}
 use Rattle.record_check.specs.Limits.{narrowed, limited}
@@ -34,7 +34,7 @@ returns-3 c =
     rw (accepted-is s, lt-leb (length s / recordBytes) 500 (c .if3 .taken), and-false, and-false)
 
 lines-pass-requires : tie.Need-lines-pass-requires
-unfolding kindWords tables joined lows highs alsos middle places partPlaces columns kindParts kindLimits layoutParts columnPart limited narrowed kinds zeros stateNumber openLayout opened recordLayout fieldBytes fieldText ahead words bytes highestClock
+unfolding kindWords tables joined lows highs alsos middle layoutColumns partColumns columns kindParts kindLimits layoutParts columnPart limited narrowed kinds zeros stateNumber openLayout opened recordLayout fieldBytes fieldText ahead words bytes highestClock
 lines-pass-requires c κs = (sym (c .before .before .before .before .before .if1 .left), (refl, (refl, refl)))
 
 returns-4 : tie.Need-returns-4

@@ -1,6 +1,6 @@
--- Each table is a row of the tables lent, at its place, and the law on the tables of a kind says the rest.
+-- Each table is a row of the tables lent, at its offset, and the law on the tables of a kind says the rest.
 use Rattle.lists.specs.Basics.{_≡_, sym, ap, _∙_, ℕ, _+_, _-_, _*_, length, take, arith, not-true, not-false, needs}
-use Rattle.places.specs.Places.{lineOk}
+use Rattle.line_bytes.specs.Tables.{lineOk}
 use Rattle.record_check.specs.States.{kinds}
 use Rattle.record_check.specs.Tables.{rowBytes, tableBytes, row, tables-length, tables-room, tables-are}
 use Rattle.record_check.proofs.stands.Statement.{statement}

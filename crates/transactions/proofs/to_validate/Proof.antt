@@ -1,4 +1,4 @@
--- The entry wanted is the one at place `ahead` among those still to come.
+-- The entry wanted is the one at index `ahead` among those still to come.
 use Rattle.lists.specs.Basics.{refl, sym, _∙_, _-_, needs}
 use mathlib.Core.Logic.{⊎-elim}
 use Rattle.model.specs.Transactions.{held, mustValidate, toValidate}

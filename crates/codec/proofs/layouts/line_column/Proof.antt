@@ -1,4 +1,4 @@
--- By the place: at each of its columns the layout has that column, and past them none.
+-- By the index: at each of its fields the layout has that column, and past them none.
 use Rattle.lists.specs.Basics.{sym, List·getD-eq-default}
 use Rattle.lists.specs.Chosen.{past-arms}
 use Rattle.model.specs.Layouts.{noColumn, lineLayout}

@@ -9,7 +9,7 @@ returns : tie.Need-returns
 unfolding offset recordLayout imageLayout
 returns c =
     let a = c .before .before .before .before .before .before .args in
-    let p = c .before .before .before .before .image-place .ensures in
+    let p = c .before .before .before .before .image-offset .ensures in
     bytes-copied _ (a .line .now) _ imageBytes _ _ refl (p .0) (omega arith) (c .before .put .ensures)
 
 pub image-bytes-spec : {M : Type 1} → statement M

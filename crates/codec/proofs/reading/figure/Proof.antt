@@ -1,4 +1,4 @@
--- The digits at the line's place, or 0 past the end.
+-- The digits in the line, or 0 past the end.
 use Rattle.lists.specs.Basics.{lt-ltb, le-ltb, needs}
 use Rattle.codec.proofs.reading.figure.Statement.{statement}
 use Rattle.codec.proofs.reading.figure.Tie as tie

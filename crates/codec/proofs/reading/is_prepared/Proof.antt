@@ -4,7 +4,7 @@ use Rattle.model.specs.Types.{StateWord}
 use Rattle.model.specs.Layouts.{recordLayout, offset, wordAt, recordBytes, recordOffset, recordWidth, stateField}
 use Rattle.model.specs.Images.{isPrepared}
 use Rattle.sheet_laws.specs.Singles.{prepared-told}
-use Rattle.sheet_laws.specs.Places.{record-past}
+use Rattle.sheet_laws.specs.ByIndex.{record-past}
 use Rattle.codec.proofs.reading.is_prepared.Statement.{statement}
 use Rattle.codec.proofs.reading.is_prepared.Tie as tie
 

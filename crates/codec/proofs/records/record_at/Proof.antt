@@ -1,8 +1,8 @@
--- The row read from the line of the place is that of its record; past the end there is none.
+-- The row read from line i is that of its record; past the end there is none.
 use Rattle.lists.specs.Basics.{sym, _∙_, needs}
 use Rattle.model.specs.Layouts.{layout, recordLayout}
 use Rattle.sheet_laws.specs.Lines.{lineBytes}
-use Rattle.sheet_laws.specs.Places.{record-past}
+use Rattle.sheet_laws.specs.ByIndex.{record-past}
 use Rattle.codec.specs.Parts.{record-part}
 use Rattle.codec.proofs.records.record_at.Statement.{statement}
 use Rattle.codec.proofs.records.record_at.Tie as tie

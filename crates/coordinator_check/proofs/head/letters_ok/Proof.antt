@@ -1,4 +1,4 @@
--- The loop's invariant: the letters before place i are units, or one is not, and the others decide with them.
+-- The loop's invariant: the letters before column i are units, or one is not, and the others decide with them.
 use Rattle.lists.specs.Basics.{_-_, needs}
 use Rattle.model.specs.Layouts.{lineEnd}
 use Rattle.coordinator_check.specs.Head.{LettersTo, letters-first, letters-next, letters-last}

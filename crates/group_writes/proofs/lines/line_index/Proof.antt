@@ -1,7 +1,7 @@
 -- A key out of range is found nowhere; any other is looked up.
 use Rattle.lists.specs.Basics.{sym, _∙_, not-true, not-false, needs}
 use Rattle.model.specs.Records.{records}
-use Rattle.sheet_laws.specs.Places.{length-records}
+use Rattle.sheet_laws.specs.ByIndex.{length-records}
 use Rattle.group_writes.specs.Lookup.{found-in-range}
 use Rattle.group_writes.specs.Located.{index-found, index-none}
 use Rattle.group_writes.proofs.lines.line_index.Statement.{statement}

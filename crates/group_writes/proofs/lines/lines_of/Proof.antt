@@ -5,7 +5,7 @@ use Rattle.lists.specs.Each as Each
 use Rattle.model.specs.Records as sheet
 use Rattle.model.specs.Records.{hasLine}
 use Rattle.model.specs.WellFormed.{linesHeld}
-use Rattle.sheet_laws.specs.Places.{length-records}
+use Rattle.sheet_laws.specs.ByIndex.{length-records}
 use Rattle.transactions.specs.Held.{PassedTo, pass-first, pass-last}
 use Rattle.group_writes.specs.Located.{indicesOf, indices-next, lines-next}
 use Rattle.group_writes.proofs.lines.lines_of.Statement.{statement}
@@ -40,7 +40,7 @@ returns c =
     let a = c .before .before .before .before .args in (
       sym (and-true (c .before .loop .all)) ∙ pass-last _ _ _ _ (c .loop-test .left) (c .before .loop .inv .0),
       c .before .loop .inv .1 .1 ∙
-          ap (indicesOf (sheet.records (a .records .now)) (a .t2)) (omega (arith, c .before .loop .inv .0 .place, c .loop-test .left)),
+          ap (indicesOf (sheet.records (a .records .now)) (a .t2)) (omega (arith, c .before .loop .inv .0 .reached, c .loop-test .left)),
     )
 
 pub lines-of-spec : {M : Type 1} → statement M

@@ -1,4 +1,4 @@
--- By whether the place is below the issued count.
+-- By whether the index is below the issued count.
 use Rattle.numbers.specs.Decisions.{highest-open, highest-shut}
 use Rattle.numbers.proofs.decisions.highest_at.Statement.{statement}
 use Rattle.numbers.proofs.decisions.highest_at.Tie as tie

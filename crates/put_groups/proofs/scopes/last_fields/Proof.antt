@@ -41,7 +41,7 @@ returns-2 c =
 pub last-fields-spec : {M : Type 1} → statement M
 last-fields-spec =
     tie.close (tie.spec Inv-loop μ-loop (λ c. omega (arith, c .before .before .before .pre .0))
-    (λ c. record { place = c .before .before .before .pre .0; rest = refl }) (λ c. search needs) (λ c. search needs) (λ c. search needs)
+    (λ c. record { reached = c .before .before .before .pre .0; rest = refl }) (λ c. search needs) (λ c. search needs) (λ c. search needs)
     (λ c. search needs)
     (λ c. search needs) part-same-first-start part-same-first-end same-first-requires returns (λ c. search needs) (λ c. search needs) loop-again
     returns-2)

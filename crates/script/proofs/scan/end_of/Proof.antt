@@ -1,4 +1,4 @@
--- The place stays between the first and the end of the slice, and what is before the mark from there on ends where all of it does.
+-- The column stays between the first and the end of the slice, and what is before the mark from there on ends where all of it does.
 use Rattle.lists.specs.Basics.{_≡_, refl, _+_, _-_, _≤_, length, drop, arith, needs}
 use Rattle.script.specs.Lines.{upTo, mark-here, mark-later, mark-none}
 use Rattle.script.proofs.scan.end_of.Statement.{statement}

@@ -1,4 +1,4 @@
--- A word ends after the space before it, so that the place rises to the end of the line; the words to come, after the numbers so far, give what all words do.
+-- A word ends after the space before it, so that the column rises to the end of the line; the words to come, after the numbers so far, give what all words do.
 use Rattle.lists.specs.Basics.{_≡_, refl, sym, ap, _∙_, _+_, _-_, _≤_, length, drop, arith, needs}
 use Rattle.script.specs.declared.scan.Numbers.{Numbers}
 use Rattle.script.specs.Lines.{noNumbers, withWords, wordsAfter, next-word, no-word}

@@ -1,4 +1,4 @@
--- The array keeps its length, and twelve places from `at` on lie in it.
+-- The array keeps its length, and twelve numbers from `at` on lie in it.
 use Rattle.lists.specs.Basics.{_≡_, _-_, _≤_, length, needs}
 use Rattle.script_calls.proofs.calls.with_row.Statement.{statement}
 use Rattle.script_calls.proofs.calls.with_row.Tie as tie

@@ -26,13 +26,13 @@ loop-holds : tie.Need-loop-holds Inv-loop μ-loop Inv-lines μ-lines
 loop-holds c = (refl, agree-first _ _ _)
 
 same-field-requires : tie.Need-same-field-requires Inv-loop μ-loop Inv-lines μ-lines
-same-field-requires c κs = (omega (arith, c .before .loop .inv .1 .place), (omega arith, c .before .before .before .before .before .before .pre))
+same-field-requires c κs = (omega (arith, c .before .loop .inv .1 .reached), (omega arith, c .before .before .before .before .before .before .pre))
 
 lines-again : tie.Need-lines-again Inv-loop μ-loop Inv-lines μ-lines
-lines-again c = (c .before .before .before .before .before .lines .inv .0, rw (c .before .before .before .loop .inv .0) (pass-next _ _ _ (omega arith) (c .before .before .before .before .before .lines .inv .1) (c .before .before .before .loop .f - 1) (omega (arith, c .before .before .before .loop .inv .1 .place)) (sym (c .before .same-field .ensures) ∙ not-true _ (c .if1 .taken))))
+lines-again c = (c .before .before .before .before .before .lines .inv .0, rw (c .before .before .before .loop .inv .0) (pass-next _ _ _ (omega arith) (c .before .before .before .before .before .lines .inv .1) (c .before .before .before .loop .f - 1) (omega (arith, c .before .before .before .loop .inv .1 .reached)) (sym (c .before .same-field .ensures) ∙ not-true _ (c .if1 .taken))))
 
 loop-again : tie.Need-loop-again Inv-loop μ-loop Inv-lines μ-lines
-loop-again c = (c .before .before .before .loop .inv .0, agree-next _ _ _ (c .before .before .before .loop .f) (c .before .before .before .loop .f - 1) (omega (arith, c .before .before .loop-test .taken)) (omega (arith, c .before .before .before .loop .inv .1 .place)) (sym (c .before .same-field .ensures) ∙ not-false _ (c .if1 .left)) (c .before .before .before .loop .inv .1))
+loop-again c = (c .before .before .before .loop .inv .0, agree-next _ _ _ (c .before .before .before .loop .f) (c .before .before .before .loop .f - 1) (omega (arith, c .before .before .loop-test .taken)) (omega (arith, c .before .before .before .loop .inv .1 .reached)) (sym (c .before .same-field .ensures) ∙ not-false _ (c .if1 .left)) (c .before .before .before .loop .inv .1))
 
 returns : tie.Need-returns Inv-loop μ-loop Inv-lines μ-lines
 returns c =

@@ -1,4 +1,4 @@
--- Case by case in the order of the refusals; a place that was found is within the sheet.
+-- Case by case in the order of the refusals; an index that was found is within the sheet.
 use Rattle.lists.specs.Basics.{_≡_, sym, ap, _∙_, ℕ, _+_, _-_, _*_, take, drop, arith, not-true, not-false, needs}
 use Rattle.sheets.specs.Answers.{lookup-bad, lookup-out, lookup-none, lookup-met, found-fits}
 use Rattle.sheets.proofs.lookup.lookup.Statement.{statement}

@@ -1,7 +1,7 @@
 -- Case by case: too short, not well set, or as long as its numbers say.
 use Rattle.lists.specs.Basics.{sym, ap, subst, _∙_, ℕ, _+_, _*_, eqb, length, arith, not-true, not-false, needs}
 use Rattle.sweep.specs.declared.FirstLine.{FirstLine}
-use Rattle.sweep.specs.FirstLine.{Small, placeOfRecords, short-unfit, unset-unfit, set-fits, first-small}
+use Rattle.sweep.specs.FirstLine.{Small, recordsFrom, short-unfit, unset-unfit, set-fits, first-small}
 use Rattle.sweep.proofs.first_line.fits.Statement.{statement}
 use Rattle.sweep.proofs.first_line.fits.Tie as tie
 use Rattle.model.specs.Layouts.{recordBytes}
@@ -16,7 +16,7 @@ returns-3 : tie.Need-returns-3
 returns-3 c =
     let a = c .before .before .before .before .before .before .before .args in
     ap (λ (n : ℕ). eqb (length (a .input .now)) (n + c .before .before .numbers .result .lines * recordBytes)) (c .before .records-from .ensures)
-    ∙ (ap (λ (f : FirstLine). eqb (length (a .input .now)) (placeOfRecords f + f .lines * recordBytes)) (c .before .before .numbers .ensures)
+    ∙ (ap (λ (f : FirstLine). eqb (length (a .input .now)) (recordsFrom f + f .lines * recordBytes)) (c .before .before .numbers .ensures)
     ∙ sym (set-fits (a .input .now) (sym (c .before .before .before .before .well-set .ensures) ∙ not-false _ (c .before .before .before .if2 .left))))
 
 pub fits-spec : {M : Type 1} → statement M

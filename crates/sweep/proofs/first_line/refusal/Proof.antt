@@ -2,7 +2,7 @@
 use Rattle.lists.specs.Basics.{sym, ap, ap₂, subst, _∙_, ℕ, List, arith, not-true, not-false, needs}
 use Rattle.model.specs.Refusals.{refusalOf}
 use Rattle.model.specs.SheetCalls.{checkConditions}
-use Rattle.sweep.specs.FirstLine.{Small, fit, placeOfRecords, place-within, unfit-refused, fit-refused, first-small, coordinator-part, records-part}
+use Rattle.sweep.specs.FirstLine.{Small, fit, recordsFrom, records-within, unfit-refused, fit-refused, first-small, coordinator-part, records-part}
 use Rattle.sweep.proofs.first_line.refusal.Statement.{statement}
 use Rattle.sweep.proofs.first_line.refusal.Tie as tie
 
@@ -18,22 +18,22 @@ records-from-requires c κs = subst Small (sym (c .numbers .ensures)) (first-sma
 sub-check : tie.Need-sub-check
 sub-check c =
     let a = c .before .before .before .before .before .args in
-    let w = place-within (a .input .now) (c .records-from .result) (c .records-from .ensures ∙ ap placeOfRecords (c .before .numbers .ensures)) (fit (a .input .now) (sym (c .before .before .before .fits2 .ensures) ∙ not-false _ (c .before .before .if1 .left))) in w .1
+    let w = records-within (a .input .now) (c .records-from .result) (c .records-from .ensures ∙ ap recordsFrom (c .before .numbers .ensures)) (fit (a .input .now) (sym (c .before .before .before .fits2 .ensures) ∙ not-false _ (c .before .before .if1 .left))) in w .1
 
 part-check-start : tie.Need-part-check-start
 part-check-start c =
     let a = c .before .before .before .before .before .args in
-    let w = place-within (a .input .now) (c .records-from .result) (c .records-from .ensures ∙ ap placeOfRecords (c .before .numbers .ensures)) (fit (a .input .now) (sym (c .before .before .before .fits2 .ensures) ∙ not-false _ (c .before .before .if1 .left))) in omega arith
+    let w = records-within (a .input .now) (c .records-from .result) (c .records-from .ensures ∙ ap recordsFrom (c .before .numbers .ensures)) (fit (a .input .now) (sym (c .before .before .before .fits2 .ensures) ∙ not-false _ (c .before .before .if1 .left))) in omega arith
 
 part-check-end-2 : tie.Need-part-check-end-2
 part-check-end-2 c =
     let a = c .before .before .before .before .before .before .args in
-    let w = place-within (a .input .now) (c .before .records-from .result) (c .before .records-from .ensures ∙ ap placeOfRecords (c .before .before .numbers .ensures)) (fit (a .input .now) (sym (c .before .before .before .before .fits2 .ensures) ∙ not-false _ (c .before .before .before .if1 .left))) in omega arith
+    let w = records-within (a .input .now) (c .before .records-from .result) (c .before .records-from .ensures ∙ ap recordsFrom (c .before .before .numbers .ensures)) (fit (a .input .now) (sym (c .before .before .before .before .fits2 .ensures) ∙ not-false _ (c .before .before .before .if1 .left))) in omega arith
 
 returns-2 : tie.Need-returns-2
 returns-2 c =
     let a = c .before .before .before .before .before .before .before .before .args in
-    let e = c .before .before .before .records-from .ensures ∙ ap placeOfRecords (c .before .before .before .before .numbers .ensures) in
+    let e = c .before .before .before .records-from .ensures ∙ ap recordsFrom (c .before .before .before .before .numbers .ensures) in
     c .check .ensures
     ∙ (ap₂ (λ (rs cs : List ℕ). refusalOf (checkConditions rs cs)) (records-part (a .input .now) (c .before .before .before .records-from .result) e) (coordinator-part (a .input .now) (c .before .before .before .records-from .result) e)
     ∙ sym (fit-refused (a .input .now) (sym (c .before .before .before .before .before .before .fits2 .ensures) ∙ not-false _ (c .before .before .before .before .before .if1 .left))))

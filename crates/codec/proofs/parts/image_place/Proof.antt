@@ -1,9 +1,0 @@
--- The constants are the layout's offsets, by computation.
-use Rattle.lists.specs.Basics.{needs}
-use Rattle.model.specs.Layouts.{offset, recordLayout, imageLayout}
-use Rattle.codec.proofs.parts.image_place.Statement.{statement}
-use Rattle.codec.proofs.parts.image_place.Tie as tie
-
-pub image-place-spec : {M : Type 1} → statement M
-unfolding imageLayout offset recordLayout
-image-place-spec = tie.close (tie.spec (λ c. search needs) (λ c. search needs))

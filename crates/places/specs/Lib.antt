@@ -1,7 +1,0 @@
--- Lines as rows of parts, and the tables by which one pass judges a line.
-pub mod Parts
-pub mod Places
-pub mod Laws
-pub mod Order
-pub mod Loads
-pub mod Turns
