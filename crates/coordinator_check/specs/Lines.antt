@@ -1,11 +1,10 @@
 -- A line after the head, judged as two numbers of eight bytes each: from the LF before it to the third byte of its word, and from there
 -- to its own LF. The second number tells which decision the line can say, so the line is right if both numbers are those of the text that
 -- says it. Equal numbers are equal bytes.
-use Rattle.lists.specs.Basics.{_≡_, refl, sym, ap, subst, _∙_, ℕ, zero, suc, _+_, _*_, _/_, _%_, _^_, _≤_, _<_, eqb, ltb, Bool, true, _&&_, List, [], _∷_, _++_}
-use Rattle.lists.specs.Basics.{length, take, drop, getD, drop-drop, take-all, arith, ltb-true, listed, eqList, bytes, and-fst, and-snd}
+use Rattle.lists.specs.Basics.{_≡_, refl, sym, ap, _∙_, ℕ, zero, suc, _+_, _*_, _/_, _%_, _^_, _≤_, _<_, eqb, ltb, Bool, true, _&&_, List, [], _∷_, _++_}
+use Rattle.lists.specs.Basics.{length, take, drop, getD, drop-drop, take-all, arith, ltb-true, eqList, bytes, and-fst, and-snd}
 use lib.Pow.{areBytes}
 use Rattle.lists.specs.Bytes.{below-append}
-use Rattle.lists.specs.All.{listed-is}
 use Rattle.decimal.specs.Field.{fieldText, ahead}
 use Rattle.decimal.specs.Laws.{fieldText-bytes}
 use Rattle.line_bytes.specs.Loads.{loaded, split-equal}
@@ -70,23 +69,6 @@ pub line-is : (number front back start : ℕ) (words s : List ℕ) → front ≡
     → back ≡ loaded (take 8 (drop (start + 8) s)) → judged number front back words ≡ lineMade number words (drop start s)
 unfolding lineMade
 line-is number front back start words s p q = rw (p, q, drop-drop 8 start s)
-
--- of four bytes of a word the last is taken off by its weight; of eight the first is divided away
-module _ (w : List ℕ) (ten : length w ≡ 10) (each : Bytes w) where
-  pub front-is : loaded (take 4 w) % 2 ^ 24 * 2 ^ 40 + 10 ≡ frontOf w
-  unfolding loaded listed
-  front-is =
-      let a = each 0 in
-      let b = each 1 in
-      let c = each 2 in
-      let d = each 3 in
-      subst (λ (t : List ℕ). loaded (take 4 t) % 2 ^ 24 * 2 ^ 40 + 10 ≡ frontOf t) (listed-is 0 10 w ten) (omega arith)
-
-  pub back-is : loaded (take 8 (drop 2 w)) / 256 + 10 * 2 ^ 56 ≡ backOf w
-  unfolding loaded listed
-  back-is =
-      let c = each 2 in
-      subst (λ (t : List ℕ). loaded (take 8 (drop 2 t)) / 256 + 10 * 2 ^ 56 ≡ backOf t) (listed-is 0 10 w ten) (omega arith)
 
 -- The text of a line with the LF before it.
 

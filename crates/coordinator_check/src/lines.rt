@@ -9,7 +9,7 @@ ghost use Rattle.model.specs.Layouts.{coordinatorBytes, lineEnd};
 ghost use Rattle.decimal.specs.declared.Scan.the-variants.{Number};
 ghost use Rattle.decimal.specs.Field.{figure};
 ghost use Rattle.coordinator_check.specs.Numbers.{gained, following};
-ghost use Rattle.coordinator_check.specs.Lines.{frontOf, backOf, Table, lineMade};
+ghost use Rattle.coordinator_check.specs.Lines.{Table, lineMade};
 ghost use Rattle.coordinator_check.specs.Passes.{linesMade, Ready};
 ghost use Rattle.coordinator_check.specs.Sheet.{wholeLines, anyDecision, noDecision, decisionsMade};
 use line_bytes::load_eight;
@@ -44,37 +44,35 @@ fn next(number: u64) -> u64
     number - 0x0909_0000 + gain(number / 256 % 256) * 256
 }
 
-// LF before a line and the first three bytes of its word, with zeros where the columns of its number stand.
-fn front(text: &[u8]) -> u64
-    requires { ⌜ length (now text) ≡ 10 ⌝ }
-    ensures { λ r. ⌜ r ≡ frontOf (now (text .entry)) ⌝ }
-{
-    load_four(text, 0) % 0x0100_0000 * 0x0100_0000_0000 + 10
-}
+// The words `-`, COMMITTED and ABORTED as such numbers: LF before a line, zeros where its number stands and the first three bytes of the word; then the other
+// seven and LF. A word that is loaded where it was just built stalls the processor.
+const UNDECIDED_FRONT: u64 = 0x2020_2000_0000_000a;
 
-// The other seven bytes of the word and LF.
-fn back(text: &[u8]) -> u64
-    requires { ⌜ length (now text) ≡ 10 ⌝ }
-    ensures { λ r. ⌜ r ≡ backOf (now (text .entry)) ⌝ }
-{
-    load_eight(text, 2) / 256 + 0x0a00_0000_0000_0000
-}
+const UNDECIDED_BACK: u64 = 0x0a2d_2020_2020_2020;
+
+const COMMITTED_FRONT: u64 = 0x4f43_2000_0000_000a;
+
+const COMMITTED_BACK: u64 = 0x0a44_4554_5449_4d4d;
+
+const ABORTED_FRONT: u64 = 0x2020_2000_0000_000a;
+
+const ABORTED_BACK: u64 = 0x0a44_4554_524f_4241;
 
 // Fronts and then backs, each at the index that the word's fifth byte tells: ` `, `M` and `B` leave 0, 1 and 2 by 4, and no word's leaves 3.
 fn any_decision() -> [u64; 8]
     ensures { λ r. ⌜ r ≡ anyDecision ⌝ }
     ensures { λ r. ⌜ Table r ⌝ }
 {
-    let undecided = b"         -";
-    let committed = b" COMMITTED";
-    let aborted = b"   ABORTED";
-    let f0 = front(undecided);
-    let f1 = front(committed);
-    let f2 = front(aborted);
-    let b0 = back(undecided);
-    let b1 = back(committed);
-    let b2 = back(aborted);
-    [f0, f1, f2, f0, b0, b1, b2, b0]
+    [
+        UNDECIDED_FRONT,
+        COMMITTED_FRONT,
+        ABORTED_FRONT,
+        UNDECIDED_FRONT,
+        UNDECIDED_BACK,
+        COMMITTED_BACK,
+        ABORTED_BACK,
+        UNDECIDED_BACK,
+    ]
 }
 
 // The same where no decision may stand.
@@ -82,8 +80,8 @@ fn no_decision() -> [u64; 8]
     ensures { λ r. ⌜ r ≡ noDecision ⌝ }
     ensures { λ r. ⌜ Table r ⌝ }
 {
-    let f = front(b"         -");
-    let b = back(b"         -");
+    let f = UNDECIDED_FRONT;
+    let b = UNDECIDED_BACK;
     [f, f, f, f, b, b, b, b]
 }
 
