@@ -77,6 +77,10 @@ pub line-bytes : lineBytes lineLayout ≡ coordinatorBytes
 unfolding lineBytes lineLayout
 line-bytes = refl
 
+pub head-fields : length headLayout ≡ headFields
+unfolding headLayout
+head-fields = refl
+
 -- A line.
 
 -- the line of number k with a decision

@@ -16,6 +16,10 @@ use Rattle.sheet_laws.specs.Lines.{lineBytes, line-length}
 use Rattle.call_laws.specs.Choices.{not-first}
 use Rattle.model.specs.ByteHistories.{Passing}
 
+pub first-bytes : lineBytes firstLayout ≡ firstBytes
+unfolding lineBytes firstLayout
+first-bytes = refl
+
 abbrev pub firstOf : List ℕ → FirstLine
 firstOf input = record { lines = firstNumber 0 input; decisions = firstNumber 1 input; clock = firstNumber 2 input }
 
