@@ -2,8 +2,9 @@
 pub mod Ranges
 pub mod LayoutParts
 pub mod Limits
-pub mod States
 pub mod Relations
+pub mod Before
+pub mod States
 pub mod Line
 pub mod Tables
 pub mod Keys

@@ -1,14 +1,14 @@
 -- The kinds of line as rows of a table: the rule of a state as limits on the fields of `recordLayout`, so that a line's parts say word, zeros and
--- bounds at once. PREPARED over nothing is a kind of its own, since most of it is fixed. What is asked of every row is computed over the table; that
--- the limits are the rule is computed once the numbers of state and before version are known.
-use Rattle.lists.specs.Basics.{_≡_, refl, sym, ap, ap₂, _∙_, ℕ, zero, suc, _+_, _-_, _*_, _≤_, _<_, eqb, leb, Bool, true, false, not, _&&_, cond, and-assoc}
-use Rattle.lists.specs.Basics.{and-true, and-false, List, [], _∷_, _++_, map, length, take, drop, getD, set, arith, eqb-true, eq-eqb, le-leb, all, joined}
-use Rattle.lists.specs.Basics.{eqList, bytes, eqList-true, and-both, same-test, choose-by, tests}
+-- bounds at once. What is asked of every row is computed over the table; that the limits are the rule is computed once the numbers of state and before
+-- version are known.
+use Rattle.lists.specs.Basics.{_≡_, refl, sym, ap, ap₂, _∙_, ℕ, zero, suc, _+_, _-_, _*_, _≤_, _<_, eqb, leb, Bool, true, false, _&&_, cond, and-assoc}
+use Rattle.lists.specs.Basics.{and-true, and-false, List, [], _∷_, _++_, length, take, getD, set, arith, eqb-true, eq-eqb, le-leb, all}
+use Rattle.lists.specs.Basics.{eqList, bytes, and-both, same-test, choose-by, tests}
 use lib.Dec.{leb·zero, leb·suc-zero}
 use Rattle.lists.specs.All.{all-at}
 use Rattle.types.specs.declared.State.the-variants.{Absent, Committed, Prepared}
 use Rattle.model.specs.Types.{State, Column, StateWord}
-use Rattle.model.specs.Layouts.{recordLayout, words, wordAt, noColumn, stateField, imageField, beforeField, clockField, imageFields, recordFields, wordBytes}
+use Rattle.model.specs.Layouts.{recordLayout, words, wordAt, noColumn, stateField, imageField, beforeField, clockField, recordFields}
 use Rattle.model.specs.Lines.{fieldValue, fieldBytes, wordFrom, inRange}
 use Rattle.model.specs.Records.{stateNumber, stateOf, stateRule, imageFrom, recordOf, isZero, absentRule, committedRule, preparedRule}
 use Rattle.sheet_laws.specs.Fields.{columnOk, allBelow, below, isThe, wordOk}
@@ -17,9 +17,10 @@ use Rattle.line_bytes.specs.Tables.{bit}
 use Rattle.line_bytes.specs.Loads.{loaded}
 use Rattle.record_check.specs.Ranges.{opened, opens}
 use Rattle.record_check.specs.LayoutParts.{sayable, layoutParts}
+use Rattle.record_check.specs.Before.{rowRelated}
 use Rattle.record_check.specs.Limits.{Limit, atLeast, atMost, keeps, narrowed, limited, narrows, allNarrow, says}
 
--- a kind of line: its state, the limits on the fields behind the state word, and whether version = before version + 1 must be seen to besides
+-- a kind of line: its state, the limits on the fields behind the state word, and whether its image must be seen to follow the one before it besides
 pub record LineKind : Type 0 where
   pub state : State
   pub limits : List Limit
@@ -41,8 +42,6 @@ kinds =
     -- "COMMITTED: version at least 1, before fields and clock 0"
     ∷ record { state = Committed; limits = atLeast imageField 1 ∷ zeros beforeField (recordFields - beforeField); follows = false }
     -- "PREPARED: TxID at least 1, version = before version + 1; if before version is 0, the other before fields are 0."
-    ∷ record { state = Prepared; limits = atLeast (imageField + 1) 1 ∷ exactly imageField 1 ++ zeros beforeField imageFields; follows = false }
-    -- the same over a before version of at least 1
     ∷ record { state = Prepared; limits = atLeast (imageField + 1) 1 ∷ []; follows = true }
     ∷ []
 
@@ -85,12 +84,12 @@ pub clock-limited : limited clockLimit openLayout ≡ recordLayout
 unfolding limited narrowed clockLimit openLayout opened recordLayout
 clock-limited = refl
 
--- the kind whose version the code compares is the one that asks for it
-pub follows-told : (k : ℕ) → k < length kinds → kindAt k .follows ≡ eqb k 3
+-- the kind whose images the code compares is the one that asks for it
+pub follows-told : (k : ℕ) → k < length kinds → kindAt k .follows ≡ eqb k 2
 unfolding kinds allBelow
 follows-told k l =
-    let e = below (length kinds) (λ (i : ℕ). eqb (bit (kindAt i .follows)) (bit (eqb i 3))) refl k l in
-    sym (told (kindAt k .follows)) ∙ (ap (eqb 1) (eqb-true (bit (kindAt k .follows)) (bit (eqb k 3)) e) ∙ told (eqb k 3))
+    let e = below (length kinds) (λ (i : ℕ). eqb (bit (kindAt i .follows)) (bit (eqb i 2))) refl k l in
+    sym (told (kindAt k .follows)) ∙ (ap (eqb 1) (eqb-true (bit (kindAt k .follows)) (bit (eqb k 2)) e) ∙ told (eqb k 2))
   where
     told : (b : Bool) → eqb 1 (bit b) ≡ b
     told true = refl
@@ -98,59 +97,42 @@ follows-told k l =
 
 -- The words of the kinds, and the kind by the numbers of a line.
 
--- the state word of each kind, one after another
-unfoldable pub kindWords : List ℕ
-kindWords = joined (map (λ (r : LineKind). wordAt StateWord (stateNumber (r .state))) kinds)
-
-pub words-length : length kindWords ≡ length kinds * wordBytes
-unfolding kindWords kinds joined stateNumber words bytes
-words-length = refl
-
+-- the state word of kind k
 abbrev pub kindWord : ℕ → List ℕ
-kindWord k = take wordBytes (drop (k * wordBytes) kindWords)
+kindWord k = wordAt StateWord (stateNumber (kindAt k .state))
 
-word-at : (k : ℕ) → k < length kinds → kindWord k ≡ wordAt StateWord (stateNumber (kindAt k .state))
-unfolding kindWords kinds joined stateNumber words bytes allBelow eqList
-word-at k l = eqList-true _ _ (below (length kinds) (λ (i : ℕ). eqList (kindWord i) (wordAt StateWord (stateNumber (kindAt i .state)))) refl k l)
+-- kinds are numbered as their state words
+pub kind-word : (k : ℕ) → k < length kinds → kindWord k ≡ wordAt StateWord k
+unfolding kinds stateNumber allBelow
+kind-word k l = ap (wordAt StateWord) (eqb-true _ k (below (length kinds) (λ (i : ℕ). eqb (stateNumber (kindAt i .state)) i) refl k l))
 
 -- its first eight bytes as one number
 abbrev kindFront : ℕ → ℕ
-kindFront k = loaded (take 8 (drop (k * wordBytes) kindWords))
+kindFront k = loaded (take 8 (kindWord k))
 
 -- the number of the state word that begins so; that of ABSENT where no other does
 unfoldable pub stateTold : ℕ → ℕ
 stateTold front = bit (eqb front (kindFront 1)) + bit (eqb front (kindFront 2)) * 2
 
 -- each state word is told by its own bytes
-pub word-told : (n : ℕ) → n < length (words StateWord) → stateTold (loaded (take 8 (wordAt StateWord n))) ≡ n
-unfolding kindWords kinds joined stateNumber stateTold loaded words bytes allBelow
-word-told n l = eqb-true _ n (below (length (words StateWord)) (λ (i : ℕ). eqb (stateTold (loaded (take 8 (wordAt StateWord i)))) i) refl n l)
+pub word-told : (n : ℕ) → n < length kinds → stateTold (loaded (take 8 (wordAt StateWord n))) ≡ n
+unfolding kinds stateNumber stateTold loaded words bytes allBelow
+word-told n l = eqb-true _ n (below (length kinds) (λ (i : ℕ). eqb (stateTold (loaded (take 8 (wordAt StateWord i)))) i) refl n l)
 
-pub told-few : (front : ℕ) → stateTold front < length (words StateWord)
-unfolding kindWords kinds joined stateNumber stateTold loaded words bytes
+pub told-few : (front : ℕ) → stateTold front < length kinds
+unfolding kinds stateNumber stateTold loaded words bytes
 told-few front =
-    choose-by (λ (x : ℕ). x + bit (eqb front (kindFront 2)) * 2 < length (words StateWord)) (eqb front (kindFront 1))
+    choose-by (λ (x : ℕ). x + bit (eqb front (kindFront 2)) * 2 < length kinds) (eqb front (kindFront 1))
     (λ e. rw (eqb-true front (kindFront 1) e) (omega arith))
-    (λ e. choose-by (λ (x : ℕ). 0 + x * 2 < length (words StateWord)) (eqb front (kindFront 2)) (λ f. omega arith) (λ f. omega arith))
-
--- the kind by the number of a line's state word, one more over a version
-abbrev pub kindBy : (state : ℕ) (nothing : Bool) → ℕ
-kindBy state nothing = state + bit (not nothing)
-
-pub kind-few : (state : ℕ) (nothing : Bool) → state < length (words StateWord) → kindBy state nothing < length kinds
-unfolding kinds words bytes
-kind-few s b l = choose-by (λ (x : ℕ). s + x < length kinds) (not b) (λ e. omega arith) (λ e. omega arith)
-
-abbrev pub kindFor : (state before : ℕ) → ℕ
-kindFor state before = kindBy state (eqb before 0)
+    (λ e. choose-by (λ (x : ℕ). 0 + x * 2 < length kinds) (eqb front (kindFront 2)) (λ f. omega arith) (λ f. omega arith))
 
 -- the rule that a row of numbers keeps by its state
 abbrev pub rule : List ℕ → Bool
 rule v = stateRule (recordOf v)
 
--- how the versions stand to each other, where the limits do not say it
+-- how the images stand to each other, where the limits do not say it
 abbrev pub rowFollows : ℕ → List ℕ → Bool
-rowFollows k v = cond (kindAt k .follows) (eqb (getD v imageField 0) (getD v beforeField 0 + 1)) true
+rowFollows k v = cond (kindAt k .follows) (rowRelated v) true
 
 exact : (x n : ℕ) → eqb x n ≡ (leb n x && leb x n)
 exact x n =
@@ -164,38 +146,25 @@ one-more x = le-leb 1 (suc x) (omega arith)
 -- tests of a number as limits, and conjunctions nested as `all` nests them
 ruleset asLimits = (exact, one-more, leb·zero, leb·suc-zero, and-assoc, and-true, and-false)
 
--- the rule of each state as the limits of the line's kind; of a kind with another state both fail
+-- the rule of each state as the limits of its kind
 module _ (v : List ℕ) where
-  Ruled : (state before : ℕ) → Type 0
-  Ruled s b = rule v ≡ (all (keeps v) (kindLimits (kindAt (kindFor s b))) && rowFollows (kindFor s b) v)
+  Ruled : ℕ → Type 0
+  Ruled s = rule v ≡ (all (keeps v) (kindLimits (kindAt s)) && rowFollows s v)
 
-  by-numbers : (s b : ℕ) → getD v stateField 0 ≡ s → getD v beforeField 0 ≡ b → s < length (words StateWord) → Ruled s b
+  by-numbers : (s b : ℕ) → getD v stateField 0 ≡ s → getD v beforeField 0 ≡ b → s < length kinds → Ruled s
   unfolding stateOf recordOf imageFrom isZero absentRule committedRule preparedRule all keeps kindLimits kinds zeros stateNumber words bytes Ruled
-  by-numbers zero zero e f l = rw (e, f) (simp asLimits)
-  by-numbers zero (suc b) e f l = rw (e, f) (simp asLimits)
-  by-numbers (suc zero) zero e f l = rw (e, f) (simp asLimits)
-  by-numbers (suc zero) (suc b) e f l = rw (e, f) (simp asLimits)
+  by-numbers zero b e f l = rw e (simp asLimits)
+  by-numbers (suc zero) b e f l = rw e (simp asLimits)
   by-numbers (suc (suc zero)) zero e f l = rw (e, f) (simp asLimits)
   by-numbers (suc (suc zero)) (suc b) e f l = rw (e, f) (simp asLimits)
   by-numbers (suc (suc (suc s))) b e f l = absurd (omega arith)
 
-  pub kind-word : getD v stateField 0 < length (words StateWord) → rule v ≡ true
-      → kindWord (kindFor (getD v stateField 0) (getD v beforeField 0)) ≡ wordAt StateWord (getD v stateField 0)
-  unfolding all keeps kindLimits Ruled
-  kind-word l g =
-      let s = getD v stateField 0 in
-      let k = kindFor s (getD v beforeField 0) in
-      let h = sym (by-numbers s (getD v beforeField 0) refl refl l) ∙ g in
-      let m : stateNumber (kindAt k .state) ≤ s = search tests in
-      let n : s ≤ stateNumber (kindAt k .state) = search tests in
-      word-at k (kind-few s (eqb (getD v beforeField 0) 0) l) ∙ ap (wordAt StateWord) (omega arith)
-
   -- with the clock's bound
-  pub kind-rule : getD v stateField 0 < length (words StateWord)
-      → let k = kindFor (getD v stateField 0) (getD v beforeField 0) in
+  pub kind-rule : getD v stateField 0 < length kinds
+      → let k = getD v stateField 0 in
       (rule v && all (keeps v) clockLimit) ≡ (all (keeps v) (kindLimits (kindAt k)) && (rowFollows k v && leb (getD v clockField 0) 4294967295))
   unfolding all keeps clockLimit Ruled
   kind-rule l =
-      let k = kindFor (getD v stateField 0) (getD v beforeField 0) in
-      ap₂ _&&_ (by-numbers (getD v stateField 0) (getD v beforeField 0) refl refl l) (and-true (leb (getD v clockField 0) 4294967295))
+      let k = getD v stateField 0 in
+      ap₂ _&&_ (by-numbers k (getD v beforeField 0) refl refl l) (and-true (leb (getD v clockField 0) 4294967295))
       ∙ and-assoc (all (keeps v) (kindLimits (kindAt k))) (rowFollows k v) (leb (getD v clockField 0) 4294967295)

@@ -4,35 +4,41 @@ use Rattle.lists.specs.Basics.{_≡_, sym, ap, _∙_, true, _&&_, cond, and-fal
 use Rattle.model.specs.Layouts.{recordLayout, offset}
 use Rattle.sheet_laws.specs.Lines.{fieldAt}
 use Rattle.line_bytes.specs.Parts.{partsOk}
-use Rattle.record_check.specs.States.{kinds, kindAt, kindParts, words-length}
-use Rattle.record_check.specs.Relations.{highestClock, clockFits, follows}
+use Rattle.record_check.specs.States.{kinds, kindAt, kindParts}
+use Rattle.record_check.specs.Relations.{highestClock, clockFits}
+use Rattle.record_check.specs.Before.{related}
 use Rattle.record_check.specs.Line.{lineGood, wordHeld, wordless, low-clock, line-is}
+use Rattle.record_check.specs.Tables.{tables-length, table-word}
 use Rattle.record_check.proofs.line_good.Statement.{statement}
 use Rattle.record_check.proofs.line_good.Tie as tie
 
 ten-equal-requires : tie.Need-ten-equal-requires
+unfolding kinds
 ten-equal-requires c κs =
-    let l = ap length (c .before .before .before .before .before .pre .1 .0) ∙ words-length in
+    let l = ap length (c .before .before .before .before .pre .1 .0) ∙ tables-length in
+    let few = c .kind .ensures .1 in
     (omega arith, omega arith)
 
 -- the word compared is that of the line's kind
-held : (c : tie.After-ten-equal) → c .ten-equal .result ≡ wordHeld (c .before .before .before .before .before .before .args .line .now)
+held : (c : tie.After-ten-equal) → c .ten-equal .result ≡ wordHeld (c .before .before .before .before .before .args .line .now)
 unfolding fieldAt offset recordLayout
-held c = rw (c .before .kind .ensures .0, c .before .before .before .before .before .before .pre .1 .0) at (c .ten-equal .ensures)
+held c =
+    let kind = c .before .kind in
+    rw (c .before .before .before .before .before .pre .1 .0, table-word (kind .result) (kind .ensures .1), kind .ensures .0) at (c .ten-equal .ensures)
 
 returns : tie.Need-returns
 returns c =
-    let k = c .before .before .before .before .before .before in
+    let k = c .before .before .before .before .before in
     let f = sym (held (c .before)) ∙ not-true (c .before .ten-equal .result) (c .if1 .taken) in
     sym (wordless (k .before .args .line .now) (λ i. k .shared-slice-known .given i .fits) f)
 
 -- the law on a line, of the kind that was found
 law : (c : tie.After-kind)
-    → let line = c .before .before .before .before .before .args .line .now in
+    → let line = c .before .before .before .before .args .line .now in
     let k = c .kind .result in
-    lineGood line ≡ (partsOk (kindParts (kindAt k)) line && (cond (kindAt k .follows) (follows line) true && clockFits line))
+    lineGood line ≡ (partsOk (kindParts (kindAt k)) line && (cond (kindAt k .follows) (related line) true && clockFits line))
 law c =
-    let k = c .before .before .before .before in
+    let k = c .before .before .before in
     rw (c .kind .ensures .0) (line-is (k .before .args .line .now) (λ i. k .shared-slice-known .given i .fits))
 
 returns-2 : tie.Need-returns-2
@@ -42,16 +48,16 @@ returns-2 c =
 
 returns-3 : tie.Need-returns-3
 returns-3 c =
-    let f = sym (c .before .version-follows .ensures) ∙ not-true (c .before .version-follows .result) (c .if3 .taken) in
+    let f = sym (c .before .image-follows .ensures) ∙ not-true (c .before .image-follows .result) (c .if3 .taken) in
     rw (law (c .before .before .before .before .before .before), f, and-false)
 
--- past the tests of parts and versions the clock decides
-passed : (c : tie.After-shared-slice-known5)
-    → let line = c .before .before .before .before .before .before .before .before .before .before .before .before .args .line .now in
+-- past the tests of parts and images the clock decides
+passed : (c : tie.After-shared-slice-known4)
+    → let line = c .before .before .before .before .before .before .before .before .before .before .before .args .line .now in
     (partsOk (kindParts (kindAt (c .before .before .before .before .before .before .before .kind .result))) line ≡ true) × (lineGood line ≡ clockFits line)
 passed c =
     let stood = c .before .before .before .before .stands in
-    let followed = c .before .before .version-follows in
+    let followed = c .before .before .image-follows in
     let s = sym (stood .ensures) ∙ not-false (stood .result) (c .before .before .before .if2 .left) in
     let f = sym (followed .ensures) ∙ not-false (followed .result) (c .before .if3 .left) in
     (s, law (c .before .before .before .before .before .before .before) ∙ rw (s, f))
@@ -59,7 +65,7 @@ passed c =
 returns-4 : tie.Need-returns-4
 unfolding offset recordLayout
 returns-4 c =
-    let k = c .before .before .before .before .before .before .before .before .before .before .before .before in
+    let k = c .before .before .before .before .before .before .before .before .before .before .before in
     let kind = c .before .before .before .before .before .before .before .before .kind in
     let p = passed (c .before) in
     sym (p .1 ∙ low-clock (k .before .args .line .now) (λ i. k .shared-slice-known .given i .fits) (kind .result) (kind .ensures .1) (p .0) (c .if4 .taken))
@@ -67,16 +73,16 @@ returns-4 c =
 twelve-less-requires : tie.Need-twelve-less-requires
 unfolding highestClock bytes
 twelve-less-requires c κs =
-    let k = c .before .before .before .before .before .before .before .before .before .before .before .before .before in
-    let l : length (k .args .highest .now) ≡ 12 = ap length (k .pre .1 .1 .1) in
+    let k = c .before .before .before .before .before .before .before .before .before .before .before .before in
+    let l : length (k .args .highest .now) ≡ 12 = ap length (k .pre .1 .1) in
     (omega arith, omega arith)
 
 returns-5 : tie.Need-returns-5
 unfolding clockFits highestClock bytes offset recordLayout
-returns-5 c = rw (passed (c .before .before) .1, c .twelve-less .ensures, c .before .before .before .before .before .before .before .before .before .before .before .before .before .before .pre .1 .1 .1)
+returns-5 c = rw (passed (c .before .before) .1, c .twelve-less .ensures, c .before .before .before .before .before .before .before .before .before .before .before .before .before .pre .1 .1)
 
 pub line-good-spec : {M : Type 1} → statement M
 unfolding kinds
 line-good-spec =
-    tie.close (tie.spec (λ c κs. search needs) (λ c. search needs) ten-equal-requires returns (λ c κs. search needs) returns-2 (λ c κs. search needs)
+    tie.close (tie.spec (λ c κs. search needs) (λ c. search needs) (λ c. search needs) ten-equal-requires returns (λ c κs. search needs) returns-2 (λ c κs. search needs)
     returns-3 (λ c. search needs) returns-4 twelve-less-requires returns-5)

@@ -8,7 +8,7 @@ use Rattle.line_bytes.specs.Tables.{columns, partColumns, layoutColumns, lows, 
 use Rattle.record_check.specs.Ranges.{opened}
 use Rattle.record_check.specs.LayoutParts.{columnPart, layoutParts}
 use Rattle.record_check.specs.Limits.{narrowed, limited}
-use Rattle.record_check.specs.States.{kinds, zeros, kindLimits, openLayout, kindParts, kindWords}
+use Rattle.record_check.specs.States.{kinds, zeros, kindLimits, openLayout, kindParts}
 use Rattle.record_check.specs.Relations.{highestClock}
 use Rattle.record_check.specs.Tables.{middle, tables}
 use Rattle.record_check.specs.Sheet.{sheetSized, accepted-is}
@@ -34,13 +34,13 @@ returns-3 c =
     rw (accepted-is s, lt-leb (length s / recordBytes) 500 (c .if3 .taken), and-false, and-false)
 
 lines-pass-requires : tie.Need-lines-pass-requires
-unfolding kindWords tables joined lows highs alsos middle layoutColumns partColumns columns kindParts kindLimits layoutParts columnPart limited narrowed kinds zeros stateNumber openLayout opened recordLayout fieldBytes fieldText ahead words bytes highestClock
-lines-pass-requires c κs = (sym (c .before .before .before .before .before .if1 .left), (refl, (refl, refl)))
+unfolding tables joined lows highs alsos middle layoutColumns partColumns columns kindParts kindLimits layoutParts columnPart limited narrowed kinds zeros stateNumber openLayout opened recordLayout fieldBytes fieldText ahead words bytes highestClock
+lines-pass-requires c κs = (sym (c .before .before .before .before .if1 .left), (refl, refl))
 
 returns-4 : tie.Need-returns-4
 unfolding sheetSized
 returns-4 c =
-    let k = c .before .before .before .before .before .before in
+    let k = c .before .before .before .before .before in
     let s = k .before .before .args .records .now in
     let n = length s / recordBytes in
     rw (accepted-is s, eq-eqb (length s) (n * recordBytes) (sym (k .if1 .left)), le-leb 1 n (omega arith), le-leb n 500 (omega arith))
@@ -48,5 +48,5 @@ returns-4 c =
 
 pub records-ok-spec : {M : Type 1} → statement M
 records-ok-spec =
-    tie.close (tie.spec (λ c. search needs) returns returns-2 returns-3 (λ c. search needs) (λ c. search needs) (λ c. search needs)
+    tie.close (tie.spec (λ c. search needs) returns returns-2 returns-3 (λ c. search needs) (λ c. search needs)
     lines-pass-requires returns-4)
