@@ -1,70 +1,106 @@
--- The call by place, from what the two functions that it calls ensure: where the place is listed, and where it isn't.
-use Rattle.lists.specs.Basics.{_≡_, refl, sym, ap, _∙_, ℕ, _+_, _≤_, eqb, Bool, true, false, cond, List, length, set, arith, ne-eqb, all}
+-- The call by place, from what the two functions that it calls ensure: where place and call are named, and where they aren't.
+use Rattle.lists.specs.Basics.{_≡_, refl, sym, ap, _∙_, ℕ, _+_, _≤_, _<_, eqb, Bool, true, false, cond, and-true, List, length, set, arith, ne-eqb, all, and-fst, and-snd}
 use lib.Seq.{set-getD}
-use Rattle.model.specs.Types.{Transaction}
+use Rattle.model.specs.Types.{Transaction, Request}
 use Rattle.model.specs.Refusals.{refusalOf, lastRefusal}
-use Rattle.model.specs.Results.{advance, Answer, Result, refused, made}
+use Rattle.model.specs.Results.{Call, Answer, Result, refused, made, unless}
 use Rattle.model.specs.SheetCalls.{checkConditions}
 use Rattle.model.specs.ByteCalls.{resultOn, recordsAfter, coordinatorAfter}
-use Rattle.model.specs.CallByPlace.{listed, named, advanceAtOn, listAfter}
-use Rattle.call_laws.specs.ByPlace.{leftWith, named-advances, unlisted-refused, unlisted-leaves}
+use Rattle.model.specs.Requests.{callOf}
+use Rattle.model.specs.CallByPlace.{listed, named, callAt, resultAtOn, listAfter}
+use Rattle.call_laws.specs.ByPlace.{leftWith, listed-within, named-result-on, unlisted-refused, refusal-leaves}
 use Rattle.call_laws.specs.Exactness.{small, Sound, sound-refused, sound-made, result-sound}
-use Rattle.cores.specs.Answers.{toReturned}
-use Rattle.c_api.specs.declared.Advanced.{Advanced}
-use Rattle.c_api.specs.Numbers.{advanceNumber, unlistedNumber}
+use Rattle.cores.specs.Answers.{toPerformed}
+use Rattle.c_api.specs.declared.Called.{Called}
+use Rattle.c_api.specs.Numbers.{callNumber, unlistedNumber}
+use Rattle.c_api.specs.Asked.{isCall, asks, naming, calledAtOn}
 
--- what an advance answers as one number, and the transaction, as it came where the call is refused
-abbrev pub advanced : Transaction → Result Answer → Advanced
-advanced t r = record { answer = advanceNumber r; transaction = leftWith t r }
+-- what a call answers as one number, and the transaction, as it came where the call is refused
+abbrev pub called : Transaction → Result Answer → Called
+called t r = record { answer = callNumber r; transaction = leftWith t r }
 
--- the refusal of an advance is at most the last, and its answer as one number is that of the result
-pub advance-numbered : (t : Transaction) (clock : ℕ) (rs cs : List ℕ) → (toReturned t (resultOn (advance t clock) rs cs) .refusal ≤ lastRefusal) × (record { answer = cond (eqb (toReturned t (resultOn (advance t clock) rs cs) .refusal) 0) 0 (1000 + toReturned t (resultOn (advance t clock) rs cs) .refusal); transaction = toReturned t (resultOn (advance t clock) rs cs) .transaction } ≡ advanced t (resultOn (advance t clock) rs cs))
-advance-numbered t clock rs cs = go (resultOn (advance t clock) rs cs) (result-sound (advance t clock) rs cs)
-  where
-    go : (r : Result Answer) → Sound r → (toReturned t r .refusal ≤ lastRefusal) × (record { answer = cond (eqb (toReturned t r .refusal) 0) 0 (1000 + toReturned t r .refusal); transaction = toReturned t r .transaction } ≡ advanced t r)
-    go r (sound-refused n l m) = let e : eqb n 0 ≡ false = ne-eqb n 0 (λ q. omega (arith, l, q)) in (m, rw e refl)
-    go r (sound-made a w e) = (omega arith, refl)
+-- the refusal of a call is at most the last, and its answer as one number is that of the result
+module _ (t : Transaction) where
+  abbrev Numbered : Result Answer → Type 0
+  Numbered r =
+      (toPerformed t r .refusal ≤ lastRefusal)
+      × (record {
+        answer = cond (eqb (toPerformed t r .refusal) 0) (toPerformed t r .reply) (1000 + toPerformed t r .refusal);
+        transaction = toPerformed t r .transaction;
+      } ≡ called t r)
 
--- the same of the check that an unlisted place comes after
+  pub call-numbered : (c : Call) (rs cs : List ℕ) → Numbered (resultOn c rs cs)
+  call-numbered c rs cs = go (resultOn c rs cs) (result-sound c rs cs)
+    where
+      go : (r : Result Answer) → Sound r → Numbered r
+      go r (sound-refused n l m) = let e : eqb n 0 ≡ false = ne-eqb n 0 (λ q. omega (arith, l, q)) in (m, rw e refl)
+      go r (sound-made a w e) = (omega arith, refl)
+
+-- the same of the check that comes first where nothing is named
 pub check-numbered : (rs cs : List ℕ) → (refusalOf (checkConditions rs cs) ≤ lastRefusal) × (cond (eqb (refusalOf (checkConditions rs cs)) 0) 1003 (1000 + refusalOf (checkConditions rs cs)) ≡ unlistedNumber rs cs)
 unfolding checkConditions all
 check-numbered rs cs = (small (checkConditions rs cs) refl, go (eqb (refusalOf (checkConditions rs cs)) 0))
   where
-    go : (b : Bool) → cond b 1003 (1000 + refusalOf (checkConditions rs cs)) ≡ advanceNumber (cond b (refused 3) (refused (refusalOf (checkConditions rs cs))))
+    go : (b : Bool) → cond b 1003 (1000 + refusalOf (checkConditions rs cs)) ≡ callNumber (cond b (refused 3) (refused (refusalOf (checkConditions rs cs))))
     go true = refl
     go false = refl
 
-module _ (list : List Transaction) (place clock : ℕ) (rs cs : List ℕ) where
-  -- what the call by place ensures: its answer, the list, and both sheets
-  abbrev pub Advances : ℕ → List Transaction → List ℕ → List ℕ → Type 0
-  Advances r list′ rs′ cs′ =
-      (r ≡ advanceNumber (advanceAtOn list place clock rs cs)) × ((list′ ≡ listAfter list place (advanceAtOn list place clock rs cs)) × ((rs′ ≡ recordsAfter rs cs (advanceAtOn list place clock rs cs)) × (cs′ ≡ coordinatorAfter rs cs (advanceAtOn list place clock rs cs))))
+pub naming-within : (n place call : ℕ) → naming n place call ≡ true → place < n
+naming-within n place call e = listed-within n place (and-fst (listed n place) (isCall call) e)
 
-  -- the place is listed, and the advance of the one named is put back there
-  pub advances-listed : (out : Advanced) (rs′ cs′ : List ℕ) → listed (length list) place ≡ true → out ≡ advanced (named list place) (resultOn (advance (named list place) clock) rs cs) → rs′ ≡ recordsAfter rs cs (resultOn (advance (named list place) clock) rs cs) → cs′ ≡ coordinatorAfter rs cs (resultOn (advance (named list place) clock) rs cs) → Advances (out .answer) (set list place (out .transaction)) rs′ cs′
+module _ (list : List Transaction) (place call storage namespace table partition clustering column1 column2 clock : ℕ) (rs cs : List ℕ) where
+  abbrev asking : Request
+  asking = asks call storage namespace table partition clustering column1 column2 clock
+
+  abbrev result : Result Answer
+  result = calledAtOn list place call asking rs cs
+
+  -- what the call by place ensures: its answer, the list, and both sheets
+  abbrev pub CallsAt : ℕ → List Transaction → List ℕ → List ℕ → Type 0
+  CallsAt r list′ rs′ cs′ =
+      (r ≡ callNumber result) × ((list′ ≡ listAfter list place result) × ((rs′ ≡ recordsAfter rs cs result) × (cs′ ≡ coordinatorAfter rs cs result)))
+
+  -- place and call are named, and what the call returns is put back there
+  pub calls-named : (out : Called) (rs′ cs′ : List ℕ) → naming (length list) place call ≡ true
+      → out ≡ called (named list place) (resultOn (callOf asking (named list place)) rs cs)
+      → rs′ ≡ recordsAfter rs cs (resultOn (callOf asking (named list place)) rs cs)
+      → cs′ ≡ coordinatorAfter rs cs (resultOn (callOf asking (named list place)) rs cs)
+      → CallsAt (out .answer) (set list place (out .transaction)) rs′ cs′
   unfolding listAfter
-  advances-listed out rs′ cs′ is-listed o l d =
-      let same : advanceAtOn list place clock rs cs ≡ resultOn (advance (named list place) clock) rs cs = named-advances list place clock rs cs is-listed in (
-        ap (λ (u : Advanced). u .answer) o ∙ sym (ap advanceNumber same),
-        (
-          ap (λ (u : Advanced). set list place (u .transaction)) o ∙ (replaced (resultOn (advance (named list place) clock) rs cs) ∙ sym (ap (listAfter list place) same)),
-          (
-            l ∙ sym (ap (recordsAfter rs cs) same),
-            d ∙ sym (ap (coordinatorAfter rs cs) same),
-          ),
-        ),
-      )
+  calls-named out rs′ cs′ e o l d = (
+    ap (λ (u : Called). u .answer) o ∙ sym (ap callNumber same),
+    (
+      ap (λ (u : Called). set list place (u .transaction)) o ∙ (replaced (resultOn (callAt list place asking) rs cs) ∙ sym (ap (listAfter list place) same)),
+      (
+        l ∙ sym (ap (recordsAfter rs cs) same),
+        d ∙ sym (ap (coordinatorAfter rs cs) same),
+      ),
+    ),
+  )
     where
+      same : result ≡ resultOn (callAt list place asking) rs cs
+      same =
+          rw (and-snd (listed (length list) place) (isCall call) e)
+          (named-result-on list place asking rs cs (and-fst (listed (length list) place) (isCall call) e))
+
       replaced : (r : Result Answer) → set list place (leftWith (named list place) r) ≡ listAfter list place r
       replaced (refused n) = set-getD list place _
       replaced (made a w) = refl
 
-  -- it isn't, and nothing is written
-  pub advances-unlisted : (r : ℕ) (rs′ cs′ : List ℕ) → listed (length list) place ≡ false → r ≡ unlistedNumber rs cs → rs′ ≡ rs → cs′ ≡ cs → Advances r list rs′ cs′
-  advances-unlisted r rs′ cs′ not-listed e l d = (
-    e ∙ sym (ap advanceNumber (unlisted-refused list place clock rs cs not-listed)),
-    (sym (left .0), (l ∙ sym (left .1 .0), d ∙ sym (left .1 .1))),
-  )
+  -- one of them isn't, and nothing is written
+  pub calls-unnamed : (r : ℕ) (rs′ cs′ : List ℕ) → naming (length list) place call ≡ false → r ≡ unlistedNumber rs cs → rs′ ≡ rs → cs′ ≡ cs → CallsAt r list rs′ cs′
+  calls-unnamed r rs′ cs′ e f l d =
+      let left = refusal-leaves list place rs cs (checkConditions rs cs) 3 in (
+        f ∙ sym (ap callNumber same),
+        (
+          sym (ap (listAfter list place) same ∙ left .0),
+          (l ∙ sym (ap (recordsAfter rs cs) same ∙ left .1 .0), d ∙ sym (ap (coordinatorAfter rs cs) same ∙ left .1 .1)),
+        ),
+      )
     where
-      left : (listAfter list place (advanceAtOn list place clock rs cs) ≡ list) × ((recordsAfter rs cs (advanceAtOn list place clock rs cs) ≡ rs) × (coordinatorAfter rs cs (advanceAtOn list place clock rs cs) ≡ cs))
-      left = unlisted-leaves list place clock rs cs not-listed
+      same : result ≡ unless (checkConditions rs cs) (refused 3)
+      same = go (isCall call) refl
+        where
+          go : (b : Bool) → isCall call ≡ b → cond b (resultAtOn list place asking rs cs) (unless (checkConditions rs cs) (refused 3)) ≡ unless (checkConditions rs cs) (refused 3)
+          go false g = refl
+          go true g = unlisted-refused list place asking rs cs (sym (and-true (listed (length list) place)) ∙ rw g at e)

@@ -7,7 +7,7 @@ use Rattle.model.specs.Results.{begin, visit, Answer, heldAfter, Result, refuse
 use Rattle.model.specs.Calls.{newTransaction}
 use Rattle.model.specs.ByteCalls.{resultOn}
 use Rattle.call_laws.specs.Exactness.{Sound, sound-refused, sound-made, result-sound}
-use Rattle.cores.specs.Answers.{toBegun, toVisited, recoveryIn, replyNumber}
+use Rattle.cores.specs.Answers.{toBegun, toVisited, recoveryIn, replyNumber, replyIn}
 
 -- a result as one number, by what is made of an accepted answer
 abbrev pub asNumber : (Answer → ℕ) → Result Answer → ℕ
@@ -22,13 +22,13 @@ beginNumber r = asNumber (λ (a : Answer). heldAfter (newTransaction 0 false) a 
 abbrev pub visitNumber : Result Answer → ℕ
 visitNumber r = asNumber (λ (a : Answer). replyNumber (recoveryIn a)) r
 
--- advance: 0
-abbrev pub advanceNumber : Result Answer → ℕ
-advanceNumber r = asNumber (λ (a : Answer). 0) r
+-- a call by place: what a read came to, 0 absent, 1 columns, 2 again; else 0
+abbrev pub callNumber : Result Answer → ℕ
+callNumber r = asNumber replyIn r
 
--- the answer where the list of a call by place is over 16 or has no such place
+-- the answer where the list of a call by place is over 16, or there is no such place or no such call
 abbrev pub unlistedNumber : List ℕ → List ℕ → ℕ
-unlistedNumber rs cs = advanceNumber (unless (checkConditions rs cs) (refused 3))
+unlistedNumber rs cs = callNumber (unless (checkConditions rs cs) (refused 3))
 
 -- the refusal of an answer is at most the last, and its number is that of the result
 pub begin-numbered : (b : Bool) (rs cs : List ℕ) → (toBegun (resultOn (begin b) rs cs) .refusal ≤ lastRefusal) × (cond (eqb (toBegun (resultOn (begin b) rs cs) .refusal) 0) (toBegun (resultOn (begin b) rs cs) .transaction .number) (1000 + toBegun (resultOn (begin b) rs cs) .refusal) ≡ beginNumber (resultOn (begin b) rs cs))

@@ -5,16 +5,23 @@ ghost use Prim.Native.Nat.{_+_, _≤_};
 ghost use lib.Dec.{eqb};
 ghost use Rattle.model.specs.Refusals.{refusalOf, lastRefusal};
 ghost use Rattle.model.specs.SheetCalls.{checkConditions};
-ghost use Rattle.model.specs.Results.{begin, visit, advance};
+ghost use Rattle.model.specs.Results.{begin, visit};
 ghost use Rattle.model.specs.ByteCalls.{resultOn, recordsAfter, coordinatorAfter};
-ghost use Rattle.model.specs.CallByPlace.{listed, advanceAtOn, listAfter};
-ghost use Rattle.c_api.specs.Numbers.{beginNumber, visitNumber, advanceNumber, unlistedNumber};
-ghost use Rattle.c_api.specs.ByPlace.{advanced};
+ghost use Rattle.model.specs.Requests.{callOf};
+ghost use Rattle.model.specs.CallByPlace.{listed, listAfter};
+ghost use Rattle.c_api.specs.Numbers.{beginNumber, visitNumber, callNumber, unlistedNumber};
+ghost use Rattle.c_api.specs.Asked.{requestOf, asks, naming, calledAtOn};
+ghost use Rattle.c_api.specs.ByPlace.{called};
 
 pub mod conversions;
 
+use types::Columns;
 use types::Key;
+use types::Request;
 use types::Transaction;
+
+// How many calls there are by place. Each has its number in `request`.
+const CALLS: u32 = 6;
 
 // 0 where both sheets are accepted, else the refusal: 1 or 2.
 #[no_mangle]
@@ -80,28 +87,71 @@ fn is_listed(length: usize, place: usize) -> bool
     length <= 16 && place < length
 }
 
-// What the call by place answers, and the transaction that stands at the place afterwards.
-struct Advanced {
+// Whether the place is listed, and the number is that of a call.
+fn is_named(length: usize, place: usize, call: u32) -> bool
+    ensures { λ r. ⌜ r ≡ naming length place call ⌝ }
+{
+    is_listed(length, place) & (call < CALLS)
+}
+
+// What the number of a call asks, of the numbers that come with it.
+fn request(call: u32, key: Key, columns: Columns, clock: u32) -> Request
+    ensures { λ r. ⌜ r ≡ requestOf call key columns clock ⌝ }
+{
+    match call {
+        0 => Request::Begin(false),
+        1 => Request::Begin(true),
+        2 => Request::Read(key, clock),
+        3 => Request::Put(key, columns),
+        4 => Request::Advance(clock),
+        _ => Request::Abort,
+    }
+}
+
+// What a call by place answers, and the transaction that stands at the place afterwards.
+struct Called {
     answer: u32,
     transaction: Transaction,
 }
 
-// The engine's advance, with the parameters in the order of the call by place.
-fn advance_named(t: Transaction, records: &mut [u8], coordinator: &mut [u8], clock: u32) -> Advanced
-    ensures answer { λ r. ⌜ r ≡ advanced t (resultOn (advance t clock) (now (records .entry)) (now (coordinator .entry))) ⌝ }
-    ensures lines { λ r. ⌜ now (records .exit) ≡ recordsAfter (now (records .entry)) (now (coordinator .entry)) (resultOn (advance t clock) (now (records .entry)) (now (coordinator .entry))) ⌝ }
-    ensures decisions { λ r. ⌜ now (coordinator .exit) ≡ coordinatorAfter (now (records .entry)) (now (coordinator .entry)) (resultOn (advance t clock) (now (records .entry)) (now (coordinator .entry))) ⌝ }
+// The engine's one function for every call, with the parameters in the order of the call by place.
+fn call_named(
+    t: Transaction,
+    records: &mut [u8],
+    coordinator: &mut [u8],
+    call: u32,
+    storage: u32,
+    namespace: u32,
+    table: u32,
+    partition: u32,
+    clustering: u32,
+    column1: u32,
+    column2: u32,
+    clock: u32,
+) -> Called
+    ensures answer { λ r. ⌜ r ≡ called t (resultOn (callOf (asks call storage namespace table partition clustering column1 column2 clock) t) (now (records .entry)) (now (coordinator .entry))) ⌝ }
+    ensures lines { λ r. ⌜ now (records .exit) ≡ recordsAfter (now (records .entry)) (now (coordinator .entry)) (resultOn (callOf (asks call storage namespace table partition clustering column1 column2 clock) t) (now (records .entry)) (now (coordinator .entry))) ⌝ }
+    ensures decisions { λ r. ⌜ now (coordinator .exit) ≡ coordinatorAfter (now (records .entry)) (now (coordinator .entry)) (resultOn (callOf (asks call storage namespace table partition clustering column1 column2 clock) t) (now (records .entry)) (now (coordinator .entry))) ⌝ }
 {
-    let returned = engine::advance(t, clock, records, coordinator);
-    let answer = number(returned.refusal, 0);
-    let transaction = returned.transaction;
-    Advanced {
+    let key = Key {
+        storage,
+        namespace,
+        table,
+        partition,
+        clustering,
+    };
+    let columns = Columns { column1, column2 };
+    let asked = request(call, key, columns, clock);
+    let performed = engine::perform::perform(asked, t, records, coordinator);
+    let answer = number(performed.refusal, performed.reply);
+    let transaction = performed.transaction;
+    Called {
         answer,
         transaction,
     }
 }
 
-// The answer where the list is over 16 or has no such place: the sheets come first. They are lent as the caller has them, and stay.
+// The answer where the list is over 16, or there is no such place or no such call: the sheets come first. They are lent as the caller has them, and stay.
 fn unlisted(records: &mut [u8], coordinator: &mut [u8]) -> u32
     ensures answer { λ r. ⌜ r ≡ unlistedNumber (now (records .entry)) (now (coordinator .entry)) ⌝ }
     ensures lines { λ r. ⌜ now (records .exit) ≡ now (records .entry) ⌝ }
@@ -111,25 +161,47 @@ fn unlisted(records: &mut [u8], coordinator: &mut [u8]) -> u32
     number(refused, 1003)
 }
 
-// 0 where the transaction at the place is advanced there, or 1000 + the refusal.
+// Every call by place, for C: what is asked comes as numbers, of which a call takes its own and no other. What a read came to (0 absent, 1 columns, 2 again),
+// else 0, or 1000 + the refusal. The header gives each call a name of its own.
 #[no_mangle]
-pub extern "C" fn rapyheo_advance_at(
+pub extern "C" fn rapyheo_call_at(
     list: &mut [Transaction],
     place: usize,
     records: &mut [u8],
     coordinator: &mut [u8],
+    call: u32,
+    storage: u32,
+    namespace: u32,
+    table: u32,
+    partition: u32,
+    clustering: u32,
+    column1: u32,
+    column2: u32,
     clock: u32,
 ) -> u32
-    ensures answer { λ r. ⌜ r ≡ advanceNumber (advanceAtOn (now (list .entry)) place clock (now (records .entry)) (now (coordinator .entry))) ⌝ }
-    ensures transactions { λ r. ⌜ now (list .exit) ≡ listAfter (now (list .entry)) place (advanceAtOn (now (list .entry)) place clock (now (records .entry)) (now (coordinator .entry))) ⌝ }
-    ensures lines { λ r. ⌜ now (records .exit) ≡ recordsAfter (now (records .entry)) (now (coordinator .entry)) (advanceAtOn (now (list .entry)) place clock (now (records .entry)) (now (coordinator .entry))) ⌝ }
-    ensures decisions { λ r. ⌜ now (coordinator .exit) ≡ coordinatorAfter (now (records .entry)) (now (coordinator .entry)) (advanceAtOn (now (list .entry)) place clock (now (records .entry)) (now (coordinator .entry))) ⌝ }
+    ensures answer { λ r. ⌜ r ≡ callNumber (calledAtOn (now (list .entry)) place call (asks call storage namespace table partition clustering column1 column2 clock) (now (records .entry)) (now (coordinator .entry))) ⌝ }
+    ensures transactions { λ r. ⌜ now (list .exit) ≡ listAfter (now (list .entry)) place (calledAtOn (now (list .entry)) place call (asks call storage namespace table partition clustering column1 column2 clock) (now (records .entry)) (now (coordinator .entry))) ⌝ }
+    ensures lines { λ r. ⌜ now (records .exit) ≡ recordsAfter (now (records .entry)) (now (coordinator .entry)) (calledAtOn (now (list .entry)) place call (asks call storage namespace table partition clustering column1 column2 clock) (now (records .entry)) (now (coordinator .entry))) ⌝ }
+    ensures decisions { λ r. ⌜ now (coordinator .exit) ≡ coordinatorAfter (now (records .entry)) (now (coordinator .entry)) (calledAtOn (now (list .entry)) place call (asks call storage namespace table partition clustering column1 column2 clock) (now (records .entry)) (now (coordinator .entry))) ⌝ }
 {
-    if is_listed(list.len(), place) {
+    if is_named(list.len(), place, call) {
         let t = list[place];
-        let advanced = advance_named(t, records, coordinator, clock);
-        list[place] = advanced.transaction;
-        advanced.answer
+        let called = call_named(
+            t,
+            records,
+            coordinator,
+            call,
+            storage,
+            namespace,
+            table,
+            partition,
+            clustering,
+            column1,
+            column2,
+            clock,
+        );
+        list[place] = called.transaction;
+        called.answer
     } else {
         unlisted(records, coordinator)
     }

@@ -3,18 +3,18 @@
 use Rattle.lists.specs.Basics.{_≡_, refl, sym, ap, subst, _∙_, ℕ, _*_, _/_, _^_, _≤_, _<_, ltb, Bool, true, false, List, [], map, length, take, drop, getD}
 use Rattle.lists.specs.Basics.{length-map, drop-of-length-le, List·getD-map, arith, ltb-true, ltb-false, tests}
 use Rattle.lists.specs.All.{getD-any}
-use Rattle.model.specs.Types.{Record, At, Transaction}
+use Rattle.model.specs.Types.{Record, At, Transaction, Request}
 use Rattle.model.specs.Layouts.{recordBytes}
 use Rattle.model.specs.Records.{records, recordsText, recordIn, recordText, recordsGood, recordsAccepted, noRecord}
 use Rattle.model.specs.Coordinator.{coordinatorText}
 use Rattle.model.specs.SheetCalls.{lineAt}
 use Rattle.model.specs.Writes.{Write, sheetsGood, lineAfter, linesAfter, apply}
 use Rattle.model.specs.Results.{Call, advance, Result, writeOf, Answer}
-use Rattle.model.specs.CallByPlace.{named, advanceAtResult}
+use Rattle.model.specs.CallByPlace.{callAt, resultAt}
 use Rattle.model.specs.Histories.{written, after, ClockFits}
 use Rattle.model.specs.ByteHistories.{Bytes, saying, Passing, afterOn}
 use Rattle.model.specs.AtomicWrites.{OneUnit, lines-of-one-unit, coordinator-only}
-use Rattle.model.specs.Turns.{advanceAt, turnEvent, turnAfter, turnAfterOn}
+use Rattle.model.specs.Turns.{byPlace, turnEvent, turnAfter, turnAfterOn}
 use Rattle.sheet_laws.specs.Records.{record-written-read, records-read-written, sheet-written-read}
 use Rattle.sheet_laws.specs.Coordinator.{coordinator-written-read}
 use Rattle.sheet_laws.specs.ByIndex.{whole-lines, length-records, record-at, line-set}
@@ -98,10 +98,10 @@ call-unit c b l p =
     subst (OneUnit b) (sym (same-bytes c b p))
     (write-unit b p (written c (saying b)) (sheets-stay-good c (saying b) l (passing-good b p)) (single-unit c (saying b)))
 
-pub place-unit : (list : List Transaction) (place now : ℕ) (b : Bytes) → now < 2 ^ 32 → Passing b → OneUnit b (turnAfterOn (advanceAt list place now) b)
+pub place-unit : (list : List Transaction) (place : ℕ) (q : Request) (b : Bytes) → ClockFits (callAt list place q) → Passing b → OneUnit b (turnAfterOn (byPlace list place q) b)
 unfolding turnAfter turnEvent written
-place-unit list place now b l p =
-    subst (OneUnit b) (sym (turn-bytes (advanceAt list place now) b p))
-    (write-unit b p (writeOf (advanceAtResult list place now (saying b))) (turn-stays-good (advanceAt list place now) (saying b) l (passing-good b p))
-    (by-place list place now (saying b) (λ (r : Result Answer). Single (saying b) (writeOf r)) (single-unit (advance (named list place) now) (saying b))
+place-unit list place q b l p =
+    subst (OneUnit b) (sym (turn-bytes (byPlace list place q) b p))
+    (write-unit b p (writeOf (resultAt list place q (saying b))) (turn-stays-good (byPlace list place q) (saying b) l (passing-good b p))
+    (by-place list place q (saying b) (λ (r : Result Answer). Single (saying b) (writeOf r)) (single-unit (callAt list place q) (saying b))
     (nothing-unit (saying b .coordinator .units))))

@@ -6,7 +6,7 @@ use Rattle.model.specs.Images.{byRecovery}
 use Rattle.model.specs.Writes.{Write}
 use Rattle.model.specs.Results.{Answer, turnedAway, returned, answered, visited, heldAfter, Result, refused, made}
 use Rattle.model.specs.Calls.{newTransaction}
-use Rattle.cores.specs.declared.Fetched.{Fetched}
+use Rattle.cores.specs.declared.Performed.{Performed}
 use Rattle.cores.specs.declared.Returned.{Returned}
 use Rattle.cores.specs.declared.Visited.{Visited}
 
@@ -56,17 +56,25 @@ readingColumns Absent = noColumns
 readingColumns (Value c) = c
 readingColumns Again = noColumns
 
--- what was read; of another answer, nothing
-abbrev pub readingIn : Answer → Reading
-readingIn (turnedAway n) = Absent
-readingIn (returned t) = Absent
-readingIn (answered v t) = v
-readingIn (visited v) = Absent
-
 -- what was read, with the transaction as it now is
-abbrev pub fetchedAs : Reading → Transaction → Fetched
-fetchedAs v t = record { refusal = 0; reply = readingNumber v; columns = readingColumns v; transaction = t }
+abbrev pub performedAs : Reading → Transaction → Performed
+performedAs v t = record { refusal = 0; reply = readingNumber v; columns = readingColumns v; transaction = t }
 
-abbrev pub toFetched : Transaction → Result Answer → Fetched
-toFetched t (refused n) = record { refusal = n; reply = 0; columns = noColumns; transaction = t }
-toFetched t (made a w) = fetchedAs (readingIn a) (heldAfter t a)
+-- what a read or a visit came to, as a number; 0 of a call that only returns a transaction
+abbrev pub replyIn : Answer → ℕ
+replyIn (turnedAway n) = 0
+replyIn (returned t) = 0
+replyIn (answered v t) = readingNumber v
+replyIn (visited v) = replyNumber v
+
+-- the columns that were read; of another answer, none
+abbrev pub columnsIn : Answer → Columns
+columnsIn (turnedAway n) = noColumns
+columnsIn (returned t) = noColumns
+columnsIn (answered v t) = readingColumns v
+columnsIn (visited v) = noColumns
+
+-- any call's answer; a refused one leaves the transaction that there was, a begin too
+abbrev pub toPerformed : Transaction → Result Answer → Performed
+toPerformed t (refused n) = record { refusal = n; reply = 0; columns = noColumns; transaction = t }
+toPerformed t (made a w) = record { refusal = 0; reply = replyIn a; columns = columnsIn a; transaction = heldAfter t a }

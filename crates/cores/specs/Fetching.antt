@@ -18,16 +18,16 @@ use Rattle.call_laws.specs.ByIndex.{found-at}
 use Rattle.call_laws.specs.Accepted.{Outcome, outcome-made, Accepted, written-nothing, unless-front, unless-past}
 use Rattle.recover.specs.Recovering.{lineAt, Standing, standing, Recovered, recovered-line, unlessBusy, outcome-met}
 use Rattle.admission.specs.Admission.{admittingOpen, opened}
-use Rattle.cores.specs.declared.Fetched.{Fetched}
-use Rattle.cores.specs.Answers.{toFetched, fetchedAs}
+use Rattle.cores.specs.declared.Performed.{Performed}
+use Rattle.cores.specs.Answers.{toPerformed, performedAs}
 
 -- the read of a record that is then held
-abbrev pub fetchedHeld : Record → Transaction → Fetched
-fetchedHeld r t = fetchedAs (reading (entryAs (r .key) (r .image))) (holding (entryAs (r .key) (r .image)) t)
+abbrev pub fetchedHeld : Record → Transaction → Performed
+fetchedHeld r t = performedAs (reading (entryAs (r .key) (r .image))) (holding (entryAs (r .key) (r .image)) t)
 
 -- the read of a record as its visit leaves it, by what the visit came to
-abbrev pub fetchedMet : Recovery → Record → Transaction → Fetched
-fetchedMet v r t = byRecovery v (fetchedHeld r t) (fetchedHeld r t) (fetchedHeld r t) (fetchedAs Read-again t) (toFetched t (refused 12))
+abbrev pub fetchedMet : Recovery → Record → Transaction → Performed
+fetchedMet v r t = byRecovery v (fetchedHeld r t) (fetchedHeld r t) (fetchedHeld r t) (performedAs Read-again t) (toPerformed t (refused 12))
 
 -- what a read of a new key answers, by what the visit of its line comes to
 abbrev readMet : Recovery → Record → Transaction → Answer
@@ -43,7 +43,7 @@ met-new t Back r = refl
 met-new t Again r = refl
 met-new t Busy r = refl
 
-met-fetched : (v : Recovery) (r : Record) (t : Transaction) → fetchedMet v (recovered v r) t ≡ toFetched t (unlessBusy v (readMet v r t) r)
+met-fetched : (v : Recovery) (r : Record) (t : Transaction) → fetchedMet v (recovered v r) t ≡ toPerformed t (unlessBusy v (readMet v r t) r)
 unfolding recovered rolledForward rolledBack
 met-fetched Stays r t = refl
 met-fetched Forward r t = refl
@@ -86,10 +86,10 @@ module _ (t : Transaction) (k : Key) (now : ℕ) (rs cs : List ℕ) (i : ℕ) (a
   unfolding refusalOf isMissing
   read-has = read-rest t k now (sheetsOf rs cs) (a .free) ∙ rw (a .index)
 
-  pub read-held : (j : ℕ) → heldAt k t ≡ At j → {answer : Fetched} → answer ≡ fetchedAs (reading (entryAt t j)) t → Outcome (toFetched t) (result (read t k now) (sheetsOf rs cs)) rs cs answer rs cs
+  pub read-held : (j : ℕ) → heldAt k t ≡ At j → {answer : Performed} → answer ≡ performedAs (reading (entryAt t j)) t → Outcome (toPerformed t) (result (read t k now) (sheetsOf rs cs)) rs cs answer rs cs
   unfolding outcome isMissing refusalOf
   read-held j e b =
-      outcome-made (toFetched t) rs cs (answered (reading (entryAt t j)) t) nothing (read-has ∙ rw e) b (written-nothing rs cs (a .accepted))
+      outcome-made (toPerformed t) rs cs (answered (reading (entryAt t j)) t) nothing (read-has ∙ rw e) b (written-nothing rs cs (a .accepted))
 
 -- A new key, the one of line i.
 pub record NewRead (t : Transaction) (rs cs : List ℕ) (i : ℕ) : Type 0 where
@@ -103,9 +103,9 @@ new-read t k rs cs i a e =
     record { line = subst (λ (x : Key). ReadAt t x rs cs i) (sym f) a; new = ap (λ (x : Key). isNew x t) f ∙ ap isMissing e }
 
 -- the read of a new key is that of the key of its line
-pub read-found : (t : Transaction) (k : Key) (now : ℕ) (rs cs : List ℕ) (i : ℕ) {answer : Fetched} {rs′ cs′ : List ℕ} → ReadAt t k rs cs i → Outcome (toFetched t) (result (read t (lineAt rs i .key) now) (sheetsOf rs cs)) rs cs answer rs′ cs′ → Outcome (toFetched t) (result (read t k now) (sheetsOf rs cs)) rs cs answer rs′ cs′
+pub read-found : (t : Transaction) (k : Key) (now : ℕ) (rs cs : List ℕ) (i : ℕ) {answer : Performed} {rs′ cs′ : List ℕ} → ReadAt t k rs cs i → Outcome (toPerformed t) (result (read t (lineAt rs i .key) now) (sheetsOf rs cs)) rs cs answer rs′ cs′ → Outcome (toPerformed t) (result (read t k now) (sheetsOf rs cs)) rs cs answer rs′ cs′
 read-found t k now rs cs i {answer} {rs′} {cs′} a h =
-    subst (λ (x : Key). Outcome (toFetched t) (result (read t x now) (sheetsOf rs cs)) rs cs answer rs′ cs′) (found-at k (records rs) i (a .index) .key) h
+    subst (λ (x : Key). Outcome (toPerformed t) (result (read t x now) (sheetsOf rs cs)) rs cs answer rs′ cs′) (found-at k (records rs) i (a .index) .key) h
 
 module _ (t : Transaction) (now : ℕ) (rs cs : List ℕ) (i : ℕ) (a : NewRead t rs cs i) where
   abbrev here : Record
@@ -127,9 +127,9 @@ module _ (t : Transaction) (now : ℕ) (rs cs : List ℕ) (i : ℕ) (a : NewRead
       ∙ ap (λ (r : Record). unlessBusy (meeting now (coordinatorOf cs) r) (readMet (meeting now (coordinatorOf cs) r) r t) r) (sym (read-standing .index .line)))
 
   -- the record is that of line i after the visit
-  pub read-outcome : (v : Recovery) (r : Record) {answer : Fetched} {rs′ cs′ : List ℕ} → t .count < 8 → Recovered now i rs cs v rs′ cs′ → r ≡ lineAt rs′ i → answer ≡ fetchedMet v r t → Outcome (toFetched t) (result (read t (here .key) now) (sheetsOf rs cs)) rs cs answer rs′ cs′
+  pub read-outcome : (v : Recovery) (r : Record) {answer : Performed} {rs′ cs′ : List ℕ} → t .count < 8 → Recovered now i rs cs v rs′ cs′ → r ≡ lineAt rs′ i → answer ≡ fetchedMet v r t → Outcome (toPerformed t) (result (read t (here .key) now) (sheetsOf rs cs)) rs cs answer rs′ cs′
   read-outcome v r l h e b =
-      outcome-met (toFetched t) rs cs (a .line .accepted) v (readMet v here t) here
+      outcome-met (toPerformed t) rs cs (a .line .accepted) v (readMet v here t) here
       (read-met l ∙ ap (λ (x : Recovery). unlessBusy x (readMet x here t) here) (sym (h .met)))
       (b ∙ (ap (λ (x : Record). fetchedMet v x t) (e ∙ recovered-line now rs cs i read-standing v h) ∙ met-fetched v here t))
       (h .written)

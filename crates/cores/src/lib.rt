@@ -27,9 +27,10 @@ pub struct Visited {
     pub reply: u32,
 }
 
-// What a read answers: a refusal or 0, what was read (0 absent, 1 a value, 2 again), its columns, and the transaction.
+// What any call answers: a refusal or 0, what a read (0 absent, 1 a value, 2 again) or a visit came to, the columns that were read, and the transaction, as it
+// came where the call is refused.
 #[repr(C)]
-pub struct Fetched {
+pub struct Performed {
     pub refusal: u32,
     pub reply: u32,
     pub columns: Columns,

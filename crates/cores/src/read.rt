@@ -8,27 +8,22 @@ ghost use Rattle.model.specs.Transactions as model;
 ghost use Rattle.transactions.specs.Held.{entryAt};
 ghost use Rattle.call_laws.specs.Accepted.{Accepted, Outcome};
 ghost use Rattle.recover.specs.Recovering.{lineAt};
-ghost use Rattle.cores.specs.Answers.{toFetched, fetchedAs};
+ghost use Rattle.cores.specs.Answers.{toPerformed, performedAs};
 ghost use Rattle.cores.specs.Fetching.{fetchedHeld, fetchedMet, ReadAt, NewRead};
-use crate::Fetched;
-use types::Columns;
+use crate::Performed;
 use types::Entry;
 use types::Found;
 use types::Key;
+use types::NO_COLUMNS;
 use types::Reading;
 use types::Record;
 use types::Recovery;
 use types::Transaction;
 
-const NO_COLUMNS: Columns = Columns {
-    column1: 0,
-    column2: 0,
-};
-
-pub fn refusal(n: u32, t: Transaction) -> Fetched
-    ensures { λ r. ⌜ r ≡ toFetched t (refused n) ⌝ }
+pub fn refusal(n: u32, t: Transaction) -> Performed
+    ensures { λ r. ⌜ r ≡ toPerformed t (refused n) ⌝ }
 {
-    Fetched {
+    Performed {
         refusal: n,
         reply: 0,
         columns: NO_COLUMNS,
@@ -37,23 +32,23 @@ pub fn refusal(n: u32, t: Transaction) -> Fetched
 }
 
 // What was read, with the transaction as it now is.
-fn answer(value: Reading, t: Transaction) -> Fetched
-    ensures { λ r. ⌜ r ≡ fetchedAs value t ⌝ }
+fn answer(value: Reading, t: Transaction) -> Performed
+    ensures { λ r. ⌜ r ≡ performedAs value t ⌝ }
 {
     match value {
-        Reading::Absent => Fetched {
+        Reading::Absent => Performed {
             refusal: 0,
             reply: 0,
             columns: NO_COLUMNS,
             transaction: t,
         },
-        Reading::Value(columns) => Fetched {
+        Reading::Value(columns) => Performed {
             refusal: 0,
             reply: 1,
             columns,
             transaction: t,
         },
-        Reading::Again => Fetched {
+        Reading::Again => Performed {
             refusal: 0,
             reply: 2,
             columns: NO_COLUMNS,
@@ -63,7 +58,7 @@ fn answer(value: Reading, t: Transaction) -> Fetched
 }
 
 // The read of a record that is then held.
-fn hold(r: Record, t: Transaction) -> Fetched
+fn hold(r: Record, t: Transaction) -> Performed
     requires { ⌜ t .count < 8 ⌝ }
     ensures { λ a. ⌜ a ≡ fetchedHeld r t ⌝ }
 {
@@ -80,7 +75,7 @@ fn hold(r: Record, t: Transaction) -> Fetched
 }
 
 // The read of a record as its visit leaves it, by what the visit came to.
-fn read_met(v: Recovery, r: Record, t: Transaction) -> Fetched
+fn read_met(v: Recovery, r: Record, t: Transaction) -> Performed
     requires { ⌜ t .count < 8 ⌝ }
     ensures { λ a. ⌜ a ≡ fetchedMet v r t ⌝ }
 {
@@ -100,9 +95,9 @@ fn read_new(
     clock: u32,
     records: &mut [u8],
     coordinator: &mut [u8],
-) -> Fetched
+) -> Performed
     requires { ⌜ NewRead t (now records) (now coordinator) i ⌝ }
-    ensures { λ r. ⌜ Outcome (toFetched t) (result (read t (lineAt (now (records .entry)) i .key) clock) (sheetsOf (now (records .entry)) (now (coordinator .entry)))) (now (records .entry)) (now (coordinator .entry)) r (now (records .exit)) (now (coordinator .exit)) ⌝ }
+    ensures { λ r. ⌜ Outcome (toPerformed t) (result (read t (lineAt (now (records .entry)) i .key) clock) (sheetsOf (now (records .entry)) (now (coordinator .entry)))) (now (records .entry)) (now (coordinator .entry)) r (now (records .exit)) (now (coordinator .exit)) ⌝ }
 {
     if 8 <= t.count {
         return refusal(9, t);
@@ -113,9 +108,9 @@ fn read_new(
 }
 
 // The read of the key that entry j holds.
-fn read_held(t: Transaction, j: usize) -> Fetched
+fn read_held(t: Transaction, j: usize) -> Performed
     requires { ⌜ j < 8 ⌝ }
-    ensures { λ r. ⌜ r ≡ fetchedAs (model.reading (entryAt t j)) t ⌝ }
+    ensures { λ r. ⌜ r ≡ performedAs (model.reading (entryAt t j)) t ⌝ }
 {
     let e = transactions::entry_at(t, j);
     answer(transactions::reading(e), t)
@@ -129,9 +124,9 @@ fn read_found(
     clock: u32,
     records: &mut [u8],
     coordinator: &mut [u8],
-) -> Fetched
+) -> Performed
     requires { ⌜ ReadAt t key (now records) (now coordinator) i ⌝ }
-    ensures { λ r. ⌜ Outcome (toFetched t) (result (read t key clock) (sheetsOf (now (records .entry)) (now (coordinator .entry)))) (now (records .entry)) (now (coordinator .entry)) r (now (records .exit)) (now (coordinator .exit)) ⌝ }
+    ensures { λ r. ⌜ Outcome (toPerformed t) (result (read t key clock) (sheetsOf (now (records .entry)) (now (coordinator .entry)))) (now (records .entry)) (now (coordinator .entry)) r (now (records .exit)) (now (coordinator .exit)) ⌝ }
 {
     match transactions::held_at(key, t) {
         Found::At(j) => read_held(t, j),
@@ -145,9 +140,9 @@ pub fn read(
     clock: u32,
     records: &mut [u8],
     coordinator: &mut [u8],
-) -> Fetched
+) -> Performed
     requires { ⌜ Accepted (now records) (now coordinator) ⌝ }
-    ensures { λ r. ⌜ Outcome (toFetched t) (result (read t key clock) (sheetsOf (now (records .entry)) (now (coordinator .entry)))) (now (records .entry)) (now (coordinator .entry)) r (now (records .exit)) (now (coordinator .exit)) ⌝ }
+    ensures { λ r. ⌜ Outcome (toPerformed t) (result (read t key clock) (sheetsOf (now (records .entry)) (now (coordinator .entry)))) (now (records .entry)) (now (coordinator .entry)) r (now (records .exit)) (now (coordinator .exit)) ⌝ }
 {
     let refused = admission::open_refusal(t, key, records, coordinator);
     if refused != 0 {

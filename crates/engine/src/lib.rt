@@ -3,8 +3,11 @@
 ghost use mathlib.Core.Path.{_≡_};
 ghost use Rattle.model.specs.Results as model;
 ghost use Rattle.model.specs.ByteCalls.{resultOn, recordsAfter, coordinatorAfter};
-ghost use Rattle.cores.specs.Answers.{toBegun, toReturned, toFetched, toVisited};
-use cores::Fetched;
+ghost use Rattle.cores.specs.Answers.{toBegun, toReturned, toPerformed, toVisited};
+
+pub mod perform;
+
+use cores::Performed;
 use cores::Returned;
 use cores::Visited;
 use sheets::check;
@@ -29,8 +32,8 @@ pub fn read(
     clock: u32,
     records: &mut [u8],
     coordinator: &mut [u8],
-) -> Fetched
-    ensures answer { λ r. ⌜ r ≡ toFetched t (resultOn (model.read t key clock) (now (records .entry)) (now (coordinator .entry))) ⌝ }
+) -> Performed
+    ensures answer { λ r. ⌜ r ≡ toPerformed t (resultOn (model.read t key clock) (now (records .entry)) (now (coordinator .entry))) ⌝ }
     ensures lines { λ r. ⌜ now (records .exit) ≡ recordsAfter (now (records .entry)) (now (coordinator .entry)) (resultOn (model.read t key clock) (now (records .entry)) (now (coordinator .entry))) ⌝ }
     ensures decisions { λ r. ⌜ now (coordinator .exit) ≡ coordinatorAfter (now (records .entry)) (now (coordinator .entry)) (resultOn (model.read t key clock) (now (records .entry)) (now (coordinator .entry))) ⌝ }
 {

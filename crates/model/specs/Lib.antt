@@ -18,6 +18,7 @@ pub mod Conditions
 pub mod Steps
 pub mod Calls
 pub mod ByteCalls
+pub mod Requests
 pub mod CallByPlace
 pub mod Histories
 pub mod SequentialModel

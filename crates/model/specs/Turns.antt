@@ -1,40 +1,40 @@
 -- Turns of a history, over decoded sheets and over bytes: a call, or one that comes to calls. Document 01, "The cut-off rule": "advance (by place too,
--- taking and returning the one named)". To legality and to the sequential model an advance by place is the advance of the one named.
+-- taking and returning the one named)". To legality and to the sequential model a call by place is the call of the one named.
 use Rattle.lists.specs.Basics.{ℕ, Bool, false, _||_, cond, List, [], _∷_, _++_, length}
-use Rattle.model.specs.Types.{Transaction}
+use Rattle.model.specs.Types.{Transaction, Request}
 use Rattle.model.specs.Writes.{Sheets, isOnePhase, apply}
-use Rattle.model.specs.Results.{Call, advance, writeOf, answerOf}
-use Rattle.model.specs.CallByPlace.{listed, named, advanceAtResult, advanceAtOn}
+use Rattle.model.specs.Results.{Call, writeOf, answerOf}
+use Rattle.model.specs.CallByPlace.{listed, callAt, resultAt, resultAtOn}
 use Rattle.model.specs.Histories.{Event, answer, written, after, Permitted, event}
 use Rattle.model.specs.ByteHistories.{Bytes, saying, bytesAfter, answerOn, afterOn}
 
 pub data Turn : Type 0 where
   single : Call → Turn
-  -- of a client's list of transactions the one at a place, at a clock reading
-  advanceAt : List Transaction → ℕ → ℕ → Turn
+  -- of a client's list of transactions the one at a place, and what is asked of it
+  byPlace : List Transaction → ℕ → Request → Turn
 
 -- Over decoded sheets.
 
 -- the turn made with these sheets, and its answer
 unfoldable pub turnEvent : Turn → Sheets → Event
 turnEvent (single c) s = event answer after c s
-turnEvent (advanceAt list place now) s =
-    record { call = advance (named list place) now; answer = answerOf (advanceAtResult list place now s) }
+turnEvent (byPlace list place q) s =
+    record { call = callAt list place q; answer = answerOf (resultAt list place q s) }
 
 -- the sheets as the turn leaves them
 unfoldable pub turnAfter : Turn → Sheets → Sheets
 turnAfter (single c) s = after c s
-turnAfter (advanceAt list place now) s = apply (writeOf (advanceAtResult list place now s)) s
+turnAfter (byPlace list place q) s = apply (writeOf (resultAt list place q s)) s
 
 -- the turn makes the one-phase write of a number
 unfoldable pub turnOnePhase : ℕ → Turn → Sheets → Bool
 turnOnePhase n (single c) s = isOnePhase n (written c s)
-turnOnePhase n (advanceAt list place now) s = isOnePhase n (writeOf (advanceAtResult list place now s))
+turnOnePhase n (byPlace list place q) s = isOnePhase n (writeOf (resultAt list place q s))
 
--- the calls that a turn comes to: an advance by place none where the list has no such place
+-- the calls that a turn comes to: one by place none where the list has no such place
 unfoldable pub comesTo : Turn → Sheets → List Call
 comesTo (single c) s = c ∷ []
-comesTo (advanceAt list place now) s = cond (listed (length list) place) (advance (named list place) now ∷ []) []
+comesTo (byPlace list place q) s = cond (listed (length list) place) (callAt list place q ∷ []) []
 
 -- those of a history
 unfoldable pub expanded : List Turn → Sheets → List Call
@@ -45,12 +45,12 @@ expanded (x ∷ xs) s = comesTo x s ++ expanded xs (turnAfter x s)
 
 unfoldable pub turnEventOn : Turn → Bytes → Event
 turnEventOn (single c) b = event answerOn afterOn c b
-turnEventOn (advanceAt list place now) b =
-    record { call = advance (named list place) now; answer = answerOf (advanceAtOn list place now (b .records) (b .coordinator)) }
+turnEventOn (byPlace list place q) b =
+    record { call = callAt list place q; answer = answerOf (resultAtOn list place q (b .records) (b .coordinator)) }
 
 unfoldable pub turnAfterOn : Turn → Bytes → Bytes
 turnAfterOn (single c) b = afterOn c b
-turnAfterOn (advanceAt list place now) b = bytesAfter b (advanceAtOn list place now (b .records) (b .coordinator))
+turnAfterOn (byPlace list place q) b = bytesAfter b (resultAtOn list place q (b .records) (b .coordinator))
 
 abbrev pub turnOnePhaseOn : ℕ → Turn → Bytes → Bool
 turnOnePhaseOn n x b = turnOnePhase n x (saying b)

@@ -20,3 +20,4 @@ pub use Rattle.types.specs.declared.Transaction.{Transaction}
 pub use Rattle.types.specs.declared.Recovery.{Recovery}
 pub use Rattle.types.specs.declared.Recovery.the-variants.{Stays, Forward, Back, Again, Busy}
 pub use Rattle.types.specs.declared.Reading.{Reading}
+pub use Rattle.types.specs.declared.Request.{Request}

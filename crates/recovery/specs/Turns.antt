@@ -2,17 +2,17 @@
 -- model. So demand 3 over calls is demand 3 over turns. What a kind of turn owes for it is `Comes`.
 use Rattle.lists.specs.Basics.{_≡_, refl, sym, ap, ap₂, subst, _∙_, ℕ, _<_, Bool, true, false, _||_, cond, List, [], _∷_, _++_, map, length, some}
 use Rattle.lists.specs.Basics.{Option·none-ne-some, inl, inr}
-use Rattle.model.specs.Types.{Key, Record, Transaction}
+use Rattle.model.specs.Types.{Key, Record, Transaction, Request}
 use Rattle.model.specs.Calls.{result}
 use Rattle.model.specs.Images.{Change}
 use Rattle.model.specs.Coordinator.{decision}
 use Rattle.model.specs.Writes.{Sheets, sheetsGood, isOnePhase, apply}
-use Rattle.model.specs.Results.{Call, advance, Result, writeOf, turnedAway, returns, answerOf, Answer}
-use Rattle.model.specs.CallByPlace.{listed, named, advanceAtResult}
+use Rattle.model.specs.Results.{Call, Result, writeOf, turnedAway, returns, answerOf, Answer}
+use Rattle.model.specs.CallByPlace.{listed, callAt, resultAt}
 use Rattle.model.specs.Histories.{Event, answer, written, after, Available, Permitted, event, eventsAfter, leftBy, Legal, onePhaseIn}
 use Rattle.model.specs.SequentialModel.{Model, firstModel, modelStep, modelAfter, isCommitted}
 use Rattle.model.specs.RecoveryPass.{Visit, visitCall, nonePrepared, Closing}
-use Rattle.model.specs.Turns.{Turn, single, advanceAt, turnEvent, turnAfter, turnOnePhase, comesTo, expanded, turnsLeft, onePhaseTurn, turnEvents, LegalTurns}
+use Rattle.model.specs.Turns.{Turn, single, byPlace, turnEvent, turnAfter, turnOnePhase, comesTo, expanded, turnsLeft, onePhaseTurn, turnEvents, LegalTurns}
 use Rattle.model.specs.Recovered.{modelAfterTurns, CommittedExactly}
 use Rattle.call_laws.specs.Lifting.{apply-nothing}
 use Rattle.call_laws.specs.ByPlace.{named-result, unlisted-result}
@@ -84,30 +84,30 @@ module _ (s : Sheets) (es es′ : List Event) (handed-on : (t : Transaction) →
       handed t (inl q) = absurd (Option·none-ne-some t q)
       handed t (inr b) = handed-on t (b .1)
 
-  module _ (list : List Transaction) (place now : ℕ) where
+  module _ (list : List Transaction) (place : ℕ) (q : Request) where
     abbrev Come : List Call → Result Answer → Type 0
-    Come cs r = Comes cs (record { call = advance (named list place) now; answer = answerOf r }) s (apply (writeOf r) s) (λ (n : ℕ). isOnePhase n (writeOf r)) es es′
+    Come cs r = Comes cs (record { call = callAt list place q; answer = answerOf r }) s (apply (writeOf r) s) (λ (n : ℕ). isOnePhase n (writeOf r)) es es′
 
     abbrev May : Result Answer → Type 0
-    May r = Permitted (advance (named list place) now) (answerOf r) es
+    May r = Permitted (callAt list place q) (answerOf r) es
 
-    by-place-comes : May (advanceAtResult list place now s) → Come (cond (listed (length list) place) (advance (named list place) now ∷ []) []) (advanceAtResult list place now s)
+    by-place-comes : May (resultAt list place q s) → Come (cond (listed (length list) place) (callAt list place q ∷ []) []) (resultAt list place q s)
     unfolding answer after written isOnePhase
     by-place-comes p = go (listed (length list) place) refl
       where
-        go : (b : Bool) → listed (length list) place ≡ b → Come (cond b (advance (named list place) now ∷ []) []) (advanceAtResult list place now s)
+        go : (b : Bool) → listed (length list) place ≡ b → Come (cond b (callAt list place q ∷ []) []) (resultAt list place q s)
         go true e =
-            let q : advanceAtResult list place now s ≡ result (advance (named list place) now) s = named-result list place now s e in
-            subst (Come (advance (named list place) now ∷ [])) (sym q) (single-comes (advance (named list place) now) (subst May q p))
+            let same : resultAt list place q s ≡ result (callAt list place q) s = named-result list place q s e in
+            subst (Come (callAt list place q ∷ [])) (sym same) (single-comes (callAt list place q) (subst May same p))
         go false e =
-            subst (Come []) (sym (unlisted-result list place now s e))
-            (subst (λ (s′ : Sheets). Comes [] (record { call = advance (named list place) now; answer = turnedAway 3 }) s s′ (λ (n : ℕ). false) es es′) (sym (apply-nothing s))
-            (refused-comes (advance (named list place) now) 3))
+            subst (Come []) (sym (unlisted-result list place q s e))
+            (subst (λ (s′ : Sheets). Comes [] (record { call = callAt list place q; answer = turnedAway 3 }) s s′ (λ (n : ℕ). false) es es′) (sym (apply-nothing s))
+            (refused-comes (callAt list place q) 3))
 
   turn-comes : (x : Turn) → Permitted (turnEvent x s .call) (turnEvent x s .answer) es → Comes (comesTo x s) (turnEvent x s) s (turnAfter x s) (λ (n : ℕ). turnOnePhase n x s) es es′
   unfolding comesTo turnEvent turnAfter turnOnePhase
   turn-comes (single c) p = single-comes c p
-  turn-comes (advanceAt list place now) p = by-place-comes list place now p
+  turn-comes (byPlace list place q) p = by-place-comes list place q p
 
 -- The reduction.
 

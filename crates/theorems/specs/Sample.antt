@@ -4,12 +4,14 @@
 use Rattle.lists.specs.Basics.{_≡_, refl, ap, subst, _∙_, ℕ, true, false, List, [], _∷_, map, inl, inr, arith, bytes}
 use Rattle.model.specs.Types.{Key, Transaction}
 use Rattle.types.specs.declared.Reading.the-variants.{Absent, Value}
+use Rattle.types.specs.declared.Request.the-variants as asked
 use Rattle.model.specs.Lines.{text}
 use Rattle.model.specs.Records.{noImage, records}
 use Rattle.model.specs.Transactions.{preparePhase, validatePhase, decidePhase, finishPhase, donePhase, noVerdict, committedVerdict, entryAs, withPut, moved}
 use Rattle.model.specs.Transactions.{withEntry}
 use Rattle.model.specs.Calls.{newTransaction}
 use Rattle.model.specs.Results.{begin, read, put, advance, turnedAway, returned, answered}
+use Rattle.model.specs.Requests.{callOf}
 use Rattle.model.specs.Histories.{Event, leftBy}
 use Rattle.model.specs.SequentialModel.{firstModel, modelBegin, modelPut, modelCommit, modelCall, modelStep, modelAfter}
 use Rattle.model.specs.RecoveryPass.{Visit, visitCall, nonePrepared, Closing}
@@ -154,7 +156,7 @@ story =
     ∷ row (advance forged 5) (turnedAway 3) (sheets issued3 third fourth firstA firstB firstC)
     ∷ row (put q1 keyB (columns 41 8)) (returned q2) (sheets issued3 third fourth firstA firstB firstC)
     -- by place in its client's list: the one-phase write
-    ∷ rowAt (forged ∷ p2 ∷ []) 1 7000 (returned p3) (sheets issued3 third fourth writtenA firstB firstC)
+    ∷ rowAt (forged ∷ p2 ∷ []) 1 (asked.Advance 7000) (returned p3) (sheets issued3 third fourth writtenA firstB firstC)
     ∷ row (read q2 keyC 2147483649) (answered Absent q3) (sheets issued3 third fourth writtenA firstB firstC)
     ∷ row (put q3 keyC (columns 5 6)) (returned q4) (sheets issued3 third fourth writtenA firstB firstC)
     ∷ row (read q4 keyA 2147483649) (answered (Value (columns 600 300)) q5) (sheets issued3 third fourth writtenA firstB firstC)
@@ -215,7 +217,7 @@ computed = record { passes = refl; unprepared = refl; true-story = refl; visits 
 
 -- Each turn takes nothing, or a state that an earlier turn returned, and the turns since took none or one of another number.
 story-legal : LegalRows story []
-unfolding Histories.given Results.returns
+unfolding Histories.given Results.returns callOf
 story-legal =
     record { clock = tt; state = λ t e. absurd (untaken e) }
     ⊗ record { clock = tt; state = λ t e. absurd (untaken e) }
@@ -270,6 +272,6 @@ pub sample-recovered : bytesRecovered sampleVisits sampleTurns sampleBytes ≡ r
 sample-recovered = ap (leftBy answerOn afterOn (map visitCall sampleVisits)) left ∙ computed .recovered
 
 pub sample-committed : modelOn sampleTurns sampleBytes .committed ≡ 3 ∷ 2 ∷ []
-unfolding modelAfter modelStep modelCall modelBegin modelPut modelCommit firstModel
+unfolding modelAfter modelStep modelCall modelBegin modelPut modelCommit firstModel callOf
 sample-committed =
     ap (λ (es : List Event). modelAfter es (firstModel (records (sampleBytes .records))) .committed) (rows-events story sampleBytes [] (computed .true-story))

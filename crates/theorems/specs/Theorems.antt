@@ -1,7 +1,7 @@
 -- What is proved of the engine: every headline statement, in the words of the definitions of `model`, each by citing the law that proves it.
--- The engine's contracts cite the same definitions, so that what holds of `answerOn`, `afterOn` and `advanceAtOn` holds of the functions that run.
+-- The engine's contracts cite the same definitions, so that what holds of `answerOn`, `afterOn` and `resultAtOn` holds of the functions that run.
 use Rattle.lists.specs.Basics.{_≡_, ap, _∙_, ℕ, _^_, _≤_, _<_, true, List, [], _∷_, map, some, all}
-use Rattle.model.specs.Types.{Key, Record, Committed, Transaction, Forward}
+use Rattle.model.specs.Types.{Key, Record, Committed, Transaction, Forward, Request}
 use Rattle.model.specs.Records.{records, recordsText, recordsGood, recordsAccepted, lineOf, hasLine}
 use Rattle.model.specs.Coordinator.{Coordinator, coordinatorOf, coordinatorText, coordinatorGood, coordinatorAccepted}
 use Rattle.model.specs.Refusals.{Condition, askingOrder, firstAsked}
@@ -11,12 +11,12 @@ use Rattle.model.specs.WellFormed.{wellFormed}
 use Rattle.model.specs.Results.{Call, read, visit, visited, refusalIn, returns, answerOf}
 use Rattle.model.specs.Conditions.{isNew, refusals}
 use Rattle.model.specs.ByteCalls.{allConditions}
-use Rattle.model.specs.CallByPlace.{allConditionsAt, advanceAtOn, listAfter}
+use Rattle.model.specs.CallByPlace.{callAt, allConditionsAt, resultAtOn, listAfter}
 use Rattle.model.specs.Histories.{ClockFits}
 use Rattle.model.specs.ByteHistories.{Bytes, saying, Passing, bytesAfter, answerOn, afterOn}
 use Rattle.model.specs.AtomicWrites.{OneUnit}
 use Rattle.model.specs.RecoveryPass.{Visit, nonePrepared, Closing}
-use Rattle.model.specs.Turns.{Turn, advanceAt, turnEventOn, turnAfterOn, turnsLeft, LegalTurns}
+use Rattle.model.specs.Turns.{Turn, byPlace, turnEventOn, turnAfterOn, turnsLeft, LegalTurns}
 use Rattle.model.specs.Recovered.{Recovered, modelOn, bytesRecovered}
 use Rattle.model.specs.SerialOrder.{callsOn, begunChecked, serialOrder, serialLine, Serializable}
 use Rattle.model.specs.Cases.{Case, cases, twelve-cases}
@@ -42,10 +42,10 @@ refusal-exact c b =
     ap (λ (n : ℕ). firstAsked n (allConditions c (b .records) (b .coordinator))) (Exactness.refusal-given c b)
     ∙ Exactness.refusal-is-first c (b .records) (b .coordinator)
 
-pub refusal-exact-by-place : (list : List Transaction) (place now : ℕ) (rs cs : List ℕ) → firstAsked (refusalIn (answerOf (advanceAtOn list place now rs cs))) (allConditionsAt list place now rs cs) ≡ true
-refusal-exact-by-place list place now rs cs =
-    ap (λ (n : ℕ). firstAsked n (allConditionsAt list place now rs cs)) (ByPlace.place-refusal-given list place now rs cs)
-    ∙ ByPlace.place-refusal-is-first list place now rs cs
+pub refusal-exact-by-place : (list : List Transaction) (place : ℕ) (q : Request) (rs cs : List ℕ) → firstAsked (refusalIn (answerOf (resultAtOn list place q rs cs))) (allConditionsAt list place q rs cs) ≡ true
+refusal-exact-by-place list place q rs cs =
+    ap (λ (n : ℕ). firstAsked n (allConditionsAt list place q rs cs)) (ByPlace.place-refusal-given list place q rs cs)
+    ∙ ByPlace.place-refusal-is-first list place q rs cs
 
 pub order-rises : Exactness.risingFrom 1 askingOrder ≡ true
 order-rises = Exactness.order-rises
@@ -57,8 +57,8 @@ conditions-are-the-row c rs cs = Exactness.numbers-are c rs cs
 pub refused-unchanged : (c : Call) (b : Bytes) → 1 ≤ refusalIn (answerOn c b) → afterOn c b ≡ b
 refused-unchanged c b l = Exactness.refused-unchanged c b l
 
-pub refused-unchanged-by-place : (list : List Transaction) (place now : ℕ) (b : Bytes) → 1 ≤ refusalIn (answerOf (advanceAtOn list place now (b .records) (b .coordinator))) → (listAfter list place (advanceAtOn list place now (b .records) (b .coordinator)) ≡ list) × (bytesAfter b (advanceAtOn list place now (b .records) (b .coordinator)) ≡ b)
-refused-unchanged-by-place list place now b l = ByPlace.refused-leaves list place now b l
+pub refused-unchanged-by-place : (list : List Transaction) (place : ℕ) (q : Request) (b : Bytes) → 1 ≤ refusalIn (answerOf (resultAtOn list place q (b .records) (b .coordinator))) → (listAfter list place (resultAtOn list place q (b .records) (b .coordinator)) ≡ list) × (bytesAfter b (resultAtOn list place q (b .records) (b .coordinator)) ≡ b)
+refused-unchanged-by-place list place q b l = ByPlace.refused-leaves list place q b l
 
 -- DEMAND 2: the answer, the transaction and the lines are the contracts' own equations. What holds of all of them:
 
@@ -66,8 +66,8 @@ refused-unchanged-by-place list place now b l = ByPlace.refused-leaves list plac
 pub single-unit : (c : Call) (b : Bytes) → ClockFits c → Passing b → OneUnit b (afterOn c b)
 single-unit c b l p = ByteUnits.call-unit c b l p
 
-pub single-unit-by-place : (list : List Transaction) (place now : ℕ) (b : Bytes) → now < 2 ^ 32 → Passing b → OneUnit b (turnAfterOn (advanceAt list place now) b)
-single-unit-by-place list place now b l p = ByteUnits.place-unit list place now b l p
+pub single-unit-by-place : (list : List Transaction) (place : ℕ) (q : Request) (b : Bytes) → ClockFits (callAt list place q) → Passing b → OneUnit b (turnAfterOn (byPlace list place q) b)
+single-unit-by-place list place q b l p = ByteUnits.place-unit list place q b l p
 
 -- accepted sheets stay accepted, and a transaction that is returned is well formed on the sheets that the turn leaves
 pub sheets-stay-accepted : (x : Turn) (b : Bytes) → ClockFits (turnEventOn x b .call) → Passing b → Passing (turnAfterOn x b)

@@ -158,6 +158,11 @@ pub struct Columns {
     pub column2: u32,
 }
 
+pub const NO_COLUMNS: Columns = Columns {
+    column1: 0,
+    column2: 0,
+};
+
 // A record that a transaction holds: what was read, and what was put if `wrote` is 1.
 #[repr(C)]
 pub struct Entry {
@@ -195,4 +200,15 @@ pub enum Reading {
     Absent,
     Value(Columns),
     Again,
+}
+
+// What is asked of the engine, apart from the transaction and the sheets. A begin says whether the transaction is serializable; a number is the reading
+// of the clock.
+pub enum Request {
+    Begin(bool),
+    Read(Key, u32),
+    Put(Key, Columns),
+    Advance(u32),
+    Abort,
+    Visit(Key, u32),
 }

@@ -2,14 +2,14 @@
 use Rattle.lists.specs.Basics.{sym, _∙_, needs}
 use Rattle.model.specs.Results as model
 use Rattle.call_laws.specs.Accepted.{accepted, turned-away, let-pass}
-use Rattle.cores.specs.Answers.{toFetched}
+use Rattle.cores.specs.Answers.{toPerformed}
 use Rattle.engine.proofs.read.Statement.{statement}
 use Rattle.engine.proofs.read.Tie as tie
 
 returns : tie.Need-returns
 returns c =
     let a = c .before .before .before .before .before .before .before .args in
-    let o = turned-away (toFetched (a .t)) (model.read (a .t) (a .key) (a .clock)) (a .records .now) (a .coordinator .now) _
+    let o = turned-away (toPerformed (a .t)) (model.read (a .t) (a .key) (a .clock)) (a .records .now) (a .coordinator .now) _
     (c .before .before .check .ensures) (c .before .if1 .taken) (c .refusal .ensures) in
     (o .said, (o .lines, o .decisions))
 
@@ -21,7 +21,7 @@ read-requires c κs =
 returns-2 : tie.Need-returns-2
 returns-2 c =
     let a = c .before .before .before .before .before .before .before .before .before .before .before .before .before .args in
-    let o = let-pass (toFetched (a .t)) (model.read (a .t) (a .key) (a .clock)) (a .records .now) (a .coordinator .now)
+    let o = let-pass (toPerformed (a .t)) (model.read (a .t) (a .key) (a .clock)) (a .records .now) (a .coordinator .now)
     (sym (c .before .before .before .before .before .before .before .before .check .ensures) ∙
     c .before .before .before .before .before .before .before .if1 .left) (c .before .before .before .before .read .ensures) in
     (o .said, (o .lines, o .decisions))

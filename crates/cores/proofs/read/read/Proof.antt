@@ -3,7 +3,7 @@ use Rattle.lists.specs.Basics.{sym, _∙_, needs}
 use Rattle.model.specs.ByteCalls.{sheetsOf}
 use Rattle.call_laws.specs.Accepted.{outcome-refused}
 use Rattle.admission.specs.Admission.{opened}
-use Rattle.cores.specs.Answers.{toFetched}
+use Rattle.cores.specs.Answers.{toPerformed}
 use Rattle.cores.specs.Fetching.{read-away, read-none}
 use Rattle.cores.proofs.read.read.Statement.{statement}
 use Rattle.cores.proofs.read.read.Tie as tie
@@ -12,7 +12,7 @@ returns : tie.Need-returns
 returns c =
     let a = c .before .before .before .before .before .before .before .args in
     let s = sheetsOf (a .records .now) (a .coordinator .now) in
-    outcome-refused (toFetched (a .t)) (a .records .now) (a .coordinator .now) _
+    outcome-refused (toPerformed (a .t)) (a .records .now) (a .coordinator .now) _
     (read-away (a .t) (a .key) (a .clock) s _ (c .before .before .open-refusal .ensures) (c .before .if1 .taken)) (c .refusal .ensures)
 
 find-requires : tie.Need-find-requires
@@ -39,7 +39,7 @@ returns-3 : tie.Need-returns-3
 returns-3 c =
     let a = c .before .before .before .before .before .before .before .before .before .before .before .args in
     let s = sheetsOf (a .records .now) (a .coordinator .now) in
-    outcome-refused (toFetched (a .t)) (a .records .now) (a .coordinator .now) 6
+    outcome-refused (toPerformed (a .t)) (a .records .now) (a .coordinator .now) 6
     (read-none (a .t) (a .key) (a .clock) s
     (sym (c .before .before .before .before .before .before .open-refusal .ensures) ∙ c .before .before .before .before .before .if1 .left)
     (sym (c .before .before .before .find .ensures) ∙ c .before .enum-told .given .1)) (c .refusal2 .ensures)

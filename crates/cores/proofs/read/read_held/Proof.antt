@@ -2,13 +2,13 @@
 use Rattle.lists.specs.Basics.{ap, _∙_, needs}
 use Rattle.model.specs.Types.{Reading}
 use Rattle.model.specs.Transactions.{reading}
-use Rattle.cores.specs.Answers.{fetchedAs}
+use Rattle.cores.specs.Answers.{performedAs}
 use Rattle.cores.proofs.read.read_held.Statement.{statement}
 use Rattle.cores.proofs.read.read_held.Tie as tie
 
 returns : tie.Need-returns
 returns c =
-    c .answer .ensures ∙ ap (λ (v : Reading). fetchedAs v (c .before .before .before .args .t))
+    c .answer .ensures ∙ ap (λ (v : Reading). performedAs v (c .before .before .before .args .t))
     (c .before .reading .ensures ∙ ap reading (c .before .before .entry-at .ensures))
 
 pub read-held-spec : {M : Type 1} → statement M

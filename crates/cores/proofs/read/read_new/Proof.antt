@@ -1,7 +1,7 @@
 -- The ninth key is refused; otherwise the line as the visit leaves it is read.
 use Rattle.lists.specs.Basics.{needs}
 use Rattle.call_laws.specs.Accepted.{outcome-refused}
-use Rattle.cores.specs.Answers.{toFetched}
+use Rattle.cores.specs.Answers.{toPerformed}
 use Rattle.cores.specs.Fetching.{read-standing, read-full, read-outcome}
 use Rattle.cores.proofs.read.read_new.Statement.{statement}
 use Rattle.cores.proofs.read.read_new.Tie as tie
@@ -9,7 +9,7 @@ use Rattle.cores.proofs.read.read_new.Tie as tie
 returns : tie.Need-returns
 returns c =
     let a = c .before .before .before .before .before .args in
-    outcome-refused (toFetched (a .t)) (a .records .now) (a .coordinator .now) 9
+    outcome-refused (toPerformed (a .t)) (a .records .now) (a .coordinator .now) 9
     (read-full (a .t) (a .clock) (a .records .now) (a .coordinator .now) (a .i) (c .before .before .before .before .before .pre) (c .before .if1 .taken))
     (c .refusal .ensures)
 

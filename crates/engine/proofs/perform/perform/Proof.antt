@@ -1,0 +1,52 @@
+-- Case by case, what the call answers and leaves is what the law of its kind wants.
+use Rattle.lists.specs.Basics.{needs}
+use Rattle.engine.specs.Performing.{begun, was-read, was-put, advanced, aborted, was-visited}
+use Rattle.engine.proofs.perform.perform.Statement.{statement}
+use Rattle.engine.proofs.perform.perform.Tie as tie
+
+returns : tie.Need-returns
+returns c =
+    let a = c .before .before .before .before .before .before .before .before .before .before .before .args in
+    let o = c .before .before .before .begin in
+    begun (a .request) (a .t) (a .records .now) (a .coordinator .now) _ _ _ (c .before .before .before .before .before .before .before .request .given .1) (c .of-begun .ensures) (o .ensures .0)
+    (o .ensures .1)
+
+returns-2 : tie.Need-returns-2
+returns-2 c =
+    let a = c .before .before .before .before .before .before .before .before .before .before .before .before .args in
+    let o = c .before .before .before .before .read in
+    was-read (a .request) (a .t) (a .records .now) (a .coordinator .now) _ _ _ (c .before .before .before .before .before .before .before .before .request2 .given .1) (o .ensures .0)
+    (o .ensures .1 .0) (o .ensures .1 .1)
+
+returns-3 : tie.Need-returns-3
+returns-3 c =
+    let a = c .before .before .before .before .before .before .before .before .before .args in
+    was-put (a .request) (a .t) (a .records .now) (a .coordinator .now) _ _ _ _ (c .before .before .before .before .before .request3 .given .1) (c .of-returned .ensures)
+    (c .before .put .ensures)
+
+returns-4 : tie.Need-returns-4
+returns-4 c =
+    let a = c .before .before .before .before .before .before .before .before .before .before .before .before .before .args in
+    let o = c .before .before .before .before .before .advance in
+    advanced (a .request) (a .t) (a .records .now) (a .coordinator .now) _ _ _ (c .before .before .before .before .before .before .before .before .before .request4 .given .1) (c .of-returned2 .ensures) (o .ensures .0)
+    (o .ensures .1 .0) (o .ensures .1 .1)
+
+returns-5 : tie.Need-returns-5
+returns-5 c =
+    let a = c .before .before .before .before .before .before .before .before .args in
+    aborted (a .request) (a .t) (a .records .now) (a .coordinator .now) _ _ (c .before .before .before .before .enum-told .given .1) (c .of-returned3 .ensures) (c .before .abort .ensures)
+
+returns-6 : tie.Need-returns-6
+returns-6 c =
+    let a = c .before .before .before .before .before .before .before .before .before .before .before .before .before .args in
+    let o = c .before .before .before .before .before .visit in
+    was-visited (a .request) (a .t) (a .records .now) (a .coordinator .now) _ _ _ _ (c .before .before .before .before .before .before .before .before .before .request5 .given .1) (c .of-visited .ensures) (o .ensures .0)
+    (o .ensures .1 .0) (o .ensures .1 .1)
+
+pub perform-spec : {M : Type 1} → statement M
+perform-spec =
+    tie.close (tie.spec (λ c. search needs) (λ c κs. search needs) (λ c κs. search needs) (λ c. search needs) (λ c κs. search needs) (λ c. search needs)
+    (λ c κs. search needs) (λ c κs. search needs) (λ c. search needs) (λ c κs. search needs) (λ c κs. search needs) (λ c. search needs)
+    (λ c κs. search needs) (λ c κs. search needs) (λ c. search needs) (λ c κs. search needs) (λ c κs. search needs) (λ c. search needs) (λ c. search needs)
+    returns (λ c. search needs) (λ c. search needs) returns-2 (λ c. search needs) (λ c. search needs) returns-3 (λ c. search needs) (λ c. search needs)
+    returns-4 (λ c. search needs) (λ c. search needs) returns-5 (λ c. search needs) (λ c. search needs) returns-6)

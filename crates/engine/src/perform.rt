@@ -1,0 +1,76 @@
+// Every call by one function: what is asked, of a transaction, on two lent sheets. A call added later is one more case of it.
+ghost use mathlib.Core.Path.{_≡_};
+ghost use Rattle.model.specs.ByteCalls.{resultOn, recordsAfter, coordinatorAfter};
+ghost use Rattle.model.specs.Requests.{callOf};
+ghost use Rattle.cores.specs.Answers.{toPerformed};
+ghost use Rattle.engine.specs.Performing.{ofReturned, ofBegun, ofVisited};
+use cores::Performed;
+use cores::Returned;
+use cores::Visited;
+use types::NO_COLUMNS;
+use types::Request;
+use types::Transaction;
+
+fn of_returned(r: Returned) -> Performed
+    ensures { λ p. ⌜ p ≡ ofReturned r ⌝ }
+{
+    let transaction = r.transaction;
+    Performed {
+        refusal: r.refusal,
+        reply: 0,
+        columns: NO_COLUMNS,
+        transaction,
+    }
+}
+
+// A refused begin leaves the transaction that there was.
+fn of_begun(t: Transaction, r: Returned) -> Performed
+    ensures { λ p. ⌜ p ≡ ofBegun t r ⌝ }
+{
+    if r.refusal == 0 {
+        return of_returned(r);
+    }
+    Performed {
+        refusal: r.refusal,
+        reply: 0,
+        columns: NO_COLUMNS,
+        transaction: t,
+    }
+}
+
+fn of_visited(t: Transaction, r: Visited) -> Performed
+    ensures { λ p. ⌜ p ≡ ofVisited t r ⌝ }
+{
+    Performed {
+        refusal: r.refusal,
+        reply: r.reply,
+        columns: NO_COLUMNS,
+        transaction: t,
+    }
+}
+
+pub fn perform(
+    request: Request,
+    t: Transaction,
+    records: &mut [u8],
+    coordinator: &mut [u8],
+) -> Performed
+    ensures answer { λ r. ⌜ r ≡ toPerformed t (resultOn (callOf request t) (now (records .entry)) (now (coordinator .entry))) ⌝ }
+    ensures lines { λ r. ⌜ now (records .exit) ≡ recordsAfter (now (records .entry)) (now (coordinator .entry)) (resultOn (callOf request t) (now (records .entry)) (now (coordinator .entry))) ⌝ }
+    ensures decisions { λ r. ⌜ now (coordinator .exit) ≡ coordinatorAfter (now (records .entry)) (now (coordinator .entry)) (resultOn (callOf request t) (now (records .entry)) (now (coordinator .entry))) ⌝ }
+{
+    match request {
+        Request::Begin(serializable) => {
+            of_begun(t, crate::begin(serializable, records, coordinator))
+        }
+        Request::Read(key, clock) => crate::read(t, key, clock, records, coordinator),
+        Request::Put(key, columns) => {
+            of_returned(crate::put(t, key, columns, records, coordinator))
+        }
+        Request::Advance(clock) => of_returned(crate::advance(t, clock, records, coordinator)),
+        Request::Abort => of_returned(crate::abort(t, records, coordinator)),
+        Request::Visit(key, clock) => {
+            of_visited(t, crate::visit(key, clock, records, coordinator))
+        }
+    }
+}
