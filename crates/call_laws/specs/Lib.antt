@@ -18,5 +18,8 @@ pub mod Lifting
 pub mod Accepted
 pub mod Lent
 pub mod ByPlace
+pub mod Moved
+pub mod Handed
 pub mod Turns
+pub mod Clients
 pub mod ByteUnits

@@ -26,6 +26,7 @@ pub mod RecoveryPass
 pub mod ByteHistories
 pub mod AtomicWrites
 pub mod Turns
+pub mod Clients
 pub mod Recovered
 pub mod SerialOrder
 pub mod Visitor

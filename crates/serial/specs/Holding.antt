@@ -1,23 +1,21 @@
 -- What a state holds after a call: a step leaves its entries, a read adds one at the end, and a put replaces one by an entry of the same key that has the same as
 -- first read. So what was held is held on, and no entry becomes newer than its line.
-use Rattle.lists.specs.Basics.{_≡_, refl, sym, ap, subst, _∙_, ℕ, _+_, _<_, ltb, true, false, true≢false, List, [], _∷_, _++_, length, take, getD, set, _⊎_}
-use Rattle.lists.specs.Basics.{inl, inr, add-one, not-true, all, choose-by}
+use Rattle.lists.specs.Basics.{_≡_, refl, sym, ap, subst, _∙_, ℕ, _+_, _<_, true, false, true≢false, List, [], _∷_, _++_, length, take, getD, set, _⊎_, inl}
+use Rattle.lists.specs.Basics.{inr, add-one, not-true}
 use lib.Seq.{take-suc-set}
 use Rattle.lists.specs.Members.{Mem, mem-before, mem-last, mem-more, mem-set, mem-kept, mem-at, mem-set-at}
 use Rattle.model.specs.Types.{Key, Image, Record, Found, Columns, Entry, Transaction}
 use Rattle.model.specs.Records.{sameKey, isMissing, byFound}
-use Rattle.model.specs.Coordinator.{decision}
-use Rattle.model.specs.Transactions.{donePhase, isEmpty, held, puts, toValidate, noEntry, heldAt, withPut, withEntry}
+use Rattle.model.specs.Transactions.{held, noEntry, heldAt, withPut, withEntry}
 use Rattle.model.specs.Writes.{Sheets}
 use Rattle.model.specs.Conditions.{isNew, heldEntry}
-use Rattle.model.specs.Steps.{Step, holds, unitsOf, groupsOf, groupAt, onePhaseAllowed, openWithoutPuts, onePhase, openStep, afterPrepare, nextGroup}
-use Rattle.model.specs.Steps.{prepareStep, nextEntry, validateStep, decideStep, withdrawStep, finishStep, undoStep, step}
+use Rattle.model.specs.Steps.{step}
 use Rattle.model.specs.Calls.{holding}
 use Rattle.sheet_laws.specs.Search.{first-by, some-found}
-use Rattle.call_laws.specs.Choices.{by-phase, by-decision}
 use Rattle.call_laws.specs.Entries.{getD-first}
 use Rattle.call_laws.specs.Keys.{same-key, hasKey}
 use Rattle.call_laws.specs.Keeping.{not-held}
+use Rattle.call_laws.specs.Moved.{step-leaves}
 use Rattle.recovery.specs.Puts.{take-set}
 use Rattle.recovery.specs.Calls.{missing-none}
 use Rattle.serial.specs.Entries.{member-key}
@@ -131,31 +129,6 @@ module _ (c : Columns) (t : Transaction) (i : ℕ) (l : i < length (held t)) whe
           subst (NoNewer line) (sym q) (aged (getD (t .entries) i noEntry) (subst (λ (x : Entry). Mem x (held t)) same-entry (mem-at (held t) i noEntry l)))
 
 -- A step.
-module _ (t : Transaction) (now : ℕ) (s : Sheets) where
-  abbrev Same : Step → Type 0
-  Same x = held (x .transaction) ≡ held t
-
-  next-group : (p : ℕ) → held (nextGroup p t s) ≡ held t
-  unfolding nextGroup held
-  next-group p = choose-by (λ (u : Transaction). held u ≡ held t) (ltb (t .place + 1) (groupsOf t s)) (λ e. refl) (λ e. refl)
-
-  next-entry : held (nextEntry (unitsOf s) t) ≡ held t
-  unfolding nextEntry held
-  next-entry =
-      choose-by (λ (u : Transaction). held u ≡ held t) (ltb (t .place + 1) (length (toValidate (unitsOf s) t))) (λ e. refl)
-      (λ e. choose-by (λ (u : Transaction). held u ≡ held t) (isEmpty (puts t)) (λ g. refl) (λ g. refl))
-
-  pub step-holds : held (step t now s .transaction) ≡ held t
-  unfolding step openStep openWithoutPuts onePhase prepareStep validateStep decideStep withdrawStep finishStep undoStep held
-  step-holds =
-      by-phase Same (t .phase)
-      (choose-by Same (isEmpty (puts t)) (λ e. choose-by Same (isEmpty (toValidate (unitsOf s) t)) (λ g. refl) (λ g. refl))
-      (λ e. choose-by Same (onePhaseAllowed t s) (λ g. choose-by Same (all (holds s) (groupAt t s)) (λ c. refl) (λ c. refl)) (λ g. refl)))
-      (choose-by Same (all (holds s) (groupAt t s)) (λ c. next-group (afterPrepare (unitsOf s) t)) (λ c. refl))
-      (choose-by Same (holds s (getD (toValidate (unitsOf s) t) (t .place) noEntry)) (λ c. next-entry) (λ c. refl))
-      (by-decision Same (decision (t .number) (s .coordinator)) refl refl refl)
-      (by-decision Same (decision (t .number) (s .coordinator)) refl refl refl)
-      (next-group donePhase)
-      (next-group donePhase)
-      refl
-      refl
+pub step-holds : (t : Transaction) (now : ℕ) (s : Sheets) → held (step t now s .transaction) ≡ held t
+unfolding held
+step-holds t now s = step-leaves held t (λ phase place verdict. refl) s now

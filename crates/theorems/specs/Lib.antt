@@ -1,5 +1,6 @@
 -- What is proved of the engine, and a sample that meets every hypothesis.
 pub mod Tables
 pub mod Sample
+pub mod ClientSample
 pub mod SerialSample
 pub mod Theorems

@@ -17,6 +17,7 @@ use Rattle.model.specs.ByteHistories.{Bytes, saying, Passing, bytesAfter, answe
 use Rattle.model.specs.AtomicWrites.{OneUnit}
 use Rattle.model.specs.RecoveryPass.{Visit, nonePrepared, Closing}
 use Rattle.model.specs.Turns.{Turn, byPlace, turnEventOn, turnAfterOn, turnsLeft, LegalTurns}
+use Rattle.model.specs.Clients.{Act, World, Unused, turnsOf, clockFits}
 use Rattle.model.specs.Recovered.{Recovered, modelOn, bytesRecovered}
 use Rattle.model.specs.SerialOrder.{callsOn, begunChecked, serialOrder, serialLine, Serializable}
 use Rattle.model.specs.Cases.{Case, cases, twelve-cases}
@@ -26,11 +27,13 @@ use Rattle.call_laws.specs.Exactness as Exactness
 use Rattle.call_laws.specs.ByPlace as ByPlace
 use Rattle.call_laws.specs.ByteUnits as ByteUnits
 use Rattle.call_laws.specs.Turns as TurnLaws
+use Rattle.call_laws.specs.Clients as Clients
 use Rattle.recovery.specs.PassExists.{recoveryPass}
 use Rattle.recovery.specs.NextReader as NextReader
 use Rattle.recovery.specs.Bytes as Recovery
 use Rattle.serial.specs.Bytes as Serial
 use Rattle.theorems.specs.Sample as Sample
+use Rattle.theorems.specs.ClientSample as ClientSample
 use Rattle.theorems.specs.SerialSample as SerialSample
 
 -- DEMAND 1: "a result or the one refusal that our table names for that input, and after a refusal it finds both sheets and its transaction unchanged".
@@ -110,6 +113,32 @@ sample-legal = ((Sample.sample-passes, Sample.sample-unprepared), (Sample.sample
 
 pub sample-recovered : (bytesRecovered Sample.sampleVisits Sample.sampleTurns Sample.sampleBytes ≡ Sample.recoveredBytes) × (modelOn Sample.sampleTurns Sample.sampleBytes .committed ≡ 3 ∷ 2 ∷ [])
 sample-recovered = (Sample.sample-recovered, Sample.sample-committed)
+
+-- Clients that keep lists of transactions and change them only by the calls by place make a legal history, whatever they ask, of whichever place and in whatever
+-- order; a client that crashes has lost its list and begins again with one of unused transactions, and others visit lines and take numbers in between. What
+-- is asked of them: at first no list holds a transaction, and readings of the clock are below 2^32, as every u32 is.
+pub clients-legal : (acts : List Act) (w : World) → Passing (w .bytes) → Unused (w .lists) → all clockFits acts ≡ true
+    → LegalTurns turnAfterOn turnEventOn (turnsOf acts w) (w .bytes) []
+clients-legal acts w p u f = Clients.clients-legal acts w p u f
+
+-- so that demand 3 holds of all that they do
+pub clients-recovered : (acts : List Act) (w : World) → Passing (w .bytes) → nonePrepared (records (w .bytes .records)) ≡ true → Unused (w .lists)
+    → all clockFits acts ≡ true → (vs : List Visit) → Closing saying afterOn vs (turnsLeft turnAfterOn (turnsOf acts w) (w .bytes))
+    → Recovered vs (turnsOf acts w) (w .bytes)
+clients-recovered acts w p z u f vs c = demand-3 (w .bytes) p z (turnsOf acts w) (clients-legal acts w p u f) vs c
+
+-- acts and a pass that meet the hypotheses: two clients, of which one commits two groups, crashes, and is refused once where it goes on
+pub clients-sample : ((Passing (ClientSample.clientWorld .bytes) × (nonePrepared (records (ClientSample.clientWorld .bytes .records)) ≡ true))
+    × (Unused (ClientSample.clientWorld .lists) × (all clockFits ClientSample.clientActs ≡ true)))
+    × Closing saying afterOn ClientSample.clientVisits (turnsLeft turnAfterOn ClientSample.clientTurns (ClientSample.clientWorld .bytes))
+clients-sample =
+    (((ClientSample.client-passes, ClientSample.client-unprepared), (ClientSample.client-unused, ClientSample.client-clocks)), ClientSample.client-closing)
+
+-- what each turn is refused with, the last one first, what was committed, and the bytes that all this leaves
+pub clients-sample-recovered : (ClientSample.clientRefusals ≡ 0 ∷ 0 ∷ 0 ∷ 3 ∷ 0 ∷ 0 ∷ 0 ∷ 0 ∷ 0 ∷ 0 ∷ 0 ∷ 0 ∷ 0 ∷ 0 ∷ 0 ∷ 0 ∷ 0 ∷ [])
+    × ((modelOn ClientSample.clientTurns (ClientSample.clientWorld .bytes) .committed ≡ 1 ∷ [])
+    × (bytesRecovered ClientSample.clientVisits ClientSample.clientTurns (ClientSample.clientWorld .bytes) ≡ ClientSample.clientRecovered))
+clients-sample-recovered = (ClientSample.client-refusals, (ClientSample.client-committed, ClientSample.client-recovered))
 
 -- "if COMMITTED was written, the next reader finishes it": the next visit of a line PREPARED by a COMMITTED owner, and the next read of it as a new key, leave
 -- it rolled forward, at any reading of the clock
