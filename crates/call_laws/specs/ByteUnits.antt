@@ -1,6 +1,6 @@
 -- T2 over bytes: a write to lines of one unit leaves the coordinator's bytes and the bytes of every other line; any other write leaves the record sheet's.
 -- Lines of a sheet that passes stand at multiples of their length, before and after, and a record that stays has the same text.
-use Rattle.lists.specs.Basics.{_≡_, refl, sym, ap, subst, _∙_, ℕ, _*_, _/_, _^_, _≤_, _<_, ltb, Bool, true, false, List, [], map, length, take, drop, getD}
+use Rattle.lists.specs.Basics.{_≡_, refl, sym, ap, subst, _∙_, ℕ, _*_, _/_, _≤_, _<_, ltb, Bool, true, false, List, [], map, length, take, drop, getD}
 use Rattle.lists.specs.Basics.{length-map, drop-of-length-le, List·getD-map, arith, ltb-true, ltb-false, tests}
 use Rattle.lists.specs.All.{getD-any}
 use Rattle.model.specs.Types.{Record, At, Transaction, Request}
@@ -9,7 +9,7 @@ use Rattle.model.specs.Records.{records, recordsText, recordIn, recordText, rec
 use Rattle.model.specs.Coordinator.{coordinatorText}
 use Rattle.model.specs.SheetCalls.{lineAt}
 use Rattle.model.specs.Writes.{Write, sheetsGood, lineAfter, linesAfter, apply}
-use Rattle.model.specs.Results.{Call, advance, Result, writeOf, Answer}
+use Rattle.model.specs.Results.{Call, Result, writeOf, Answer}
 use Rattle.model.specs.CallByPlace.{callAt, resultAt}
 use Rattle.model.specs.Histories.{written, after, ClockFits}
 use Rattle.model.specs.ByteHistories.{Bytes, saying, Passing, afterOn}

@@ -2,6 +2,7 @@
 ghost use mathlib.Core.Path.{_≡_};
 ghost use Prim.Native.Nat.{_≤_};
 ghost use Rattle.script_calls.specs.Parts.{keyFrom, asksLine, partAsked};
+use cores::Performed;
 use script::reply;
 use script::reply::Form;
 use script::reply::Reply;
@@ -12,6 +13,7 @@ use types::Entry;
 use types::Found;
 use types::Image;
 use types::Key;
+use types::Request;
 use types::Transaction;
 
 // What a call on a slot leaves: its transaction and the reply.
@@ -44,23 +46,6 @@ pub fn check(records: &[u8], coordinator: &[u8]) -> Reply
     ensures { λ r. ⌜ r .count ≤ 102 ⌝ }
 {
     reply::unless_refused(sheets::check::check(records, coordinator), ok())
-}
-
-fn visit_form(reply: u32) -> Form {
-    match reply {
-        0 => Form::Stays,
-        1 => Form::Forward,
-        2 => Form::Back,
-        _ => Form::Again,
-    }
-}
-
-pub fn visit(n: [u32; 14], records: &mut [u8], coordinator: &mut [u8]) -> Reply
-    ensures { λ r. ⌜ r .count ≤ 102 ⌝ }
-{
-    let visited = engine::visit(key_at(n, 0), n[5], records, coordinator);
-    let form = visit_form(visited.reply);
-    reply::unless_refused(visited.refusal, reply::answer(form, 0, 0, 0, 0))
 }
 
 pub fn lookup(n: [u32; 14], records: &[u8]) -> Reply
@@ -110,28 +95,31 @@ pub fn part(c: Command, records: &[u8]) -> &[u8]
     sheets::lookup::lookup(records, key_at(n, 0))
 }
 
-// A refused begin leaves the slot as it was.
-fn begin(n: [u32; 14], t: Transaction, records: &[u8], coordinator: &mut [u8]) -> Done
-    ensures { λ r. ⌜ r .reply .count ≤ 102 ⌝ }
-{
-    if 1 < n[1] {
-        let reply = reply::bad_line();
-        return Done {
-            transaction: t,
-            reply,
-        };
+// What a line asks of the engine.
+fn request(kind: Kind, n: [u32; 14]) -> Request {
+    match kind {
+        Kind::Begin => Request::Begin(n[1] == 1),
+        Kind::Read => Request::Read(key_at(n, 1), n[6]),
+        Kind::Put => {
+            let columns = Columns {
+                column1: n[6],
+                column2: n[7],
+            };
+            Request::Put(key_at(n, 1), columns)
+        }
+        Kind::Advance => Request::Advance(n[1]),
+        Kind::Visit => Request::Visit(key_at(n, 0), n[5]),
+        _ => Request::Abort,
     }
-    let begun = engine::begin(n[1] == 1, records, coordinator);
-    if begun.refusal != 0 {
-        let reply = reply::refused(begun.refusal);
-        return Done {
-            transaction: t,
-            reply,
-        };
+}
+
+fn visit_form(reply: u32) -> Form {
+    match reply {
+        0 => Form::Stays,
+        1 => Form::Forward,
+        2 => Form::Back,
+        _ => Form::Again,
     }
-    let transaction = begun.transaction;
-    let reply = reply::answer(Form::Made, 1, transaction.number, 0, 0);
-    Done { transaction, reply }
 }
 
 // The reply of a read: 0 absent, 1 a value, 2 again.
@@ -145,47 +133,58 @@ fn reading(reply: u32, columns: Columns) -> Reply
     }
 }
 
-fn read(n: [u32; 14], t: Transaction, records: &mut [u8], coordinator: &mut [u8]) -> Done
+// What is printed of an accepted call.
+fn replied(kind: Kind, performed: Performed) -> Reply
+    ensures { λ r. ⌜ r .count ≤ 102 ⌝ }
+{
+    let t = performed.transaction;
+    let columns = performed.columns;
+    match kind {
+        Kind::Begin => reply::answer(Form::Made, 1, t.number, 0, 0),
+        Kind::Read => reading(performed.reply, columns),
+        Kind::Advance => reply::answer(Form::Made, 3, t.phase, t.place, t.verdict),
+        Kind::Visit => reply::answer(visit_form(performed.reply), 0, 0, 0, 0),
+        _ => ok(),
+    }
+}
+
+// A call of the engine on a transaction. A refused begin leaves it as it was.
+fn perform(
+    kind: Kind,
+    n: [u32; 14],
+    t: Transaction,
+    records: &mut [u8],
+    coordinator: &mut [u8],
+) -> Done
     ensures { λ r. ⌜ r .reply .count ≤ 102 ⌝ }
 {
-    let fetched = engine::read(t, key_at(n, 1), n[6], records, coordinator);
-    let transaction = fetched.transaction;
-    let columns = fetched.columns;
-    let reply = reply::unless_refused(fetched.refusal, reading(fetched.reply, columns));
+    let performed = engine::perform::perform(request(kind, n), t, records, coordinator);
+    let transaction = performed.transaction;
+    let reply = reply::unless_refused(performed.refusal, replied(kind, performed));
     Done { transaction, reply }
 }
 
-fn put(n: [u32; 14], t: Transaction, records: &[u8], coordinator: &[u8]) -> Done
-    ensures { λ r. ⌜ r .reply .count ≤ 102 ⌝ }
+// A visit takes no transaction, so that any will do.
+pub fn visit(n: [u32; 14], records: &mut [u8], coordinator: &mut [u8]) -> Reply
+    ensures { λ r. ⌜ r .count ≤ 102 ⌝ }
 {
-    let columns = Columns {
-        column1: n[6],
-        column2: n[7],
-    };
-    let stepped = engine::put(t, key_at(n, 1), columns, records, coordinator);
-    let transaction = stepped.transaction;
-    let reply = reply::unless_refused(stepped.refusal, ok());
-    Done { transaction, reply }
+    let none = transactions::new_transaction(0, false);
+    let done = perform(Kind::Visit, n, none, records, coordinator);
+    done.reply
 }
 
-fn advance(n: [u32; 14], t: Transaction, records: &mut [u8], coordinator: &mut [u8]) -> Done
+// A begin says 0 or 1 for checked.
+fn begin(n: [u32; 14], t: Transaction, records: &mut [u8], coordinator: &mut [u8]) -> Done
     ensures { λ r. ⌜ r .reply .count ≤ 102 ⌝ }
 {
-    let stepped = engine::advance(t, n[1], records, coordinator);
-    let transaction = stepped.transaction;
-    let u = transaction;
-    let stands = reply::answer(Form::Made, 3, u.phase, u.place, u.verdict);
-    let reply = reply::unless_refused(stepped.refusal, stands);
-    Done { transaction, reply }
-}
-
-fn abort(t: Transaction, records: &[u8], coordinator: &[u8]) -> Done
-    ensures { λ r. ⌜ r .reply .count ≤ 102 ⌝ }
-{
-    let stepped = engine::abort(t, records, coordinator);
-    let transaction = stepped.transaction;
-    let reply = reply::unless_refused(stepped.refusal, ok());
-    Done { transaction, reply }
+    if 1 < n[1] {
+        let reply = reply::bad_line();
+        return Done {
+            transaction: t,
+            reply,
+        };
+    }
+    perform(Kind::Begin, n, t, records, coordinator)
 }
 
 // The numbers of an entry, in the order of the line that sets one.
@@ -309,10 +308,9 @@ pub fn call(c: Command, t: Transaction, records: &mut [u8], coordinator: &mut [u
     let n = c.numbers;
     match kind {
         Kind::Begin => begin(n, t, records, coordinator),
-        Kind::Read => read(n, t, records, coordinator),
-        Kind::Put => put(n, t, records, coordinator),
-        Kind::Advance => advance(n, t, records, coordinator),
-        Kind::Abort => abort(t, records, coordinator),
+        Kind::Read | Kind::Put | Kind::Advance | Kind::Abort => {
+            perform(kind, n, t, records, coordinator)
+        }
         Kind::Show => show(t),
         Kind::Set => set(n, t),
         Kind::Entry => entry(n, t),

@@ -1,8 +1,7 @@
 -- The engine's answer is that of the definition, and its number is the definition's.
-use Rattle.lists.specs.Basics.{_≡_, sym, ap, subst, _∙_, ℕ, _+_, _≤_, eqb, cond, needs}
-use Rattle.model.specs.Types.{Transaction, Request}
+use Rattle.lists.specs.Basics.{sym, ap, subst, _∙_, ℕ, _+_, _≤_, eqb, cond, needs}
+use Rattle.model.specs.Types.{Transaction}
 use Rattle.model.specs.Refusals.{lastRefusal}
-use Rattle.model.specs.ByteCalls.{resultOn, recordsAfter, coordinatorAfter}
 use Rattle.model.specs.Requests.{callOf}
 use Rattle.cores.specs.declared.Performed.{Performed}
 use Rattle.c_api.specs.declared.Called.{Called}
