@@ -14,6 +14,7 @@ ghost use Rattle.c_api.specs.Asked.{requestOf, asks, naming, calledAtOn}
 ghost use Rattle.c_api.specs.ByPlace.{called};
 
 pub mod conversions;
+pub mod telling;
 
 use types::Columns;
 use types::Key;

@@ -23,3 +23,5 @@ pub mod Handed
 pub mod Turns
 pub mod Clients
 pub mod ByteUnits
+pub mod Told
+pub mod ToldTurns

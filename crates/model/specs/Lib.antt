@@ -25,6 +25,7 @@ pub mod SequentialModel
 pub mod RecoveryPass
 pub mod ByteHistories
 pub mod AtomicWrites
+pub mod Changes
 pub mod Turns
 pub mod Clients
 pub mod Recovered

@@ -93,14 +93,14 @@ fn replay(input: &mut [u8], from: usize, to: usize, coordinator: &mut [u8])
 fn history(input: &mut [u8]) {
     let head = script::head::read(input);
     if !head.good {
-        io::write_all(1, b"bad input\n");
+        streams::write(b"bad input\n");
         return;
     }
     let size = (head.coordinator + 1) * COORDINATOR_BYTES;
     let from = 9 + size;
     let to = from + head.records * RECORD_BYTES;
     if input.len() < to {
-        io::write_all(1, b"bad input\n");
+        streams::write(b"bad input\n");
         return;
     }
     let mut coordinator = blank_sheet();
@@ -109,9 +109,9 @@ fn history(input: &mut [u8]) {
 
 fn main() {
     let mut input = blank_input();
-    let n = io::read_full(0, &mut input);
+    let n = streams::read(&mut input);
     if LONGEST < n {
-        io::write_all(1, b"bad input\n");
+        streams::write(b"bad input\n");
         return;
     }
     history(&mut input[..n]);

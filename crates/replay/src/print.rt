@@ -12,7 +12,7 @@ fn byte(b: u8, out: &mut [u8; 4096], fill: usize) -> usize
         out[fill] = b;
         return fill + 1;
     }
-    io::write_all(1, out);
+    streams::write(out);
     out[0] = b;
     1
 }
@@ -104,7 +104,7 @@ fn flush(out: &[u8; 4096], fill: usize) -> usize
     ensures { λ r. ⌜ r ≡ 0 ⌝ }
 {
     let text: &[u8] = out;
-    io::write_all(1, &text[..fill]);
+    streams::write(&text[..fill]);
     0
 }
 
@@ -114,8 +114,8 @@ pub fn sheets(coordinator: &[u8], records: &[u8], out: &[u8; 4096], fill: usize)
     ensures { λ r. ⌜ r ≤ 4096 ⌝ }
 {
     let taken = flush(out, fill);
-    io::write_all(1, b"sheets\n");
-    io::write_all(1, coordinator);
-    io::write_all(1, records);
+    streams::write(b"sheets\n");
+    streams::write(coordinator);
+    streams::write(records);
     taken
 }

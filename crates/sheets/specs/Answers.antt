@@ -1,10 +1,11 @@
 -- What each call answers, case by case in the order of its conditions.
-use Rattle.lists.specs.Basics.{_≡_, refl, _∙_, ℕ, _+_, _*_, _≤_, Bool, true, false, _&&_, and-assoc, and-true, List, [], length, take, drop, getD, arith}
+use Rattle.lists.specs.Basics.{_≡_, refl, sym, _∙_, ℕ, _+_, _*_, _≤_, _<_, Bool, true, false, not, _&&_, and-assoc, and-true, List, [], _∷_, length, take, drop, getD, arith}
+use Rattle.lists.specs.Basics.{tests}
 use Rattle.model.specs.Types.{Key, Record, At, Nothing}
 use Rattle.model.specs.Layouts.{recordLayout, keyLayout, noColumn, recordBytes}
 use Rattle.model.specs.Lines.{inRange, rowGood}
-use Rattle.model.specs.Records.{noRecord, keyNumbers, records, recordsAccepted, keyInRange, sameKey, found, isMissing}
-use Rattle.model.specs.Refusals.{refusalOf}
+use Rattle.model.specs.Records.{noRecord, keyNumbers, records, recordsGood, recordsAccepted, keyInRange, sameKey, found, isMissing}
+use Rattle.model.specs.Refusals.{refuse, refusalOf}
 use Rattle.model.specs.Coordinator.{coordinatorAccepted}
 use Rattle.model.specs.SheetCalls.{allIssued, checkConditions, lookupConditions, lineAt, lookedUp}
 use Rattle.sheet_laws.specs.ByIndex.{length-records}
@@ -50,6 +51,24 @@ unfolding found
 found-fits s k i e =
     let x = first-at (λ (r : Record). sameKey (r .key) k) (records s) noRecord i e in
     omega (arith, x .within, length-records s)
+
+-- A look-up that is not refused: the sheet is accepted, the key is in range, and an index that was found is below 500.
+module _ (s : List ℕ) (k : Key) where
+  pub looked-up : refusalOf (lookupConditions s k) ≡ 0 → (recordsAccepted s ≡ true) × (keyInRange k ≡ true)
+  unfolding lookupConditions refusalOf
+  looked-up = go (recordsAccepted s) (keyInRange k)
+    where
+      go : (a b : Bool) → refusalOf (refuse 1 (not a) ∷ refuse 5 (not b) ∷ refuse 6 (isMissing (found k (records s))) ∷ []) ≡ 0 → (a ≡ true) × (b ≡ true)
+      go true true z = (refl, refl)
+      go true false z = absurd (omega (arith, z))
+      go false b z = absurd (omega (arith, z))
+
+  pub index-below : (i : ℕ) → refusalOf (lookupConditions s k) ≡ 0 → At i ≡ found k (records s) → i < 500
+  unfolding recordsAccepted recordsGood
+  index-below i z e =
+      let a = looked-up z .0 in
+      let l : length (records s) ≤ 500 = search tests in
+      omega (arith, found-fits s k i (sym e), length-records s)
 
 -- The check of both sheets.
 module _ (rs cs : List ℕ) where

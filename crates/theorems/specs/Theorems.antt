@@ -1,7 +1,8 @@
 -- What is proved of the engine: every headline statement, in the words of the definitions of `model`, each by citing the law that proves it.
 -- The engine's contracts cite the same definitions, so that what holds of `answerOn`, `afterOn` and `resultAtOn` holds of the functions that run.
-use Rattle.lists.specs.Basics.{_≡_, ap, _∙_, ℕ, _^_, _≤_, _<_, true, List, [], _∷_, map, some, all}
+use Rattle.lists.specs.Basics.{_≡_, ap, _∙_, ℕ, _%_, _^_, _≤_, _<_, true, List, [], _∷_, map, length, some, all}
 use Rattle.model.specs.Types.{Key, Record, Committed, Transaction, Forward, Request}
+use Rattle.model.specs.Layouts.{recordBytes}
 use Rattle.model.specs.Records.{records, recordsText, recordsGood, recordsAccepted, lineOf, hasLine}
 use Rattle.model.specs.Coordinator.{Coordinator, coordinatorOf, coordinatorText, coordinatorGood, coordinatorAccepted}
 use Rattle.model.specs.Refusals.{Condition, askingOrder, firstAsked}
@@ -15,6 +16,7 @@ use Rattle.model.specs.CallByPlace.{callAt, allConditionsAt, resultAtOn, listAf
 use Rattle.model.specs.Histories.{ClockFits}
 use Rattle.model.specs.ByteHistories.{Bytes, saying, Passing, bytesAfter, answerOn, afterOn}
 use Rattle.model.specs.AtomicWrites.{OneUnit}
+use Rattle.model.specs.Changes.{linesStored, toldOf, ToldAtomic}
 use Rattle.model.specs.RecoveryPass.{Visit, nonePrepared, Closing}
 use Rattle.model.specs.Turns.{Turn, byPlace, turnEventOn, turnAfterOn, turnsLeft, LegalTurns}
 use Rattle.model.specs.Clients.{Act, World, Unused, turnsOf, clockFits}
@@ -28,6 +30,8 @@ use Rattle.call_laws.specs.ByPlace as ByPlace
 use Rattle.call_laws.specs.ByteUnits as ByteUnits
 use Rattle.call_laws.specs.Turns as TurnLaws
 use Rattle.call_laws.specs.Clients as Clients
+use Rattle.call_laws.specs.Told as Told
+use Rattle.call_laws.specs.ToldTurns as ToldTurns
 use Rattle.recovery.specs.PassExists.{recoveryPass}
 use Rattle.recovery.specs.NextReader as NextReader
 use Rattle.recovery.specs.Bytes as Recovery
@@ -71,6 +75,15 @@ single-unit c b l p = ByteUnits.call-unit c b l p
 
 pub single-unit-by-place : (list : List Transaction) (place : ℕ) (q : Request) (b : Bytes) → ClockFits (callAt list place q) → Passing b → OneUnit b (turnAfterOn (byPlace list place q) b)
 single-unit-by-place list place q b l p = ByteUnits.place-unit list place q b l p
+
+-- and so is a client told that keeps both sheets from before a turn: nothing, the coordinator sheet, or lines of one unit, and never both sheets
+pub told-atomic : (x : Turn) (b : Bytes) (target : List ℕ) → length target ≡ 2 → ClockFits (turnEventOn x b .call) → Passing b
+    → ToldAtomic b (turnAfterOn x b) (toldOf b (turnAfterOn x b) target)
+told-atomic x b target n l p = ToldTurns.told-of-turn x b target n l p
+
+-- storing the lines told over the record sheet from before gives the one after
+pub told-suffices : (before after : List ℕ) → length before ≡ length after → length before % recordBytes ≡ 0 → linesStored before after ≡ after
+told-suffices before after n w = Told.told-suffices before after n w
 
 -- accepted sheets stay accepted, and a transaction that is returned is well formed on the sheets that the turn leaves
 pub sheets-stay-accepted : (x : Turn) (b : Bytes) → ClockFits (turnEventOn x b .call) → Passing b → Passing (turnAfterOn x b)

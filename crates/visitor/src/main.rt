@@ -8,7 +8,7 @@ fn main() {
     let mut input = [0u8; MOST];
     let mut work = [0u8; MOST_RECORD_BYTES];
     let mut output = [0u8; sweep::MOST_OUTPUT];
-    let n = io::read_full(0, &mut input);
+    let n = streams::read(&mut input);
     let printed = sweep::run(&input[..n], &mut work, &mut output);
-    io::write_all(1, &output[..printed]);
+    streams::write(&output[..printed]);
 }

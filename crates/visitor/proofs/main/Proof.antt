@@ -8,10 +8,10 @@ use Rattle.visitor.proofs.main.Tie as tie
 array-share-prefix-output : tie.Need-array-share-prefix-output
 array-share-prefix-output c = answer-within _ _ _ _ _ (c .before .before .run .ensures .0) (c .before .before .run .ensures .1 .0)
 
-slice-aggregate-write-all : tie.Need-slice-aggregate-write-all
-slice-aggregate-write-all c = sym (length-take-le _ _ (answer-within _ _ _ _ _ (c .before .before .before .run .ensures .0) (c .before .before .before .run .ensures .1 .0)))
+slice-aggregate-write : tie.Need-slice-aggregate-write
+slice-aggregate-write c = sym (length-take-le _ _ (answer-within _ _ _ _ _ (c .before .before .before .run .ensures .0) (c .before .before .before .run .ensures .1 .0)))
 
 pub main-spec : {M : Type 1} → statement M
 main-spec =
     tie.close (tie.spec (λ c. search needs) (λ c κs. search needs) (λ c. search needs) (λ c. search needs) (λ c. search needs) (λ c. search needs)
-    (λ c κs. search needs) array-share-prefix-output slice-aggregate-write-all (λ c κs. search needs) (λ c. search needs))
+    (λ c κs. search needs) array-share-prefix-output slice-aggregate-write (λ c κs. search needs) (λ c. search needs))

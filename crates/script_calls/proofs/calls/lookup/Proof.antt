@@ -1,6 +1,6 @@
 -- A look-up that is not refused has an accepted sheet and a key in range, so that the search may go on and its index is small.
 use Rattle.lists.specs.Basics.{sym, _∙_, arith, needs}
-use Rattle.script_calls.specs.Lookups.{looked-up, index-below}
+use Rattle.sheets.specs.Answers.{looked-up, index-below}
 use Rattle.script_calls.proofs.calls.lookup.Statement.{statement}
 use Rattle.script_calls.proofs.calls.lookup.Tie as tie
 
@@ -9,9 +9,8 @@ find-requires c κs = looked-up (c .before .before .before .before .args .record
 
 cast-answer : tie.Need-cast-answer
 cast-answer c =
-    let a1 = c .before .before .before .before .before .before .before .before .args in
-    let a = looked-up (a1 .records .now) (c .before .before .before .before .before .before .key-at .result) (sym (c .before .before .before .before .before .lookup-refusal .ensures) ∙ c .before .before .before .before .if1 .left) in
-    let l = index-below (a1 .records .now) (c .before .before .before .before .before .before .key-at .result) (c .before .i .given .0 .0) (a .0) (sym (c .before .before .before .find .ensures) ∙ c .before .i .given .1) in
+    let z = sym (c .before .before .before .before .before .lookup-refusal .ensures) ∙ c .before .before .before .before .if1 .left in
+    let l = index-below _ _ _ z (sym (c .before .i .given .1) ∙ c .before .before .before .find .ensures) in
     omega arith
 
 pub lookup-spec : {M : Type 1} → statement M

@@ -1,0 +1,137 @@
+-- What is told of a turn on accepted sheets. Sheets keep their lengths, so that nothing is refused; lines that differ are of the one unit that the turn may
+-- write, and then the coordinator sheet stays.
+use Rattle.lists.specs.Basics.{_≡_, refl, sym, ap, _∙_, ℕ, zero, suc, _+_, _*_, _/_, _%_, _^_, _≤_, _<_, eqb, Bool, true, false, not}
+use Rattle.lists.specs.Basics.{true≢false, List, length, length-drop, length-set, arith, eqb-true, eq-eqb, lt-leb, tests, eqList}
+use Rattle.lists.specs.Basics.{eqList-true, eqList-refl}
+use Rattle.model.specs.Types.{At}
+use Rattle.model.specs.Layouts.{recordBytes, coordinatorBytes}
+use Rattle.model.specs.Records.{records, recordsGood, recordsAccepted}
+use Rattle.model.specs.Coordinator.{Coordinator, coordinatorOf, coordinatorAccepted, withDecision, withIssued}
+use Rattle.model.specs.Refusals.{refusalOf}
+use Rattle.model.specs.SheetCalls.{lineAt}
+use Rattle.model.specs.Writes.{Sheets, Write, nothing, issue, decide, commit, prepare, forward, back, decisionsAfter, apply}
+use Rattle.model.specs.Histories.{after, ClockFits}
+use Rattle.model.specs.ByteHistories.{Bytes, saying, Passing}
+use Rattle.model.specs.AtomicWrites.{scopeAt, OneUnit, lines-of-one-unit, coordinator-only}
+use Rattle.model.specs.Turns.{Turn, single, byPlace, turnEventOn, turnAfter, turnAfterOn}
+use Rattle.model.specs.Changes.{differs, reachOf, lastReach, lengthConditions, sheetsTold, writtenConditions, writtenNumber, toldOf, ToldAtomic, nothing-told}
+use Rattle.model.specs.Changes.{coordinator-told, lines-told}
+use Rattle.sheet_laws.specs.ByIndex.{whole-lines, length-records}
+use Rattle.sheet_laws.specs.Decisions.{accepted-parts, accepted-length, length-decisions}
+use Rattle.call_laws.specs.Lifting.{passing-parts}
+use Rattle.call_laws.specs.Turns.{turn-stays-passing}
+use Rattle.call_laws.specs.ByteUnits.{call-unit, place-unit}
+use Rattle.call_laws.specs.Told.{told-none}
+
+-- The sheets keep their lengths.
+
+few-lines : (s : List ℕ) → recordsAccepted s ≡ true → length s / recordBytes ≤ 500
+unfolding recordsAccepted recordsGood
+few-lines s a = let l : length (records s) ≤ 500 = search tests in omega (arith, length-records s)
+
+decisions-kept : (w : Write) (c : Coordinator) → length (decisionsAfter w c .decisions) ≡ length (c .decisions)
+unfolding decisionsAfter withDecision withIssued
+decisions-kept nothing c = refl
+decisions-kept issue c = refl
+decisions-kept (decide zero d) c = refl
+decisions-kept (decide (suc i) d) c = length-set (c .decisions) i d
+decisions-kept (commit n es) c = refl
+decisions-kept (prepare n now es) c = refl
+decisions-kept (forward n ks) c = refl
+decisions-kept (back n ks) c = refl
+
+turn-decisions : (x : Turn) (s : Sheets) → length (turnAfter x s .coordinator .decisions) ≡ length (s .coordinator .decisions)
+unfolding turnAfter after apply
+turn-decisions (single c) s = decisions-kept _ (s .coordinator)
+turn-decisions (byPlace list place q) s = decisions-kept _ (s .coordinator)
+
+-- a head and a line for each decision
+coordinator-size : (s : List ℕ) → coordinatorAccepted s ≡ true → length s ≡ coordinatorBytes + length (coordinatorOf s .decisions) * coordinatorBytes
+coordinator-size s a = omega (arith, accepted-length s a, accepted-parts s a .whole, length-decisions s, length-drop coordinatorBytes s)
+
+coordinator-length : (x : Turn) (b : Bytes) → ClockFits (turnEventOn x b .call) → Passing b → length (b .coordinator) ≡ length (turnAfterOn x b .coordinator)
+coordinator-length x b l p =
+    let t = turn-stays-passing x b l p in
+    let n : length (coordinatorOf (turnAfterOn x b .coordinator) .decisions) ≡ length (coordinatorOf (b .coordinator) .decisions) =
+    ap (λ (s : Sheets). length (s .coordinator .decisions)) (t .0) ∙ turn-decisions x (saying b) in
+    coordinator-size (b .coordinator) (passing-parts b p .1 .0)
+    ∙ (ap (λ (m : ℕ). coordinatorBytes + m * coordinatorBytes) (sym n)
+    ∙ sym (coordinator-size (turnAfterOn x b .coordinator) (passing-parts (turnAfterOn x b) (t .1) .1 .0)))
+
+-- What is told where nothing is refused.
+
+not-refused : (a b c d e : ℕ) → a ≡ b → a % recordBytes ≡ 0 → a / recordBytes < 2 ^ 32 → e ≡ 2 → c ≡ d → refusalOf (lengthConditions a b c d e) ≡ 0
+unfolding lengthConditions refusalOf
+not-refused a b c d e s w l t q =
+    rw (eq-eqb a b s, eq-eqb (a % recordBytes) 0 w, lt-leb (2 ^ 32) (a / recordBytes) l, eq-eqb e 2 t, eq-eqb c d q)
+
+-- a sheet has no line that differs from its own
+reach-same : (s : List ℕ) (n : ℕ) → reachOf s s n ≡ 0
+unfolding reachOf
+reach-same s zero = refl
+reach-same s (suc n) = let e : eqList (lineAt s (At n)) (lineAt s (At n)) ≡ true = eqList-refl (lineAt s (At n)) in rw e (reach-same s n)
+
+module _ (b a : Bytes) where
+  abbrev rs : List ℕ
+  rs = b .records
+
+  abbrev rs′ : List ℕ
+  rs′ = a .records
+
+  -- a line that differs is of the unit written
+  of-unit : (unit : List ℕ) → ((i : ℕ) → (scopeAt i b ≡ unit → ⊥) → lineAt rs′ (At i) ≡ lineAt rs (At i))
+      → (i : ℕ) → differs rs rs′ i ≡ true → scopeAt i b ≡ unit
+  of-unit unit f i d = go (eqList (scopeAt i b) unit) refl
+    where
+      go : (x : Bool) → eqList (scopeAt i b) unit ≡ x → scopeAt i b ≡ unit
+      go true e = eqList-true (scopeAt i b) unit e
+      go false e =
+          let o : lineAt rs′ (At i) ≡ lineAt rs (At i) = f i (λ q. true≢false (sym (eqList-refl unit) ∙ (ap (λ (u : List ℕ). eqList u unit) (sym q) ∙ e))) in
+          let s : eqList (lineAt rs (At i)) (lineAt rs′ (At i)) ≡ true = ap (eqList (lineAt rs (At i))) o ∙ eqList-refl (lineAt rs (At i)) in
+          absurd (true≢false (sym d ∙ ap not s))
+
+  -- the sheets' lengths let the call pass
+  module _ (whole : length rs % recordBytes ≡ 0) where
+    told-by-unit : OneUnit b a → ToldAtomic b a (sheetsTold rs rs′ (b .coordinator) (a .coordinator))
+    told-by-unit (coordinator-only e) = go (eqList (b .coordinator) (a .coordinator)) refl
+      where
+        none : lastReach rs rs′ ≡ 0
+        none = ap (λ (s : List ℕ). reachOf rs s (length rs / recordBytes)) e ∙ reach-same rs (length rs / recordBytes)
+
+        go : (x : Bool) → eqList (b .coordinator) (a .coordinator) ≡ x → ToldAtomic b a (sheetsTold rs rs′ (b .coordinator) (a .coordinator))
+        go true c = nothing-told (rw (c, none)) (λ i. record { records = e i; coordinator = sym (eqList-true (b .coordinator) (a .coordinator) c) i })
+        go false c = coordinator-told (rw (c, none)) e
+    told-by-unit (lines-of-one-unit unit c n f) = go (eqb (lastReach rs rs′) 0) refl
+      where
+        stays : eqList (b .coordinator) (a .coordinator) ≡ true
+        stays = ap (eqList (b .coordinator)) c ∙ eqList-refl (b .coordinator)
+
+        go : (x : Bool) → eqb (lastReach rs rs′) 0 ≡ x → ToldAtomic b a (sheetsTold rs rs′ (b .coordinator) (a .coordinator))
+        go true e =
+            let s = told-none rs rs′ (sym n) whole (eqb-true (lastReach rs rs′) 0 e) in
+            nothing-told (rw (stays, e)) (λ i. record { records = sym s i; coordinator = c i })
+        go false e = lines-told (rw (stays, e)) c (λ i j p q. of-unit unit f i p ∙ sym (of-unit unit f j q))
+
+-- "writes to at most one unit or the coordinator sheet", by turn
+pub turn-unit : (x : Turn) (b : Bytes) → ClockFits (turnEventOn x b .call) → Passing b → OneUnit b (turnAfterOn x b)
+unfolding turnEventOn turnAfterOn
+turn-unit (single c) b l p = call-unit c b l p
+turn-unit (byPlace list place q) b l p = place-unit list place q b l p
+
+same-size : (b a : Bytes) → OneUnit b a → length (b .records) ≡ length (a .records)
+same-size b a (lines-of-one-unit unit c n f) = sym n
+same-size b a (coordinator-only e) = sym (ap length e)
+
+pub told-of-turn : (x : Turn) (b : Bytes) (target : List ℕ) → length target ≡ 2 → ClockFits (turnEventOn x b .call) → Passing b
+    → ToldAtomic b (turnAfterOn x b) (toldOf b (turnAfterOn x b) target)
+unfolding writtenNumber
+told-of-turn x b target t l p =
+    let a = turnAfterOn x b in
+    let u = turn-unit x b l p in
+    let r = passing-parts b p .0 in
+    let w : length (b .records) % recordBytes ≡ 0 = omega (arith, whole-lines (b .records) r) in
+    let f : length (b .records) / recordBytes < 2 ^ 32 = omega (arith, few-lines (b .records) r) in
+    let n = refusalOf (writtenConditions (b .records) (a .records) (b .coordinator) (a .coordinator) target) in
+    let z : n ≡ 0 = not-refused _ _ _ _ _ (same-size b a u) w f t (coordinator-length x b l p) in
+    let e : eqb n 0 ≡ true = eq-eqb n 0 z in
+    rw e (told-by-unit b a w u)
