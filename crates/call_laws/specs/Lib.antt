@@ -19,9 +19,7 @@ pub mod Accepted
 pub mod Lent
 pub mod ByPlace
 pub mod Moved
-pub mod Handed
 pub mod Turns
-pub mod Clients
 pub mod ByteUnits
 pub mod Told
 pub mod ToldTurns

@@ -1,5 +1,5 @@
 -- Clients that keep their transactions in lists and change these only by calls by place. What they do makes a history of turns, and a legal one whatever they
--- do and in whatever order: call_laws Clients. A client is known by its number.
+-- do and in whatever order: crate `clients`. A client is known by its number.
 use Rattle.lists.specs.Basics.{_≡_, ℕ, _^_, eqb, ltb, Bool, true, false, cond, List, [], _∷_, _++_, replicate}
 use Rattle.model.specs.Types.{Key, Transaction, Request}
 use Rattle.types.specs.declared.Request.the-variants as asked

@@ -14,7 +14,7 @@ use Rattle.model.specs.ByteHistories.{Bytes, saying, Passing, answerOn, afterOn
 use Rattle.model.specs.Turns.{Turn, turnEventOn, turnAfterOn, turnsLeft, turnEvents, LegalTurns}
 use Rattle.model.specs.Recovered.{modelOn, bytesRecovered}
 use Rattle.model.specs.Clients.{Act, asks, loses, visits, begins, World, unused, Unused, turnsIn, listsAfter, worldAfter, turnsOf, clockAsked, clockFits}
-use Rattle.call_laws.specs.Clients.{unused-number, clients-legal}
+use Rattle.clients.specs.Clients.{unused-number, clients-legal}
 use Rattle.recovery.specs.PassExists.{recoveryPass}
 use Rattle.recovery.specs.Bytes.{recovery-pass-exists}
 use Rattle.theorems.specs.Tables.{keyA, keyB, columns, told}

@@ -29,7 +29,7 @@ use Rattle.call_laws.specs.Exactness as Exactness
 use Rattle.call_laws.specs.ByPlace as ByPlace
 use Rattle.call_laws.specs.ByteUnits as ByteUnits
 use Rattle.call_laws.specs.Turns as TurnLaws
-use Rattle.call_laws.specs.Clients as Clients
+use Rattle.clients.specs.Clients as Clients
 use Rattle.call_laws.specs.Told as Told
 use Rattle.call_laws.specs.ToldTurns as ToldTurns
 use Rattle.recovery.specs.PassExists.{recoveryPass}

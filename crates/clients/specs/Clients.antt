@@ -14,11 +14,11 @@ use Rattle.model.specs.Histories.{Event, written, after, given, takenBy, taken,
 use Rattle.model.specs.ByteHistories.{Bytes, saying, Passing, answerOn}
 use Rattle.model.specs.Turns.{Turn, single, byPlace, turnAfter, turnEventOn, turnAfterOn, turnsLeft, LegalTurns}
 use Rattle.model.specs.Clients.{Act, asks, loses, visits, begins, World, unused, Unused, withList, turnsIn, listsAfter, worldAfter, turnsOf, clockAsked, clockFits}
 use Rattle.call_laws.specs.Keeping.{issued-grows}
 use Rattle.call_laws.specs.Lifting.{on-passing}
 use Rattle.call_laws.specs.ByPlace.{leftWith, others-stay}
-use Rattle.call_laws.specs.Handed.{Handed, stays, begun, moves, place-hands, left-at-place}
+use Rattle.clients.specs.Handed.{Handed, stays, begun, moves, place-hands, left-at-place}
 use Rattle.call_laws.specs.Turns.{turn-stays-passing}
 
 -- a place in a client's list
 record Slot : Type 0 where

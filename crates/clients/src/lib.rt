@@ -1,0 +1,1 @@
+// Theorems about clients that keep lists of transactions (specs/); no code.
