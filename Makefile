@@ -1,6 +1,7 @@
-# The commands of the README. `make test` is the whole gate.
-.PHONY: test proofs apart wrong reference-tests programs outside histories visits visit differ soak faults bench archive client client-test install
+# The commands of the README; `make help` prints them. A line `##` says what the target below it does.
+.PHONY: test help proofs apart wrong reference-tests programs outside histories visits streams visit differ soak faults bench archive shared client client-test stack install clean
 
+## everything that is claimed, from nothing; the last line is `N passed, 0 failed`
 # Everything is proved from nothing first, since `rt ci` removes what was built; beside it runs what needs nothing that is built. What is built is then held
 # from outside, and the last line is that of `rt ci`.
 test:
@@ -10,84 +11,113 @@ test:
 	$(MAKE) --no-print-directory outside
 	@tail -n 1 target/ci.log
 
+## this list
+help:
+	@awk '/^## / { text = substr($$0, 4) } /^[a-z-]+:/ && text { sub(":.*", ""); printf "make %-16s%s\n", $$0, text; text = "" }' Makefile
+
+## every crate from nothing by `rt ci`, and the seconds of each
 proofs:
 	tests/prove.sh
 
-# one after another, in the time that `rt ci` leaves
+## what needs nothing that is built: wrong, reference-tests and faults, one after another in the time that `rt ci` leaves
 apart:
 	nice -n 19 $(MAKE) --no-print-directory -j1 wrong reference-tests faults
 
-# the separate implementation's own tests
+## the separate implementation's own tests
 reference-tests:
 	cd reference && cargo test --release --quiet
 
-# wrong definitions that the theorems must refuse
+## wrong definitions that the theorems must refuse
 wrong:
 	python3 tests/wrong_definitions/run.py
 
-# what is built, held from outside to stored output and to the separate implementation
-outside: histories visits client-test differ
+## what is built, held from outside: histories, visits, streams, client-test and differ
+outside: histories visits streams client-test differ
 
-# the programs, proved and built
+## the programs replay and visitor, proved and built in target/bin
 programs:
-	rt check replay visitor
+	@tools/quiet.sh programs rt check replay visitor
 
-# the learners' histories, and what the replay program must print of each
+## the learners' histories, and what the replay program must print of each
 histories: programs
 	python3 tests/replay/run.py
 
-# inputs of the visiting program, and what it must print of each
+## inputs of the visiting program, and what it must print of each
 visits: programs
 	python3 tests/visitor/run.py
 
-# the visiting program on an example, before and after side by side
+## what both programs tell where they can't read or write
+streams: programs
+	tests/streams/run.sh
+
+## the visiting program on an example, before and after side by side
 visit:
-	rt check visitor
-	python3 examples/visit.py
+	@tools/quiet.sh visitor rt check visitor
+	@python3 examples/visit.py
 
-# the engine as an archive for C and Rust, made anew where a crate has changed
-ARCHIVE = target/staticlib/libc_api.a
-
-archive: $(ARCHIVE)
-
-$(ARCHIVE): crates.txt $(shell find crates -name '*.rt' -o -name '*.antt')
-	rt staticlib c_api
-
-# the engine held against the separate implementation, byte for byte
+## the engine held against the separate implementation, byte for byte
 differ: archive programs
 	cd reference && cargo run --release --quiet --features engine --bin differ
 
-# the same until 3,000,000 calls or 600 seconds; SEED=n repeats a run
+## the same until 3,000,000 calls or 600 seconds; SEED=n repeats a run
 SEED ?= $(shell date +%s)
 soak: archive programs
 	cd reference && cargo run --release --quiet --features engine --bin differ 3000000 $(SEED) 600
 
-# the comparison itself: faults in the separate implementation, each of which must show as a difference within a third of its calls
+## the comparison itself: faults in the separate implementation, each of which must show as a difference within a third of its calls
 faults:
 	cd reference && cargo run --release --quiet --features faults --bin faults
 
-# the engine's time beside a baseline in safe Rust, printed and drawn
+## the engine's time beside a baseline in safe Rust, printed and drawn
 bench: archive
 	cd reference && cargo run --release --quiet --features engine --bin bench ../docs/bench.svg
 
-# the client in C of examples/, with its output on standard output
+# made anew where a crate has changed
+ARCHIVE = target/staticlib/libc_api.a
+
+## the engine as an archive for C and Rust, target/staticlib/libc_api.a
+archive: $(ARCHIVE)
+
+$(ARCHIVE): crates.txt $(shell find crates -name '*.rt' -o -name '*.antt')
+	@tools/quiet.sh archive rt staticlib c_api
+
+# The header has the version. A library with another major number is another library.
+VERSION := $(shell sed -n 's/^\#define RAPYHEO_VERSION_M[A-Z]* \|^\#define RAPYHEO_VERSION_PATCH //p' include/rapyheo.h | paste -s -d .)
+SONAME = librapyheo.so.$(firstword $(subst ., ,$(VERSION)))
+SHARED = target/shared/librapyheo.so.$(VERSION)
+
+## the same as a shared library, target/shared/librapyheo.so
+shared: $(SHARED)
+
+# Nothing of the archive may want to be changed when it is loaded (-z text), nor be missing (-z defs).
+$(SHARED): $(ARCHIVE) include/rapyheo.map include/rapyheo.h
+	@mkdir -p target/shared
+	$(CC) -shared -Wl,-soname,$(SONAME) -Wl,--version-script=include/rapyheo.map -Wl,-z,text -Wl,-z,defs -o $@ -Wl,--whole-archive $(ARCHIVE) -Wl,--no-whole-archive
+	@ln -sf $(notdir $@) target/shared/$(SONAME)
+	@ln -sf $(SONAME) target/shared/librapyheo.so
+
 CFLAGS = -std=c11 -Wall -Wextra -Werror -pedantic
 
+## the client in C of examples/, with its output
 client: archive
 	$(CC) $(CFLAGS) -Iinclude -o target/client examples/client.c $(ARCHIVE)
 	./target/client
 
-# the header, the client and an installed copy of both
+## header, clients in C, C++, Python and Rust, installed copies of the library, and a client that is killed
 client-test:
 	tests/c_client/run.sh
 
-# header, archive and pkg-config file
-PREFIX = /usr/local
-INSTALLED = $(DESTDIR)$(PREFIX)
+## how much stack each exported function needs, measured
+stack: archive
+	$(CC) $(CFLAGS) -O2 -Iinclude -o target/stack tests/c_client/stack.c $(ARCHIVE)
+	./target/stack
 
-install: archive
-	install -d $(INSTALLED)/include $(INSTALLED)/lib/pkgconfig
-	install -m 644 include/rapyheo.h $(INSTALLED)/include/rapyheo.h
-	install -m 644 $(ARCHIVE) $(INSTALLED)/lib/librapyheo.a
-	sed 's|@PREFIX@|$(PREFIX)|' include/rapyheo.pc.in > $(INSTALLED)/lib/pkgconfig/rapyheo.pc
-	chmod 644 $(INSTALLED)/lib/pkgconfig/rapyheo.pc
+## header, archive, shared library and pkg-config file under PREFIX (/usr/local); DESTDIR goes before it
+PREFIX = /usr/local
+export PREFIX DESTDIR VERSION SONAME SHARED ARCHIVE
+install: archive shared
+	@tools/install.sh
+
+## removes all that was built
+clean:
+	rm -rf target reference/target

@@ -1,16 +1,16 @@
-/* A client in C: two orders over three records in two storages. The first client dies between its two prepares, and visits after expiry undo
- * its order; the second dies after its decision, and visits finish it. Every step is printed with both sheets after it. Last, both sheets are
- * read to numbers and written from them. */
+/* A client in C, which closes orders over three records in two stores by the calls by place. One order goes through in two phases and one in one
+ * phase, calls are refused and an order is given up, and twice a client dies in the middle: visits undo what it had prepared, or finish what it
+ * had decided. Every call is printed with what it answered and what it wrote. client.py and client.rs are the same walk. */
 #include <inttypes.h>
 #include <stdio.h>
 #include <string.h>
 
 #include "rapyheo.h"
 
-enum { LINES = 3, NUMBERS = 3, PLACES = 4, OVER = RAPYHEO_LIST + 1 };
+enum { LINES = 3, NUMBERS = 6, PLACES = 2 };
 enum { ROWS = LINES * RAPYHEO_RECORD_NUMBERS, DECISIONS = RAPYHEO_HEAD_NUMBERS + NUMBERS };
 
-/* Stock, account, and a delivery note that does not exist yet. A storage is written as a whole (unit S), so an order over both has two groups. */
+/* Stock, account, and a delivery note that does not exist yet. A store is written as a whole (unit S), so an order over both has two groups. */
 static uint8_t records[LINES * RAPYHEO_RECORD_BYTES + 1] =
     " 1  1  1     1     1 COMMITTED     1   0      500      250     0   0        0        0          0\n"
     " 2  1  1     1     1 COMMITTED     4   0      900        0     0   0        0        0          0\n"
@@ -20,130 +20,205 @@ static uint8_t coordinator[(1 + NUMBERS) * RAPYHEO_COORDINATOR_BYTES + 1] =
     "   0 SSSSSSSSS\n"
     "   1         -\n"
     "   2         -\n"
-    "   3         -\n";
+    "   3         -\n"
+    "   4         -\n"
+    "   5         -\n"
+    "   6         -\n";
 
 /* Without the zero that ends a string in C. */
 static const size_t records_length = sizeof records - 1;
 static const size_t coordinator_length = sizeof coordinator - 1;
 
-static const rapyheo_key stock = {1, 1, 1, 1, 1};
-static const rapyheo_key account = {2, 1, 1, 1, 1};
-static const rapyheo_key note = {2, 1, 1, 1, 2};
+/* The client's own transactions. An unused one is all zeros, and only calls change one. */
+static rapyheo_transaction list[PLACES];
 
-static void show(void) { printf("%s%s\n", (const char *)coordinator, (const char *)records); }
+typedef struct named_key {
+    const char *name;
+    rapyheo_key key;
+} named_key;
 
-/* A refusal as such, and what an accepted call gives by its name. */
-static void say(uint32_t answer, const char *given) {
-    if (answer > RAPYHEO_REFUSED)
-        printf("refused %" PRIu32 "\n", answer - RAPYHEO_REFUSED);
+static const named_key stock = {"stock", {1, 1, 1, 1, 1}};
+static const named_key account = {"account", {2, 1, 1, 1, 1}};
+static const named_key note = {"note", {2, 1, 1, 1, 2}};
+static const named_key nothing = {"nothing", {2, 1, 1, 1, 3}};
+
+/* Both sheets as they were before a call, for rapyheo_written. */
+static uint8_t records_before[sizeof records], coordinator_before[sizeof coordinator];
+
+static void keep(void) {
+    memcpy(records_before, records, sizeof records);
+    memcpy(coordinator_before, coordinator, sizeof coordinator);
+}
+
+/* What must stand whole or not at all after a crash. A client with sheets on a disk saves just that. */
+static void say_written(void) {
+    uint32_t lines[2];
+    const uint32_t wrote = rapyheo_written(records_before, records_length, records, records_length, coordinator_before, coordinator_length,
+                                           coordinator, coordinator_length, lines, 2);
+    if (wrote == RAPYHEO_WROTE_NOTHING)
+        puts("; wrote nothing");
+    else if (wrote == RAPYHEO_WROTE_COORDINATOR)
+        printf("; wrote the coordinator sheet\n%s", (const char *)coordinator);
     else
-        printf("%s\n", given);
+        printf("; wrote lines %" PRIu32 " to %" PRIu32 "\n%.*s", lines[0], lines[0] + lines[1] - 1, (int)lines[1] * RAPYHEO_RECORD_BYTES,
+               (const char *)records + lines[0] * RAPYHEO_RECORD_BYTES);
 }
 
-/* What the line of a key says, or zeros. A row of numbers begins with the five of the key and the state, and the image follows. */
-static rapyheo_image image_of(rapyheo_key key) {
-    rapyheo_image image = {0, 0, 0, 0};
-    uint32_t rows[ROWS];
-    if (rapyheo_read_records(records, records_length, rows, ROWS) != 0)
-        return image;
-    for (const uint32_t *row = rows; row < rows + ROWS; row += RAPYHEO_RECORD_NUMBERS)
-        if (memcmp(row, &key, sizeof key) == 0)
-            memcpy(&image, row + 6, sizeof image);
-    return image;
+static int refused(uint32_t answer) {
+    if (answer <= RAPYHEO_REFUSED)
+        return 0;
+    printf("refused %" PRIu32 ", %s", answer - RAPYHEO_REFUSED, rapyheo_refusal_text(answer));
+    return 1;
 }
 
-/* The order holds one more record, read as it stands and put anew. That it has not changed since is what prepare asks. */
-static void hold(rapyheo_transaction *order, rapyheo_key key, uint32_t column1, uint32_t column2) {
-    rapyheo_entry *entry = &order->entries[order->count++];
-    entry->key = key;
-    entry->seen = image_of(key);
-    entry->wrote = 1;
-    entry->put = (rapyheo_columns){column1, column2};
+static void begin(size_t place, uint32_t checked) {
+    keep();
+    printf("begin%s: ", checked ? " checked" : "");
+    if (!refused(rapyheo_begin_at(list, PLACES, place, records, records_length, coordinator, coordinator_length, checked)))
+        printf("number %" PRIu32, list[place].number);
+    say_written();
 }
 
-static rapyheo_transaction begin(void) {
-    rapyheo_transaction order;
-    memset(&order, 0, sizeof order);
-    order.number = rapyheo_begin(records, records_length, coordinator, coordinator_length);
-    printf("begin: number %" PRIu32 "\n", order.number);
-    show();
-    return order;
+static void read_key(size_t place, named_key what, uint32_t clock) {
+    keep();
+    printf("read %s at %" PRIu32 ": ", what.name, clock);
+    const uint32_t answer = rapyheo_read_at(list, PLACES, place, records, records_length, coordinator, coordinator_length, what.key, clock);
+    const rapyheo_columns columns = rapyheo_columns_held(&list[place], what.key);
+    if (answer == RAPYHEO_READ_COLUMNS)
+        printf("columns %" PRIu32 " %" PRIu32, columns.column1, columns.column2);
+    else if (!refused(answer))
+        printf("%s", answer == RAPYHEO_READ_AGAIN ? "again" : "absent");
+    say_written();
 }
 
-/* Where an advance has led: phase, place in it and verdict. */
+static void put(size_t place, named_key what, uint32_t column1, uint32_t column2) {
+    const rapyheo_columns columns = {column1, column2};
+    keep();
+    printf("put %s %" PRIu32 " %" PRIu32 ": ", what.name, column1, column2);
+    if (!refused(rapyheo_put_at(list, PLACES, place, records, records_length, coordinator, coordinator_length, what.key, columns)))
+        printf("held");
+    say_written();
+}
+
+/* Where a call has led: phase, place in it and verdict. */
 static void say_step(const rapyheo_transaction *order) {
     static const char *const phases[] = {"open", "prepare", "check", "decide", "withdraw", "finish", "undo", "done"};
     static const char *const verdicts[] = {"none", "committed", "aborted"};
-    printf("%s, place %" PRIu32 ", verdict %s\n", phases[order->phase], order->place, verdicts[order->verdict]);
+    printf("%s, place %" PRIu32 ", verdict %s", phases[order->phase], order->place, verdicts[order->verdict]);
 }
 
-static void advance(rapyheo_transaction *list, size_t length, size_t place, uint32_t clock) {
-    printf("advance place %zu of %zu at clock %" PRIu32 ": ", place, length, clock);
-    const uint32_t answer = rapyheo_advance_at(list, length, place, records, records_length, coordinator, coordinator_length, clock);
-    if (answer == 0)
+static void advance(size_t place, uint32_t clock) {
+    keep();
+    printf("advance at %" PRIu32 ": ", clock);
+    if (!refused(rapyheo_advance_at(list, PLACES, place, records, records_length, coordinator, coordinator_length, clock)))
         say_step(&list[place]);
-    else
-        say(answer, "");
-    show();
+    say_written();
 }
 
-static void visit(const char *name, rapyheo_key key, uint32_t clock) {
+static void abort_order(size_t place) {
+    keep();
+    printf("abort: ");
+    if (!refused(rapyheo_abort_at(list, PLACES, place, records, records_length, coordinator, coordinator_length)))
+        say_step(&list[place]);
+    say_written();
+}
+
+static void visit(named_key what, uint32_t clock) {
     static const char *const replies[] = {"stays", "forward", "back", "again"};
-    printf("visit %s at clock %" PRIu32 ": ", name, clock);
-    const uint32_t answer = rapyheo_visit(records, records_length, coordinator, coordinator_length, key.storage, key.name_space, key.table,
-                                          key.partition, key.clustering, clock);
-    say(answer, answer <= RAPYHEO_AGAIN ? replies[answer] : "");
-    show();
+    keep();
+    printf("visit %s at %" PRIu32 ": ", what.name, clock);
+    const uint32_t answer = rapyheo_visit(records, records_length, coordinator, coordinator_length, what.key.storage, what.key.name_space,
+                                          what.key.table, what.key.partition, what.key.clustering, clock);
+    if (!refused(answer))
+        printf("%s", replies[answer]);
+    say_written();
 }
 
-static void check(void) {
-    printf("check: %" PRIu32 "\n", rapyheo_check(records, records_length, coordinator, coordinator_length));
-    show();
-}
-
-/* One of its two groups is prepared when the client dies. */
-static void undone_order(void) {
-    rapyheo_transaction list[PLACES];
+/* A list is never saved: after a crash the client has one of zeros, and what it left stands on the sheets. */
+static void die(void) {
     memset(list, 0, sizeof list);
-    list[1] = begin();
-    hold(&list[1], stock, 499, 250);
-    hold(&list[1], account, 950, 0);
-    advance(list, PLACES, 1, 1000);
-    advance(list, PLACES, 1, 1000);
-    puts("the client dies, and its list with it\n");
-    visit("stock", stock, 15999);
-    visit("stock", stock, 16000);
-    visit("stock", stock, 16001);
-    visit("account", account, 16002);
+    puts("the client dies, and its list with it");
 }
 
-/* Everything is prepared and the decision is written when the client dies. */
-static void finished_order(void) {
-    rapyheo_transaction list[PLACES];
-    memset(list, 0, sizeof list);
-    list[0] = begin();
-    hold(&list[0], stock, 498, 250);
-    hold(&list[0], account, 1000, 0);
-    hold(&list[0], note, 1, 2);
-    for (uint32_t step = 0; step < 4; step++)
-        advance(list, PLACES, 0, 20000 + step);
-    puts("the client dies, and its list with it\n");
-    visit("stock", stock, 20010);
-    visit("account", account, 20011);
-    visit("note", note, 20012);
-    visit("note", note, 20013);
+static void show(void) {
+    printf("version %" PRIu32 " with header %d, check %" PRIu32 "\n", rapyheo_version(), RAPYHEO_VERSION,
+           rapyheo_check(records, records_length, coordinator, coordinator_length));
+    printf("%s%s", (const char *)coordinator, (const char *)records);
 }
 
-/* No such place; a list over 16; a transaction that nobody began; and no such place beside a record sheet one byte short, which comes first. */
-static void refused_calls(void) {
-    rapyheo_transaction list[OVER];
-    memset(list, 0, sizeof list);
-    advance(list, PLACES, PLACES, 30000);
-    advance(list, OVER, 0, 30000);
-    advance(list, PLACES, 2, 30000);
-    printf("advance place %d of %d, record sheet one byte short: ", PLACES, PLACES);
-    say(rapyheo_advance_at(list, PLACES, PLACES, records, records_length - 1, coordinator, coordinator_length, 30000), "");
-    show();
+/* Each of the two groups is prepared, the decision is written, and each group is finished. */
+static void two_phases(void) {
+    puts("\nan order over two stores");
+    begin(0, 0);
+    read_key(0, stock, 1000);
+    read_key(0, account, 1000);
+    read_key(0, note, 1000);
+    put(0, stock, 499, 250);
+    put(0, account, 950, 0);
+    put(0, note, 1, 1);
+    for (uint32_t clock = 1001; list[0].phase != RAPYHEO_DONE; clock++)
+        advance(0, clock);
+}
+
+/* All puts are in one group: one write does it, and no COMMITTED is written for its number. */
+static void one_phase(void) {
+    puts("\nan order over one store");
+    begin(0, 0);
+    read_key(0, account, 2000);
+    put(0, account, 1000, 0);
+    read_key(0, account, 2000);
+    advance(0, 2001);
+}
+
+static void given_up(void) {
+    puts("\nrefused calls, and an order that is given up");
+    begin(1, 0);
+    put(1, stock, 1, 1);
+    read_key(1, nothing, 3000);
+    read_key(1, stock, 3000);
+    put(1, stock, 100000000, 0);
+    put(1, stock, 498, 250);
+    abort_order(1);
+    while (list[1].phase != RAPYHEO_DONE)
+        advance(1, 3001);
+    advance(1, 3002);
+}
+
+/* One of its two groups is prepared. Nobody may undo that before it has expired, and then ABORTED is written first. */
+static void dies_undecided(void) {
+    puts("\na client that dies between its two prepares");
+    begin(0, 0);
+    read_key(0, stock, 4000);
+    read_key(0, account, 4000);
+    put(0, stock, 498, 250);
+    put(0, account, 1100, 0);
+    advance(0, 4001);
+    advance(0, 4002);
+    die();
+    visit(stock, 19001);
+    visit(stock, 19002);
+    visit(stock, 19003);
+    visit(account, 19004);
+}
+
+/* Both groups are prepared and the decision is written: whoever meets a line finishes it, a read as well as a visit. The note is only read, and
+ * since the order is checked it must not have changed either. At the end all numbers are issued. */
+static void dies_decided(void) {
+    puts("\na client that dies after its decision");
+    begin(0, 1);
+    read_key(0, stock, 20000);
+    read_key(0, note, 20000);
+    read_key(0, account, 20000);
+    put(0, stock, 498, 250);
+    put(0, account, 1100, 0);
+    for (uint32_t clock = 20001; list[0].phase != RAPYHEO_FINISH; clock++)
+        advance(0, clock);
+    die();
+    visit(account, 20010);
+    begin(0, 0);
+    read_key(0, stock, 20011);
+    advance(0, 20012);
+    begin(0, 0);
 }
 
 static void say_numbers(const uint32_t *numbers, size_t length) {
@@ -152,28 +227,34 @@ static void say_numbers(const uint32_t *numbers, size_t length) {
     puts("");
 }
 
-/* Both sheets as numbers, and other memory written from them: the same bytes. A target one number short is refused and stays as it was. */
-static void numbers_and_back(void) {
+/* The line of a key as numbers, and other memory written from those of both sheets: no byte is another. */
+static void as_numbers(void) {
     uint32_t rows[ROWS], decisions[DECISIONS];
-    uint8_t records_again[sizeof records], coordinator_again[sizeof coordinator];
-    printf("records to numbers: %" PRIu32 "\n", rapyheo_read_records(records, records_length, rows, ROWS));
-    for (size_t line = 0; line < LINES; line++)
-        say_numbers(rows + line * RAPYHEO_RECORD_NUMBERS, RAPYHEO_RECORD_NUMBERS);
-    printf("coordinator to numbers: %" PRIu32 "\n", rapyheo_read_coordinator(coordinator, coordinator_length, decisions, DECISIONS));
+    const uint32_t line = rapyheo_lookup(records, records_length, 2, 1, 1, 1, 2);
+    puts("\nsheets as numbers");
+    if (refused(line))
+        return;
+    printf("note is line %" PRIu32 ", both sheets to numbers: %" PRIu32, line, rapyheo_read_records(records, records_length, rows, ROWS));
+    printf(" %" PRIu32 "\n", rapyheo_read_coordinator(coordinator, coordinator_length, decisions, DECISIONS));
+    say_numbers(rows + line * RAPYHEO_RECORD_NUMBERS, RAPYHEO_RECORD_NUMBERS);
     say_numbers(decisions, DECISIONS);
-    printf("numbers to records: %" PRIu32 ", ", rapyheo_write_records(rows, ROWS, records_again, records_length));
-    puts(memcmp(records, records_again, records_length) == 0 ? "the same bytes" : "other bytes");
-    printf("numbers to coordinator: %" PRIu32 ", ", rapyheo_write_coordinator(decisions, DECISIONS, coordinator_again, coordinator_length));
-    puts(memcmp(coordinator, coordinator_again, coordinator_length) == 0 ? "the same bytes" : "other bytes");
-    printf("records to numbers, one number short: %" PRIu32 "\n", rapyheo_read_records(records, records_length, rows, ROWS - 1));
+    memset(records_before, 0, sizeof records_before);
+    memset(coordinator_before, 0, sizeof coordinator_before);
+    printf("numbers to other sheets: %" PRIu32, rapyheo_write_records(rows, ROWS, records_before, records_length));
+    printf(" %" PRIu32, rapyheo_write_coordinator(decisions, DECISIONS, coordinator_before, coordinator_length));
+    say_written();
 }
 
 int main(void) {
-    check();
-    undone_order();
-    finished_order();
-    refused_calls();
-    check();
-    numbers_and_back();
+    puts("at first");
+    show();
+    two_phases();
+    one_phase();
+    given_up();
+    dies_undecided();
+    dies_decided();
+    as_numbers();
+    puts("\nat the end");
+    show();
     return 0;
 }

@@ -1,15 +1,34 @@
 /* Rapyheo: two-phase commit over the records themselves. What the engine exports, for C11 and C++17 on x86-64.
  *
- * The caller's duties, which no contract of the engine can see:
+ * A client keeps a list of up to 16 transactions, all zeros at first, and asks by place: rapyheo_begin_at, .._read_at, .._put_at, .._advance_at
+ * and .._abort_at take the transaction at a place of the list and leave there the one that comes back. rapyheo_visit needs no list: it finishes
+ * or undoes what a dead client has left on a line.
+ *
+ * What is proved. Each call does what the specification says, for every input: whatever the bytes and numbers are, it returns, and a refused one
+ * changes no byte of any slice. Of whole orders: clients that keep their lists and change them by these calls only, each list lost at a crash,
+ * make a legal history, whatever they ask and in whatever order (theorem `clients-legal`, crates/theorems), so that demand 3 holds of everything
+ * done so (`clients-recovered`). Once every line has been visited twice, an undecided one at readings where it has expired, the record sheet is
+ * byte for byte what the committed orders wrote, none lost and none half done. It rests on the duties that follow, which no contract of the
+ * engine can see.
+ *
+ * Duties towards the orders:
+ *   - hand on what the last call left, the list and both sheets. The first sheets are accepted ones without a PREPARED line, and nothing but
+ *     these calls and visits changes them: they are no target of rapyheo_write_records or .._write_coordinator;
+ *   - after a crash never hand in a saved list. Begin anew with one of zeros; what the old one had done stands on the sheets, and visits finish
+ *     or undo it. A list need not be saved at all;
+ *   - never fill in or change an entry or a field by hand: a list is for reading. Each call judges what it is given, but an entry added in the
+ *     phase decide, or a state handed in twice, can break an order with every call answering 0;
+ *   - what a call wrote stands whole or not at all after a crash, and writes stand in the order in which they were made. A call writes the
+ *     lines of one unit, or the coordinator sheet, or nothing, never both: rapyheo_written tells which.
+ *
+ * Duties towards the machine:
  *   - a slice passes as a pointer and then a length, counted in elements; the pointer is not null, is aligned for its element and is valid
  *     for the whole length, even where the length is 0;
- *   - slices of one call do not overlap, and nobody else reads or writes them until it returns. One caller at a time: there is no lock;
- *   - each write to the lines of one unit of the record sheet, or to the coordinator sheet, stands whole or not at all after a crash.
- * Nothing else is asked. Whatever the bytes and numbers are, a call returns, and a refused one changes no byte of any slice.
- *
- * What is proved of whole orders, that none is lost and none is half done after any crash, speaks of transactions as calls return them, each state
- * handed on once. There is no read and no put here, so a client fills its entries itself and stands outside that claim: each call judges what it is
- * given, but an entry added in the phase decide, or a saved state handed in again after a crash, can break an order with every call answering 0.
+ *   - slices of one call do not overlap, and nobody else reads or writes them until it returns;
+ *   - one caller at a time for one pair of sheets, whoever has the list: there is no lock. Calls on different sheets and lists are independent,
+ *     in any threads, since the library holds no data of its own;
+ *   - a call finds RAPYHEO_STACK_BYTES of stack. `make stack` measures what each needs, its arguments among it: 5864 at most, to which some 2000
+ *     come where the loader binds memcpy or memset in the middle of the first call (not so with -Wl,-z,now). A call allocates nothing.
  *
  * Record sheet: 1 to 500 lines of 98 bytes, the last byte LF. Figures are decimal, right-justified, filled with spaces, without leading zeros.
  *
@@ -40,26 +59,73 @@
 extern "C" {
 #endif
 
+/* Version of this header. rapyheo_version() is the library's: the same major and at least the same minor will do. */
+#define RAPYHEO_VERSION_MAJOR 1
+#define RAPYHEO_VERSION_MINOR 0
+#define RAPYHEO_VERSION_PATCH 0
+#define RAPYHEO_VERSION (10000 * RAPYHEO_VERSION_MAJOR + 100 * RAPYHEO_VERSION_MINOR + RAPYHEO_VERSION_PATCH)
+
+/* An answer that nobody looks at may be a refusal: the compiler warns of it where it can. */
+#if defined(__cplusplus) && __cplusplus >= 201703L
+#define RAPYHEO_ANSWER [[nodiscard]]
+#elif !defined(__cplusplus) && defined(__STDC_VERSION__) && __STDC_VERSION__ >= 202311L
+#define RAPYHEO_ANSWER [[nodiscard]]
+#elif defined(__GNUC__)
+#define RAPYHEO_ANSWER __attribute__((warn_unused_result))
+#else
+#define RAPYHEO_ANSWER
+#endif
+
 enum {
     RAPYHEO_RECORD_BYTES = 98,
     RAPYHEO_COORDINATOR_BYTES = 15,
     RAPYHEO_RECORD_NUMBERS = 15, /* numbers of one record */
     RAPYHEO_HEAD_NUMBERS = 10,   /* numbers of a coordinator before those of its lines */
-    RAPYHEO_ENTRIES = 8, /* entries of a transaction */
-    RAPYHEO_LIST = 16,   /* transactions in a list */
-    RAPYHEO_REFUSED = 1000 /* an answer of begin, visit or advance_at above this is 1000 + the refusal */
+    RAPYHEO_ENTRIES = 8,         /* entries of a transaction */
+    RAPYHEO_LIST = 16,           /* transactions in a list */
+    RAPYHEO_REFUSED = 1000,      /* an answer above this is 1000 + the refusal */
+    RAPYHEO_STACK_BYTES = 8192   /* enough stack for any call */
 };
 
-/* Refusals. The lowest that applies is given. A call here gives only those that its comment names. */
+/* Refusals. The lowest that applies is given, and a call gives only those that its comment names. */
 enum {
-    RAPYHEO_BAD_RECORDS = 1,      /* the record sheet, or records in numbers, break a rule, or a target has another length than needed */
-    RAPYHEO_BAD_COORDINATOR = 2,  /* the coordinator sheet does, or its numbers do, or a record names a number that is not issued */
-    RAPYHEO_BAD_TRANSACTION = 3,  /* the one named is not well formed, the list is over 16, or it has no such place */
-    RAPYHEO_WRONG_PHASE = 4,      /* not for this phase, or the own coordinator line forbids the step */
-    RAPYHEO_BAD_KEY = 5,          /* a key field is out of range */
-    RAPYHEO_NO_SUCH_KEY = 6,      /* no line has the key */
-    RAPYHEO_NUMBERS_SPENT = 8,    /* the issued count equals the coordinator's lines */
-    RAPYHEO_BUSY = 12             /* the line is undecided and has not expired */
+    RAPYHEO_BAD_RECORDS = 1,     /* the record sheet, or records in numbers, break a rule, or a target has another length than needed */
+    RAPYHEO_BAD_COORDINATOR = 2, /* the coordinator sheet does, or its numbers do, or a record names a number that is not issued */
+    RAPYHEO_BAD_TRANSACTION = 3, /* the one named is not well formed, the list is over 16, or there is no such place or call */
+    RAPYHEO_WRONG_PHASE = 4,     /* not for this phase, or the own coordinator line forbids the step */
+    RAPYHEO_BAD_KEY = 5,         /* a key field is out of range */
+    RAPYHEO_NO_SUCH_KEY = 6,     /* no line has the key */
+    RAPYHEO_BAD_COLUMNS = 7,     /* a put column is over 99999999 */
+    RAPYHEO_NUMBERS_SPENT = 8,   /* the issued count equals the coordinator's lines */
+    RAPYHEO_ENTRIES_SPENT = 9,   /* a read of a new key where 8 are held */
+    RAPYHEO_NOT_HELD = 10,       /* a put of a key that was not read */
+    RAPYHEO_VERSIONS_SPENT = 11, /* a put over version 99999 */
+    RAPYHEO_BUSY = 12            /* the line is undecided and has not expired */
+};
+
+/* What is asked by place. */
+enum {
+    RAPYHEO_CALL_BEGIN = 0,
+    RAPYHEO_CALL_BEGIN_CHECKED = 1,
+    RAPYHEO_CALL_READ = 2,
+    RAPYHEO_CALL_PUT = 3,
+    RAPYHEO_CALL_ADVANCE = 4,
+    RAPYHEO_CALL_ABORT = 5
+};
+
+/* What a read saw. */
+enum {
+    RAPYHEO_READ_ABSENT = 0,
+    RAPYHEO_READ_COLUMNS = 1, /* rapyheo_columns_held has them */
+    RAPYHEO_READ_AGAIN = 2    /* the line's owner is now ABORTED, and the key is not held: read once more */
+};
+
+/* What a call wrote, of copies from before it. */
+enum {
+    RAPYHEO_WROTE_NOTHING = 0,
+    RAPYHEO_WROTE_COORDINATOR = 1,
+    RAPYHEO_WROTE_LINES = 2,
+    RAPYHEO_WROTE_BOTH = 3 /* no single call on accepted sheets does that */
 };
 
 /* What a visit made of a line. */
@@ -118,8 +184,8 @@ typedef struct rapyheo_entry {
     rapyheo_columns put;
 } rapyheo_entry;
 
-/* A transaction as its client keeps it. A new one has the number that begin gave and 0 everywhere else (`serializable` 1 if what was only read
- * is to be checked too). `place` counts groups or entries within a phase. Entries from `count` on mean nothing and are kept. */
+/* A transaction as its client keeps it: an unused one is all zeros, and a begin by place fills it. `serializable` is 1 if what was only read is
+ * checked too. `place` counts groups or entries within a phase. Entries from `count` on mean nothing and are kept. */
 typedef struct rapyheo_transaction {
     uint32_t number;
     uint32_t serializable;
@@ -169,34 +235,132 @@ RAPYHEO_AT(rapyheo_transaction, entries, 24);
 #undef RAPYHEO_SIZE
 #undef RAPYHEO_AT
 
-/* 0 where both sheets are accepted, else the refusal itself: 1 or 2. */
-uint32_t rapyheo_check(const uint8_t *records, size_t records_length, const uint8_t *coordinator, size_t coordinator_length);
+/* The library's version: 10000 * major + 100 * minor + patch. */
+uint32_t rapyheo_version(void);
 
-/* Issues a number: 1 to 999, or 1000 + 1, 2 or 8. */
-uint32_t rapyheo_begin(const uint8_t *records, size_t records_length, uint8_t *coordinator, size_t coordinator_length);
+/* 0 where both sheets are accepted, else the refusal itself: 1 or 2. */
+RAPYHEO_ANSWER uint32_t rapyheo_check(const uint8_t *records, size_t records_length, const uint8_t *coordinator, size_t coordinator_length);
+
+/* Asks the transaction at a place of the list, counted from 0, and leaves there the one that comes back; the others stay. Numbers that a call
+ * does not use are ignored. The functions with names of their own, below, are the calls one by one. */
+RAPYHEO_ANSWER uint32_t rapyheo_call_at(rapyheo_transaction *list, size_t list_length, size_t place, uint8_t *records, size_t records_length,
+                                        uint8_t *coordinator, size_t coordinator_length, uint32_t call, uint32_t storage, uint32_t name_space,
+                                        uint32_t table, uint32_t partition, uint32_t clustering, uint32_t column1, uint32_t column2,
+                                        uint32_t clock);
 
 /* Finishes, undoes or leaves the line of a key: RAPYHEO_STAYS to RAPYHEO_AGAIN, or 1000 + 1, 2, 5, 6 or 12. */
-uint32_t rapyheo_visit(uint8_t *records, size_t records_length, uint8_t *coordinator, size_t coordinator_length, uint32_t storage,
-                       uint32_t name_space, uint32_t table, uint32_t partition, uint32_t clustering, uint32_t clock);
+RAPYHEO_ANSWER uint32_t rapyheo_visit(uint8_t *records, size_t records_length, uint8_t *coordinator, size_t coordinator_length, uint32_t storage,
+                                      uint32_t name_space, uint32_t table, uint32_t partition, uint32_t clustering, uint32_t clock);
 
-/* Advances the transaction at a place of the list, counted from 0, by one step, there: 0, or 1000 + 1, 2, 3 or 4. The others stay. */
-uint32_t rapyheo_advance_at(rapyheo_transaction *list, size_t list_length, size_t place, uint8_t *records, size_t records_length,
-                            uint8_t *coordinator, size_t coordinator_length, uint32_t clock);
+/* Issues a number and no transaction, so that the number stays unused: 1 to 999, or 1000 + 1, 2 or 8. An order begins by rapyheo_begin_at. */
+RAPYHEO_ANSWER uint32_t rapyheo_begin(const uint8_t *records, size_t records_length, uint8_t *coordinator, size_t coordinator_length);
+
+/* The index of the key's line, from 0, or 1000 + 1, 5 or 6. */
+RAPYHEO_ANSWER uint32_t rapyheo_lookup(const uint8_t *records, size_t records_length, uint32_t storage, uint32_t name_space, uint32_t table,
+                                       uint32_t partition, uint32_t clustering);
+
+/* What a call wrote, of copies of both sheets from before it and the sheets after it: RAPYHEO_WROTE_NOTHING to RAPYHEO_WROTE_BOTH. lines[0] is
+ * the index of the first record line that differs and lines[1] how many there are from it to the last that does, both 0 where none does. Or
+ * 1000 + 1 (record sheets of different lengths or not of whole lines, or a lines_length other than 2), or 1000 + 2 (coordinator sheets of
+ * different lengths). */
+RAPYHEO_ANSWER uint32_t rapyheo_written(const uint8_t *records_before, size_t records_before_length, const uint8_t *records, size_t records_length,
+                                        const uint8_t *coordinator_before, size_t coordinator_before_length, const uint8_t *coordinator,
+                                        size_t coordinator_length, uint32_t *lines, size_t lines_length);
 
 /* Sheets to numbers and back. Each answers 0, or the refusal itself, as the check does; which numbers records name is not looked at. A target is
  * exactly as long as whole lines or records need, else 1 is answered, before 2. A refused one stays as it was. */
 
 /* Record sheet to numbers, 15 for each line: 0 or 1. */
-uint32_t rapyheo_read_records(const uint8_t *records, size_t records_length, uint32_t *numbers, size_t numbers_length);
+RAPYHEO_ANSWER uint32_t rapyheo_read_records(const uint8_t *records, size_t records_length, uint32_t *numbers, size_t numbers_length);
 
 /* Numbers to record sheet, 98 bytes for each record: 0 or 1. */
-uint32_t rapyheo_write_records(const uint32_t *numbers, size_t numbers_length, uint8_t *records, size_t records_length);
+RAPYHEO_ANSWER uint32_t rapyheo_write_records(const uint32_t *numbers, size_t numbers_length, uint8_t *records, size_t records_length);
 
 /* Coordinator sheet to numbers, 10 for the head and one for each line: 0, 1 or 2. */
-uint32_t rapyheo_read_coordinator(const uint8_t *coordinator, size_t coordinator_length, uint32_t *numbers, size_t numbers_length);
+RAPYHEO_ANSWER uint32_t rapyheo_read_coordinator(const uint8_t *coordinator, size_t coordinator_length, uint32_t *numbers, size_t numbers_length);
 
 /* Numbers to coordinator sheet, 15 bytes for the head and for each line: 0, 1 or 2. */
-uint32_t rapyheo_write_coordinator(const uint32_t *numbers, size_t numbers_length, uint8_t *coordinator, size_t coordinator_length);
+RAPYHEO_ANSWER uint32_t rapyheo_write_coordinator(const uint32_t *numbers, size_t numbers_length, uint8_t *coordinator, size_t coordinator_length);
+
+/* The calls by place, each with what it needs only. All give 1000 + 1, 2 or 3 where the sheets, the list or the place are not as they should be. */
+
+/* A new transaction instead of whatever stands at the place, with the next number; `checked` 1 if what it only reads is to be checked too, else
+ * 0: 0 or 1000 + 8. One that is replaced before it is done is left as if its client had died. */
+RAPYHEO_ANSWER static inline uint32_t rapyheo_begin_at(rapyheo_transaction *list, size_t list_length, size_t place, uint8_t *records,
+                                                       size_t records_length, uint8_t *coordinator, size_t coordinator_length, uint32_t checked) {
+    return rapyheo_call_at(list, list_length, place, records, records_length, coordinator, coordinator_length,
+                           checked ? RAPYHEO_CALL_BEGIN_CHECKED : RAPYHEO_CALL_BEGIN, 0, 0, 0, 0, 0, 0, 0, 0);
+}
+
+/* What the transaction sees of a key, which it holds from then on: RAPYHEO_READ_ABSENT to RAPYHEO_READ_AGAIN, or 1000 + 4, 5, 6, 9 or 12. The
+ * line of a new key is visited first. */
+RAPYHEO_ANSWER static inline uint32_t rapyheo_read_at(rapyheo_transaction *list, size_t list_length, size_t place, uint8_t *records,
+                                                      size_t records_length, uint8_t *coordinator, size_t coordinator_length, rapyheo_key key,
+                                                      uint32_t clock) {
+    return rapyheo_call_at(list, list_length, place, records, records_length, coordinator, coordinator_length, RAPYHEO_CALL_READ, key.storage,
+                           key.name_space, key.table, key.partition, key.clustering, 0, 0, clock);
+}
+
+/* What is to be written to a key that was read, in place of an earlier put: 0 or 1000 + 4, 5, 6, 7, 10 or 11. */
+RAPYHEO_ANSWER static inline uint32_t rapyheo_put_at(rapyheo_transaction *list, size_t list_length, size_t place, uint8_t *records,
+                                                     size_t records_length, uint8_t *coordinator, size_t coordinator_length, rapyheo_key key,
+                                                     rapyheo_columns columns) {
+    return rapyheo_call_at(list, list_length, place, records, records_length, coordinator, coordinator_length, RAPYHEO_CALL_PUT, key.storage,
+                           key.name_space, key.table, key.partition, key.clustering, columns.column1, columns.column2, 0);
+}
+
+/* One step towards done: 0 or 1000 + 4. The verdict stands in the list. */
+RAPYHEO_ANSWER static inline uint32_t rapyheo_advance_at(rapyheo_transaction *list, size_t list_length, size_t place, uint8_t *records,
+                                                         size_t records_length, uint8_t *coordinator, size_t coordinator_length,
+                                                         uint32_t clock) {
+    return rapyheo_call_at(list, list_length, place, records, records_length, coordinator, coordinator_length, RAPYHEO_CALL_ADVANCE, 0, 0, 0, 0, 0,
+                           0, 0, clock);
+}
+
+/* Turns it to withdraw, which it may until it is decided; advances then undo it: 0 or 1000 + 4. */
+RAPYHEO_ANSWER static inline uint32_t rapyheo_abort_at(rapyheo_transaction *list, size_t list_length, size_t place, uint8_t *records,
+                                                       size_t records_length, uint8_t *coordinator, size_t coordinator_length) {
+    return rapyheo_call_at(list, list_length, place, records, records_length, coordinator, coordinator_length, RAPYHEO_CALL_ABORT, 0, 0, 0, 0, 0, 0, 0,
+                           0);
+}
+
+/* The columns of a key that the transaction holds, as last put, else as read; zeros where it was absent or is not held. */
+static inline rapyheo_columns rapyheo_columns_held(const rapyheo_transaction *transaction, rapyheo_key key) {
+    rapyheo_columns columns = {0, 0};
+    for (uint32_t i = 0; i < transaction->count && i < RAPYHEO_ENTRIES; i++) {
+        const rapyheo_entry *entry = &transaction->entries[i];
+        if (entry->key.storage == key.storage && entry->key.name_space == key.name_space && entry->key.table == key.table &&
+            entry->key.partition == key.partition && entry->key.clustering == key.clustering) {
+            columns.column1 = entry->wrote ? entry->put.column1 : entry->seen.column1;
+            columns.column2 = entry->wrote ? entry->put.column2 : entry->seen.column2;
+        }
+    }
+    return columns;
+}
+
+/* A refusal in words. It may be given as itself or as an answer, 1000 + the refusal. */
+static inline const char *rapyheo_refusal_text(uint32_t refusal) {
+    static const char *const texts[] = {
+        "no such refusal",
+        "the record sheet, or records to be written, break a rule, or a target has another length than needed",
+        "the coordinator sheet breaks a rule, or a record names a number that is not issued",
+        "the transaction is not well formed, the list is over 16, or there is no such place or call",
+        "the call is not for this phase, or the own coordinator line forbids the step",
+        "a key field is out of range",
+        "no line has the key",
+        "a put column is over 99999999",
+        "every number of the coordinator sheet is issued",
+        "the key is new, and 8 are held",
+        "the key is not held: read it before the put",
+        "the version read is 99999, and no put can follow it",
+        "the line is undecided and has not expired",
+    };
+    if (refusal > RAPYHEO_REFUSED)
+        refusal -= RAPYHEO_REFUSED;
+    return texts[refusal <= RAPYHEO_BUSY ? refusal : 0];
+}
+
+#undef RAPYHEO_ANSWER
 
 #ifdef __cplusplus
 }

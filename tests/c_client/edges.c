@@ -1,0 +1,129 @@
+/* What the clients of examples/ don't meet: refusals of lists, places and calls, of the look-up and of what a call wrote, and the header's own
+ * texts, numbers and versions. Prints each that is otherwise, and how many there are. */
+#include <inttypes.h>
+#include <stdio.h>
+#include <string.h>
+
+#include "rapyheo.h"
+
+enum { LINES = 2, NUMBERS = 1, RECORDS = LINES * RAPYHEO_RECORD_BYTES, COORDINATOR = (1 + NUMBERS) * RAPYHEO_COORDINATOR_BYTES };
+
+static uint8_t records[RECORDS + 1] =
+    " 1  1  1     1     1 COMMITTED 99999   0      500      250     0   0        0        0          0\n"
+    " 2  1  1     1     1    ABSENT     0   0        0        0     0   0        0        0          0\n";
+static uint8_t coordinator[COORDINATOR + 1] = "   0 SSSSSSSSS\n   1         -\n";
+static rapyheo_transaction list[RAPYHEO_LIST + 1];
+static int cases, wrong;
+
+static void expect(const char *what, uint32_t is, uint32_t should) {
+    cases++;
+    if (is != should) {
+        wrong++;
+        printf("%s: %" PRIu32 ", not %" PRIu32 "\n", what, is, should);
+    }
+}
+
+static uint32_t ask(size_t length, size_t place, uint32_t call) {
+    return rapyheo_call_at(list, length, place, records, RECORDS, coordinator, COORDINATOR, call, 1, 1, 1, 1, 1, 7, 7, 1000);
+}
+
+/* Of the order at the last place. */
+static const size_t last = RAPYHEO_LIST - 1;
+
+static uint32_t read_key(rapyheo_key key) {
+    return rapyheo_read_at(list, RAPYHEO_LIST, last, records, RECORDS, coordinator, COORDINATOR, key, 1000);
+}
+
+static uint32_t put_key(rapyheo_key key) {
+    const rapyheo_columns columns = {7, 8};
+    return rapyheo_put_at(list, RAPYHEO_LIST, last, records, RECORDS, coordinator, COORDINATOR, key, columns);
+}
+
+static void by_place(void) {
+    const rapyheo_key full = {1, 1, 1, 1, 1}, absent = {2, 1, 1, 1, 1}, outside = {0, 1, 1, 1, 1};
+    expect("an unused one advances", ask(2, 0, RAPYHEO_CALL_ADVANCE), RAPYHEO_REFUSED + RAPYHEO_BAD_TRANSACTION);
+    expect("list over 16", ask(RAPYHEO_LIST + 1, 0, RAPYHEO_CALL_BEGIN), RAPYHEO_REFUSED + RAPYHEO_BAD_TRANSACTION);
+    expect("no such place", ask(2, 2, RAPYHEO_CALL_BEGIN), RAPYHEO_REFUSED + RAPYHEO_BAD_TRANSACTION);
+    expect("an empty list", ask(0, 0, RAPYHEO_CALL_BEGIN), RAPYHEO_REFUSED + RAPYHEO_BAD_TRANSACTION);
+    expect("no such call", ask(2, 0, 6), RAPYHEO_REFUSED + RAPYHEO_BAD_TRANSACTION);
+    expect("sheets come first", rapyheo_advance_at(list, 2, 2, records, RECORDS - 1, coordinator, COORDINATOR, 0),
+           RAPYHEO_REFUSED + RAPYHEO_BAD_RECORDS);
+    expect("and the coordinator's", rapyheo_advance_at(list, 2, 2, records, RECORDS, coordinator, COORDINATOR - 1, 0),
+           RAPYHEO_REFUSED + RAPYHEO_BAD_COORDINATOR);
+    expect("begin at the last place", ask(RAPYHEO_LIST, last, RAPYHEO_CALL_BEGIN_CHECKED), 0);
+    expect("its number", list[last].number, 1);
+    expect("checked", list[last].serializable, 1);
+    expect("numbers are spent", ask(2, 1, RAPYHEO_CALL_BEGIN), RAPYHEO_REFUSED + RAPYHEO_NUMBERS_SPENT);
+    expect("a key out of range", read_key(outside), RAPYHEO_REFUSED + RAPYHEO_BAD_KEY);
+    expect("a line that is full", read_key(full), RAPYHEO_READ_COLUMNS);
+    expect("its column", rapyheo_columns_held(&list[last], full).column2, 250);
+    expect("is not put", put_key(full), RAPYHEO_REFUSED + RAPYHEO_VERSIONS_SPENT);
+    expect("an absent line", read_key(absent), RAPYHEO_READ_ABSENT);
+    expect("has no columns", rapyheo_columns_held(&list[last], absent).column2, 0);
+    expect("is put", put_key(absent), 0);
+    expect("and read as put", rapyheo_columns_held(&list[last], absent).column2, 8);
+    expect("a key that is not held", rapyheo_columns_held(&list[last], outside).column1, 0);
+    expect("the other place stays", list[0].number, 0);
+}
+
+static uint32_t lines[2] = {9, 9};
+
+/* What other sheets differ in from those here, as rapyheo_written has it. */
+static uint32_t wrote(const uint8_t *other_records, size_t records_length, const uint8_t *other_coordinator, size_t coordinator_length) {
+    return rapyheo_written(records, RECORDS, other_records, records_length, coordinator, COORDINATOR, other_coordinator, coordinator_length, lines, 2);
+}
+
+static void sheets(void) {
+    uint8_t same_records[RECORDS], same_coordinator[COORDINATOR], other_records[RECORDS], other_coordinator[COORDINATOR];
+    memcpy(same_records, records, RECORDS);
+    memcpy(same_coordinator, coordinator, COORDINATOR);
+    memcpy(other_records, records, RECORDS);
+    memcpy(other_coordinator, coordinator, COORDINATOR);
+    expect("found", rapyheo_lookup(records, RECORDS, 2, 1, 1, 1, 1), 1);
+    expect("not found", rapyheo_lookup(records, RECORDS, 2, 1, 1, 1, 2), RAPYHEO_REFUSED + RAPYHEO_NO_SUCH_KEY);
+    expect("no key", rapyheo_lookup(records, RECORDS, 2, 100, 1, 1, 2), RAPYHEO_REFUSED + RAPYHEO_BAD_KEY);
+    expect("no sheet", rapyheo_lookup(records, 0, 2, 1, 1, 1, 2), RAPYHEO_REFUSED + RAPYHEO_BAD_RECORDS);
+    expect("nothing written", wrote(same_records, RECORDS, same_coordinator, COORDINATOR), RAPYHEO_WROTE_NOTHING);
+    expect("no first line", lines[0] + lines[1], 0);
+    other_records[RECORDS - 2] ^= 1;
+    expect("a line written", wrote(other_records, RECORDS, same_coordinator, COORDINATOR), RAPYHEO_WROTE_LINES);
+    expect("the second", 10 * lines[0] + lines[1], 11);
+    other_records[0] ^= 1;
+    other_coordinator[0] ^= 1;
+    expect("both written", wrote(other_records, RECORDS, other_coordinator, COORDINATOR), RAPYHEO_WROTE_BOTH);
+    expect("two lines", 10 * lines[0] + lines[1], 2);
+    expect("the coordinator", wrote(same_records, RECORDS, other_coordinator, COORDINATOR), RAPYHEO_WROTE_COORDINATOR);
+    expect("no line", lines[0] + lines[1], 0);
+    lines[0] = 9;
+    expect("other lengths", wrote(same_records, RECORDS - RAPYHEO_RECORD_BYTES, same_coordinator, 15), RAPYHEO_REFUSED + RAPYHEO_BAD_RECORDS);
+    expect("other decisions", wrote(same_records, RECORDS, same_coordinator, 15), RAPYHEO_REFUSED + RAPYHEO_BAD_COORDINATOR);
+    expect("no whole lines", rapyheo_written(records, 97, same_records, 97, coordinator, COORDINATOR, same_coordinator, 15, lines, 2),
+           RAPYHEO_REFUSED + RAPYHEO_BAD_RECORDS);
+    expect("one number", rapyheo_written(records, RECORDS, same_records, RECORDS, coordinator, COORDINATOR, same_coordinator, 15, lines, 1),
+           RAPYHEO_REFUSED + RAPYHEO_BAD_RECORDS);
+    expect("and the numbers stay", lines[0], 9);
+    expect("spent", rapyheo_begin(records, RECORDS, coordinator, COORDINATOR), RAPYHEO_REFUSED + RAPYHEO_NUMBERS_SPENT);
+}
+
+static void header(void) {
+    const char *none = rapyheo_refusal_text(0);
+    expect("version", rapyheo_version(), RAPYHEO_VERSION);
+    expect("no refusal", strcmp(none, "no such refusal") == 0, 1);
+    for (uint32_t n = 1; n <= RAPYHEO_BUSY; n++) {
+        expect("a text", strcmp(rapyheo_refusal_text(n), none) != 0, 1);
+        expect("of its own", strcmp(rapyheo_refusal_text(n), rapyheo_refusal_text(n - 1)) != 0, 1);
+        expect("of the answer too", strcmp(rapyheo_refusal_text(RAPYHEO_REFUSED + n), rapyheo_refusal_text(n)) == 0, 1);
+    }
+    for (uint32_t i = 0; i < 4; i++) {
+        const uint32_t others[] = {13, 1000, 1013, 4294967295u};
+        expect("no other text", strcmp(rapyheo_refusal_text(others[i]), none) == 0, 1);
+    }
+}
+
+int main(void) {
+    by_place();
+    sheets();
+    header();
+    printf("edges: %d cases, %d wrong\n", cases, wrong);
+    return wrong != 0;
+}
