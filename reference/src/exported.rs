@@ -1,10 +1,12 @@
 //! The calls that are exported for C: each answers with one number and may change the memory lent.
 
 use crate::make::Sheets;
+use crate::plain::by_place::{self, Asked};
 use crate::plain::calls;
 use crate::plain::key::Key;
 use crate::plain::store::Visit;
 use crate::plain::transaction::Transaction;
+use crate::plain::written::written;
 use crate::{fast, plain};
 
 /// What a call is lent.
@@ -23,10 +25,24 @@ pub enum Call {
         key: Key,
         now: u32,
     },
-    AdvanceAt {
+    /// Any call of the one at this place of the list.
+    At {
         place: usize,
-        now: u32,
+        asked: Asked,
     },
+    Lookup {
+        key: Key,
+    },
+    Version,
+}
+
+/// The refusal of an answer, 0 of an accepted call. The check answers with the refusal itself.
+pub fn refusal_of(call: &Call, answer: u32) -> u32 {
+    match call {
+        Call::Check => answer,
+        Call::Version => 0,
+        _ => answer.saturating_sub(1_000),
+    }
 }
 
 /// What an accepted call gives, or 1000 and the refusal.
@@ -48,19 +64,41 @@ pub fn by_plain(call: &Call, lent: &mut Lent) -> u32 {
         records,
         coordinator,
     } = &mut lent.sheets;
-    match *call {
+    match call {
         Call::Check => plain::check(records, coordinator),
         Call::Begin => number(calls::begin(records, coordinator, false).map(|t| t.number)),
         Call::Visit { key, now } => {
-            number(calls::visit(records, coordinator, key, now).map(visit_number))
+            number(calls::visit(records, coordinator, *key, *now).map(visit_number))
         }
-        Call::AdvanceAt { place, now } => {
-            let advanced = calls::advance_at(records, coordinator, &mut lent.list, place, now);
-            number(advanced.map(|()| 0))
+        Call::At { place, asked } => {
+            let list = &mut lent.list;
+            number(by_place::call_at(records, coordinator, list, *place, asked))
         }
+        Call::Lookup { key } => {
+            let found = plain::lookup(records, key.numbers());
+            number(found.map(|place| place as u32))
+        }
+        Call::Version => plain::version(),
     }
 }
 
+/// What a call has written, from the sheets before and after it; `lines` are told which lines.
+pub fn written_by_plain(before: &Sheets, after: &Sheets, lines: &mut [u32]) -> u32 {
+    let records = [&before.records[..], &after.records[..]];
+    let coordinator = [&before.coordinator[..], &after.coordinator[..]];
+    number(written(records, coordinator, lines))
+}
+
+/// Whether `fast` has the call: of those by place it has the advance.
+pub fn is_fast(call: &Call) -> bool {
+    match call {
+        Call::Check | Call::Begin | Call::Visit { .. } => true,
+        Call::At { asked, .. } => asked.call == by_place::ADVANCE,
+        Call::Lookup { .. } | Call::Version => false,
+    }
+}
+
+/// A call that `fast` has.
 pub fn by_fast(call: &Call, lent: &mut Lent) -> u32 {
     let Sheets {
         records,
@@ -72,9 +110,10 @@ pub fn by_fast(call: &Call, lent: &mut Lent) -> u32 {
         Call::Visit { key, now } => {
             number(fast::visit(records, coordinator, key, now).map(visit_number))
         }
-        Call::AdvanceAt { place, now } => {
-            let advanced = fast::advance_at(&mut lent.list, place, records, coordinator, now);
+        Call::At { place, asked } if asked.call == by_place::ADVANCE => {
+            let advanced = fast::advance_at(&mut lent.list, place, records, coordinator, asked.now);
             number(advanced.map(|()| 0))
         }
+        _ => panic!("not a call of fast: {call:?}"),
     }
 }

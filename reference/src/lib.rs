@@ -4,7 +4,8 @@
 //! - `sequential_model` is what `plain` must come to after any history, the plain book of the paper.
 //! - `replay` runs a history given as text over `plain`.
 //! - `compare` makes cases from seeds and holds an implementation against them.
-//! - `exported` has the calls that the engine exports for C, over `plain` and over `fast`, and `conversions` sheets to numbers and back.
+//! - `exported` has the calls that the engine exports for C, over `plain`, and over `fast` those that are timed, and `conversions`
+//!   sheets to numbers and back.
 //! - `fast` gives the same answers as `plain` and is what the engine's time is compared with.
 //! - `make` writes accepted, damaged and forged sheets, histories of calls and the scripts of replays.
 //! - `seen` counts which refusals and steps a comparison has met.

@@ -1,6 +1,6 @@
 //! `fast` answers as `plain` does, and leaves every byte lent as `plain` does.
 
-use reference::exported::{by_fast, by_plain, Call, Lent};
+use reference::exported::{by_fast, by_plain, is_fast, Call, Lent};
 use reference::make::exported::next;
 use reference::make::history::{History, Rule};
 use reference::make::random::Random;
@@ -24,7 +24,8 @@ fn name(call: &Call) -> &'static str {
         Call::Check => "check",
         Call::Begin => "begin",
         Call::Visit { .. } => "visit",
-        Call::AdvanceAt { .. } => "advance",
+        Call::At { .. } => "advance",
+        _ => "not a call of fast",
     }
 }
 
@@ -36,6 +37,15 @@ fn shown(call: &Call, answer: u32) -> (&'static str, u32) {
     }
 }
 
+/// The history's next call, or a check where `fast` hasn't it.
+fn next_fast(random: &mut Random, history: &mut History) -> (Call, Lent) {
+    let (call, lent) = next(random, history);
+    match is_fast(&call) {
+        true => (call, lent),
+        false => (Call::Check, lent),
+    }
+}
+
 #[test]
 fn on_histories() {
     let mut seen = BTreeMap::new();
@@ -44,7 +54,7 @@ fn on_histories() {
         let rule = random.pick(&[Rule::Legal, Rule::Free]);
         let mut history = History::new(random, rule);
         for _ in 0..100 {
-            let (call, lent) = next(random, &mut history);
+            let (call, lent) = next_fast(random, &mut history);
             *seen.entry(shown(&call, agreed(&call, lent))).or_insert(0) += 1;
         }
     }
@@ -71,7 +81,7 @@ fn on_sheets_of_full_size() {
     let sheets = of_size(random, size, Mix::Thirds);
     let mut history = History::on(random, Rule::Free, sheets);
     for _ in 0..1_000 {
-        let (call, lent) = next(random, &mut history);
+        let (call, lent) = next_fast(random, &mut history);
         agreed(&call, lent);
     }
 }

@@ -4,19 +4,20 @@
 //! many calls, for every fault. Prints at which call each was found, and fails if one wasn't.
 
 use reference::compare::rounds::Tally;
-use reference::compare::{Case, Subject};
+use reference::compare::{calls_until, Case, Subject};
 use reference::conversions::{self, Conversion};
 use reference::exported::{self, Call, Lent};
 use reference::faults::{self, TITLES};
+use reference::make::Sheets;
 use reference::plain::visitor;
 use reference::replay::replay;
 use std::panic::{catch_unwind, set_hook, AssertUnwindSafe};
 use std::process::ExitCode;
 
 /// A third of the calls that `make differ` makes.
-const CALLS: u64 = 50_000;
-/// At each of them rounds begin with small ones, as from 0 on.
-const SEEDS: [u64; 5] = [0, 124_000, 248_000, 372_000, 496_000];
+const CALLS: u64 = 66_000;
+/// At each of them rounds begin with small ones of every kind, as from 0 on.
+const SEEDS: [u64; 5] = [0, 168_000, 336_000, 504_000, 672_000];
 
 /// `plain` with this fault.
 struct Faulty(usize);
@@ -48,6 +49,11 @@ impl Subject for Faulty {
 
     fn convert(&self, conversion: Conversion, lent: &mut conversions::Lent) -> u32 {
         let answer = self.make(|| conversions::by_plain(conversion, lent));
+        answer.unwrap_or(u32::MAX)
+    }
+
+    fn written(&self, before: &Sheets, after: &Sheets, lines: &mut [u32]) -> u32 {
+        let answer = self.make(|| exported::written_by_plain(before, after, lines));
         answer.unwrap_or(u32::MAX)
     }
 }
@@ -83,16 +89,18 @@ fn find(calls: u64, first: u64) -> Found {
 
 /// The call of a case that shows the difference, counted in it from 1.
 fn call_in(case: &Case, subject: &Faulty) -> u64 {
-    let Case::Replay {
-        input, expected, ..
-    } = case
-    else {
-        return 1;
-    };
-    let output = subject.replay(input).unwrap_or_default();
-    let both = output.iter().zip(expected);
-    let same = both.take_while(|(one, other)| one == other).count();
-    reference::compare::calls_until(input, same)
+    match case {
+        Case::Replay {
+            input, expected, ..
+        } => {
+            let output = subject.replay(input).unwrap_or_default();
+            let both = output.iter().zip(expected);
+            let same = both.take_while(|(one, other)| one == other).count();
+            calls_until(input, same)
+        }
+        Case::Clients(history) => history.difference(subject).map_or(1, |d| d.place),
+        _ => 1,
+    }
 }
 
 fn report(seeds: &[u64], found: &[Found]) -> usize {

@@ -1,12 +1,15 @@
 //! The comparison: cases made from seeds, each with what is expected of it, and an implementation held against them.
 
+pub mod clients;
 pub mod rounds;
 
 use crate::conversions::{self, Conversion};
 use crate::exported::{self, Call, Lent};
+use crate::make::Sheets;
 use crate::plain::visitor;
 use crate::replay::{self, replay};
 use crate::seen::is_call;
+use clients::ClientHistory;
 
 /// What is held against `plain`: two programs, and the functions for C.
 pub trait Subject {
@@ -16,6 +19,8 @@ pub trait Subject {
     fn visitor(&self, input: &[u8]) -> Result<Vec<u8>, String>;
     fn call(&self, call: &Call, lent: &mut Lent) -> u32;
     fn convert(&self, conversion: Conversion, lent: &mut conversions::Lent) -> u32;
+    /// What differs between the sheets, with the lines told.
+    fn written(&self, before: &Sheets, after: &Sheets, lines: &mut [u32]) -> u32;
 }
 
 /// An input and what `plain` makes of it.
@@ -41,6 +46,14 @@ pub enum Case {
         answer: u32,
         after: conversions::Lent,
     },
+    /// Sheets before and after, and the target before and after it is told which lines differ.
+    Written {
+        sheets: [Sheets; 2],
+        lines: Vec<u32>,
+        answer: u32,
+        told: Vec<u32>,
+    },
+    Clients(ClientHistory),
 }
 
 impl Case {
@@ -82,11 +95,26 @@ impl Case {
         }
     }
 
+    pub fn written(before: Sheets, after: Sheets, lines: Vec<u32>) -> Case {
+        let mut told = lines.clone();
+        let answer = exported::written_by_plain(&before, &after, &mut told);
+        Case::Written {
+            sheets: [before, after],
+            lines,
+            answer,
+            told,
+        }
+    }
+
     /// How many calls it makes.
     pub fn calls(&self) -> u64 {
         match self {
             Case::Replay { calls, .. } => *calls,
-            Case::Visit { .. } | Case::Call { .. } | Case::Convert { .. } => 1,
+            Case::Clients(history) => history.calls(),
+            Case::Visit { .. }
+            | Case::Call { .. }
+            | Case::Convert { .. }
+            | Case::Written { .. } => 1,
         }
     }
 
@@ -115,6 +143,16 @@ impl Case {
                 let mut lent = lent.clone();
                 subject.convert(*conversion, &mut lent) == *answer && lent == *after
             }
+            Case::Written {
+                sheets: [before, after],
+                lines,
+                answer,
+                told,
+            } => {
+                let mut lines = lines.clone();
+                subject.written(before, after, &mut lines) == *answer && lines == *told
+            }
+            Case::Clients(history) => history.difference(subject).is_none(),
         }
     }
 }

@@ -2,16 +2,20 @@
 
 use super::Case;
 use crate::make::bad_lines::bad_input;
+use crate::make::clients::clients;
 use crate::make::random::Random;
 use crate::make::script::Script;
 use crate::make::scripts::{crowded, damaged, free, legal, Extent};
 use crate::make::{exports, visits};
 use crate::seen::Seen;
 
-/// Seeds that many apart make rounds of the same kind.
-const KINDS: u64 = 124;
+/// Seeds that many apart make rounds of the same kind. Such a row of rounds is a cycle.
+const KINDS: u64 = 140;
 /// Rounds with small histories and few calls come before four large ones, which take the most time.
-const SMALL: u64 = 120;
+const SMALL: u64 = 136;
+/// Of so many cycles the first four are of every kind, and the rest of calls by place, which take the least time.
+const CYCLES: u64 = 12;
+const OF_EVERY_KIND: u64 = 4;
 
 /// What the rounds so far have made.
 #[derive(Default)]
@@ -24,25 +28,55 @@ pub struct Tally {
 impl Tally {
     /// The cases of one round, or how `plain` departs from the sequential model in one of them.
     pub fn round(&mut self, seed: u64) -> Result<Vec<Case>, String> {
-        let mut random = Random::new(seed);
+        let random = &mut Random::new(seed);
+        match seed / KINDS % CYCLES < OF_EVERY_KIND {
+            true => self.of_every_kind(random, seed),
+            false => self.by_place(random, seed),
+        }
+    }
+
+    fn of_every_kind(&mut self, random: &mut Random, seed: u64) -> Result<Vec<Case>, String> {
         // Small ones first: they show a difference in the fewest lines. They are mixed, so that each kind comes early.
         let kind = match seed % KINDS {
-            small @ 0..SMALL => small * 37 % 60,
-            large => large - SMALL + 60,
+            small @ 0..SMALL => small * 37 % 68,
+            large => large - SMALL + 68,
         };
         match kind {
-            0..16 => self.legal(&mut random, Extent::Small),
-            16..24 => self.free(&mut random, Extent::Small),
-            24..32 => Ok(self.crowded(&mut random)),
-            32..40 => Ok(exports::cases(&mut random, &mut self.seen)),
-            40..48 => Ok(self.damaged(&mut random)),
-            48..52 => Ok(self.bad_inputs(&mut random)),
-            52..60 => Ok(visits::cases(&mut random, &mut self.seen)),
-            60 => self.legal(&mut random, large(seed)),
-            61 => self.free(&mut random, large(seed)),
-            62 => self.legal(&mut random, Extent::Long),
-            _ => self.free(&mut random, Extent::Long),
+            0..16 => self.legal(random, Extent::Small),
+            16..24 => self.free(random, Extent::Small),
+            24..32 => Ok(self.crowded(random)),
+            32..40 => Ok(exports::cases(random, &mut self.seen)),
+            40..48 => Ok(self.damaged(random)),
+            48..52 => Ok(self.bad_inputs(random)),
+            52..60 => Ok(visits::cases(random, &mut self.seen)),
+            60..68 => self.clients(random, Extent::Small),
+            68 => self.legal(random, large(seed)),
+            69 => self.free(random, large(seed)),
+            70 => self.legal(random, Extent::Long),
+            _ if cycle_of_four(seed) == 1 => self.clients(random, Extent::Long),
+            _ => self.free(random, Extent::Long),
         }
+    }
+
+    fn by_place(&mut self, random: &mut Random, seed: u64) -> Result<Vec<Case>, String> {
+        match seed % KINDS {
+            small @ 0..SMALL if small % 2 == 0 => {
+                Ok(exports::cases_by_place(random, &mut self.seen))
+            }
+            0..SMALL => self.clients(random, Extent::Small),
+            SMALL => self.clients(random, Extent::Wide),
+            _ => self.clients(random, Extent::Long),
+        }
+    }
+
+    /// A large one, or some small ones.
+    fn clients(&mut self, random: &mut Random, extent: Extent) -> Result<Vec<Case>, String> {
+        let histories = match extent {
+            Extent::Small => 3,
+            Extent::Long | Extent::Wide => 1,
+        };
+        let mut case = || clients(random, &mut self.seen, extent).map(Case::Clients);
+        (0..histories).map(|_| case()).collect()
     }
 
     fn legal(&mut self, random: &mut Random, extent: Extent) -> Result<Vec<Case>, String> {
@@ -97,9 +131,13 @@ impl Tally {
     }
 }
 
+fn cycle_of_four(seed: u64) -> u64 {
+    seed / KINDS % 4
+}
+
 /// Wide sheets once in four times: a call on them takes the longest by far.
 fn large(seed: u64) -> Extent {
-    match seed / KINDS % 4 {
+    match cycle_of_four(seed) {
         0 => Extent::Wide,
         _ => Extent::Long,
     }

@@ -1,63 +1,115 @@
-//! Exported calls out of random histories, at times on damaged sheets.
+//! Exported calls out of random histories or from nowhere, at times on damaged or forged sheets.
 
-use super::arguments::clock;
+use super::arguments::{any_key, clock};
 use super::damage::damage;
+use super::forge::forge;
 use super::history::{Event, History};
+use super::lists::{asked, list_of, no_call, other};
 use super::random::Random;
-use super::sheets::crowded;
+use super::requests::{begin, stray};
 use super::transactions::forged;
+use super::{any, sheets, Sheets};
 use crate::exported::{Call, Lent};
 use crate::plain::request::Request;
 use crate::plain::store::Store;
 use crate::plain::transaction::Transaction;
 
-/// The history's next call, or a check where it isn't exported, and what it is lent.
+/// The history's next call, by place unless it is a visit, and what it is lent.
 pub fn next(random: &mut Random, history: &mut History) -> (Call, Lent) {
     let Event {
         request, before, ..
     } = history.step(random);
-    let (list, place) = list_of(random, &request, &before.store());
-    let mut lent = Lent {
-        sheets: before,
-        list,
-    };
-    if random.once_in(6) {
-        damage(random, &mut lent.sheets);
-    }
-    let call = match request {
-        Request::Begin { .. } => Call::Begin,
-        Request::Visit { key, now } => Call::Visit { key, now },
-        Request::Advance { now, .. } => Call::AdvanceAt { place, now },
-        _ => Call::Check,
-    };
-    (call, lent)
+    let call = exported(random, &request, history.states(), before);
+    spoilt(random, 6, call)
 }
 
-/// The advance of a transaction that was forged for sheets of its own.
-pub fn forged_advance(random: &mut Random) -> (Call, Lent) {
-    let sheets = crowded(random);
+/// A call with a transaction that was forged for sheets of its own, among others such.
+pub fn from_nowhere(random: &mut Random) -> (Call, Lent) {
+    let sheets = sheets::crowded(random);
     let store = sheets.store();
+    let request = match random.below(12) {
+        0 => begin(random),
+        1..=5 => advance(random, &store),
+        _ => stray(random, &[], &store),
+    };
+    let call = exported(random, &request, &[], sheets);
+    spoilt(random, 24, call)
+}
+
+/// The step of a forged transaction, of which there are more kinds than of any other call.
+fn advance(random: &mut Random, store: &Store) -> Request {
     let number = 1 + random.below(store.coordinator.issued as usize) as u32;
     let base = Transaction::begun(number, random.once_in(2));
-    let list = vec![forged(random, base, &store)];
-    let now = clock(random, &store.records);
-    (Call::AdvanceAt { place: 0, now }, Lent { sheets, list })
+    Request::Advance {
+        transaction: forged(random, base, store),
+        now: clock(random, &store.records),
+    }
 }
 
-/// A list with the transaction that the request takes among others, and its place. The list may be too long, and
-/// the place seldom lies beyond it.
-fn list_of(random: &mut Random, request: &Request, store: &Store) -> (Vec<Transaction>, usize) {
+/// A look-up in sheets of every kind.
+pub fn lookup(random: &mut Random) -> (Call, Lent) {
+    let records = sheets::accepted(random);
+    let key = any_key(random, &records.store().records);
+    let sheets = match random.once_in(3) {
+        true => any(random),
+        false => records,
+    };
+    let list = Vec::new();
+    let lent = Lent { sheets, list };
+    (Call::Lookup { key }, lent)
+}
+
+/// The request as a function for C takes it. Begin has one beside that by place.
+fn exported(
+    random: &mut Random,
+    request: &Request,
+    others: &[Transaction],
+    sheets: Sheets,
+) -> (Call, Lent) {
+    let store = sheets.store();
+    let (list, place) = list_for(random, request, others, &store);
+    let call = match request {
+        Request::Visit { key, now } => Call::Visit {
+            key: *key,
+            now: *now,
+        },
+        Request::Begin { .. } if random.once_in(3) => Call::Begin,
+        _ => {
+            let asked = asked(random, request, &store.records);
+            Call::At { place, asked }
+        }
+    };
+    (call, Lent { sheets, list })
+}
+
+/// A list for the request, and the place that it names. What stands where a begin puts the new one doesn't matter.
+fn list_for(
+    random: &mut Random,
+    request: &Request,
+    others: &[Transaction],
+    store: &Store,
+) -> (Vec<Transaction>, usize) {
     let taken = match request.taken() {
         Some(taken) => *taken,
-        None => Transaction::begun(1, true),
+        None => other(random, Transaction::begun(1, true), others, store),
     };
-    let length = random.pick(&[0, 1, 1, 2, 3, 9, 16, 16, 17]);
-    let other = |_| forged(random, taken, store);
-    let mut list: Vec<Transaction> = (0..length).map(other).collect();
-    if length == 0 || random.once_in(16) {
-        return (list, random.pick(&[length, length + 1, usize::MAX]));
+    list_of(random, taken, others, store)
+}
+
+/// The same call, but seldom there is none of its number, and once in so many times the sheets are damaged or forged.
+fn spoilt(random: &mut Random, times: usize, (call, mut lent): (Call, Lent)) -> (Call, Lent) {
+    if random.once_in(times) {
+        match random.once_in(4) {
+            true => forge(random, &mut lent.sheets),
+            false => damage(random, &mut lent.sheets),
+        }
     }
-    let place = random.below(length);
-    list[place] = taken;
-    (list, place)
+    let call = match call {
+        Call::At { place, asked } if random.once_in(30) => Call::At {
+            place,
+            asked: no_call(random, asked),
+        },
+        _ => call,
+    };
+    (call, lent)
 }

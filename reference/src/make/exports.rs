@@ -2,10 +2,11 @@
 
 use super::any;
 use super::conversions::conversion;
-use super::exported::{forged_advance, next};
+use super::exported::{from_nowhere, lookup, next};
 use super::history::{History, Rule};
 use super::random::Random;
 use super::sheets::{of_size, Mix, Size};
+use super::written::unlike;
 use crate::compare::Case;
 use crate::exported::{Call, Lent};
 use crate::seen::Seen;
@@ -16,23 +17,55 @@ const FULL: Size = Size {
     issued: 950,
 };
 
-/// The calls of a history, forged transactions, checks of sheets of every kind, and sheets to numbers and back.
+/// The calls of a history, calls from nowhere, checks of sheets of every kind, and sheets to numbers and back.
 pub fn cases(random: &mut Random, seen: &mut Seen) -> Vec<Case> {
-    let mut history = history(random);
-    let calls = (0..150).map(|_| {
-        let (call, lent) = next(random, &mut history);
-        Case::call(call, lent)
-    });
-    let mut cases: Vec<Case> = calls.collect();
-    cases.extend((0..250).map(|_| {
-        let (call, lent) = forged_advance(random);
-        Case::call(call, lent)
-    }));
-    cases.extend((0..300).map(|_| check(random)));
+    let mut cases = by_place(random, 150, 250);
+    cases.extend((0..300).map(|_| on_any(random, Call::Check)));
     cases.extend((0..250).map(|_| {
         let (conversion, lent) = conversion(random);
         Case::convert(conversion, lent)
     }));
+    cases.extend(told(random, 25, 50));
+    noted(cases, seen)
+}
+
+/// Calls by place, for the most part.
+pub fn cases_by_place(random: &mut Random, seen: &mut Seen) -> Vec<Case> {
+    let mut cases = by_place(random, 200, 900);
+    cases.extend(told(random, 25, 50));
+    noted(cases, seen)
+}
+
+/// So many look-ups, so many sheets before and after, and the version.
+fn told(random: &mut Random, look_ups: usize, unlikes: usize) -> Vec<Case> {
+    let mut cases = vec![on_any(random, Call::Version)];
+    cases.extend((0..look_ups).map(|_| {
+        let (call, lent) = lookup(random);
+        Case::call(call, lent)
+    }));
+    cases.extend((0..unlikes).map(|_| {
+        let (before, after, lines) = unlike(random);
+        Case::written(before, after, lines)
+    }));
+    cases
+}
+
+/// So many calls of a history and so many from nowhere. All but visits and some begins are by place.
+fn by_place(random: &mut Random, in_history: usize, from_elsewhere: usize) -> Vec<Case> {
+    let mut history = history(random);
+    let calls = (0..in_history).map(|_| {
+        let (call, lent) = next(random, &mut history);
+        Case::call(call, lent)
+    });
+    let mut cases: Vec<Case> = calls.collect();
+    cases.extend((0..from_elsewhere).map(|_| {
+        let (call, lent) = from_nowhere(random);
+        Case::call(call, lent)
+    }));
+    cases
+}
+
+fn noted(cases: Vec<Case>, seen: &mut Seen) -> Vec<Case> {
     for case in &cases {
         seen.note_exported(case);
     }
@@ -51,10 +84,11 @@ fn history(random: &mut Random) -> History {
     }
 }
 
-fn check(random: &mut Random) -> Case {
+/// A call that is lent sheets of any kind and no list.
+fn on_any(random: &mut Random, call: Call) -> Case {
     let lent = Lent {
         sheets: any(random),
         list: Vec::new(),
     };
-    Case::call(Call::Check, lent)
+    Case::call(call, lent)
 }

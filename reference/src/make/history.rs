@@ -74,6 +74,11 @@ impl History {
         }
     }
 
+    /// States that calls returned, the last ones last.
+    pub fn states(&self) -> &[Transaction] {
+        &self.old
+    }
+
     /// Makes the next call that the rule allows.
     pub fn step(&mut self, random: &mut Random) -> Event {
         loop {

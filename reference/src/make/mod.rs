@@ -2,6 +2,7 @@
 
 pub mod arguments;
 pub mod bad_lines;
+pub mod clients;
 pub mod closing;
 pub mod conversions;
 pub mod damage;
@@ -9,6 +10,7 @@ pub mod exported;
 pub mod exports;
 pub mod forge;
 pub mod history;
+pub mod lists;
 pub mod random;
 pub mod requests;
 pub mod script;
@@ -16,6 +18,7 @@ pub mod scripts;
 pub mod sheets;
 pub mod transactions;
 pub mod visits;
+pub mod written;
 
 use crate::plain::request::{Answer, Request};
 use crate::plain::store::Store;

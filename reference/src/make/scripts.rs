@@ -26,7 +26,8 @@ pub enum Extent {
     Wide,
 }
 
-fn history(random: &mut Random, rule: Rule, extent: Extent) -> (History, usize) {
+/// A history of this extent, and how many calls it is to have.
+pub fn history(random: &mut Random, rule: Rule, extent: Extent) -> (History, usize) {
     let mix = match rule {
         Rule::Legal => Mix::Settled,
         Rule::Free => Mix::Thirds,

@@ -7,8 +7,7 @@ use super::store::{Store, Visit};
 use super::transaction::*;
 use super::well_formed;
 use super::{
-    COLUMN_TOO_LARGE, ILL_FORMED, KEY_NOT_HELD, NUMBERS_SPENT, TOO_MANY_KEYS, VERSION_SPENT,
-    WRONG_PHASE,
+    COLUMN_TOO_LARGE, KEY_NOT_HELD, NUMBERS_SPENT, TOO_MANY_KEYS, VERSION_SPENT, WRONG_PHASE,
 };
 
 /// Makes a call on the records of both sheets, and writes them back only if it was accepted.
@@ -102,23 +101,6 @@ pub fn advance(
     on_sheets(records, coordinator, |store| {
         well_formed::require(&transaction, store)?;
         steps::advance(store, transaction, now)
-    })
-}
-
-/// One step of the transaction at this place of a lent list.
-pub fn advance_at(
-    records: &mut [u8],
-    coordinator: &mut [u8],
-    list: &mut [Transaction],
-    place: usize,
-    now: u32,
-) -> Result<(), u32> {
-    on_sheets(records, coordinator, |store| {
-        require(list.len() <= MOST_LISTED, ILL_FORMED)?;
-        let transaction = list.get_mut(place).ok_or(ILL_FORMED)?;
-        well_formed::require(transaction, store)?;
-        *transaction = steps::advance(store, *transaction, now)?;
-        Ok(())
     })
 }
 

@@ -1,5 +1,6 @@
 //! The paper read field by field, without regard to speed.
 
+pub mod by_place;
 pub mod calls;
 pub mod coordinator;
 pub mod field;
@@ -14,6 +15,7 @@ pub mod transaction;
 pub mod visitor;
 pub mod well_formed;
 pub mod writes;
+pub mod written;
 
 use key::Key;
 use record::Record;
@@ -45,6 +47,11 @@ pub const KEY_NOT_HELD: u32 = 10;
 pub const VERSION_SPENT: u32 = 11;
 /// An undecided line has not expired.
 pub const BUSY: u32 = 12;
+
+/// The version of the functions for C: 1.0.0.
+pub fn version() -> u32 {
+    10_000
+}
 
 /// 0 where both sheets are accepted, else the refusal.
 pub fn check(records: &[u8], coordinator: &[u8]) -> u32 {

@@ -2,7 +2,7 @@
 
 use std::fmt;
 
-/// A call and the refusals that it can give.
+/// A call and the refusals that it can give, 0 among them where it can be accepted.
 pub type Row = (&'static str, &'static [usize]);
 
 pub struct Answers {
@@ -31,8 +31,7 @@ impl Answers {
     pub fn amiss(&self) -> Vec<String> {
         let rows = self.rows.iter().zip(&self.counts);
         let amiss = rows.flat_map(|((call, refusals), counts)| {
-            let expected = |n: usize| n == 0 || refusals.contains(&n);
-            let amiss = (0..counts.len()).filter(move |n| expected(*n) != (counts[*n] > 0));
+            let amiss = (0..counts.len()).filter(|n| refusals.contains(n) != (counts[*n] > 0));
             amiss.map(move |n| format!("{call}: answer {n}"))
         });
         amiss.collect()
@@ -51,14 +50,14 @@ impl fmt::Display for Answers {
     fn fmt(&self, out: &mut fmt::Formatter) -> fmt::Result {
         let widest = self.rows.iter().map(|(call, _)| call.len()).max();
         let width = widest.unwrap_or(0).max(7) + 2;
-        write!(out, "{:<width$}{:>8}", "refusal", "none")?;
+        write!(out, "{:<width$}{:>9}", "refusal", "none")?;
         for number in 1..13 {
-            write!(out, "{number:>6}")?;
+            write!(out, "{number:>8}")?;
         }
         for ((call, _), counts) in self.rows.iter().zip(&self.counts) {
-            write!(out, "\n{call:<width$}{:>8}", count(counts[0]))?;
+            write!(out, "\n{call:<width$}{:>9}", count(counts[0]))?;
             for number in &counts[1..] {
-                write!(out, "{:>6}", count(*number))?;
+                write!(out, "{:>8}", count(*number))?;
             }
         }
         Ok(())

@@ -1,64 +1,78 @@
 //! What a comparison has seen: every refusal of every call and every step from phase to phase, counted.
 
 mod answers;
+mod clients;
+mod steps;
 
 use crate::compare::Case;
 use crate::conversions::Conversion;
-use crate::exported::Call;
+use crate::exported::{refusal_of, Call};
+use crate::plain::by_place;
 use crate::plain::transaction::Transaction;
 use crate::replay::line::Line;
 use crate::replay::reply::Reply;
-use answers::{count, Answers, Row};
+use answers::{Answers, Row};
+use clients::Clients;
 use std::fmt;
-
-pub const PHASES: [&str; 8] = [
-    "open", "prepare", "check", "decide", "withdraw", "finish", "undo", "done",
-];
+use steps::Steps;
 
 /// The calls of a replay.
 const LINES: &[Row] = &[
-    ("check", &[1, 2]),
-    ("begin", &[1, 2, 8]),
-    ("read", &[1, 2, 3, 4, 5, 6, 9, 12]),
-    ("put", &[1, 2, 3, 4, 5, 6, 7, 10, 11]),
-    ("advance", &[1, 2, 3, 4]),
-    ("abort", &[1, 2, 3, 4]),
-    ("visit", &[1, 2, 5, 6, 12]),
-    ("lookup", &[1, 5, 6]),
-    ("line", &[]),
+    ("check", &[0, 1, 2]),
+    ("begin", &[0, 1, 2, 8]),
+    ("read", &[0, 1, 2, 3, 4, 5, 6, 9, 12]),
+    ("put", &[0, 1, 2, 3, 4, 5, 6, 7, 10, 11]),
+    ("advance", &[0, 1, 2, 3, 4]),
+    ("abort", &[0, 1, 2, 3, 4]),
+    ("visit", &[0, 1, 2, 5, 6, 12]),
+    ("lookup", &[0, 1, 5, 6]),
+    ("line", &[0]),
 ];
 
-/// The functions for C.
+/// The functions for C but the one by place.
 const EXPORTED: &[Row] = &[
-    ("check", &[1, 2]),
-    ("begin", &[1, 2, 8]),
-    ("visit", &[1, 2, 5, 6, 12]),
-    ("advance_at", &[1, 2, 3, 4]),
-    ("read_records", &[1]),
-    ("write_records", &[1]),
-    ("read_coordinator", &[1, 2]),
-    ("write_coordinator", &[1, 2]),
+    ("check", &[0, 1, 2]),
+    ("begin", &[0, 1, 2, 8]),
+    ("visit", &[0, 1, 2, 5, 6, 12]),
+    ("lookup", &[0, 1, 5, 6]),
+    ("version", &[0]),
+    ("read_records", &[0, 1]),
+    ("write_records", &[0, 1]),
+    ("read_coordinator", &[0, 1, 2]),
+    ("write_coordinator", &[0, 1, 2]),
+    ("written", &[0, 1, 2]),
+];
+const WRITTEN: usize = 9;
+
+/// The calls by place, by their numbers.
+const BY_PLACE: &[Row] = &[
+    ("begin", &[0, 1, 2, 3, 8]),
+    ("begin checked", &[0, 1, 2, 3, 8]),
+    ("read", &[0, 1, 2, 3, 4, 5, 6, 9, 12]),
+    ("put", &[0, 1, 2, 3, 4, 5, 6, 7, 10, 11]),
+    ("advance", &[0, 1, 2, 3, 4]),
+    ("abort", &[0, 1, 2, 3, 4]),
+    ("no such call", &[1, 2, 3]),
 ];
 
-const VISITOR: &[Row] = &[("visiting program", &[1, 2])];
+const VISITOR: &[Row] = &[("visiting program", &[0, 1, 2])];
 
-/// The phases to which an advance leads from each phase: the step table.
-const STEPS: [&[usize]; 8] = [
-    &[1, 2, 4, 7],
-    &[1, 2, 3, 4],
-    &[2, 3, 4, 7],
-    &[5, 6],
-    &[6, 7],
-    &[5, 7],
-    &[6, 7],
-    &[],
-];
+/// What a read by place answers, and what is told of the sheets before and after a call.
+const READINGS: [&str; 3] = ["absent", "columns", "again"];
+const CHANGES: [&str; 4] = ["nothing", "coordinator", "records", "both"];
 
 pub struct Seen {
     lines: Answers,
     exported: Answers,
+    by_place: Answers,
     visitor: Answers,
-    steps: [[u64; 8]; 8],
+    steps: Steps,
+    steps_by_place: Steps,
+    readings: [u64; 3],
+    changes: [u64; 4],
+    /// How often it was told beside a call what it has written. It isn't counted as a call.
+    pub told_beside: u64,
+    pub clients: Clients,
     /// Lines that show, forge or have another form.
     pub other_lines: u64,
 }
@@ -68,8 +82,14 @@ impl Default for Seen {
         Seen {
             lines: Answers::new(LINES),
             exported: Answers::new(EXPORTED),
+            by_place: Answers::new(BY_PLACE),
             visitor: Answers::new(VISITOR),
-            steps: [[0; 8]; 8],
+            steps: Steps::default(),
+            steps_by_place: Steps::default(),
+            readings: [0; 3],
+            changes: [0; 4],
+            told_beside: 0,
+            clients: Clients::default(),
             other_lines: 0,
         }
     }
@@ -96,21 +116,12 @@ fn call_of(line: &Line) -> Option<usize> {
     })
 }
 
-fn exported_of(call: &Call) -> usize {
-    match call {
-        Call::Check => 0,
-        Call::Begin => 1,
-        Call::Visit { .. } => 2,
-        Call::AdvanceAt { .. } => 3,
-    }
-}
-
 fn conversion_of(conversion: Conversion) -> usize {
     match conversion {
-        Conversion::ReadRecords => 4,
-        Conversion::WriteRecords => 5,
-        Conversion::ReadCoordinator => 6,
-        Conversion::WriteCoordinator => 7,
+        Conversion::ReadRecords => 5,
+        Conversion::WriteRecords => 6,
+        Conversion::ReadCoordinator => 7,
+        Conversion::WriteCoordinator => 8,
     }
 }
 
@@ -132,26 +143,71 @@ impl Seen {
         };
         self.lines.note(call, refusal);
         if let (Some(taken), Reply::Advanced(returned)) = (taken, reply) {
-            self.steps[taken.phase as usize][returned.phase as usize] += 1;
+            self.steps.note(taken, returned);
         }
         true
     }
 
-    /// Notes a call of a function for C.
+    /// Notes a case of the functions for C.
     pub fn note_exported(&mut self, case: &Case) {
         match case {
-            Case::Call { call, answer, .. } => {
-                // The check answers with the refusal itself, the others with 1000 and the refusal.
-                let refusal = match call {
-                    Call::Check => *answer,
-                    _ => answer.saturating_sub(1_000),
-                };
-                self.exported.note(exported_of(call), refusal);
-            }
+            Case::Call {
+                call,
+                lent,
+                answer,
+                after,
+            } => self.note_call(call, &lent.list, *answer, &after.list),
             Case::Convert {
                 conversion, answer, ..
             } => self.exported.note(conversion_of(*conversion), *answer),
+            Case::Written { answer, .. } => {
+                self.exported.note(WRITTEN, answer.saturating_sub(1_000));
+                self.note_change(*answer);
+            }
             _ => {}
+        }
+    }
+
+    /// Notes a call of a function for C, and the list before and after it.
+    pub fn note_call(
+        &mut self,
+        call: &Call,
+        before: &[Transaction],
+        answer: u32,
+        after: &[Transaction],
+    ) {
+        let refusal = refusal_of(call, answer);
+        let row = match call {
+            Call::Check => 0,
+            Call::Begin => 1,
+            Call::Visit { .. } => 2,
+            Call::Lookup { .. } => 3,
+            Call::Version => 4,
+            Call::At { place, asked } => {
+                let call = asked.call.min(by_place::CALLS);
+                self.by_place.note(call as usize, refusal);
+                match call {
+                    by_place::READ if refusal == 0 => self.readings[answer as usize] += 1,
+                    by_place::ADVANCE if refusal == 0 => {
+                        self.steps_by_place.note(&before[*place], &after[*place]);
+                    }
+                    _ => {}
+                }
+                return;
+            }
+        };
+        self.exported.note(row, refusal);
+    }
+
+    /// Notes what was told beside a call.
+    pub fn note_written_beside(&mut self, answer: u32) {
+        self.told_beside += 1;
+        self.note_change(answer);
+    }
+
+    fn note_change(&mut self, answer: u32) {
+        if let Some(count) = self.changes.get_mut(answer as usize) {
+            *count += 1;
         }
     }
 
@@ -175,7 +231,11 @@ impl Seen {
     }
 
     pub fn exported_calls(&self) -> u64 {
-        self.exported.total()
+        self.exported.total() + self.calls_by_place()
+    }
+
+    pub fn calls_by_place(&self) -> u64 {
+        self.by_place.total()
     }
 
     pub fn visitor_inputs(&self) -> u64 {
@@ -184,31 +244,45 @@ impl Seen {
 
     /// What should have been seen and wasn't, or was seen and shouldn't have been.
     pub fn amiss(&self) -> Vec<String> {
-        let steps = (0..8).flat_map(|from| {
-            let amiss = move |to: &usize| STEPS[from].contains(to) != (self.steps[from][*to] > 0);
-            let to = (0..8).filter(amiss);
-            to.map(move |to| format!("advance: {} to {}", PHASES[from], PHASES[to]))
-        });
-        let answers = [&self.lines, &self.exported, &self.visitor];
-        let answers = answers.into_iter().flat_map(Answers::amiss);
-        answers.chain(steps).collect()
+        let answers = [&self.lines, &self.exported, &self.by_place, &self.visitor];
+        let mut amiss: Vec<String> = answers.into_iter().flat_map(Answers::amiss).collect();
+        amiss.extend(self.steps.amiss("advance"));
+        amiss.extend(self.steps_by_place.amiss("advance by place"));
+        amiss.extend(unseen("read by place", &READINGS, &self.readings));
+        amiss.extend(unseen("written", &CHANGES, &self.changes));
+        amiss
     }
+}
+
+/// The names of what was never counted.
+fn unseen<'a>(
+    call: &'a str,
+    names: &'a [&str],
+    counts: &'a [u64],
+) -> impl Iterator<Item = String> + 'a {
+    let unseen = names.iter().zip(counts).filter(|(_, count)| **count == 0);
+    unseen.map(move |(name, _)| format!("{call}: {name}"))
+}
+
+/// Each count after its name.
+fn named(names: &[&str], counts: &[u64]) -> String {
+    let named = names.iter().zip(counts);
+    let named: Vec<String> = named
+        .map(|(name, count)| format!("{name} {count}"))
+        .collect();
+    named.join(", ")
 }
 
 impl fmt::Display for Seen {
     /// The answers of each call in a replay, the steps from phase to phase, the answers of the functions for C and of the
     /// visiting program.
     fn fmt(&self, out: &mut fmt::Formatter) -> fmt::Result {
-        write!(out, "{}\n\n{:<9}", self.lines, "step to")?;
-        for phase in PHASES {
-            write!(out, "{phase:>9}")?;
-        }
-        for (from, counts) in PHASES.iter().zip(&self.steps) {
-            write!(out, "\n{from:<9}")?;
-            for number in counts {
-                write!(out, "{:>9}", count(*number))?;
-            }
-        }
-        write!(out, "\n\nfor C\n{}\n\n{}", self.exported, self.visitor)
+        writeln!(out, "{}\n\n{}\n", self.lines, self.steps)?;
+        writeln!(out, "for C\n{}\n", self.exported)?;
+        writeln!(out, "for C, by place\n{}\n", self.by_place)?;
+        writeln!(out, "{}\n", self.steps_by_place)?;
+        writeln!(out, "read by place: {}", named(&READINGS, &self.readings))?;
+        writeln!(out, "written: {}", named(&CHANGES, &self.changes))?;
+        write!(out, "{}\n\n{}", self.clients, self.visitor)
     }
 }

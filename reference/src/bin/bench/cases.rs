@@ -3,6 +3,7 @@
 use reference::exported::{Call, Lent};
 use reference::make::random::Random;
 use reference::make::sheets::{of_size, Mix, Size};
+use reference::plain::by_place::{self, Asked};
 use reference::plain::coordinator::{Decision, Unit};
 use reference::plain::key::Key;
 use reference::plain::record::{Image, Record, State, NOTHING};
@@ -95,7 +96,24 @@ impl Case {
     }
 }
 
-const ADVANCE: Call = Call::AdvanceAt { place: 0, now: NOW };
+/// An advance at place 0, which takes none of the numbers but the clock.
+const ADVANCE: Call = Call::At {
+    place: 0,
+    asked: Asked {
+        call: by_place::ADVANCE,
+        key: NO_KEY,
+        columns: [0; 2],
+        now: NOW,
+    },
+};
+
+const NO_KEY: Key = Key {
+    storage: 0,
+    namespace: 0,
+    table: 0,
+    partition: 0,
+    clustering: 0,
+};
 
 /// Eight lines spread over the sheet, the middle one among them.
 fn places(lines: usize) -> impl Iterator<Item = usize> {

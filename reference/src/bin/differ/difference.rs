@@ -1,7 +1,9 @@
 //! A difference that was found: what it is, and a file with the input that shows it.
 
 use crate::programs::Engine;
+use reference::compare::clients::Difference;
 use reference::compare::{Case, Subject};
+use reference::plain::transaction::Transaction;
 use reference::replay::replay;
 use std::fs;
 use std::path::PathBuf;
@@ -24,11 +26,28 @@ pub fn told(seed: u64, case: &Case) -> String {
         } => {
             let mut left = lent.clone();
             let answered = Engine.call(call, &mut left);
-            let lists = left.list == after.list;
+            let lists = of_lists(&after.list, &left.list);
             let (plain, engine) = (&after.sheets, left.sheets);
             format!(
-                "{call:?}\nplain answers {answer}, the engine {answered}; the lists are equal: {lists}\n\
+                "{call:?}\nplain answers {answer}, the engine {answered}; {lists}\n\
                  plain leaves\n{plain}\nthe engine leaves\n{engine}"
+            )
+        }
+        Case::Clients(history) => match history.difference(&Engine) {
+            Some(difference) => of_clients(&difference),
+            None => "clients with lists: no difference when made again".into(),
+        },
+        Case::Written {
+            sheets: [before, after],
+            lines,
+            answer,
+            told,
+        } => {
+            let mut left = lines.clone();
+            let answered = Engine.written(before, after, &mut left);
+            format!(
+                "written, with the lines {lines:?}\nplain answers {answer} and {told:?}, the engine {answered} and {left:?}\n\
+                 before\n{before}\nafter\n{after}"
             )
         }
         Case::Convert {
@@ -44,6 +63,39 @@ pub fn told(seed: u64, case: &Case) -> String {
                  plain leaves\n{after:?}\nthe engine leaves\n{left:?}"
             )
         }
+    }
+}
+
+/// The first call of clients with lists that departs.
+fn of_clients(difference: &Difference) -> String {
+    let Difference {
+        place,
+        expected,
+        made,
+    } = difference;
+    let lists = of_lists(&expected.list, &made.lent.list);
+    format!(
+        "call {place} of clients with lists, by client {}: {:?}\nplain answers {}, the engine {}; {lists}\n\
+         plain tells {:?}, the engine {:?}\nplain leaves\n{}\nthe engine leaves\n{}",
+        expected.client,
+        expected.call,
+        expected.answer,
+        made.answer,
+        expected.written,
+        made.written,
+        expected.sheets,
+        made.lent.sheets,
+    )
+}
+
+/// The first transaction in which two lists of one length differ.
+fn of_lists(plain: &[Transaction], engine: &[Transaction]) -> String {
+    let mut pairs = plain.iter().zip(engine).enumerate();
+    match pairs.find(|(_, (one, other))| one != other) {
+        Some((place, (one, other))) => {
+            format!("in the list at {place}\nplain has {one:?}\nthe engine has {other:?}")
+        }
+        None => "the lists are equal".into(),
     }
 }
 

@@ -4,12 +4,15 @@
 //! for C. Whatever they answer and leave must be what `plain` does, byte for byte. Rounds have rising seeds and go on until
 //! so many calls were made or so many seconds have passed; `differ 1 seed` repeats one. Every refusal of every
 //! call and every step of the step table must have been seen, unless the run asked for less than a hundred thousand calls.
+//! From 0 on rounds are of every kind at first, from other seeds on perhaps after 900,000 calls that are mostly by place.
 
 mod difference;
 #[path = "../engine/mod.rs"]
 mod engine;
 #[path = "../engine/conversions.rs"]
 mod engine_conversions;
+#[path = "../engine/written.rs"]
+mod engine_written;
 mod programs;
 
 use programs::Engine;
@@ -83,11 +86,13 @@ fn report(tally: &Tally, first: u64, end: u64) {
     let seen = &tally.seen;
     println!("{seen}\n");
     println!(
-        "seeds {first} to {}: {} calls, of these {} for C and {} of the visiting program; {} histories, {} bad inputs, {} other lines; 0 differences",
+        "seeds {first} to {}: {} calls, of these {} for C ({} by place) and {} of the visiting program; what was written told beside {}; {} histories, {} bad inputs, {} other lines; 0 differences",
         end - 1,
         seen.calls(),
         seen.exported_calls(),
+        seen.calls_by_place(),
         seen.visitor_inputs(),
+        seen.told_beside,
         tally.histories,
         tally.bad_inputs,
         seen.other_lines,
@@ -96,7 +101,7 @@ fn report(tally: &Tally, first: u64, end: u64) {
 
 fn main() -> ExitCode {
     let (Some(calls), Some(seed), Some(seconds)) =
-        (argument(1, 150_000), argument(2, 0), argument(3, 600))
+        (argument(1, 200_000), argument(2, 0), argument(3, 600))
     else {
         eprintln!("differ [calls] [seed] [seconds], all numbers");
         return ExitCode::from(2);

@@ -2,9 +2,11 @@
 
 use crate::engine::calls;
 use crate::engine_conversions;
+use crate::engine_written;
 use reference::compare::Subject;
 use reference::conversions::{self, Conversion};
 use reference::exported::{Call, Lent};
+use reference::make::Sheets;
 use std::env;
 use std::io::Write;
 use std::path::{Path, PathBuf};
@@ -31,6 +33,10 @@ impl Subject for Engine {
 
     fn convert(&self, conversion: Conversion, lent: &mut conversions::Lent) -> u32 {
         engine_conversions::by_engine(conversion, lent)
+    }
+
+    fn written(&self, before: &Sheets, after: &Sheets, lines: &mut [u32]) -> u32 {
+        engine_written::by_engine(before, after, lines)
     }
 }
 

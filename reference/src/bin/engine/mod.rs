@@ -1,11 +1,12 @@
-//! The engine's functions for C, from its static archive. Beside `conversions` the only calls in this folder that the
-//! compiler can't vouch for.
+//! The engine's functions for C, from its static archive. Beside `conversions` and `written` the only calls in this folder
+//! that the compiler can't vouch for.
 //!
 //! A slice is lent as its first element and its length. Answers are 0 or the refusal from the check, and from the
 //! others what an accepted call gives or 1000 and the refusal.
 
 pub mod calls;
 
+use reference::plain::by_place::Asked;
 use reference::plain::key::Key;
 use reference::plain::transaction::Transaction;
 
@@ -34,7 +35,7 @@ extern "C" {
         clustering: u32,
         clock: u32,
     ) -> u32;
-    fn rapyheo_advance_at(
+    fn rapyheo_call_at(
         list: *mut Transaction,
         list_length: usize,
         place: usize,
@@ -42,8 +43,26 @@ extern "C" {
         records_length: usize,
         coordinator: *mut u8,
         coordinator_length: usize,
+        call: u32,
+        storage: u32,
+        namespace: u32,
+        table: u32,
+        partition: u32,
+        clustering: u32,
+        column1: u32,
+        column2: u32,
         clock: u32,
     ) -> u32;
+    fn rapyheo_lookup(
+        records: *const u8,
+        records_length: usize,
+        storage: u32,
+        namespace: u32,
+        table: u32,
+        partition: u32,
+        clustering: u32,
+    ) -> u32;
+    fn rapyheo_version() -> u32;
 }
 
 fn check(records: &[u8], coordinator: &[u8]) -> u32 {
@@ -90,18 +109,18 @@ fn visit(records: &mut [u8], coordinator: &mut [u8], key: Key, clock: u32) -> u3
     }
 }
 
-/// 0 where the transaction at this place of the list was advanced.
-fn advance_at(
+/// What a read at this place of the list came to, else 0.
+fn call_at(
     list: &mut [Transaction],
     place: usize,
     records: &mut [u8],
     coordinator: &mut [u8],
-    clock: u32,
+    asked: &Asked,
 ) -> u32 {
     // SAFETY: the slices live as long as the call, which stays inside them. A transaction is numbers in the order of C,
     // and any numbers are one.
     unsafe {
-        rapyheo_advance_at(
+        rapyheo_call_at(
             list.as_mut_ptr(),
             list.len(),
             place,
@@ -109,7 +128,36 @@ fn advance_at(
             records.len(),
             coordinator.as_mut_ptr(),
             coordinator.len(),
-            clock,
+            asked.call,
+            asked.key.storage,
+            asked.key.namespace,
+            asked.key.table,
+            asked.key.partition,
+            asked.key.clustering,
+            asked.columns[0],
+            asked.columns[1],
+            asked.now,
         )
     }
+}
+
+/// The place of the key's line, from 0.
+fn lookup(records: &[u8], key: Key) -> u32 {
+    // SAFETY: the slice lives as long as the call, which reads no byte outside it and writes none.
+    unsafe {
+        rapyheo_lookup(
+            records.as_ptr(),
+            records.len(),
+            key.storage,
+            key.namespace,
+            key.table,
+            key.partition,
+            key.clustering,
+        )
+    }
+}
+
+fn version() -> u32 {
+    // SAFETY: nothing is lent.
+    unsafe { rapyheo_version() }
 }

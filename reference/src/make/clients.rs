@@ -1,0 +1,183 @@
+//! Histories of clients that keep lists of transactions: calls by place, crashes that lose a list, and closing visits.
+
+use super::arguments::close_keys;
+use super::closing::close;
+use super::history::Rule;
+use super::lists::{asked, beyond, no_call, unused};
+use super::random::Random;
+use super::requests::{begin, Client};
+use super::scripts::{history, Extent};
+use super::sheets::{with_keys, Mix, Size};
+use super::Sheets;
+use crate::compare::clients::{ClientHistory, Expected, Turn, Written};
+use crate::exported::{by_plain, refusal_of, written_by_plain, Call, Lent};
+use crate::plain::record::Record;
+use crate::plain::request::{Answer, Request};
+use crate::plain::store::Store;
+use crate::plain::transaction::{Transaction, DONE};
+use crate::seen::Seen;
+use crate::sequential_model::SequentialModel;
+use std::sync::Arc;
+
+/// How many keys a transaction reads before it advances, by its number.
+const APPETITES: [u32; 9] = [0, 1, 1, 2, 2, 3, 3, 4, 9];
+
+struct Clients {
+    lists: Vec<Vec<Transaction>>,
+    sheets: Arc<Sheets>,
+    /// What the sheets say.
+    store: Store,
+    model: SequentialModel,
+    turns: Vec<Turn>,
+}
+
+/// A history, closed by visits, or how it departs from the sequential model.
+pub fn clients(
+    random: &mut Random,
+    seen: &mut Seen,
+    extent: Extent,
+) -> Result<ClientHistory, String> {
+    let (sheets, calls) = first(random, extent);
+    let mut clients = Clients::new(random, &sheets);
+    let lengths = clients.lists.iter().map(Vec::len).collect();
+    for _ in 0..calls {
+        clients.turn(random, seen);
+    }
+    clients.close(random, seen);
+    seen.clients.note(&clients.model);
+    if clients.sheets.records != clients.model.sheet() {
+        let sheets = &clients.sheets;
+        return Err(format!("not the sequential model's sheet\n{sheets}"));
+    }
+    Ok(ClientHistory {
+        sheets,
+        lengths,
+        turns: clients.turns,
+    })
+}
+
+/// Sheets without PREPARED lines, and how many calls there are to be. Numbers are seldom spent before.
+fn first(random: &mut Random, extent: Extent) -> (Sheets, usize) {
+    let Extent::Small = extent else {
+        let (history, calls) = history(random, Rule::Legal, extent);
+        return (history.sheets, calls);
+    };
+    let calls = random.pick(&[30, 100, 200, 400]);
+    let issued = random.below(4);
+    let size = Size {
+        records: random.pick(&[3, 3, 4, 5, 6, 8, 10, 12, 12]),
+        decisions: issued + calls / random.pick(&[4, 4, 4, 4, 4, 4, 20]),
+        issued,
+    };
+    let keys = close_keys(random, size.records);
+    (with_keys(random, &keys, size, Mix::Settled), calls)
+}
+
+impl Clients {
+    fn new(random: &mut Random, sheets: &Sheets) -> Clients {
+        let list = |_| vec![unused(); random.pick(&[1, 2, 2, 3, 5, 16])];
+        let lists: Vec<Vec<Transaction>> = (0..4).map(list).collect();
+        Clients {
+            lists,
+            sheets: Arc::new(sheets.clone()),
+            store: sheets.store(),
+            model: SequentialModel::new(&sheets.records).expect("the first sheet is accepted"),
+            turns: Vec::new(),
+        }
+    }
+
+    /// The next call of some client, or a crash.
+    fn turn(&mut self, random: &mut Random, seen: &mut Seen) {
+        let client = random.below(self.lists.len());
+        if random.once_in(40) {
+            seen.clients.crashes += 1;
+            self.lists[client].fill(unused());
+            return self.turns.push(Turn::Crash { client });
+        }
+        let list = &self.lists[client];
+        let place = some_place(random, list.len());
+        let named = list.get(place).copied().unwrap_or(unused());
+        let records = &self.store.records;
+        let request = request(random, named, records);
+        let mut asked = asked(random, &request, records);
+        if random.once_in(60) {
+            asked = no_call(random, asked);
+        }
+        self.make(seen, client, Call::At { place, asked });
+    }
+
+    /// Visits to every line, by no client: the lists stay.
+    fn close(&mut self, random: &mut Random, seen: &mut Seen) {
+        for event in close(random, &mut self.sheets.as_ref().clone()) {
+            if let Request::Visit { key, now } = event.request {
+                self.make(seen, 0, Call::Visit { key, now });
+            }
+        }
+    }
+
+    /// Makes the call by `plain`, and keeps what is expected of it.
+    fn make(&mut self, seen: &mut Seen, client: usize, call: Call) {
+        let before = self.lists[client].clone();
+        let mut lent = Lent {
+            sheets: self.sheets.as_ref().clone(),
+            list: before.clone(),
+        };
+        let answer = by_plain(&call, &mut lent);
+        let Lent { sheets, list } = lent;
+        let written = Written::told(|lines| written_by_plain(&self.sheets, &sheets, lines));
+        seen.note_call(&call, &before, answer, &list);
+        seen.note_written_beside(written.answer);
+        if refusal_of(&call, answer) == 0 {
+            self.note(&call, &before, &list);
+        }
+        self.keep(sheets);
+        self.lists[client].clone_from(&list);
+        self.turns.push(Turn::Call(Expected {
+            client,
+            call,
+            answer,
+            list,
+            sheets: self.sheets.clone(),
+            written,
+        }));
+    }
+
+    /// Goes on with these sheets, or with the same ones where nothing was written.
+    fn keep(&mut self, sheets: Sheets) {
+        if *self.sheets != sheets {
+            self.store = sheets.store();
+            self.sheets = Arc::new(sheets);
+        }
+    }
+
+    /// Tells the model of an accepted call by place. Of a visit it needn't know.
+    fn note(&mut self, call: &Call, before: &[Transaction], after: &[Transaction]) {
+        if let Call::At { place, asked } = call {
+            let request = asked.request(before[*place]).expect("it was accepted");
+            let answer = Answer::Returned(after[*place]);
+            self.model.note(&request, &Ok(answer));
+        }
+    }
+}
+
+/// Mostly one of the first, so that few are at work at a time and orders come to an end; seldom one beyond the list.
+fn some_place(random: &mut Random, length: usize) -> usize {
+    match random.below(24) {
+        0 => beyond(random, length),
+        1..=3 => random.below(length),
+        _ => random.below(length.min(2)),
+    }
+}
+
+/// The next request to the one named. One that is done or unused gives way to a new one, and at times another does.
+fn request(random: &mut Random, named: Transaction, records: &[Record]) -> Request {
+    let is_over = named.number == 0 || named.phase == DONE;
+    if is_over && !random.once_in(6) || random.once_in(80) {
+        return begin(random);
+    }
+    let client = Client {
+        transaction: named,
+        appetite: APPETITES[named.number as usize % APPETITES.len()],
+    };
+    client.request(random, records)
+}
