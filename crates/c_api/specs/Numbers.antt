@@ -1,5 +1,5 @@
 -- What the exported calls answer, as one number: what an accepted call gives, or 1000 and the refusal.
-use Rattle.lists.specs.Basics.{_≡_, refl, ℕ, _+_, _≤_, eqb, Bool, false, cond, List, arith, ne-eqb}
+use Rattle.lists.specs.Basics.{_≡_, refl, ℕ, _+_, _≤_, eqb, false, cond, List, arith, ne-eqb}
 use Rattle.model.specs.Types.{Key}
 use Rattle.model.specs.Refusals.{lastRefusal}
 use Rattle.model.specs.SheetCalls.{checkConditions}
@@ -7,7 +7,7 @@ use Rattle.model.specs.Results.{begin, visit, Answer, heldAfter, Result, refuse
 use Rattle.model.specs.Calls.{newTransaction}
 use Rattle.model.specs.ByteCalls.{resultOn}
 use Rattle.call_laws.specs.Exactness.{Sound, sound-refused, sound-made, result-sound}
-use Rattle.cores.specs.Answers.{toBegun, toVisited, recoveryIn, replyNumber, replyIn}
+use Rattle.cores.specs.Answers.{toIssued, toVisited, recoveryIn, replyNumber, replyIn}
 
 -- a result as one number, by what is made of an accepted answer
 abbrev pub asNumber : (Answer → ℕ) → Result Answer → ℕ
@@ -31,10 +31,10 @@ abbrev pub unlistedNumber : List ℕ → List ℕ → ℕ
 unlistedNumber rs cs = callNumber (unless (checkConditions rs cs) (refused 3))
 
 -- the refusal of an answer is at most the last, and its number is that of the result
-pub begin-numbered : (b : Bool) (rs cs : List ℕ) → (toBegun (resultOn (begin b) rs cs) .refusal ≤ lastRefusal) × (cond (eqb (toBegun (resultOn (begin b) rs cs) .refusal) 0) (toBegun (resultOn (begin b) rs cs) .transaction .number) (1000 + toBegun (resultOn (begin b) rs cs) .refusal) ≡ beginNumber (resultOn (begin b) rs cs))
-begin-numbered b rs cs = go (resultOn (begin b) rs cs) (result-sound (begin b) rs cs)
+pub begin-numbered : (rs cs : List ℕ) → (toIssued (resultOn (begin false) rs cs) .refusal ≤ lastRefusal) × (cond (eqb (toIssued (resultOn (begin false) rs cs) .refusal) 0) (toIssued (resultOn (begin false) rs cs) .number) (1000 + toIssued (resultOn (begin false) rs cs) .refusal) ≡ beginNumber (resultOn (begin false) rs cs))
+begin-numbered rs cs = go (resultOn (begin false) rs cs) (result-sound (begin false) rs cs)
   where
-    go : (r : Result Answer) → Sound r → (toBegun r .refusal ≤ lastRefusal) × (cond (eqb (toBegun r .refusal) 0) (toBegun r .transaction .number) (1000 + toBegun r .refusal) ≡ beginNumber r)
+    go : (r : Result Answer) → Sound r → (toIssued r .refusal ≤ lastRefusal) × (cond (eqb (toIssued r .refusal) 0) (toIssued r .number) (1000 + toIssued r .refusal) ≡ beginNumber r)
     go r (sound-refused n l m) = let e : eqb n 0 ≡ false = ne-eqb n 0 (λ q. omega (arith, l, q)) in (m, rw e refl)
     go r (sound-made a w e) = (omega arith, refl)
 

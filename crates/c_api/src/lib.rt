@@ -49,9 +49,8 @@ pub extern "C" fn rapyheo_begin(records: &[u8], coordinator: &mut [u8]) -> u32
     ensures answer { λ r. ⌜ r ≡ beginNumber (resultOn (begin false) (now (records .entry)) (now (coordinator .entry))) ⌝ }
     ensures decisions { λ r. ⌜ now (coordinator .exit) ≡ coordinatorAfter (now (records .entry)) (now (coordinator .entry)) (resultOn (begin false) (now (records .entry)) (now (coordinator .entry))) ⌝ }
 {
-    let begun = engine::begin(false, records, coordinator);
-    let n = begun.transaction.number;
-    number(begun.refusal, n)
+    let issued = engine::issue(records, coordinator);
+    number(issued.refusal, issued.number)
 }
 
 // 0 stays, 1 forward, 2 back, 3 again, or 1000 + the refusal.

@@ -1,5 +1,5 @@
 -- What the calls answer, as numbers: a refusal or 0, and what an accepted call gives.
-use Rattle.lists.specs.Basics.{_≡_, ap, ℕ, false}
+use Rattle.lists.specs.Basics.{_≡_, ap, ℕ, eqb, Bool, false, _&&_}
 use Rattle.model.specs.Types.{Columns, Transaction, Recovery, Stays, Reading}
 use Rattle.types.specs.declared.Reading.the-variants.{Absent, Value, Again}
 use Rattle.model.specs.Images.{byRecovery}
@@ -9,6 +9,7 @@ use Rattle.model.specs.Calls.{newTransaction}
 use Rattle.cores.specs.declared.Performed.{Performed}
 use Rattle.cores.specs.declared.Returned.{Returned}
 use Rattle.cores.specs.declared.Visited.{Visited}
+use Rattle.cores.specs.declared.begin.Issued.{Issued}
 
 -- "No field of any lent memory changes": a refused call returns the transaction as it came.
 abbrev pub toReturned : Transaction → Result Answer → Returned
@@ -21,6 +22,13 @@ returned-made t w e = ap (λ (y : Transaction). toReturned t (made (returned y) 
 -- A refused begin has no transaction to give: it returns one of number 0, which is not well formed.
 abbrev pub toBegun : Result Answer → Returned
 toBegun r = toReturned (newTransaction 0 false) r
+
+-- a begin without its transaction: the number given, 0 where it is refused
+abbrev pub toIssued : Result Answer → Issued
+toIssued r = record { refusal = toBegun r .refusal; number = toBegun r .transaction .number }
+
+abbrev pub ofIssued : Bool → Issued → Returned
+ofIssued b i = record { refusal = i .refusal; transaction = newTransaction (i .number) (b && eqb (i .refusal) 0) }
 
 -- what a visit came to; of another answer, that the line stays
 abbrev pub recoveryIn : Answer → Recovery

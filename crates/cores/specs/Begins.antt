@@ -3,7 +3,6 @@ use Rattle.lists.specs.Basics.{_≡_, refl, sym, ap, _∙_, ℕ, _+_, _/_, _≤
 use Rattle.lists.specs.Pieces.{over}
 use Rattle.decimal.specs.Field.{fieldText}
 use Rattle.model.specs.Layouts.{coordinatorBytes}
-use Rattle.model.specs.Types.{Transaction}
 use Rattle.model.specs.Coordinator.{coordinatorOf, coordinatorText, coordinatorAccepted, withIssued}
 use Rattle.model.specs.Refusals.{refusalOf}
 use Rattle.model.specs.Writes.{issue, lineAfter, decisionsAfter, apply}
@@ -16,17 +15,17 @@ use Rattle.sheet_laws.specs.Decisions.{length-decisions, accepted-length, accep
 use Rattle.call_laws.specs.Keeping.{strictly}
 use Rattle.call_laws.specs.ByIndex.{count-raised}
 use Rattle.call_laws.specs.Accepted.{Written, Outcome, outcome-refused, outcome-made, Accepted, lines-kept}
-use Rattle.cores.specs.declared.Returned.{Returned}
-use Rattle.cores.specs.Answers.{toBegun, returned-made}
+use Rattle.cores.specs.declared.begin.Issued.{Issued}
+use Rattle.cores.specs.Answers.{toIssued}
 
--- what begin gives and leaves, whatever accepted record sheet lies beside the coordinator sheet
-pub record Begins (b : Bool) (cs : List ℕ) (r : Returned) (cs′ : List ℕ) : Type 0 where
-  pub beside : (rs : List ℕ) → Accepted rs cs → Outcome toBegun (result (begin b) (sheetsOf rs cs)) rs cs r rs cs′
+-- which number begin gives and what it leaves, checked or not and whatever accepted record sheet lies beside the coordinator sheet
+pub record Issues (cs : List ℕ) (r : Issued) (cs′ : List ℕ) : Type 0 where
+  pub beside : (b : Bool) (rs : List ℕ) → Accepted rs cs → Outcome toIssued (result (begin b) (sheetsOf rs cs)) rs cs r rs cs′
 
-module _ (b : Bool) (cs : List ℕ) (a : coordinatorAccepted cs ≡ true) where
-  pub begin-spent : eqb (coordinatorOf cs .issued) (length (drop coordinatorBytes cs) / coordinatorBytes) ≡ true → (r : Returned) → r ≡ toBegun (refused 8) → Begins b cs r cs
+module _ (cs : List ℕ) (a : coordinatorAccepted cs ≡ true) where
+  pub issue-spent : eqb (coordinatorOf cs .issued) (length (drop coordinatorBytes cs) / coordinatorBytes) ≡ true → Issues cs (toIssued (refused 8)) cs
   unfolding result conditions refusalOf
-  begin-spent spent r e = record { beside = λ rs h. outcome-refused toBegun rs cs 8 (rw (length-decisions cs, spent)) e }
+  issue-spent spent = record { beside = λ b rs h. outcome-refused toIssued rs cs 8 (rw (length-decisions cs, spent)) refl }
 
   module _ (left : eqb (coordinatorOf cs .issued) (length (drop coordinatorBytes cs) / coordinatorBytes) ≡ false) where
     issued-below : coordinatorOf cs .issued < length (coordinatorOf cs .decisions)
@@ -40,9 +39,9 @@ module _ (b : Bool) (cs : List ℕ) (a : coordinatorAccepted cs ≡ true) where
         let m : length (coordinatorOf cs .decisions) ≤ 999 = bounds (coordinatorOf cs) (accepted-parts cs a .good) .few in
         omega arith
 
-    begin-made : (rs : List ℕ) → result (begin b) (sheetsOf rs cs) ≡ made (returned (newTransaction (coordinatorOf cs .issued + 1) b)) issue
+    begin-made : (b : Bool) (rs : List ℕ) → result (begin b) (sheetsOf rs cs) ≡ made (returned (newTransaction (coordinatorOf cs .issued + 1) b)) issue
     unfolding result outcome conditions refusalOf
-    begin-made rs = rw (length-decisions cs, left)
+    begin-made b rs = rw (length-decisions cs, left)
 
     begin-written : (rs : List ℕ) → Accepted rs cs → {cs′ : List ℕ} → cs′ ≡ cond (leb 4 (length cs)) (over cs 0 (fieldText 4 (coordinatorOf cs .issued + 1))) cs → Written issue rs cs rs cs′
     unfolding lineAfter decisionsAfter apply
@@ -60,9 +59,10 @@ module _ (b : Bool) (cs : List ℕ) (a : coordinatorAccepted cs ≡ true) where
               ∙ ap (λ (i : ℕ). coordinatorText (withIssued i (coordinatorOf cs))) (sym (add-one n)))));
         }
 
-    pub begin-issues : (t : Transaction) (cs′ : List ℕ) → t ≡ newTransaction (coordinatorOf cs .issued + 1) b → cs′ ≡ cond (leb 4 (length cs)) (over cs 0 (fieldText 4 (coordinatorOf cs .issued + 1))) cs → Begins b cs (record { refusal = 0; transaction = t }) cs′
-    begin-issues t cs′ e w =
+    pub issue-made : (n : ℕ) (cs′ : List ℕ) → n ≡ coordinatorOf cs .issued + 1
+        → cs′ ≡ cond (leb 4 (length cs)) (over cs 0 (fieldText 4 (coordinatorOf cs .issued + 1))) cs → Issues cs (record { refusal = 0; number = n }) cs′
+    issue-made n cs′ e w =
         record {
-          beside = λ rs h. outcome-made toBegun rs cs (returned (newTransaction (coordinatorOf cs .issued + 1) b)) issue (begin-made rs)
-              (returned-made (newTransaction 0 false) issue e) (begin-written rs h w);
+          beside = λ b rs h. outcome-made toIssued rs cs (returned (newTransaction (coordinatorOf cs .issued + 1) b)) issue (begin-made b rs)
+              (ap (λ (m : ℕ). record { refusal = 0; number = m }) e) (begin-written rs h w);
         }

@@ -6,17 +6,9 @@ ghost use lib.ListN.{length, drop};
 ghost use lib.Dec.{eqb};
 ghost use Rattle.model.specs.Layouts.{coordinatorBytes};
 ghost use Rattle.model.specs.Coordinator.{coordinatorAccepted};
-ghost use Rattle.model.specs.Results.{refused};
-ghost use Rattle.cores.specs.Answers.{toBegun};
-ghost use Rattle.cores.specs.Begins.{Begins};
+ghost use Rattle.cores.specs.Answers.{ofIssued};
+ghost use Rattle.cores.specs.Begins.{Issues};
 use crate::Returned;
-
-// A refused begin has no transaction to give.
-pub fn refusal(n: u32) -> Returned
-    ensures { λ r. ⌜ r ≡ toBegun (refused n) ⌝ }
-{
-    crate::refusal(n, transactions::new_transaction(0, false))
-}
 
 // Every line of the coordinator sheet has its number issued.
 fn all_spent(coordinator: &[u8], issued: u32) -> bool
@@ -25,20 +17,41 @@ fn all_spent(coordinator: &[u8], issued: u32) -> bool
     issued as usize == codec::coordinator::count(coordinator)
 }
 
+// What issuing a number comes to: a refusal or 0, and the number, 0 where it is refused.
+#[repr(C)]
+pub struct Issued {
+    pub refusal: u32,
+    pub number: u32,
+}
+
 // Whatever accepted record sheet lies beside: begin looks at none of its lines.
-pub fn begin(serializable: bool, coordinator: &mut [u8]) -> Returned
+pub fn issue(coordinator: &mut [u8]) -> Issued
     requires { ⌜ coordinatorAccepted (now coordinator) ≡ true ⌝ }
-    ensures { λ r. ⌜ Begins serializable (now (coordinator .entry)) r (now (coordinator .exit)) ⌝ }
+    ensures { λ r. ⌜ Issues (now (coordinator .entry)) r (now (coordinator .exit)) ⌝ }
 {
     let issued = codec::coordinator::issued(coordinator);
     if all_spent(coordinator, issued) {
-        return refusal(8);
+        return Issued {
+            refusal: 8,
+            number: 0,
+        };
     }
     let n = issued + 1;
     codec::coordinator::set_issued(coordinator, n);
-    let transaction = transactions::new_transaction(n, serializable);
-    Returned {
+    Issued {
         refusal: 0,
+        number: n,
+    }
+}
+
+// The transaction of a number that was issued; a refused begin has none to give but that of number 0.
+pub fn begun(serializable: bool, issued: Issued) -> Returned
+    ensures { λ r. ⌜ r ≡ ofIssued serializable issued ⌝ }
+{
+    let refusal = issued.refusal;
+    let transaction = transactions::new_transaction(issued.number, serializable & (refusal == 0));
+    Returned {
+        refusal,
         transaction,
     }
 }

@@ -1,2 +1,3 @@
--- The answers of one function for every call.
+-- The answers of one function for every call, and a number issued.
 pub mod Performing
+pub mod Issuing

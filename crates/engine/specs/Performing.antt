@@ -29,7 +29,7 @@ ofVisited t r = record { refusal = r .refusal; reply = r .reply; columns = noCol
 
 module _ (rs cs : List ℕ) where
   -- what holds of a refusal, and of what the call comes to, holds of its result
-  on-result : (P : Result Answer → Type 0) (c : Call) → ((n : ℕ) → (n ≡ 0 → ⊥) → P (refused n)) → ((s : Sheets) → P (outcome c s)) → P (resultOn c rs cs)
+  pub on-result : (P : Result Answer → Type 0) (c : Call) → ((n : ℕ) → (n ≡ 0 → ⊥) → P (refused n)) → ((s : Sheets) → P (outcome c s)) → P (resultOn c rs cs)
   unfolding resultOn result
   on-result P c r o =
       unless-of P (checkConditions rs cs) (λ z. r _ z)

@@ -3,6 +3,7 @@
 ghost use mathlib.Core.Path.{_≡_};
 ghost use Rattle.model.specs.Results as model;
 ghost use Rattle.model.specs.ByteCalls.{resultOn, recordsAfter, coordinatorAfter};
+ghost use Rattle.engine.specs.Issuing.{IssuesOn};
 ghost use Rattle.cores.specs.Answers.{toBegun, toReturned, toPerformed, toVisited};
 
 pub mod perform;
@@ -10,20 +11,31 @@ pub mod perform;
 use cores::Performed;
 use cores::Returned;
 use cores::Visited;
+use cores::begin::Issued;
 use sheets::check;
 use types::Columns;
 use types::Key;
 use types::Transaction;
 
+// A number issued, without its transaction: checked or not, it is the same.
+pub fn issue(records: &[u8], coordinator: &mut [u8]) -> Issued
+    ensures { λ r. ⌜ IssuesOn (now (records .entry)) (now (coordinator .entry)) r (now (coordinator .exit)) ⌝ }
+{
+    let checked = check::check(records, coordinator);
+    if checked != 0 {
+        return Issued {
+            refusal: checked,
+            number: 0,
+        };
+    }
+    cores::begin::issue(coordinator)
+}
+
 pub fn begin(serializable: bool, records: &[u8], coordinator: &mut [u8]) -> Returned
     ensures answer { λ r. ⌜ r ≡ toBegun (resultOn (model.begin serializable) (now (records .entry)) (now (coordinator .entry))) ⌝ }
     ensures decisions { λ r. ⌜ now (coordinator .exit) ≡ coordinatorAfter (now (records .entry)) (now (coordinator .entry)) (resultOn (model.begin serializable) (now (records .entry)) (now (coordinator .entry))) ⌝ }
 {
-    let checked = check::check(records, coordinator);
-    if checked != 0 {
-        return cores::begin::refusal(checked);
-    }
-    cores::begin::begin(serializable, coordinator)
+    cores::begin::begun(serializable, issue(records, coordinator))
 }
 
 pub fn read(

@@ -1,0 +1,24 @@
+-- Issuing a number on any two sheets, and the begin that it is. A result of begin is refused, or a new transaction of the number given.
+use Rattle.lists.specs.Basics.{_≡_, ℕ, Bool, and-true, and-false, List, ne-eqb}
+use Rattle.model.specs.Results.{begin, Answer, Result}
+use Rattle.model.specs.Calls.{outcome}
+use Rattle.model.specs.ByteCalls.{resultOn, coordinatorAfter}
+use Rattle.call_laws.specs.Accepted.{Outcome}
+use Rattle.cores.specs.declared.begin.Issued.{Issued}
+use Rattle.cores.specs.Answers.{toBegun, toIssued, ofIssued}
+use Rattle.engine.specs.Performing.{on-result}
+
+-- which number is issued and what that leaves, checked or not
+pub record IssuesOn (rs cs : List ℕ) (r : Issued) (cs′ : List ℕ) : Type 0 where
+  pub answer : (b : Bool) → r ≡ toIssued (resultOn (begin b) rs cs)
+  pub decisions : (b : Bool) → cs′ ≡ coordinatorAfter rs cs (resultOn (begin b) rs cs)
+
+pub issues-on : {rs cs : List ℕ} {r : Issued} {rs′ cs′ : List ℕ} → ((b : Bool) → Outcome toIssued (resultOn (begin b) rs cs) rs cs r rs′ cs′) → IssuesOn rs cs r cs′
+issues-on o = record { answer = λ b. o b .said; decisions = λ b. o b .decisions }
+
+pub issued-begun : (b : Bool) (rs cs : List ℕ) → ofIssued b (toIssued (resultOn (begin b) rs cs)) ≡ toBegun (resultOn (begin b) rs cs)
+unfolding outcome
+issued-begun b rs cs =
+    on-result rs cs (λ (r : Result Answer). ofIssued b (toIssued r) ≡ toBegun r) (begin b)
+    (λ n z. rw (ne-eqb n 0 z, and-false b))
+    (λ s. rw (and-true b))
