@@ -19,7 +19,8 @@
  *   - never fill in or change an entry or a field by hand: a list is for reading. Each call judges what it is given, but an entry added in the
  *     phase decide, or a state handed in twice, can break an order with every call answering 0;
  *   - what a call wrote stands whole or not at all after a crash, and writes stand in the order in which they were made. A call writes the
- *     lines of one unit, or the coordinator sheet, or nothing, never both: rapyheo_written tells which.
+ *     lines of one unit, or the coordinator sheet, or nothing, never both: rapyheo_written tells which, and every line of the range that it
+ *     tells is of that unit.
  *
  * Duties towards the machine:
  *   - a slice passes as a pointer and then a length, counted in elements; the pointer is not null, is aligned for its element and is valid

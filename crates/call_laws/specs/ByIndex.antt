@@ -6,7 +6,7 @@ use Rattle.lists.specs.Pieces.{over}
 use Rattle.decimal.specs.Field.{fieldText}
 use Rattle.model.specs.Types.{Key, Record, Decision, At}
 use Rattle.model.specs.Layouts.{recordBytes, coordinatorBytes}
-use Rattle.model.specs.Records.{noRecord, recordText, recordsText, records, recordsAccepted, goodAlone, inOrder, rising, sameKey, found, lineOf}
+use Rattle.model.specs.Records.{noRecord, recordText, recordsText, records, recordsAccepted, goodAlone, keyLess, inOrder, rising, sameKey, found, lineOf}
 use Rattle.model.specs.Coordinator.{coordinatorOf, coordinatorText, coordinatorAccepted, withDecision, withIssued}
 use Rattle.sheet_laws.specs.Records.{sheet-written-read, good-ranged}
 use Rattle.sheet_laws.specs.ByIndex.{whole-lines, length-records, records-over, accepted-over}
@@ -15,7 +15,7 @@ use Rattle.sheet_laws.specs.Coordinator.{decisionText, coordinator-written-read
 use Rattle.sheet_laws.specs.Decisions.{numberHasLine, Accepted, accepted-parts, accepted-length, length-decisions, coordinator-over, accepted-decided}
 use Rattle.sheet_laws.specs.Decisions.{coordinator-counted, accepted-raised}
 use Rattle.call_laws.specs.Keys.{same-key, same-key-refl}
-use Rattle.call_laws.specs.Lines.{listsKey, apart}
+use Rattle.call_laws.specs.Lines.{listsKey, key-later, apart}
 
 -- The index of the line of a key.
 pub record FoundAt (k : Key) (rs : List Record) (i : ℕ) : Type 0 where
@@ -59,6 +59,15 @@ own-line (r ∷ rs) (suc i) h l =
 
 pub found-own : (rs : List Record) (i : ℕ) → rising rs ≡ true → i < length rs → FoundAt (getD rs i noRecord .key) rs i
 found-own rs i h l = record { within = l; line = own-line rs i h l; listed = lists-at (getD rs i noRecord .key) rs i l refl; key = refl }
+
+-- on a sheet in order a line further down has a higher key
+pub rising-at : (rs : List Record) (i j : ℕ) → rising rs ≡ true → i < j → j < length rs
+    → keyLess (getD rs i noRecord .key) (getD rs j noRecord .key) ≡ true
+unfolding rising
+rising-at [] i j h k l = absurd (omega arith)
+rising-at (r ∷ rs) i zero h k l = absurd (omega arith)
+rising-at (r ∷ rs) zero (suc j) h k l = key-later r rs (getD rs j noRecord .key) h (lists-at (getD rs j noRecord .key) rs j (omega arith) refl)
+rising-at (r ∷ rs) (suc i) (suc j) h k l = rising-at rs i j (and-snd (inOrder r rs) (rising rs) h) (omega arith) (omega arith)
 
 -- a map that changes only the line of one key
 abbrev pub atKey : Key → (Record → Record) → Record → Record

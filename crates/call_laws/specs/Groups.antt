@@ -1,13 +1,23 @@
 -- Groups: keys whose groups have one place agree in the fields of their unit, and every put is in a group. The places count the scopes below, so that a
--- scope below another has a lower place.
-use Rattle.lists.specs.Basics.{_≡_, refl, sym, ap, _∙_, ℕ, _<_, eqb, Bool, true, false, cond, List, [], _∷_, length, arith, eqb-true, any, count, less, eqList}
-use Rattle.lists.specs.Basics.{eqList-refl, or-else, or-left, or-right}
-use Rattle.lists.specs.Order.{less-irrefl, less-trans, less-total}
+-- scope below another has a lower place. Keys of one scope stand together, since a scope is the first fields of a key.
+use Rattle.lists.specs.Basics.{_≡_, refl, sym, ap, _∙_, ℕ, _<_, eqb, Bool, true, false, cond, List, [], _∷_, length, take, getD}
+use Rattle.lists.specs.Basics.{arith, eqb-true, any, count, less, eqList, eqList-refl, or-else, or-left, or-right}
+use Rattle.lists.specs.Order.{less-irrefl, less-trans, less-total, less-between}
 use Rattle.lists.specs.Chosen.{count-less, count-all}
 use Rattle.model.specs.Types.{Key, AtomicityUnit, Entry}
-use Rattle.model.specs.Records.{sameKey}
-use Rattle.model.specs.Groups.{scope, addScope, scopes, groupCount, groupPlace, group}
+use Rattle.types.specs.declared.AtomicityUnit.the-variants.{Record as RecordUnit, Partition, Table, Namespace, Storage}
+use Rattle.model.specs.Records.{keyNumbers, keyLess, sameKey}
+use Rattle.model.specs.Groups.{unitFields, unitFor, scope, addScope, scopes, groupCount, groupPlace, group}
 use Rattle.call_laws.specs.Keys.{same-key, hasKey, chosen-key}
+
+-- every unit compares the storage
+first-field : (u : AtomicityUnit) (k : Key) → getD (take (unitFields u) (keyNumbers k)) 0 0 ≡ k .storage
+unfolding unitFields keyNumbers
+first-field RecordUnit k = refl
+first-field Partition k = refl
+first-field Table k = refl
+first-field Namespace k = refl
+first-field Storage k = refl
 
 module _ (us : List AtomicityUnit) where
   add-own : (s : List ℕ) (ss : List (List ℕ)) → any (eqList s) (addScope s ss) ≡ true
@@ -35,6 +45,25 @@ module _ (us : List AtomicityUnit) where
       (λ g. ap (λ (x : Key). any (eqList (scope us x)) (addScope (scope us (e .key)) (scopes us es))) (sym (same-key (e .key) k g))
       ∙ add-own (scope us (e .key)) (scopes us es))
       (λ g n. add-other (scope us k) (scope us (e .key)) (scopes us es) (scope-listed k es n))
+
+  -- a key between two of one scope has that scope
+  pub scope-between : (a k b : Key) → keyLess a k ≡ true → keyLess k b ≡ true → scope us a ≡ scope us b → scope us k ≡ scope us a
+  unfolding scope keyLess
+  scope-between a k b h g e =
+      let u = unitFor (a .storage) us in
+      let p : a .storage ≡ b .storage = sym (first-field u a) ∙ (ap first e ∙ first-field (unitFor (b .storage) us) b) in
+      let f : take (unitFields u) (keyNumbers a) ≡ take (unitFields u) (keyNumbers b) = e ∙ ap (fields b) (sym p) in
+      let m : take (unitFields u) (keyNumbers k) ≡ take (unitFields u) (keyNumbers a) =
+      less-between (unitFields u) (keyNumbers a) (keyNumbers k) (keyNumbers b) h g f in
+      let q : k .storage ≡ a .storage = sym (first-field u k) ∙ (ap first m ∙ first-field u a) in
+      ap (fields k) q ∙ m
+    where
+      first : List ℕ → ℕ
+      first l = getD l 0 0
+
+      -- the fields of a key that the unit of a storage compares
+      fields : Key → ℕ → List ℕ
+      fields x n = take (unitFields (unitFor n us)) (keyNumbers x)
 
   module _ (es : List Entry) where
     -- "Groups go in rising key order": a lower scope has a lower place.

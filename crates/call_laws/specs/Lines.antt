@@ -147,8 +147,8 @@ unfolding lineOf
 line-of-key k [] = refl
 line-of-key k (r ∷ rs) = choose-by (λ (x : Record). x .key ≡ k) (sameKey (r .key) k) (λ e. same-key (r .key) k e) (λ e. line-of-key k rs)
 
--- a key after the first of a sheet in order is another
-key-later : (r : Record) (rs : List Record) (k : Key) → rising (r ∷ rs) ≡ true → listsKey k rs ≡ true → keyLess (r .key) k ≡ true
+-- a key after the first of a sheet in order is higher, and so another
+pub key-later : (r : Record) (rs : List Record) (k : Key) → rising (r ∷ rs) ≡ true → listsKey k rs ≡ true → keyLess (r .key) k ≡ true
 unfolding rising inOrder any
 key-later r [] k h g = absurd (true≢false (sym g))
 key-later r (x ∷ rs) k h g =

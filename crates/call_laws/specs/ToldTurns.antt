@@ -1,27 +1,31 @@
 -- What is told of a turn on accepted sheets. Sheets keep their lengths, so that nothing is refused; lines that differ are of the one unit that the turn may
--- write, and then the coordinator sheet stays.
-use Rattle.lists.specs.Basics.{_≡_, refl, sym, ap, _∙_, ℕ, zero, suc, _+_, _*_, _/_, _%_, _^_, _≤_, _<_, eqb, Bool, true, false, not}
-use Rattle.lists.specs.Basics.{true≢false, List, length, length-drop, length-set, arith, eqb-true, eq-eqb, lt-leb, tests, eqList}
+-- write, and then the coordinator sheet stays. Keys rise, so that every line between two of one unit is of it too: the range told begins and ends in lines
+-- that differ, and is of one unit throughout.
+use Rattle.lists.specs.Basics.{_≡_, refl, sym, ap, _∙_, ℕ, zero, suc, _+_, _-_, _*_, _/_, _%_, _^_, _≤_, _<_, eqb, Bool, true, false, not}
+use Rattle.lists.specs.Basics.{true≢false, List, length, getD, length-drop, length-set, arith, eqb-true, eqb-false, eq-eqb, lt-leb, tests, eqList}
 use Rattle.lists.specs.Basics.{eqList-true, eqList-refl}
-use Rattle.model.specs.Types.{At}
+use Rattle.model.specs.Types.{Key, Record, AtomicityUnit, At}
 use Rattle.model.specs.Layouts.{recordBytes, coordinatorBytes}
-use Rattle.model.specs.Records.{records, recordsGood, recordsAccepted}
+use Rattle.model.specs.Records.{records, keyLess, rising, recordsGood, recordsAccepted, noRecord}
 use Rattle.model.specs.Coordinator.{Coordinator, coordinatorOf, coordinatorAccepted, withDecision, withIssued}
 use Rattle.model.specs.Refusals.{refusalOf}
 use Rattle.model.specs.SheetCalls.{lineAt}
 use Rattle.model.specs.Writes.{Sheets, Write, nothing, issue, decide, commit, prepare, forward, back, decisionsAfter, apply}
+use Rattle.model.specs.Groups.{scope}
 use Rattle.model.specs.Histories.{after, ClockFits}
 use Rattle.model.specs.ByteHistories.{Bytes, saying, Passing}
 use Rattle.model.specs.AtomicWrites.{scopeAt, OneUnit, lines-of-one-unit, coordinator-only}
 use Rattle.model.specs.Turns.{Turn, single, byPlace, turnEventOn, turnAfter, turnAfterOn}
-use Rattle.model.specs.Changes.{differs, reachOf, lastReach, lengthConditions, sheetsTold, writtenConditions, writtenNumber, toldOf, ToldAtomic, nothing-told}
-use Rattle.model.specs.Changes.{coordinator-told, lines-told}
-use Rattle.sheet_laws.specs.ByIndex.{whole-lines, length-records}
+use Rattle.model.specs.Changes.{differs, reachOf, lastReach, firstDiffering, lengthConditions, sheetsTold, writtenConditions, writtenNumber, toldOf}
+use Rattle.model.specs.Changes.{ToldAtomic, nothing-told, coordinator-told, lines-told}
+use Rattle.sheet_laws.specs.ByIndex.{whole-lines, length-records, record-at}
 use Rattle.sheet_laws.specs.Decisions.{accepted-parts, accepted-length, length-decisions}
+use Rattle.call_laws.specs.Groups.{scope-between}
+use Rattle.call_laws.specs.ByIndex.{rising-at}
 use Rattle.call_laws.specs.Lifting.{passing-parts}
 use Rattle.call_laws.specs.Turns.{turn-stays-passing}
 use Rattle.call_laws.specs.ByteUnits.{call-unit, place-unit}
-use Rattle.call_laws.specs.Told.{told-none}
+use Rattle.call_laws.specs.Told.{reach-within, told-ends, told-none}
 
 -- The sheets keep their lengths.
 
@@ -71,6 +75,40 @@ unfolding reachOf
 reach-same s zero = refl
 reach-same s (suc n) = let e : eqList (lineAt s (At n)) (lineAt s (At n)) ≡ true = eqList-refl (lineAt s (At n)) in rw e (reach-same s n)
 
+-- The scopes of lines of an accepted sheet.
+module _ (b : Bytes) (accepted : recordsAccepted (b .records) ≡ true) where
+  abbrev keyAt : ℕ → Key
+  keyAt i = getD (records (b .records)) i noRecord .key
+
+  abbrev units : List AtomicityUnit
+  units = coordinatorOf (b .coordinator) .units
+
+  scope-at : (i : ℕ) → i < length (b .records) / recordBytes → scopeAt i b ≡ scope units (keyAt i)
+  unfolding lineAt
+  scope-at i l = sym (ap (λ (r : Record). scope units (r .key)) (record-at (b .records) i l))
+
+  higher : (i j : ℕ) → i < j → j < length (b .records) / recordBytes → keyLess (keyAt i) (keyAt j) ≡ true
+  unfolding recordsAccepted recordsGood
+  higher i j k l =
+      let r : rising (records (b .records)) ≡ true = search tests in
+      rising-at (records (b .records)) i j r k (omega (arith, length-records (b .records)))
+
+  -- a line between two of one unit, or one of the two, is of that unit
+  line-between : (i m j : ℕ) → i ≤ m → m ≤ j → j < length (b .records) / recordBytes → scopeAt i b ≡ scopeAt j b → scopeAt m b ≡ scopeAt i b
+  line-between i m j p q l e = go (eqb i m) refl (eqb m j) refl
+    where
+      go : (x : Bool) → eqb i m ≡ x → (y : Bool) → eqb m j ≡ y → scopeAt m b ≡ scopeAt i b
+      go true f y g = ap (λ (n : ℕ). scopeAt n b) (sym (eqb-true i m f))
+      go false f true g = ap (λ (n : ℕ). scopeAt n b) (eqb-true m j g) ∙ sym e
+      go false f false g =
+          let c = eqb-false i m f in
+          let d = eqb-false m j g in
+          let h : i < m = omega (arith, c) in
+          let k : m < j = omega (arith, d) in
+          let u : scope units (keyAt i) ≡ scope units (keyAt j) = sym (scope-at i (omega arith)) ∙ (e ∙ scope-at j l) in
+          scope-at m (omega arith)
+          ∙ (scope-between units (keyAt i) (keyAt m) (keyAt j) (higher i m h (omega arith)) (higher m j k l) u ∙ sym (scope-at i (omega arith)))
+
 module _ (b a : Bytes) where
   abbrev rs : List ℕ
   rs = b .records
@@ -90,8 +128,19 @@ module _ (b a : Bytes) where
           let s : eqList (lineAt rs (At i)) (lineAt rs′ (At i)) ≡ true = ap (eqList (lineAt rs (At i))) o ∙ eqList-refl (lineAt rs (At i)) in
           absurd (true≢false (sym d ∙ ap not s))
 
-  -- the sheets' lengths let the call pass
-  module _ (whole : length rs % recordBytes ≡ 0) where
+  module _ (accepted : recordsAccepted rs ≡ true) where
+    whole : length rs % recordBytes ≡ 0
+    whole = omega (arith, whole-lines rs accepted)
+
+    -- a line of the range told is of the unit of the first, since the last that differs is
+    range-of-unit : ((i j : ℕ) → differs rs rs′ i ≡ true → differs rs rs′ j ≡ true → scopeAt i b ≡ scopeAt j b)
+        → (i : ℕ) → firstDiffering rs rs′ ≤ i → i < lastReach rs rs′ → scopeAt i b ≡ scopeAt (firstDiffering rs rs′) b
+    range-of-unit f i p q =
+        let r = reach-within rs rs′ (length rs / recordBytes) in
+        let ends = told-ends rs rs′ (omega arith) in
+        line-between b accepted (firstDiffering rs rs′) i (lastReach rs rs′ - 1) p (omega arith) (omega arith)
+        (f (firstDiffering rs rs′) (lastReach rs rs′ - 1) (ends .0) (ends .1))
+
     told-by-unit : OneUnit b a → ToldAtomic b a (sheetsTold rs rs′ (b .coordinator) (a .coordinator))
     told-by-unit (coordinator-only e) = go (eqList (b .coordinator) (a .coordinator)) refl
       where
@@ -110,7 +159,7 @@ module _ (b a : Bytes) where
         go true e =
             let s = told-none rs rs′ (sym n) whole (eqb-true (lastReach rs rs′) 0 e) in
             nothing-told (rw (stays, e)) (λ i. record { records = sym s i; coordinator = c i })
-        go false e = lines-told (rw (stays, e)) c (λ i j p q. of-unit unit f i p ∙ sym (of-unit unit f j q))
+        go false e = lines-told (rw (stays, e)) c (range-of-unit (λ i j p q. of-unit unit f i p ∙ sym (of-unit unit f j q)))
 
 -- "writes to at most one unit or the coordinator sheet", by turn
 pub turn-unit : (x : Turn) (b : Bytes) → ClockFits (turnEventOn x b .call) → Passing b → OneUnit b (turnAfterOn x b)
@@ -129,9 +178,9 @@ told-of-turn x b target t l p =
     let a = turnAfterOn x b in
     let u = turn-unit x b l p in
     let r = passing-parts b p .0 in
-    let w : length (b .records) % recordBytes ≡ 0 = omega (arith, whole-lines (b .records) r) in
+    let w = whole b a r in
     let f : length (b .records) / recordBytes < 2 ^ 32 = omega (arith, few-lines (b .records) r) in
     let n = refusalOf (writtenConditions (b .records) (a .records) (b .coordinator) (a .coordinator) target) in
     let z : n ≡ 0 = not-refused _ _ _ _ _ (same-size b a u) w f t (coordinator-length x b l p) in
     let e : eqb n 0 ≡ true = eq-eqb n 0 z in
-    rw e (told-by-unit b a w u)
+    rw e (told-by-unit b a r u)

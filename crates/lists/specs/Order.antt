@@ -1,6 +1,6 @@
 -- Laws of the order of two lists of numbers.
-use Rattle.lists.specs.Kit.{_≡_, refl, sym, ap, ap₂, _∙_, ℕ, _≤_, _<_, eqb, ltb, Bool, true, false, _&&_, _||_, cond, true≢false, List, [], _∷_, _++_}
-use Rattle.lists.specs.Kit.{length, arith, eqb-true, eqb-false, ltb-true, ltb-false, eq-eqb, ne-eqb, lt-ltb, le-ltb}
+use Rattle.lists.specs.Kit.{_≡_, refl, sym, ap, ap₂, _∙_, ℕ, zero, suc, _≤_, _<_, eqb, ltb, Bool, true, false, _&&_, _||_, cond, true≢false, List, []}
+use Rattle.lists.specs.Kit.{_∷_, _++_, length, take, drop, getD, arith, eqb-true, eqb-false, ltb-true, ltb-false, eq-eqb, ne-eqb, lt-ltb, le-ltb}
 use Rattle.lists.specs.Bytes.{eqList}
 use Rattle.lists.specs.Each.{less}
 
@@ -96,3 +96,27 @@ less-total (a ∷ s) (b ∷ t) h g = go (eqb a b) refl (less-total s t)
         let l : b ≤ a = ltb-false a b x in
         let m : a ≤ b = ltb-false b a y in
         absurd (eqb-false a b p (omega arith))
+
+-- a list between two that begin with the same d numbers begins with them too: were one of them another, it would decide
+pub less-between : (d : ℕ) (s t u : List ℕ) → less s t ≡ true → less t u ≡ true → take d s ≡ take d u → take d t ≡ take d s
+unfolding less
+less-between zero s t u h g e = refl
+less-between (suc d) [] [] u h g e = refl
+less-between (suc d) [] (b ∷ t) [] h g e = absurd (true≢false (sym g))
+less-between (suc d) [] (b ∷ t) (c ∷ u) h g e = let n : 0 ≡ suc (length (take d u)) = ap length e in absurd (omega arith)
+less-between (suc d) (a ∷ s) [] u h g e = absurd (true≢false (sym h))
+less-between (suc d) (a ∷ s) (b ∷ t) [] h g e = absurd (true≢false (sym g))
+less-between (suc d) (a ∷ s) (b ∷ t) (c ∷ u) h g e = go (before a b s t h) (before b c t u g) (less-between d s t u)
+  where
+    first : a ≡ c
+    first = ap (λ (l : List ℕ). getD l 0 0) e
+
+    rest : take d s ≡ take d u
+    rest = ap (drop 1) e
+
+    go : Before a b s t → Before b c t u → (less s t ≡ true → less t u ≡ true → take d s ≡ take d u → take d t ≡ take d s)
+        → take (suc d) (b ∷ t) ≡ take (suc d) (a ∷ s)
+    go (by-head l) (by-head m) f = absurd (omega (arith, first))
+    go (by-head l) (by-tail p m) f = absurd (omega (arith, first))
+    go (by-tail p l) (by-head m) f = absurd (omega (arith, first))
+    go (by-tail p l) (by-tail q m) f = ap₂ _∷_ (sym p) (f l m rest)

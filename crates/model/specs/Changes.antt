@@ -1,6 +1,6 @@
 -- What a call wrote, told from the bytes of both sheets before and after it, so that a client stores just that. Bytes alone are judged: the sheets need not
 -- be accepted.
-use Rattle.lists.specs.Basics.{_≡_, ℕ, zero, suc, _+_, _-_, _*_, _/_, _%_, _^_, eqb, leb, Bool, true, not, cond, List, [], _∷_, length, take, drop}
+use Rattle.lists.specs.Basics.{_≡_, ℕ, zero, suc, _+_, _-_, _*_, _/_, _%_, _^_, _≤_, _<_, eqb, leb, Bool, not, cond, List, [], _∷_, length, take, drop}
 use Rattle.lists.specs.Basics.{eqList}
 use Rattle.lists.specs.Pieces.{over}
 use Rattle.model.specs.Types.{At}
@@ -77,12 +77,12 @@ module _ (recordsBefore records coordinatorBefore coordinator : List ℕ) where
 abbrev pub toldOf : (before after : Bytes) → List ℕ → ℕ
 toldOf before after target = writtenNumber (before .records) (after .records) (before .coordinator) (after .coordinator) target
 
--- What is told of one write by demand 2: nothing was written; or the coordinator sheet, and no record line; or record lines of one unit, and not the
--- coordinator sheet.
+-- What is told of one write by demand 2: nothing was written; or the coordinator sheet, and no record line; or record lines of one unit, every line of the
+-- range told, and not the coordinator sheet.
 pub data ToldAtomic (before after : Bytes) (told : ℕ) : Type 0 where
   nothing-told : told ≡ 0 → after ≡ before → ToldAtomic before after told
   coordinator-told : told ≡ 1 → after .records ≡ before .records → ToldAtomic before after told
   lines-told : told ≡ 2 → after .coordinator ≡ before .coordinator
-      → ((i j : ℕ) → differs (before .records) (after .records) i ≡ true → differs (before .records) (after .records) j ≡ true
-      → scopeAt i before ≡ scopeAt j before)
+      → ((i : ℕ) → firstDiffering (before .records) (after .records) ≤ i → i < lastReach (before .records) (after .records)
+      → scopeAt i before ≡ scopeAt (firstDiffering (before .records) (after .records)) before)
       → ToldAtomic before after told

@@ -76,7 +76,8 @@ single-unit c b l p = ByteUnits.call-unit c b l p
 pub single-unit-by-place : (list : List Transaction) (place : ℕ) (q : Request) (b : Bytes) → ClockFits (callAt list place q) → Passing b → OneUnit b (turnAfterOn (byPlace list place q) b)
 single-unit-by-place list place q b l p = ByteUnits.place-unit list place q b l p
 
--- and so is a client told that keeps both sheets from before a turn: nothing, the coordinator sheet, or lines of one unit, and never both sheets
+-- and so is a client told that keeps both sheets from before a turn: nothing, the coordinator sheet, or a range of lines of which every one is of one unit,
+-- and never both sheets
 pub told-atomic : (x : Turn) (b : Bytes) (target : List ℕ) → length target ≡ 2 → ClockFits (turnEventOn x b .call) → Passing b
     → ToldAtomic b (turnAfterOn x b) (toldOf b (turnAfterOn x b) target)
 told-atomic x b target n l p = ToldTurns.told-of-turn x b target n l p
