@@ -59,10 +59,10 @@ visit:
 differ: archive programs
 	cd reference && cargo run --release --quiet --features engine --bin differ
 
-## the same until 3,000,000 calls or 600 seconds; SEED=n repeats a run
+## the same until 8,000,000 calls or 600 seconds; SEED=n repeats a run
 SEED ?= $(shell date +%s)
 soak: archive programs
-	cd reference && cargo run --release --quiet --features engine --bin differ 3000000 $(SEED) 600
+	cd reference && cargo run --release --quiet --features engine --bin differ 8000000 $(SEED) 600
 
 ## the comparison itself: faults in the separate implementation, each of which must show as a difference within a third of its calls
 faults:

@@ -28,7 +28,7 @@
  *   - slices of one call do not overlap, and nobody else reads or writes them until it returns;
  *   - one caller at a time for one pair of sheets, whoever has the list: there is no lock. Calls on different sheets and lists are independent,
  *     in any threads, since the library holds no data of its own;
- *   - a call finds RAPYHEO_STACK_BYTES of stack. `make stack` measures what each needs, its arguments among it: 5864 at most, to which some 2000
+ *   - a call finds RAPYHEO_STACK_BYTES of stack. `make stack` measures what each needs, its arguments among it: 4648 at most, to which some 2000
  *     come where the loader binds memcpy or memset in the middle of the first call (not so with -Wl,-z,now). A call allocates nothing.
  *
  * Record sheet: 1 to 500 lines of 98 bytes, the last byte LF. Figures are decimal, right-justified, filled with spaces, without leading zeros.
