@@ -26,6 +26,7 @@ pub mod RecoveryPass
 pub mod ByteHistories
 pub mod AtomicWrites
 pub mod Changes
+pub mod Closing
 pub mod Turns
 pub mod Clients
 pub mod Recovered
