@@ -19,6 +19,9 @@ pub mod Accepted
 pub mod Lent
 pub mod ByPlace
 pub mod Moved
+pub mod ClosingSteps
+pub mod ClosingAdvances
+pub mod ClosingLimits
 pub mod Turns
 pub mod ByteUnits
 pub mod Told

@@ -1,10 +1,11 @@
 -- Sheets stay good under the writes that calls make: each line by the lemma of its image, order because keys are kept, the coordinator by its own rules.
 use Rattle.lists.specs.Basics.{_≡_, refl, sym, ap, subst, _∙_, ℕ, zero, suc, _+_, _≤_, _<_, true, false, true≢false, List, length, length-map, Option, none}
 use Rattle.lists.specs.Basics.{some, arith, add-one, le-leb, all, and-fst, and-snd, and-both, choose-by, tests}
+use lib.Seq.{getD-set-same}
 use Rattle.lists.specs.All.{all-and, all-weaken, all-map}
-use Rattle.model.specs.Types.{Key, Record, Decision, Entry}
+use Rattle.model.specs.Types.{Key, Record, Decision, Undecided, Entry}
 use Rattle.model.specs.Records.{goodAlone, rising, recordsGood, absentAt, lineOf}
-use Rattle.model.specs.Coordinator.{Coordinator, coordinatorGood, namesIssued, withDecision, withIssued}
+use Rattle.model.specs.Coordinator.{Coordinator, coordinatorGood, namesIssued, decision, withDecision, withIssued}
 use Rattle.model.specs.Images.{isPrepared, preparedBy, prepared, committed, changeOf}
 use Rattle.model.specs.Writes.{Sheets, sheetsGood, Write, nothing, issue, decide, commit, prepare, forward, back, entryFor, byEntry, isOf, lineAfter}
 use Rattle.model.specs.Writes.{linesAfter, decisionsAfter, apply}
@@ -90,6 +91,12 @@ pub decided-units : (n : ℕ) (d : Decision) (c : Coordinator) → withDecision 
 unfolding withDecision
 decided-units zero d c = refl
 decided-units (suc n) d c = refl
+
+-- the number decided reads what was written
+pub decided-own : (i : ℕ) (d : Decision) (c : Coordinator) → 1 ≤ i → i ≤ length (c .decisions) → decision i (withDecision i d c) ≡ d
+unfolding decision withDecision
+decided-own zero d c l m = absurd (omega arith)
+decided-own (suc i) d c l m = getD-set-same (c .decisions) i d Undecided (omega arith)
 
 -- more numbers issued
 pub more-issued : (i j : ℕ) (r : Record) → i ≤ j → GoodParts i r → GoodParts j r

@@ -143,7 +143,7 @@ open-single t s =
     P : Step → Type 0
     P x = Single s (x .write)
 
-step-single : (t : Transaction) (now : ℕ) (s : Sheets) → Single s (step t now s .write)
+pub step-single : (t : Transaction) (now : ℕ) (s : Sheets) → Single s (step t now s .write)
 unfolding step validateStep decideStep withdrawStep finishStep undoStep
 step-single t now s =
     by-phase (λ (x : Step). Single s (x .write)) (t .phase)

@@ -75,6 +75,9 @@ closeBarred p d =
     (byDecision d false true false) (byDecision d false true false) (byDecision d true false true) (byDecision d true true false)
     true true
 
+abbrev pub cannotClose : Transaction → Sheets → Bool
+cannotClose t s = closeBarred (t .phase) (ownDecision t s)
+
 -- in that order, after 1 and 2 of the sheets themselves
 unfoldable pub closeConditions : Transaction → Sheets → List Condition
-closeConditions t s = refuse 3 (not (wellFormed s t)) ∷ refuse 4 (closeBarred (t .phase) (ownDecision t s)) ∷ []
+closeConditions t s = refuse 3 (not (wellFormed s t)) ∷ refuse 4 (cannotClose t s) ∷ []

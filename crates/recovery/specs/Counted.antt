@@ -8,10 +8,11 @@ use Rattle.model.specs.Coordinator.{decision}
 use Rattle.model.specs.Writes.{Sheets, Write, nothing, decide, commit, decisionsAfter, apply, isOnePhase}
 use Rattle.model.specs.Histories.{Event, taken, Available}
 use Rattle.model.specs.SequentialModel.{Model, modelCommit, isCommitted}
+use Rattle.call_laws.specs.Sheets.{decided-own}
 use Rattle.call_laws.specs.Keeping.{issued-grows}
 use Rattle.model.specs.Records.{lineOf}
 use Rattle.recovery.specs.Memory.{preparedChange, Away, undecided-kept, none-prepared-kept}
-use Rattle.recovery.specs.Settling.{Gentle, gentle-nothing, gentle-issue, gentle-abort, gentle-forward, gentle-back, gentle-prepare, decided-own}
+use Rattle.recovery.specs.Settling.{Gentle, gentle-nothing, gentle-issue, gentle-abort, gentle-forward, gentle-back, gentle-prepare}
 use Rattle.recovery.specs.Settling.{decided-other, issued-decision, abort-commits-none, undecided-committed}
 
 -- the numbers whose one-phase write has been made, after one more write

@@ -15,8 +15,8 @@ use Rattle.model.specs.SequentialModel.{Model, modelCommit, overwritten}
 use Rattle.call_laws.specs.Images.{when-prepared}
 use Rattle.call_laws.specs.Groups.{place-below}
 use Rattle.call_laws.specs.Lines.{line-of-key, still-decide}
-use Rattle.call_laws.specs.Sheets.{GoodSheets, MayPutAll, still-commit, still-prepare}
-use Rattle.recovery.specs.Settling.{settle, settled-plain, settled-by, settled-back, decided-own, decided-other, undecided-committed}
+use Rattle.call_laws.specs.Sheets.{GoodSheets, MayPutAll, still-commit, still-prepare, decided-own}
+use Rattle.recovery.specs.Settling.{settle, settled-plain, settled-by, settled-back, decided-other, undecided-committed}
 use Rattle.recovery.specs.View.{View, own-key, own-rule, line-after}
 use Rattle.recovery.specs.Memory.{putIn, preparedChange}
 use Rattle.recovery.specs.Puts.{putOf, put-in-puts, entry-in-group, found-has-key}

@@ -20,9 +20,9 @@ use Rattle.sheet_laws.specs.Coordinator.{bounds}
 use Rattle.call_laws.specs.Keys.{same-key, same-key-refl}
 use Rattle.call_laws.specs.Images.{forward-plain, back-plain, when-prepared}
 use Rattle.call_laws.specs.Lines.{listsKey, has-line, lists-after, line-of-key, Still, still-nothing, still-decide, still-forward, still-back}
-use Rattle.call_laws.specs.Sheets.{GoodSheets, good-parts, parts-good}
+use Rattle.call_laws.specs.Sheets.{GoodSheets, good-parts, parts-good, decided-own}
 use Rattle.call_laws.specs.Closure.{sheets-stay-good}
-use Rattle.recovery.specs.Settling.{settle, settled-plain, gentle-nothing, decided-own, undecided-aborted}
+use Rattle.recovery.specs.Settling.{settle, settled-plain, gentle-nothing, undecided-aborted}
 use Rattle.recovery.specs.View.{View, listed-good, own-rule, own-txid, line-after, gentle-view}
 use Rattle.recovery.specs.Memory.{abort-undecided}
 use Rattle.recovery.specs.Calls.{visit-gentle}

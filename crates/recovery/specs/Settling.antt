@@ -1,8 +1,8 @@
 -- The settled view: what each line would be once its owner is finished with. A prepared line whose owner is COMMITTED counts as rolled forward, any
 -- other prepared line as rolled back; other lines count as they are. All writes but a commit leave the settled lines alone.
-use Rattle.lists.specs.Basics.{_≡_, refl, sym, ap, ap₂, _∙_, ℕ, zero, suc, _+_, _≤_, eqb, Bool, true, false, cond, List, [], _∷_, length, getD, set, Option}
+use Rattle.lists.specs.Basics.{_≡_, refl, sym, ap, ap₂, _∙_, ℕ, zero, suc, _+_, eqb, Bool, true, false, cond, List, [], _∷_, getD, set, Option}
 use Rattle.lists.specs.Basics.{none, some, arith, eqb-true, eqb-false, choose-by, tests}
-use lib.Seq.{getD-set-same, getD-set-other}
+use lib.Seq.{getD-set-other}
 use Rattle.model.specs.Types.{Key, Record, Decision, Undecided, Committed, Aborted, Entry}
 use Rattle.model.specs.Records.{lineOf, stateRule}
 use Rattle.model.specs.Coordinator.{Coordinator, decisionNumber, decision, withDecision, withIssued}
@@ -16,13 +16,7 @@ use Rattle.call_laws.specs.Sheets.{MayPutAll, still-prepare}
 unfoldable pub settle : Coordinator → Record → Record
 settle c r = cond (isPrepared r) (byDecision (ownerDecision r c) (rolledBack r) (rolledForward r) (rolledBack r)) r
 
--- A decision that was written, and the others.
-
-pub decided-own : (i : ℕ) (d : Decision) (c : Coordinator) → 1 ≤ i → i ≤ length (c .decisions) → decision i (withDecision i d c) ≡ d
-unfolding decision withDecision
-decided-own zero d c l m = absurd (omega arith)
-decided-own (suc i) d c l m = getD-set-same (c .decisions) i d Undecided (omega arith)
-
+-- A decision that was written leaves the others.
 pub decided-other : (i j : ℕ) (d : Decision) (c : Coordinator) → (i ≡ j → ⊥) → decision j (withDecision i d c) ≡ decision j c
 unfolding decision withDecision
 decided-other zero j d c n = refl
