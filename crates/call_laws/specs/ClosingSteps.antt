@@ -145,6 +145,16 @@ unfolding closing turn
 stays-stopped zero now x q = refl
 stays-stopped (suc n) now x q = ap (λ (b : Bool). closing n now (cond b x (goesOn now x))) q ∙ stays-stopped n now x q
 
+-- what each step of a close keeps, the close keeps
+pub closing-by : (P : Run → Type 0) (now : ℕ) → now < 2 ^ 32 → ((y : Run) → Sound y → stops now y ≡ false → P y → P (goesOn now y)) → (n : ℕ) (x : Run) → Sound x → P x → P (closing n now x)
+unfolding closing turn
+closing-by P now fits f zero x k p = p
+closing-by P now fits f (suc n) x k p = go (stops now x) refl (λ y k′ p′. closing-by P now fits f n y k′ p′)
+  where
+    go : (b : Bool) → stops now x ≡ b → ((y : Run) → Sound y → P y → P (closing n now y)) → P (closing n now (cond b x (goesOn now x)))
+    go true q rec = rec x k p
+    go false q rec = rec (goesOn now x) (sound-next now fits x k (may-go now x (k .going) q)) (f x k q p)
+
 -- a verdict once given stays
 pub verdict-stays : (s : Sheets) (t : Transaction) (now : ℕ) → Stage (unitsOf s) t → (t .verdict ≡ 0 → ⊥) → step t now s .transaction .verdict ≡ t .verdict
 unfolding step finishStep undoStep nextGroup verdictFormed

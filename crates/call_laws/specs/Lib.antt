@@ -22,6 +22,8 @@ pub mod Moved
 pub mod ClosingSteps
 pub mod ClosingAdvances
 pub mod ClosingLimits
+pub mod ClosingReport
+pub mod ClosingEnds
 pub mod Turns
 pub mod ByteUnits
 pub mod Told
