@@ -1,25 +1,30 @@
 -- A close is the advances that it makes, one after another, each accepted. A list of calls that hands a transaction on from one to the next is a record `Ran`,
 -- made from the end: none, or one advance before others. That the model commits at one of them only is because a verdict once given stays.
-use Rattle.lists.specs.Basics.{_≡_, refl, sym, ap, subst, _∙_, ℕ, zero, suc, _^_, _<_, eqb, Bool, true, false, _&&_, cond, List, [], _∷_, _++_, some}
+use Rattle.lists.specs.Basics.{_≡_, refl, sym, ap, subst, _∙_, ℕ, zero, suc, _+_, _^_, _<_, eqb, Bool, true, false, _&&_, cond, List, [], _∷_, _++_, some}
 use Rattle.lists.specs.Basics.{Option·some-injective, inl, inr, arith, eqb-true, eqb-false, ne-eqb}
 use Rattle.model.specs.Types.{Transaction}
 use Rattle.model.specs.Refusals.{refusalOf}
-use Rattle.model.specs.Writes.{Sheets, apply}
+use Rattle.model.specs.Writes.{Sheets, Write, apply}
 use Rattle.model.specs.WellFormed.{wellFormed}
-use Rattle.model.specs.Results.{Call, advance, Answer, returned, returns, Result, made, writeOf, answerOf}
+use Rattle.model.specs.Results.{Call, advance, Answer, returned, returns, made, writeOf, answerOf}
 use Rattle.model.specs.Conditions.{cannotAdvance, conditions}
 use Rattle.model.specs.Steps.{step}
 use Rattle.model.specs.Calls.{outcome, result}
-use Rattle.model.specs.Closing.{Run, stops, goesOn, turn, closing, closingCalls}
+use Rattle.model.specs.Closing.{changes, Run, stepWrites, stops, goesOn, turn, closing, closingCalls, writesIn}
 use Rattle.model.specs.Histories.{Event, answer, written, after, given, takenBy, Available, eventsAfter, leftBy, Legal}
 use Rattle.model.specs.SequentialModel.{Model, modelCommit, commitsIt, modelCall, modelStep, modelAfter}
 use Rattle.call_laws.specs.Transactions.{well-formed-parts}
 use Rattle.call_laws.specs.ClosingSteps.{close-advance, Sound, may-go, sound-next, verdict-stays, step-number}
 
 -- an advance that isn't refused
-pub advance-made : (t : Transaction) (now : ℕ) (s : Sheets) → wellFormed s t ≡ true → cannotAdvance t s ≡ false → result (advance t now) s ≡ made (returned (step t now s .transaction)) (step t now s .write)
+pub advance-made : (t : Transaction) (now : ℕ) (s : Sheets) → wellFormed s t ≡ true → cannotAdvance t s ≡ false
+    → result (advance t now) s ≡ made (returned (step t now s .transaction)) (step t now s .write)
 unfolding result outcome conditions refusalOf
 advance-made t now s f c = rw (f, c) refl
+
+advance-writes : (t : Transaction) (now : ℕ) (s : Sheets) → wellFormed s t ≡ true → cannotAdvance t s ≡ false → written (advance t now) s ≡ step t now s .write
+unfolding written
+advance-writes t now s f c = ap writeOf (advance-made t now s f c)
 
 -- what the model makes of a call that takes t and returns u
 abbrev pub modelTaken : Transaction → Transaction → Model → Model
@@ -57,7 +62,8 @@ ran-none t s es a =
     }
 
 -- the model's commit falls on one of two calls
-once : (t u w : Transaction) (m : Model) → u .number ≡ t .number → ((t .verdict ≡ 0 → ⊥) → u .verdict ≡ t .verdict) → ((u .verdict ≡ 0 → ⊥) → w .verdict ≡ u .verdict) → modelTaken u w (modelTaken t u m) ≡ modelTaken t w m
+once : (t u w : Transaction) (m : Model) → u .number ≡ t .number → ((t .verdict ≡ 0 → ⊥) → u .verdict ≡ t .verdict)
+    → ((u .verdict ≡ 0 → ⊥) → w .verdict ≡ u .verdict) → modelTaken u w (modelTaken t u m) ≡ modelTaken t w m
 once t u w m n k l = go (eqb (t .verdict) 0) refl
   where
     after-t : Bool → Model
@@ -97,14 +103,14 @@ module _ (t w : Transaction) (now : ℕ) (s s′ : Sheets) (es : List Event) (fi
   said = ap answerOf (advance-made t now s f c)
 
   leaves : after (advance t now) s ≡ apply (step t now s .write) s
-  unfolding after written
-  leaves = ap (λ (x : Result Answer). apply (writeOf x) s) (advance-made t now s f c)
+  unfolding after
+  leaves = ap (λ (w : Write). apply w s) (advance-writes t now s f c)
 
   pub ran-more : (cs : List Call) → Available t es → Ran cs u w (apply (step t now s .write) s) s′ (ev (returned u) ∷ es) → Ran (advance t now ∷ cs) t w s s′ es
   unfolding leftBy eventsAfter modelAfter modelStep modelCall given
   ran-more cs a r =
       record {
-        legal = (record { clock = fits; state = subst (λ (x : Answer). (y : Transaction) → takenBy (advance t now) x ≡ some y → Available y es) (sym said) takes }, tail .legal);
+        legal = (record { clock = fits; state = subst Takes (sym said) takes }, tail .legal);
         left = tail .left;
         mine = tail .mine;
         others = λ x n h. tail .others x (λ q. n (q ∙ step-number t now s))
@@ -116,6 +122,9 @@ module _ (t w : Transaction) (now : ℕ) (s s′ : Sheets) (es : List Event) (fi
             ∙ once t u w (modelAfter es m) (step-number t now s) kept (r .verdict));
       }
     where
+      Takes : Answer → Type 0
+      Takes x = (y : Transaction) → takenBy (advance t now) x ≡ some y → Available y es
+
       takes : (y : Transaction) → some t ≡ some y → Available y es
       takes y q = subst (λ (z : Transaction). Available z es) (Option·some-injective t y q) a
 
@@ -146,9 +155,40 @@ close-is-advances (suc n) now fits x k es a = go (stops now x) refl (λ y k′ e
     made-first : Event
     made-first = record { call = advance t now; answer = returned (goesOn now x .transaction) }
 
-    go : (b : Bool) → stops now x ≡ b → ((y : Run) → Sound y → (es′ : List Event) → Available (y .transaction) es′ → RunAsAdvances n now y es′) → Ran (cond b [] (advance t now ∷ []) ++ closingCalls n now (next b)) t (closing n now (next b) .transaction) (x .sheets) (closing n now (next b) .sheets) es
+    go : (b : Bool) → stops now x ≡ b → ((y : Run) → Sound y → (es′ : List Event) → Available (y .transaction) es′ → RunAsAdvances n now y es′)
+        → Ran (cond b [] (advance t now ∷ []) ++ closingCalls n now (next b)) t (closing n now (next b) .transaction) (x .sheets) (closing n now (next b) .sheets) es
     go true q rec = rec x k es a
     go false q rec =
         let c = may-go now x (k .going) q in
-        ran-more t (closing n now (next false) .transaction) now (x .sheets) (closing n now (next false) .sheets) es fits (k .formed) (close-advance t (x .sheets) c)
-        (closingCalls n now (next false)) a (rec (next false) (sound-next now fits x k c) (made-first ∷ es) (inl refl))
+        let end = closing n now (next false) in
+        ran-more t (end .transaction) now (x .sheets) (end .sheets) es fits (k .formed) (close-advance t (x .sheets) c) (closingCalls n now (next false)) a
+        (rec (next false) (sound-next now fits x k c) (made-first ∷ es) (inl refl))
+
+-- "The report equals the writes of the step table": those that the advances make.
+pub report-is-writes : (n now : ℕ) → now < 2 ^ 32 → (x : Run) → Sound x → closing n now x .writes ≡ x .writes + writesIn (closingCalls n now x) (x .sheets)
+unfolding closing closingCalls turn writesIn after
+report-is-writes zero now fits x k = omega arith
+report-is-writes (suc n) now fits x k = go (stops now x) refl (λ y k′. report-is-writes n now fits y k′)
+  where
+    t : Transaction
+    t = x .transaction
+
+    s : Sheets
+    s = x .sheets
+
+    next : Bool → Run
+    next b = cond b x (goesOn now x)
+
+    sum : (b : Bool) (w r : ℕ) → cond b (w + 1) w + r ≡ w + (cond b 1 0 + r)
+    sum true w r = omega arith
+    sum false w r = omega arith
+
+    go : (b : Bool) → stops now x ≡ b → ((y : Run) → Sound y → closing n now y .writes ≡ y .writes + writesIn (closingCalls n now y) (y .sheets))
+        → closing n now (next b) .writes ≡ x .writes + writesIn (cond b [] (advance t now ∷ []) ++ closingCalls n now (next b)) s
+    go true q rec = rec x k
+    go false q rec =
+        let c = may-go now x (k .going) q in
+        let cs = closingCalls n now (next false) in
+        rec (next false) (sound-next now fits x k c)
+        ∙ (sum (stepWrites now x) (x .writes) (writesIn cs (next false .sheets))
+        ∙ ap (λ (w : Write). x .writes + (cond (changes w s) 1 0 + writesIn cs (apply w s))) (sym (advance-writes t now s (k .formed) (close-advance t s c))))

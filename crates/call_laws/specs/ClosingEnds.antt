@@ -2,10 +2,9 @@
 -- anywhere 18 are enough; while the budget of writes is affordable it stays so.
 use Rattle.lists.specs.Basics.{_≡_, refl, sym, ap, ap₂, subst, _∙_, ℕ, zero, suc, _+_, _-_, _^_, _≤_, _<_, eqb, ltb, Bool, true, false, _&&_, _||_, cond}
 use Rattle.lists.specs.Basics.{true≢false, getD, _⊎_, inl, inr, arith, eqb-true, ltb-true, all, choose-by}
-use Rattle.model.specs.Types.{Decision, Committed, Transaction}
+use Rattle.model.specs.Types.{Decision, Transaction}
 use Rattle.model.specs.Coordinator.{decision}
 use Rattle.model.specs.Transactions.{byPhase, donePhase, abortedVerdict, isEmpty, held, puts, toValidate, noEntry, moved}
-use Rattle.model.specs.Images.{byDecision}
 use Rattle.model.specs.Writes.{Sheets}
 use Rattle.model.specs.WellFormed.{placeFormed}
 use Rattle.model.specs.Steps.{Step, holds, unitsOf, groupsOf, groupAt, onePhaseAllowed, openWithoutPuts, onePhase, openStep, nextGroup, prepareStep, nextEntry}
@@ -13,7 +12,7 @@ use Rattle.model.specs.Steps.{validateStep, decideStep, withdrawStep, finishSte
 use Rattle.model.specs.Closing.{Run, stepWrites, stops, goesOn, turn, closing, starting, mostSteps, closeBarred, cannotClose}
 use Rattle.call_laws.specs.Choices.{by-phase, by-phase-of, by-decision-of}
 use Rattle.call_laws.specs.Transactions.{Stage, well-formed-parts, place-at}
-use Rattle.call_laws.specs.ClosingSteps.{Going, Sound, may-go, sound-next, stays-stopped, closing-by, groups-after, validations, validations-after}
+use Rattle.call_laws.specs.ClosingSteps.{not-committed, Going, Sound, may-go, sound-next, stays-stopped, closing-by, groups-after, validations, validations-after}
 use Rattle.call_laws.specs.ClosingReport.{budget, step-pays, budget-after, few-steps, budget-17}
 
 -- steps to done at most, with g groups and v entries to validate
@@ -59,11 +58,11 @@ step-nearer s t now st ok =
     (λ y. choose-by (T 2) (isEmpty (puts t)) (λ z. omega arith) (λ z. omega arith)))
     (λ x. omega arith)))
     (λ e h. at 3 e
-    (by-decision-of (P 3) own (λ d. omega arith) (λ d. absurd (not-committed d h)) (λ d. omega arith)))
+    (by-decision-of (P 3) own (λ d. omega arith) (λ d. absurd (not-committed own d h)) (λ d. omega arith)))
     (λ e h. at 4 e
     (by-decision-of (P 4) own
     (λ d. choose-by (λ (p : ℕ). T 4 (moved p 0 abortedVerdict t)) (isEmpty (puts t)) (λ z. omega arith) (λ z. omega arith))
-    (λ d. absurd (not-committed d h))
+    (λ d. absurd (not-committed own d h))
     (λ d. choose-by (λ (p : ℕ). T 4 (moved p 0 abortedVerdict t)) (isEmpty (puts t)) (λ z. omega arith) (λ z. omega arith))))
     (λ e h. at 5 e (rolls 5 e (ltb-true (t .place) g (place-at (unitsOf s) t st 5 e)) (λ n. refl)))
     (λ e h. at 6 e (rolls 6 e (ltb-true (t .place) g (place-at (unitsOf s) t st 6 e)) (λ n. refl)))
@@ -79,9 +78,6 @@ step-nearer s t now st ok =
 
     own : Decision
     own = decision (t .number) (s .coordinator)
-
-    not-committed : own ≡ Committed → byDecision own false true false ≡ false → ⊥
-    not-committed d h = true≢false (ap (λ (x : Decision). byDecision x false true false) (sym d) ∙ h)
 
     -- from phase p, to a transaction and to a step's
     T : ℕ → Transaction → Type 0
@@ -106,7 +102,8 @@ step-nearer s t now st ok =
         (λ y. omega (arith, f (t .place), l))
 
 -- the steps left after one that a close makes
-steps-after : (now : ℕ) (x : Run) → Sound x → cannotClose (x .transaction) (x .sheets) ≡ false → stepsLeft (goesOn now x .transaction) (goesOn now x .sheets) + 1 ≤ stepsLeft (x .transaction) (x .sheets)
+steps-after : (now : ℕ) (x : Run) → Sound x → cannotClose (x .transaction) (x .sheets) ≡ false
+    → stepsLeft (goesOn now x .transaction) (goesOn now x .sheets) + 1 ≤ stepsLeft (x .transaction) (x .sheets)
 steps-after now x k c =
     let t = x .transaction in
     let s = x .sheets in
@@ -128,13 +125,15 @@ ends-there zero now fits x k l = go (k .going)
     go (inr c) = absurd (omega (arith, steps-after now x k c, l))
 ends-there (suc n) now fits x k l = go (stops now x) refl (λ y k′ l′. ends-there n now fits y k′ l′)
   where
-    stopped : (d : Bool) → eqb (x .transaction .phase) donePhase ≡ d → (w : Bool) → stepWrites now x ≡ w → (e : Bool) → eqb (x .left) 0 ≡ e → (d || w && e) ≡ true → Ended now x
+    stopped : (d : Bool) → eqb (x .transaction .phase) donePhase ≡ d → (w : Bool) → stepWrites now x ≡ w → (e : Bool) → eqb (x .left) 0 ≡ e
+        → (d || w && e) ≡ true → Ended now x
     stopped true d w f e g h = inl (eqb-true (x .transaction .phase) donePhase d)
     stopped false d true f true g h = inr (f, eqb-true (x .left) 0 g)
     stopped false d true f false g h = absurd (true≢false (sym h))
     stopped false d false f e g h = absurd (true≢false (sym h))
 
-    go : (b : Bool) → stops now x ≡ b → ((y : Run) → Sound y → stepsLeft (y .transaction) (y .sheets) ≤ n → Ended now (closing n now y)) → Ended now (closing n now (cond b x (goesOn now x)))
+    go : (b : Bool) → stops now x ≡ b → ((y : Run) → Sound y → stepsLeft (y .transaction) (y .sheets) ≤ n → Ended now (closing n now y))
+        → Ended now (closing n now (cond b x (goesOn now x)))
     go true q rec =
         subst (Ended now) (sym (stays-stopped n now x q)) (stopped (eqb (x .transaction .phase) donePhase) refl (stepWrites now x) refl (eqb (x .left) 0) refl q)
     go false q rec =
@@ -143,7 +142,8 @@ ends-there (suc n) now fits x k l = go (stops now x) refl (λ y k′ l′. ends-
         rec (goesOn now x) (sound-next now fits x k c) (omega (arith, a, l))
 
 -- a close that can afford its budget ends done
-pub closes : (n now : ℕ) → now < 2 ^ 32 → (x : Run) → Sound x → stepsLeft (x .transaction) (x .sheets) ≤ n → budget (x .transaction) (x .sheets) ≤ x .left → closing n now x .transaction .phase ≡ donePhase
+pub closes : (n now : ℕ) → now < 2 ^ 32 → (x : Run) → Sound x → stepsLeft (x .transaction) (x .sheets) ≤ n → budget (x .transaction) (x .sheets) ≤ x .left
+    → closing n now x .transaction .phase ≡ donePhase
 closes n now fits x k l m = by-end (ends-there n now fits x k l)
   where
     end : Run
@@ -180,7 +180,8 @@ closes n now fits x k l m = by-end (ends-there n now fits x k l)
         go (inr c) = absurd (omega (arith, room (w .0) c, affords, w .1))
 
 -- "17 or more closes the order"
-pub seventeen-closes : (now : ℕ) → now < 2 ^ 32 → (t : Transaction) (limit : ℕ) (s : Sheets) → 17 ≤ limit → Sound (starting t limit s) → closing mostSteps now (starting t limit s) .transaction .phase ≡ donePhase
+pub seventeen-closes : (now : ℕ) → now < 2 ^ 32 → (t : Transaction) (limit : ℕ) (s : Sheets) → 17 ≤ limit → Sound (starting t limit s)
+    → closing mostSteps now (starting t limit s) .transaction .phase ≡ donePhase
 seventeen-closes now fits t limit s l k =
     let few = well-formed-parts s t (k .formed) .0 .few in
     let b = budget-17 t s few in

@@ -1,38 +1,15 @@
 -- From one limit to the next: nothing more, or one more write within one unit. Both closes make the same steps until the lower limit is used up; from there on
 -- the lower one stops before a step that writes, and the higher one makes it and writes no more.
-use Rattle.lists.specs.Basics.{_≡_, refl, sym, ap, ap₂, subst, _∙_, ℕ, zero, suc, _+_, _-_, eqb, Bool, true, false, _&&_, _||_, cond, true≢false, List, []}
-use Rattle.lists.specs.Basics.{_∷_, map, arith, eqb-true, eqb-false, ne-eqb, any, or-fst, or-snd}
-use Rattle.model.specs.Types.{Record, Transaction}
+use Rattle.lists.specs.Basics.{_≡_, refl, sym, ap, ap₂, subst, _∙_, ℕ, zero, suc, _+_, _-_, eqb, Bool, true, false, _&&_, _||_, cond, true≢false, arith}
+use Rattle.lists.specs.Basics.{eqb-true, eqb-false, ne-eqb}
+use Rattle.model.specs.Types.{Transaction}
 use Rattle.model.specs.Transactions.{donePhase}
-use Rattle.model.specs.Images.{rolledForward, rolledBack}
-use Rattle.model.specs.Writes.{Sheets, Write, nothing, issue, decide, commit, prepare, forward, back, entryFor, isOf, lineAfter, linesAfter, decisionsAfter, apply}
+use Rattle.model.specs.Writes.{Sheets, Write, apply}
 use Rattle.model.specs.Steps.{step}
-use Rattle.model.specs.Closing.{changes, Run, stepWrites, turn, closing}
+use Rattle.model.specs.Closing.{Run, stepWrites, turn, closing}
 use Rattle.call_laws.specs.SingleUnit.{SingleUnit, step-single}
-use Rattle.call_laws.specs.Lines.{lines-unmoved}
 use Rattle.call_laws.specs.ClosingSteps.{stays-stopped}
-
-none-rolled : (p : Record → Bool) (f : Record → Record) (rs : List Record) → any p rs ≡ false → map (λ (r : Record). cond (p r) (f r) r) rs ≡ rs
-unfolding any
-none-rolled p f [] h = refl
-none-rolled p f (r ∷ rs) h =
-    ap₂ _∷_ (ap (λ (b : Bool). cond b (f r) r) (or-fst (p r) (any p rs) h)) (none-rolled p f rs (or-snd (p r) (any p rs) h))
-
-lines-only : (s : Sheets) {rs : List Record} → rs ≡ s .lines → record { lines = rs; coordinator = s .coordinator } ≡ s
-lines-only s e = λ i. record { lines = e i; coordinator = s .coordinator }
-
--- a write that changes nothing leaves the sheets
-pub no-change : (w : Write) (s : Sheets) → changes w s ≡ false → apply w s ≡ s
-unfolding changes apply linesAfter lineAfter decisionsAfter entryFor
-no-change nothing s h = lines-only s (lines-unmoved nothing (λ r. refl) (s .lines))
-no-change issue s h = absurd (true≢false h)
-no-change (decide n d) s h = absurd (true≢false h)
-no-change (commit n []) s h = lines-only s (lines-unmoved (commit n []) (λ r. refl) (s .lines))
-no-change (commit n (e ∷ es)) s h = absurd (true≢false h)
-no-change (prepare n now []) s h = lines-only s (lines-unmoved (prepare n now []) (λ r. refl) (s .lines))
-no-change (prepare n now (e ∷ es)) s h = absurd (true≢false h)
-no-change (forward n ks) s h = lines-only s (none-rolled (isOf n ks) rolledForward (s .lines) h)
-no-change (back n ks) s h = lines-only s (none-rolled (isOf n ks) rolledBack (s .lines) h)
+use Rattle.call_laws.specs.ClosingWrites.{no-change}
 
 -- where the limit is used up nothing more is written
 spent : (n now : ℕ) (x : Run) → x .left ≡ 0 → (closing n now x .sheets ≡ x .sheets) × (closing n now x .writes ≡ x .writes)
@@ -53,7 +30,8 @@ spent (suc n) now x z = go (eqb (x .transaction .phase) donePhase) (stepWrites n
           writes = cond w (x .writes + 1) (x .writes);
         })
 
-    go : (d w : Bool) → stepWrites now x ≡ w → (e : Bool) → e ≡ true → ((y : Run) → y .left ≡ 0 → Nothing-more y (closing n now y)) → Nothing-more x (closing n now (next d w e))
+    go : (d w : Bool) → stepWrites now x ≡ w → (e : Bool) → e ≡ true → ((y : Run) → y .left ≡ 0 → Nothing-more y (closing n now y))
+        → Nothing-more x (closing n now (next d w e))
     go true w q e f rec = rec x z
     go false true q true f rec = rec x z
     go false true q false f rec = absurd (true≢false (sym f))
@@ -96,7 +74,9 @@ limit-by-limit (suc n) now x =
     Higher : Run → Bool → ℕ → Type 0
     Higher y b l = OneMore y (closing n now (cond b (further x) (step-to l (x .writes + 1))))
 
-    go : (d : Bool) → eqb (t .phase) donePhase ≡ d → (w : Bool) → stepWrites now x ≡ w → (e : Bool) → eqb (x .left) 0 ≡ e → ((y : Run) → OneMore (closing n now y) (closing n now (further y))) → OneMore (closing n now (next d w e (x .left) x)) (closing n now (next d w (eqb (x .left + 1) 0) (x .left + 1) (further x)))
+    go : (d : Bool) → eqb (t .phase) donePhase ≡ d → (w : Bool) → stepWrites now x ≡ w → (e : Bool) → eqb (x .left) 0 ≡ e
+        → ((y : Run) → OneMore (closing n now y) (closing n now (further y)))
+        → OneMore (closing n now (next d w e (x .left) x)) (closing n now (next d w (eqb (x .left + 1) 0) (x .left + 1) (further x)))
     go true d w q e f rec = rec x
     go false d false q e f rec = rec (step-to (x .left) (x .writes))
     go false d true q true f rec =

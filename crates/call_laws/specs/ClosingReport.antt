@@ -1,12 +1,11 @@
 -- The report is at most 17. Each phase has a budget of writes, by the groups left: a step that writes takes it at least one lower, any other doesn't raise it;
 -- and eight entries have at most eight groups.
-use Rattle.lists.specs.Basics.{_≡_, refl, sym, ap, subst, _∙_, ℕ, _+_, _-_, _^_, _≤_, _<_, eqb, ltb, Bool, true, false, not, _&&_, _||_, cond, true≢false, and-false}
-use Rattle.lists.specs.Basics.{List, [], _∷_, length, take, getD, length-take, arith, eqb-false, ltb-true, all, any, filter, eqList, choose-by}
+use Rattle.lists.specs.Basics.{_≡_, refl, sym, ap, subst, _∙_, ℕ, _+_, _-_, _*_, _^_, _≤_, _<_, eqb, ltb, Bool, true, false, not, _&&_, _||_, cond}
+use Rattle.lists.specs.Basics.{true≢false, and-false, List, [], _∷_, length, take, getD, length-take, arith, eqb-false, ltb-true, all, any, filter, eqList}
+use Rattle.lists.specs.Basics.{choose-by}
 use Rattle.model.specs.Types.{Decision, Aborted, AtomicityUnit, Entry, Transaction}
-use Rattle.model.specs.Coordinator.{decision}
 use Rattle.model.specs.Transactions.{byPhase, donePhase, abortedVerdict, isSerializable, isEmpty, held, isPut, puts, mustValidate, toValidate, noEntry, moved}
 use Rattle.model.specs.Groups.{scope, addScope, scopes, groupCount}
-use Rattle.model.specs.Images.{byDecision}
 use Rattle.model.specs.Writes.{Sheets, Write, nothing, decide, prepare, forward, back}
 use Rattle.model.specs.WellFormed.{placeFormed}
 use Rattle.model.specs.Conditions.{ownDecision}
@@ -15,7 +14,7 @@ use Rattle.model.specs.Steps.{nextEntry, validateStep, decideStep, withdrawStep
 use Rattle.model.specs.Closing.{changes, Run, stepWrites, stops, goesOn, closing, starting, closeBarred, cannotClose}
 use Rattle.call_laws.specs.Choices.{by-phase, by-phase-of, by-decision-of}
 use Rattle.call_laws.specs.Transactions.{Stage, well-formed-parts, place-at}
-use Rattle.call_laws.specs.ClosingSteps.{Sound, may-go, closing-by, groups-after, validations}
+use Rattle.call_laws.specs.ClosingSteps.{not-committed, Sound, may-go, closing-by, groups-after, validations}
 
 -- the writes that are possible from here on, with g groups: groups to prepare, the decision, groups to roll
 unfoldable pub budgetAt : ℕ → ℕ → ℕ → ℕ
@@ -59,13 +58,13 @@ step-pays s t now st ok =
     (λ y. choose-by (λ (u : Transaction). P 2 (with u nothing)) (isEmpty (puts t)) (λ z. omega arith) (λ z. omega arith)))
     (λ x. omega arith)))
     (λ e. at 3 e (decideStep t s)
-    (by-decision-of (P 3) (decision (t .number) (s .coordinator)) (λ d. omega arith)
-    (λ d. absurd (true≢false (ap (λ (x : Decision). byDecision x false true false) (sym d) ∙ barred 3 e)))
+    (by-decision-of (P 3) own (λ d. omega arith)
+    (λ d. absurd (not-committed own d (barred 3 e)))
     (λ d. omega arith)))
     (λ e. at 4 e (withdrawStep t s)
-    (by-decision-of (P 4) (decision (t .number) (s .coordinator))
+    (by-decision-of (P 4) own
     (λ d. choose-by (λ (p : ℕ). P 4 (with (moved p 0 abortedVerdict t) (decide (t .number) Aborted))) (isEmpty (puts t)) (λ z. omega arith) (λ z. omega arith))
-    (λ d. absurd (true≢false (ap (λ (x : Decision). byDecision x false true false) (sym d) ∙ barred 4 e)))
+    (λ d. absurd (not-committed own d (barred 4 e)))
     (λ d. choose-by (λ (p : ℕ). P 4 (with (moved p 0 abortedVerdict t) nothing)) (isEmpty (puts t)) (λ z. omega arith) (λ z. omega arith))))
     (λ e. at 5 e (finishStep t s) (rolls 5 e (forward (t .number) (keysOf (groupAt t s))) (ltb-true (t .place) g (place-at (unitsOf s) t st 5 e)) (λ n. refl)))
     (λ e. at 6 e (undoStep t s) (rolls 6 e (back (t .number) (keysOf (groupAt t s))) (ltb-true (t .place) g (place-at (unitsOf s) t st 6 e)) (λ n. refl)))
@@ -74,6 +73,9 @@ step-pays s t now st ok =
   where
     g : ℕ
     g = groupsOf t s
+
+    own : Decision
+    own = ownDecision t s
 
     some-put : Bool
     some-put = not (isEmpty (groupAt t s))
@@ -90,8 +92,8 @@ step-pays s t now st ok =
     at : (p : ℕ) → t .phase ≡ p → (x : Step) → P p x → Pays t s x
     at p e x h = subst (λ (q : ℕ). P q x) (sym e) h
 
-    barred : (p : ℕ) → t .phase ≡ p → closeBarred p (ownDecision t s) ≡ false
-    barred p e = ap (λ (q : ℕ). closeBarred q (ownDecision t s)) (sym e) ∙ ok
+    barred : (p : ℕ) → t .phase ≡ p → closeBarred p own ≡ false
+    barred p e = ap (λ (q : ℕ). closeBarred q own) (sym e) ∙ ok
 
     rolls : (p : ℕ) → t .phase ≡ p → (w : Write) → t .place < g → ((n : ℕ) → budgetAt p n g ≡ g - n) → P p (with (nextGroup donePhase t s) w)
     rolls p e w l f =
@@ -101,7 +103,8 @@ step-pays s t now st ok =
         (λ y. one-or-none (changes w s) 0 (budgetAt p (t .place) g) (omega (arith, f (t .place), l)))
 
 -- what is left of the budget after a step that a close makes
-pub budget-after : (now : ℕ) (x : Run) → Sound x → stops now x ≡ false → cond (stepWrites now x) 1 0 + budget (goesOn now x .transaction) (goesOn now x .sheets) ≤ budget (x .transaction) (x .sheets)
+pub budget-after : (now : ℕ) (x : Run) → Sound x → stops now x ≡ false
+    → cond (stepWrites now x) 1 0 + budget (goesOn now x .transaction) (goesOn now x .sheets) ≤ budget (x .transaction) (x .sheets)
 budget-after now x k q =
     let t = x .transaction in
     let s = x .sheets in
@@ -154,7 +157,8 @@ unfolding filter
 apart-filters p q h [] = omega arith
 apart-filters p q h (e ∷ es) = go (p e) refl (q e) refl (apart-filters p q h es)
   where
-    go : (a : Bool) → p e ≡ a → (b : Bool) → q e ≡ b → length (filter p es) + length (filter q es) ≤ length es → length (cond a (e ∷ filter p es) (filter p es)) + length (cond b (e ∷ filter q es) (filter q es)) ≤ length (e ∷ es)
+    go : (a : Bool) → p e ≡ a → (b : Bool) → q e ≡ b → length (filter p es) + length (filter q es) ≤ length es
+        → length (cond a (e ∷ filter p es) (filter p es)) + length (cond b (e ∷ filter q es) (filter q es)) ≤ length (e ∷ es)
     go true x true y l = absurd (true≢false (sym y ∙ h e x))
     go true x false y l = omega arith
     go false x true y l = omega arith
@@ -169,6 +173,14 @@ few-steps t s l =
     let c : length (take (t .count) (t .entries)) ≤ t .count = simp length-take (omega arith) in
     omega (arith, a, b, c, l)
 
+-- the greatest count possible for so many puts: to prepare each, to decide, to roll each
+pub greatest-possible : (t : Transaction) (s : Sheets) → budget t s ≤ 2 * length (puts t) + 1
+unfolding budgetAt
+greatest-possible t s =
+    let f = few-scopes (unitsOf s) (puts t) in
+    by-phase (λ (n : ℕ). n ≤ 2 * length (puts t) + 1) (t .phase) (omega (arith, f)) (omega (arith, f)) (omega (arith, f)) (omega (arith, f)) (omega (arith, f))
+    (omega (arith, f)) (omega (arith, f)) (omega arith) (omega arith)
+
 -- "and is at most 17"
 pub budget-17 : (t : Transaction) (s : Sheets) → t .count ≤ 8 → budget t s ≤ 17
 unfolding budgetAt
@@ -177,7 +189,8 @@ budget-17 t s l =
     by-phase (λ (n : ℕ). n ≤ 17) (t .phase) (omega (arith, f)) (omega (arith, f)) (omega (arith, f)) (omega (arith, f)) (omega (arith, f)) (omega (arith, f))
     (omega (arith, f)) (omega arith) (omega arith)
 
-pub most-17 : (n now : ℕ) → now < 2 ^ 32 → (t : Transaction) (limit : ℕ) (s : Sheets) → Sound (starting t limit s) → closing n now (starting t limit s) .writes ≤ 17
+pub most-17 : (n now : ℕ) → now < 2 ^ 32 → (t : Transaction) (limit : ℕ) (s : Sheets) → Sound (starting t limit s)
+    → closing n now (starting t limit s) .writes ≤ 17
 most-17 n now fits t limit s k =
     let a = report-within n now fits (starting t limit s) k in
     let b = budget-17 t s (well-formed-parts s t (k .formed) .0 .few) in

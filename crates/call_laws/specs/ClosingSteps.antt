@@ -1,7 +1,7 @@
 -- The steps of a close go through: what may be closed may be advanced, and after the step is done or may be closed on. By phase: where the step decides, the
 -- own line reads as the next phase wants it; in every other phase it stays as it was.
-use Rattle.lists.specs.Basics.{_≡_, refl, sym, ap, _∙_, ℕ, _+_, _^_, _≤_, _<_, eqb, ltb, Bool, true, false, not, _&&_, _||_, true≢false, cond, List, length, getD}
-use Rattle.lists.specs.Basics.{zero, suc, _⊎_, inl, inr, arith, eqb-true, not-false, all, choose-by}
+use Rattle.lists.specs.Basics.{_≡_, refl, sym, ap, _∙_, ℕ, _+_, _^_, _≤_, _<_, eqb, ltb, Bool, true, false, not, _&&_, _||_, true≢false, cond, List, length}
+use Rattle.lists.specs.Basics.{getD, zero, suc, _⊎_, inl, inr, arith, eqb-true, not-false, all, choose-by}
 use Rattle.model.specs.Types.{Decision, Committed, Aborted, AtomicityUnit, Transaction}
 use Rattle.model.specs.Coordinator.{decision, withDecision}
 use Rattle.model.specs.Refusals.{refusalOf}
@@ -44,18 +44,23 @@ close-advance t s =
 abbrev pub Going : Transaction → Sheets → Type 0
 Going t s = (t .phase ≡ donePhase) ⊎ (cannotClose t s ≡ false)
 
+-- the own line once it is decided
+pub own-line : (s : Sheets) → GoodSheets s → (t : Transaction) → Body s t → (d : Decision) → decision (t .number) (withDecision (t .number) d (s .coordinator)) ≡ d
+own-line s good t b d =
+    let most : s .coordinator .issued ≤ length (s .coordinator .decisions) = bounds (s .coordinator) (good .decisions) .issued in
+    let mine : t .number ≤ s .coordinator .issued = b .known in
+    decided-own (t .number) d (s .coordinator) (b .number) (omega arith)
+
+-- what may be closed before finish isn't COMMITTED
+pub not-committed : (d : Decision) → d ≡ Committed → byDecision d false true false ≡ false → ⊥
+not-committed d e h = true≢false (ap (λ (x : Decision). byDecision x false true false) (sym e) ∙ h)
+
 module _ (s : Sheets) (good : GoodSheets s) (t : Transaction) (b : Body s t) (now : ℕ) where
   abbrev NextGoing : Step → Type 0
   NextGoing x = Going (x .transaction) (apply (x .write) s)
 
   abbrev own : Decision
   own = decision (t .number) (s .coordinator)
-
-  own-line : (d : Decision) → decision (t .number) (withDecision (t .number) d (s .coordinator)) ≡ d
-  own-line d =
-      let most : s .coordinator .issued ≤ length (s .coordinator .decisions) = bounds (s .coordinator) (good .decisions) .issued in
-      let mine : t .number ≤ s .coordinator .issued = b .known in
-      decided-own (t .number) d (s .coordinator) (b .number) (omega arith)
 
   -- after a step the transaction is done or may be closed on
   pub next-going : cannotClose t s ≡ false → NextGoing (step t now s)
@@ -82,14 +87,14 @@ module _ (s : Sheets) (good : GoodSheets s) (t : Transaction) (b : Body s t) (no
       (λ y. choose-by (λ (u : Transaction). Going u (apply nothing s)) (isEmpty (puts t)) (λ z. inl refl) (λ z. inr free)))
       (λ x. inr free))
       (λ e. by-decision-of NextGoing own
-      (λ d. inr (ap (λ (x : Decision). byDecision x true false true) (own-line Committed)))
-      (λ d. absurd (not-committed d (at 3 e)))
+      (λ d. inr (ap (λ (x : Decision). byDecision x true false true) (own-line s good t b Committed)))
+      (λ d. absurd (not-committed own d (at 3 e)))
       (λ d. inr (ap (λ (x : Decision). byDecision x true true false) d)))
       (λ e. by-decision-of NextGoing own
       (λ d. choose-by (λ (p : ℕ). Going (moved p 0 abortedVerdict t) (apply (decide (t .number) Aborted) s)) (isEmpty (puts t))
       (λ x. inl refl)
-      (λ x. inr (ap (λ (y : Decision). byDecision y true true false) (own-line Aborted))))
-      (λ d. absurd (not-committed d (at 4 e)))
+      (λ x. inr (ap (λ (y : Decision). byDecision y true true false) (own-line s good t b Aborted))))
+      (λ d. absurd (not-committed own d (at 4 e)))
       (λ d. choose-by (λ (p : ℕ). Going (moved p 0 abortedVerdict t) (apply nothing s)) (isEmpty (puts t))
       (λ x. inl refl)
       (λ x. inr (ap (λ (y : Decision). byDecision y true true false) d))))
@@ -104,9 +109,6 @@ module _ (s : Sheets) (good : GoodSheets s) (t : Transaction) (b : Body s t) (no
     where
       at : (p : ℕ) → t .phase ≡ p → closeBarred p own ≡ false
       at p e = ap (λ (q : ℕ). closeBarred q own) (sym e) ∙ ok
-
-      not-committed : own ≡ Committed → byDecision own false true false ≡ false → ⊥
-      not-committed d h = true≢false (ap (λ (x : Decision). byDecision x false true false) (sym d) ∙ h)
 
 -- What a close keeps from turn to turn.
 pub record Sound (x : Run) : Type 0 where
@@ -146,7 +148,8 @@ stays-stopped zero now x q = refl
 stays-stopped (suc n) now x q = ap (λ (b : Bool). closing n now (cond b x (goesOn now x))) q ∙ stays-stopped n now x q
 
 -- what each step of a close keeps, the close keeps
-pub closing-by : (P : Run → Type 0) (now : ℕ) → now < 2 ^ 32 → ((y : Run) → Sound y → stops now y ≡ false → P y → P (goesOn now y)) → (n : ℕ) (x : Run) → Sound x → P x → P (closing n now x)
+pub closing-by : (P : Run → Type 0) (now : ℕ) → now < 2 ^ 32 → ((y : Run) → Sound y → stops now y ≡ false → P y → P (goesOn now y)) → (n : ℕ) (x : Run)
+    → Sound x → P x → P (closing n now x)
 unfolding closing turn
 closing-by P now fits f zero x k p = p
 closing-by P now fits f (suc n) x k p = go (stops now x) refl (λ y k′ p′. closing-by P now fits f n y k′ p′)

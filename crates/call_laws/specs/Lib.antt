@@ -21,6 +21,7 @@ pub mod ByPlace
 pub mod Moved
 pub mod ClosingSteps
 pub mod ClosingAdvances
+pub mod ClosingWrites
 pub mod ClosingLimits
 pub mod ClosingReport
 pub mod ClosingEnds

@@ -10,6 +10,7 @@ use Rattle.model.specs.WellFormed.{wellFormed}
 use Rattle.model.specs.Results.{Call, advance}
 use Rattle.model.specs.Conditions.{ownDecision}
 use Rattle.model.specs.Steps.{step}
+use Rattle.model.specs.Histories.{written, after}
 
 -- "A step that changes no line makes none": rolling is a write only where some line is rolled, putting only where there is something to put.
 unfoldable pub changes : Write → Sheets → Bool
@@ -63,6 +64,11 @@ starting t limit s = record { transaction = t; sheets = s; left = limit; writes 
 unfoldable pub closingCalls : ℕ → ℕ → Run → List Call
 closingCalls zero now x = []
 closingCalls (suc n) now x = cond (stops now x) [] (advance (x .transaction) now ∷ []) ++ closingCalls n now (turn now x)
+
+-- "The report equals the writes of the step table": how many of these calls write, made one after another
+unfoldable pub writesIn : List Call → Sheets → ℕ
+writesIn [] s = 0
+writesIn (c ∷ cs) s = cond (changes (written c s) s) 1 0 + writesIn cs (after c s)
 
 -- turns enough for every order: one from open, one for each group in prepare and in finish, one for each entry in check, one to decide, with eight entries
 abbrev pub mostSteps : ℕ
