@@ -19,12 +19,6 @@ pub mod Accepted
 pub mod Lent
 pub mod ByPlace
 pub mod Moved
-pub mod ClosingSteps
-pub mod ClosingAdvances
-pub mod ClosingWrites
-pub mod ClosingLimits
-pub mod ClosingReport
-pub mod ClosingEnds
 pub mod Turns
 pub mod ByteUnits
 pub mod Told

@@ -12,9 +12,9 @@ use Rattle.model.specs.Conditions.{ownDecision}
 use Rattle.model.specs.Steps.{Step, holds, unitsOf, groupsOf, groupAt, keysOf, onePhaseAllowed, openWithoutPuts, onePhase, openStep, nextGroup, prepareStep}
 use Rattle.model.specs.Steps.{nextEntry, validateStep, decideStep, withdrawStep, finishStep, undoStep, step}
 use Rattle.model.specs.Closing.{changes, Run, stepWrites, stops, goesOn, closing, starting, closeBarred, cannotClose}
 use Rattle.call_laws.specs.Choices.{by-phase, by-phase-of, by-decision-of}
 use Rattle.call_laws.specs.Transactions.{Stage, well-formed-parts, place-at}
-use Rattle.call_laws.specs.ClosingSteps.{not-committed, Sound, may-go, closing-by, groups-after, validations}
+use Rattle.closing_laws.specs.Steps.{not-committed, Sound, may-go, closing-by, groups-after, validations}
 
 -- the writes that are possible from here on, with g groups: groups to prepare, the decision, groups to roll
 unfoldable pub budgetAt : ℕ → ℕ → ℕ → ℕ

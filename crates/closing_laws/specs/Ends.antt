@@ -10,10 +10,10 @@ use Rattle.model.specs.WellFormed.{placeFormed}
 use Rattle.model.specs.Steps.{Step, holds, unitsOf, groupsOf, groupAt, onePhaseAllowed, openWithoutPuts, onePhase, openStep, nextGroup, prepareStep, nextEntry}
 use Rattle.model.specs.Steps.{validateStep, decideStep, withdrawStep, finishStep, undoStep, noStep, step}
 use Rattle.model.specs.Closing.{Run, stepWrites, stops, goesOn, turn, closing, starting, mostSteps, closeBarred, cannotClose}
 use Rattle.call_laws.specs.Choices.{by-phase, by-phase-of, by-decision-of}
 use Rattle.call_laws.specs.Transactions.{Stage, well-formed-parts, place-at}
-use Rattle.call_laws.specs.ClosingSteps.{not-committed, Going, Sound, may-go, sound-next, stays-stopped, closing-by, groups-after, validations, validations-after}
-use Rattle.call_laws.specs.ClosingReport.{budget, step-pays, budget-after, few-steps, budget-17}
+use Rattle.closing_laws.specs.Steps.{not-committed, Going, Sound, may-go, sound-next, stays-stopped, closing-by, groups-after, validations, validations-after}
+use Rattle.closing_laws.specs.Report.{budget, step-pays, budget-after, few-steps, budget-17}
 
 -- steps to done at most, with g groups and v entries to validate
 unfoldable pub stepsAt : ℕ → ℕ → ℕ → ℕ → ℕ

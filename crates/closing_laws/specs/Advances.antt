@@ -13,8 +13,8 @@ use Rattle.model.specs.Calls.{outcome, result}
 use Rattle.model.specs.Closing.{changes, Run, stepWrites, stops, goesOn, turn, closing, closingCalls, writesIn}
 use Rattle.model.specs.Histories.{Event, answer, written, after, given, takenBy, Available, eventsAfter, leftBy, Legal}
 use Rattle.model.specs.SequentialModel.{Model, modelCommit, commitsIt, modelCall, modelStep, modelAfter}
 use Rattle.call_laws.specs.Transactions.{well-formed-parts}
-use Rattle.call_laws.specs.ClosingSteps.{close-advance, Sound, may-go, sound-next, verdict-stays, step-number}
+use Rattle.closing_laws.specs.Steps.{close-advance, Sound, may-go, sound-next, verdict-stays, step-number}
 
 -- an advance that isn't refused
 pub advance-made : (t : Transaction) (now : ℕ) (s : Sheets) → wellFormed s t ≡ true → cannotAdvance t s ≡ false

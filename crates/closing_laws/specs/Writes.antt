@@ -14,15 +14,15 @@ use Rattle.model.specs.Steps.{Step, holds, unitsOf, groupAt, keysOf, onePhaseAl
 use Rattle.model.specs.Steps.{withdrawStep, finishStep, undoStep, step}
 use Rattle.model.specs.ByteHistories.{saying}
 use Rattle.model.specs.Closing.{changes}
 use Rattle.call_laws.specs.Choices.{by-phase, by-decision-of}
 use Rattle.call_laws.specs.Keys.{same-key-refl}
 use Rattle.call_laws.specs.Images.{forward-plain, back-plain}
 use Rattle.call_laws.specs.Lines.{has-line, line-key, line-mapped, lines-unmoved, line-of-key}
 use Rattle.call_laws.specs.Sheets.{GoodSheets, good-parts, parts-good, write-closed}
 use Rattle.call_laws.specs.Transactions.{Body, well-formed-parts}
 use Rattle.call_laws.specs.Steps.{Closed, step-closed}
 use Rattle.call_laws.specs.Lifting.{encoded, encoded-says}
-use Rattle.call_laws.specs.ClosingSteps.{own-line}
+use Rattle.closing_laws.specs.Steps.{own-line}
 
 -- What doesn't count.
 

@@ -7,9 +7,9 @@ use Rattle.model.specs.Transactions.{donePhase}
 use Rattle.model.specs.Writes.{Sheets, Write, apply}
 use Rattle.model.specs.Steps.{step}
 use Rattle.model.specs.Closing.{Run, stepWrites, turn, closing}
 use Rattle.call_laws.specs.SingleUnit.{SingleUnit, step-single}
-use Rattle.call_laws.specs.ClosingSteps.{stays-stopped}
-use Rattle.call_laws.specs.ClosingWrites.{no-change}
+use Rattle.closing_laws.specs.Steps.{stays-stopped}
+use Rattle.closing_laws.specs.Writes.{no-change}
 
 -- where the limit is used up nothing more is written
 spent : (n now : ℕ) (x : Run) → x .left ≡ 0 → (closing n now x .sheets ≡ x .sheets) × (closing n now x .writes ≡ x .writes)

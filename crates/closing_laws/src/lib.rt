@@ -1,0 +1,1 @@
+// Theorems about closing an order in one call (specs/); no code.
