@@ -1,31 +1,27 @@
 -- What is asked before a call looks into a transaction, as one list of conditions: its refusal is the call's, and a transaction that passes has the rest of the
 -- call's conditions before it.
-use Rattle.lists.specs.Basics.{_≡_, refl, sym, ap, ap₂, subst, _∙_, ℕ, _≤_, _<_, eqb, ltb, Bool, true, false, not, _&&_, cond, true≢false, List, [], _∷_}
-use Rattle.lists.specs.Basics.{length, take, drop, length-take, arith, eqb-true, ltb-true, not-false}
+use Rattle.lists.specs.Basics.{_≡_, refl, sym, ap, ap₂, subst, _∙_, ℕ, _≤_, Bool, true, false, not, _&&_, cond, true≢false, List, [], _∷_}
+use Rattle.lists.specs.Basics.{take, drop, arith, not-false}
 use mir.Val.{Val}
 use denote.Laws.{Is}
 use denote.Struct.Declared.{row}
 use Rattle.types.proofs.Transaction.{the-type}
-use Rattle.model.specs.Types.{Key, AtomicityUnit, Entry, Transaction}
+use Rattle.model.specs.Types.{Key, AtomicityUnit, Transaction}
 use Rattle.model.specs.Records.{records, keyInRange}
 use Rattle.model.specs.Coordinator.{coordinatorOf}
 use Rattle.model.specs.Refusals.{Condition, refuse, refusalOf}
-use Rattle.model.specs.WellFormed.{formed, linesHeld, placeFormed, wellFormed}
-use Rattle.model.specs.Transactions.{held, puts, mustValidate, toValidate}
-use Rattle.model.specs.Groups.{groupCount}
+use Rattle.model.specs.WellFormed.{formed, linesHeld, wellFormed}
 use Rattle.model.specs.Writes.{Sheets}
 use Rattle.model.specs.Steps.{unitsOf}
 use Rattle.model.specs.Conditions.{notOpen}
 use Rattle.model.specs.ByteCalls.{sheetsOf}
-use Rattle.call_laws.specs.Choices.{not-first, by-phase-of}
+use Rattle.call_laws.specs.Choices.{not-first}
 use Rattle.call_laws.specs.Transactions.{well-formed-parts}
 use Rattle.call_laws.specs.Accepted.{Accepted}
 use Rattle.well_formed.specs.Formed.{headFormed, head-few, formed-not}
 use Rattle.transactions.specs.Units.{unitsIn, units-said}
-use Rattle.transactions.specs.Held.{tallied-kept, tallied-few}
-use Rattle.put_groups.specs.GroupsIn.{groups-few}
 use Rattle.group_writes.specs.declared.lines.Located.{Located}
-use Rattle.group_writes.specs.Located.{locatedIn, Indexed, Grouped, indexed-all, grouped-in}
+use Rattle.group_writes.specs.Located.{locatedIn, Indexed, Grouped, indexed-all, grouped-in, place-few}
 use Rattle.admission.specs.declared.Admitted.{Admitted}
 
 -- Well-formedness, in the order in which the code asks.
@@ -108,23 +104,6 @@ module _ (s : Sheets) (t : Transaction) where
 
   pub located-by : {a : Admitted} → a ≡ admitted s t → wellFormed s t ≡ true → a .located ≡ locatedIn (s .lines) (unitsOf s) t
   located-by e h = ap (λ (y : Admitted). y .located) e ∙ ap (λ (b : Bool). cond b (locatedIn (s .lines) (unitsOf s) t) nowhere) h
-
--- a place is below eight
-place-few : (us : List AtomicityUnit) (t : Transaction) → t .count ≤ 8 → placeFormed us t ≡ true → t .place < 8
-unfolding placeFormed toValidate held
-place-few us t few =
-    by-phase-of (λ (x : Bool). x ≡ true → t .place < 8) (t .phase) (λ e. zeroth) (λ e. in-groups) (λ e. in-entries) (λ e. zeroth) (λ e. zeroth)
-    (λ e. in-groups) (λ e. in-groups) (λ e. zeroth) (λ q. absurd (true≢false (sym q)))
-  where
-    zeroth : eqb (t .place) 0 ≡ true → t .place < 8
-    zeroth q = omega (arith, eqb-true (t .place) 0 q)
-
-    in-groups : ltb (t .place) (groupCount us (puts t)) ≡ true → t .place < 8
-    in-groups q = omega (arith, ltb-true (t .place) (groupCount us (puts t)) q, groups-few us t, few)
-
-    in-entries : ltb (t .place) (length (toValidate us t)) ≡ true → t .place < 8
-    in-entries q =
-        omega (arith, ltb-true (t .place) (length (toValidate us t)) q, sym (tallied-kept (mustValidate us t) (held t)), tallied-few t (λ (e : Entry) (r : List Entry). mustValidate us t e) (held t), length-take (t .count) (t .entries), few)
 
 -- what a step asks for
 pub admitted-ready : (t : Transaction) (rs cs : List ℕ) {vs : List Val} → Is (row the-type) t vs → (l : Located) → l ≡ locatedIn (records rs) (coordinatorOf cs .units) t → wellFormed (sheetsOf rs cs) t ≡ true → Indexed (records rs) t (l .indices) (t .count) × Grouped (coordinatorOf cs .units) t l

@@ -2,7 +2,7 @@
 -- write too.
 use Rattle.lists.specs.Basics.{_≡_, refl, sym, ap, ap₂, subst, _∙_, ℕ, zero, suc, _+_, _≤_, _<_, eqb, ltb, Bool, true, false, not, _&&_, true≢false, and-assoc}
 use Rattle.lists.specs.Basics.{List, [], _∷_, map, length, take, getD, set, length-take, length-set, getD-take, arith, add-one, eqb-true, eqb-false, lt-ltb}
-use Rattle.lists.specs.Basics.{le-ltb, all}
+use Rattle.lists.specs.Basics.{le-ltb, ltb-true, all}
 use lib.Seq.{getD-set-same, getD-set-other}
 use mir.Val.{Val}
 use denote.Laws.{Is}
@@ -11,16 +11,17 @@ use Rattle.lists.specs.All.{all-always, all-at}
 use Rattle.types.proofs.Transaction.{the-type}
 use Rattle.model.specs.Types.{Key, Record, AtomicityUnit, Found, At, Nothing, Entry, Transaction}
 use Rattle.model.specs.Records.{sameKey, found, isMissing, byFound, hasLine}
-use Rattle.model.specs.Transactions.{held, puts, heldAt, noEntry}
+use Rattle.model.specs.Transactions.{held, puts, heldAt, noEntry, mustValidate, toValidate}
 use Rattle.model.specs.Groups.{groupCount}
-use Rattle.model.specs.WellFormed.{linesHeld}
+use Rattle.model.specs.WellFormed.{linesHeld, placeFormed}
 use Rattle.sheet_laws.specs.Search.{some-found, first-at, first-map}
+use Rattle.call_laws.specs.Choices.{by-phase-of}
 use Rattle.call_laws.specs.Entries.{getD-first}
 use Rattle.call_laws.specs.Keys.{same-key, hasKey}
 use Rattle.call_laws.specs.ByIndex.{found-at}
-use Rattle.transactions.specs.Held.{PassedTo, entryAt, after, held-below, has-room, pass-next}
+use Rattle.transactions.specs.Held.{PassedTo, entryAt, after, held-below, has-room, pass-next, tallied-few, tallied-kept}
 use Rattle.put_groups.specs.Groups.{inGroup}
-use Rattle.put_groups.specs.GroupsIn.{groupsIn, in-group-at}
+use Rattle.put_groups.specs.GroupsIn.{groupsIn, groups-few, in-group-at}
 use Rattle.group_writes.specs.declared.lines.Located.{Located}
 
 -- eight indices that say nothing
@@ -131,6 +132,30 @@ module _ (rs : List Record) (t : Transaction) where
 -- The groups found are those of the units.
 pub grouped-in : (rs : List Record) (us : List AtomicityUnit) (t : Transaction) {vs : List Val} → Is (row the-type) t vs → t .count ≤ 8 → t .place < 8 → Grouped us t (locatedIn rs us t)
 grouped-in rs us t p few l = record { count = refl; own = λ i m. in-group-at us t (has-room t p few) i 0 (t .place) m l }
+
+-- a place is below eight
+pub place-few : (us : List AtomicityUnit) (t : Transaction) → t .count ≤ 8 → placeFormed us t ≡ true → t .place < 8
+unfolding placeFormed toValidate held
+place-few us t few =
+    by-phase-of (λ (x : Bool). x ≡ true → t .place < 8) (t .phase) (λ e. zeroth) (λ e. in-groups) (λ e. in-entries) (λ e. zeroth) (λ e. zeroth)
+    (λ e. in-groups) (λ e. in-groups) (λ e. zeroth) (λ q. absurd (true≢false (sym q)))
+  where
+    zeroth : eqb (t .place) 0 ≡ true → t .place < 8
+    zeroth q = omega (arith, eqb-true (t .place) 0 q)
+
+    in-groups : ltb (t .place) (groupCount us (puts t)) ≡ true → t .place < 8
+    in-groups q = omega (arith, ltb-true (t .place) (groupCount us (puts t)) q, groups-few us t, few)
+
+    in-entries : ltb (t .place) (length (toValidate us t)) ≡ true → t .place < 8
+    in-entries q =
+        omega (
+          arith,
+          ltb-true (t .place) (length (toValidate us t)) q,
+          sym (tallied-kept (mustValidate us t) (held t)),
+          tallied-few t (λ (e : Entry) (r : List Entry). mustValidate us t e) (held t),
+          length-take (t .count) (t .entries),
+          few,
+        )
 
 -- Lines whose keys stay are found where they were.
 module _ (f : Record → Record) (kept : (r : Record) → f r .key ≡ r .key) where

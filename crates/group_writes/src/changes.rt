@@ -33,7 +33,7 @@ enum Effect {
 }
 
 // Line i is pending by the transaction of this number.
-fn prepared_by(n: u32, records: &[u8], i: usize) -> bool
+pub fn prepared_by(n: u32, records: &[u8], i: usize) -> bool
     requires { ⌜ recordsAccepted (now records) ≡ true ⌝ }
     ensures { λ r. ⌜ r ≡ preparedBy n (getD (sheet.records (now (records .entry))) i noRecord) ⌝ }
 {

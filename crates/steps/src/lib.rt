@@ -4,7 +4,7 @@ ghost use Rattle.model.specs.ByteCalls.{sheetsOf};
 ghost use Rattle.steps.specs.Ready.{Ready};
 ghost use Rattle.steps.specs.Stepped.{Stepped};
 
-mod phases;
+pub mod phases;
 
 use group_writes::lines::Located;
 use types::Transaction;

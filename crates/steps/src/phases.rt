@@ -16,7 +16,7 @@ use types::Decision;
 use types::Transaction;
 
 // One group, and not serializable.
-fn one_phase_allowed(groups: u32, t: Transaction) -> bool
+pub fn one_phase_allowed(groups: u32, t: Transaction) -> bool
     ensures { λ r. ⌜ ((s : Sheets) → groups ≡ groupsOf t s → r ≡ onePhaseAllowed t s) ⌝ }
 {
     (groups == 1) & !(t.serializable == 1)

@@ -1,0 +1,2 @@
+-- When a step writes, asked of a group's entries and their lines.
+pub mod Writes
