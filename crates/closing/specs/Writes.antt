@@ -1,7 +1,7 @@
--- When a step writes, phase by phase: a group that is put writes if it has an entry, and a group that is rolled if the line of one of its entries is prepared by
--- the number. The model asks the latter of all lines; on a sheet in order the line of a key is the only one that has it.
-use Rattle.lists.specs.Basics.{_≡_, refl, sym, ap, ap₂, _∙_, ℕ, _<_, eqb, Bool, true, false, not, _&&_, _||_, cond, true≢false, and-true, and-false, or-false, List, []}
-use Rattle.lists.specs.Basics.{_∷_, getD, all, any, choose-by, and-snd}
+-- When a step writes, phase by phase: a group that is put writes if it has an entry, and a group that is rolled if the line of one of its entries is prepared
+-- by the number. The model asks the latter of all lines; on a sheet in order the line of a key is the only one that has it.
+use Rattle.lists.specs.Basics.{_≡_, refl, sym, ap, ap₂, _∙_, ℕ, _<_, eqb, Bool, true, false, not, _&&_, _||_, cond, true≢false, and-true, and-false, or-false}
+use Rattle.lists.specs.Basics.{List, [], _∷_, getD, all, any, choose-by, and-snd}
 use Rattle.lists.specs.Chosen.{Missed, any-filter, any-weaken}
 use Rattle.model.specs.Types.{Key, Record, Entry, Transaction}
 use Rattle.model.specs.Records.{noRecord, records, rising, inOrder, sameKey, lineOf}
@@ -79,7 +79,8 @@ module _ (n : ℕ) where
       alone e true g = absurd (true≢false (sym e ∙ apart r rs k h g))
       alone e false g = refl
 
-      go : (b : Bool) → sameKey (r .key) k ≡ b → any (preparedAt k) rs ≡ preparedBy n (lineOf k rs) → (preparedAt k r || any (preparedAt k) rs) ≡ preparedBy n (cond b r (lineOf k rs))
+      go : (b : Bool) → sameKey (r .key) k ≡ b → any (preparedAt k) rs ≡ preparedBy n (lineOf k rs)
+          → (preparedAt k r || any (preparedAt k) rs) ≡ preparedBy n (cond b r (lineOf k rs))
       go true e i =
           let f : sameKey k (r .key) ≡ true = ap (sameKey k) (same-key (r .key) k e) ∙ same-key-refl k in
           ap₂ (λ (x y : Bool). preparedBy n r && x || y) f (none-prepared k rs (alone e (listsKey k rs) refl))
@@ -140,7 +141,8 @@ module _ (t : Transaction) (s : Sheets) where
 
   abbrev stepAt : ℕ → ℕ → Step
   stepAt now p =
-      byPhase p (openStep t s) (prepareStep t now s) (validateStep t s) (decideStep t s) (withdrawStep t s) (finishStep t s) (undoStep t s) (noStep t) (noStep t)
+      byPhase p (openStep t s) (prepareStep t now s) (validateStep t s) (decideStep t s) (withdrawStep t s) (finishStep t s) (undoStep t s)
+      (noStep t) (noStep t)
 
   no-puts : isEmpty (puts t) ≡ true → onePhaseAllowed t s ≡ false
   unfolding onePhaseAllowed groupCount scopes
@@ -150,7 +152,8 @@ module _ (t : Transaction) (s : Sheets) where
       go [] h = refl
       go (x ∷ es) h = absurd (true≢false (sym h))
 
-  puts-or-not : (x y : Step) → not (isEmpty (groupAt t s)) ≡ changes (x .write) s → false ≡ changes (y .write) s → Writes (putsGroup t s) (cond (all (holds s) (groupAt t s)) x y)
+  puts-or-not : (x y : Step) → not (isEmpty (groupAt t s)) ≡ changes (x .write) s → false ≡ changes (y .write) s
+      → Writes (putsGroup t s) (cond (all (holds s) (groupAt t s)) x y)
   puts-or-not x y e f =
       go (all (holds s) (groupAt t s))
     where

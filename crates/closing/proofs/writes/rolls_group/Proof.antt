@@ -41,7 +41,8 @@ returns-2 c =
 
 pub rolls-group-spec : {M : Type 1} → statement M
 rolls-group-spec =
-    tie.close (tie.spec Inv-loop μ-loop (λ c. search needs) (λ c. pass-first _ _ (c .before .before .before .good .0) (c .before .before .before .pre .body .few))
+    tie.close (tie.spec Inv-loop μ-loop (λ c. search needs)
+    (λ c. pass-first _ _ (c .before .before .before .good .0) (c .before .before .before .pre .body .few))
     (λ c. search needs) (λ c. search needs) (λ c. search needs) (λ c. search needs)
     (λ c κs. accepted _ _ _ _ (c .before .before .before .before .before .before .before .before .pre))
     returns (λ c. search needs) (λ c. search needs) loop-again returns-2)
