@@ -262,8 +262,8 @@ RAPYHEO_ANSWER uint32_t rapyheo_lookup(const uint8_t *records, size_t records_le
 
 /* What a call wrote, of copies of both sheets from before it and the sheets after it: RAPYHEO_WROTE_NOTHING to RAPYHEO_WROTE_BOTH. lines[0] is
  * the index of the first record line that differs and lines[1] how many there are from it to the last that does, both 0 where none does. Or
- * 1000 + 1 (record sheets of different lengths or not of whole lines, or a lines_length other than 2), or 1000 + 2 (coordinator sheets of
- * different lengths). */
+ * 1000 + 1 (record sheets of different lengths, not of whole lines or of 2^32 lines or more, or a lines_length other than 2), or 1000 + 2
+ * (coordinator sheets of different lengths). */
 RAPYHEO_ANSWER uint32_t rapyheo_written(const uint8_t *records_before, size_t records_before_length, const uint8_t *records, size_t records_length,
                                         const uint8_t *coordinator_before, size_t coordinator_before_length, const uint8_t *coordinator,
                                         size_t coordinator_length, uint32_t *lines, size_t lines_length);

@@ -1,15 +1,15 @@
 -- The call by place, from what the two functions that it calls ensure: where place and call are named, and where they aren't.
-use Rattle.lists.specs.Basics.{_≡_, refl, sym, ap, _∙_, ℕ, _+_, _≤_, _<_, eqb, Bool, true, false, cond, and-true, List, length, set, arith, ne-eqb, all, and-fst, and-snd}
+use Rattle.lists.specs.Basics.{_≡_, refl, sym, ap, _∙_, ℕ, _+_, _≤_, _<_, eqb, Bool, true, false, cond, and-true, List, length, set, all, and-fst, and-snd}
 use lib.Seq.{set-getD}
 use Rattle.model.specs.Types.{Transaction, Request}
 use Rattle.model.specs.Refusals.{refusalOf, lastRefusal}
-use Rattle.model.specs.Results.{Call, Answer, Result, refused, made, unless}
+use Rattle.model.specs.Results.{Answer, Result, refused, made, unless}
 use Rattle.model.specs.SheetCalls.{checkConditions}
 use Rattle.model.specs.ByteCalls.{resultOn, recordsAfter, coordinatorAfter}
 use Rattle.model.specs.Requests.{callOf}
 use Rattle.model.specs.CallByPlace.{listed, named, callAt, resultAtOn, listAfter}
 use Rattle.call_laws.specs.ByPlace.{leftWith, listed-within, named-result-on, unlisted-refused, refusal-leaves}
-use Rattle.call_laws.specs.Exactness.{small, Sound, sound-refused, sound-made, result-sound}
+use Rattle.call_laws.specs.Exactness.{small}
 use Rattle.cores.specs.Answers.{toPerformed}
 use Rattle.c_api.specs.declared.Called.{Called}
 use Rattle.c_api.specs.Numbers.{callNumber, unlistedNumber}
@@ -19,24 +19,12 @@ use Rattle.c_api.specs.Asked.{isCall, asks, naming, calledAtOn}
 abbrev pub called : Transaction → Result Answer → Called
 called t r = record { answer = callNumber r; transaction = leftWith t r }
 
--- the refusal of a call is at most the last, and its answer as one number is that of the result
-module _ (t : Transaction) where
-  abbrev Numbered : Result Answer → Type 0
-  Numbered r =
-      (toPerformed t r .refusal ≤ lastRefusal)
-      × (record {
-        answer = cond (eqb (toPerformed t r .refusal) 0) (toPerformed t r .reply) (1000 + toPerformed t r .refusal);
-        transaction = toPerformed t r .transaction;
-      } ≡ called t r)
+-- the transaction of an answer is the one left
+pub performed-left : (t : Transaction) (r : Result Answer) → toPerformed t r .transaction ≡ leftWith t r
+performed-left t (refused n) = refl
+performed-left t (made a w) = refl
 
-  pub call-numbered : (c : Call) (rs cs : List ℕ) → Numbered (resultOn c rs cs)
-  call-numbered c rs cs = go (resultOn c rs cs) (result-sound c rs cs)
-    where
-      go : (r : Result Answer) → Sound r → Numbered r
-      go r (sound-refused n l m) = let e : eqb n 0 ≡ false = ne-eqb n 0 (λ q. omega (arith, l, q)) in (m, rw e refl)
-      go r (sound-made a w e) = (omega arith, refl)
-
--- the same of the check that comes first where nothing is named
+-- the refusal of the check that comes first where nothing is named is at most the last, and its answer as one number is the one for that
 pub check-numbered : (rs cs : List ℕ) → (refusalOf (checkConditions rs cs) ≤ lastRefusal) × (cond (eqb (refusalOf (checkConditions rs cs)) 0) 1003 (1000 + refusalOf (checkConditions rs cs)) ≡ unlistedNumber rs cs)
 unfolding checkConditions all
 check-numbered rs cs = (small (checkConditions rs cs) refl, go (eqb (refusalOf (checkConditions rs cs)) 0))

@@ -1,13 +1,14 @@
 -- What the exported calls answer, as one number: what an accepted call gives, or 1000 and the refusal.
 use Rattle.lists.specs.Basics.{_≡_, refl, ℕ, _+_, _≤_, eqb, false, cond, List, arith, ne-eqb}
-use Rattle.model.specs.Types.{Key}
+use Rattle.model.specs.Types.{Key, Transaction}
+use Rattle.model.specs.Writes.{Write}
 use Rattle.model.specs.Refusals.{lastRefusal}
 use Rattle.model.specs.SheetCalls.{checkConditions}
-use Rattle.model.specs.Results.{begin, visit, Answer, heldAfter, Result, refused, made, unless}
+use Rattle.model.specs.Results.{Call, begin, visit, Answer, heldAfter, Result, refused, made, unless}
 use Rattle.model.specs.Calls.{newTransaction}
 use Rattle.model.specs.ByteCalls.{resultOn}
 use Rattle.call_laws.specs.Exactness.{Sound, sound-refused, sound-made, result-sound}
-use Rattle.cores.specs.Answers.{toIssued, toVisited, recoveryIn, replyNumber, replyIn}
+use Rattle.cores.specs.Answers.{toIssued, toVisited, toPerformed, recoveryIn, replyNumber, replyIn}
 
 -- a result as one number, by what is made of an accepted answer
 abbrev pub asNumber : (Answer → ℕ) → Result Answer → ℕ
@@ -30,17 +31,36 @@ callNumber r = asNumber replyIn r
 abbrev pub unlistedNumber : List ℕ → List ℕ → ℕ
 unlistedNumber rs cs = callNumber (unless (checkConditions rs cs) (refused 3))
 
--- the refusal of an answer is at most the last, and its number is that of the result
-pub begin-numbered : (rs cs : List ℕ) → (toIssued (resultOn (begin false) rs cs) .refusal ≤ lastRefusal) × (cond (eqb (toIssued (resultOn (begin false) rs cs) .refusal) 0) (toIssued (resultOn (begin false) rs cs) .number) (1000 + toIssued (resultOn (begin false) rs cs) .refusal) ≡ beginNumber (resultOn (begin false) rs cs))
-begin-numbered rs cs = go (resultOn (begin false) rs cs) (result-sound (begin false) rs cs)
-  where
-    go : (r : Result Answer) → Sound r → (toIssued r .refusal ≤ lastRefusal) × (cond (eqb (toIssued r .refusal) 0) (toIssued r .number) (1000 + toIssued r .refusal) ≡ beginNumber r)
-    go r (sound-refused n l m) = let e : eqb n 0 ≡ false = ne-eqb n 0 (λ q. omega (arith, l, q)) in (m, rw e refl)
-    go r (sound-made a w e) = (omega arith, refl)
+-- What an exported call makes of the engine's answer, by the answer's refusal and what it gives where there is none: the refusal is at most the last, and the
+-- number made of both is that of the result.
+abbrev pub Numbered : (refusal given : ℕ) (number : Result Answer → ℕ) → Result Answer → Type 0
+Numbered refusal given number r = (refusal ≤ lastRefusal) × (cond (eqb refusal 0) given (1000 + refusal) ≡ number r)
 
-pub visit-numbered : (k : Key) (clock : ℕ) (rs cs : List ℕ) → (toVisited (resultOn (visit k clock) rs cs) .refusal ≤ lastRefusal) × (cond (eqb (toVisited (resultOn (visit k clock) rs cs) .refusal) 0) (toVisited (resultOn (visit k clock) rs cs) .reply) (1000 + toVisited (resultOn (visit k clock) rs cs) .refusal) ≡ visitNumber (resultOn (visit k clock) rs cs))
-visit-numbered k clock rs cs = go (resultOn (visit k clock) rs cs) (result-sound (visit k clock) rs cs)
+-- of every call, where the answer has the result's refusal, or 0 and what the answer says
+pub numbered : (refusal given : Result Answer → ℕ) (says : Answer → ℕ)
+    → ((n : ℕ) → refusal (refused n) ≡ n) → ((a : Answer) (w : Write) → refusal (made a w) ≡ 0) → ((a : Answer) (w : Write) → given (made a w) ≡ says a)
+    → (c : Call) (rs cs : List ℕ)
+    → Numbered (refusal (resultOn c rs cs)) (given (resultOn c rs cs)) (asNumber says) (resultOn c rs cs)
+numbered refusal given says f g h c rs cs = go (resultOn c rs cs) (result-sound c rs cs)
   where
-    go : (r : Result Answer) → Sound r → (toVisited r .refusal ≤ lastRefusal) × (cond (eqb (toVisited r .refusal) 0) (toVisited r .reply) (1000 + toVisited r .refusal) ≡ visitNumber r)
-    go r (sound-refused n l m) = let e : eqb n 0 ≡ false = ne-eqb n 0 (λ q. omega (arith, l, q)) in (m, rw e refl)
-    go r (sound-made a w e) = (omega arith, refl)
+    go : (r : Result Answer) → Sound r → Numbered (refusal r) (given r) (asNumber says) r
+    go r (sound-refused n l m) = let e : eqb n 0 ≡ false = ne-eqb n 0 (λ q. omega (arith, l, q)) in rw (f n, e) (m, refl)
+    go r (sound-made a w e) = rw (g a w, h a w) (omega arith, refl)
+
+pub begin-numbered : (rs cs : List ℕ)
+    → let r = resultOn (begin false) rs cs in Numbered (toIssued r .refusal) (toIssued r .number) beginNumber r
+begin-numbered rs cs =
+    numbered (λ (r : Result Answer). toIssued r .refusal) (λ (r : Result Answer). toIssued r .number) (λ (a : Answer). heldAfter (newTransaction 0 false) a .number)
+    (λ n. refl) (λ a w. refl) (λ a w. refl) (begin false) rs cs
+
+pub visit-numbered : (k : Key) (clock : ℕ) (rs cs : List ℕ)
+    → let r = resultOn (visit k clock) rs cs in Numbered (toVisited r .refusal) (toVisited r .reply) visitNumber r
+visit-numbered k clock rs cs =
+    numbered (λ (r : Result Answer). toVisited r .refusal) (λ (r : Result Answer). toVisited r .reply) (λ (a : Answer). replyNumber (recoveryIn a))
+    (λ n. refl) (λ a w. refl) (λ a w. refl) (visit k clock) rs cs
+
+pub call-numbered : (t : Transaction) (c : Call) (rs cs : List ℕ)
+    → let r = resultOn c rs cs in Numbered (toPerformed t r .refusal) (toPerformed t r .reply) callNumber r
+call-numbered t c rs cs =
+    numbered (λ (r : Result Answer). toPerformed t r .refusal) (λ (r : Result Answer). toPerformed t r .reply) replyIn
+    (λ n. refl) (λ a w. refl) (λ a w. refl) c rs cs

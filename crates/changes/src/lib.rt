@@ -10,7 +10,8 @@ ghost use Rattle.model.specs.Refusals.{refusalOf};
 ghost use Rattle.model.specs.Changes.{differs, reachOf, firstOf, lengthConditions, writtenNumber, writtenLines};
 use types::RECORD_BYTES;
 
-// Two parts of one length have the same bytes. One pass without an exit, which compiles to wide steps.
+// Two parts of one length have the same bytes: `decimal::same` without its exit, since most of a sheet stays and a pass to the end compiles to wide
+// steps.
 fn same_bytes(s: &[u8], t: &[u8]) -> bool
     requires { ⌜ length (now s) ≡ length (now t) ⌝ }
     ensures { λ r. ⌜ r ≡ eqList (now (s .entry)) (now (t .entry)) ⌝ }

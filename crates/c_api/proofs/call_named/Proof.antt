@@ -1,11 +1,13 @@
 -- The engine's answer is that of the definition, and its number is the definition's.
-use Rattle.lists.specs.Basics.{sym, ap, subst, _∙_, ℕ, _+_, _≤_, eqb, cond, needs}
+use Rattle.lists.specs.Basics.{sym, ap, ap₂, subst, _∙_, ℕ, _+_, _≤_, eqb, cond, needs}
 use Rattle.model.specs.Types.{Transaction}
 use Rattle.model.specs.Refusals.{lastRefusal}
+use Rattle.model.specs.ByteCalls.{resultOn}
 use Rattle.model.specs.Requests.{callOf}
 use Rattle.cores.specs.declared.Performed.{Performed}
 use Rattle.c_api.specs.declared.Called.{Called}
-use Rattle.c_api.specs.ByPlace.{call-numbered}
+use Rattle.c_api.specs.Numbers.{call-numbered}
+use Rattle.c_api.specs.ByPlace.{performed-left}
 use Rattle.c_api.proofs.call_named.Statement.{statement}
 use Rattle.c_api.proofs.call_named.Tie as tie
 
@@ -24,12 +26,13 @@ returns c =
     let a = c .before .before .before .before .before .before .before .before .before .before .before .before .args in
     let o = c .before .before .before .before .before .before .perform in
     let q = c .before .before .before .before .before .before .before .before .before .request in
+    let result = resultOn (callOf (q .result) (a .t)) (a .records .now) (a .coordinator .now) in
     let numbered = call-numbered (a .t) (callOf (q .result) (a .t)) (a .records .now) (a .coordinator .now) in
     rw (sym (q .ensures)) (
       ap (λ (n : ℕ). as-called n (o .result .transaction)) (c .before .number .ensures)
           ∙
           (ap (λ (s : Performed). as-called (cond (eqb (s .refusal) 0) (s .reply) (1000 + s .refusal)) (s .transaction)) (o .ensures .0)
-          ∙ numbered .1),
+          ∙ ap₂ as-called (numbered .1) (performed-left (a .t) result)),
       (o .ensures .1 .0, o .ensures .1 .1),
     )
 
