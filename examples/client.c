@@ -1,13 +1,14 @@
 /* A client in C, which closes orders over three records in two stores by the calls by place. One order goes through in two phases and one in one
- * phase, calls are refused and an order is given up, and twice a client dies in the middle: visits undo what it had prepared, or finish what it
- * had decided. Every call is printed with what it answered and what it wrote. client.py and client.rs are the same walk. */
+ * phase, one is closed write by write, calls are refused and an order is given up, and twice a client dies in the middle: visits undo what it had
+ * prepared, or finish what it had decided. Every call is printed with what it answered and what it wrote. client.py and client.rs are the same
+ * walk. */
 #include <inttypes.h>
 #include <stdio.h>
 #include <string.h>
 
 #include "rapyheo.h"
 
-enum { LINES = 3, NUMBERS = 6, PLACES = 2 };
+enum { LINES = 3, NUMBERS = 7, PLACES = 2 };
 enum { ROWS = LINES * RAPYHEO_RECORD_NUMBERS, DECISIONS = RAPYHEO_HEAD_NUMBERS + NUMBERS };
 
 /* Stock, account, and a delivery note that does not exist yet. A store is written as a whole (unit S), so an order over both has two groups. */
@@ -23,7 +24,8 @@ static uint8_t coordinator[(1 + NUMBERS) * RAPYHEO_COORDINATOR_BYTES + 1] =
     "   3         -\n"
     "   4         -\n"
     "   5         -\n"
-    "   6         -\n";
+    "   6         -\n"
+    "   7         -\n";
 
 /* Without the zero that ends a string in C. */
 static const size_t records_length = sizeof records - 1;
@@ -115,6 +117,17 @@ static void advance(size_t place, uint32_t clock) {
     say_written();
 }
 
+static void close_order(size_t place, uint32_t clock, uint32_t limit) {
+    keep();
+    printf("close at %" PRIu32 ", limit %" PRIu32 ": ", clock, limit);
+    const uint32_t answer = rapyheo_close_at(list, PLACES, place, records, records_length, coordinator, coordinator_length, clock, limit);
+    if (!refused(answer)) {
+        printf("%" PRIu32 " written, ", answer);
+        say_step(&list[place]);
+    }
+    say_written();
+}
+
 static void abort_order(size_t place) {
     keep();
     printf("abort: ");
@@ -170,6 +183,18 @@ static void one_phase(void) {
     advance(0, 2001);
 }
 
+/* A call for each write, so that each can be saved before the next: steps that write nothing go with one that does. */
+static void write_by_write(void) {
+    puts("\nan order over two stores, closed write by write");
+    begin(0, 0);
+    read_key(0, stock, 2500);
+    read_key(0, account, 2500);
+    put(0, stock, 498, 250);
+    put(0, account, 1050, 0);
+    for (uint32_t clock = 2501; list[0].phase != RAPYHEO_DONE; clock++)
+        close_order(0, clock, 1);
+}
+
 static void given_up(void) {
     puts("\nrefused calls, and an order that is given up");
     begin(1, 0);
@@ -177,7 +202,7 @@ static void given_up(void) {
     read_key(1, nothing, 3000);
     read_key(1, stock, 3000);
     put(1, stock, 100000000, 0);
-    put(1, stock, 498, 250);
+    put(1, stock, 497, 250);
     abort_order(1);
     while (list[1].phase != RAPYHEO_DONE)
         advance(1, 3001);
@@ -190,7 +215,7 @@ static void dies_undecided(void) {
     begin(0, 0);
     read_key(0, stock, 4000);
     read_key(0, account, 4000);
-    put(0, stock, 498, 250);
+    put(0, stock, 497, 250);
     put(0, account, 1100, 0);
     advance(0, 4001);
     advance(0, 4002);
@@ -209,7 +234,7 @@ static void dies_decided(void) {
     read_key(0, stock, 20000);
     read_key(0, note, 20000);
     read_key(0, account, 20000);
-    put(0, stock, 498, 250);
+    put(0, stock, 497, 250);
     put(0, account, 1100, 0);
     for (uint32_t clock = 20001; list[0].phase != RAPYHEO_FINISH; clock++)
         advance(0, clock);
@@ -250,6 +275,7 @@ int main(void) {
     show();
     two_phases();
     one_phase();
+    write_by_write();
     given_up();
     dies_undecided();
     dies_decided();

@@ -15,7 +15,7 @@ class Transaction(ctypes.Structure):
 
 
 library = ctypes.CDLL(sys.argv[1] if len(sys.argv) > 1 else "target/shared/librapyheo.so")
-BEGIN, BEGIN_CHECKED, READ, PUT, ADVANCE, ABORT = range(6)
+BEGIN, BEGIN_CHECKED, READ, PUT, ADVANCE, ABORT, CLOSE = range(7)
 PHASES = ("open", "prepare", "check", "decide", "withdraw", "finish", "undo", "done")
 VERDICTS = ("none", "committed", "aborted")
 VISITS = ("stays", "forward", "back", "again")
@@ -35,7 +35,7 @@ RECORDS = b"""\
  2  1  1     1     1 COMMITTED     4   0      900        0     0   0        0        0          0
  2  1  1     1     2    ABSENT     0   0        0        0     0   0        0        0          0
 """
-COORDINATOR = b"   0 SSSSSSSSS\n" + b"".join(b"%4d         -\n" % number for number in range(1, 7))
+COORDINATOR = b"   0 SSSSSSSSS\n" + b"".join(b"%4d         -\n" % number for number in range(1, 8))
 
 # the sheets and the list, which only calls change
 records = (ctypes.c_uint8 * len(RECORDS)).from_buffer_copy(RECORDS)
@@ -69,9 +69,9 @@ def report(words, call, answered):
     print(f"{words}: {text}{written(before)}", end="")
 
 
-def ask(words, answered, place, call, key=(0,) * 5, columns=(0, 0), clock=0):
+def ask(words, answered, place, call, key=(0,) * 5, columns=(0, 0), clock=0, limit=0):
     place = ctypes.c_size_t(place)
-    numbers = [U32(n) for n in (call, *key, *columns, clock)]
+    numbers = [U32(n) for n in (call, *key, *columns, clock, limit)]
     report(words, lambda: library.rapyheo_call_at(*lent(orders), place, *lent(records), *lent(coordinator), *numbers), answered)
 
 
@@ -105,6 +105,10 @@ def advance(place, clock):
     ask(f"advance at {clock}", lambda _: step(place), place, ADVANCE, clock=clock)
 
 
+def close(place, clock, limit):
+    ask(f"close at {clock}, limit {limit}", lambda writes: f"{writes} written, {step(place)}", place, CLOSE, clock=clock, limit=limit)
+
+
 def abort(place):
     ask("abort", lambda _: step(place), place, ABORT)
 
@@ -121,7 +125,7 @@ def die():
 
 
 def show():
-    print(f"version {library.rapyheo_version()} with header 10000, check {library.rapyheo_check(*lent(records), *lent(coordinator))}")
+    print(f"version {library.rapyheo_version()} with header 20000, check {library.rapyheo_check(*lent(records), *lent(coordinator))}")
     print((bytes(coordinator) + bytes(records)).decode(), end="")
 
 
@@ -146,6 +150,17 @@ def one_phase():
     advance(0, 2001)
 
 
+def write_by_write():
+    print("\nan order over two stores, closed write by write")
+    begin(0)
+    read(0, "stock", 2500)
+    read(0, "account", 2500)
+    put(0, "stock", 498, 250)
+    put(0, "account", 1050, 0)
+    for clock in range(2501, 2506):
+        close(0, clock, 1)
+
+
 def given_up():
     print("\nrefused calls, and an order that is given up")
     begin(1)
@@ -153,7 +168,7 @@ def given_up():
     read(1, "nothing", 3000)
     read(1, "stock", 3000)
     put(1, "stock", 100000000, 0)
-    put(1, "stock", 498, 250)
+    put(1, "stock", 497, 250)
     abort(1)
     advance(1, 3001)
     advance(1, 3001)
@@ -165,7 +180,7 @@ def dies_undecided():
     begin(0)
     read(0, "stock", 4000)
     read(0, "account", 4000)
-    put(0, "stock", 498, 250)
+    put(0, "stock", 497, 250)
     put(0, "account", 1100, 0)
     advance(0, 4001)
     advance(0, 4002)
@@ -180,7 +195,7 @@ def dies_decided():
     begin(0, checked=True)
     for name in ("stock", "note", "account"):
         read(0, name, 20000)
-    put(0, "stock", 498, 250)
+    put(0, "stock", 497, 250)
     put(0, "account", 1100, 0)
     for clock in range(20001, 20006):
         advance(0, clock)
@@ -193,7 +208,7 @@ def dies_decided():
 
 
 def as_numbers():
-    rows, decisions = (U32 * 45)(), (U32 * 16)()
+    rows, decisions = (U32 * 45)(), (U32 * 17)()
     line = library.rapyheo_lookup(*lent(records), *map(U32, KEYS["note"]))
     answers = library.rapyheo_read_records(*lent(records), *lent(rows)), library.rapyheo_read_coordinator(*lent(coordinator), *lent(decisions))
     print("\nsheets as numbers\nnote is line {}, both sheets to numbers: {} {}".format(line, *answers))
@@ -208,6 +223,7 @@ print("at first")
 show()
 two_phases()
 one_phase()
+write_by_write()
 given_up()
 dies_undecided()
 dies_decided()

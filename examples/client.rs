@@ -29,7 +29,7 @@ extern "C" {
     fn rapyheo_version() -> u32;
     fn rapyheo_check(records: *const u8, records_length: usize, coordinator: *const u8, coordinator_length: usize) -> u32;
     fn rapyheo_call_at(list: *mut Transaction, list_length: usize, place: usize, records: *mut u8, records_length: usize, coordinator: *mut u8, coordinator_length: usize,
-        call: u32, storage: u32, name_space: u32, table: u32, partition: u32, clustering: u32, column1: u32, column2: u32, clock: u32) -> u32;
+        call: u32, storage: u32, name_space: u32, table: u32, partition: u32, clustering: u32, column1: u32, column2: u32, clock: u32, limit: u32) -> u32;
     fn rapyheo_visit(records: *mut u8, records_length: usize, coordinator: *mut u8, coordinator_length: usize,
         storage: u32, name_space: u32, table: u32, partition: u32, clustering: u32, clock: u32) -> u32;
     fn rapyheo_lookup(records: *const u8, records_length: usize, storage: u32, name_space: u32, table: u32, partition: u32, clustering: u32) -> u32;
@@ -50,7 +50,7 @@ const RECORDS: &[u8; 294] = b"\
  2  1  1     1     1 COMMITTED     4   0      900        0     0   0        0        0          0
  2  1  1     1     2    ABSENT     0   0        0        0     0   0        0        0          0
 ";
-const COORDINATOR: &[u8; 105] = b"\
+const COORDINATOR: &[u8; 120] = b"\
 \x20  0 SSSSSSSSS
    1         -
    2         -
@@ -58,6 +58,7 @@ const COORDINATOR: &[u8; 105] = b"\
    4         -
    5         -
    6         -
+   7         -
 ";
 
 /// What is asked by place, with the numbers that it needs.
@@ -68,6 +69,8 @@ enum Ask {
     Put([u32; 5], [u32; 2]),
     Advance(u32),
     Abort,
+    /// At a clock reading and with a limit.
+    Close(u32, u32),
 }
 
 /// The sheets, and the client's own transactions, which only calls change.
@@ -75,7 +78,7 @@ enum Ask {
 struct Desk {
     list: [Transaction; 2],
     records: [u8; 294],
-    coordinator: [u8; 105],
+    coordinator: [u8; 120],
 }
 
 fn key(name: &str) -> [u32; 5] {
@@ -107,17 +110,18 @@ fn text(bytes: &[u8]) -> &str {
 // SAFETY, for all calls here: each slice is lent as its first element and its length, lives as long as the call, and overlaps no other.
 impl Desk {
     fn call_at(&mut self, place: usize, ask: Ask) -> u32 {
-        let (call, k, c, clock) = match ask {
-            Ask::Begin(checked) => (u32::from(checked), [0; 5], [0; 2], 0),
-            Ask::Read(key, clock) => (2, key, [0; 2], clock),
-            Ask::Put(key, columns) => (3, key, columns, 0),
-            Ask::Advance(clock) => (4, [0; 5], [0; 2], clock),
-            Ask::Abort => (5, [0; 5], [0; 2], 0),
+        let (call, k, c, clock, limit) = match ask {
+            Ask::Begin(checked) => (u32::from(checked), [0; 5], [0; 2], 0, 0),
+            Ask::Read(key, clock) => (2, key, [0; 2], clock, 0),
+            Ask::Put(key, columns) => (3, key, columns, 0, 0),
+            Ask::Advance(clock) => (4, [0; 5], [0; 2], clock, 0),
+            Ask::Abort => (5, [0; 5], [0; 2], 0, 0),
+            Ask::Close(clock, limit) => (6, [0; 5], [0; 2], clock, limit),
         };
         let Desk { list, records: r, coordinator: d } = self;
         unsafe {
             rapyheo_call_at(
-                list.as_mut_ptr(), list.len(), place, r.as_mut_ptr(), r.len(), d.as_mut_ptr(), d.len(), call, k[0], k[1], k[2], k[3], k[4], c[0], c[1], clock,
+                list.as_mut_ptr(), list.len(), place, r.as_mut_ptr(), r.len(), d.as_mut_ptr(), d.len(), call, k[0], k[1], k[2], k[3], k[4], c[0], c[1], clock, limit,
             )
         }
     }
@@ -187,6 +191,12 @@ impl Desk {
         self.say(&format!("advance at {clock}"), answer, &before, self.step(place));
     }
 
+    fn close(&mut self, place: usize, clock: u32, limit: u32) {
+        let before = *self;
+        let answer = self.call_at(place, Ask::Close(clock, limit));
+        self.say(&format!("close at {clock}, limit {limit}"), answer, &before, format!("{answer} written, {}", self.step(place)));
+    }
+
     fn abort(&mut self, place: usize) {
         let before = *self;
         let answer = self.call_at(place, Ask::Abort);
@@ -209,7 +219,7 @@ impl Desk {
     fn show(&self) {
         let (r, d) = (&self.records, &self.coordinator);
         let check = unsafe { rapyheo_check(r.as_ptr(), r.len(), d.as_ptr(), d.len()) };
-        println!("version {} with header 10000, check {check}", unsafe { rapyheo_version() });
+        println!("version {} with header 20000, check {check}", unsafe { rapyheo_version() });
         print!("{}{}", text(d), text(r));
     }
 
@@ -236,6 +246,18 @@ impl Desk {
         self.advance(0, 2001);
     }
 
+    fn write_by_write(&mut self) {
+        println!("\nan order over two stores, closed write by write");
+        self.begin(0, false);
+        self.read(0, "stock", 2500);
+        self.read(0, "account", 2500);
+        self.put(0, "stock", [498, 250]);
+        self.put(0, "account", [1050, 0]);
+        for clock in 2501..2506 {
+            self.close(0, clock, 1);
+        }
+    }
+
     fn given_up(&mut self) {
         println!("\nrefused calls, and an order that is given up");
         self.begin(1, false);
@@ -243,7 +265,7 @@ impl Desk {
         self.read(1, "nothing", 3000);
         self.read(1, "stock", 3000);
         self.put(1, "stock", [100000000, 0]);
-        self.put(1, "stock", [498, 250]);
+        self.put(1, "stock", [497, 250]);
         self.abort(1);
         for clock in [3001, 3001, 3002] {
             self.advance(1, clock);
@@ -255,7 +277,7 @@ impl Desk {
         self.begin(0, false);
         self.read(0, "stock", 4000);
         self.read(0, "account", 4000);
-        self.put(0, "stock", [498, 250]);
+        self.put(0, "stock", [497, 250]);
         self.put(0, "account", [1100, 0]);
         self.advance(0, 4001);
         self.advance(0, 4002);
@@ -272,7 +294,7 @@ impl Desk {
         for name in ["stock", "note", "account"] {
             self.read(0, name, 20000);
         }
-        self.put(0, "stock", [498, 250]);
+        self.put(0, "stock", [497, 250]);
         self.put(0, "account", [1100, 0]);
         for clock in 20001..20006 {
             self.advance(0, clock);
@@ -286,8 +308,8 @@ impl Desk {
     }
 
     fn as_numbers(&self) {
-        let (mut other, k) = (Desk { list: self.list, records: [0; 294], coordinator: [0; 105] }, key("note"));
-        let (r, d, mut rows, mut decisions) = (&self.records, &self.coordinator, [0u32; 45], [0u32; 16]);
+        let (mut other, k) = (Desk { list: self.list, records: [0; 294], coordinator: [0; 120] }, key("note"));
+        let (r, d, mut rows, mut decisions) = (&self.records, &self.coordinator, [0u32; 45], [0u32; 17]);
         let line = unsafe { rapyheo_lookup(r.as_ptr(), r.len(), k[0], k[1], k[2], k[3], k[4]) } as usize;
         let (first, second) = unsafe {
             (
@@ -316,6 +338,7 @@ fn main() {
     desk.show();
     desk.two_phases();
     desk.one_phase();
+    desk.write_by_write();
     desk.given_up();
     desk.dies_undecided();
     desk.dies_decided();

@@ -1,8 +1,8 @@
 /* Rapyheo: two-phase commit over the records themselves. What the engine exports, for C11 and C++17 on x86-64.
  *
- * A client keeps a list of up to 16 transactions, all zeros at first, and asks by place: rapyheo_begin_at, .._read_at, .._put_at, .._advance_at
- * and .._abort_at take the transaction at a place of the list and leave there the one that comes back. rapyheo_visit needs no list: it finishes
- * or undoes what a dead client has left on a line.
+ * A client keeps a list of up to 16 transactions, all zeros at first, and asks by place: rapyheo_begin_at, .._read_at, .._put_at, .._advance_at,
+ * .._close_at and .._abort_at take the transaction at a place of the list and leave there the one that comes back. rapyheo_visit needs no list: it
+ * finishes or undoes what a dead client has left on a line.
  *
  * What is proved. Each call does what the specification says, for every input: whatever the bytes and numbers are, it returns, and a refused one
  * changes no byte of any slice. Of whole orders: clients that keep their lists and change them by these calls only, each list lost at a crash,
@@ -20,7 +20,9 @@
  *     phase decide, or a state handed in twice, can break an order with every call answering 0;
  *   - what a call wrote stands whole or not at all after a crash, and writes stand in the order in which they were made. A call writes the
  *     lines of one unit, or the coordinator sheet, or nothing, never both: rapyheo_written tells which, and every line of the range that it
- *     tells is of that unit.
+ *     tells is of that unit. A close makes as many such writes as its limit allows. Above 1 the range may span several units and both sheets
+ *     may differ, so that only a client which saves both sheets at once may close like that. One that saves unit by unit closes with limit 1
+ *     again and again, and saves after each, until the phase is done.
  *
  * Duties towards the machine:
  *   - a slice passes as a pointer and then a length, counted in elements; the pointer is not null, is aligned for its element and is valid
@@ -28,7 +30,7 @@
  *   - slices of one call do not overlap, and nobody else reads or writes them until it returns;
  *   - one caller at a time for one pair of sheets, whoever has the list: there is no lock. Calls on different sheets and lists are independent,
  *     in any threads, since the library holds no data of its own;
- *   - a call finds RAPYHEO_STACK_BYTES of stack. `make stack` measures what each needs, its arguments among it: 4648 at most, to which some 2000
+ *   - a call finds RAPYHEO_STACK_BYTES of stack. `make stack` measures what each needs, its arguments among it: 5032 at most, to which some 2000
  *     come where the loader binds memcpy or memset in the middle of the first call (not so with -Wl,-z,now). A call allocates nothing.
  *
  * Record sheet: 1 to 500 lines of 98 bytes, the last byte LF. Figures are decimal, right-justified, filled with spaces, without leading zeros.
@@ -61,7 +63,7 @@ extern "C" {
 #endif
 
 /* Version of this header. rapyheo_version() is the library's: the same major and at least the same minor will do. */
-#define RAPYHEO_VERSION_MAJOR 1
+#define RAPYHEO_VERSION_MAJOR 2
 #define RAPYHEO_VERSION_MINOR 0
 #define RAPYHEO_VERSION_PATCH 0
 #define RAPYHEO_VERSION (10000 * RAPYHEO_VERSION_MAJOR + 100 * RAPYHEO_VERSION_MINOR + RAPYHEO_VERSION_PATCH)
@@ -84,6 +86,7 @@ enum {
     RAPYHEO_HEAD_NUMBERS = 10,   /* numbers of a coordinator before those of its lines */
     RAPYHEO_ENTRIES = 8,         /* entries of a transaction */
     RAPYHEO_LIST = 16,           /* transactions in a list */
+    RAPYHEO_CLOSE_WRITES = 17,   /* writes that a close makes at most */
     RAPYHEO_REFUSED = 1000,      /* an answer above this is 1000 + the refusal */
     RAPYHEO_STACK_BYTES = 8192   /* enough stack for any call */
 };
@@ -111,7 +114,8 @@ enum {
     RAPYHEO_CALL_READ = 2,
     RAPYHEO_CALL_PUT = 3,
     RAPYHEO_CALL_ADVANCE = 4,
-    RAPYHEO_CALL_ABORT = 5
+    RAPYHEO_CALL_ABORT = 5,
+    RAPYHEO_CALL_CLOSE = 6
 };
 
 /* What a read saw. */
@@ -126,7 +130,7 @@ enum {
     RAPYHEO_WROTE_NOTHING = 0,
     RAPYHEO_WROTE_COORDINATOR = 1,
     RAPYHEO_WROTE_LINES = 2,
-    RAPYHEO_WROTE_BOTH = 3 /* no single call on accepted sheets does that */
+    RAPYHEO_WROTE_BOTH = 3 /* on accepted sheets only a close with a limit above 1 does that */
 };
 
 /* What a visit made of a line. */
@@ -247,7 +251,7 @@ RAPYHEO_ANSWER uint32_t rapyheo_check(const uint8_t *records, size_t records_len
 RAPYHEO_ANSWER uint32_t rapyheo_call_at(rapyheo_transaction *list, size_t list_length, size_t place, uint8_t *records, size_t records_length,
                                         uint8_t *coordinator, size_t coordinator_length, uint32_t call, uint32_t storage, uint32_t name_space,
                                         uint32_t table, uint32_t partition, uint32_t clustering, uint32_t column1, uint32_t column2,
-                                        uint32_t clock);
+                                        uint32_t clock, uint32_t limit);
 
 /* Finishes, undoes or leaves the line of a key: RAPYHEO_STAYS to RAPYHEO_AGAIN, or 1000 + 1, 2, 5, 6 or 12. */
 RAPYHEO_ANSWER uint32_t rapyheo_visit(uint8_t *records, size_t records_length, uint8_t *coordinator, size_t coordinator_length, uint32_t storage,
@@ -290,7 +294,7 @@ RAPYHEO_ANSWER uint32_t rapyheo_write_coordinator(const uint32_t *numbers, size_
 RAPYHEO_ANSWER static inline uint32_t rapyheo_begin_at(rapyheo_transaction *list, size_t list_length, size_t place, uint8_t *records,
                                                        size_t records_length, uint8_t *coordinator, size_t coordinator_length, uint32_t checked) {
     return rapyheo_call_at(list, list_length, place, records, records_length, coordinator, coordinator_length,
-                           checked ? RAPYHEO_CALL_BEGIN_CHECKED : RAPYHEO_CALL_BEGIN, 0, 0, 0, 0, 0, 0, 0, 0);
+                           checked ? RAPYHEO_CALL_BEGIN_CHECKED : RAPYHEO_CALL_BEGIN, 0, 0, 0, 0, 0, 0, 0, 0, 0);
 }
 
 /* What the transaction sees of a key, which it holds from then on: RAPYHEO_READ_ABSENT to RAPYHEO_READ_AGAIN, or 1000 + 4, 5, 6, 9 or 12. The
@@ -299,7 +303,7 @@ RAPYHEO_ANSWER static inline uint32_t rapyheo_read_at(rapyheo_transaction *list,
                                                       size_t records_length, uint8_t *coordinator, size_t coordinator_length, rapyheo_key key,
                                                       uint32_t clock) {
     return rapyheo_call_at(list, list_length, place, records, records_length, coordinator, coordinator_length, RAPYHEO_CALL_READ, key.storage,
-                           key.name_space, key.table, key.partition, key.clustering, 0, 0, clock);
+                           key.name_space, key.table, key.partition, key.clustering, 0, 0, clock, 0);
 }
 
 /* What is to be written to a key that was read, in place of an earlier put: 0 or 1000 + 4, 5, 6, 7, 10 or 11. */
@@ -307,7 +311,7 @@ RAPYHEO_ANSWER static inline uint32_t rapyheo_put_at(rapyheo_transaction *list, 
                                                      size_t records_length, uint8_t *coordinator, size_t coordinator_length, rapyheo_key key,
                                                      rapyheo_columns columns) {
     return rapyheo_call_at(list, list_length, place, records, records_length, coordinator, coordinator_length, RAPYHEO_CALL_PUT, key.storage,
-                           key.name_space, key.table, key.partition, key.clustering, columns.column1, columns.column2, 0);
+                           key.name_space, key.table, key.partition, key.clustering, columns.column1, columns.column2, 0, 0);
 }
 
 /* One step towards done: 0 or 1000 + 4. The verdict stands in the list. */
@@ -315,14 +319,25 @@ RAPYHEO_ANSWER static inline uint32_t rapyheo_advance_at(rapyheo_transaction *li
                                                          size_t records_length, uint8_t *coordinator, size_t coordinator_length,
                                                          uint32_t clock) {
     return rapyheo_call_at(list, list_length, place, records, records_length, coordinator, coordinator_length, RAPYHEO_CALL_ADVANCE, 0, 0, 0, 0, 0,
-                           0, 0, clock);
+                           0, 0, clock, 0);
 }
 
-/* Turns it to withdraw, which it may until it is decided; advances then undo it: 0 or 1000 + 4. */
+/* Steps towards done, one after another at one clock reading: how many writes they made, 0 to 17, or 1000 + 4. Before a step that would write
+ * beyond the limit the transaction is left as it stands: RAPYHEO_CLOSE_WRITES or more closes the order, and 0 makes only the steps that come before
+ * its next write. Whatever the limit, list and sheets are those of advances made one after another up to there; but 4 is given, before any
+ * write, also where the own line is COMMITTED in a phase before finish. The duties above say what is saved after it. */
+RAPYHEO_ANSWER static inline uint32_t rapyheo_close_at(rapyheo_transaction *list, size_t list_length, size_t place, uint8_t *records,
+                                                       size_t records_length, uint8_t *coordinator, size_t coordinator_length, uint32_t clock,
+                                                       uint32_t limit) {
+    return rapyheo_call_at(list, list_length, place, records, records_length, coordinator, coordinator_length, RAPYHEO_CALL_CLOSE, 0, 0, 0, 0, 0, 0, 0,
+                           clock, limit);
+}
+
+/* Turns it to withdraw, which it may until it is decided; advances, or a close, then undo it: 0 or 1000 + 4. */
 RAPYHEO_ANSWER static inline uint32_t rapyheo_abort_at(rapyheo_transaction *list, size_t list_length, size_t place, uint8_t *records,
                                                        size_t records_length, uint8_t *coordinator, size_t coordinator_length) {
     return rapyheo_call_at(list, list_length, place, records, records_length, coordinator, coordinator_length, RAPYHEO_CALL_ABORT, 0, 0, 0, 0, 0, 0, 0,
-                           0);
+                           0, 0);
 }
 
 /* The columns of a key that the transaction holds, as last put, else as read; zeros where it was absent or is not held. */

@@ -24,7 +24,7 @@ static void expect(const char *what, uint32_t is, uint32_t should) {
 }
 
 static uint32_t ask(size_t length, size_t place, uint32_t call) {
-    return rapyheo_call_at(list, length, place, records, RECORDS, coordinator, COORDINATOR, call, 1, 1, 1, 1, 1, 7, 7, 1000);
+    return rapyheo_call_at(list, length, place, records, RECORDS, coordinator, COORDINATOR, call, 1, 1, 1, 1, 1, 7, 7, 1000, 17);
 }
 
 /* Of the order at the last place. */
@@ -45,7 +45,7 @@ static void by_place(void) {
     expect("list over 16", ask(RAPYHEO_LIST + 1, 0, RAPYHEO_CALL_BEGIN), RAPYHEO_REFUSED + RAPYHEO_BAD_TRANSACTION);
     expect("no such place", ask(2, 2, RAPYHEO_CALL_BEGIN), RAPYHEO_REFUSED + RAPYHEO_BAD_TRANSACTION);
     expect("an empty list", ask(0, 0, RAPYHEO_CALL_BEGIN), RAPYHEO_REFUSED + RAPYHEO_BAD_TRANSACTION);
-    expect("no such call", ask(2, 0, 6), RAPYHEO_REFUSED + RAPYHEO_BAD_TRANSACTION);
+    expect("no such call", ask(2, 0, 7), RAPYHEO_REFUSED + RAPYHEO_BAD_TRANSACTION);
     expect("sheets come first", rapyheo_advance_at(list, 2, 2, records, RECORDS - 1, coordinator, COORDINATOR, 0),
            RAPYHEO_REFUSED + RAPYHEO_BAD_RECORDS);
     expect("and the coordinator's", rapyheo_advance_at(list, 2, 2, records, RECORDS, coordinator, COORDINATOR - 1, 0),
@@ -64,6 +64,31 @@ static void by_place(void) {
     expect("and read as put", rapyheo_columns_held(&list[last], absent).column2, 8);
     expect("a key that is not held", rapyheo_columns_held(&list[last], outside).column1, 0);
     expect("the other place stays", list[0].number, 0);
+}
+
+static uint32_t close_order(uint32_t limit) {
+    return rapyheo_close_at(list, RAPYHEO_LIST, last, records, RECORDS, coordinator, COORDINATOR, 1000, limit);
+}
+
+/* The order that is open at the last place, closed from there with each limit. It prepares, decides and finishes one line, and checks the other. */
+static void closes(void) {
+    const uint32_t limits[] = {0, 1, 2, 3, RAPYHEO_CLOSE_WRITES, 4294967295u}, writes[] = {0, 1, 2, 3, 3, 3};
+    const uint32_t phases[] = {RAPYHEO_PREPARE, RAPYHEO_DECIDE, RAPYHEO_FINISH, RAPYHEO_DONE, RAPYHEO_DONE, RAPYHEO_DONE};
+    const rapyheo_transaction opened = list[last];
+    uint8_t first_records[RECORDS], first_coordinator[COORDINATOR];
+    memcpy(first_records, records, RECORDS);
+    memcpy(first_coordinator, coordinator, COORDINATOR);
+    for (size_t i = 0; i < sizeof limits / sizeof *limits; i++) {
+        list[last] = opened;
+        memcpy(records, first_records, RECORDS);
+        memcpy(coordinator, first_coordinator, COORDINATOR);
+        expect("writes of a close", close_order(limits[i]), writes[i]);
+        expect("the phase after it", list[last].phase, phases[i]);
+        expect("the sheet after it", memcmp(records, first_records, RECORDS) != 0, writes[i] > 0);
+    }
+    expect("committed", list[last].verdict, RAPYHEO_COMMITTED);
+    expect("closed before", close_order(RAPYHEO_CLOSE_WRITES), RAPYHEO_REFUSED + RAPYHEO_WRONG_PHASE);
+    expect("and with no write", close_order(0), RAPYHEO_REFUSED + RAPYHEO_WRONG_PHASE);
 }
 
 static uint32_t lines[2] = {9, 9};
@@ -122,6 +147,7 @@ static void header(void) {
 
 int main(void) {
     by_place();
+    closes();
     sheets();
     header();
     printf("edges: %d cases, %d wrong\n", cases, wrong);

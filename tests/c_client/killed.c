@@ -1,6 +1,7 @@
-/* A client that is killed. It keeps both sheets in a file and closes an order over two stores, and kills itself by SIGKILL just after a call, before
- * what the call wrote is saved or after it. Every such point of the order is tried, and with each of them every point of the recovery, which
- * is killed too and begun anew. In the end no line is PREPARED, and all lines are old or all are new. Both must have been seen.
+/* A client that is killed. It keeps both sheets in a file and closes an order over two stores, by advances or write by write, and kills itself by
+ * SIGKILL just after a call, before what the call wrote is saved or after it. Every such point of the order is tried, and with each of them
+ * every point of the recovery, which is killed too and begun anew. In the end no line is PREPARED, and all lines are old or all are new. Both must
+ * have been seen.
  *
  * killed FILE: the file is made or overwritten. */
 #define _POSIX_C_SOURCE 200809L
@@ -75,7 +76,7 @@ static void called(uint32_t answer) {
     }
 }
 
-static int order(void) {
+static int order(int by_advances) {
     rapyheo_transaction list[1];
     memset(list, 0, sizeof list);
     called(rapyheo_begin_at(list, 1, 0, records, RECORDS, coordinator, COORDINATOR, 0));
@@ -85,9 +86,13 @@ static int order(void) {
         called(rapyheo_put_at(list, 1, 0, records, RECORDS, coordinator, COORDINATOR, keys[i], columns));
     }
     while (list[0].phase != RAPYHEO_DONE)
-        called(rapyheo_advance_at(list, 1, 0, records, RECORDS, coordinator, COORDINATOR, NOW));
+        called(by_advances ? rapyheo_advance_at(list, 1, 0, records, RECORDS, coordinator, COORDINATOR, NOW)
+                           : rapyheo_close_at(list, 1, 0, records, RECORDS, coordinator, COORDINATOR, NOW, 1));
     return list[0].verdict == RAPYHEO_COMMITTED ? NEW : MIXED;
 }
+
+static int by_advances(void) { return order(1); }
+static int write_by_write(void) { return order(0); }
 
 /* How many lines have these columns 1 and are not PREPARED. */
 static int lines_with(const uint32_t *columns) {
@@ -137,7 +142,7 @@ static int run(int (*job)(void), int points) {
 }
 
 /* The first sheets, the order killed at one point and its recovery at another, and a last one that nobody kills. */
-static int one_try(int at, int recovery_at, int *order_ended, int *recovery_ended) {
+static int one_try(int (*order)(void), int at, int recovery_at, int *order_ended, int *recovery_ended) {
     memcpy(sheets, first_sheets, sizeof sheets);
     save();
     const int ended = run(order, at);
@@ -154,9 +159,10 @@ int main(int argc, char **argv) {
     need(argc == 2, "one file is named");
     path = argv[1];
     need((size_t)snprintf(path_new, sizeof path_new, "%s.new", path) < sizeof path_new, "the file's name is too long");
-    for (int at = 0, done = 0; !done; at++)
-        for (int recovery_at = 0, recovered = 0; !recovered; recovery_at++, tries++)
-            seen[one_try(at, recovery_at, &done, &recovered)]++;
+    for (int kind = 0; kind < 2; kind++)
+        for (int at = 0, done = 0; !done; at++)
+            for (int recovery_at = 0, recovered = 0; !recovered; recovery_at++, tries++)
+                seen[one_try(kind == 0 ? by_advances : write_by_write, at, recovery_at, &done, &recovered)]++;
     printf("killed client: %d tries, %d times all old, %d times all new, %d times mixed\n", tries, seen[OLD], seen[NEW], seen[MIXED]);
     return seen[MIXED] == 0 && seen[OLD] > 0 && seen[NEW] > 0 ? EXIT_SUCCESS : EXIT_FAILURE;
 }

@@ -42,7 +42,7 @@ static void check(void) { answer = rapyheo_check(records, RECORDS, coordinator, 
 static void begin(void) { answer = rapyheo_begin(records, RECORDS, coordinator, COORDINATOR); }
 static void call_at(void) {
     answer = rapyheo_call_at(list, PLACES, PLACE, records, RECORDS, coordinator, COORDINATOR, asked, key.storage, key.name_space, key.table,
-                             key.partition, key.clustering, column1, 7, clock_now);
+                             key.partition, key.clustering, column1, 7, clock_now, RAPYHEO_CLOSE_WRITES);
 }
 static void visit(void) {
     answer = rapyheo_visit(records, RECORDS, coordinator, COORDINATOR, key.storage, key.name_space, key.table, key.partition, key.clustering,
@@ -152,6 +152,14 @@ int main(void) {
     ask(RAPYHEO_CALL_ABORT);
     while (ask(RAPYHEO_CALL_ADVANCE) == 0) {
     }
+    for (uint32_t puts = 0; puts <= RAPYHEO_ENTRIES; puts++) {
+        open_order(RAPYHEO_CALL_BEGIN_CHECKED, puts);
+        ask(RAPYHEO_CALL_CLOSE);
+    }
+    open_order(RAPYHEO_CALL_BEGIN, RAPYHEO_ENTRIES);
+    ask(RAPYHEO_CALL_ADVANCE);
+    ask(RAPYHEO_CALL_ABORT);
+    ask(RAPYHEO_CALL_CLOSE);
     for (size_t i = 0; i < FUNCTIONS; i++) {
         printf("rapyheo_%-18s%6zu\n", table[i].name, table[i].most);
         most = table[i].most > most ? table[i].most : most;

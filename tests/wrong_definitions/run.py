@@ -18,7 +18,7 @@ import tempfile
 
 HERE = pathlib.Path(__file__).resolve().parent
 ROOT = HERE.parent.parent
-CRATES = ["lists", "decimal", "types", "model", "sheet_laws", "call_laws", "recovery", "serial", "clients", "theorems"]
+CRATES = ["lists", "decimal", "types", "model", "sheet_laws", "call_laws", "recovery", "closing_laws", "turns", "serial", "clients", "theorems"]
 TOP = CRATES[-1]
 # what the definitions' own crate shows by computation, and the file that cites it
 LEFT_OUT = [("model", "Cases"), ("model", "Learners"), ("theorems", "Theorems")]

@@ -3,12 +3,13 @@ use Rattle.lists.specs.Basics.{_≡_, refl, sym, ap, _∙_, ℕ, _+_, _≤_, _<
 use lib.Seq.{set-getD}
 use Rattle.model.specs.Types.{Transaction, Request}
 use Rattle.model.specs.Refusals.{refusalOf, lastRefusal}
-use Rattle.model.specs.Results.{Answer, Result, refused, made, unless}
+use Rattle.model.specs.Writes.{Sheets}
+use Rattle.model.specs.Results.{Answer, Response, refused, made, unless}
 use Rattle.model.specs.SheetCalls.{checkConditions}
-use Rattle.model.specs.ByteCalls.{resultOn, recordsAfter, coordinatorAfter}
-use Rattle.model.specs.Requests.{callOf}
-use Rattle.model.specs.CallByPlace.{listed, named, callAt, resultAtOn, listAfter}
-use Rattle.call_laws.specs.ByPlace.{leftWith, listed-within, named-result-on, unlisted-refused, refusal-leaves}
+use Rattle.model.specs.Operations.{responseOn, recordsLeft, coordinatorLeft}
+use Rattle.model.specs.Requests.{operationOf}
+use Rattle.model.specs.CallByPlace.{listed, named, operationAt, responseAtOn, listAfter}
+use Rattle.call_laws.specs.ByPlace.{leftWith, listed-within, named-response-on, unlisted-refused, refusal-leaves}
 use Rattle.call_laws.specs.Exactness.{small}
 use Rattle.cores.specs.Answers.{toPerformed}
 use Rattle.c_api.specs.declared.Called.{Called}
@@ -16,13 +17,13 @@ use Rattle.c_api.specs.Numbers.{callNumber, unlistedNumber}
 use Rattle.c_api.specs.Asked.{isCall, asks, naming, calledAtOn}
 
 -- what a call answers as one number, and the transaction, as it came where the call is refused
-abbrev pub called : Transaction → Result Answer → Called
+abbrev pub called : Transaction → Response Answer Sheets → Called
 called t r = record { answer = callNumber r; transaction = leftWith t r }
 
 -- the transaction of an answer is the one left
-pub performed-left : (t : Transaction) (r : Result Answer) → toPerformed t r .transaction ≡ leftWith t r
+pub performed-left : (t : Transaction) (r : Response Answer Sheets) → toPerformed t r .transaction ≡ leftWith t r
 performed-left t (refused n) = refl
-performed-left t (made a w) = refl
+performed-left t (made a s) = refl
 
 -- the refusal of the check that comes first where nothing is named is at most the last, and its answer as one number is the one for that
 pub check-numbered : (rs cs : List ℕ) → (refusalOf (checkConditions rs cs) ≤ lastRefusal) × (cond (eqb (refusalOf (checkConditions rs cs)) 0) 1003 (1000 + refusalOf (checkConditions rs cs)) ≡ unlistedNumber rs cs)
@@ -36,44 +37,44 @@ check-numbered rs cs = (small (checkConditions rs cs) refl, go (eqb (refusalOf (
 pub naming-within : (n place call : ℕ) → naming n place call ≡ true → place < n
 naming-within n place call e = listed-within n place (and-fst (listed n place) (isCall call) e)
 
-module _ (list : List Transaction) (place call storage namespace table partition clustering column1 column2 clock : ℕ) (rs cs : List ℕ) where
+module _ (list : List Transaction) (place call storage namespace table partition clustering column1 column2 clock limit : ℕ) (rs cs : List ℕ) where
   abbrev asking : Request
-  asking = asks call storage namespace table partition clustering column1 column2 clock
+  asking = asks call storage namespace table partition clustering column1 column2 clock limit
 
-  abbrev result : Result Answer
+  abbrev result : Response Answer Sheets
   result = calledAtOn list place call asking rs cs
 
   -- what the call by place ensures: its answer, the list, and both sheets
   abbrev pub CallsAt : ℕ → List Transaction → List ℕ → List ℕ → Type 0
   CallsAt r list′ rs′ cs′ =
-      (r ≡ callNumber result) × ((list′ ≡ listAfter list place result) × ((rs′ ≡ recordsAfter rs cs result) × (cs′ ≡ coordinatorAfter rs cs result)))
+      (r ≡ callNumber result) × ((list′ ≡ listAfter list place result) × ((rs′ ≡ recordsLeft rs result) × (cs′ ≡ coordinatorLeft cs result)))
 
   -- place and call are named, and what the call returns is put back there
   pub calls-named : (out : Called) (rs′ cs′ : List ℕ) → naming (length list) place call ≡ true
-      → out ≡ called (named list place) (resultOn (callOf asking (named list place)) rs cs)
-      → rs′ ≡ recordsAfter rs cs (resultOn (callOf asking (named list place)) rs cs)
-      → cs′ ≡ coordinatorAfter rs cs (resultOn (callOf asking (named list place)) rs cs)
+      → out ≡ called (named list place) (responseOn (operationOf asking (named list place)) rs cs)
+      → rs′ ≡ recordsLeft rs (responseOn (operationOf asking (named list place)) rs cs)
+      → cs′ ≡ coordinatorLeft cs (responseOn (operationOf asking (named list place)) rs cs)
       → CallsAt (out .answer) (set list place (out .transaction)) rs′ cs′
   unfolding listAfter
   calls-named out rs′ cs′ e o l d = (
     ap (λ (u : Called). u .answer) o ∙ sym (ap callNumber same),
     (
-      ap (λ (u : Called). set list place (u .transaction)) o ∙ (replaced (resultOn (callAt list place asking) rs cs) ∙ sym (ap (listAfter list place) same)),
+      ap (λ (u : Called). set list place (u .transaction)) o ∙ (replaced (responseOn (operationAt list place asking) rs cs) ∙ sym (ap (listAfter list place) same)),
       (
-        l ∙ sym (ap (recordsAfter rs cs) same),
-        d ∙ sym (ap (coordinatorAfter rs cs) same),
+        l ∙ sym (ap (recordsLeft rs) same),
+        d ∙ sym (ap (coordinatorLeft cs) same),
       ),
     ),
   )
     where
-      same : result ≡ resultOn (callAt list place asking) rs cs
+      same : result ≡ responseOn (operationAt list place asking) rs cs
       same =
           rw (and-snd (listed (length list) place) (isCall call) e)
-          (named-result-on list place asking rs cs (and-fst (listed (length list) place) (isCall call) e))
+          (named-response-on list place asking rs cs (and-fst (listed (length list) place) (isCall call) e))
 
-      replaced : (r : Result Answer) → set list place (leftWith (named list place) r) ≡ listAfter list place r
+      replaced : (r : Response Answer Sheets) → set list place (leftWith (named list place) r) ≡ listAfter list place r
       replaced (refused n) = set-getD list place _
-      replaced (made a w) = refl
+      replaced (made a s) = refl
 
   -- one of them isn't, and nothing is written
   pub calls-unnamed : (r : ℕ) (rs′ cs′ : List ℕ) → naming (length list) place call ≡ false → r ≡ unlistedNumber rs cs → rs′ ≡ rs → cs′ ≡ cs → CallsAt r list rs′ cs′
@@ -82,13 +83,13 @@ module _ (list : List Transaction) (place call storage namespace table partition
         f ∙ sym (ap callNumber same),
         (
           sym (ap (listAfter list place) same ∙ left .0),
-          (l ∙ sym (ap (recordsAfter rs cs) same ∙ left .1 .0), d ∙ sym (ap (coordinatorAfter rs cs) same ∙ left .1 .1)),
+          (l ∙ sym (ap (recordsLeft rs) same ∙ left .1 .0), d ∙ sym (ap (coordinatorLeft cs) same ∙ left .1 .1)),
         ),
       )
     where
       same : result ≡ unless (checkConditions rs cs) (refused 3)
       same = go (isCall call) refl
         where
-          go : (b : Bool) → isCall call ≡ b → cond b (resultAtOn list place asking rs cs) (unless (checkConditions rs cs) (refused 3)) ≡ unless (checkConditions rs cs) (refused 3)
+          go : (b : Bool) → isCall call ≡ b → cond b (responseAtOn list place asking rs cs) (unless (checkConditions rs cs) (refused 3)) ≡ unless (checkConditions rs cs) (refused 3)
           go false g = refl
           go true g = unlisted-refused list place asking rs cs (sym (and-true (listed (length list) place)) ∙ rw g at e)

@@ -1,19 +1,21 @@
 -- What the exported calls answer, as one number: what an accepted call gives, or 1000 and the refusal.
 use Rattle.lists.specs.Basics.{_≡_, refl, ℕ, _+_, _≤_, eqb, false, cond, List, arith, ne-eqb}
 use Rattle.model.specs.Types.{Key, Transaction}
-use Rattle.model.specs.Writes.{Write}
+use Rattle.model.specs.Writes.{Sheets}
 use Rattle.model.specs.Refusals.{lastRefusal}
 use Rattle.model.specs.SheetCalls.{checkConditions}
-use Rattle.model.specs.Results.{Call, begin, visit, Answer, heldAfter, Result, refused, made, unless}
+use Rattle.model.specs.Results.{begin, visit, Answer, heldAfter, Response, Result, refused, made, unless}
 use Rattle.model.specs.Calls.{newTransaction}
 use Rattle.model.specs.ByteCalls.{resultOn}
+use Rattle.model.specs.Operations.{Operation, responseOn}
 use Rattle.call_laws.specs.Exactness.{Sound, sound-refused, sound-made, result-sound}
+use Rattle.call_laws.specs.Operations.{response-sound-on}
 use Rattle.cores.specs.Answers.{toIssued, toVisited, toPerformed, recoveryIn, replyNumber, replyIn}
 
--- a result as one number, by what is made of an accepted answer
-abbrev pub asNumber : (Answer → ℕ) → Result Answer → ℕ
+-- a response as one number, by what is made of an accepted answer; its effect isn't looked at
+abbrev pub asNumber : {E : Type 0} → (Answer → ℕ) → Response Answer E → ℕ
 asNumber f (refused n) = 1000 + n
-asNumber f (made a w) = f a
+asNumber f (made a e) = f a
 
 -- begin: the number given, 1 to 999
 abbrev pub beginNumber : Result Answer → ℕ
@@ -23,8 +25,8 @@ beginNumber r = asNumber (λ (a : Answer). heldAfter (newTransaction 0 false) a 
 abbrev pub visitNumber : Result Answer → ℕ
 visitNumber r = asNumber (λ (a : Answer). replyNumber (recoveryIn a)) r
 
--- a call by place: what a read came to, 0 absent, 1 columns, 2 again; else 0
-abbrev pub callNumber : Result Answer → ℕ
+-- a call by place: what a read came to, 0 absent, 1 columns, 2 again; how many writes a close made; else 0
+abbrev pub callNumber : Response Answer Sheets → ℕ
 callNumber r = asNumber replyIn r
 
 -- the answer where the list of a call by place is over 16, or there is no such place or no such call
@@ -32,35 +34,31 @@ abbrev pub unlistedNumber : List ℕ → List ℕ → ℕ
 unlistedNumber rs cs = callNumber (unless (checkConditions rs cs) (refused 3))
 
 -- What an exported call makes of the engine's answer, by the answer's refusal and what it gives where there is none: the refusal is at most the last, and the
--- number made of both is that of the result.
-abbrev pub Numbered : (refusal given : ℕ) (number : Result Answer → ℕ) → Result Answer → Type 0
+-- number made of both is that of what was asked.
+abbrev pub Numbered : {E : Type 0} (refusal given : ℕ) (number : Response Answer E → ℕ) → Response Answer E → Type 0
 Numbered refusal given number r = (refusal ≤ lastRefusal) × (cond (eqb refusal 0) given (1000 + refusal) ≡ number r)
 
--- of every call, where the answer has the result's refusal, or 0 and what the answer says
-pub numbered : (refusal given : Result Answer → ℕ) (says : Answer → ℕ)
-    → ((n : ℕ) → refusal (refused n) ≡ n) → ((a : Answer) (w : Write) → refusal (made a w) ≡ 0) → ((a : Answer) (w : Write) → given (made a w) ≡ says a)
-    → (c : Call) (rs cs : List ℕ)
-    → Numbered (refusal (resultOn c rs cs)) (given (resultOn c rs cs)) (asNumber says) (resultOn c rs cs)
-numbered refusal given says f g h c rs cs = go (resultOn c rs cs) (result-sound c rs cs)
-  where
-    go : (r : Result Answer) → Sound r → Numbered (refusal r) (given r) (asNumber says) r
-    go r (sound-refused n l m) = let e : eqb n 0 ≡ false = ne-eqb n 0 (λ q. omega (arith, l, q)) in rw (f n, e) (m, refl)
-    go r (sound-made a w e) = rw (g a w, h a w) (omega arith, refl)
+-- of all that is sound, where the answer has its refusal, or 0 and what the answer says
+pub numbered : {E : Type 0} (refusal given : Response Answer E → ℕ) (says : Answer → ℕ)
+    → ((n : ℕ) → refusal (refused n) ≡ n) → ((a : Answer) (e : E) → refusal (made a e) ≡ 0) → ((a : Answer) (e : E) → given (made a e) ≡ says a)
+    → (r : Response Answer E) → Sound r → Numbered (refusal r) (given r) (asNumber says) r
+numbered refusal given says f g h r (sound-refused n l m) = let e : eqb n 0 ≡ false = ne-eqb n 0 (λ q. omega (arith, l, q)) in rw (f n, e) (m, refl)
+numbered refusal given says f g h r (sound-made a x e) = rw (g a x, h a x) (omega arith, refl)
 
 pub begin-numbered : (rs cs : List ℕ)
     → let r = resultOn (begin false) rs cs in Numbered (toIssued r .refusal) (toIssued r .number) beginNumber r
 begin-numbered rs cs =
     numbered (λ (r : Result Answer). toIssued r .refusal) (λ (r : Result Answer). toIssued r .number) (λ (a : Answer). heldAfter (newTransaction 0 false) a .number)
-    (λ n. refl) (λ a w. refl) (λ a w. refl) (begin false) rs cs
+    (λ n. refl) (λ a w. refl) (λ a w. refl) (resultOn (begin false) rs cs) (result-sound (begin false) rs cs)
 
 pub visit-numbered : (k : Key) (clock : ℕ) (rs cs : List ℕ)
     → let r = resultOn (visit k clock) rs cs in Numbered (toVisited r .refusal) (toVisited r .reply) visitNumber r
 visit-numbered k clock rs cs =
     numbered (λ (r : Result Answer). toVisited r .refusal) (λ (r : Result Answer). toVisited r .reply) (λ (a : Answer). replyNumber (recoveryIn a))
-    (λ n. refl) (λ a w. refl) (λ a w. refl) (visit k clock) rs cs
+    (λ n. refl) (λ a w. refl) (λ a w. refl) (resultOn (visit k clock) rs cs) (result-sound (visit k clock) rs cs)
 
-pub call-numbered : (t : Transaction) (c : Call) (rs cs : List ℕ)
-    → let r = resultOn c rs cs in Numbered (toPerformed t r .refusal) (toPerformed t r .reply) callNumber r
-call-numbered t c rs cs =
-    numbered (λ (r : Result Answer). toPerformed t r .refusal) (λ (r : Result Answer). toPerformed t r .reply) replyIn
-    (λ n. refl) (λ a w. refl) (λ a w. refl) c rs cs
+pub call-numbered : (t : Transaction) (o : Operation) (rs cs : List ℕ)
+    → let r = responseOn o rs cs in Numbered (toPerformed t r .refusal) (toPerformed t r .reply) callNumber r
+call-numbered t o rs cs =
+    numbered (λ (r : Response Answer Sheets). toPerformed t r .refusal) (λ (r : Response Answer Sheets). toPerformed t r .reply) replyIn
+    (λ n. refl) (λ a s. refl) (λ a s. refl) (responseOn o rs cs) (response-sound-on o rs cs)

@@ -9,7 +9,7 @@ use Rattle.call_laws.specs.Exactness.{small}
 
 -- the version of what is exported
 abbrev pub major : ℕ
-major = 1
+major = 2
 
 abbrev pub minor : ℕ
 minor = 0

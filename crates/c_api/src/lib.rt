@@ -7,7 +7,8 @@ ghost use Rattle.model.specs.Refusals.{refusalOf, lastRefusal};
 ghost use Rattle.model.specs.SheetCalls.{checkConditions};
 ghost use Rattle.model.specs.Results.{begin, visit};
 ghost use Rattle.model.specs.ByteCalls.{resultOn, recordsAfter, coordinatorAfter};
-ghost use Rattle.model.specs.Requests.{callOf};
+ghost use Rattle.model.specs.Operations.{responseOn, recordsLeft, coordinatorLeft};
+ghost use Rattle.model.specs.Requests.{operationOf};
 ghost use Rattle.model.specs.CallByPlace.{listed, listAfter};
 ghost use Rattle.c_api.specs.Numbers.{beginNumber, visitNumber, callNumber, unlistedNumber};
 ghost use Rattle.c_api.specs.Asked.{requestOf, asks, naming, calledAtOn};
@@ -22,7 +23,7 @@ use types::Request;
 use types::Transaction;
 
 // How many calls there are by place. Each has its number in `request`.
-const CALLS: u32 = 6;
+const CALLS: u32 = 7;
 
 // 0 where both sheets are accepted, else the refusal: 1 or 2.
 #[no_mangle]
@@ -94,9 +95,9 @@ fn is_named(length: usize, place: usize, call: u32) -> bool
     is_listed(length, place) & (call < CALLS)
 }
 
-// What the number of a call asks, of the numbers that come with it.
-fn request(call: u32, key: Key, columns: Columns, clock: u32) -> Request
-    ensures { λ r. ⌜ r ≡ requestOf call key columns clock ⌝ }
+// What the number of a call asks, of the numbers that come with it. Past the last, which `is_named` lets nobody ask, it is an abort.
+fn request(call: u32, key: Key, columns: Columns, clock: u32, limit: u32) -> Request
+    ensures { λ r. ⌜ r ≡ requestOf call key columns clock limit ⌝ }
 {
     match call {
         0 => Request::Begin(false),
@@ -104,6 +105,8 @@ fn request(call: u32, key: Key, columns: Columns, clock: u32) -> Request
         2 => Request::Read(key, clock),
         3 => Request::Put(key, columns),
         4 => Request::Advance(clock),
+        5 => Request::Abort,
+        6 => Request::Close(clock, limit),
         _ => Request::Abort,
     }
 }
@@ -128,10 +131,11 @@ fn call_named(
     column1: u32,
     column2: u32,
     clock: u32,
+    limit: u32,
 ) -> Called
-    ensures answer { λ r. ⌜ r ≡ called t (resultOn (callOf (asks call storage namespace table partition clustering column1 column2 clock) t) (now (records .entry)) (now (coordinator .entry))) ⌝ }
-    ensures lines { λ r. ⌜ now (records .exit) ≡ recordsAfter (now (records .entry)) (now (coordinator .entry)) (resultOn (callOf (asks call storage namespace table partition clustering column1 column2 clock) t) (now (records .entry)) (now (coordinator .entry))) ⌝ }
-    ensures decisions { λ r. ⌜ now (coordinator .exit) ≡ coordinatorAfter (now (records .entry)) (now (coordinator .entry)) (resultOn (callOf (asks call storage namespace table partition clustering column1 column2 clock) t) (now (records .entry)) (now (coordinator .entry))) ⌝ }
+    ensures answer { λ r. ⌜ r ≡ called t (responseOn (operationOf (asks call storage namespace table partition clustering column1 column2 clock limit) t) (now (records .entry)) (now (coordinator .entry))) ⌝ }
+    ensures lines { λ r. ⌜ now (records .exit) ≡ recordsLeft (now (records .entry)) (responseOn (operationOf (asks call storage namespace table partition clustering column1 column2 clock limit) t) (now (records .entry)) (now (coordinator .entry))) ⌝ }
+    ensures decisions { λ r. ⌜ now (coordinator .exit) ≡ coordinatorLeft (now (coordinator .entry)) (responseOn (operationOf (asks call storage namespace table partition clustering column1 column2 clock limit) t) (now (records .entry)) (now (coordinator .entry))) ⌝ }
 {
     let key = Key {
         storage,
@@ -141,7 +145,7 @@ fn call_named(
         clustering,
     };
     let columns = Columns { column1, column2 };
-    let asked = request(call, key, columns, clock);
+    let asked = request(call, key, columns, clock, limit);
     let performed = engine::perform::perform(asked, t, records, coordinator);
     let answer = number(performed.refusal, performed.reply);
     let transaction = performed.transaction;
@@ -162,7 +166,7 @@ fn unlisted(records: &mut [u8], coordinator: &mut [u8]) -> u32
 }
 
 // Every call by place, for C: what is asked comes as numbers, of which a call takes its own and no other. What a read came to (0 absent, 1 columns, 2 again),
-// else 0, or 1000 + the refusal. The header gives each call a name of its own.
+// how many writes a close made, else 0, or 1000 + the refusal. The header gives each call a name of its own.
 #[no_mangle]
 pub extern "C" fn rapyheo_call_at(
     list: &mut [Transaction],
@@ -178,11 +182,12 @@ pub extern "C" fn rapyheo_call_at(
     column1: u32,
     column2: u32,
     clock: u32,
+    limit: u32,
 ) -> u32
-    ensures answer { λ r. ⌜ r ≡ callNumber (calledAtOn (now (list .entry)) place call (asks call storage namespace table partition clustering column1 column2 clock) (now (records .entry)) (now (coordinator .entry))) ⌝ }
-    ensures transactions { λ r. ⌜ now (list .exit) ≡ listAfter (now (list .entry)) place (calledAtOn (now (list .entry)) place call (asks call storage namespace table partition clustering column1 column2 clock) (now (records .entry)) (now (coordinator .entry))) ⌝ }
-    ensures lines { λ r. ⌜ now (records .exit) ≡ recordsAfter (now (records .entry)) (now (coordinator .entry)) (calledAtOn (now (list .entry)) place call (asks call storage namespace table partition clustering column1 column2 clock) (now (records .entry)) (now (coordinator .entry))) ⌝ }
-    ensures decisions { λ r. ⌜ now (coordinator .exit) ≡ coordinatorAfter (now (records .entry)) (now (coordinator .entry)) (calledAtOn (now (list .entry)) place call (asks call storage namespace table partition clustering column1 column2 clock) (now (records .entry)) (now (coordinator .entry))) ⌝ }
+    ensures answer { λ r. ⌜ r ≡ callNumber (calledAtOn (now (list .entry)) place call (asks call storage namespace table partition clustering column1 column2 clock limit) (now (records .entry)) (now (coordinator .entry))) ⌝ }
+    ensures transactions { λ r. ⌜ now (list .exit) ≡ listAfter (now (list .entry)) place (calledAtOn (now (list .entry)) place call (asks call storage namespace table partition clustering column1 column2 clock limit) (now (records .entry)) (now (coordinator .entry))) ⌝ }
+    ensures lines { λ r. ⌜ now (records .exit) ≡ recordsLeft (now (records .entry)) (calledAtOn (now (list .entry)) place call (asks call storage namespace table partition clustering column1 column2 clock limit) (now (records .entry)) (now (coordinator .entry))) ⌝ }
+    ensures decisions { λ r. ⌜ now (coordinator .exit) ≡ coordinatorLeft (now (coordinator .entry)) (calledAtOn (now (list .entry)) place call (asks call storage namespace table partition clustering column1 column2 clock limit) (now (records .entry)) (now (coordinator .entry))) ⌝ }
 {
     if is_named(list.len(), place, call) {
         let t = list[place];
@@ -199,6 +204,7 @@ pub extern "C" fn rapyheo_call_at(
             column1,
             column2,
             clock,
+            limit,
         );
         list[place] = called.transaction;
         called.answer

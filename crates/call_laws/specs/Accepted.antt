@@ -8,7 +8,7 @@ use Rattle.model.specs.Coordinator.{Coordinator, coordinatorOf, coordinatorText
 use Rattle.model.specs.Refusals.{Condition, refusalOf}
 use Rattle.model.specs.SheetCalls.{checkConditions}
 use Rattle.model.specs.Writes.{Write, nothing, lineAfter, decisionsAfter, apply}
-use Rattle.model.specs.Results.{Call, Answer, Result, refused, made, unless}
+use Rattle.model.specs.Results.{Call, Answer, Response, Result, refused, made, unless}
 use Rattle.model.specs.Calls.{result}
 use Rattle.model.specs.ByteCalls.{sheetsOf, resultOn, recordsAfter, coordinatorAfter}
 use Rattle.model.specs.ByteHistories.{Bytes}
@@ -47,14 +47,14 @@ module _ {B : Type 0} (f : Result Answer → B) (rs cs : List ℕ) {result : Res
 
 -- Results by their conditions.
 
-pub unless-held : {A : Type 0} (cs : List Condition) (r : Result A) (n : ℕ) → refusalOf cs ≡ n → (n ≡ 0 → ⊥) → unless cs r ≡ refused n
+pub unless-held : {A E : Type 0} (cs : List Condition) (r : Response A E) (n : ℕ) → refusalOf cs ≡ n → (n ≡ 0 → ⊥) → unless cs r ≡ refused n
 unless-held cs r n e z = ap (λ (m : ℕ). cond (eqb m 0) r (refused m)) e ∙ ap (λ (b : Bool). cond b r (refused n)) (ne-eqb n 0 z)
 
-pub unless-free : {A : Type 0} (cs : List Condition) (r : Result A) → refusalOf cs ≡ 0 → unless cs r ≡ r
+pub unless-free : {A E : Type 0} (cs : List Condition) (r : Response A E) → refusalOf cs ≡ 0 → unless cs r ≡ r
 unless-free cs r e = ap (λ (m : ℕ). cond (eqb m 0) r (refused m)) e
 
 -- a refusal is not changed by what is asked later
-refusal-front : (ps qs : List Condition) (n : ℕ) → n ≡ refusalOf ps → (n ≡ 0 → ⊥) → n ≡ refusalOf (ps ++ qs)
+pub refusal-front : (ps qs : List Condition) (n : ℕ) → n ≡ refusalOf ps → (n ≡ 0 → ⊥) → n ≡ refusalOf (ps ++ qs)
 unfolding refusalOf
 refusal-front [] qs n e z = absurd (z e)
 refusal-front (c ∷ ps) qs n e z = go (c .holds) e (λ h. refusal-front ps qs n h z)
@@ -64,7 +64,7 @@ refusal-front (c ∷ ps) qs n e z = go (c .holds) e (λ h. refusal-front ps qs n
     go false h f = f h
 
 -- nor by what is asked earlier, where that does not apply
-refusal-past : (ps qs : List Condition) → all hasNumber ps ≡ true → refusalOf ps ≡ 0 → refusalOf (ps ++ qs) ≡ refusalOf qs
+pub refusal-past : (ps qs : List Condition) → all hasNumber ps ≡ true → refusalOf ps ≡ 0 → refusalOf (ps ++ qs) ≡ refusalOf qs
 unfolding refusalOf all
 refusal-past [] qs l h = refl
 refusal-past (c ∷ ps) qs l h =
@@ -73,7 +73,7 @@ refusal-past (c ∷ ps) qs l h =
     ap (λ (b : Bool). cond b (c .number) (refusalOf (ps ++ qs))) (p .0) ∙ refusal-past ps qs (and-snd (hasNumber c) (all hasNumber ps) l) (p .1)
 
 -- a call by the conditions that it asks first
-module _ {A : Type 0} (ps qs : List Condition) (r : Result A) where
+module _ {A E : Type 0} (ps qs : List Condition) (r : Response A E) where
   pub unless-front : (n : ℕ) → n ≡ refusalOf ps → (n ≡ 0 → ⊥) → unless (ps ++ qs) r ≡ refused n
   unless-front n e z = unless-held (ps ++ qs) r n (sym (refusal-front ps qs n e z)) z
 

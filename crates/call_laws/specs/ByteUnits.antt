@@ -3,27 +3,23 @@
 use Rattle.lists.specs.Basics.{_≡_, refl, sym, ap, subst, _∙_, ℕ, _*_, _/_, _≤_, _<_, ltb, Bool, true, false, List, [], map, length, take, drop, getD}
 use Rattle.lists.specs.Basics.{length-map, drop-of-length-le, List·getD-map, arith, ltb-true, ltb-false, tests}
 use Rattle.lists.specs.All.{getD-any}
-use Rattle.model.specs.Types.{Record, At, Transaction, Request}
+use Rattle.model.specs.Types.{Record, At}
 use Rattle.model.specs.Layouts.{recordBytes}
 use Rattle.model.specs.Records.{records, recordsText, recordIn, recordText, recordsGood, recordsAccepted, noRecord}
 use Rattle.model.specs.Coordinator.{coordinatorText}
 use Rattle.model.specs.SheetCalls.{lineAt}
 use Rattle.model.specs.Writes.{Write, sheetsGood, lineAfter, linesAfter, apply}
-use Rattle.model.specs.Results.{Call, Result, writeOf, Answer}
-use Rattle.model.specs.CallByPlace.{callAt, resultAt}
+use Rattle.model.specs.Results.{Call}
 use Rattle.model.specs.Histories.{written, after, ClockFits}
 use Rattle.model.specs.ByteHistories.{Bytes, saying, Passing, afterOn}
 use Rattle.model.specs.AtomicWrites.{OneUnit, lines-of-one-unit, coordinator-only}
-use Rattle.model.specs.Turns.{byPlace, turnEvent, turnAfter, turnAfterOn}
 use Rattle.sheet_laws.specs.Records.{record-written-read, records-read-written, sheet-written-read}
 use Rattle.sheet_laws.specs.Coordinator.{coordinator-written-read}
 use Rattle.sheet_laws.specs.ByIndex.{whole-lines, length-records, record-at, line-set}
 use Rattle.call_laws.specs.Lines.{lines-mapped, lines-unmoved}
 use Rattle.call_laws.specs.Closure.{sheets-stay-good}
 use Rattle.call_laws.specs.Lifting.{passing-parts, passing-good, encoded, same-bytes}
-use Rattle.call_laws.specs.ByPlace.{by-place}
-use Rattle.call_laws.specs.Turns.{turn-stays-good, turn-bytes}
-use Rattle.call_laws.specs.SingleUnit.{Single, single-unit, nothing-unit}
+use Rattle.call_laws.specs.SingleUnit.{Single, single-unit}
 use Rattle.call_laws.specs.SingleUnit as Units
 
 -- a line of a sheet that passes is the text of its record
@@ -97,11 +93,3 @@ unfolding after
 call-unit c b l p =
     subst (OneUnit b) (sym (same-bytes c b p))
     (write-unit b p (written c (saying b)) (sheets-stay-good c (saying b) l (passing-good b p)) (single-unit c (saying b)))
-
-pub place-unit : (list : List Transaction) (place : ℕ) (q : Request) (b : Bytes) → ClockFits (callAt list place q) → Passing b → OneUnit b (turnAfterOn (byPlace list place q) b)
-unfolding turnAfter turnEvent written
-place-unit list place q b l p =
-    subst (OneUnit b) (sym (turn-bytes (byPlace list place q) b p))
-    (write-unit b p (writeOf (resultAt list place q (saying b))) (turn-stays-good (byPlace list place q) (saying b) l (passing-good b p))
-    (by-place list place q (saying b) (λ (r : Result Answer). Single (saying b) (writeOf r)) (single-unit (callAt list place q) (saying b))
-    (nothing-unit (saying b .coordinator .units))))

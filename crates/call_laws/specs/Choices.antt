@@ -8,7 +8,7 @@ use Rattle.model.specs.Transactions.{byPhase}
 use Rattle.model.specs.Images.{isPrepared, byDecision, recovery}
 use Rattle.model.specs.Writes.{Sheets, Write, nothing}
 use Rattle.model.specs.Visits.{meeting, recoveryWrite}
-use Rattle.model.specs.Results.{Call, begin, read, put, advance, abort, visit, Answer, Result, refused, unless, writeOf}
+use Rattle.model.specs.Results.{Call, begin, read, put, advance, abort, visit, Answer, Response, Result, refused, unless, writeOf}
 use Rattle.model.specs.Conditions.{conditions}
 use Rattle.model.specs.Calls.{outcome, result}
 use Rattle.model.specs.Histories.{written}
@@ -52,10 +52,10 @@ by-decision P Committed x y z = y
 by-decision P Aborted x y z = z
 
 -- a result, refused or not: a refused one has a condition that holds, an accepted one has none
-pub unless-of {κ} : {A : Type 0} (P : Result A → Type κ) (cs : List Condition) {r : Result A} → ((refusalOf cs ≡ 0 → ⊥) → P (refused (refusalOf cs))) → (refusalOf cs ≡ 0 → P r) → P (unless cs r)
+pub unless-of {κ} : {A E : Type 0} (P : Response A E → Type κ) (cs : List Condition) {r : Response A E} → ((refusalOf cs ≡ 0 → ⊥) → P (refused (refusalOf cs))) → (refusalOf cs ≡ 0 → P r) → P (unless cs r)
 unless-of P cs n h = choose-by P (eqb (refusalOf cs) 0) (λ e. h (eqb-true (refusalOf cs) 0 e)) (λ e. n (eqb-false (refusalOf cs) 0 e))
 
-pub unless-by {κ} : {A : Type 0} (P : Result A → Type κ) (cs : List Condition) {r : Result A} → P (refused (refusalOf cs)) → (refusalOf cs ≡ 0 → P r) → P (unless cs r)
+pub unless-by {κ} : {A E : Type 0} (P : Response A E → Type κ) (cs : List Condition) {r : Response A E} → P (refused (refusalOf cs)) → (refusalOf cs ≡ 0 → P r) → P (unless cs r)
 unless-by P cs n h = unless-of P cs (λ z. n) h
 
 -- what an accepted call knows: none of its conditions holds

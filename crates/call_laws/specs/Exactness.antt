@@ -1,6 +1,6 @@
 -- T1: for each call the refusal given is the first of its row whose condition holds, in the order of asking, and after it both sheets are as they were.
 -- The first condition that holds is the first of the order, since each call's list keeps it.
-use Rattle.lists.specs.Basics.{_≡_, refl, sym, ap, _∙_, ℕ, _≤_, eqb, leb, Bool, true, false, not, _&&_, _||_, cond, List, [], _∷_, map, arith, eqb-true}
+use Rattle.lists.specs.Basics.{_≡_, refl, sym, ap, _∙_, ℕ, _≤_, eqb, leb, Bool, true, false, not, _&&_, _||_, cond, List, [], _∷_, _++_, map, arith, eqb-true}
 use Rattle.lists.specs.Basics.{leb-true, eq-eqb, ne-eqb, le-leb, all, any, and-fst, and-snd, and-both, choose-by}
 use Rattle.lists.specs.All.{map-map, all-map, all-weaken}
 use Rattle.model.specs.Refusals.{Condition, refuse, refusalOf, lastRefusal, askingOrder, countBefore, asked, noneBefore, firstAsked}
@@ -8,12 +8,14 @@ use Rattle.model.specs.SheetCalls.{checkConditions}
 use Rattle.model.specs.Records.{lineOf}
 use Rattle.model.specs.Writes.{Sheets, Write}
 use Rattle.model.specs.Visits.{meeting, isAgain}
-use Rattle.model.specs.Results.{Call, begin, read, put, advance, abort, visit, Answer, refusalIn, Result, refused, made, answerOf, unless}
+use Rattle.model.specs.Results.{Call, begin, read, put, advance, abort, visit, Answer, refusalIn, Response, Result, refused, made, answerOf}
+use Rattle.model.specs.Results.{unless}
 use Rattle.model.specs.Conditions.{isNew, conditions, refusals}
 use Rattle.model.specs.Calls.{readNew, outcome, result}
 use Rattle.model.specs.ByteCalls.{sheetsOf, allConditions, resultOn, recordsAfter, coordinatorAfter}
 use Rattle.model.specs.ByteHistories.{Bytes, saying, bytesAfter, answerOn, afterOn}
-use Rattle.call_laws.specs.Choices.{unless-by, unless-of}
+use Rattle.call_laws.specs.Choices.{hasNumber, unless-of}
+use Rattle.call_laws.specs.Accepted.{refusal-front, refusal-past}
 
 -- from n on the numbers rise
 unfoldable pub risingFrom : ℕ → List ℕ → Bool
@@ -131,11 +133,40 @@ call-in-order call rs cs = ap rowInOrder (numbers-are call rs cs) ∙ row-in-ord
 pub refusal-is-first : (call : Call) (rs cs : List ℕ) → firstAsked (refusalOf (allConditions call rs cs)) (allConditions call rs cs) ≡ true
 refusal-is-first call rs cs = row-first (allConditions call rs cs) (call-in-order call rs cs)
 
--- What a call answers.
+-- What is asked comes to.
 
--- a result that turns nobody away
-abbrev Accepts : Result Answer → Type 0
-Accepts r = refusalIn (answerOf r) ≡ 0
+-- a refusal of the table, or an answer that turns nobody away
+pub data Sound {E : Type 0} : Response Answer E → Type 0 where
+  sound-refused : (n : ℕ) → 1 ≤ n → n ≤ lastRefusal → Sound (refused n)
+  sound-made : (a : Answer) (e : E) → refusalIn a ≡ 0 → Sound (made a e)
+
+pub sound-unless : {E : Type 0} (cs : List Condition) (r : Response Answer E) → all (λ (c : Condition). leb (c .number) lastRefusal) cs ≡ true → Sound r → Sound (unless cs r)
+sound-unless cs r h s = unless-of Sound cs (λ z. sound-refused (refusalOf cs) (positive (refusalOf cs) z) (small cs h)) (λ z. s)
+  where
+    positive : (n : ℕ) → (n ≡ 0 → ⊥) → 1 ≤ n
+    positive n d = omega (arith, d)
+
+-- what holds of every refusal holds where a client is turned away
+pub when-refused : {E : Type 0} (P : Response Answer E → Type 0) → ((n : ℕ) → P (refused n)) → (r : Response Answer E) → Sound r → 1 ≤ refusalIn (answerOf r) → P r
+when-refused P f r (sound-refused n l m) k = f n
+when-refused P f r (sound-made a e z) k = absurd (omega (arith, z, k))
+
+-- the refusal is that of the conditions, where they are all that refuses
+pub refusal-unless : {E : Type 0} (cs : List Condition) (r : Response Answer E) → refusalIn (answerOf r) ≡ 0 → refusalIn (answerOf (unless cs r)) ≡ refusalOf cs
+refusal-unless cs r h = go (eqb (refusalOf cs) 0) refl
+  where
+    go : (b : Bool) → eqb (refusalOf cs) 0 ≡ b → refusalIn (answerOf (cond b r (refused (refusalOf cs)))) ≡ refusalOf cs
+    go true e = h ∙ sym (eqb-true (refusalOf cs) 0 e)
+    go false e = refl
+
+-- and where others are asked after them
+pub refusal-then : {E : Type 0} (cs ps : List Condition) (r : Response Answer E) → all hasNumber cs ≡ true → refusalIn (answerOf r) ≡ refusalOf ps → refusalIn (answerOf (unless cs r)) ≡ refusalOf (cs ++ ps)
+refusal-then cs ps r l h =
+    unless-of (λ x. refusalIn (answerOf x) ≡ refusalOf (cs ++ ps)) cs
+    (λ z. refusal-front cs ps (refusalOf cs) refl z)
+    (λ z. h ∙ sym (refusal-past cs ps l z))
+
+-- The calls.
 
 -- what an accepted call comes to is made, and turns nobody away
 data Made : Result Answer → Type 0 where
@@ -153,53 +184,21 @@ outcome-made (advance t now) s = is-made _ _ refl
 outcome-made (abort t) s = is-made _ _ refl
 outcome-made (visit k now) s = is-made _ _ refl
 
-pub outcome-accepts : (c : Call) (s : Sheets) → Accepts (outcome c s)
+outcome-accepts : (c : Call) (s : Sheets) → refusalIn (answerOf (outcome c s)) ≡ 0
 outcome-accepts c s = go (outcome c s) (outcome-made c s)
   where
-    go : (r : Result Answer) → Made r → Accepts r
+    go : (r : Result Answer) → Made r → refusalIn (answerOf r) ≡ 0
     go r (is-made a w e) = e
 
-pub refusal-by-rows : (x y : Bool) (cs : List Condition) (r : Result Answer) → Accepts r → refusalIn (answerOf (unless (refuse 1 x ∷ refuse 2 y ∷ []) (unless cs r))) ≡ refusalOf (refuse 1 x ∷ refuse 2 y ∷ cs)
-unfolding refusalOf
-refusal-by-rows true y cs r h = refl
-refusal-by-rows false true cs r h = refl
-refusal-by-rows false false cs r h =
-    go (eqb (refusalOf cs) 0) refl
-  where
-    go : (b : Bool) → eqb (refusalOf cs) 0 ≡ b → refusalIn (answerOf (cond b r (refused (refusalOf cs)))) ≡ refusalOf cs
-    go true e = h ∙ sym (eqb-true (refusalOf cs) 0 e)
-    go false e = refl
+pub result-refusal : (c : Call) (s : Sheets) → refusalIn (answerOf (result c s)) ≡ refusalOf (conditions c s)
+unfolding result
+result-refusal c s = refusal-unless (conditions c s) (outcome c s) (outcome-accepts c s)
 
 -- an answer's refusal is that of the call's conditions
 pub refusal-given : (call : Call) (b : Bytes) → refusalIn (answerOn call b) ≡ refusalOf (allConditions call (b .records) (b .coordinator))
-unfolding answerOn allConditions checkConditions resultOn result
-refusal-given call b = refusal-by-rows _ _ (conditions call (saying b)) (outcome call (saying b)) (outcome-accepts call (saying b))
-
--- what holds of every refused result holds where a client is turned away
-pub when-refused : (P : Result Answer → Type 0) → ((n : ℕ) → P (refused n)) → (ps cs : List Condition) (r : Result Answer) → Accepts r → 1 ≤ refusalIn (answerOf (unless ps (unless cs r))) → P (unless ps (unless cs r))
-when-refused P n ps cs r a =
-    unless-by Turned ps (λ l. n (refusalOf ps)) (λ p. unless-by Turned cs (λ l. n (refusalOf cs)) (λ q l. absurd (omega (arith, a, l))))
-  where
-    Turned : Result Answer → Type 0
-    Turned x = 1 ≤ refusalIn (answerOf x) → P x
-
--- "after a refusal it finds both sheets .. unchanged"
-pub refused-unchanged : (call : Call) (b : Bytes) → 1 ≤ refusalIn (answerOn call b) → afterOn call b ≡ b
-unfolding answerOn afterOn resultOn result recordsAfter coordinatorAfter
-refused-unchanged call b =
-    when-refused (λ (x : Result Answer). bytesAfter b x ≡ b) (λ n. refl) (checkConditions (b .records) (b .coordinator)) (conditions call (saying b))
-    (outcome call (saying b)) (outcome-accepts call (saying b))
-
--- A result whose refusal is a number of the table, and whose answer turns nobody away.
-pub data Sound : Result Answer → Type 0 where
-  sound-refused : (n : ℕ) → 1 ≤ n → n ≤ lastRefusal → Sound (refused n)
-  sound-made : (a : Answer) (w : Write) → refusalIn a ≡ 0 → Sound (made a w)
-
-sound-unless : (cs : List Condition) (r : Result Answer) → all (λ (c : Condition). leb (c .number) lastRefusal) cs ≡ true → Sound r → Sound (unless cs r)
-sound-unless cs r h s = unless-of Sound cs (λ z. sound-refused (refusalOf cs) (positive (refusalOf cs) z) (small cs h)) (λ z. s)
-  where
-    positive : (n : ℕ) → (n ≡ 0 → ⊥) → 1 ≤ n
-    positive n d = omega (arith, d)
+unfolding answerOn allConditions checkConditions resultOn all
+refusal-given call b =
+    refusal-then (checkConditions (b .records) (b .coordinator)) (conditions call (saying b)) (result call (saying b)) refl (result-refusal call (saying b))
 
 conditions-small : (call : Call) (s : Sheets) → all (λ (c : Condition). leb (c .number) lastRefusal) (conditions call s) ≡ true
 unfolding all conditions
@@ -210,11 +209,24 @@ conditions-small (advance t now) s = refl
 conditions-small (abort t) s = refl
 conditions-small (visit k now) s = refl
 
-pub result-sound : (call : Call) (rs cs : List ℕ) → Sound (resultOn call rs cs)
-unfolding resultOn result checkConditions all
-result-sound call rs cs =
-    sound-unless (checkConditions rs cs) _ refl
-    (sound-unless (conditions call (sheetsOf rs cs)) _ (conditions-small call (sheetsOf rs cs)) (go (outcome call (sheetsOf rs cs)) (outcome-made call (sheetsOf rs cs))))
+pub decoded-sound : (call : Call) (s : Sheets) → Sound (result call s)
+unfolding result
+decoded-sound call s = sound-unless (conditions call s) _ (conditions-small call s) (go (outcome call s) (outcome-made call s))
   where
     go : (r : Result Answer) → Made r → Sound r
     go r (is-made a w e) = sound-made a w e
+
+-- what the check refuses is of the table
+pub sound-on : {E : Type 0} (rs cs : List ℕ) (r : Response Answer E) → Sound r → Sound (unless (checkConditions rs cs) r)
+unfolding checkConditions all
+sound-on rs cs r k = sound-unless (checkConditions rs cs) r refl k
+
+pub result-sound : (call : Call) (rs cs : List ℕ) → Sound (resultOn call rs cs)
+unfolding resultOn
+result-sound call rs cs = sound-on rs cs (result call (sheetsOf rs cs)) (decoded-sound call (sheetsOf rs cs))
+
+-- "after a refusal it finds both sheets .. unchanged"
+pub refused-unchanged : (call : Call) (b : Bytes) → 1 ≤ refusalIn (answerOn call b) → afterOn call b ≡ b
+unfolding answerOn afterOn recordsAfter coordinatorAfter
+refused-unchanged call b =
+    when-refused (λ (x : Result Answer). bytesAfter b x ≡ b) (λ n. refl) (resultOn call (b .records) (b .coordinator)) (result-sound call (b .records) (b .coordinator))

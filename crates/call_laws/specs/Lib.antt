@@ -17,9 +17,8 @@ pub mod Closure
 pub mod Lifting
 pub mod Accepted
 pub mod Lent
+pub mod Operations
 pub mod ByPlace
 pub mod Moved
-pub mod Turns
 pub mod ByteUnits
 pub mod Told
-pub mod ToldTurns

@@ -7,7 +7,7 @@ use Rattle.model.specs.Coordinator.{coordinatorText, coordinatorGood, coordinat
 use Rattle.model.specs.Refusals.{refusalOf}
 use Rattle.model.specs.SheetCalls.{allIssued, checkConditions}
 use Rattle.model.specs.Writes.{Sheets, sheetsGood, nothing, lineAfter, decisionsAfter, apply}
-use Rattle.model.specs.Results.{Call, Result, refused, made, writeOf, answerOf}
+use Rattle.model.specs.Results.{Call, Response, Result, refused, made, writeOf, answerOf}
 use Rattle.model.specs.Calls.{result}
 use Rattle.model.specs.ByteCalls.{onSheets, resultOn, recordsAfter, coordinatorAfter}
 use Rattle.model.specs.Histories.{answer, written, after, ClockFits}
@@ -55,7 +55,7 @@ encoded-says s h =
 
 -- Calls on accepted bytes.
 
-pub on-passing : {A : Type 0} (b : Bytes) (call : Sheets → Result A) → Passing b → onSheets (b .records) (b .coordinator) call ≡ call (saying b)
+pub on-passing : {A E : Type 0} (b : Bytes) (call : Sheets → Response A E) → Passing b → onSheets (b .records) (b .coordinator) call ≡ call (saying b)
 on-passing b call h = ap (λ (n : ℕ). cond (eqb n 0) (call (saying b)) (refused n)) h
 
 pub same-result : (c : Call) (b : Bytes) → Passing b → resultOn c (b .records) (b .coordinator) ≡ result c (saying b)

@@ -7,18 +7,25 @@ use Rattle.lists.specs.Basics.{choose-by}
 use Rattle.model.specs.Types.{Transaction, Request}
 use Rattle.types.specs.declared.Request.the-variants as asked
 use Rattle.model.specs.Writes.{Sheets, apply}
-use Rattle.model.specs.Results.{Call, begin, visit, Answer, turnedAway, returned, answered, visited, Result, writeOf, answerOf}
-use Rattle.model.specs.Requests.{callOf}
-use Rattle.model.specs.CallByPlace.{named, callAt, resultAt, resultAtOn, listAfter}
-use Rattle.model.specs.Histories.{Event, written, after, given, takenBy, taken, Available, ClockFits, Permitted}
-use Rattle.model.specs.ByteHistories.{Bytes, saying, Passing, answerOn}
-use Rattle.model.specs.Turns.{Turn, single, byPlace, turnAfter, turnEventOn, turnAfterOn, turnsLeft, LegalTurns}
+use Rattle.model.specs.Steps.{step}
+use Rattle.model.specs.Calls.{result}
+use Rattle.model.specs.Results.{Call, begin, visit, Answer, turnedAway, returned, answered, visited, reported, Response, writeOf, answerOf}
+use Rattle.model.specs.Closing.{Run, starting, mostSteps, closeConditions}
+use Rattle.model.specs.Operations.{Operation, once, close, standsFor, response, sheetsLeft}
+use Rattle.model.specs.Requests.{operationOf}
+use Rattle.model.specs.CallByPlace.{named, callAt, responseAt, responseAtOn, listAfter}
+use Rattle.model.specs.Histories.{Event, given, takenBy, taken, Available, ClockFits, Permitted}
+use Rattle.model.specs.ByteHistories.{Bytes, saying, Passing}
+use Rattle.model.specs.Turns.{Turn, single, byPlace, turnCall, turnResponse, turnAfter, turnResponseOn, turnEventOn, turnAfterOn, turnsLeft, LegalTurns}
 use Rattle.model.specs.Clients.{Act, asks, loses, visits, begins, World, unused, Unused, withList, turnsIn, listsAfter, worldAfter, turnsOf, clockAsked, clockFits}
+use Rattle.call_laws.specs.Choices.{unless-by}
 use Rattle.call_laws.specs.Keeping.{issued-grows}
 use Rattle.call_laws.specs.Lifting.{on-passing}
 use Rattle.call_laws.specs.ByPlace.{leftWith, others-stay}
 use Rattle.clients.specs.Handed.{Handed, stays, begun, moves, place-hands, left-at-place}
-use Rattle.call_laws.specs.Turns.{turn-stays-passing}
+use Rattle.closing_laws.specs.Steps.{closing-every}
+use Rattle.turns.specs.Operations.{settled-left}
+use Rattle.turns.specs.Turns.{by-turn, turn-stays-passing}
 
 -- a place in a client's list
 record Slot : Type 0 where
@@ -124,13 +131,13 @@ module _ (lists : ℕ → List Transaction) (client place : ℕ) (q : Request) (
   abbrev slot : Slot
   slot = record { client = client; place = place }
 
-  abbrev eventOf : Result Answer → Event
+  abbrev eventOf : Response Answer Sheets → Event
   eventOf r = record { call = callAt list place q; answer = answerOf r }
 
-  abbrev Hands : Result Answer → Type 0
+  abbrev Hands : Response Answer Sheets → Type 0
   Hands r = Handed (callAt list place q) (named list place) s r
 
-  replaced : (r : Result Answer) (t : Transaction) → named (listAfter list place r) place ≡ t
+  replaced : (r : Response Answer Sheets) (t : Transaction) → named (listAfter list place r) place ≡ t
       → Replaced lists (withList client (listAfter list place r) lists) slot t
   replaced r t left =
       record {
@@ -142,11 +149,9 @@ module _ (lists : ℕ → List Transaction) (client place : ℕ) (q : Request) (
             (λ e. refl);
       }
 
-  asks-kept : (r : Result Answer) → Hands r → named (listAfter list place r) place ≡ leftWith (named list place) r
-      → Kept (withList client (listAfter list place r) lists) (apply (writeOf r) s .coordinator .issued) (eventOf r ∷ es)
-  unfolding apply
-  asks-kept r (stays z e) left =
-      let grows = issued-grows (writeOf r) (s .coordinator) in
+  asks-kept : (r : Response Answer Sheets) → s .coordinator .issued ≤ sheetsLeft s r .coordinator .issued → Hands r → named (listAfter list place r) place ≡ leftWith (named list place) r
+      → Kept (withList client (listAfter list place r) lists) (sheetsLeft s r .coordinator .issued) (eventOf r ∷ es)
+  asks-kept r grows (stays z e) left =
       let known : named list place .number ≤ s .coordinator .issued = k .known slot in
       kept-replaced k grows (replaced r (named list place) (left ∙ e))
       (record {
@@ -155,16 +160,15 @@ module _ (lists : ℕ → List Transaction) (client place : ℕ) (q : Request) (
         differs = λ y d l p. d (k .alone y slot l p);
         bound = omega arith;
       })
-  asks-kept r (begun z e new bound) left =
-      kept-replaced k (issued-grows (writeOf r) (s .coordinator)) (replaced r (leftWith (named list place) r) left)
+  asks-kept r grows (begun z e new bound) left =
+      kept-replaced k grows (replaced r (leftWith (named list place) r) left)
       (record {
         here = λ l. inl e;
         untaken = λ y d l p. Option·none-ne-some _ (sym z ∙ p);
         differs = λ y d l p. let known : heldIn lists y .number ≤ s .coordinator .issued = k .known y in omega (arith, known, p, new);
         bound = bound;
       })
-  asks-kept r (moves z formed e n) left =
-      let grows = issued-grows (writeOf r) (s .coordinator) in
+  asks-kept r grows (moves z formed e n) left =
       let known : named list place .number ≤ s .coordinator .issued = k .known slot in
       kept-replaced k grows (replaced r (leftWith (named list place) r) left)
       (record {
@@ -176,7 +180,7 @@ module _ (lists : ℕ → List Transaction) (client place : ℕ) (q : Request) (
       })
 
   -- what is taken is available
-  asks-state : (r : Result Answer) → Hands r → (t : Transaction) → takenBy (callAt list place q) (answerOf r) ≡ some t → Available t es
+  asks-state : (r : Response Answer Sheets) → Hands r → (t : Transaction) → takenBy (callAt list place q) (answerOf r) ≡ some t → Available t es
   asks-state r (stays z e) t p = absurd (Option·none-ne-some t (sym z ∙ p))
   asks-state r (begun z e new bound) t p = absurd (Option·none-ne-some t (sym z ∙ p))
   asks-state r (moves z formed e n) t p =
@@ -197,19 +201,29 @@ lost lists client size x =
 
 -- The clock, and the issued count.
 
-asked-fits : (q : Request) (t : Transaction) → clockAsked q < 2 ^ 32 → ClockFits (callOf q t)
-unfolding clockAsked callOf
+asked-fits : (q : Request) (t : Transaction) → clockAsked q < 2 ^ 32 → ClockFits (standsFor (operationOf q t))
+unfolding clockAsked operationOf standsFor
 asked-fits (asked.Begin b) t l = tt
 asked-fits (asked.Read k now) t l = l
 asked-fits (asked.Put k c) t l = tt
 asked-fits (asked.Advance now) t l = l
 asked-fits asked.Abort t l = tt
 asked-fits (asked.Visit k now) t l = l
+asked-fits (asked.Close now limit) t l = l
+
+operation-issued : (o : Operation) (s : Sheets) → s .coordinator .issued ≤ sheetsLeft s (response o s) .coordinator .issued
+unfolding response apply
+operation-issued (once c) s = subst (λ (z : Sheets). s .coordinator .issued ≤ z .coordinator .issued) (sym (settled-left s (result c s))) (issued-grows (writeOf (result c s)) (s .coordinator))
+operation-issued (close t now limit) s =
+    unless-by (λ (r : Response Answer Sheets). s .coordinator .issued ≤ sheetsLeft s r .coordinator .issued) (closeConditions t s) (omega arith)
+    (λ z. closing-every (λ (x : Run). s .coordinator .issued ≤ x .sheets .coordinator .issued) now
+    (λ y l. let g = issued-grows (step (y .transaction) now (y .sheets) .write) (y .sheets .coordinator) in omega (arith, g, l)) mostSteps (starting t limit s) (omega arith))
 
 turn-issued : (x : Turn) (s : Sheets) → s .coordinator .issued ≤ turnAfter x s .coordinator .issued
-unfolding turnAfter after apply
-turn-issued (single c) s = issued-grows (written c s) (s .coordinator)
-turn-issued (byPlace list place q) s = issued-grows (writeOf (resultAt list place q s)) (s .coordinator)
+unfolding turnAfter
+turn-issued x s =
+    by-turn (λ (c : Call) (r : Response Answer Sheets). s .coordinator .issued ≤ sheetsLeft s r .coordinator .issued) s x
+    (λ o. operation-issued o s) (λ c. omega arith)
 
 abbrev issuedIn : Bytes → ℕ
 issuedIn b = saying b .coordinator .issued
@@ -221,19 +235,23 @@ module _ (c : Call) (b : Bytes) (es : List Event) (p : Passing b) (fits : ClockF
   takes-none (returned t) = none-given
   takes-none (answered v t) = none-given
   takes-none (visited v) = none-given
+  takes-none (reported n t) = none-given
 
-  free-permitted : Permitted (turnEventOn (single c) b .call) (turnEventOn (single c) b .answer) es
-  unfolding turnEventOn
-  free-permitted = record { clock = fits; state = λ t e. absurd (Option·none-ne-some t (sym (takes-none (answerOn c b)) ∙ e)) }
+  abbrev free : Turn
+  free = single (once c)
+
+  free-permitted : Permitted (turnEventOn free b .call) (turnEventOn free b .answer) es
+  unfolding turnEventOn turnCall standsFor
+  free-permitted = record { clock = fits; state = λ t e. absurd (Option·none-ne-some t (sym (takes-none (turnEventOn free b .answer)) ∙ e)) }
 
   free-kept : (lists : ℕ → List Transaction) → Kept lists (issuedIn b) es
-      → Passing (turnAfterOn (single c) b) × Kept lists (issuedIn (turnAfterOn (single c) b)) (turnEventOn (single c) b ∷ es)
-  unfolding turnEventOn
+      → Passing (turnAfterOn free b) × Kept lists (issuedIn (turnAfterOn free b)) (turnEventOn free b ∷ es)
+  unfolding turnEventOn turnCall standsFor
   free-kept lists k =
-      let q = turn-stays-passing (single c) b fits p in
-      let grows : issuedIn b ≤ issuedIn (turnAfterOn (single c) b) =
-      subst (λ (s : Sheets). issuedIn b ≤ s .coordinator .issued) (sym (q .0)) (turn-issued (single c) (saying b)) in
-      (q .1, kept-same (turnEventOn (single c) b) k grows (takes-none (answerOn c b)))
+      let q = turn-stays-passing free b fits p in
+      let grows : issuedIn b ≤ issuedIn (turnAfterOn free b) =
+      subst (λ (s : Sheets). issuedIn b ≤ s .coordinator .issued) (sym (q .0)) (turn-issued free (saying b)) in
+      (q .1, kept-same (turnEventOn free b) k grows (takes-none (turnEventOn free b .answer)))
 
 -- a call by place
 module _ (lists : ℕ → List Transaction) (client place : ℕ) (q : Request) (b : Bytes) (es : List Event)
@@ -241,36 +259,36 @@ module _ (lists : ℕ → List Transaction) (client place : ℕ) (q : Request) (
   abbrev turn : Turn
   turn = byPlace (lists client) place q
 
-  abbrev resultIn : Result Answer
-  resultIn = resultAtOn (lists client) place q (b .records) (b .coordinator)
+  abbrev responseIn : Response Answer Sheets
+  responseIn = responseAtOn (lists client) place q (b .records) (b .coordinator)
 
-  same-result : resultIn ≡ resultAt (lists client) place q (saying b)
-  unfolding resultAtOn
-  same-result = on-passing b (resultAt (lists client) place q) p
+  said : responseIn ≡ responseAt (lists client) place q (saying b)
+  unfolding responseAtOn
+  said = on-passing b (responseAt (lists client) place q) p
 
   place-permitted : Permitted (turnEventOn turn b .call) (turnEventOn turn b .answer) es
-  unfolding turnEventOn
+  unfolding turnEventOn turnCall turnResponseOn
   place-permitted =
-      subst (λ (r : Result Answer). Permitted (callAt (lists client) place q) (answerOf r) es) (sym same-result)
+      subst (λ (r : Response Answer Sheets). Permitted (callAt (lists client) place q) (answerOf r) es) (sym said)
       (record {
         clock = asked-fits q (named (lists client) place) fits;
-        state = asks-state lists client place q (saying b) es k (resultAt (lists client) place q (saying b)) (place-hands (lists client) place q (saying b));
+        state = asks-state lists client place q (saying b) es k (responseAt (lists client) place q (saying b)) (place-hands (lists client) place q (saying b));
       })
 
-  abbrev KeptBy : Result Answer → ℕ → Type 0
+  abbrev KeptBy : Response Answer Sheets → ℕ → Type 0
   KeptBy r issued = Kept (withList client (listAfter (lists client) place r) lists) issued (eventOf lists client place q (saying b) es k r ∷ es)
 
   place-kept : Passing (turnAfterOn turn b)
-      × Kept (withList client (listAfter (lists client) place resultIn) lists) (issuedIn (turnAfterOn turn b)) (turnEventOn turn b ∷ es)
-  unfolding turnEventOn turnAfter
+      × Kept (withList client (listAfter (lists client) place responseIn) lists) (issuedIn (turnAfterOn turn b)) (turnEventOn turn b ∷ es)
+  unfolding turnEventOn turnCall turnResponseOn turnAfter turnResponse
   place-kept =
       let c = turn-stays-passing turn b (asked-fits q (named (lists client) place) fits) p in
-      let r = resultAt (lists client) place q (saying b) in
-      let kept : KeptBy r (apply (writeOf r) (saying b) .coordinator .issued) =
-      asks-kept lists client place q (saying b) es k r (place-hands (lists client) place q (saying b)) (left-at-place (lists client) place q (saying b)) in (
+      let r = responseAt (lists client) place q (saying b) in
+      let kept : KeptBy r (sheetsLeft (saying b) r .coordinator .issued) =
+      asks-kept lists client place q (saying b) es k r (turn-issued turn (saying b)) (place-hands (lists client) place q (saying b)) (left-at-place (lists client) place q (saying b)) in (
         c .1,
-        subst (λ (s : Sheets). KeptBy resultIn (s .coordinator .issued)) (sym (c .0))
-            (subst (λ (x : Result Answer). KeptBy x (apply (writeOf r) (saying b) .coordinator .issued)) (sym same-result) kept),
+        subst (λ (s : Sheets). KeptBy responseIn (s .coordinator .issued)) (sym (c .0))
+            (subst (λ (x : Response Answer Sheets). KeptBy x (sheetsLeft (saying b) r .coordinator .issued)) (sym said) kept),
       )
 
 -- The history.
@@ -291,13 +309,13 @@ legal-from (visits key now ∷ acts) w es p k f =
     let l : now < 2 ^ 32 = ltb-true now (2 ^ 32) (and-fst (ltb now (2 ^ 32)) (all clockFits acts) f) in
     let n = free-kept (visit key now) (w .bytes) es p l refl (w .lists) k in (
       free-permitted (visit key now) (w .bytes) es p l refl,
-      legal-from acts (worldAfter (visits key now) w) (turnEventOn (single (visit key now)) (w .bytes) ∷ es) (n .0) (n .1)
+      legal-from acts (worldAfter (visits key now) w) (turnEventOn (single (once (visit key now))) (w .bytes) ∷ es) (n .0) (n .1)
           (and-snd (ltb now (2 ^ 32)) (all clockFits acts) f),
     )
 legal-from (begins b ∷ acts) w es p k f =
     let n = free-kept (begin b) (w .bytes) es p tt refl (w .lists) k in (
       free-permitted (begin b) (w .bytes) es p tt refl,
-      legal-from acts (worldAfter (begins b) w) (turnEventOn (single (begin b)) (w .bytes) ∷ es) (n .0) (n .1) f,
+      legal-from acts (worldAfter (begins b) w) (turnEventOn (single (once (begin b))) (w .bytes) ∷ es) (n .0) (n .1) f,
     )
 
 pub clients-legal : (acts : List Act) (w : World) → Passing (w .bytes) → Unused (w .lists) → all clockFits acts ≡ true

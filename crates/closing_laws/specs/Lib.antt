@@ -5,3 +5,4 @@ pub mod Writes
 pub mod Limits
 pub mod Report
 pub mod Ends
+pub mod Greatest

@@ -147,6 +147,12 @@ unfolding closing turn
 stays-stopped zero now x q = refl
 stays-stopped (suc n) now x q = ap (λ (b : Bool). closing n now (cond b x (goesOn now x))) q ∙ stays-stopped n now x q
 
+-- what every step keeps, whatever the sheets, a close keeps
+pub closing-every : (P : Run → Type 0) (now : ℕ) → ((y : Run) → P y → P (goesOn now y)) → (n : ℕ) (x : Run) → P x → P (closing n now x)
+unfolding closing turn
+closing-every P now f zero x p = p
+closing-every P now f (suc n) x p = closing-every P now f n (turn now x) (choose-by P (stops now x) (λ e. p) (λ e. f x p))
+
 -- what each step of a close keeps, the close keeps
 pub closing-by : (P : Run → Type 0) (now : ℕ) → now < 2 ^ 32 → ((y : Run) → Sound y → stops now y ≡ false → P y → P (goesOn now y)) → (n : ℕ) (x : Run)
     → Sound x → P x → P (closing n now x)

@@ -3,9 +3,10 @@ use Rattle.lists.specs.Basics.{_≡_, ap, ℕ, eqb, Bool, false, _&&_}
 use Rattle.model.specs.Types.{Columns, Transaction, Recovery, Stays, Reading}
 use Rattle.types.specs.declared.Reading.the-variants.{Absent, Value, Again}
 use Rattle.model.specs.Images.{byRecovery}
-use Rattle.model.specs.Writes.{Write}
-use Rattle.model.specs.Results.{Answer, turnedAway, returned, answered, visited, heldAfter, Result, refused, made}
+use Rattle.model.specs.Writes.{Sheets, Write}
+use Rattle.model.specs.Results.{Answer, turnedAway, returned, answered, visited, reported, heldAfter, Response, Result, refused, made}
 use Rattle.model.specs.Calls.{newTransaction}
+use Rattle.cores.specs.declared.Closed.{Closed}
 use Rattle.cores.specs.declared.Performed.{Performed}
 use Rattle.cores.specs.declared.Returned.{Returned}
 use Rattle.cores.specs.declared.Visited.{Visited}
@@ -36,6 +37,7 @@ recoveryIn (turnedAway n) = Stays
 recoveryIn (returned t) = Stays
 recoveryIn (answered v t) = Stays
 recoveryIn (visited v) = v
+recoveryIn (reported n t) = Stays
 
 -- 0 stays, 1 forward, 2 back, 3 again. A busy line is refused and has no number of its own.
 abbrev pub replyNumber : Recovery → ℕ
@@ -68,12 +70,13 @@ readingColumns Again = noColumns
 abbrev pub performedAs : Reading → Transaction → Performed
 performedAs v t = record { refusal = 0; reply = readingNumber v; columns = readingColumns v; transaction = t }
 
--- what a read or a visit came to, as a number; 0 of a call that only returns a transaction
+-- what a read or a visit came to, as a number, or how many writes a close made; 0 of a call that only returns a transaction
 abbrev pub replyIn : Answer → ℕ
 replyIn (turnedAway n) = 0
 replyIn (returned t) = 0
 replyIn (answered v t) = readingNumber v
 replyIn (visited v) = replyNumber v
+replyIn (reported n t) = n
 
 -- the columns that were read; of another answer, none
 abbrev pub columnsIn : Answer → Columns
@@ -81,8 +84,18 @@ columnsIn (turnedAway n) = noColumns
 columnsIn (returned t) = noColumns
 columnsIn (answered v t) = readingColumns v
 columnsIn (visited v) = noColumns
+columnsIn (reported n t) = noColumns
 
--- any call's answer; a refused one leaves the transaction that there was, a begin too
-abbrev pub toPerformed : Transaction → Result Answer → Performed
-toPerformed t (refused n) = record { refusal = n; reply = 0; columns = noColumns; transaction = t }
-toPerformed t (made a w) = record { refusal = 0; reply = replyIn a; columns = columnsIn a; transaction = heldAfter t a }
+-- a refused call leaves the transaction that there was, a begin too
+abbrev pub performedNot : ℕ → Transaction → Performed
+performedNot n t = record { refusal = n; reply = 0; columns = noColumns; transaction = t }
+
+-- what is asked, answered; its effect isn't looked at
+abbrev pub toPerformed : {E : Type 0} → Transaction → Response Answer E → Performed
+toPerformed t (refused n) = performedNot n t
+toPerformed t (made a e) = record { refusal = 0; reply = replyIn a; columns = columnsIn a; transaction = heldAfter t a }
+
+-- a close, answered: "reports how many atomic writes it made", "returns the transaction as it stands"
+abbrev pub toClosed : Transaction → Response Answer Sheets → Closed
+toClosed t (refused n) = record { refusal = n; writes = 0; transaction = t }
+toClosed t (made a s) = record { refusal = 0; writes = replyIn a; transaction = heldAfter t a }

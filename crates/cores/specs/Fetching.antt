@@ -19,7 +19,7 @@ use Rattle.call_laws.specs.Accepted.{Outcome, outcome-made, Accepted, written-n
 use Rattle.recover.specs.Recovering.{lineAt, Standing, standing, Recovered, recovered-line, unlessBusy, outcome-met}
 use Rattle.admission.specs.Admission.{admittingOpen, opened}
 use Rattle.cores.specs.declared.Performed.{Performed}
-use Rattle.cores.specs.Answers.{toPerformed, performedAs}
+use Rattle.cores.specs.Answers.{toPerformed, performedNot, performedAs}
 
 -- the read of a record that is then held
 abbrev pub fetchedHeld : Record → Transaction → Performed
@@ -27,7 +27,7 @@ fetchedHeld r t = performedAs (reading (entryAs (r .key) (r .image))) (holding (
 
 -- the read of a record as its visit leaves it, by what the visit came to
 abbrev pub fetchedMet : Recovery → Record → Transaction → Performed
-fetchedMet v r t = byRecovery v (fetchedHeld r t) (fetchedHeld r t) (fetchedHeld r t) (performedAs Read-again t) (toPerformed t (refused 12))
+fetchedMet v r t = byRecovery v (fetchedHeld r t) (fetchedHeld r t) (fetchedHeld r t) (performedAs Read-again t) (performedNot 12 t)
 
 -- what a read of a new key answers, by what the visit of its line comes to
 abbrev readMet : Recovery → Record → Transaction → Answer

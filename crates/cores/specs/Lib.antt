@@ -4,5 +4,6 @@ pub mod Begins
 pub mod Putting
 pub mod Aborting
 pub mod Advancing
+pub mod Closing
 pub mod Fetching
 pub mod Visiting

@@ -13,7 +13,7 @@ use crate::refusal;
 use types::Decision;
 use types::Transaction;
 
-fn is_committed(own: Decision) -> bool
+pub fn is_committed(own: Decision) -> bool
     ensures { λ r. ⌜ r ≡ byDecision own false true false ⌝ }
 {
     match own {
@@ -44,7 +44,7 @@ fn not_aborted(own: Decision) -> bool
 }
 
 // Refusal 4: the phase has no step, or the transaction's own line forbids it.
-fn forbids(phase: u32, own: Decision) -> bool
+pub fn forbids(phase: u32, own: Decision) -> bool
     ensures { λ r. ⌜ r ≡ forbids phase own ⌝ }
 {
     match phase {

@@ -6,6 +6,7 @@ ghost use Rattle.cores.specs.Answers.{toReturned};
 pub mod abort;
 pub mod advance;
 pub mod begin;
+pub mod close;
 pub mod put;
 pub mod read;
 pub mod visit;
@@ -27,13 +28,21 @@ pub struct Visited {
     pub reply: u32,
 }
 
-// What any call answers: a refusal or 0, what a read (0 absent, 1 a value, 2 again) or a visit came to, the columns that were read, and the transaction, as it
-// came where the call is refused.
+// What any call answers: a refusal or 0, what a read (0 absent, 1 a value, 2 again) or a visit came to or how many writes a close made, the columns that were
+// read, and the transaction, as it came where the call is refused.
 #[repr(C)]
 pub struct Performed {
     pub refusal: u32,
     pub reply: u32,
     pub columns: Columns,
+    pub transaction: Transaction,
+}
+
+// What a close answers: a refusal or 0, how many writes it made, and the transaction as it stands, as it came where the call is refused.
+#[repr(C)]
+pub struct Closed {
+    pub refusal: u32,
+    pub writes: u32,
     pub transaction: Transaction,
 }
 

@@ -1,14 +1,14 @@
 // The columns of a key: as the transaction holds them, or as its line says once it was visited.
 ghost use mathlib.Core.Path.{_≡_};
 ghost use Prim.Native.Nat.{_<_};
-ghost use Rattle.model.specs.Results.{read, refused};
+ghost use Rattle.model.specs.Results.{read};
 ghost use Rattle.model.specs.Calls.{result};
 ghost use Rattle.model.specs.ByteCalls.{sheetsOf};
 ghost use Rattle.model.specs.Transactions as model;
 ghost use Rattle.transactions.specs.Held.{entryAt};
 ghost use Rattle.call_laws.specs.Accepted.{Accepted, Outcome};
 ghost use Rattle.recover.specs.Recovering.{lineAt};
-ghost use Rattle.cores.specs.Answers.{toPerformed, performedAs};
+ghost use Rattle.cores.specs.Answers.{toPerformed, performedNot, performedAs};
 ghost use Rattle.cores.specs.Fetching.{fetchedHeld, fetchedMet, ReadAt, NewRead};
 use crate::Performed;
 use types::Entry;
@@ -21,7 +21,7 @@ use types::Recovery;
 use types::Transaction;
 
 pub fn refusal(n: u32, t: Transaction) -> Performed
-    ensures { λ r. ⌜ r ≡ toPerformed t (refused n) ⌝ }
+    ensures { λ r. ⌜ r ≡ performedNot n t ⌝ }
 {
     Performed {
         refusal: n,

@@ -3,11 +3,14 @@
 ghost use mathlib.Core.Path.{_≡_};
 ghost use Rattle.model.specs.Results as model;
 ghost use Rattle.model.specs.ByteCalls.{resultOn, recordsAfter, coordinatorAfter};
+ghost use Rattle.model.specs.Operations.{responseOn, recordsLeft, coordinatorLeft};
+ghost use Rattle.model.specs.Operations as operations;
 ghost use Rattle.engine.specs.Issuing.{IssuesOn};
-ghost use Rattle.cores.specs.Answers.{toBegun, toReturned, toPerformed, toVisited};
+ghost use Rattle.cores.specs.Answers.{toBegun, toReturned, toPerformed, toClosed, toVisited};
 
 pub mod perform;
 
+use cores::Closed;
 use cores::Performed;
 use cores::Returned;
 use cores::Visited;
@@ -82,6 +85,25 @@ pub fn advance(t: Transaction, clock: u32, records: &mut [u8], coordinator: &mut
         return cores::refusal(checked, t);
     }
     cores::advance::advance(t, clock, records, coordinator)
+}
+
+// Steps up to done, or up to one that would write beyond the limit. One check serves them all.
+pub fn close(
+    t: Transaction,
+    clock: u32,
+    limit: u32,
+    records: &mut [u8],
+    coordinator: &mut [u8],
+) -> Closed
+    ensures answer { λ r. ⌜ r ≡ toClosed t (responseOn (operations.close t clock limit) (now (records .entry)) (now (coordinator .entry))) ⌝ }
+    ensures lines { λ r. ⌜ now (records .exit) ≡ recordsLeft (now (records .entry)) (responseOn (operations.close t clock limit) (now (records .entry)) (now (coordinator .entry))) ⌝ }
+    ensures decisions { λ r. ⌜ now (coordinator .exit) ≡ coordinatorLeft (now (coordinator .entry)) (responseOn (operations.close t clock limit) (now (records .entry)) (now (coordinator .entry))) ⌝ }
+{
+    let checked = check::check(records, coordinator);
+    if checked != 0 {
+        return cores::close::refusal(checked, t);
+    }
+    cores::close::close(t, clock, limit, records, coordinator)
 }
 
 pub fn abort(t: Transaction, records: &[u8], coordinator: &[u8]) -> Returned

@@ -1,9 +1,10 @@
 // Every call by one function: what is asked, of a transaction, on two lent sheets. A call added later is one more case of it.
 ghost use mathlib.Core.Path.{_≡_};
-ghost use Rattle.model.specs.ByteCalls.{resultOn, recordsAfter, coordinatorAfter};
-ghost use Rattle.model.specs.Requests.{callOf};
+ghost use Rattle.model.specs.Operations.{responseOn, recordsLeft, coordinatorLeft};
+ghost use Rattle.model.specs.Requests.{operationOf};
 ghost use Rattle.cores.specs.Answers.{toPerformed};
-ghost use Rattle.engine.specs.Performing.{ofReturned, ofBegun, ofVisited};
+ghost use Rattle.engine.specs.Performing.{ofReturned, ofBegun, ofVisited, ofClosed};
+use cores::Closed;
 use cores::Performed;
 use cores::Returned;
 use cores::Visited;
@@ -49,15 +50,28 @@ fn of_visited(t: Transaction, r: Visited) -> Performed
     }
 }
 
+// The writes made are what a close replies.
+fn of_closed(r: Closed) -> Performed
+    ensures { λ p. ⌜ p ≡ ofClosed r ⌝ }
+{
+    let transaction = r.transaction;
+    Performed {
+        refusal: r.refusal,
+        reply: r.writes,
+        columns: NO_COLUMNS,
+        transaction,
+    }
+}
+
 pub fn perform(
     request: Request,
     t: Transaction,
     records: &mut [u8],
     coordinator: &mut [u8],
 ) -> Performed
-    ensures answer { λ r. ⌜ r ≡ toPerformed t (resultOn (callOf request t) (now (records .entry)) (now (coordinator .entry))) ⌝ }
-    ensures lines { λ r. ⌜ now (records .exit) ≡ recordsAfter (now (records .entry)) (now (coordinator .entry)) (resultOn (callOf request t) (now (records .entry)) (now (coordinator .entry))) ⌝ }
-    ensures decisions { λ r. ⌜ now (coordinator .exit) ≡ coordinatorAfter (now (records .entry)) (now (coordinator .entry)) (resultOn (callOf request t) (now (records .entry)) (now (coordinator .entry))) ⌝ }
+    ensures answer { λ r. ⌜ r ≡ toPerformed t (responseOn (operationOf request t) (now (records .entry)) (now (coordinator .entry))) ⌝ }
+    ensures lines { λ r. ⌜ now (records .exit) ≡ recordsLeft (now (records .entry)) (responseOn (operationOf request t) (now (records .entry)) (now (coordinator .entry))) ⌝ }
+    ensures decisions { λ r. ⌜ now (coordinator .exit) ≡ coordinatorLeft (now (coordinator .entry)) (responseOn (operationOf request t) (now (records .entry)) (now (coordinator .entry))) ⌝ }
 {
     match request {
         Request::Begin(serializable) => {
@@ -71,6 +85,9 @@ pub fn perform(
         Request::Abort => of_returned(crate::abort(t, records, coordinator)),
         Request::Visit(key, clock) => {
             of_visited(t, crate::visit(key, clock, records, coordinator))
+        }
+        Request::Close(clock, limit) => {
+            of_closed(crate::close(t, clock, limit, records, coordinator))
         }
     }
 }

@@ -5,7 +5,7 @@ use Rattle.model.specs.Coordinator.{coordinatorOf, coordinatorText}
 use Rattle.model.specs.Refusals.{Condition}
 use Rattle.model.specs.SheetCalls.{checkConditions}
 use Rattle.model.specs.Writes.{Sheets, apply}
-use Rattle.model.specs.Results.{Call, Answer, Result, refused, made, unless}
+use Rattle.model.specs.Results.{Call, Answer, Response, Result, refused, made, unless}
 use Rattle.model.specs.Conditions.{conditions}
 use Rattle.model.specs.Calls.{result}
 
@@ -18,7 +18,7 @@ unfoldable pub allConditions : Call → List ℕ → List ℕ → List Condition
 allConditions call rs cs = checkConditions rs cs ++ conditions call (sheetsOf rs cs)
 
 -- a call on the bytes of two sheets
-abbrev pub onSheets : {A : Type 0} → List ℕ → List ℕ → (Sheets → Result A) → Result A
+abbrev pub onSheets : {A E : Type 0} → List ℕ → List ℕ → (Sheets → Response A E) → Response A E
 onSheets rs cs call = unless (checkConditions rs cs) (call (sheetsOf rs cs))
 
 unfoldable pub resultOn : Call → List ℕ → List ℕ → Result Answer

@@ -7,7 +7,7 @@ use Rattle.model.specs.Records.{recordIn, noImage}
 use Rattle.model.specs.Transactions.{noEntry, entryAs, openPhase, preparePhase, decidePhase, finishPhase, undoPhase}
 use Rattle.model.specs.Groups.{groupCount}
 use Rattle.model.specs.Images.{lineExpired}
-use Rattle.model.specs.Results.{advance, Answer, turnedAway, returned, answered, visited, Result, answerOf}
+use Rattle.model.specs.Results.{advance, Answer, turnedAway, returned, answered, visited, reported, Result, answerOf}
 use Rattle.model.specs.ByteCalls.{resultOn, recordsAfter, coordinatorAfter}
 use Rattle.model.specs.Visitor.{visitorOutput}
 use Rattle.lists.specs.Bytes as Bytes
@@ -113,6 +113,7 @@ told (turnedAway n) = n ∷ []
 told (returned t) = t .phase ∷ t .place ∷ t .verdict ∷ []
 told (answered v t) = []
 told (visited v) = []
+told (reported n t) = []
 
 abbrev pub advanced : Transaction → List ℕ → List ℕ → Result Answer
 advanced t line own = resultOn (advance t 7000) (text (line ∷ [])) (coordinatorWith own)

@@ -5,7 +5,8 @@ use Rattle.model.specs.Types.{Key, Transaction, Request}
 use Rattle.types.specs.declared.Request.the-variants as asked
 use Rattle.model.specs.Results.{begin, visit}
 use Rattle.model.specs.Calls.{newTransaction}
-use Rattle.model.specs.CallByPlace.{named, resultAtOn, listAfter}
+use Rattle.model.specs.Operations.{once}
+use Rattle.model.specs.CallByPlace.{named, responseAtOn, listAfter}
 use Rattle.model.specs.ByteHistories.{Bytes}
 use Rattle.model.specs.Turns.{Turn, single, byPlace, turnAfterOn, turnsLeft}
 
@@ -40,13 +41,13 @@ withList client list lists other = cond (eqb other client) list (lists other)
 unfoldable pub turnsIn : Act → World → List Turn
 turnsIn (asks client place q) w = byPlace (w .lists client) place q ∷ []
 turnsIn (loses client size) w = []
-turnsIn (visits k now) w = single (visit k now) ∷ []
-turnsIn (begins b) w = single (begin b) ∷ []
+turnsIn (visits k now) w = single (once (visit k now)) ∷ []
+turnsIn (begins b) w = single (once (begin b)) ∷ []
 
 unfoldable pub listsAfter : Act → World → ℕ → List Transaction
 listsAfter (asks client place q) w =
     withList client
-    (listAfter (w .lists client) place (resultAtOn (w .lists client) place q (w .bytes .records) (w .bytes .coordinator)))
+    (listAfter (w .lists client) place (responseAtOn (w .lists client) place q (w .bytes .records) (w .bytes .coordinator)))
     (w .lists)
 listsAfter (loses client size) w = withList client (unused size) (w .lists)
 listsAfter (visits k now) w = w .lists
@@ -68,6 +69,7 @@ clockAsked (asked.Put k c) = 0
 clockAsked (asked.Advance now) = now
 clockAsked asked.Abort = 0
 clockAsked (asked.Visit k now) = now
+clockAsked (asked.Close now limit) = now
 
 -- readings of the clock are numbers below 2^32, as every u32 is
 unfoldable pub clockFits : Act → Bool

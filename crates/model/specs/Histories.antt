@@ -2,8 +2,8 @@
 use Rattle.lists.specs.Basics.{_≡_, ℕ, _^_, _<_, Bool, false, _||_, List, [], _∷_, Option, none, some, _⊎_}
 use Rattle.model.specs.Types.{Transaction}
 use Rattle.model.specs.Writes.{Sheets, Write, isOnePhase, apply}
-use Rattle.model.specs.Results.{Call, begin, read, put, advance, abort, visit, Answer, turnedAway, returned, answered, visited, returns, writeOf}
-use Rattle.model.specs.Results.{answerOf}
+use Rattle.model.specs.Results.{Call, begin, read, put, advance, abort, visit, Answer, turnedAway, returned, answered, visited, reported}
+use Rattle.model.specs.Results.{returns, writeOf, answerOf}
 use Rattle.model.specs.Calls.{result}
 
 -- a call made, and its answer
@@ -38,6 +38,7 @@ takenBy c (turnedAway n) = none
 takenBy c (returned t) = given c
 takenBy c (answered v t) = given c
 takenBy c (visited v) = given c
+takenBy c (reported n t) = given c
 
 abbrev pub taken : Event → Option Transaction
 taken e = takenBy (e .call) (e .answer)

@@ -18,8 +18,6 @@ pub mod Conditions
 pub mod Steps
 pub mod Calls
 pub mod ByteCalls
-pub mod Requests
-pub mod CallByPlace
 pub mod Histories
 pub mod SequentialModel
 pub mod RecoveryPass
@@ -27,6 +25,11 @@ pub mod ByteHistories
 pub mod AtomicWrites
 pub mod Changes
 pub mod Closing
+pub mod Operations
+pub mod Closes
+pub mod Greatest
+pub mod Requests
+pub mod CallByPlace
 pub mod Turns
 pub mod Clients
 pub mod Recovered

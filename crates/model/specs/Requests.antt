@@ -1,12 +1,14 @@
--- What is asked of the engine, and the call that it is of a transaction. Begin and visit take none.
+-- What is asked of the engine, and the operation that it is of a transaction. Begin and visit take none.
 use Rattle.model.specs.Types.{Transaction, Request}
 use Rattle.types.specs.declared.Request.the-variants as asked
-use Rattle.model.specs.Results.{Call, begin, read, put, advance, abort, visit}
+use Rattle.model.specs.Results.{begin, read, put, advance, abort, visit}
+use Rattle.model.specs.Operations.{Operation, once, close}
 
-unfoldable pub callOf : Request → Transaction → Call
-callOf (asked.Begin b) t = begin b
-callOf (asked.Read k now) t = read t k now
-callOf (asked.Put k c) t = put t k c
-callOf (asked.Advance now) t = advance t now
-callOf asked.Abort t = abort t
-callOf (asked.Visit k now) t = visit k now
+unfoldable pub operationOf : Request → Transaction → Operation
+operationOf (asked.Begin b) t = once (begin b)
+operationOf (asked.Read k now) t = once (read t k now)
+operationOf (asked.Put k c) t = once (put t k c)
+operationOf (asked.Advance now) t = once (advance t now)
+operationOf asked.Abort t = once (abort t)
+operationOf (asked.Visit k now) t = once (visit k now)
+operationOf (asked.Close now limit) t = close t now limit

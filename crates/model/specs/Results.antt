@@ -19,6 +19,8 @@ pub data Answer : Type 0 where
   returned : Transaction → Answer
   answered : Reading → Transaction → Answer
   visited : Recovery → Answer
+  -- of a close: how many writes it made, and the transaction as it stands
+  reported : ℕ → Transaction → Answer
 
 -- the number that an answer turns away with, 0 where it doesn't
 abbrev pub refusalIn : Answer → ℕ
@@ -26,6 +28,7 @@ refusalIn (turnedAway n) = n
 refusalIn (returned t) = 0
 refusalIn (answered v t) = 0
 refusalIn (visited v) = 0
+refusalIn (reported n t) = 0
 
 -- the transaction that an accepted call returns, begin's included; "a transaction that a refusal leaves unchanged isn't returned by it"
 unfoldable pub returns : Answer → Option Transaction
@@ -33,14 +36,27 @@ returns (turnedAway n) = none
 returns (returned t) = some t
 returns (answered v t) = some t
 returns (visited v) = none
+returns (reported n t) = some t
 
--- A result: refused with a number, or an answer and what is written.
-pub data Result (A : Type 0) : Type 0 where
-  refused : ℕ → Result A
-  made : A → Write → Result A
+-- how many writes a close reports, 0 of any other answer
+abbrev pub reportIn : Answer → ℕ
+reportIn (turnedAway n) = 0
+reportIn (returned t) = 0
+reportIn (answered v t) = 0
+reportIn (visited v) = 0
+reportIn (reported n t) = n
+
+-- What is asked comes to: refused with a number, or an answer and an effect.
+pub data Response (A E : Type 0) : Type 0 where
+  refused : ℕ → Response A E
+  made : A → E → Response A E
+
+-- A result: the effect is what is written.
+abbrev pub Result : Type 0 → Type 0
+Result A = Response A Write
 
 -- refused by the first condition that holds, if one does
-abbrev pub unless : {A : Type 0} → List Condition → Result A → Result A
+abbrev pub unless : {A E : Type 0} → List Condition → Response A E → Response A E
 unless cs r = cond (eqb (refusalOf cs) 0) r (refused (refusalOf cs))
 
 -- what a result writes: a refused call nothing
@@ -48,8 +64,8 @@ abbrev pub writeOf : {A : Type 0} → Result A → Write
 writeOf (refused n) = nothing
 writeOf (made a w) = w
 
--- what a result says to the client
-abbrev pub answerOf : Result Answer → Answer
+-- what is said to the client
+abbrev pub answerOf : {E : Type 0} → Response Answer E → Answer
 answerOf (refused n) = turnedAway n
 answerOf (made a w) = a
 
@@ -59,3 +75,4 @@ heldAfter t (turnedAway n) = t
 heldAfter t (returned u) = u
 heldAfter t (answered v u) = u
 heldAfter t (visited v) = t
+heldAfter t (reported n u) = u

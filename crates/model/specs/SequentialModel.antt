@@ -6,7 +6,7 @@ use Rattle.model.specs.Types.{Key, Record, Transaction}
 use Rattle.model.specs.Records.{noImage, sameKey, lineOf}
 use Rattle.model.specs.Images.{Change, writtenImage}
 use Rattle.model.specs.Transactions.{noVerdict, committedVerdict}
-use Rattle.model.specs.Results.{Call, begin, read, put, advance, abort, visit, Answer, turnedAway, returned, answered, visited}
+use Rattle.model.specs.Results.{Call, begin, read, put, advance, abort, visit, Answer, turnedAway, returned, answered, visited, reported}
 use Rattle.model.specs.Histories.{Event}
 
 -- what is to be done to the line of each key
@@ -74,6 +74,7 @@ modelStep e m = byAnswer (e .answer)
     byAnswer (returned t) = modelCall (e .call) (some t) m
     byAnswer (answered v t) = modelCall (e .call) (some t) m
     byAnswer (visited v) = m
+    byAnswer (reported n t) = modelCall (e .call) (some t) m
 
 -- the model after events, the last one first
 unfoldable pub modelAfter : List Event → Model → Model

@@ -1,56 +1,69 @@
--- Turns of a history, over decoded sheets and over bytes: a call, or one that comes to calls. Document 01, "The cut-off rule": "advance (by place too,
--- taking and returning the one named)". To legality and to the sequential model a call by place is the call of the one named.
+-- Turns of a history, over decoded sheets and over bytes: an operation, or one by place. Document 01, "The cut-off rule": "advance (by place too, taking and
+-- returning the one named)"; document 02, note 1: the cut-off rule "treats each write inside the call as a point where the station may stop, meaning the
+-- call with that limit", so that a crash falls between two turns.
 use Rattle.lists.specs.Basics.{ℕ, Bool, false, _||_, cond, List, [], _∷_, _++_, length}
 use Rattle.model.specs.Types.{Transaction, Request}
-use Rattle.model.specs.Writes.{Sheets, isOnePhase, apply}
-use Rattle.model.specs.Results.{Call, writeOf, answerOf}
-use Rattle.model.specs.CallByPlace.{listed, callAt, resultAt, resultAtOn}
-use Rattle.model.specs.Histories.{Event, answer, written, after, Permitted, event}
-use Rattle.model.specs.ByteHistories.{Bytes, saying, bytesAfter, answerOn, afterOn}
+use Rattle.model.specs.Writes.{Sheets}
+use Rattle.model.specs.Results.{Call, Answer, Response, answerOf}
+use Rattle.model.specs.Histories.{Event, written, after, Permitted, onePhaseIn}
+use Rattle.model.specs.ByteHistories.{Bytes, saying}
+use Rattle.model.specs.Operations.{Operation, writesOnce, standsFor, response, sheetsLeft, callsOf, responseOn, bytesLeft}
+use Rattle.model.specs.CallByPlace.{listed, operationAt, callAt, responseAt, responseAtOn}
 
 pub data Turn : Type 0 where
-  single : Call → Turn
+  single : Operation → Turn
   -- of a client's list of transactions the one at a place, and what is asked of it
   byPlace : List Transaction → ℕ → Request → Turn
 
+-- what a turn is to legality and the sequential model
+unfoldable pub turnCall : Turn → Call
+turnCall (single o) = standsFor o
+turnCall (byPlace list place q) = callAt list place q
+
+-- it writes at most once, whatever the sheets
+unfoldable pub turnWritesOnce : Turn → Bool
+turnWritesOnce (single o) = writesOnce o
+turnWritesOnce (byPlace list place q) = writesOnce (operationAt list place q)
+
 -- Over decoded sheets.
+
+unfoldable pub turnResponse : Turn → Sheets → Response Answer Sheets
+turnResponse (single o) s = response o s
+turnResponse (byPlace list place q) s = responseAt list place q s
 
 -- the turn made with these sheets, and its answer
 unfoldable pub turnEvent : Turn → Sheets → Event
-turnEvent (single c) s = event answer after c s
-turnEvent (byPlace list place q) s =
-    record { call = callAt list place q; answer = answerOf (resultAt list place q s) }
+turnEvent x s = record { call = turnCall x; answer = answerOf (turnResponse x s) }
 
 -- the sheets as the turn leaves them
 unfoldable pub turnAfter : Turn → Sheets → Sheets
-turnAfter (single c) s = after c s
-turnAfter (byPlace list place q) s = apply (writeOf (resultAt list place q s)) s
-
--- the turn makes the one-phase write of a number
-unfoldable pub turnOnePhase : ℕ → Turn → Sheets → Bool
-turnOnePhase n (single c) s = isOnePhase n (written c s)
-turnOnePhase n (byPlace list place q) s = isOnePhase n (writeOf (resultAt list place q s))
+turnAfter x s = sheetsLeft s (turnResponse x s)
 
 -- the calls that a turn comes to: one by place none where the list has no such place
 unfoldable pub comesTo : Turn → Sheets → List Call
-comesTo (single c) s = c ∷ []
-comesTo (byPlace list place q) s = cond (listed (length list) place) (callAt list place q ∷ []) []
+comesTo (single o) s = callsOf o s
+comesTo (byPlace list place q) s = cond (listed (length list) place) (callsOf (operationAt list place q) s) []
 
--- those of a history
+-- the turn makes the one-phase write of a number
+unfoldable pub turnOnePhase : ℕ → Turn → Sheets → Bool
+turnOnePhase n x s = onePhaseIn written after n (comesTo x s) s
+
+-- the calls that a history comes to
 unfoldable pub expanded : List Turn → Sheets → List Call
 expanded [] s = []
 expanded (x ∷ xs) s = comesTo x s ++ expanded xs (turnAfter x s)
 
 -- Over bytes.
 
+unfoldable pub turnResponseOn : Turn → Bytes → Response Answer Sheets
+turnResponseOn (single o) b = responseOn o (b .records) (b .coordinator)
+turnResponseOn (byPlace list place q) b = responseAtOn list place q (b .records) (b .coordinator)
+
 unfoldable pub turnEventOn : Turn → Bytes → Event
-turnEventOn (single c) b = event answerOn afterOn c b
-turnEventOn (byPlace list place q) b =
-    record { call = callAt list place q; answer = answerOf (resultAtOn list place q (b .records) (b .coordinator)) }
+turnEventOn x b = record { call = turnCall x; answer = answerOf (turnResponseOn x b) }
 
 unfoldable pub turnAfterOn : Turn → Bytes → Bytes
-turnAfterOn (single c) b = afterOn c b
-turnAfterOn (byPlace list place q) b = bytesAfter b (resultAtOn list place q (b .records) (b .coordinator))
+turnAfterOn x b = bytesLeft b (turnResponseOn x b)
 
 abbrev pub turnOnePhaseOn : ℕ → Turn → Bytes → Bool
 turnOnePhaseOn n x b = turnOnePhase n x (saying b)

@@ -14,8 +14,5 @@ pub mod Pass
 pub mod Theorem
 pub mod Commits
 pub mod PassExists
-pub mod Turns
-pub mod Lift
-pub mod Bytes
 pub mod NextReader
 pub mod Corollaries

@@ -7,7 +7,7 @@ use Rattle.decimal.specs.declared.Scan.the-variants.{Blank, Number, Wrong}
 use Rattle.decimal.specs.Field.{figure}
 use Rattle.script.specs.declared.scan.Command.{Command}
 use Rattle.script.specs.declared.scan.Kind.{Kind}
-use Rattle.script.specs.declared.scan.Kind.the-variants.{Check, Begin, Read, Put, Advance, Abort, Visit, Lookup, Line, Show, Set, Entry, Sheets, BadLine}
+use Rattle.script.specs.declared.scan.Kind.the-variants.{Check, Begin, Read, Put, Advance, Close, Abort, Visit, Lookup, Line, Show, Set, Entry, Sheets, BadLine}
 use Rattle.script.specs.declared.scan.Numbers.{Numbers}
 
 -- The words.
@@ -28,10 +28,14 @@ words (b ∷ s) = cond (eqb b 32) ([] ∷ words s) (longer b (words s))
 unfoldable pub firstNamed : Bool → Kind → Bool → Kind → Bool → Kind → Bool → Kind → Kind → Kind
 firstNamed a k b l c m d n other = cond a k (cond b l (cond c m (cond d n other)))
 
+-- the last call on a slot
+unfoldable pub closeKind : List ℕ → Kind
+closeKind w = cond (eqList w (bytes "close")) Close BadLine
+
 -- the other calls on a slot
 unfoldable pub otherSlotKind : List ℕ → Kind
 otherSlotKind w =
-    firstNamed (eqList w (bytes "abort")) Abort (eqList w (bytes "show")) Show (eqList w (bytes "set")) Set (eqList w (bytes "entry")) Entry BadLine
+    firstNamed (eqList w (bytes "abort")) Abort (eqList w (bytes "show")) Show (eqList w (bytes "set")) Set (eqList w (bytes "entry")) Entry (closeKind w)
 
 -- a call on a slot
 unfoldable pub slotKind : List ℕ → Kind
@@ -75,6 +79,7 @@ arity Begin = 2
 arity Read = 7
 arity Put = 8
 arity Advance = 2
+arity Close = 3
 arity Abort = 1
 arity Visit = 6
 arity Lookup = 5

@@ -37,6 +37,22 @@ pub fn answer(form: Form, count: usize, a: u32, b: u32, c: u32) -> Reply
     }
 }
 
+// The reply of a close: how many writes it made, and where its transaction stands.
+pub fn report(writes: u32, phase: u32, place: u32, verdict: u32) -> Reply
+    ensures { λ r. ⌜ r .count ≤ 102 ⌝ }
+{
+    let mut numbers = [0u32; 102];
+    numbers[0] = writes;
+    numbers[1] = phase;
+    numbers[2] = place;
+    numbers[3] = verdict;
+    Reply {
+        form: Form::Made,
+        count: 4,
+        numbers,
+    }
+}
+
 pub fn bad_line() -> Reply
     ensures { λ r. ⌜ r .count ≤ 102 ⌝ }
 {

@@ -2,7 +2,7 @@
 ghost use mathlib.Core.Path.{_≡_};
 ghost use Prim.Native.Nat.{_+_, _≤_};
 ghost use lib.ListN.{length, drop};
-ghost use Rattle.script.specs.Lines.{otherSlotKind, slotKind, callKind, kindOf};
+ghost use Rattle.script.specs.Lines.{closeKind, otherSlotKind, slotKind, callKind, kindOf};
 ghost use Rattle.script.specs.Lines.{noNumbers, withWord, withWords, wordsAfter, badCommand, called, said, upTo};
 ghost use Rattle.script.specs.Lines as model;
 use decimal::Scan;
@@ -14,6 +14,7 @@ pub enum Kind {
     Read,
     Put,
     Advance,
+    Close,
     Abort,
     Visit,
     Lookup,
@@ -55,6 +56,16 @@ pub fn end_of(s: &[u8], at: usize, mark: u8) -> usize
     i
 }
 
+// The last call on a slot.
+fn close_kind(word: &[u8]) -> Kind
+    ensures { λ r. ⌜ r ≡ closeKind (now (word .entry)) ⌝ }
+{
+    if decimal::same(word, b"close") {
+        return Kind::Close;
+    }
+    Kind::BadLine
+}
+
 // Another call on a slot.
 fn other_slot_kind(word: &[u8]) -> Kind
     ensures { λ r. ⌜ r ≡ otherSlotKind (now (word .entry)) ⌝ }
@@ -71,7 +82,7 @@ fn other_slot_kind(word: &[u8]) -> Kind
     if decimal::same(word, b"entry") {
         return Kind::Entry;
     }
-    Kind::BadLine
+    close_kind(word)
 }
 
 // A call on a slot.
@@ -132,6 +143,7 @@ fn arity(kind: Kind) -> usize
         Kind::Read => 7,
         Kind::Put => 8,
         Kind::Advance => 2,
+        Kind::Close => 3,
         Kind::Abort => 1,
         Kind::Visit => 6,
         Kind::Lookup => 5,

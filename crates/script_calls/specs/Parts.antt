@@ -4,7 +4,7 @@ use Rattle.model.specs.Types.{Key}
 use Rattle.model.specs.SheetCalls.{lookedUp}
 use Rattle.script.specs.declared.scan.Command.{Command}
 use Rattle.script.specs.declared.scan.Kind.{Kind}
-use Rattle.script.specs.declared.scan.Kind.the-variants.{Check, Begin, Read, Put, Advance, Abort, Visit, Lookup, Line, Show, Set, Entry, Sheets, BadLine}
+use Rattle.script.specs.declared.scan.Kind.the-variants.{Check, Begin, Read, Put, Advance, Close, Abort, Visit, Lookup, Line, Show, Set, Entry, Sheets, BadLine}
 
 -- the key whose five numbers begin at number i
 abbrev pub keyFrom : List ℕ → ℕ → Key
@@ -23,6 +23,7 @@ asksLine Begin = false
 asksLine Read = false
 asksLine Put = false
 asksLine Advance = false
+asksLine Close = false
 asksLine Abort = false
 asksLine Visit = false
 asksLine Lookup = false

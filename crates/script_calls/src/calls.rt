@@ -71,6 +71,7 @@ fn asks_line(kind: Kind) -> bool
         Kind::Read => false,
         Kind::Put => false,
         Kind::Advance => false,
+        Kind::Close => false,
         Kind::Abort => false,
         Kind::Visit => false,
         Kind::Lookup => false,
@@ -108,6 +109,7 @@ fn request(kind: Kind, n: [u32; 14]) -> Request {
             Request::Put(key_at(n, 1), columns)
         }
         Kind::Advance => Request::Advance(n[1]),
+        Kind::Close => Request::Close(n[1], n[2]),
         Kind::Visit => Request::Visit(key_at(n, 0), n[5]),
         _ => Request::Abort,
     }
@@ -143,6 +145,7 @@ fn replied(kind: Kind, performed: Performed) -> Reply
         Kind::Begin => reply::answer(Form::Made, 1, t.number, 0, 0),
         Kind::Read => reading(performed.reply, columns),
         Kind::Advance => reply::answer(Form::Made, 3, t.phase, t.place, t.verdict),
+        Kind::Close => reply::report(performed.reply, t.phase, t.place, t.verdict),
         Kind::Visit => reply::answer(visit_form(performed.reply), 0, 0, 0, 0),
         _ => ok(),
     }
@@ -308,7 +311,7 @@ pub fn call(c: Command, t: Transaction, records: &mut [u8], coordinator: &mut [u
     let n = c.numbers;
     match kind {
         Kind::Begin => begin(n, t, records, coordinator),
-        Kind::Read | Kind::Put | Kind::Advance | Kind::Abort => {
+        Kind::Read | Kind::Put | Kind::Advance | Kind::Close | Kind::Abort => {
             perform(kind, n, t, records, coordinator)
         }
         Kind::Show => show(t),

@@ -6,7 +6,7 @@ use Rattle.model.specs.Types.{Key, Transaction, Reading}
 use Rattle.types.specs.declared.Reading.the-variants.{Again}
 use Rattle.model.specs.Transactions.{held, reading}
 use Rattle.model.specs.Writes.{Sheets, Write}
-use Rattle.model.specs.Results.{Call, begin, read, put, advance, abort, visit, Answer, turnedAway, returned, answered, visited}
+use Rattle.model.specs.Results.{Call, begin, read, put, advance, abort, visit, Answer, turnedAway, returned, answered, visited, reported}
 use Rattle.model.specs.Conditions.{isNew, heldEntry}
 use Rattle.model.specs.Histories.{Event, Available}
 use Rattle.model.specs.SequentialModel.{Model}
@@ -33,6 +33,7 @@ ToldRead es t k (turnedAway n) = Unit {0}
 ToldRead es t k (returned t′) = Unit {0}
 ToldRead es t k (answered v t′) = (v ≡ Again → ⊥) → ReadHeld es t k v t′
 ToldRead es t k (visited v) = Unit {0}
+ToldRead es t k (reported n t′) = Unit {0}
 
 abbrev pub Told : List Event → Call → Answer → Type 0
 Told es (begin b) a = Unit {0}
@@ -58,6 +59,7 @@ module _ (es es′ : List Event) (still : (t′ : Transaction) (k : Key) → Sti
   read-later t k (returned t′) h = tt
   read-later t k (answered v t′) h = λ d. let r = h d in record { number = r .number; answer = r .answer; holds = still t′ k (r .holds) }
   read-later t k (visited v) h = tt
+  read-later t k (reported n t′) h = tt
 
   told-later : (c : Call) (a : Answer) → Told es c a → Told es′ c a
   told-later (begin b) a h = tt

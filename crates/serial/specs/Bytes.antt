@@ -14,9 +14,9 @@ use Rattle.model.specs.Turns.{Turn, turnEventOn, turnAfterOn, turnsLeft, expand
 use Rattle.model.specs.Recovered.{modelOn, bytesRecovered}
 use Rattle.model.specs.SerialOrder.{callsOn, begunChecked, serialOrder, serialLine, Serializable}
 use Rattle.call_laws.specs.Lifting.{passing-good, same-answer, bytes-stay-passing}
-use Rattle.recovery.specs.Turns.{Reduced}
-use Rattle.recovery.specs.Lift.{Lifted, lift}
-use Rattle.recovery.specs.Bytes.{bytesKind, demand-3}
+use Rattle.turns.specs.Reduction.{Reduced}
+use Rattle.turns.specs.Lift.{Lifted, lift}
+use Rattle.turns.specs.Bytes.{bytesKind, demand-3}
 use Rattle.serial.specs.Theorem.{turns-reduced, turns-serializable}
 
 -- legal calls on what bytes say, made on the bytes

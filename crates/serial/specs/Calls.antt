@@ -9,7 +9,7 @@ use Rattle.model.specs.Records.{lineOf, sameKey, byFound}
 use Rattle.model.specs.Transactions.{withdrawPhase, openPhase, isSerializable, held, reading, entryAs, heldAt, noEntry, moved, withEntry, withPut}
 use Rattle.model.specs.Writes.{Sheets, Write, nothing, apply}
 use Rattle.model.specs.Visits.{ownerDecision, ownerExpired, meeting, isAgain, isBusy, recovered, recoveryWrite}
-use Rattle.model.specs.Results.{Call, begin, read, put, advance, abort, visit, Result, refused, made, writeOf, Answer, returned, answered, returns, answerOf}
+use Rattle.model.specs.Results.{Call, begin, read, put, advance, abort, visit, Result, refused, made, writeOf, Answer, turnedAway, returned, answered, returns, answerOf}
 use Rattle.model.specs.Conditions.{isNew, heldEntry, busy, cannotAdvance, conditions}
 use Rattle.model.specs.Steps.{step}
 use Rattle.model.specs.Calls.{newTransaction, readNew, holding, afterPut, outcome, result}
@@ -87,7 +87,7 @@ module _ {first : Key → Record} {s : Sheets} {es : List Event} {m : Model} {ps
       (record { before = f; away = λ j. away-nothing; takes = refl; gives = λ t q. absurd (Option·none-ne-some t q); lines = refl; committed = refl })
       (told-refused c)
     where
-      told-refused : (c : Call) → Told (eventOf c (refused n) ∷ es) c (answerOf (refused n))
+      told-refused : (c : Call) → Told (eventOf c (refused n) ∷ es) c (turnedAway n)
       told-refused (begin b) = tt
       told-refused (read t k now) = tt
       told-refused (put t k x) = tt

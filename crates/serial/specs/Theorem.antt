@@ -15,7 +15,7 @@ use Rattle.model.specs.Turns.{Turn, turnEvent, turnAfter, expanded, LegalTurns}
 use Rattle.model.specs.SerialOrder.{begunChecked, getsPosition, placedBy, serialOrder, placedBefore, serialLine, Saw, Serializable}
 use Rattle.recovery.specs.History.{first-inv, history-kept}
 use Rattle.recovery.specs.Theorem.{modelOf}
-use Rattle.recovery.specs.Turns.{modelOfTurns, Reduced, reduce}
+use Rattle.turns.specs.Reduction.{modelOfTurns, Reduced, reduce}
 use Rattle.serial.specs.Runs.{Placing, wrote, runLine}
 use Rattle.serial.specs.Order.{EachStands, one-more}
 use Rattle.serial.specs.InDoubt.{Facts, facts, InDoubt}

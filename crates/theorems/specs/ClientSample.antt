@@ -1,4 +1,4 @@
--- Acts of two clients, so that the hypotheses of what is proved of clients are met: one commits two groups and crashes with both lines still PREPARED, and
+-- Acts of two clients, so that the hypotheses of what is proved of clients are met: one closes an order of two groups, crashes after the third write with both lines still PREPARED, and
 -- the other has read one of them and is turned back. That the history is legal follows from the law; what it leaves follows from the definitions by computation.
 use Rattle.lists.specs.Basics.{_≡_, refl, ap, subst, _∙_, ℕ, true, false, List, [], _∷_, map, all, bytes}
 use Rattle.model.specs.Types.{Key}
@@ -7,6 +7,7 @@ use Rattle.model.specs.Lines.{text}
 use Rattle.model.specs.Records.{records}
 use Rattle.model.specs.CallByPlace.{listAfter}
 use Rattle.model.specs.Results.{refusalIn}
+use Rattle.model.specs.Closing.{changes, turn, closing, closeBarred, closeConditions}
 use Rattle.model.specs.Histories.{Event, leftBy}
 use Rattle.model.specs.SequentialModel.{firstModel, modelBegin, modelPut, modelCommit, modelCall, modelStep, modelAfter}
 use Rattle.model.specs.RecoveryPass.{Visit, visitCall, nonePrepared, Closing}
@@ -16,7 +17,7 @@ use Rattle.model.specs.Recovered.{modelOn, bytesRecovered}
 use Rattle.model.specs.Clients.{Act, asks, loses, visits, begins, World, unused, Unused, turnsIn, listsAfter, worldAfter, turnsOf, clockAsked, clockFits}
 use Rattle.clients.specs.Clients.{unused-number, clients-legal}
 use Rattle.recovery.specs.PassExists.{recoveryPass}
-use Rattle.recovery.specs.Bytes.{recovery-pass-exists}
+use Rattle.turns.specs.Bytes.{recovery-pass-exists}
 use Rattle.theorems.specs.Tables.{keyA, keyB, columns, told}
 use Rattle.model.specs.Steps as Steps
 
@@ -75,11 +76,8 @@ clientActs =
     ∷ asks 1 1 (asked.Put keyA (columns 1 2))
     ∷ asks 0 0 (asked.Read keyB 100)
     ∷ asks 0 0 (asked.Put keyB (columns 41 8))
-    -- to prepare, both groups, the decision
-    ∷ asks 0 0 (asked.Advance 101)
-    ∷ asks 0 0 (asked.Advance 101)
-    ∷ asks 0 0 (asked.Advance 102)
-    ∷ asks 0 0 (asked.Advance 102)
+    -- a close that is cut off after three writes: both groups and the decision
+    ∷ asks 0 0 (asked.Close 102 3)
     -- it has lost the transaction, and is refused where it goes on as if it had not
     ∷ loses 0 2
     ∷ asks 0 0 (asked.Advance 103)
@@ -116,13 +114,13 @@ record Computed : Type 0 where
   pub unprepared : nonePrepared (records (clientWorld .bytes .records)) ≡ true
   pub fits : all clockFits clientActs ≡ true
   pub left : turnsLeft turnAfterOn clientTurns (clientWorld .bytes) ≡ lastBytes
-  pub refusals : clientRefusals ≡ 0 ∷ 0 ∷ 0 ∷ 3 ∷ 0 ∷ 0 ∷ 0 ∷ 0 ∷ 0 ∷ 0 ∷ 0 ∷ 0 ∷ 0 ∷ 0 ∷ 0 ∷ 0 ∷ 0 ∷ []
+  pub refusals : clientRefusals ≡ 0 ∷ 0 ∷ 0 ∷ 3 ∷ 0 ∷ 0 ∷ 0 ∷ 0 ∷ 0 ∷ 0 ∷ 0 ∷ 0 ∷ 0 ∷ 0 ∷ []
   pub committed : modelOn clientTurns (clientWorld .bytes) .committed ≡ 1 ∷ []
   pub visits : recoveryPass (saying lastBytes) ≡ clientVisits
   pub recovered : leftBy answerOn afterOn (map visitCall clientVisits) lastBytes ≡ clientRecovered
 
 computed : Computed
-unfolding told recoveryPass leftBy turnsLeft turnEvents turnsOf turnsIn worldAfter listsAfter listAfter clockAsked clockFits Steps.withdrawStep modelAfter modelStep modelCall modelBegin modelPut modelCommit firstModel
+unfolding told recoveryPass leftBy turnsLeft turnEvents turnsOf turnsIn worldAfter listsAfter listAfter clockAsked clockFits Steps.withdrawStep changes turn closing closeBarred closeConditions modelAfter modelStep modelCall modelBegin modelPut modelCommit firstModel
 computed = record { passes = refl; unprepared = refl; fits = refl; left = refl; refusals = refl; committed = refl; visits = refl; recovered = refl }
 
 -- The hypotheses, met.
@@ -150,7 +148,7 @@ client-closing =
 
 -- The one refusal, the bytes at the end, and the numbers that the sequential model has committed.
 
-pub client-refusals : clientRefusals ≡ 0 ∷ 0 ∷ 0 ∷ 3 ∷ 0 ∷ 0 ∷ 0 ∷ 0 ∷ 0 ∷ 0 ∷ 0 ∷ 0 ∷ 0 ∷ 0 ∷ 0 ∷ 0 ∷ 0 ∷ []
+pub client-refusals : clientRefusals ≡ 0 ∷ 0 ∷ 0 ∷ 3 ∷ 0 ∷ 0 ∷ 0 ∷ 0 ∷ 0 ∷ 0 ∷ 0 ∷ 0 ∷ 0 ∷ 0 ∷ []
 client-refusals = computed .refusals
 
 pub client-recovered : bytesRecovered clientVisits clientTurns (clientWorld .bytes) ≡ clientRecovered

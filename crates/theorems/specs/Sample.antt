@@ -11,7 +11,8 @@ use Rattle.model.specs.Transactions.{preparePhase, validatePhase, decidePhase, 
 use Rattle.model.specs.Transactions.{withEntry}
 use Rattle.model.specs.Calls.{newTransaction}
 use Rattle.model.specs.Results.{begin, read, put, advance, turnedAway, returned, answered}
-use Rattle.model.specs.Requests.{callOf}
+use Rattle.model.specs.Operations.{standsFor}
+use Rattle.model.specs.Requests.{operationOf}
 use Rattle.model.specs.Histories.{Event, leftBy}
 use Rattle.model.specs.SequentialModel.{firstModel, modelBegin, modelPut, modelCommit, modelCall, modelStep, modelAfter}
 use Rattle.model.specs.RecoveryPass.{Visit, visitCall, nonePrepared, Closing}
@@ -19,7 +20,7 @@ use Rattle.model.specs.ByteHistories.{Bytes, saying, Passing, answerOn, afterOn
 use Rattle.model.specs.Turns.{Turn, turnEventOn, turnAfterOn, turnsLeft, LegalTurns}
 use Rattle.model.specs.Recovered.{modelOn, bytesRecovered}
 use Rattle.recovery.specs.PassExists.{recoveryPass}
-use Rattle.recovery.specs.Bytes.{recovery-pass-exists}
+use Rattle.turns.specs.Bytes.{recovery-pass-exists}
 use Rattle.theorems.specs.Tables.{keyA, keyB, keyC, image, columns, Row, row, rowAt, told, LegalRows, rows-left, rows-events, rows-legal, apart, untaken}
 use Rattle.theorems.specs.Tables.{_⊗_}
 use Rattle.model.specs.Results as Results
@@ -217,7 +218,7 @@ computed = record { passes = refl; unprepared = refl; true-story = refl; visits 
 
 -- Each turn takes nothing, or a state that an earlier turn returned, and the turns since took none or one of another number.
 story-legal : LegalRows story []
-unfolding Histories.given Results.returns callOf
+unfolding Histories.given Results.returns operationOf standsFor
 story-legal =
     record { clock = tt; state = λ t e. absurd (untaken e) }
     ⊗ record { clock = tt; state = λ t e. absurd (untaken e) }
@@ -272,6 +273,6 @@ pub sample-recovered : bytesRecovered sampleVisits sampleTurns sampleBytes ≡ r
 sample-recovered = ap (leftBy answerOn afterOn (map visitCall sampleVisits)) left ∙ computed .recovered
 
 pub sample-committed : modelOn sampleTurns sampleBytes .committed ≡ 3 ∷ 2 ∷ []
-unfolding modelAfter modelStep modelCall modelBegin modelPut modelCommit firstModel callOf
+unfolding modelAfter modelStep modelCall modelBegin modelPut modelCommit firstModel operationOf standsFor
 sample-committed =
     ap (λ (es : List Event). modelAfter es (firstModel (records (sampleBytes .records))) .committed) (rows-events story sampleBytes [] (computed .true-story))

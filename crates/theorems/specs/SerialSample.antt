@@ -1,7 +1,7 @@
 -- A legal history in which every transaction is begun as checked, so that the hypotheses of serializability are met. Number 1 puts A and has seen B, number 2 has
 -- seen B and puts nothing, number 3 puts B: they count in this order, and commit in the opposite one. As in Sample the table follows from the definitions by
 -- computation, and the rest from the table.
-use Rattle.lists.specs.Basics.{_≡_, refl, ap, _∙_, ℕ, true, false, List, [], _∷_, map, inl, inr, arith, all, bytes}
+use Rattle.lists.specs.Basics.{_≡_, refl, sym, ap, ap₂, _∙_, ℕ, true, false, List, [], _∷_, map, inl, inr, arith, all, bytes}
 use Rattle.model.specs.Types.{Transaction}
 use Rattle.types.specs.declared.Reading.the-variants.{Absent, Value}
 use Rattle.model.specs.Lines.{text}
@@ -9,16 +9,18 @@ use Rattle.model.specs.Records.{noImage, records}
 use Rattle.model.specs.Transactions.{preparePhase, validatePhase, decidePhase, finishPhase, donePhase, entryAs, withPut, moved, withEntry}
 use Rattle.model.specs.Writes.{Sheets}
 use Rattle.model.specs.Calls.{newTransaction}
-use Rattle.model.specs.Results.{Call, begin, read, put, advance, turnedAway, returned, answered}
+use Rattle.model.specs.Results.{Call, begin, read, put, advance, Answer, turnedAway, returned, answered}
 use Rattle.model.specs.Histories.{Event, eventsAfter}
 use Rattle.model.specs.SequentialModel.{firstModel, modelBegin, modelPut, modelCommit, modelCall, modelStep, modelAfter}
 use Rattle.model.specs.RecoveryPass.{nonePrepared}
 use Rattle.model.specs.ByteHistories.{Bytes, saying, Passing, answerOn, afterOn}
-use Rattle.model.specs.Turns.{Turn, single, turnEventOn, turnAfterOn, turnEvents, comesTo, expanded, LegalTurns}
+use Rattle.model.specs.Operations.{once, standsFor, callsOf}
+use Rattle.model.specs.Turns.{Turn, single, turnCall, turnResponseOn, turnEventOn, turnAfterOn, turnEvents, comesTo, expanded, LegalTurns}
 use Rattle.model.specs.Recovered.{modelOn}
 use Rattle.model.specs.SerialOrder.{callsOn, begunChecked, serialOrder}
 use Rattle.model.specs.Results as Results
 use Rattle.model.specs.Histories as Histories
+use Rattle.turns.specs.Units.{once-leaves, once-answers}
 use Rattle.theorems.specs.Tables.{keyA, keyB, keyC, image, columns, Row, row, told, rowEvents, LegalRows, rows-events, rows-legal, apart, untaken, _⊗_}
 
 -- the head, the lines of numbers 1 and 3, and the record lines of A and B; the others stay as they are
@@ -207,15 +209,20 @@ serial-legal = rows-legal story serialBytes [] (computed .true-story) story-lega
 abbrev serialCalls : List Call
 serialCalls = map (λ (r : Row). r .event .call) story
 
-singles : (cs : List Call) (s : Sheets) → expanded (map single cs) s ≡ cs
-unfolding expanded comesTo
+abbrev asTurn : Call → Turn
+asTurn c = single (once c)
+
+singles : (cs : List Call) (s : Sheets) → expanded (map asTurn cs) s ≡ cs
+unfolding expanded comesTo callsOf
 singles [] s = refl
 singles (c ∷ cs) s = ap (λ (xs : List Call). c ∷ xs) (singles cs _)
 
-single-events : (cs : List Call) (b : Bytes) (es : List Event) → eventsAfter answerOn afterOn cs b es ≡ turnEvents turnAfterOn turnEventOn (map single cs) b es
-unfolding eventsAfter turnEvents turnEventOn turnAfterOn
+single-events : (cs : List Call) (b : Bytes) (es : List Event) → eventsAfter answerOn afterOn cs b es ≡ turnEvents turnAfterOn turnEventOn (map asTurn cs) b es
+unfolding eventsAfter turnEvents turnEventOn turnAfterOn turnCall turnResponseOn standsFor
 single-events [] b es = refl
-single-events (c ∷ cs) b es = single-events cs _ _
+single-events (c ∷ cs) b es =
+    ap₂ (λ (x : Bytes) (a : Answer). eventsAfter answerOn afterOn cs x (record { call = c; answer = a } ∷ es)) (sym (once-leaves c b)) (sym (once-answers c b))
+    ∙ single-events cs (turnAfterOn (asTurn c) b) (turnEventOn (asTurn c) b ∷ es)
 
 calls-made : callsOn serialTurns serialBytes ≡ rowEvents story []
 calls-made =

@@ -1,6 +1,6 @@
 -- What is proved of the engine: every headline statement, in the words of the definitions of `model`, each by citing the law that proves it.
--- The engine's contracts cite the same definitions, so that what holds of `answerOn`, `afterOn` and `resultAtOn` holds of the functions that run.
-use Rattle.lists.specs.Basics.{_≡_, ap, _∙_, ℕ, _%_, _^_, _≤_, _<_, true, List, [], _∷_, map, length, some, all}
+-- The engine's contracts cite the same definitions, so that what holds of `answerOn`, `afterOn`, `responseOn` and `responseAtOn` holds of the functions that run.
+use Rattle.lists.specs.Basics.{_≡_, ap, _∙_, ℕ, _+_, _*_, _%_, _^_, _≤_, _<_, true, List, [], _∷_, map, length, some, all}
 use Rattle.model.specs.Types.{Key, Record, Committed, Transaction, Forward, Request}
 use Rattle.model.specs.Layouts.{recordBytes}
 use Rattle.model.specs.Records.{records, recordsText, recordsGood, recordsAccepted, lineOf, hasLine}
@@ -9,16 +9,20 @@ use Rattle.model.specs.Refusals.{Condition, askingOrder, firstAsked}
 use Rattle.model.specs.Images.{isPrepared, rolledForward}
 use Rattle.model.specs.Visits.{ownerDecision}
 use Rattle.model.specs.WellFormed.{wellFormed}
-use Rattle.model.specs.Results.{Call, read, visit, visited, refusalIn, returns, answerOf}
+use Rattle.model.specs.Transactions.{donePhase, committedVerdict, puts, moved}
+use Rattle.model.specs.Results.{Call, read, advance, visit, visited, reported, refusalIn, returns, answerOf}
 use Rattle.model.specs.Conditions.{isNew, refusals}
 use Rattle.model.specs.ByteCalls.{allConditions}
-use Rattle.model.specs.CallByPlace.{callAt, allConditionsAt, resultAtOn, listAfter}
+use Rattle.model.specs.Operations.{close, writesOnce, allOperationConditions, responseOn, bytesLeft}
+use Rattle.model.specs.Closes.{closeAnswer, closeLeaves, Advances, NextLimit, EndsAt}
+use Rattle.model.specs.Greatest.{greatestBytes, greatestTransaction}
+use Rattle.model.specs.CallByPlace.{operationAt, callAt, allConditionsAt, responseAtOn, listAfter}
 use Rattle.model.specs.Histories.{ClockFits}
-use Rattle.model.specs.ByteHistories.{Bytes, saying, Passing, bytesAfter, answerOn, afterOn}
+use Rattle.model.specs.ByteHistories.{Bytes, saying, Passing, answerOn, afterOn}
 use Rattle.model.specs.AtomicWrites.{OneUnit}
 use Rattle.model.specs.Changes.{linesStored, toldOf, ToldAtomic}
 use Rattle.model.specs.RecoveryPass.{Visit, nonePrepared, Closing}
-use Rattle.model.specs.Turns.{Turn, byPlace, turnEventOn, turnAfterOn, turnsLeft, LegalTurns}
+use Rattle.model.specs.Turns.{Turn, byPlace, turnCall, turnWritesOnce, turnEventOn, turnAfterOn, turnsLeft, LegalTurns}
 use Rattle.model.specs.Clients.{Act, World, Unused, turnsOf, clockFits}
 use Rattle.model.specs.Recovered.{Recovered, modelOn, bytesRecovered}
 use Rattle.model.specs.SerialOrder.{callsOn, begunChecked, serialOrder, serialLine, Serializable}
@@ -26,15 +30,19 @@ use Rattle.model.specs.Cases.{Case, cases, twelve-cases}
 use Rattle.sheet_laws.specs.Records as RecordLaws
 use Rattle.sheet_laws.specs.Coordinator as CoordinatorLaws
 use Rattle.call_laws.specs.Exactness as Exactness
+use Rattle.call_laws.specs.Operations as Operations
 use Rattle.call_laws.specs.ByPlace as ByPlace
 use Rattle.call_laws.specs.ByteUnits as ByteUnits
-use Rattle.call_laws.specs.Turns as TurnLaws
+use Rattle.call_laws.specs.Told as ToldLines
+use Rattle.closing_laws.specs.Greatest as Greatest
+use Rattle.turns.specs.Turns as TurnLaws
+use Rattle.turns.specs.Units as Units
+use Rattle.turns.specs.Told as Told
+use Rattle.turns.specs.Closes as Closes
+use Rattle.turns.specs.Bytes as Recovery
 use Rattle.clients.specs.Clients as Clients
-use Rattle.call_laws.specs.Told as Told
-use Rattle.call_laws.specs.ToldTurns as ToldTurns
 use Rattle.recovery.specs.PassExists.{recoveryPass}
 use Rattle.recovery.specs.NextReader as NextReader
-use Rattle.recovery.specs.Bytes as Recovery
 use Rattle.serial.specs.Bytes as Serial
 use Rattle.theorems.specs.Sample as Sample
 use Rattle.theorems.specs.ClientSample as ClientSample
@@ -49,10 +57,15 @@ refusal-exact c b =
     ap (λ (n : ℕ). firstAsked n (allConditions c (b .records) (b .coordinator))) (Exactness.refusal-given c b)
     ∙ Exactness.refusal-is-first c (b .records) (b .coordinator)
 
-pub refusal-exact-by-place : (list : List Transaction) (place : ℕ) (q : Request) (rs cs : List ℕ) → firstAsked (refusalIn (answerOf (resultAtOn list place q rs cs))) (allConditionsAt list place q rs cs) ≡ true
+pub refusal-exact-by-place : (list : List Transaction) (place : ℕ) (q : Request) (rs cs : List ℕ) → firstAsked (refusalIn (answerOf (responseAtOn list place q rs cs))) (allConditionsAt list place q rs cs) ≡ true
 refusal-exact-by-place list place q rs cs =
     ap (λ (n : ℕ). firstAsked n (allConditionsAt list place q rs cs)) (ByPlace.place-refusal-given list place q rs cs)
     ∙ ByPlace.place-refusal-is-first list place q rs cs
+
+pub refusal-exact-of-close : (t : Transaction) (now limit : ℕ) (rs cs : List ℕ) → firstAsked (refusalIn (answerOf (responseOn (close t now limit) rs cs))) (allOperationConditions (close t now limit) rs cs) ≡ true
+refusal-exact-of-close t now limit rs cs =
+    ap (λ (n : ℕ). firstAsked n (allOperationConditions (close t now limit) rs cs)) (Operations.response-refusal-given (close t now limit) rs cs)
+    ∙ Operations.response-refusal-first (close t now limit) rs cs
 
 pub order-rises : Exactness.risingFrom 1 askingOrder ≡ true
 order-rises = Exactness.order-rises
@@ -61,10 +74,17 @@ order-rises = Exactness.order-rises
 pub conditions-are-the-row : (c : Call) (rs cs : List ℕ) → map (λ (x : Condition). x .number) (allConditions c rs cs) ≡ refusals c
 conditions-are-the-row c rs cs = Exactness.numbers-are c rs cs
 
+-- document 02, note 1: "refused as one advance would be", which has the same row
+pub close-conditions-are-the-row : (t : Transaction) (now limit : ℕ) (rs cs : List ℕ) → map (λ (x : Condition). x .number) (allOperationConditions (close t now limit) rs cs) ≡ refusals (advance t now)
+close-conditions-are-the-row t now limit rs cs = Operations.close-numbers t now limit rs cs
+
 pub refused-unchanged : (c : Call) (b : Bytes) → 1 ≤ refusalIn (answerOn c b) → afterOn c b ≡ b
 refused-unchanged c b l = Exactness.refused-unchanged c b l
 
-pub refused-unchanged-by-place : (list : List Transaction) (place : ℕ) (q : Request) (b : Bytes) → 1 ≤ refusalIn (answerOf (resultAtOn list place q (b .records) (b .coordinator))) → (listAfter list place (resultAtOn list place q (b .records) (b .coordinator)) ≡ list) × (bytesAfter b (resultAtOn list place q (b .records) (b .coordinator)) ≡ b)
+pub refused-close-unchanged : (t : Transaction) (now limit : ℕ) (b : Bytes) → 1 ≤ refusalIn (closeAnswer t now limit b) → closeLeaves t now limit b ≡ b
+refused-close-unchanged t now limit b l = Operations.refused-operation (close t now limit) b l
+
+pub refused-unchanged-by-place : (list : List Transaction) (place : ℕ) (q : Request) (b : Bytes) → 1 ≤ refusalIn (answerOf (responseAtOn list place q (b .records) (b .coordinator))) → (listAfter list place (responseAtOn list place q (b .records) (b .coordinator)) ≡ list) × (bytesLeft b (responseAtOn list place q (b .records) (b .coordinator)) ≡ b)
 refused-unchanged-by-place list place q b l = ByPlace.refused-leaves list place q b l
 
 -- DEMAND 2: the answer, the transaction and the lines are the contracts' own equations. What holds of all of them:
@@ -73,18 +93,19 @@ refused-unchanged-by-place list place q b l = ByPlace.refused-leaves list place 
 pub single-unit : (c : Call) (b : Bytes) → ClockFits c → Passing b → OneUnit b (afterOn c b)
 single-unit c b l p = ByteUnits.call-unit c b l p
 
-pub single-unit-by-place : (list : List Transaction) (place : ℕ) (q : Request) (b : Bytes) → ClockFits (callAt list place q) → Passing b → OneUnit b (turnAfterOn (byPlace list place q) b)
-single-unit-by-place list place q b l p = ByteUnits.place-unit list place q b l p
+pub single-unit-by-place : (list : List Transaction) (place : ℕ) (q : Request) (b : Bytes) → writesOnce (operationAt list place q) ≡ true → ClockFits (callAt list place q) → Passing b → OneUnit b (turnAfterOn (byPlace list place q) b)
+unfolding turnWritesOnce turnEventOn turnCall
+single-unit-by-place list place q b w l p = Units.turn-unit (byPlace list place q) b w l p
 
 -- and so is a client told that keeps both sheets from before a turn: nothing, the coordinator sheet, or a range of lines of which every one is of one unit,
 -- and never both sheets
-pub told-atomic : (x : Turn) (b : Bytes) (target : List ℕ) → length target ≡ 2 → ClockFits (turnEventOn x b .call) → Passing b
+pub told-atomic : (x : Turn) (b : Bytes) (target : List ℕ) → length target ≡ 2 → turnWritesOnce x ≡ true → ClockFits (turnEventOn x b .call) → Passing b
     → ToldAtomic b (turnAfterOn x b) (toldOf b (turnAfterOn x b) target)
-told-atomic x b target n l p = ToldTurns.told-of-turn x b target n l p
+told-atomic x b target n w l p = Told.told-of-turn x b target n w l p
 
 -- storing the lines told over the record sheet from before gives the one after
 pub told-suffices : (before after : List ℕ) → length before ≡ length after → length before % recordBytes ≡ 0 → linesStored before after ≡ after
-told-suffices before after n w = Told.told-suffices before after n w
+told-suffices before after n w = ToldLines.told-suffices before after n w
 
 -- accepted sheets stay accepted, and a transaction that is returned is well formed on the sheets that the turn leaves
 pub sheets-stay-accepted : (x : Turn) (b : Bytes) → ClockFits (turnEventOn x b .call) → Passing b → Passing (turnAfterOn x b)
@@ -111,7 +132,46 @@ coordinator-read-again c g = CoordinatorLaws.coordinator-read-written c g
 pub cases-hold : map (λ (c : Case). c .given) cases ≡ map (λ (c : Case). c .expected) cases
 cases-hold = twelve-cases
 
--- DEMAND 3, over bytes and every turn of a history. For all bytes that refusals 1 and 2 let pass, without a PREPARED line; for every legal history of turns
+-- DOCUMENT 02, NOTE 1, for every input at a clock reading below 2^32, as every u32 is.
+
+-- "For every limit the report, transaction and sheets are those of advances made one after another up to there": none of them is refused, and the report is the
+-- number of them that change a byte
+pub close-is-advances : (t : Transaction) (now limit : ℕ) (b : Bytes) → now < 2 ^ 32 → (n : ℕ) (u : Transaction) → closeAnswer t now limit b ≡ reported n u
+    → Advances now t b n u (closeLeaves t now limit b)
+close-is-advances t now limit b fits n u e = Closes.close-advances t now limit b fits n u e
+
+-- "and is at most 17", and never above the limit
+pub close-reports : (t : Transaction) (now limit : ℕ) (b : Bytes) → now < 2 ^ 32 → (n : ℕ) (u : Transaction) → closeAnswer t now limit b ≡ reported n u → (n ≤ 17) × (n ≤ limit)
+close-reports t now limit b fits n u e = Closes.close-reports t now limit b fits n u e
+
+-- "17 or more closes the order"
+pub seventeen-closes : (t : Transaction) (now limit : ℕ) (b : Bytes) → now < 2 ^ 32 → (n : ℕ) (u : Transaction) → closeAnswer t now limit b ≡ reported n u → 17 ≤ limit → u .phase ≡ donePhase
+seventeen-closes t now limit b fits n u e l = Closes.close-closes t now limit b fits n u e l
+
+-- "before a step that would write beyond it returns the transaction as it stands", and nowhere else but at done
+pub close-ends : (t : Transaction) (now limit : ℕ) (b : Bytes) → now < 2 ^ 32 → (n : ℕ) (u : Transaction) → closeAnswer t now limit b ≡ reported n u → EndsAt now limit n u (closeLeaves t now limit b)
+close-ends t now limit b fits n u e = Closes.close-ends t now limit b fits n u e
+
+-- "demand 2's single unit holds for each write in it, from one limit to the next, instead of for the call", and a client is told so
+pub limit-by-limit : (t : Transaction) (now limit : ℕ) (b : Bytes) → now < 2 ^ 32 → NextLimit t now limit b
+limit-by-limit t now limit b fits = Closes.next-limit t now limit b fits
+
+pub told-by-limits : (t : Transaction) (now limit : ℕ) (b : Bytes) (target : List ℕ) → now < 2 ^ 32 → Passing b → length target ≡ 2
+    → ToldAtomic (closeLeaves t now limit b) (closeLeaves t now (limit + 1) b) (toldOf (closeLeaves t now limit b) (closeLeaves t now (limit + 1) b) target)
+told-by-limits t now limit b target fits p n = Closes.told-of-limit t now limit b target fits p n
+
+-- "A companion gives, for each count of 1 to 8 puts, a transaction and sheets that reach the greatest count possible for it": it is reached, at every reading
+-- of the clock, and no close of as many puts reports more, whatever the transaction, sheets and limit
+pub greatest-reached : (n : ℕ) → 1 ≤ n → n ≤ 8 → (now : ℕ) → closeAnswer (greatestTransaction n) now 17 (greatestBytes n) ≡ reported (2 * n + 1) (moved donePhase 0 committedVerdict (greatestTransaction n))
+greatest-reached n l m now = Closes.greatest-reaches n l m now
+
+pub greatest-has-so-many-puts : (n : ℕ) → 1 ≤ n → n ≤ 8 → length (puts (greatestTransaction n)) ≡ n
+greatest-has-so-many-puts n l m = Greatest.greatest-reached n l m .puts-are
+
+pub none-greater : (t : Transaction) (now limit : ℕ) (b : Bytes) → now < 2 ^ 32 → (n : ℕ) (u : Transaction) → closeAnswer t now limit b ≡ reported n u → n ≤ 2 * length (puts t) + 1
+none-greater t now limit b fits n u e = Closes.none-greater t now limit b fits n u e
+
+-- DEMAND 3, over bytes and every turn of a history; a turn may be a close, and a crash after its k-th write is the close with limit k. For all bytes that refusals 1 and 2 let pass, without a PREPARED line; for every legal history of turns
 -- on them, refused ones included; for every recovery pass after it: no line is PREPARED, the record sheet is byte for byte the sequential model's, and a
 -- transaction with puts is committed exactly when its coordinator line says so or its one-phase write was made.
 pub demand-3 : (b : Bytes) → Passing b → nonePrepared (records (b .records)) ≡ true → (xs : List Turn) → LegalTurns turnAfterOn turnEventOn xs b [] → (vs : List Visit) → Closing saying afterOn vs (turnsLeft turnAfterOn xs b) → Recovered vs xs b
@@ -141,7 +201,7 @@ pub clients-recovered : (acts : List Act) (w : World) → Passing (w .bytes) →
     → Recovered vs (turnsOf acts w) (w .bytes)
 clients-recovered acts w p z u f vs c = demand-3 (w .bytes) p z (turnsOf acts w) (clients-legal acts w p u f) vs c
 
--- acts and a pass that meet the hypotheses: two clients, of which one commits two groups, crashes, and is refused once where it goes on
+-- acts and a pass that meet the hypotheses: two clients, of which one closes an order of two groups, crashes after its third write, and is refused once where it goes on
 pub clients-sample : ((Passing (ClientSample.clientWorld .bytes) × (nonePrepared (records (ClientSample.clientWorld .bytes .records)) ≡ true))
     × (Unused (ClientSample.clientWorld .lists) × (all clockFits ClientSample.clientActs ≡ true)))
     × Closing saying afterOn ClientSample.clientVisits (turnsLeft turnAfterOn ClientSample.clientTurns (ClientSample.clientWorld .bytes))
@@ -149,7 +209,7 @@ clients-sample =
     (((ClientSample.client-passes, ClientSample.client-unprepared), (ClientSample.client-unused, ClientSample.client-clocks)), ClientSample.client-closing)
 
 -- what each turn is refused with, the last one first, what was committed, and the bytes that all this leaves
-pub clients-sample-recovered : (ClientSample.clientRefusals ≡ 0 ∷ 0 ∷ 0 ∷ 3 ∷ 0 ∷ 0 ∷ 0 ∷ 0 ∷ 0 ∷ 0 ∷ 0 ∷ 0 ∷ 0 ∷ 0 ∷ 0 ∷ 0 ∷ 0 ∷ [])
+pub clients-sample-recovered : (ClientSample.clientRefusals ≡ 0 ∷ 0 ∷ 0 ∷ 3 ∷ 0 ∷ 0 ∷ 0 ∷ 0 ∷ 0 ∷ 0 ∷ 0 ∷ 0 ∷ 0 ∷ 0 ∷ [])
     × ((modelOn ClientSample.clientTurns (ClientSample.clientWorld .bytes) .committed ≡ 1 ∷ [])
     × (bytesRecovered ClientSample.clientVisits ClientSample.clientTurns (ClientSample.clientWorld .bytes) ≡ ClientSample.clientRecovered))
 clients-sample-recovered = (ClientSample.client-refusals, (ClientSample.client-committed, ClientSample.client-recovered))

@@ -203,7 +203,7 @@ pub enum Reading {
 }
 
 // What is asked of the engine, apart from the transaction and the sheets. A begin says whether the transaction is serializable; a number is the reading
-// of the clock.
+// of the clock; a close has besides it the limit on its writes.
 pub enum Request {
     Begin(bool),
     Read(Key, u32),
@@ -211,4 +211,5 @@ pub enum Request {
     Advance(u32),
     Abort,
     Visit(Key, u32),
+    Close(u32, u32),
 }

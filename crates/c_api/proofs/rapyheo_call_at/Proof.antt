@@ -49,8 +49,8 @@ use Rattle.types.proofs.Transaction.Laws as T′
 use Rattle.c_api.proofs.Called as O
 use Rattle.c_api.proofs.Called.Laws as O′
 use Rattle.model.specs.Calls.{newTransaction}
-use Rattle.model.specs.ByteCalls.{resultOn, recordsAfter, coordinatorAfter}
-use Rattle.model.specs.Requests.{callOf}
+use Rattle.model.specs.Operations.{responseOn, recordsLeft, coordinatorLeft}
+use Rattle.model.specs.Requests.{operationOf}
 use Rattle.c_api.specs.Numbers.{unlistedNumber}
 use Rattle.c_api.specs.Asked.{asks, naming}
 use Rattle.c_api.specs.ByPlace.{called, naming-within, CallsAt, calls-named, calls-unnamed}
@@ -73,7 +73,7 @@ use Rattle.c_api.proofs.rapyheo_call_at.Code as code
 use Rattle.c_api.proofs.rapyheo_call_at.Code.Mir as code-mir
 
 abbrev stayed : Stays (f.ended .signature .params) (f.ended .kept)
-stayed = (stay-slice (0 ∷ []) tt (plain (λ _. T.the-row)), (stay-none (λ _. usize) yes, (gave-slice (1 ∷ []) tt (plain (λ _. u8)), (gave-slice (2 ∷ []) tt (plain (λ _. u8)), (stay-none (λ _. u32) yes, (stay-none (λ _. u32) yes, (stay-none (λ _. u32) yes, (stay-none (λ _. u32) yes, (stay-none (λ _. u32) yes, (stay-none (λ _. u32) yes, (stay-none (λ _. u32) yes, (stay-none (λ _. u32) yes, (stay-none (λ _. u32) yes, tt)))))))))))))
+stayed = (stay-slice (0 ∷ []) tt (plain (λ _. T.the-row)), (stay-none (λ _. usize) yes, (gave-slice (1 ∷ []) tt (plain (λ _. u8)), (gave-slice (2 ∷ []) tt (plain (λ _. u8)), (stay-none (λ _. u32) yes, (stay-none (λ _. u32) yes, (stay-none (λ _. u32) yes, (stay-none (λ _. u32) yes, (stay-none (λ _. u32) yes, (stay-none (λ _. u32) yes, (stay-none (λ _. u32) yes, (stay-none (λ _. u32) yes, (stay-none (λ _. u32) yes, (stay-none (λ _. u32) yes, tt))))))))))))))
 
 module _ {M : Type 1} (𝓤 : URA M) (H : Heap 𝓤) (A : Atoms 𝓤) (mem : Memory → SProp 𝓤) (run : Routine → Fun 𝓤) where
   abbrev Listed : Contract 𝓤
@@ -118,7 +118,8 @@ module _ {M : Type 1} (𝓤 : URA M) (H : Heap 𝓤) (A : Atoms 𝓤) (W : Given
     (m7 : ℕ) (fits7 : m7 < 2 ^ 32)
     (m8 : ℕ) (fits8 : m8 < 2 ^ 32)
     (m9 : ℕ) (fits9 : m9 < 2 ^ 32)
-    (m10 : ℕ) (fits10 : m10 < 2 ^ 32) where
+    (m10 : ℕ) (fits10 : m10 < 2 ^ 32)
+    (m11 : ℕ) (fits11 : m11 < 2 ^ 32) where
   abbrev ref : List Transaction → RefT (List Transaction)
   ref l = record { ptr = (b, o); name = γ; now = l }
 
@@ -138,16 +139,16 @@ module _ {M : Type 1} (𝓤 : URA M) (H : Heap 𝓤) (A : Atoms 𝓤) (W : Given
   s1 = sliceVal (b1, o1) (length x1)
 
   abbrev Arg : Type 0
-  Arg = (RefT (List Transaction) × (ℕ × (RefT (List ℕ) × (RefT (List ℕ) × (ℕ × (ℕ × (ℕ × (ℕ × (ℕ × (ℕ × (ℕ × (ℕ × (ℕ × Unit {0})))))))))))))
+  Arg = (RefT (List Transaction) × (ℕ × (RefT (List ℕ) × (RefT (List ℕ) × (ℕ × (ℕ × (ℕ × (ℕ × (ℕ × (ℕ × (ℕ × (ℕ × (ℕ × (ℕ × Unit {0}))))))))))))))
 
   abbrev x : Arg
-  x = (ref ys, (i, (bytes0, (bytes1, (m2, (m3, (m4, (m5, (m6, (m7, (m8, (m9, (m10, tt)))))))))))))
+  x = (ref ys, (i, (bytes0, (bytes1, (m2, (m3, (m4, (m5, (m6, (m7, (m8, (m9, (m10, (m11, tt))))))))))))))
 
   abbrev Ats : Type 0
-  Ats = (List Val × (List Val × (List Val × (List Val × (List Val × (List Val × (List Val × (List Val × (List Val × (List Val × (List Val × (List Val × (List Val × Unit {0})))))))))))))
+  Ats = (List Val × (List Val × (List Val × (List Val × (List Val × (List Val × (List Val × (List Val × (List Val × (List Val × (List Val × (List Val × (List Val × (List Val × Unit {0}))))))))))))))
 
   abbrev at : Ats
-  at = (s ∷ [], (vint w64 i ∷ [], (s0 ∷ [], (s1 ∷ [], (vint w32 m2 ∷ [], (vint w32 m3 ∷ [], (vint w32 m4 ∷ [], (vint w32 m5 ∷ [], (vint w32 m6 ∷ [], (vint w32 m7 ∷ [], (vint w32 m8 ∷ [], (vint w32 m9 ∷ [], (vint w32 m10 ∷ [], tt)))))))))))))
+  at = (s ∷ [], (vint w64 i ∷ [], (s0 ∷ [], (s1 ∷ [], (vint w32 m2 ∷ [], (vint w32 m3 ∷ [], (vint w32 m4 ∷ [], (vint w32 m5 ∷ [], (vint w32 m6 ∷ [], (vint w32 m7 ∷ [], (vint w32 m8 ∷ [], (vint w32 m9 ∷ [], (vint w32 m10 ∷ [], (vint w32 m11 ∷ [], tt))))))))))))))
 
   -- the element, and its machine value
   abbrev t : Transaction
@@ -161,14 +162,15 @@ module _ {M : Type 1} (𝓤 : URA M) (H : Heap 𝓤) (A : Atoms 𝓤) (W : Given
 
   -- what both ways out have
   exits : (r : ℕ) (v : Val) → Is u32 r (v ∷ []) → (zs : List Transaction) → length zs ≡ length ys → (z0 : List ℕ) → length z0 ≡ length x0 → (z1 : List ℕ) → length z1 ≡ length x1
-      → CallsAt ys i m2 m3 m4 m5 m6 m7 m8 m9 m10 x0 x1 r zs z0 z1
+      → CallsAt ys i m2 m3 m4 m5 m6 m7 m8 m9 m10 m11 x0 x1 r zs z0 z1
       → ent 𝓤 (⋆ 𝓤 H A (‵ (fobs γ (codedHoleys T.the-row .code (heres T.the-row zs))) ∷ ‵ (fbor κ (Held T.the-row (length zs) b o γ)) ∷ ‵ (flft κ q) ∷ (‵ (flft κ0 q0) ⊛ (‵ (flft κ1 q1) ⊛ ‵ ftrue)) ∷ ‵ (finally u8 γ0 z0) ∷ ‵ (finally u8 γ1 z1) ∷ [])) (Post v)
   exits r v is zs l z0 l0 z1 l1 e =
       qed W (‵ (fobs γ (codedHoleys T.the-row .code (heres T.the-row zs))) ∷ ‵ (fbor κ (Held T.the-row (length zs) b o γ)) ∷ ‵ (flft κ q) ∷ (‵ (flft κ0 q0) ⊛ (‵ (flft κ1 q1) ⊛ ‵ ftrue)) ∷ ‵ (finally u8 γ0 z0) ∷ ‵ (finally u8 γ1 z1) ∷ []) ∵
-      suffices ! _ (ends-at 𝓤 H A f.ended stayed (f.clauses 𝓤 H A mem run) W ((((κ, (κ0, (κ1, tt))), (q, (q0, (q1, tt))), tt, x, at), tt)) v r (zs, (tt, (z0, (z1, (tt, (tt, (tt, (tt, (tt, (tt, (tt, (tt, (tt, tt))))))))))))) (l, (tt, (l0, (l1, (tt, (tt, (tt, (tt, (tt, (tt, (tt, (tt, (tt, tt)))))))))))))) $ suffices ! _ (four 𝓤 e) $
+      suffices ! _ (ends-at 𝓤 H A f.ended stayed (f.clauses 𝓤 H A mem run) W ((((κ, (κ0, (κ1, tt))), (q, (q0, (q1, tt))), tt, x, at), tt)) v r (zs, (tt, (z0, (z1, (tt, (tt, (tt, (tt, (tt, (tt, (tt, (tt, (tt, (tt, tt)))))))))))))) (l, (tt, (l0, (l1, (tt, (tt, (tt, (tt, (tt, (tt, (tt, (tt, (tt, (tt, tt))))))))))))))) $ suffices ! _ (four 𝓤 e) $
       move ! (2 ∷ 3 ∷ []) $ join ! $ frame ! $
       fjoin ! $ pureI ! (at-slice T.the-row (ref zs) (at .0)) (tt, (tt, tt)) (ap (λ (k : ℕ). sliceVal (b, o) k ∷ []) (sym l), subst (Room T.the-row) (sym l) room) $ fjoin ! $
       nothing ! $
+      owned ! u32 (Is u32) (uint-makes 𝓤 H A W w32) m11 _ (refl, fits11) $ fjoin ! $
       owned ! u32 (Is u32) (uint-makes 𝓤 H A W w32) m10 _ (refl, fits10) $ fjoin ! $
       owned ! u32 (Is u32) (uint-makes 𝓤 H A W w32) m9 _ (refl, fits9) $ fjoin ! $
       owned ! u32 (Is u32) (uint-makes 𝓤 H A W w32) m8 _ (refl, fits8) $ fjoin ! $
@@ -192,11 +194,11 @@ module _ {M : Type 1} (𝓤 : URA M) (H : Heap 𝓤) (A : Atoms 𝓤) (W : Given
       move ! (1 ∷ 0 ∷ []) $ join ! $ frame ! $ done !
 
   abbrev to-core : Core 𝓤 H A mem run .Ghost
-  to-core = (((κ0, (κ1, tt)), (q0, (q1, tt)), tt, (t, (bytes0, (bytes1, (m2, (m3, (m4, (m5, (m6, (m7, (m8, (m9, (m10, tt)))))))))))), (mach ∷ [], (s0 ∷ [], (s1 ∷ [], (vint w32 m2 ∷ [], (vint w32 m3 ∷ [], (vint w32 m4 ∷ [], (vint w32 m5 ∷ [], (vint w32 m6 ∷ [], (vint w32 m7 ∷ [], (vint w32 m8 ∷ [], (vint w32 m9 ∷ [], (vint w32 m10 ∷ [], tt))))))))))))), tt)
+  to-core = (((κ0, (κ1, tt)), (q0, (q1, tt)), tt, (t, (bytes0, (bytes1, (m2, (m3, (m4, (m5, (m6, (m7, (m8, (m9, (m10, (m11, tt))))))))))))), (mach ∷ [], (s0 ∷ [], (s1 ∷ [], (vint w32 m2 ∷ [], (vint w32 m3 ∷ [], (vint w32 m4 ∷ [], (vint w32 m5 ∷ [], (vint w32 m6 ∷ [], (vint w32 m7 ∷ [], (vint w32 m8 ∷ [], (vint w32 m9 ∷ [], (vint w32 m10 ∷ [], (vint w32 m11 ∷ [], tt)))))))))))))), tt)
 
   -- what the parameters after the place own
   abbrev others-own : Fml
-  others-own = fsep (MutSlice (named 1) κ0 u8 .own bytes0 (s0 ∷ [])) (fsep (MutSlice (named 2) κ1 u8 .own bytes1 (s1 ∷ [])) (fsep (u32 .own m2 (vint w32 m2 ∷ [])) (fsep (u32 .own m3 (vint w32 m3 ∷ [])) (fsep (u32 .own m4 (vint w32 m4 ∷ [])) (fsep (u32 .own m5 (vint w32 m5 ∷ [])) (fsep (u32 .own m6 (vint w32 m6 ∷ [])) (fsep (u32 .own m7 (vint w32 m7 ∷ [])) (fsep (u32 .own m8 (vint w32 m8 ∷ [])) (fsep (u32 .own m9 (vint w32 m9 ∷ [])) (fsep (u32 .own m10 (vint w32 m10 ∷ [])) (ftrue)))))))))))
+  others-own = fsep (MutSlice (named 1) κ0 u8 .own bytes0 (s0 ∷ [])) (fsep (MutSlice (named 2) κ1 u8 .own bytes1 (s1 ∷ [])) (fsep (u32 .own m2 (vint w32 m2 ∷ [])) (fsep (u32 .own m3 (vint w32 m3 ∷ [])) (fsep (u32 .own m4 (vint w32 m4 ∷ [])) (fsep (u32 .own m5 (vint w32 m5 ∷ [])) (fsep (u32 .own m6 (vint w32 m6 ∷ [])) (fsep (u32 .own m7 (vint w32 m7 ∷ [])) (fsep (u32 .own m8 (vint w32 m8 ∷ [])) (fsep (u32 .own m9 (vint w32 m9 ∷ [])) (fsep (u32 .own m10 (vint w32 m10 ∷ [])) (fsep (u32 .own m11 (vint w32 m11 ∷ [])) (ftrue))))))))))))
 
   goes-core : ent 𝓤 (sep 𝓤 (sep 𝓤 (A .lft κ0 q0) (sep 𝓤 (A .lft κ1 q1) (sem 𝓤 H A ftrue))) (sep 𝓤 (sem 𝓤 H A (T.the-row .own t (mach ∷ []))) (sem 𝓤 H A others-own))) (Core 𝓤 H A mem run .pre to-core)
   goes-core = qed W ((‵ (flft κ0 q0) ⊛ (‵ (flft κ1 q1) ⊛ ‵ ftrue)) ∷ ‵ (T.the-row .own t (mach ∷ [])) ∷ ‵ others-own ∷ []) ∵ move ! (1 ∷ 2 ∷ []) $ fjoin ! $ move ! (1 ∷ 0 ∷ []) $ join ! $ frame ! $ done !
@@ -208,56 +210,57 @@ module _ {M : Type 1} (𝓤 : URA M) (H : Heap 𝓤) (A : Atoms 𝓤) (W : Given
   goes-unlisted = qed W ((‵ (flft κ0 q0) ⊛ (‵ (flft κ1 q1) ⊛ ‵ ftrue)) ∷ ‵ others-own ∷ []) ∵ move ! (1 ∷ []) $ fsplit ! $ move ! (1 ∷ []) $ fsplit ! $ move ! (1 ∷ []) $ drop ! $ nothing ! $ move ! (1 ∷ 0 ∷ []) $ fjoin ! $ move ! (1 ∷ 0 ∷ []) $ fjoin ! $ move ! (1 ∷ 0 ∷ []) $ join ! $ frame ! $ done !
 
   module _ (C : Calls 𝓤 H) (Λ : Loops 𝓤 H) (fm : FmC 𝓤 H (W .laws) C) (known-listed : Triple 𝓤 (C #c_api·is-named) (Listed 𝓤 H A mem run)) (known-core : Triple 𝓤 (C #c_api·call-named) (Core 𝓤 H A mem run)) (known-unlisted : Triple 𝓤 (C #c_api·unlisted) (Unlisted 𝓤 H A mem run)) where
-    walk : ent 𝓤 (onEntry 𝓤 H A f.signature (κ, (κ0, (κ1, tt))) (q, (q0, (q1, tt))) x at) (WpFn 𝓤 H C Λ code.function (s ∷ vint w64 i ∷ s0 ∷ s1 ∷ vint w32 m2 ∷ vint w32 m3 ∷ vint w32 m4 ∷ vint w32 m5 ∷ vint w32 m6 ∷ vint w32 m7 ∷ vint w32 m8 ∷ vint w32 m9 ∷ vint w32 m10 ∷ []) Post)
+    walk : ent 𝓤 (onEntry 𝓤 H A f.signature (κ, (κ0, (κ1, tt))) (q, (q0, (q1, tt))) x at) (WpFn 𝓤 H C Λ code.function (s ∷ vint w64 i ∷ s0 ∷ s1 ∷ vint w32 m2 ∷ vint w32 m3 ∷ vint w32 m4 ∷ vint w32 m5 ∷ vint w32 m6 ∷ vint w32 m7 ∷ vint w32 m8 ∷ vint w32 m9 ∷ vint w32 m10 ∷ vint w32 m11 ∷ []) Post)
     walk =
-        qed W ((‵ (flft κ q) ⊛ (‵ (flft κ0 q0) ⊛ (‵ (flft κ1 q1) ⊛ ‵ ftrue))) ∷ ‵ (owns (MutSlice (named 0) κ T.the-row ∷ usize ∷ MutSlice (named 1) κ0 u8 ∷ MutSlice (named 2) κ1 u8 ∷ u32 ∷ u32 ∷ u32 ∷ u32 ∷ u32 ∷ u32 ∷ u32 ∷ u32 ∷ u32 ∷ []) x at) ∷ []) ∵ enter ! C Λ code.function (s ∷ vint w64 i ∷ s0 ∷ s1 ∷ vint w32 m2 ∷ vint w32 m3 ∷ vint w32 m4 ∷ vint w32 m5 ∷ vint w32 m6 ∷ vint w32 m7 ∷ vint w32 m8 ∷ vint w32 m9 ∷ vint w32 m10 ∷ []) _ $
-        alloc1 ! (λ a0. alloc1 ! (λ a1. alloc1 ! (λ a2. alloc1 ! (λ a3. alloc1 ! (λ a4. alloc1 ! (λ a5. alloc1 ! (λ a6. alloc1 ! (λ a7. alloc1 ! (λ a8. alloc1 ! (λ a9. alloc1 ! (λ a10. alloc1 ! (λ a11. alloc1 ! (λ a12. alloc1 ! (λ a13. alloc1 ! (λ a14. alloc1 ! (λ a15. alloc1 ! (λ a16. alloc1 ! (λ a17. alloc1 ! (λ a18. alloc1 ! (λ a19. alloc1 ! (λ a20. alloc1 ! (λ a21. alloc1 ! (λ a22. alloc1 ! (λ a23. alloc1 ! (λ a24. alloc1 ! (λ a25. alloc1 ! (λ a26. alloc1 ! (λ a27. alloc1 ! (λ a28. alloc1 ! (λ a29. alloc1 ! (λ a30. alloc0 ! $ params1 ! $
-        pass1 ! (init ! 58 refl (tt, (tt, (record { fits = room .0 }, tt)))) $ pass1 ! (init ! 56 refl (tt, record { fits = i-fits })) $
-        pass1 ! (init ! 54 refl (tt, (tt, (record { fits = room0 .0 }, tt)))) $
-        pass1 ! (init ! 52 refl (tt, (tt, (record { fits = room1 .0 }, tt)))) $
-        pass1 ! (init ! 50 refl (tt, record { fits = fits2 })) $
-        pass1 ! (init ! 48 refl (tt, record { fits = fits3 })) $
-        pass1 ! (init ! 46 refl (tt, record { fits = fits4 })) $
-        pass1 ! (init ! 44 refl (tt, record { fits = fits5 })) $
-        pass1 ! (init ! 42 refl (tt, record { fits = fits6 })) $
-        pass1 ! (init ! 40 refl (tt, record { fits = fits7 })) $
-        pass1 ! (init ! 38 refl (tt, record { fits = fits8 })) $
-        pass1 ! (init ! 36 refl (tt, record { fits = fits9 })) $
-        pass1 ! (init ! 34 refl (tt, record { fits = fits10 })) $
+        qed W ((‵ (flft κ q) ⊛ (‵ (flft κ0 q0) ⊛ (‵ (flft κ1 q1) ⊛ ‵ ftrue))) ∷ ‵ (owns (MutSlice (named 0) κ T.the-row ∷ usize ∷ MutSlice (named 1) κ0 u8 ∷ MutSlice (named 2) κ1 u8 ∷ u32 ∷ u32 ∷ u32 ∷ u32 ∷ u32 ∷ u32 ∷ u32 ∷ u32 ∷ u32 ∷ u32 ∷ []) x at) ∷ []) ∵ enter ! C Λ code.function (s ∷ vint w64 i ∷ s0 ∷ s1 ∷ vint w32 m2 ∷ vint w32 m3 ∷ vint w32 m4 ∷ vint w32 m5 ∷ vint w32 m6 ∷ vint w32 m7 ∷ vint w32 m8 ∷ vint w32 m9 ∷ vint w32 m10 ∷ vint w32 m11 ∷ []) _ $
+        alloc1 ! (λ a0. alloc1 ! (λ a1. alloc1 ! (λ a2. alloc1 ! (λ a3. alloc1 ! (λ a4. alloc1 ! (λ a5. alloc1 ! (λ a6. alloc1 ! (λ a7. alloc1 ! (λ a8. alloc1 ! (λ a9. alloc1 ! (λ a10. alloc1 ! (λ a11. alloc1 ! (λ a12. alloc1 ! (λ a13. alloc1 ! (λ a14. alloc1 ! (λ a15. alloc1 ! (λ a16. alloc1 ! (λ a17. alloc1 ! (λ a18. alloc1 ! (λ a19. alloc1 ! (λ a20. alloc1 ! (λ a21. alloc1 ! (λ a22. alloc1 ! (λ a23. alloc1 ! (λ a24. alloc1 ! (λ a25. alloc1 ! (λ a26. alloc1 ! (λ a27. alloc1 ! (λ a28. alloc1 ! (λ a29. alloc1 ! (λ a30. alloc1 ! (λ a31. alloc0 ! $ params1 ! $
+        pass1 ! (init ! 60 refl (tt, (tt, (record { fits = room .0 }, tt)))) $ pass1 ! (init ! 58 refl (tt, record { fits = i-fits })) $
+        pass1 ! (init ! 56 refl (tt, (tt, (record { fits = room0 .0 }, tt)))) $
+        pass1 ! (init ! 54 refl (tt, (tt, (record { fits = room1 .0 }, tt)))) $
+        pass1 ! (init ! 52 refl (tt, record { fits = fits2 })) $
+        pass1 ! (init ! 50 refl (tt, record { fits = fits3 })) $
+        pass1 ! (init ! 48 refl (tt, record { fits = fits4 })) $
+        pass1 ! (init ! 46 refl (tt, record { fits = fits5 })) $
+        pass1 ! (init ! 44 refl (tt, record { fits = fits6 })) $
+        pass1 ! (init ! 42 refl (tt, record { fits = fits7 })) $
+        pass1 ! (init ! 40 refl (tt, record { fits = fits8 })) $
+        pass1 ! (init ! 38 refl (tt, record { fits = fits9 })) $
+        pass1 ! (init ! 36 refl (tt, record { fits = fits10 })) $
+        pass1 ! (init ! 34 refl (tt, record { fits = fits11 })) $
         pass0 ! $
         -- [the last local; …; room for _0; …; the tokens; what the parameters own]
-        assigns ! (of-opd ! (load ! (from ! (fld ! refl (stop !))) (look-in ! 58 (sub ! 1 refl (whole !))))) (from ! (stop !)) (init ! 26 refl (tt, record { fits = room .0 })) $
+        assigns ! (of-opd ! (load ! (from ! (fld ! refl (stop !))) (look-in ! 60 (sub ! 1 refl (whole !))))) (from ! (stop !)) (init ! 26 refl (tt, record { fits = room .0 })) $
         nothing ! $ use1 W (raw (Listed 𝓤 H A mem run .pre to-listed)) goes-listed $
-        calls-at ! fm (Listed 𝓤 H A mem run) known-listed to-listed (and-then ! (load ! (from ! (stop !)) (look ! 27 refl)) (and-then ! (load ! (from ! (stop !)) (look ! 57 refl)) (and-then ! (load ! (from ! (stop !)) (look ! 51 refl)) (no-more !)))) (λ v.
+        calls-at ! fm (Listed 𝓤 H A mem run) known-listed to-listed (and-then ! (load ! (from ! (stop !)) (look ! 27 refl)) (and-then ! (load ! (from ! (stop !)) (look ! 59 refl)) (and-then ! (load ! (from ! (stop !)) (look ! 53 refl)) (no-more !)))) (λ v.
         use1 W (later (some (λ (r : Bool). (‵ ftrue ⊛ ‵ (Boolean .own r (v ∷ []))) ⊛ raw (ensured 𝓤 H A is-named.ended (is-named.clauses 𝓤 H A mem run) tt (length ys, (i, (m2, tt))) tt r)))) (id⊢ 𝓤 _) $ await ! tt $ pick ! (λ y.
         split ! $ move ! (1 ∷ []) $ use1 W (raw (fact 𝓤 (y ≡ naming (length ys) i m2))) (listed-of 𝓤 H A mem run (length ys) i m2 y) $ heard ! (y ≡ naming (length ys) i m2) (λ said. split ! $ drop ! $
         peeks ! Boolean (Is Boolean) (shows 𝓤 H A Boolean) y (v ∷ []) (λ isy.
-        land ! (from ! (stop !)) (init ! 29 refl (bool-lawful 𝓤 H A W .typed y _ isy .0)) $ rewrite ! 29 (λ (u : Val). ‵ (fat fullShare tyBool a16 0 u)) (ap only isy) refl $ drop ! $
+        land ! (from ! (stop !)) (init ! 29 refl (bool-lawful 𝓤 H A W .typed y _ isy .0)) $ rewrite ! 29 (λ (u : Val). ‵ (fat fullShare tyBool a17 0 u)) (ap only isy) refl $ drop ! $
         first ! $ branches ! (load ! (from ! (stop !)) (look ! 28 refl))
         -- the place is listed
         (λ hit.
         let is-true : naming (length ys) i m2 ≡ true = sym said ∙ holds-true y hit in
         let within : i < length ys = naming-within (length ys) i m2 is-true in
         let scaled : Fits w64 (i * 408) = scaled-fits i (length ys) 408 within (room .1) in
-        assigns ! (bin ! (load ! (from ! (stop !)) (look ! 56 refl)) (lit ! tt) scaled) (from ! (stop !)) (init ! 22 refl (tt, scaled)) $
-        assigns ! (bin ! (load ! (from ! (fld ! refl (stop !))) (look-in ! 58 (sub ! 0 refl (whole !)))) (load ! (from ! (stop !)) (look ! 22 refl)) tt) (from ! (stop !)) (init ! 20 refl (tt, tt)) $
-        rewrite ! 20 (λ (p : ℕ). ‵ (fat fullShare tyPtr a20 0 (vptr b p))) (sym (place-is 408 o i)) refl $
-        move ! (63 ∷ []) $ fsplit ! $ fsplit ! $ move ! (1 ∷ []) $ fsplit ! $ move ! (66 ∷ []) $ split ! $ move ! (2 ∷ 3 ∷ 0 ∷ []) $
+        assigns ! (bin ! (load ! (from ! (stop !)) (look ! 58 refl)) (lit ! tt) scaled) (from ! (stop !)) (init ! 22 refl (tt, scaled)) $
+        assigns ! (bin ! (load ! (from ! (fld ! refl (stop !))) (look-in ! 60 (sub ! 0 refl (whole !)))) (load ! (from ! (stop !)) (look ! 22 refl)) tt) (from ! (stop !)) (init ! 20 refl (tt, tt)) $
+        rewrite ! 20 (λ (p : ℕ). ‵ (fat fullShare tyPtr a21 0 (vptr b p))) (sym (place-is 408 o i)) refl $
+        move ! (65 ∷ []) $ fsplit ! $ fsplit ! $ move ! (1 ∷ []) $ fsplit ! $ move ! (68 ∷ []) $ split ! $ move ! (2 ∷ 3 ∷ 0 ∷ []) $
         opens-slice ! tt T.the-row ys b o $ elem-out ! T.the-row (Is T.the-row) (shows 𝓤 H A T.the-row) (LL.vals T.the-type T′.the-laws) (LL.tells T.the-type T′.the-laws) fullShare ys i (newTransaction 0 false) b o within (λ g.
         let wt = LL.lawful T.the-type T′.the-laws 𝓤 H A W .typed t _ g .0 in
         -- [list[place]; what it owns; the others; the open borrow; obs; auth; the sheets' tokens; list's fact; what the other parameters own; the last local; …]
         assigns ! (of-opd ! (load ! (from ! (hop ! (look ! 29 refl) (stop !))) (look-raw ! 0 refl))) (from ! (stop !)) (init ! 27 refl wt) $
         assigns ! (of-opd ! (load ! (from ! (stop !)) (look ! 27 refl))) (from ! (stop !)) (init ! 41 refl wt) $
-        assigns ! (addr ! (from ! (fld ! refl (hop ! (look-in ! 63 (sub ! 0 refl (whole !))) (stop !))))) (from ! (stop !)) (init ! 25 refl (tt, tt)) $
-        assigns ! (agg ! (and-then ! (load ! (from ! (stop !)) (look ! 25 refl)) (and-then ! (load ! (from ! (fld ! refl (stop !))) (look-in ! 63 (sub ! 1 refl (whole !)))) (no-more !)))) (from ! (stop !)) (init ! 23 refl (tt, (tt, (record { fits = room0 .0 }, tt)))) $
-        assigns ! (addr ! (from ! (fld ! refl (hop ! (look-in ! 61 (sub ! 0 refl (whole !))) (stop !))))) (from ! (stop !)) (init ! 21 refl (tt, tt)) $
-        assigns ! (agg ! (and-then ! (load ! (from ! (stop !)) (look ! 21 refl)) (and-then ! (load ! (from ! (fld ! refl (stop !))) (look-in ! 61 (sub ! 1 refl (whole !)))) (no-more !)))) (from ! (stop !)) (init ! 19 refl (tt, (tt, (record { fits = room1 .0 }, tt)))) $
+        assigns ! (addr ! (from ! (fld ! refl (hop ! (look-in ! 65 (sub ! 0 refl (whole !))) (stop !))))) (from ! (stop !)) (init ! 25 refl (tt, tt)) $
+        assigns ! (agg ! (and-then ! (load ! (from ! (stop !)) (look ! 25 refl)) (and-then ! (load ! (from ! (fld ! refl (stop !))) (look-in ! 65 (sub ! 1 refl (whole !)))) (no-more !)))) (from ! (stop !)) (init ! 23 refl (tt, (tt, (record { fits = room0 .0 }, tt)))) $
+        assigns ! (addr ! (from ! (fld ! refl (hop ! (look-in ! 63 (sub ! 0 refl (whole !))) (stop !))))) (from ! (stop !)) (init ! 21 refl (tt, tt)) $
+        assigns ! (agg ! (and-then ! (load ! (from ! (stop !)) (look ! 21 refl)) (and-then ! (load ! (from ! (fld ! refl (stop !))) (look-in ! 63 (sub ! 1 refl (whole !)))) (no-more !)))) (from ! (stop !)) (init ! 19 refl (tt, (tt, (record { fits = room1 .0 }, tt)))) $
         move ! (8 ∷ []) $ fsplit ! $ move ! (8 ∷ 3 ∷ 1 ∷ []) $ use3 W (raw (Core 𝓤 H A mem run .pre to-core)) goes-core $
         -- [what `call_named` asks; place's; list[place]; the others; the open borrow; obs; auth; list's fact; the last local; …]
-        calls-at ! fm (Core 𝓤 H A mem run) known-core to-core (and-then ! (load ! (from ! (stop !)) (look ! 40 refl)) (and-then ! (load ! (from ! (stop !)) (look ! 22 refl)) (and-then ! (load ! (from ! (stop !)) (look ! 18 refl)) (and-then ! (load ! (from ! (stop !)) (look ! 58 refl)) (and-then ! (load ! (from ! (stop !)) (look ! 56 refl)) (and-then ! (load ! (from ! (stop !)) (look ! 54 refl)) (and-then ! (load ! (from ! (stop !)) (look ! 52 refl)) (and-then ! (load ! (from ! (stop !)) (look ! 50 refl)) (and-then ! (load ! (from ! (stop !)) (look ! 48 refl)) (and-then ! (load ! (from ! (stop !)) (look ! 46 refl)) (and-then ! (load ! (from ! (stop !)) (look ! 44 refl)) (and-then ! (load ! (from ! (stop !)) (look ! 42 refl)) (no-more !))))))))))))) (λ v′.
-        use1 W (later (some (λ (r : Called). ((‵ (flft κ0 q0) ⊛ (‵ (flft κ1 q1) ⊛ ‵ ftrue)) ⊛ ‵ (O.the-row .own r (v′ ∷ []))) ⊛ raw (ensured 𝓤 H A core.ended (core.clauses 𝓤 H A mem run) (κ0, (κ1, tt)) (t, (bytes0, (bytes1, (m2, (m3, (m4, (m5, (m6, (m7, (m8, (m9, (m10, tt)))))))))))) tt r)))) (id⊢ 𝓤 _) $ await ! tt $ pick ! (λ r.
-        split ! $ move ! (1 ∷ []) $ use1 W (some (λ (zs : (Unit {0} × (List ℕ × (List ℕ × (Unit {0} × (Unit {0} × (Unit {0} × (Unit {0} × (Unit {0} × (Unit {0} × (Unit {0} × (Unit {0} × (Unit {0} × Unit {0}))))))))))))). ‵ (lasts core.ended (κ0, (κ1, tt)) (t, (bytes0, (bytes1, (m2, (m3, (m4, (m5, (m6, (m7, (m8, (m9, (m10, tt)))))))))))) zs) ⊛ raw (sep 𝓤 (fact 𝓤 (r ≡ called t (resultOn (callOf (asks m2 m3 m4 m5 m6 m7 m8 m9 m10) t) x0 x1))) (sep 𝓤 (fact 𝓤 (zs .1 .0 ≡ recordsAfter x0 x1 (resultOn (callOf (asks m2 m3 m4 m5 m6 m7 m8 m9 m10) t) x0 x1))) (fact 𝓤 (zs .1 .1 .0 ≡ coordinatorAfter x0 x1 (resultOn (callOf (asks m2 m3 m4 m5 m6 m7 m8 m9 m10) t) x0 x1))))))) (id⊢ 𝓤 _) $ pick ! (λ zs.
-        split ! $ move ! (1 ∷ []) $ use1 W (raw (fact 𝓤 ((r ≡ called t (resultOn (callOf (asks m2 m3 m4 m5 m6 m7 m8 m9 m10) t) x0 x1)) × ((zs .1 .0 ≡ recordsAfter x0 x1 (resultOn (callOf (asks m2 m3 m4 m5 m6 m7 m8 m9 m10) t) x0 x1)) × (zs .1 .1 .0 ≡ coordinatorAfter x0 x1 (resultOn (callOf (asks m2 m3 m4 m5 m6 m7 m8 m9 m10) t) x0 x1)))))) (three 𝓤) $ heard ! (((r ≡ called t (resultOn (callOf (asks m2 m3 m4 m5 m6 m7 m8 m9 m10) t) x0 x1)) × ((zs .1 .0 ≡ recordsAfter x0 x1 (resultOn (callOf (asks m2 m3 m4 m5 m6 m7 m8 m9 m10) t) x0 x1)) × (zs .1 .1 .0 ≡ coordinatorAfter x0 x1 (resultOn (callOf (asks m2 m3 m4 m5 m6 m7 m8 m9 m10) t) x0 x1))))) (λ e. fsplit ! $
+        calls-at ! fm (Core 𝓤 H A mem run) known-core to-core (and-then ! (load ! (from ! (stop !)) (look ! 40 refl)) (and-then ! (load ! (from ! (stop !)) (look ! 22 refl)) (and-then ! (load ! (from ! (stop !)) (look ! 18 refl)) (and-then ! (load ! (from ! (stop !)) (look ! 60 refl)) (and-then ! (load ! (from ! (stop !)) (look ! 58 refl)) (and-then ! (load ! (from ! (stop !)) (look ! 56 refl)) (and-then ! (load ! (from ! (stop !)) (look ! 54 refl)) (and-then ! (load ! (from ! (stop !)) (look ! 52 refl)) (and-then ! (load ! (from ! (stop !)) (look ! 50 refl)) (and-then ! (load ! (from ! (stop !)) (look ! 48 refl)) (and-then ! (load ! (from ! (stop !)) (look ! 46 refl)) (and-then ! (load ! (from ! (stop !)) (look ! 44 refl)) (and-then ! (load ! (from ! (stop !)) (look ! 42 refl)) (no-more !)))))))))))))) (λ v′.
+        use1 W (later (some (λ (r : Called). ((‵ (flft κ0 q0) ⊛ (‵ (flft κ1 q1) ⊛ ‵ ftrue)) ⊛ ‵ (O.the-row .own r (v′ ∷ []))) ⊛ raw (ensured 𝓤 H A core.ended (core.clauses 𝓤 H A mem run) (κ0, (κ1, tt)) (t, (bytes0, (bytes1, (m2, (m3, (m4, (m5, (m6, (m7, (m8, (m9, (m10, (m11, tt))))))))))))) tt r)))) (id⊢ 𝓤 _) $ await ! tt $ pick ! (λ r.
+        split ! $ move ! (1 ∷ []) $ use1 W (some (λ (zs : (Unit {0} × (List ℕ × (List ℕ × (Unit {0} × (Unit {0} × (Unit {0} × (Unit {0} × (Unit {0} × (Unit {0} × (Unit {0} × (Unit {0} × (Unit {0} × (Unit {0} × Unit {0})))))))))))))). ‵ (lasts core.ended (κ0, (κ1, tt)) (t, (bytes0, (bytes1, (m2, (m3, (m4, (m5, (m6, (m7, (m8, (m9, (m10, (m11, tt))))))))))))) zs) ⊛ raw (sep 𝓤 (fact 𝓤 (r ≡ called t (responseOn (operationOf (asks m2 m3 m4 m5 m6 m7 m8 m9 m10 m11) t) x0 x1))) (sep 𝓤 (fact 𝓤 (zs .1 .0 ≡ recordsLeft x0 (responseOn (operationOf (asks m2 m3 m4 m5 m6 m7 m8 m9 m10 m11) t) x0 x1))) (fact 𝓤 (zs .1 .1 .0 ≡ coordinatorLeft x1 (responseOn (operationOf (asks m2 m3 m4 m5 m6 m7 m8 m9 m10 m11) t) x0 x1))))))) (id⊢ 𝓤 _) $ pick ! (λ zs.
+        split ! $ move ! (1 ∷ []) $ use1 W (raw (fact 𝓤 ((r ≡ called t (responseOn (operationOf (asks m2 m3 m4 m5 m6 m7 m8 m9 m10 m11) t) x0 x1)) × ((zs .1 .0 ≡ recordsLeft x0 (responseOn (operationOf (asks m2 m3 m4 m5 m6 m7 m8 m9 m10 m11) t) x0 x1)) × (zs .1 .1 .0 ≡ coordinatorLeft x1 (responseOn (operationOf (asks m2 m3 m4 m5 m6 m7 m8 m9 m10 m11) t) x0 x1)))))) (three 𝓤) $ heard ! (((r ≡ called t (responseOn (operationOf (asks m2 m3 m4 m5 m6 m7 m8 m9 m10 m11) t) x0 x1)) × ((zs .1 .0 ≡ recordsLeft x0 (responseOn (operationOf (asks m2 m3 m4 m5 m6 m7 m8 m9 m10 m11) t) x0 x1)) × (zs .1 .1 .0 ≡ coordinatorLeft x1 (responseOn (operationOf (asks m2 m3 m4 m5 m6 m7 m8 m9 m10 m11) t) x0 x1))))) (λ e. fsplit ! $
         move ! (1 ∷ []) $ fsplit ! $ fsplit ! $ move ! (1 ∷ []) $ feqL ! (λ l0.
         move ! (1 ∷ []) $ fsplit ! $ fsplit ! $ move ! (1 ∷ []) $ feqL ! (λ l1.
         -- [the last parameter's last value; …; the tokens and the result; place's; list[place]; …]
@@ -267,10 +270,10 @@ module _ {M : Type 1} (𝓤 : URA M) (H : Heap 𝓤) (A : Atoms 𝓤) (W : Given
         let wt-a = uint-lawful 𝓤 H A W w32 .typed (r .answer) _ (parts .0) .0 in
         -- [the result; the sheets' tokens; last values; place's; list[place]; the others; the open borrow; obs; auth; list's fact; the last local; …]
         land ! (from ! (stop !)) (init ! 43 refl (LL.lawful O.the-type O′.the-laws 𝓤 H A W .typed r _ is .0)) $
-        rewrite ! 43 (λ (u : Val). ‵ (fat fullShare O′.mir a15 0 u)) (ap only (LL.tells O.the-type O′.the-laws r (v′ ∷ []) is)) refl $
-        assigns ! (bin ! (load ! (from ! (stop !)) (look ! 69 refl)) (lit ! tt) scaled) (from ! (stop !)) (store ! 35 refl (tt, scaled)) $
-        assigns ! (bin ! (load ! (from ! (fld ! refl (stop !))) (look-in ! 71 (sub ! 0 refl (whole !)))) (load ! (from ! (stop !)) (look ! 35 refl)) tt) (from ! (stop !)) (init ! 21 refl (tt, tt)) $
-        rewrite ! 21 (λ (p : ℕ). ‵ (fat fullShare tyPtr a26 0 (vptr b p))) (sym (place-is 408 o i)) refl $
+        rewrite ! 43 (λ (u : Val). ‵ (fat fullShare O′.mir a16 0 u)) (ap only (LL.tells O.the-type O′.the-laws r (v′ ∷ []) is)) refl $
+        assigns ! (bin ! (load ! (from ! (stop !)) (look ! 71 refl)) (lit ! tt) scaled) (from ! (stop !)) (store ! 35 refl (tt, scaled)) $
+        assigns ! (bin ! (load ! (from ! (fld ! refl (stop !))) (look-in ! 73 (sub ! 0 refl (whole !)))) (load ! (from ! (stop !)) (look ! 35 refl)) tt) (from ! (stop !)) (init ! 21 refl (tt, tt)) $
+        rewrite ! 21 (λ (p : ℕ). ‵ (fat fullShare tyPtr a27 0 (vptr b p))) (sym (place-is 408 o i)) refl $
         assigns ! (of-opd ! (load ! (from ! (fld ! refl (stop !))) (look-in ! 43 (sub ! 1 refl (whole !))))) (from ! (hop ! (look ! 21 refl) (stop !))) (store-raw ! 7 refl wt-t) $
         assigns-last ! (of-opd ! (load ! (from ! (fld ! refl (stop !))) (look-in ! 43 (sub ! 0 refl (whole !))))) (from ! (stop !)) (init ! 37 refl wt-a) $
         exec ! C Λ _ code-mir.t-4 (atRet _ Post) $
@@ -278,19 +281,19 @@ module _ {M : Type 1} (𝓤 : URA M) (H : Heap 𝓤) (A : Atoms 𝓤) (W : Given
         owned ! T.the-row (Is T.the-row) (LL.makes T.the-type T′.the-plain 𝓤 H A) (r .transaction) (LL.vals T.the-type T′.the-laws (r .transaction)) (parts .1 .0) $ move ! (8 ∷ 0 ∷ 9 ∷ []) $ elem-put ! T.the-row fullShare ys i (r .transaction) (LL.vals T.the-type T′.the-laws (r .transaction)) b o within $
         move ! (0 ∷ 8 ∷ 9 ∷ 10 ∷ []) $ closes-slice ! tt T.the-row ys (set ys i (r .transaction)) (length-set ys i (r .transaction)) b o $
         -- [obs; the borrow; its token; the result; the sheets' tokens; last values; place's; list's fact; the last local; …]
-        assigns ! (of-opd ! (load ! (from ! (stop !)) (look ! 35 refl))) (from ! (stop !)) (init ! 71 refl wt-a) $
-        returns ! (look ! 71 refl) $ forget ! 19 refl $ forget ! 21 refl $ forget ! 23 refl $ forget ! 25 refl $ forget ! 27 refl $ forget ! 29 refl $ forget ! 31 refl $ forget ! 33 refl $ forget ! 35 refl $ forget ! 37 refl $ forget ! 39 refl $ forget ! 41 refl $ forget ! 43 refl $ forget ! 45 refl $ forget ! 47 refl $ forget ! 49 refl $ forget ! 51 refl $ forget ! 53 refl $ forget ! 55 refl $ forget ! 57 refl $ forget ! 59 refl $ forget ! 61 refl $ forget ! 63 refl $ forget ! 65 refl $ forget ! 67 refl $ forget ! 69 refl $ forget ! 71 refl $
-        move ! (71 ∷ 72 ∷ []) $ free1 ! $ move ! (69 ∷ 70 ∷ []) $ free1 ! $ move ! (67 ∷ 68 ∷ []) $ free1 ! $ move ! (65 ∷ 66 ∷ []) $ free1 ! $ move ! (63 ∷ 64 ∷ []) $ free1 ! $ move ! (61 ∷ 62 ∷ []) $ free1 ! $ move ! (59 ∷ 60 ∷ []) $ free1 ! $ move ! (57 ∷ 58 ∷ []) $ free1 ! $ move ! (55 ∷ 56 ∷ []) $ free1 ! $ move ! (53 ∷ 54 ∷ []) $ free1 ! $ move ! (51 ∷ 52 ∷ []) $ free1 ! $ move ! (49 ∷ 50 ∷ []) $ free1 ! $ move ! (47 ∷ 48 ∷ []) $ free1 ! $ move ! (45 ∷ 46 ∷ []) $ free1 ! $ move ! (43 ∷ 44 ∷ []) $ free1 ! $ move ! (41 ∷ 42 ∷ []) $ free1 ! $ move ! (39 ∷ 40 ∷ []) $ free1 ! $ move ! (37 ∷ 38 ∷ []) $ free1 ! $ move ! (35 ∷ 36 ∷ []) $ free1 ! $ move ! (33 ∷ 34 ∷ []) $ free1 ! $ move ! (31 ∷ 32 ∷ []) $ free1 ! $ move ! (29 ∷ 30 ∷ []) $ free1 ! $ move ! (27 ∷ 28 ∷ []) $ free1 ! $ move ! (25 ∷ 26 ∷ []) $ free1 ! $ move ! (23 ∷ 24 ∷ []) $ free1 ! $ move ! (21 ∷ 22 ∷ []) $ free1 ! $ move ! (19 ∷ 20 ∷ []) $ free1 ! $ move ! (17 ∷ 18 ∷ []) $ free1 ! $ move ! (15 ∷ 16 ∷ []) $ free1 ! $ move ! (13 ∷ 14 ∷ []) $ free1 ! $ move ! (11 ∷ 12 ∷ []) $ free1 ! $ free0 ! $
+        assigns ! (of-opd ! (load ! (from ! (stop !)) (look ! 35 refl))) (from ! (stop !)) (init ! 73 refl wt-a) $
+        returns ! (look ! 73 refl) $ forget ! 19 refl $ forget ! 21 refl $ forget ! 23 refl $ forget ! 25 refl $ forget ! 27 refl $ forget ! 29 refl $ forget ! 31 refl $ forget ! 33 refl $ forget ! 35 refl $ forget ! 37 refl $ forget ! 39 refl $ forget ! 41 refl $ forget ! 43 refl $ forget ! 45 refl $ forget ! 47 refl $ forget ! 49 refl $ forget ! 51 refl $ forget ! 53 refl $ forget ! 55 refl $ forget ! 57 refl $ forget ! 59 refl $ forget ! 61 refl $ forget ! 63 refl $ forget ! 65 refl $ forget ! 67 refl $ forget ! 69 refl $ forget ! 71 refl $ forget ! 73 refl $
+        move ! (73 ∷ 74 ∷ []) $ free1 ! $ move ! (71 ∷ 72 ∷ []) $ free1 ! $ move ! (69 ∷ 70 ∷ []) $ free1 ! $ move ! (67 ∷ 68 ∷ []) $ free1 ! $ move ! (65 ∷ 66 ∷ []) $ free1 ! $ move ! (63 ∷ 64 ∷ []) $ free1 ! $ move ! (61 ∷ 62 ∷ []) $ free1 ! $ move ! (59 ∷ 60 ∷ []) $ free1 ! $ move ! (57 ∷ 58 ∷ []) $ free1 ! $ move ! (55 ∷ 56 ∷ []) $ free1 ! $ move ! (53 ∷ 54 ∷ []) $ free1 ! $ move ! (51 ∷ 52 ∷ []) $ free1 ! $ move ! (49 ∷ 50 ∷ []) $ free1 ! $ move ! (47 ∷ 48 ∷ []) $ free1 ! $ move ! (45 ∷ 46 ∷ []) $ free1 ! $ move ! (43 ∷ 44 ∷ []) $ free1 ! $ move ! (41 ∷ 42 ∷ []) $ free1 ! $ move ! (39 ∷ 40 ∷ []) $ free1 ! $ move ! (37 ∷ 38 ∷ []) $ free1 ! $ move ! (35 ∷ 36 ∷ []) $ free1 ! $ move ! (33 ∷ 34 ∷ []) $ free1 ! $ move ! (31 ∷ 32 ∷ []) $ free1 ! $ move ! (29 ∷ 30 ∷ []) $ free1 ! $ move ! (27 ∷ 28 ∷ []) $ free1 ! $ move ! (25 ∷ 26 ∷ []) $ free1 ! $ move ! (23 ∷ 24 ∷ []) $ free1 ! $ move ! (21 ∷ 22 ∷ []) $ free1 ! $ move ! (19 ∷ 20 ∷ []) $ free1 ! $ move ! (17 ∷ 18 ∷ []) $ free1 ! $ move ! (15 ∷ 16 ∷ []) $ free1 ! $ move ! (13 ∷ 14 ∷ []) $ free1 ! $ move ! (11 ∷ 12 ∷ []) $ free1 ! $ free0 ! $
         keep ! (0 ∷ 1 ∷ 2 ∷ 4 ∷ 7 ∷ 5 ∷ []) $ by ! (exits (r .answer) _ (parts .0) (set ys i (r .transaction)) (length-set ys i (r .transaction)) (zs .1 .0) l0 (zs .1 .1 .0) l1
-        (calls-named ys i m2 m3 m4 m5 m6 m7 m8 m9 m10 x0 x1 r (zs .1 .0) (zs .1 .1 .0) is-true (e .0) (e .1 .0) (e .1 .1))))))))))))
+        (calls-named ys i m2 m3 m4 m5 m6 m7 m8 m9 m10 m11 x0 x1 r (zs .1 .0) (zs .1 .1 .0) is-true (e .0) (e .1 .0) (e .1 .1))))))))))))
         -- it is not
         (λ miss.
         let is-false : naming (length ys) i m2 ≡ false = sym said ∙ fails-false y miss in
-        assigns ! (addr ! (from ! (fld ! refl (hop ! (look-in ! 54 (sub ! 0 refl (whole !))) (stop !))))) (from ! (stop !)) (init ! 6 refl (tt, tt)) $
-        assigns ! (agg ! (and-then ! (load ! (from ! (stop !)) (look ! 6 refl)) (and-then ! (load ! (from ! (fld ! refl (stop !))) (look-in ! 54 (sub ! 1 refl (whole !)))) (no-more !)))) (from ! (stop !)) (init ! 4 refl (tt, (tt, (record { fits = room0 .0 }, tt)))) $
-        assigns ! (addr ! (from ! (fld ! refl (hop ! (look-in ! 52 (sub ! 0 refl (whole !))) (stop !))))) (from ! (stop !)) (init ! 2 refl (tt, tt)) $
-        assigns ! (agg ! (and-then ! (load ! (from ! (stop !)) (look ! 2 refl)) (and-then ! (load ! (from ! (fld ! refl (stop !))) (look-in ! 52 (sub ! 1 refl (whole !)))) (no-more !)))) (from ! (stop !)) (init ! 0 refl (tt, (tt, (record { fits = room1 .0 }, tt)))) $
-        move ! (63 ∷ []) $ fsplit ! $ fsplit ! $ move ! (1 ∷ []) $ fsplit ! $ move ! (66 ∷ []) $ split ! $ move ! (2 ∷ 3 ∷ 0 ∷ []) $
+        assigns ! (addr ! (from ! (fld ! refl (hop ! (look-in ! 56 (sub ! 0 refl (whole !))) (stop !))))) (from ! (stop !)) (init ! 6 refl (tt, tt)) $
+        assigns ! (agg ! (and-then ! (load ! (from ! (stop !)) (look ! 6 refl)) (and-then ! (load ! (from ! (fld ! refl (stop !))) (look-in ! 56 (sub ! 1 refl (whole !)))) (no-more !)))) (from ! (stop !)) (init ! 4 refl (tt, (tt, (record { fits = room0 .0 }, tt)))) $
+        assigns ! (addr ! (from ! (fld ! refl (hop ! (look-in ! 54 (sub ! 0 refl (whole !))) (stop !))))) (from ! (stop !)) (init ! 2 refl (tt, tt)) $
+        assigns ! (agg ! (and-then ! (load ! (from ! (stop !)) (look ! 2 refl)) (and-then ! (load ! (from ! (fld ! refl (stop !))) (look-in ! 54 (sub ! 1 refl (whole !)))) (no-more !)))) (from ! (stop !)) (init ! 0 refl (tt, (tt, (record { fits = room1 .0 }, tt)))) $
+        move ! (65 ∷ []) $ fsplit ! $ fsplit ! $ move ! (1 ∷ []) $ fsplit ! $ move ! (68 ∷ []) $ split ! $ move ! (2 ∷ 3 ∷ 0 ∷ []) $
         -- [obs; the borrow; its token; the sheets' tokens; list's fact; what the other parameters own; the last local; …]
         move ! (5 ∷ []) $ fsplit ! $ move ! (5 ∷ 1 ∷ []) $ use2 W (raw (Unlisted 𝓤 H A mem run .pre to-unlisted)) goes-unlisted $
         -- [what `unlisted` asks; place's; obs; the borrow; its token; list's fact; the last local; …]
@@ -306,18 +309,18 @@ module _ {M : Type 1} (𝓤 : URA M) (H : Heap 𝓤) (A : Atoms 𝓤) (W : Given
         -- [the result; the sheets' tokens; last values; place's; obs; the borrow; its token; list's fact; the last local; …]
         land-last ! (from ! (stop !)) (init ! 34 refl wt-a) $
         exec ! C Λ _ code-mir.t-4 (atRet _ Post) $
-        assigns ! (of-opd ! (load ! (from ! (stop !)) (look ! 34 refl))) (from ! (stop !)) (init ! 70 refl wt-a) $
-        returns ! (look ! 70 refl) $ forget ! 10 refl $ forget ! 12 refl $ forget ! 14 refl $ forget ! 16 refl $ forget ! 34 refl $ forget ! 36 refl $ forget ! 38 refl $ forget ! 44 refl $ forget ! 46 refl $ forget ! 48 refl $ forget ! 50 refl $ forget ! 52 refl $ forget ! 54 refl $ forget ! 56 refl $ forget ! 58 refl $ forget ! 60 refl $ forget ! 62 refl $ forget ! 64 refl $ forget ! 66 refl $ forget ! 68 refl $ forget ! 70 refl $
-        move ! (70 ∷ 71 ∷ []) $ free1 ! $ move ! (68 ∷ 69 ∷ []) $ free1 ! $ move ! (66 ∷ 67 ∷ []) $ free1 ! $ move ! (64 ∷ 65 ∷ []) $ free1 ! $ move ! (62 ∷ 63 ∷ []) $ free1 ! $ move ! (60 ∷ 61 ∷ []) $ free1 ! $ move ! (58 ∷ 59 ∷ []) $ free1 ! $ move ! (56 ∷ 57 ∷ []) $ free1 ! $ move ! (54 ∷ 55 ∷ []) $ free1 ! $ move ! (52 ∷ 53 ∷ []) $ free1 ! $ move ! (50 ∷ 51 ∷ []) $ free1 ! $ move ! (48 ∷ 49 ∷ []) $ free1 ! $ move ! (46 ∷ 47 ∷ []) $ free1 ! $ move ! (44 ∷ 45 ∷ []) $ free1 ! $ move ! (42 ∷ 43 ∷ []) $ free1 ! $ move ! (40 ∷ 41 ∷ []) $ free1 ! $ move ! (38 ∷ 39 ∷ []) $ free1 ! $ move ! (36 ∷ 37 ∷ []) $ free1 ! $ move ! (34 ∷ 35 ∷ []) $ free1 ! $ move ! (32 ∷ 33 ∷ []) $ free1 ! $ move ! (30 ∷ 31 ∷ []) $ free1 ! $ move ! (28 ∷ 29 ∷ []) $ free1 ! $ move ! (26 ∷ 27 ∷ []) $ free1 ! $ move ! (24 ∷ 25 ∷ []) $ free1 ! $ move ! (22 ∷ 23 ∷ []) $ free1 ! $ move ! (20 ∷ 21 ∷ []) $ free1 ! $ move ! (18 ∷ 19 ∷ []) $ free1 ! $ move ! (16 ∷ 17 ∷ []) $ free1 ! $ move ! (14 ∷ 15 ∷ []) $ free1 ! $ move ! (12 ∷ 13 ∷ []) $ free1 ! $ move ! (10 ∷ 11 ∷ []) $ free1 ! $ free0 ! $
+        assigns ! (of-opd ! (load ! (from ! (stop !)) (look ! 34 refl))) (from ! (stop !)) (init ! 72 refl wt-a) $
+        returns ! (look ! 72 refl) $ forget ! 10 refl $ forget ! 12 refl $ forget ! 14 refl $ forget ! 16 refl $ forget ! 34 refl $ forget ! 36 refl $ forget ! 38 refl $ forget ! 44 refl $ forget ! 46 refl $ forget ! 48 refl $ forget ! 50 refl $ forget ! 52 refl $ forget ! 54 refl $ forget ! 56 refl $ forget ! 58 refl $ forget ! 60 refl $ forget ! 62 refl $ forget ! 64 refl $ forget ! 66 refl $ forget ! 68 refl $ forget ! 70 refl $ forget ! 72 refl $
+        move ! (72 ∷ 73 ∷ []) $ free1 ! $ move ! (70 ∷ 71 ∷ []) $ free1 ! $ move ! (68 ∷ 69 ∷ []) $ free1 ! $ move ! (66 ∷ 67 ∷ []) $ free1 ! $ move ! (64 ∷ 65 ∷ []) $ free1 ! $ move ! (62 ∷ 63 ∷ []) $ free1 ! $ move ! (60 ∷ 61 ∷ []) $ free1 ! $ move ! (58 ∷ 59 ∷ []) $ free1 ! $ move ! (56 ∷ 57 ∷ []) $ free1 ! $ move ! (54 ∷ 55 ∷ []) $ free1 ! $ move ! (52 ∷ 53 ∷ []) $ free1 ! $ move ! (50 ∷ 51 ∷ []) $ free1 ! $ move ! (48 ∷ 49 ∷ []) $ free1 ! $ move ! (46 ∷ 47 ∷ []) $ free1 ! $ move ! (44 ∷ 45 ∷ []) $ free1 ! $ move ! (42 ∷ 43 ∷ []) $ free1 ! $ move ! (40 ∷ 41 ∷ []) $ free1 ! $ move ! (38 ∷ 39 ∷ []) $ free1 ! $ move ! (36 ∷ 37 ∷ []) $ free1 ! $ move ! (34 ∷ 35 ∷ []) $ free1 ! $ move ! (32 ∷ 33 ∷ []) $ free1 ! $ move ! (30 ∷ 31 ∷ []) $ free1 ! $ move ! (28 ∷ 29 ∷ []) $ free1 ! $ move ! (26 ∷ 27 ∷ []) $ free1 ! $ move ! (24 ∷ 25 ∷ []) $ free1 ! $ move ! (22 ∷ 23 ∷ []) $ free1 ! $ move ! (20 ∷ 21 ∷ []) $ free1 ! $ move ! (18 ∷ 19 ∷ []) $ free1 ! $ move ! (16 ∷ 17 ∷ []) $ free1 ! $ move ! (14 ∷ 15 ∷ []) $ free1 ! $ move ! (12 ∷ 13 ∷ []) $ free1 ! $ move ! (10 ∷ 11 ∷ []) $ free1 ! $ free0 ! $
         keep ! (6 ∷ 7 ∷ 8 ∷ 1 ∷ 4 ∷ 2 ∷ []) $ by ! (exits r _ is ys refl (zs .0) l0 (zs .1 .0) l1
-        (calls-unnamed ys i m2 m3 m4 m5 m6 m7 m8 m9 m10 x0 x1 r (zs .0) (zs .1 .0) is-false (e .0) (e .1 .0) (e .1 .1))))))))))))))))))))))))))))))))))))))))))))))
+        (calls-unnamed ys i m2 m3 m4 m5 m6 m7 m8 m9 m10 m11 x0 x1 r (zs .0) (zs .1 .0) is-false (e .0) (e .1 .0) (e .1 .1)))))))))))))))))))))))))))))))))))))))))))))))
 
 module _ {M : Type 1} (𝓤 : URA M) (H : Heap 𝓤) (A : Atoms 𝓤) (W : Given 𝓤 H A) (mem : Memory → SProp 𝓤) (run : Routine → Fun 𝓤) where
   rapyheo-call-at-walks : (C : Calls 𝓤 H) (Λ : Loops 𝓤 H) → FmC 𝓤 H (W .laws) C → Triple 𝓤 (C #c_api·is-named) (Listed 𝓤 H A mem run) → Triple 𝓤 (C #c_api·call-named) (Core 𝓤 H A mem run) → Triple 𝓤 (C #c_api·unlisted) (Unlisted 𝓤 H A mem run)
       → Walks 𝓤 H A f.ended stayed (WpFn 𝓤 H C Λ code.function) (f.clauses 𝓤 H A mem run)
   rapyheo-call-at-walks C Λ fm known-listed known-core known-unlisted = walked 𝓤 H A f.ended stayed (f.clauses 𝓤 H A mem run) (WpFn 𝓤 H C Λ code.function)
-      (λ κs. (slice-vals, (uint-vals w64, (slice-vals, (slice-vals, (uint-vals w32, (uint-vals w32, (uint-vals w32, (uint-vals w32, (uint-vals w32, (uint-vals w32, (uint-vals w32, (uint-vals w32, (uint-vals w32, tt))))))))))))))
-      (λ κs. (mut-slice-tells (named 0) (κs .0) T.the-row, (uint-tells w64, (mut-slice-tells (named 1) (κs .1 .0) u8, (mut-slice-tells (named 2) (κs .1 .1 .0) u8, (uint-tells w32, (uint-tells w32, (uint-tells w32, (uint-tells w32, (uint-tells w32, (uint-tells w32, (uint-tells w32, (uint-tells w32, (uint-tells w32, tt))))))))))))))
+      (λ κs. (slice-vals, (uint-vals w64, (slice-vals, (slice-vals, (uint-vals w32, (uint-vals w32, (uint-vals w32, (uint-vals w32, (uint-vals w32, (uint-vals w32, (uint-vals w32, (uint-vals w32, (uint-vals w32, (uint-vals w32, tt)))))))))))))))
+      (λ κs. (mut-slice-tells (named 0) (κs .0) T.the-row, (uint-tells w64, (mut-slice-tells (named 1) (κs .1 .0) u8, (mut-slice-tells (named 2) (κs .1 .1 .0) u8, (uint-tells w32, (uint-tells w32, (uint-tells w32, (uint-tells w32, (uint-tells w32, (uint-tells w32, (uint-tells w32, (uint-tells w32, (uint-tells w32, (uint-tells w32, tt)))))))))))))))
       (λ κs qs bounds a g are. via 𝓤 _ (fst∗ 𝓤 _ (emp 𝓤))
       (walk 𝓤 H A W mem run (κs .0) (qs .0) (a .0 .ptr .0) (a .0 .ptr .1) (a .0 .name) (a .0 .now) (a .1 .0) (are .1 .0 .1) (are .0 .0 .1)
       (κs .1 .0) (qs .1 .0) (a .1 .1 .0 .ptr .0) (a .1 .1 .0 .ptr .1) (a .1 .1 .0 .name) (a .1 .1 .0 .now) (are .1 .1 .0 .0 .1)
@@ -331,12 +334,13 @@ module _ {M : Type 1} (𝓤 : URA M) (H : Heap 𝓤) (A : Atoms 𝓤) (W : Given
       (a .1 .1 .1 .1 .1 .1 .1 .1 .1 .1 .0) (are .1 .1 .1 .1 .1 .1 .1 .1 .1 .1 .0 .1)
       (a .1 .1 .1 .1 .1 .1 .1 .1 .1 .1 .1 .0) (are .1 .1 .1 .1 .1 .1 .1 .1 .1 .1 .1 .0 .1)
       (a .1 .1 .1 .1 .1 .1 .1 .1 .1 .1 .1 .1 .0) (are .1 .1 .1 .1 .1 .1 .1 .1 .1 .1 .1 .1 .0 .1)
+      (a .1 .1 .1 .1 .1 .1 .1 .1 .1 .1 .1 .1 .1 .0) (are .1 .1 .1 .1 .1 .1 .1 .1 .1 .1 .1 .1 .1 .0 .1)
       C Λ fm known-listed known-core known-unlisted))
 
 rapyheo-call-at-meets : {M : Type 1} (𝓤 : URA M) (H : Heap 𝓤) (A : Atoms 𝓤) → Given 𝓤 H A → (mem : Memory → SProp 𝓤) (run : Routine → Fun 𝓤) (𝓣 : Tables 𝓤 H) → Triple 𝓤 (𝓣 .C #c_api·is-named) (Listed 𝓤 H A mem run) → Triple 𝓤 (𝓣 .C #c_api·call-named) (Core 𝓤 H A mem run) → Triple 𝓤 (𝓣 .C #c_api·unlisted) (Unlisted 𝓤 H A mem run)
     → Meets 𝓤 H A f.signature (WpFn 𝓤 H (𝓣 .C) (𝓣 .Λ) code.function) (f.spec 𝓤 H A mem run)
 rapyheo-call-at-meets 𝓤 H A W mem run 𝓣 known-listed known-core known-unlisted =
-    walk-meets 𝓤 H A f.ended stayed W (goes-slice 𝓤 H A W 3 0 tt (plain (λ _. T.the-row)), (goes-none 𝓤 H A W 3 (λ _. usize) yes (λ κs x f. refl), (goes-gave-slice 𝓤 H A W 3 1 tt (plain (λ _. u8)), (goes-gave-slice 𝓤 H A W 3 2 tt (plain (λ _. u8)), (goes-none 𝓤 H A W 3 (λ _. u32) yes (λ κs x f. refl), (goes-none 𝓤 H A W 3 (λ _. u32) yes (λ κs x f. refl), (goes-none 𝓤 H A W 3 (λ _. u32) yes (λ κs x f. refl), (goes-none 𝓤 H A W 3 (λ _. u32) yes (λ κs x f. refl), (goes-none 𝓤 H A W 3 (λ _. u32) yes (λ κs x f. refl), (goes-none 𝓤 H A W 3 (λ _. u32) yes (λ κs x f. refl), (goes-none 𝓤 H A W 3 (λ _. u32) yes (λ κs x f. refl), (goes-none 𝓤 H A W 3 (λ _. u32) yes (λ κs x f. refl), (goes-none 𝓤 H A W 3 (λ _. u32) yes (λ κs x f. refl), tt))))))))))))) (f.clauses 𝓤 H A mem run)
+    walk-meets 𝓤 H A f.ended stayed W (goes-slice 𝓤 H A W 3 0 tt (plain (λ _. T.the-row)), (goes-none 𝓤 H A W 3 (λ _. usize) yes (λ κs x f. refl), (goes-gave-slice 𝓤 H A W 3 1 tt (plain (λ _. u8)), (goes-gave-slice 𝓤 H A W 3 2 tt (plain (λ _. u8)), (goes-none 𝓤 H A W 3 (λ _. u32) yes (λ κs x f. refl), (goes-none 𝓤 H A W 3 (λ _. u32) yes (λ κs x f. refl), (goes-none 𝓤 H A W 3 (λ _. u32) yes (λ κs x f. refl), (goes-none 𝓤 H A W 3 (λ _. u32) yes (λ κs x f. refl), (goes-none 𝓤 H A W 3 (λ _. u32) yes (λ κs x f. refl), (goes-none 𝓤 H A W 3 (λ _. u32) yes (λ κs x f. refl), (goes-none 𝓤 H A W 3 (λ _. u32) yes (λ κs x f. refl), (goes-none 𝓤 H A W 3 (λ _. u32) yes (λ κs x f. refl), (goes-none 𝓤 H A W 3 (λ _. u32) yes (λ κs x f. refl), (goes-none 𝓤 H A W 3 (λ _. u32) yes (λ κs x f. refl), tt)))))))))))))) (f.clauses 𝓤 H A mem run)
     (WpFn 𝓤 H (𝓣 .C) (𝓣 .Λ) code.function) (WpFn-mono 𝓤 H (W .laws) 𝓣 code.function) (rapyheo-call-at-walks 𝓤 H A W mem run (𝓣 .C) (𝓣 .Λ) (fmOf 𝓤 H (W .laws) 𝓣) known-listed known-core known-unlisted)
 
 pub rapyheo-call-at-spec : {M : Type 1} → stated.statement M

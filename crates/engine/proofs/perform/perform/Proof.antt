@@ -1,6 +1,6 @@
 -- Case by case, what the call answers and leaves is what the law of its kind wants.
 use Rattle.lists.specs.Basics.{needs}
-use Rattle.engine.specs.Performing.{begun, was-read, was-put, advanced, aborted, was-visited}
+use Rattle.engine.specs.Performing.{begun, was-read, was-put, advanced, aborted, was-visited, was-closed}
 use Rattle.engine.proofs.perform.perform.Statement.{statement}
 use Rattle.engine.proofs.perform.perform.Tie as tie
 
@@ -43,10 +43,19 @@ returns-6 c =
     was-visited (a .request) (a .t) (a .records .now) (a .coordinator .now) _ _ _ _ (c .before .before .before .before .before .before .before .before .before .request5 .given .1) (c .of-visited .ensures) (o .ensures .0)
     (o .ensures .1 .0) (o .ensures .1 .1)
 
+returns-7 : tie.Need-returns-7
+returns-7 c =
+    let a = c .before .before .before .before .before .before .before .before .before .before .before .before .before .args in
+    let o = c .before .before .before .before .before .close in
+    was-closed (a .request) (a .t) (a .records .now) (a .coordinator .now) _ _ _ _ (c .before .before .before .before .before .before .before .before .before .request6 .given .1) (c .of-closed .ensures) (o .ensures .0)
+    (o .ensures .1 .0) (o .ensures .1 .1)
+
 pub perform-spec : {M : Type 1} → statement M
 perform-spec =
-    tie.close (tie.spec (λ c. search needs) (λ c κs. search needs) (λ c κs. search needs) (λ c. search needs) (λ c κs. search needs) (λ c. search needs)
-    (λ c κs. search needs) (λ c κs. search needs) (λ c. search needs) (λ c κs. search needs) (λ c κs. search needs) (λ c. search needs)
-    (λ c κs. search needs) (λ c κs. search needs) (λ c. search needs) (λ c κs. search needs) (λ c κs. search needs) (λ c. search needs) (λ c. search needs)
-    returns (λ c. search needs) (λ c. search needs) returns-2 (λ c. search needs) (λ c. search needs) returns-3 (λ c. search needs) (λ c. search needs)
-    returns-4 (λ c. search needs) (λ c. search needs) returns-5 (λ c. search needs) (λ c. search needs) returns-6)
+    tie.close (tie.spec (λ c. search needs) (λ c κs. search needs) (λ c κs. search needs) (λ c. search needs) (λ c κs. search needs)
+    (λ c. search needs) (λ c κs. search needs) (λ c κs. search needs) (λ c. search needs) (λ c κs. search needs) (λ c κs. search needs)
+    (λ c. search needs) (λ c κs. search needs) (λ c κs. search needs) (λ c. search needs) (λ c κs. search needs) (λ c κs. search needs)
+    (λ c. search needs) (λ c κs. search needs) (λ c κs. search needs) (λ c. search needs) (λ c. search needs) returns (λ c. search needs)
+    (λ c. search needs) returns-2 (λ c. search needs) (λ c. search needs) returns-3 (λ c. search needs) (λ c. search needs) returns-4
+    (λ c. search needs) (λ c. search needs) returns-5 (λ c. search needs) (λ c. search needs) returns-6 (λ c. search needs) (λ c. search needs)
+    returns-7)

@@ -18,7 +18,7 @@ returns-4 c = fourth-named _ _ _ _ _ _ _ _ _ (sym (c .before .before .before .be
 
 returns-5 : tie.Need-returns-5
 unfolding otherSlotKind bytes
-returns-5 c = none-named _ _ _ _ _ _ _ _ _ (sym (c .before .before .before .before .before .before .before .before .before .before .same .ensures) ∙ c .before .before .before .before .before .before .before .before .before .if1 .left) (sym (c .before .before .before .before .before .before .before .same2 .ensures) ∙ c .before .before .before .before .before .before .if2 .left) (sym (c .before .before .before .before .same3 .ensures) ∙ c .before .before .before .if3 .left) (sym (c .before .same4 .ensures) ∙ c .if4 .left)
+returns-5 c = c .close-kind .ensures ∙ none-named _ _ _ _ _ _ _ _ _ (sym (c .before .before .before .before .before .before .before .before .before .before .before .same .ensures) ∙ c .before .before .before .before .before .before .before .before .before .before .if1 .left) (sym (c .before .before .before .before .before .before .before .before .same2 .ensures) ∙ c .before .before .before .before .before .before .before .if2 .left) (sym (c .before .before .before .before .before .same3 .ensures) ∙ c .before .before .before .before .if3 .left) (sym (c .before .before .same4 .ensures) ∙ c .before .if4 .left)
 
 pub other-slot-kind-spec : {M : Type 1} → statement M
 unfolding bytes otherSlotKind
@@ -26,4 +26,4 @@ other-slot-kind-spec =
     tie.close (tie.spec (λ c. search needs) (λ c κs. search needs)
     (λ c. first-named _ _ _ _ _ _ _ _ _ (sym (c .before .same .ensures) ∙ c .if1 .taken)) (λ c. search needs) (λ c κs. search needs) returns-2
     (λ c. search needs)
-    (λ c κs. search needs) returns-3 (λ c. search needs) (λ c κs. search needs) returns-4 returns-5)
+    (λ c κs. search needs) returns-3 (λ c. search needs) (λ c κs. search needs) returns-4 (λ c κs. search needs) returns-5)

@@ -8,8 +8,8 @@ use Rattle.model.specs.SequentialModel.{firstModel, modelAfter}
 use Rattle.model.specs.RecoveryPass.{Visit, visitCall, nonePrepared, Expiring, Closing}
 use Rattle.model.specs.Turns.{Turn, turnEvent, turnAfter, turnOnePhase, turnsLeft, onePhaseTurn, turnEvents, LegalTurns}
 use Rattle.model.specs.Recovered.{modelAfterTurns}
 use Rattle.recovery.specs.PassExists.{recoveryPass, pass-exists}
-use Rattle.recovery.specs.Turns.{recoveredAfter, modelOfTurns, RecoveredSheets, turns-recover}
+use Rattle.turns.specs.Reduction.{recoveredAfter, modelOfTurns, RecoveredSheets, turns-recover}
 
 -- A kind of sheets: what they say, which pass, what calls and turns do with them, and that this is what they do with what the sheets say.
 pub record Kind (S : Type 0) : Type 1 where

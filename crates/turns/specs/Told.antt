@@ -10,22 +10,30 @@ use Rattle.model.specs.Records.{records, keyLess, rising, recordsGood, recordsA
 use Rattle.model.specs.Coordinator.{Coordinator, coordinatorOf, coordinatorAccepted, withDecision, withIssued}
 use Rattle.model.specs.Refusals.{refusalOf}
 use Rattle.model.specs.SheetCalls.{lineAt}
-use Rattle.model.specs.Writes.{Sheets, Write, nothing, issue, decide, commit, prepare, forward, back, decisionsAfter, apply}
+use Rattle.model.specs.Writes.{Sheets, sheetsGood, Write, nothing, issue, decide, commit, prepare, forward, back, decisionsAfter, apply}
 use Rattle.model.specs.Groups.{scope}
-use Rattle.model.specs.Histories.{after, ClockFits}
+use Rattle.model.specs.Results.{Call, Answer, Response, writeOf}
+use Rattle.model.specs.Calls.{result}
+use Rattle.model.specs.Steps.{step}
+use Rattle.model.specs.Histories.{ClockFits}
+use Rattle.model.specs.Closing.{Run, starting, mostSteps, closeConditions}
+use Rattle.model.specs.Operations.{Operation, once, close, standsFor, response, sheetsLeft}
 use Rattle.model.specs.ByteHistories.{Bytes, saying, Passing}
 use Rattle.model.specs.AtomicWrites.{scopeAt, OneUnit, lines-of-one-unit, coordinator-only}
-use Rattle.model.specs.Turns.{Turn, single, byPlace, turnEventOn, turnAfter, turnAfterOn}
+use Rattle.model.specs.Turns.{Turn, turnWritesOnce, turnEventOn, turnAfter, turnAfterOn}
 use Rattle.model.specs.Changes.{differs, reachOf, lastReach, firstDiffering, lengthConditions, sheetsTold, writtenConditions, writtenNumber, toldOf}
 use Rattle.model.specs.Changes.{ToldAtomic, nothing-told, coordinator-told, lines-told}
 use Rattle.sheet_laws.specs.ByIndex.{whole-lines, length-records, record-at}
 use Rattle.sheet_laws.specs.Decisions.{accepted-parts, accepted-length, length-decisions}
 use Rattle.call_laws.specs.Groups.{scope-between}
 use Rattle.call_laws.specs.ByIndex.{rising-at}
-use Rattle.call_laws.specs.Lifting.{passing-parts}
-use Rattle.call_laws.specs.Turns.{turn-stays-passing}
-use Rattle.call_laws.specs.ByteUnits.{call-unit, place-unit}
+use Rattle.call_laws.specs.Choices.{unless-by}
+use Rattle.call_laws.specs.Lifting.{passing-parts, passing-good}
 use Rattle.call_laws.specs.Told.{reach-within, told-ends, told-none}
+use Rattle.closing_laws.specs.Steps.{starts-sound, closing-by}
+use Rattle.turns.specs.Operations.{settled-left}
+use Rattle.turns.specs.Turns.{by-turn, turn-stays-passing}
+use Rattle.turns.specs.Units.{turn-unit}
 
 -- The sheets keep their lengths.
 
@@ -44,23 +52,32 @@ decisions-kept (prepare n now es) c = refl
 decisions-kept (forward n ks) c = refl
 decisions-kept (back n ks) c = refl
 
-turn-decisions : (x : Turn) (s : Sheets) → length (turnAfter x s .coordinator .decisions) ≡ length (s .coordinator .decisions)
-unfolding turnAfter after apply
-turn-decisions (single c) s = decisions-kept _ (s .coordinator)
-turn-decisions (byPlace list place q) s = decisions-kept _ (s .coordinator)
+operation-decisions : (o : Operation) (s : Sheets) → ClockFits (standsFor o) → sheetsGood s ≡ true → length (sheetsLeft s (response o s) .coordinator .decisions) ≡ length (s .coordinator .decisions)
+unfolding response standsFor apply
+operation-decisions (once c) s l g = ap (λ (z : Sheets). length (z .coordinator .decisions)) (settled-left s (result c s)) ∙ decisions-kept (writeOf (result c s)) (s .coordinator)
+operation-decisions (close t now limit) s l g =
+    unless-by (λ (r : Response Answer Sheets). length (sheetsLeft s r .coordinator .decisions) ≡ length (s .coordinator .decisions)) (closeConditions t s) refl
+    (λ z. closing-by (λ (x : Run). length (x .sheets .coordinator .decisions) ≡ length (s .coordinator .decisions)) now l
+    (λ y k q e. decisions-kept (step (y .transaction) now (y .sheets) .write) (y .sheets .coordinator) ∙ e) mostSteps (starting t limit s) (starts-sound t limit s g z) refl)
+
+pub turn-decisions : (x : Turn) (b : Bytes) → ClockFits (turnEventOn x b .call) → Passing b → length (saying (turnAfterOn x b) .coordinator .decisions) ≡ length (saying b .coordinator .decisions)
+unfolding turnEventOn turnAfter
+turn-decisions x b l p =
+    ap (λ (s : Sheets). length (s .coordinator .decisions)) (turn-stays-passing x b l p .0)
+    ∙ by-turn
+    (λ (c : Call) (r : Response Answer Sheets). ClockFits c → sheetsGood (saying b) ≡ true
+    → length (sheetsLeft (saying b) r .coordinator .decisions) ≡ length (saying b .coordinator .decisions))
+    (saying b) x (λ o. operation-decisions o (saying b)) (λ c l g. refl) l (passing-good b p)
 
 -- a head and a line for each decision
 coordinator-size : (s : List ℕ) → coordinatorAccepted s ≡ true → length s ≡ coordinatorBytes + length (coordinatorOf s .decisions) * coordinatorBytes
 coordinator-size s a = omega (arith, accepted-length s a, accepted-parts s a .whole, length-decisions s, length-drop coordinatorBytes s)
 
-coordinator-length : (x : Turn) (b : Bytes) → ClockFits (turnEventOn x b .call) → Passing b → length (b .coordinator) ≡ length (turnAfterOn x b .coordinator)
-coordinator-length x b l p =
-    let t = turn-stays-passing x b l p in
-    let n : length (coordinatorOf (turnAfterOn x b .coordinator) .decisions) ≡ length (coordinatorOf (b .coordinator) .decisions) =
-    ap (λ (s : Sheets). length (s .coordinator .decisions)) (t .0) ∙ turn-decisions x (saying b) in
+coordinator-length : (b a : Bytes) → Passing b → Passing a → length (saying a .coordinator .decisions) ≡ length (saying b .coordinator .decisions) → length (b .coordinator) ≡ length (a .coordinator)
+coordinator-length b a p q n =
     coordinator-size (b .coordinator) (passing-parts b p .1 .0)
     ∙ (ap (λ (m : ℕ). coordinatorBytes + m * coordinatorBytes) (sym n)
-    ∙ sym (coordinator-size (turnAfterOn x b .coordinator) (passing-parts (turnAfterOn x b) (t .1) .1 .0)))
+    ∙ sym (coordinator-size (a .coordinator) (passing-parts a q .1 .0)))
 
 -- What is told where nothing is refused.
 
@@ -161,26 +178,24 @@ module _ (b a : Bytes) where
             nothing-told (rw (stays, e)) (λ i. record { records = sym s i; coordinator = c i })
         go false e = lines-told (rw (stays, e)) c (range-of-unit (λ i j p q. of-unit unit f i p ∙ sym (of-unit unit f j q)))
 
--- "writes to at most one unit or the coordinator sheet", by turn
-pub turn-unit : (x : Turn) (b : Bytes) → ClockFits (turnEventOn x b .call) → Passing b → OneUnit b (turnAfterOn x b)
-unfolding turnEventOn turnAfterOn
-turn-unit (single c) b l p = call-unit c b l p
-turn-unit (byPlace list place q) b l p = place-unit list place q b l p
-
 same-size : (b a : Bytes) → OneUnit b a → length (b .records) ≡ length (a .records)
 same-size b a (lines-of-one-unit unit c n f) = sym n
 same-size b a (coordinator-only e) = sym (ap length e)
 
-pub told-of-turn : (x : Turn) (b : Bytes) (target : List ℕ) → length target ≡ 2 → ClockFits (turnEventOn x b .call) → Passing b
-    → ToldAtomic b (turnAfterOn x b) (toldOf b (turnAfterOn x b) target)
+-- between accepted sheets that differ in one unit
+pub told-between : (b a : Bytes) (target : List ℕ) → length target ≡ 2 → Passing b → Passing a → OneUnit b a
+    → length (saying a .coordinator .decisions) ≡ length (saying b .coordinator .decisions) → ToldAtomic b a (toldOf b a target)
 unfolding writtenNumber
-told-of-turn x b target t l p =
-    let a = turnAfterOn x b in
-    let u = turn-unit x b l p in
+told-between b a target t p q u d =
     let r = passing-parts b p .0 in
     let w = whole b a r in
     let f : length (b .records) / recordBytes < 2 ^ 32 = omega (arith, few-lines (b .records) r) in
     let n = refusalOf (writtenConditions (b .records) (a .records) (b .coordinator) (a .coordinator) target) in
-    let z : n ≡ 0 = not-refused _ _ _ _ _ (same-size b a u) w f t (coordinator-length x b l p) in
+    let z : n ≡ 0 = not-refused _ _ _ _ _ (same-size b a u) w f t (coordinator-length b a p q d) in
     let e : eqb n 0 ≡ true = eq-eqb n 0 z in
     rw e (told-by-unit b a r u)
+
+pub told-of-turn : (x : Turn) (b : Bytes) (target : List ℕ) → length target ≡ 2 → turnWritesOnce x ≡ true → ClockFits (turnEventOn x b .call) → Passing b
+    → ToldAtomic b (turnAfterOn x b) (toldOf b (turnAfterOn x b) target)
+told-of-turn x b target t w l p =
+    told-between b (turnAfterOn x b) target t p (turn-stays-passing x b l p .1) (turn-unit x b w l p) (turn-decisions x b l p)

@@ -10,10 +10,10 @@ use Rattle.model.specs.ByteHistories.{Bytes, saying, Passing, answerOn, afterOn
 use Rattle.model.specs.Turns.{Turn, turnEventOn, turnAfterOn, turnsLeft, LegalTurns}
 use Rattle.model.specs.Recovered.{bytesRecovered, Recovered}
 use Rattle.call_laws.specs.Lifting.{passing-good, passing-encoded, bytes-stay-passing}
-use Rattle.call_laws.specs.Turns.{same-event, turn-stays-passing}
+use Rattle.turns.specs.Turns.{same-event, turn-stays-passing}
 use Rattle.recovery.specs.Commits.{exactly-same}
 use Rattle.recovery.specs.PassExists.{recoveryPass}
-use Rattle.recovery.specs.Lift.{Kind, LiftedPass, pass-lift, pass-exists-on}
+use Rattle.turns.specs.Lift.{Kind, LiftedPass, pass-lift, pass-exists-on}
 
 abbrev pub bytesKind : Kind Bytes
 bytesKind =

@@ -1,25 +1,32 @@
 -- Histories of turns are histories of calls: a legal history of turns is a legal history of the calls that they come to, with the same sheets and the same
 -- model. So demand 3 over calls is demand 3 over turns. What a kind of turn owes for it is `Comes`.
-use Rattle.lists.specs.Basics.{_≡_, refl, sym, ap, ap₂, subst, _∙_, ℕ, _<_, Bool, true, false, _||_, cond, List, [], _∷_, _++_, map, length, some}
-use Rattle.lists.specs.Basics.{Option·none-ne-some, inl, inr}
+use Rattle.lists.specs.Basics.{_≡_, refl, sym, ap, subst, _∙_, ℕ, _<_, eqb, Bool, true, false, _||_, cond, List, [], _∷_, _++_, map, length, some}
+use Rattle.lists.specs.Basics.{Option·none-ne-some, Option·some-injective, inl, inr, eqb-true}
 use Rattle.model.specs.Types.{Key, Record, Transaction, Request}
 use Rattle.model.specs.Calls.{result}
 use Rattle.model.specs.Images.{Change}
 use Rattle.model.specs.Coordinator.{decision}
-use Rattle.model.specs.Writes.{Sheets, sheetsGood, isOnePhase, apply}
-use Rattle.model.specs.Results.{Call, Result, writeOf, turnedAway, returns, answerOf, Answer}
-use Rattle.model.specs.CallByPlace.{listed, callAt, resultAt}
-use Rattle.model.specs.Histories.{Event, answer, written, after, Available, Permitted, event, eventsAfter, leftBy, Legal, onePhaseIn}
-use Rattle.model.specs.SequentialModel.{Model, firstModel, modelStep, modelAfter, isCommitted}
+use Rattle.model.specs.Refusals.{refusalOf}
+use Rattle.model.specs.Writes.{Sheets, sheetsGood, isOnePhase}
+use Rattle.model.specs.Results.{Call, advance, Answer, turnedAway, returns, Response, refused, answerOf}
+use Rattle.model.specs.Closing.{starting, closingCalls, mostSteps, closeConditions}
+use Rattle.model.specs.Operations.{Operation, once, close, standsFor, settled, closeRun, ended, response, sheetsLeft, callsOf}
+use Rattle.model.specs.CallByPlace.{listed, operationAt, callAt, responseAt}
+use Rattle.model.specs.Histories.{Event, answer, written, after, given, Available, Permitted, event, eventsAfter, leftBy, Legal, onePhaseIn}
+use Rattle.model.specs.SequentialModel.{Model, firstModel, modelCall, modelStep, modelAfter, isCommitted}
 use Rattle.model.specs.RecoveryPass.{Visit, visitCall, nonePrepared, Closing}
-use Rattle.model.specs.Turns.{Turn, single, byPlace, turnEvent, turnAfter, turnOnePhase, comesTo, expanded, turnsLeft, onePhaseTurn, turnEvents, LegalTurns}
+use Rattle.model.specs.Turns.{Turn, single, byPlace, turnCall, turnResponse, turnEvent, turnAfter, turnOnePhase, comesTo, expanded, turnsLeft, onePhaseTurn}
+use Rattle.model.specs.Turns.{turnEvents, LegalTurns}
 use Rattle.model.specs.Recovered.{modelAfterTurns, CommittedExactly}
-use Rattle.call_laws.specs.Lifting.{apply-nothing}
-use Rattle.call_laws.specs.ByPlace.{named-result, unlisted-result}
+use Rattle.call_laws.specs.Sheets.{parts-good}
+use Rattle.call_laws.specs.ByPlace.{named-response, unlisted-response}
 use Rattle.recovery.specs.Invariant.{Inv}
 use Rattle.recovery.specs.History.{first-inv, onesAfter, history-kept}
 use Rattle.recovery.specs.Theorem.{recoveredBy, recovery-theorem}
-use Rattle.recovery.specs.Commits.{or-none, exactly-same, commits-exactly}
+use Rattle.recovery.specs.Commits.{exactly-same, commits-exactly}
+use Rattle.closing_laws.specs.Steps.{starts-sound}
+use Rattle.closing_laws.specs.Advances.{modelTaken, RunAsAdvances, close-is-advances}
+use Rattle.turns.specs.Operations.{settled-left, settled-answer}
 
 -- Histories one after another.
 
@@ -49,65 +56,115 @@ ones-append n (x ∷ xs) ys s =
     ap (λ (b : Bool). isOnePhase n (written x s) || b) (ones-append n xs ys (after x s))
     ∙ or-assoc (isOnePhase n (written x s)) (onePhaseIn written after n xs (after x s)) (onePhaseIn written after n ys (leftBy answer after xs (after x s)))
 
--- What is owed for a turn that is the event e, leaves s′ and comes to the calls cs: they are legal, leave what it leaves, hand on what it hands on, the model
--- commits as it does, and one-phase writes are made as it makes them. es are the events of turns, es′ those of the calls that they came to.
-pub record Comes (cs : List Call) (e : Event) (s s′ : Sheets) (makes : ℕ → Bool) (es es′ : List Event) : Type 0 where
+-- What is owed for a turn that is the event e, leaves s′ and comes to the calls cs: they are legal, leave what it leaves, hand on what it hands on, and the
+-- model commits as it does. es are the events of turns, es′ those of the calls that they came to.
+pub record Comes (cs : List Call) (e : Event) (s s′ : Sheets) (es es′ : List Event) : Type 0 where
   pub legal : Legal answer after cs s es′
   pub left : leftBy answer after cs s ≡ s′
   pub handed : (t : Transaction) → Available t (e ∷ es) → Available t (eventsAfter answer after cs s es′)
   pub model : (m : Model) → modelAfter es′ m ≡ modelAfter es m → modelAfter (eventsAfter answer after cs s es′) m ≡ modelStep e (modelAfter es m)
-  pub ones : (n : ℕ) → onePhaseIn written after n cs s ≡ makes n
+
+abbrev eventOf : Call → Response Answer Sheets → Event
+eventOf c r = record { call = c; answer = answerOf r }
 
 -- the events of turns hand on what those of calls do
 module _ (s : Sheets) (es es′ : List Event) (handed-on : (t : Transaction) → Available t es → Available t es′) where
-  single-comes : (c : Call) → Permitted c (answer c s) es → Comes (c ∷ []) (event answer after c s) s (after c s) (λ (n : ℕ). isOnePhase n (written c s)) es es′
-  unfolding leftBy eventsAfter modelAfter onePhaseIn
+  abbrev Come : List Call → Call → Response Answer Sheets → Type 0
+  Come cs c r = Comes cs (eventOf c r) s (sheetsLeft s r) es es′
+
+  abbrev May : Call → Response Answer Sheets → Type 0
+  May c r = Permitted c (answerOf r) es
+
+  single-comes : (c : Call) → Permitted c (answer c s) es → Comes (c ∷ []) (event answer after c s) s (after c s) es es′
+  unfolding leftBy eventsAfter modelAfter
   single-comes c p =
       record {
         legal = (record { clock = p .clock; state = λ t e. handed-on t (p .state t e) }, tt);
         left = refl;
         handed = handed;
         model = λ m e. ap (modelStep (event answer after c s)) e;
-        ones = λ n. or-none (isOnePhase n (written c s));
       }
     where
       handed : (t : Transaction) → Available t (event answer after c s ∷ es) → Available t (event answer after c s ∷ es′)
       handed t (inl q) = inl q
       handed t (inr b) = inr (b .0, handed-on t (b .1))
 
+  once-comes : (c : Call) → May c (settled s (result c s)) → Come (c ∷ []) c (settled s (result c s))
+  unfolding answer after written
+  once-comes c p =
+      let e : answerOf (settled s (result c s)) ≡ answer c s = settled-answer s (result c s) in
+      subst (λ (a : Answer). Comes (c ∷ []) (record { call = c; answer = a }) s (sheetsLeft s (settled s (result c s))) es es′) (sym e)
+      (subst (λ (s′ : Sheets). Comes (c ∷ []) (event answer after c s) s s′ es es′) (sym (settled-left s (result c s)))
+      (single-comes c (subst (λ (a : Answer). Permitted c a es) e p)))
+
   -- a turn that is refused comes to nothing
-  pub refused-comes : (c : Call) (i : ℕ) → Comes [] (record { call = c; answer = turnedAway i }) s s (λ (n : ℕ). false) es es′
-  unfolding leftBy eventsAfter modelStep returns onePhaseIn
-  refused-comes c i = record { legal = tt; left = refl; handed = handed; model = λ m e. e; ones = λ n. refl }
+  refused-comes : (c : Call) (i : ℕ) → Come [] c (refused i)
+  unfolding leftBy eventsAfter modelStep returns
+  refused-comes c i = record { legal = tt; left = refl; handed = handed; model = λ m e. e }
     where
       handed : (t : Transaction) → Available t (record { call = c; answer = turnedAway i } ∷ es) → Available t es′
       handed t (inl q) = absurd (Option·none-ne-some t q)
       handed t (inr b) = handed-on t (b .1)
 
-  module _ (list : List Transaction) (place : ℕ) (q : Request) where
-    abbrev Come : List Call → Result Answer → Type 0
-    Come cs r = Comes cs (record { call = callAt list place q; answer = answerOf r }) s (apply (writeOf r) s) (λ (n : ℕ). isOnePhase n (writeOf r)) es es′
-
-    abbrev May : Result Answer → Type 0
-    May r = Permitted (callAt list place q) (answerOf r) es
-
-    by-place-comes : May (resultAt list place q s) → Come (cond (listed (length list) place) (callAt list place q ∷ []) []) (resultAt list place q s)
-    unfolding answer after written isOnePhase
-    by-place-comes p = go (listed (length list) place) refl
+  module _ {base : ℕ} {one : ℕ → Bool} {m : Model} (inv : Inv base one s es′ m) where
+    -- A close that isn't refused comes to its advances. A state that it didn't take has another number than the one that it took, which is the only one available
+    -- under its number, so that none of the states in between is that one.
+    run-comes : (t : Transaction) (now limit : ℕ) → refusalOf (closeConditions t s) ≡ 0 → May (advance t now) (ended (closeRun t now limit s))
+        → Come (closingCalls mostSteps now (starting t limit s)) (advance t now) (ended (closeRun t now limit s))
+    unfolding modelStep modelCall returns given
+    run-comes t now limit z p =
+        let a : Available t es′ = handed-on t (p .state t refl) in
+        let k = starts-sound t limit s (parts-good s (inv .good)) z in
+        let r : RunAsAdvances mostSteps now (starting t limit s) es′ = close-is-advances mostSteps now (p .clock) (starting t limit s) k es′ a in
+        record { legal = r .legal; left = r .left; handed = handed a r; model = λ m e. r .model m ∙ ap (modelTaken t u) e }
       where
-        go : (b : Bool) → listed (length list) place ≡ b → Come (cond b (callAt list place q ∷ []) []) (resultAt list place q s)
-        go true e =
-            let same : resultAt list place q s ≡ result (callAt list place q) s = named-result list place q s e in
-            subst (Come (callAt list place q ∷ [])) (sym same) (single-comes (callAt list place q) (subst May same p))
-        go false e =
-            subst (Come []) (sym (unlisted-result list place q s e))
-            (subst (λ (s′ : Sheets). Comes [] (record { call = callAt list place q; answer = turnedAway 3 }) s s′ (λ (n : ℕ). false) es es′) (sym (apply-nothing s))
-            (refused-comes (callAt list place q) 3))
+        u : Transaction
+        u = closeRun t now limit s .transaction
 
-  turn-comes : (x : Turn) → Permitted (turnEvent x s .call) (turnEvent x s .answer) es → Comes (comesTo x s) (turnEvent x s) s (turnAfter x s) (λ (n : ℕ). turnOnePhase n x s) es es′
-  unfolding comesTo turnEvent turnAfter turnOnePhase
-  turn-comes (single c) p = single-comes c p
-  turn-comes (byPlace list place q) p = by-place-comes list place q p
+        made-events : List Event
+        made-events = eventsAfter answer after (closingCalls mostSteps now (starting t limit s)) s es′
+
+        handed : Available t es′ → RunAsAdvances mostSteps now (starting t limit s) es′ → (x : Transaction)
+            → Available x (eventOf (advance t now) (ended (closeRun t now limit s)) ∷ es)
+            → Available x made-events
+        handed a r x (inl q) = subst (λ (y : Transaction). Available y made-events) (Option·some-injective u x q) (r .mine)
+        handed a r x (inr b) =
+            let h : Available x es′ = handed-on x (b .1) in
+            r .others x (λ n. b .0 (ap some (inv .unique t x a h (sym n)))) h
+
+    operation-comes : (o : Operation) → May (standsFor o) (response o s) → Come (callsOf o s) (standsFor o) (response o s)
+    unfolding standsFor response callsOf
+    operation-comes (once c) p = once-comes c p
+    operation-comes (close t now limit) p = go (eqb (refusalOf (closeConditions t s)) 0) refl p
+      where
+        n : ℕ
+        n = refusalOf (closeConditions t s)
+
+        by : Bool → Response Answer Sheets
+        by b = cond b (ended (closeRun t now limit s)) (refused n)
+
+        go : (b : Bool) → eqb n 0 ≡ b → May (advance t now) (by b)
+            → Come (cond b (closingCalls mostSteps now (starting t limit s)) []) (advance t now) (by b)
+        go true e q = run-comes t now limit (eqb-true n 0 e) q
+        go false e q = refused-comes (advance t now) n
+
+    by-place-comes : (list : List Transaction) (place : ℕ) (q : Request) → May (callAt list place q) (responseAt list place q s)
+        → Come (cond (listed (length list) place) (callsOf (operationAt list place q) s) []) (callAt list place q) (responseAt list place q s)
+    by-place-comes list place q p = go (listed (length list) place) refl
+      where
+        o : Operation
+        o = operationAt list place q
+
+        go : (b : Bool) → listed (length list) place ≡ b → Come (cond b (callsOf o s) []) (standsFor o) (responseAt list place q s)
+        go true e =
+            let same : responseAt list place q s ≡ response o s = named-response list place q s e in
+            subst (Come (callsOf o s) (standsFor o)) (sym same) (operation-comes o (subst (May (standsFor o)) same p))
+        go false e = subst (Come [] (standsFor o)) (sym (unlisted-response list place q s e)) (refused-comes (standsFor o) 3)
+
+    turn-comes : (x : Turn) → Permitted (turnEvent x s .call) (turnEvent x s .answer) es → Comes (comesTo x s) (turnEvent x s) s (turnAfter x s) es es′
+    unfolding comesTo turnEvent turnAfter turnCall turnResponse
+    turn-comes (single o) p = operation-comes o p
+    turn-comes (byPlace list place q) p = by-place-comes list place q p
 
 -- The reduction.
 
@@ -118,10 +175,10 @@ pub record Reduced (xs : List Turn) (s : Sheets) (es es′ : List Event) (m : Mo
   pub ones : (n : ℕ) → onePhaseIn written after n (expanded xs s) s ≡ onePhaseTurn turnAfter turnOnePhase n xs s
 
 pub reduce : {base : ℕ} {one : ℕ → Bool} (xs : List Turn) (s : Sheets) (es es′ : List Event) (m : Model) → Inv base one s es′ (modelAfter es′ m) → ((t : Transaction) → Available t es → Available t es′) → modelAfter es′ m ≡ modelAfter es m → LegalTurns turnAfter turnEvent xs s es → Reduced xs s es es′ m
-unfolding expanded turnsLeft turnEvents onePhaseTurn leftBy eventsAfter modelAfter onePhaseIn
+unfolding expanded turnsLeft turnEvents onePhaseTurn turnOnePhase leftBy eventsAfter modelAfter onePhaseIn
 reduce [] s es es′ m inv h e l = record { legal = tt; left = refl; model = e; ones = λ n. refl }
 reduce {base} {one} (x ∷ xs) s es es′ m inv h e l =
-    let c = turn-comes s es es′ h x (l .0) in
+    let c = turn-comes s es es′ h inv x (l .0) in
     let cs = comesTo x s in
     let es₁ = eventsAfter answer after cs s es′ in
     let kept : Inv base (onesAfter cs s one) (turnAfter x s) es₁ (modelAfter es₁ m) =
@@ -135,7 +192,7 @@ reduce {base} {one} (x ∷ xs) s es es′ m inv h e l =
           ap (λ (z : List Event). modelAfter z m) (events-append cs next s es′)
           ∙ (ap (λ (y : Sheets). modelAfter (eventsAfter answer after next y es₁) m) (c .left) ∙ r .model);
       ones = λ n. ones-append n cs next s
-          ∙ ap₂ (λ (a b : Bool). a || b) (c .ones n) (ap (onePhaseIn written after n next) (c .left) ∙ r .ones n);
+          ∙ ap (λ (b : Bool). onePhaseIn written after n cs s || b) (ap (onePhaseIn written after n next) (c .left) ∙ r .ones n);
     }
 
 -- Demand 3 over turns and decoded sheets.

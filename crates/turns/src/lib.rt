@@ -1,0 +1,1 @@
+// Theorems about operations, turns and histories of turns (specs/); no code.
