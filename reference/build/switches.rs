@@ -38,12 +38,18 @@ pub fn write(target: &Path) {
     fs::write(target.join("titles.rs"), format!("&{titles:#?}")).unwrap();
 }
 
-/// The faults of every file, in the order of the files' names.
+/// The faults of every file, in the order of the numbers that the files' names begin with.
 fn faults() -> Vec<Fault> {
     let folder = fs::read_dir("faults").expect("the folder of faults");
     let mut paths: Vec<_> = folder.map(|entry| entry.unwrap().path()).collect();
-    paths.sort();
+    paths.sort_by_key(|path| number_of(path));
     paths.iter().flat_map(|path| faults_of(path)).collect()
+}
+
+fn number_of(path: &Path) -> u32 {
+    let name = path.file_name().unwrap().to_string_lossy();
+    let number = name.split('_').next().unwrap();
+    number.parse().expect("a number before the name")
 }
 
 fn faults_of(path: &Path) -> Vec<Fault> {

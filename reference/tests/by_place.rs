@@ -42,6 +42,7 @@ fn asked(call: u32, key: [u32; 5], now: u32) -> Asked {
         key: Key::from_numbers(key),
         columns: [7, 8],
         now,
+        limit: 17,
     }
 }
 
@@ -88,6 +89,53 @@ fn a_whole_order() {
         let image = store.records[place].image;
         assert_eq!((image.version, image.tx_id), (version, 2));
         assert_eq!(image.columns(), [7, 8]);
+    }
+}
+
+#[test]
+fn a_close_answers_how_many_writes_it_made() {
+    let order = || {
+        let mut lent = Lent {
+            sheets: sheets(),
+            list: list_of(3),
+        };
+        for (call, key) in [
+            (BEGIN_CHECKED, COMMITTED_KEY),
+            (READ, COMMITTED_KEY),
+            (READ, ABSENT_KEY),
+            (PUT, COMMITTED_KEY),
+            (PUT, ABSENT_KEY),
+        ] {
+            ask(&mut lent, 2, asked(call, key, 0));
+        }
+        lent
+    };
+    let close = |lent: &mut Lent, limit| {
+        let asked = Asked {
+            limit,
+            ..asked(CLOSE, [0; 5], 9)
+        };
+        ask(lent, 2, asked)
+    };
+    for (limit, writes, phase) in [
+        (0, 0, PREPARE),
+        (1, 1, PREPARE),
+        (2, 2, DECIDE),
+        (3, 3, FINISH),
+        (4, 4, FINISH),
+        (5, 5, DONE),
+        (u32::MAX, 5, DONE),
+    ] {
+        let mut lent = order();
+        assert_eq!(close(&mut lent, limit), writes);
+        assert_eq!(lent.list[2].phase, phase);
+        // The rest of it, once it is known to go on.
+        let rest = match phase {
+            DONE => 1_004,
+            _ => 5 - writes,
+        };
+        assert_eq!(close(&mut lent, 17), rest);
+        assert_eq!(lent.list[2].phase, DONE);
     }
 }
 
@@ -154,12 +202,12 @@ fn the_order_of_refusals() {
         }
         for length in [0, 1, 2, 16, 17] {
             for place in [0, 1, 15, 16, 17, 1 << 32, usize::MAX] {
-                for call in (0..=7).chain([256, 65_536, u32::MAX]) {
+                for call in (0..=8).chain([256, 65_536, u32::MAX]) {
                     let mut lent = Lent {
                         sheets: sheets.clone(),
                         list: list_of(length),
                     };
-                    let no_such = length > 16 || place >= length as usize || call > ABORT;
+                    let no_such = length > 16 || place >= length as usize || call >= CALLS;
                     let refusal = match (bad_records, bad_coordinator) {
                         (true, _) => 1,
                         (_, true) => 2,

@@ -6,9 +6,10 @@ use reference::make::random::Random;
 use reference::make::Sheets;
 use reference::plain;
 use reference::plain::request::{Answer, Request};
+use reference::plain::transaction::Transaction;
 use std::collections::{BTreeMap, BTreeSet};
 
-const HISTORIES: u64 = 600;
+const HISTORIES: u64 = 2_000;
 const CALLS: usize = 120;
 
 const PHASES: [&str; 8] = [
@@ -17,19 +18,26 @@ const PHASES: [&str; 8] = [
 const VERDICTS: [&str; 3] = ["none", "committed", "aborted"];
 
 /// The refusals of each call but 4.
-const REFUSALS: [(&str, &[u32]); 6] = [
+const REFUSALS: [(&str, &[u32]); 7] = [
     ("begin", &[1, 2, 8]),
     ("read", &[1, 2, 3, 5, 6, 9, 12]),
     ("put", &[1, 2, 3, 5, 6, 7, 10, 11]),
     ("advance", &[1, 2, 3]),
     ("abort", &[1, 2, 3]),
+    ("close", &[1, 2, 3]),
     ("visit", &[1, 2, 5, 6, 12]),
 ];
 
 /// The first phase from which on refusal 4 is given, up to done.
-const WRONG_PHASES: [(&str, usize); 4] = [("read", 1), ("put", 1), ("advance", 3), ("abort", 4)];
+const WRONG_PHASES: [(&str, usize); 5] = [
+    ("read", 1),
+    ("put", 1),
+    ("advance", 3),
+    ("abort", 4),
+    ("close", 0),
+];
 
-/// The answers, what they write and the steps.
+/// The answers, what they write and the steps. Of a close, which may write to both sheets, only where it ends.
 const ANSWERS: &str = "
 begin: open, none, wrote coordinator
 read: Absent, wrote nothing
@@ -68,6 +76,39 @@ abort: open to withdraw, none, wrote nothing
 abort: prepare to withdraw, none, wrote nothing
 abort: check to withdraw, none, wrote nothing
 abort: decide to withdraw, none, wrote nothing
+close: open to open, none
+close: open to prepare, none
+close: open to decide, none
+close: open to withdraw, none
+close: open to finish, committed
+close: open to undo, aborted
+close: open to done, committed
+close: open to done, aborted
+close: prepare to prepare, none
+close: prepare to decide, none
+close: prepare to withdraw, none
+close: prepare to finish, committed
+close: prepare to undo, aborted
+close: prepare to done, committed
+close: prepare to done, aborted
+close: check to decide, none
+close: check to withdraw, none
+close: check to finish, committed
+close: check to undo, aborted
+close: check to done, committed
+close: check to done, aborted
+close: decide to decide, none
+close: decide to finish, committed
+close: decide to undo, aborted
+close: decide to done, committed
+close: decide to done, aborted
+close: withdraw to withdraw, none
+close: withdraw to undo, aborted
+close: withdraw to done, aborted
+close: finish to finish, committed
+close: finish to done, committed
+close: undo to undo, aborted
+close: undo to done, aborted
 visit: Stays, wrote nothing
 visit: Forward, wrote records
 visit: Back, wrote records
@@ -92,6 +133,13 @@ fn expected(rule: Rule) -> BTreeSet<String> {
     answers.chain(refusals).chain(wrong_phases).collect()
 }
 
+/// From the phase, if there was one, to that of the transaction returned.
+fn step(from: Option<&str>, returned: &Transaction) -> String {
+    let from = from.map(|from| format!("{from} to ")).unwrap_or_default();
+    let to = PHASES[returned.phase as usize];
+    format!("{from}{to}, {}", VERDICTS[returned.verdict as usize])
+}
+
 /// What the call shows, in words.
 fn shown(event: &Event, after: &Sheets) -> String {
     let call = match event.request {
@@ -100,6 +148,7 @@ fn shown(event: &Event, after: &Sheets) -> String {
         Request::Put { .. } => "put",
         Request::Advance { .. } => "advance",
         Request::Abort { .. } => "abort",
+        Request::Close { .. } => "close",
         Request::Visit { .. } => "visit",
     };
     let taken = event.request.taken();
@@ -107,11 +156,10 @@ fn shown(event: &Event, after: &Sheets) -> String {
     let answer = match (&event.answer, phase) {
         (Err(plain::WRONG_PHASE), Some(phase)) => return format!("{call}: refusal 4 in {phase}"),
         (Err(number), _) => return format!("{call}: refusal {number}"),
-        (Ok(Answer::Returned(t)), from) => {
-            let from = from.map(|from| format!("{from} to ")).unwrap_or_default();
-            let to = PHASES[t.phase as usize];
-            format!("{from}{to}, {}", VERDICTS[t.verdict as usize])
+        (Ok(Answer::Closed(t, _)), from) => {
+            return format!("{call}: {}", step(from.copied(), t));
         }
+        (Ok(Answer::Returned(t)), from) => step(from.copied(), t),
         (Ok(Answer::Read(_, reading)), _) => format!("{reading:?}"),
         (Ok(Answer::Visited(visit)), _) => format!("{visit:?}"),
     };

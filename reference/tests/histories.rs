@@ -8,9 +8,9 @@ use reference::make::Sheets;
 use reference::plain::coordinator::Decision;
 use reference::plain::groups::share_unit;
 use reference::plain::key::Key;
-use reference::plain::request::Request;
+use reference::plain::request::{Answer, Request};
 use reference::plain::store::Store;
-use reference::plain::transaction::{Transaction, OPEN};
+use reference::plain::transaction::{Transaction, COMMITTED, DONE, OPEN};
 use reference::sequential_model::SequentialModel;
 use std::collections::BTreeSet;
 
@@ -23,13 +23,57 @@ fn written(before: &Store, after: &Store) -> Vec<Key> {
     changed.map(|(one, _)| one.key).collect()
 }
 
-/// What holds of every call: no change by a refusal, else accepted sheets and one unit or the coordinator written.
+/// What holds of every call: no change by a refusal, else accepted sheets and one write, or in a close one after another.
 fn judge(event: &Event, after: &Sheets) {
     let request = &event.request;
-    if event.answer.is_err() {
-        return assert_eq!(event.before, *after, "{request:?}");
+    match (&event.answer, request) {
+        (Err(_), _) => assert_eq!(event.before, *after, "{request:?}"),
+        (Ok(answer), Request::Close { limit, .. }) => {
+            let mut writes = writes(event, *limit);
+            assert_eq!(writes.last().unwrap_or(&event.before), after);
+            writes.insert(0, event.before.clone());
+            for pair in writes.windows(2) {
+                one_write(request, &pair[0], &pair[1]);
+            }
+            let Answer::Closed(_, report) = answer else {
+                panic!("{answer:?}");
+            };
+            assert_eq!(*report as usize, writes.len() - 1, "{request:?}");
+        }
+        _ => one_write(request, &event.before, after),
     }
-    let (before, after) = (event.before.store(), after.store());
+}
+
+/// The sheets after each write of a close, which is the close with a limit of one more.
+fn writes(event: &Event, limit: u32) -> Vec<Sheets> {
+    let Request::Close {
+        transaction, now, ..
+    } = event.request
+    else {
+        return Vec::new();
+    };
+    let mut left = Vec::new();
+    let mut before = event.before.clone();
+    for limit in 1..=limit.min(17) {
+        let mut sheets = event.before.clone();
+        let request = Request::Close {
+            transaction,
+            now,
+            limit,
+        };
+        sheets.ask(request).expect("refused at no limit");
+        if sheets == before {
+            break;
+        }
+        before = sheets.clone();
+        left.push(sheets);
+    }
+    left
+}
+
+/// One unit or the coordinator sheet is written, or nothing.
+fn one_write(request: &Request, before: &Sheets, after: &Sheets) {
+    let (before, after) = (before.store(), after.store());
     let lines = written(&before, &after);
     let units = &before.coordinator.units;
     let one_unit = lines.windows(2).all(|k| share_unit(units, &k[0], &k[1]));
@@ -38,11 +82,18 @@ fn judge(event: &Event, after: &Sheets) {
     assert!(one_write, "{request:?}");
 }
 
-/// The transaction whose one-phase write this call was, told by the sheets: a line written by an advance in open.
+/// The transaction whose one-phase write this call was, told by the sheets: a line written by an advance in open, or by
+/// a close from open to done without a decision.
 fn one_phase<'a>(event: &'a Event, after: &Sheets) -> Option<&'a Transaction> {
+    let in_lines = event.before.records != after.records;
+    let in_coordinator = event.before.coordinator != after.coordinator;
+    let to = event.answer.as_ref().ok()?.returned()?;
     match &event.request {
-        Request::Advance { transaction, .. }
-            if transaction.phase == OPEN && event.before.records != after.records =>
+        Request::Advance { transaction, .. } | Request::Close { transaction, .. }
+            if transaction.phase == OPEN
+                && in_lines
+                && !in_coordinator
+                && (to.phase, to.verdict) == (DONE, COMMITTED) =>
         {
             Some(transaction)
         }

@@ -161,8 +161,16 @@ fn put() {
 }
 
 #[test]
-fn advance_and_abort() {
+fn advance_abort_and_close() {
     for (transaction, refusals) in transactions_with_refusals(holding(&[1])) {
+        for limit in [0, 17] {
+            let close = Request::Close {
+                transaction,
+                now: 0,
+                limit,
+            };
+            asks_lowest(close, &refusals);
+        }
         asks_lowest(
             Request::Advance {
                 transaction,
@@ -187,7 +195,8 @@ fn own_lines() {
     let mut held = holding(&[1]);
     held.entries[0].wrote = 1;
     for (phase, verdict, refused) in [
-        (PREPARE, NO_VERDICT, &[][..]),
+        (OPEN, NO_VERDICT, &[][..]),
+        (PREPARE, NO_VERDICT, &[]),
         (DECIDE, NO_VERDICT, &["COMMITTED"]),
         (WITHDRAW, NO_VERDICT, &["COMMITTED"]),
         (FINISH, COMMITTED, &["-", "ABORTED"]),
@@ -197,12 +206,22 @@ fn own_lines() {
         for word in ["-", "COMMITTED", "ABORTED"] {
             let mut sheets = sheets();
             sheets.coordinator[19..29].copy_from_slice(format!("{word:>10}").as_bytes());
+            let first = sheets.clone();
             let answer = sheets.ask(Request::Advance {
                 transaction,
                 now: 0,
             });
             let refusal = refused.contains(&word).then_some(4);
             assert_eq!(answer.err(), refusal, "{phase} {word}");
+            // A close minds what it would meet later.
+            let close = Request::Close {
+                transaction,
+                now: 0,
+                limit: 17,
+            };
+            let meets = phase < DECIDE && word == "COMMITTED";
+            let answer = first.clone().ask(close);
+            assert_eq!(answer.err(), refusal.or(meets.then_some(4)));
         }
     }
 }

@@ -33,6 +33,17 @@ fn a_transaction_is_answered_line_by_line() {
 }
 
 #[test]
+fn a_close_prints_its_writes_first() {
+    let calls = "begin 3 1\nread 3 1 1 1 1 1 7\nput 3 1 1 1 1 1 500 250\nclose 3 9 0\nclose 3 9 1\nclose 3 9 1\n\
+                 close 3 9 4294967295\nclose 3 9 17\nbegin 0 0\nclose 0 0 0\n";
+    let answers =
+        "ok 1\nok absent\nok\nok 0 1 0 0\nok 1 3 0 0\nok 1 5 0 1\nok 1 7 0 1\nrefused 4\nok 2\nok 0 7 0 1\n";
+    let coordinator = "   2 SSSSSSSSS\n   1 COMMITTED\n   2         -\n";
+    let sheets = format!("{coordinator}{COMMITTED}");
+    assert_eq!(replayed(calls), (answers.into(), sheets));
+}
+
+#[test]
 fn a_key_s_line_is_handed_back_or_nothing() {
     let calls = "line 1 1 1 1 1\nline 1 1 1 1 2\nline 0 1 1 1 1\nline 1 1 1 1\n";
     let answers = format!("ok {ABSENT}ok\nok\nbad line\n");
@@ -102,6 +113,11 @@ fn lines_of_another_form_are_bad_lines() {
         "begin 0 +1",
         "advance 0 4294967296",
         "advance 0 99999999999999999999999",
+        "close 0 1",
+        "close 0 1 2 3",
+        "close 16 1 2",
+        "close 0 4294967296 17",
+        "close 0 0 4294967296",
         "entry 0 8 1 1 1 1 1 0 0 0 0 1 5 6",
         "entry 0 0 1 1 1 1 1 0 0 0 0 1 5",
         "set 0 1 1 1 1 1",
@@ -202,6 +218,11 @@ fn a_line_is_read_as_it_is_written() {
         },
         Line::Advance { slot: 10, now: 0 },
         Line::Abort { slot: 1 },
+        Line::Close {
+            slot: 12,
+            now: 7,
+            limit: u32::MAX,
+        },
         Line::Visit { key, now: 6 },
         Line::Lookup { key },
         Line::LineOf { key },

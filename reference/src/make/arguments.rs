@@ -1,4 +1,4 @@
-//! Arguments of calls: keys, columns and clocks, most often such that something happens.
+//! Arguments of calls: keys, columns, clocks and limits, most often such that something happens.
 
 use super::random::Random;
 use crate::plain::key::Key;
@@ -17,6 +17,9 @@ const EDGES: [u32; 9] = [
     2_147_483_648,
     u32::MAX,
 ];
+
+/// Limits beyond all writes, some of which would be small if their higher bits were lost.
+const LARGE: [u32; 7] = [19, 20, 256, 65_537, 1 << 31, u32::MAX - 1, u32::MAX];
 
 /// Keys few and close together, so that they share units of every kind and clients meet. In some sheets all have the
 /// same namespace or table, so that puts of one transaction often share a unit.
@@ -78,6 +81,16 @@ pub fn columns(random: &mut Random, wrong: bool) -> [u32; 2] {
         _ => random.figure(0, 99_999_999),
     };
     [column(), column()]
+}
+
+/// How many writes a close may make. Small limits come more often, since few orders have many writes.
+pub fn limit(random: &mut Random) -> u32 {
+    match random.below(12) {
+        0 => random.pick(&LARGE),
+        1..=4 => random.below(3) as u32,
+        5..=7 => random.below(6) as u32,
+        _ => random.below(19) as u32,
+    }
 }
 
 /// The PREPARED lines.

@@ -1,13 +1,14 @@
 //! Exported calls out of random histories or from nowhere, at times on damaged or forged sheets.
 
 use super::arguments::{any_key, clock};
+use super::closes;
 use super::damage::damage;
 use super::forge::forge;
 use super::history::{Event, History};
 use super::lists::{asked, list_of, no_call, other};
 use super::random::Random;
 use super::requests::{begin, stray};
-use super::transactions::forged;
+use super::transactions::forged_begun;
 use super::{any, sheets, Sheets};
 use crate::exported::{Call, Lent};
 use crate::plain::request::Request;
@@ -23,27 +24,30 @@ pub fn next(random: &mut Random, history: &mut History) -> (Call, Lent) {
     spoilt(random, 6, call)
 }
 
-/// A call with a transaction that was forged for sheets of its own, among others such.
+/// A call with a transaction that was forged for sheets of its own, or a close of an order there, among others such.
 pub fn from_nowhere(random: &mut Random) -> (Call, Lent) {
-    let sheets = sheets::crowded(random);
-    let store = sheets.store();
-    let request = match random.below(12) {
-        0 => begin(random),
-        1..=5 => advance(random, &store),
-        _ => stray(random, &[], &store),
+    let (request, sheets) = match random.once_in(5) {
+        true => closes::of_order(random),
+        false => on_crowded(random),
     };
     let call = exported(random, &request, &[], sheets);
     spoilt(random, 24, call)
 }
 
-/// The step of a forged transaction, of which there are more kinds than of any other call.
-fn advance(random: &mut Random, store: &Store) -> Request {
-    let number = 1 + random.below(store.coordinator.issued as usize) as u32;
-    let base = Transaction::begun(number, random.once_in(2));
-    Request::Advance {
-        transaction: forged(random, base, store),
-        now: clock(random, &store.records),
-    }
+/// A call on sheets with much in them.
+fn on_crowded(random: &mut Random) -> (Request, Sheets) {
+    let sheets = sheets::crowded(random);
+    let store = sheets.store();
+    let request = match random.below(14) {
+        0 => begin(random),
+        1..=5 => Request::Advance {
+            transaction: forged_begun(random, &store),
+            now: clock(random, &store.records),
+        },
+        6 | 7 => closes::of_forged(random, &sheets),
+        _ => stray(random, &[], &store),
+    };
+    (request, sheets)
 }
 
 /// A look-up in sheets of every kind.

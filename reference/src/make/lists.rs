@@ -1,6 +1,6 @@
 //! Lists of transactions as clients lend them, and what is asked of one of them by its place.
 
-use super::arguments::{any_key, clock, columns};
+use super::arguments::{any_key, clock, columns, limit};
 use super::random::Random;
 use super::transactions::forged;
 use crate::plain::by_place::{self, Asked};
@@ -12,8 +12,8 @@ use crate::plain::transaction::{Transaction, MOST_LISTED};
 /// Numbers of no call, some of which would be one if their higher bits were lost.
 const NO_CALL: [u32; 8] = [
     by_place::CALLS,
-    7,
     8,
+    9,
     256,
     65_538,
     1 << 31,
@@ -71,6 +71,7 @@ pub fn asked(random: &mut Random, request: &Request, records: &[Record]) -> Aske
         key: any_key(random, records),
         columns: columns(random, true),
         now: clock(random, records),
+        limit: limit(random),
     };
     match *request {
         Request::Begin { serializable } => Asked {
@@ -92,6 +93,12 @@ pub fn asked(random: &mut Random, request: &Request, records: &[Record]) -> Aske
         Request::Advance { now, .. } => Asked {
             call: by_place::ADVANCE,
             now,
+            ..any
+        },
+        Request::Close { now, limit, .. } => Asked {
+            call: by_place::CLOSE,
+            now,
+            limit,
             ..any
         },
         // A visit isn't by place.

@@ -3,6 +3,7 @@
 pub mod arguments;
 pub mod bad_lines;
 pub mod clients;
+pub mod closes;
 pub mod closing;
 pub mod conversions;
 pub mod damage;
@@ -11,6 +12,7 @@ pub mod exports;
 pub mod forge;
 pub mod history;
 pub mod lists;
+pub mod orders;
 pub mod random;
 pub mod requests;
 pub mod script;

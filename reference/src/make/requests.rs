@@ -1,6 +1,6 @@
 //! What clients ask for: the next call of a transaction, or one that comes from nowhere.
 
-use super::arguments::{any_key, clock, clock_for, columns, prepared};
+use super::arguments::{any_key, clock, clock_for, columns, limit, prepared};
 use super::random::Random;
 use super::transactions::{forged, full};
 use crate::plain::key::Key;
@@ -38,6 +38,7 @@ impl Client {
             3..=18 if hungry => Kind::Read,
             19..=28 if transaction.phase == OPEN && !held.is_empty() => Kind::Put,
             _ if hungry => Kind::Read,
+            _ if random.once_in(4) => Kind::Close,
             _ => Kind::Advance,
         };
         let key = match kind {
@@ -76,6 +77,7 @@ pub fn stray(random: &mut Random, old: &[Transaction], store: &Store) -> Request
         Kind::Advance,
         Kind::Advance,
         Kind::Abort,
+        Kind::Close,
     ]);
     let held = &transaction.entries[..MOST_ENTRIES.min(transaction.count as usize)];
     let key = match kind {
@@ -104,7 +106,7 @@ fn read_beyond(random: &mut Random, old: Transaction, records: &[Record]) -> Req
 }
 
 /// A visit, of a prepared line more often.
-fn visit(random: &mut Random, records: &[Record]) -> Request {
+pub fn visit(random: &mut Random, records: &[Record]) -> Request {
     let prepared = prepared(records);
     let key = match prepared.len() {
         1.. if random.once_in(2) => random.pick(&prepared).key,
@@ -123,6 +125,7 @@ enum Kind {
     Put,
     Advance,
     Abort,
+    Close,
 }
 
 impl Kind {
@@ -149,6 +152,11 @@ impl Kind {
                 now: clock(random, records),
             },
             Kind::Abort => Request::Abort { transaction },
+            Kind::Close => Request::Close {
+                transaction,
+                now: clock(random, records),
+                limit: limit(random),
+            },
         }
     }
 }

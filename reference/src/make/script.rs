@@ -80,6 +80,7 @@ impl Script {
             Request::Put { key, columns, .. } => Line::Put { slot, key, columns },
             Request::Advance { now, .. } => Line::Advance { slot, now },
             Request::Abort { .. } => Line::Abort { slot },
+            Request::Close { now, limit, .. } => Line::Close { slot, now, limit },
             Request::Visit { key, now } => Line::Visit { key, now },
         };
         self.add(seen, line);

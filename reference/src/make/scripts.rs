@@ -1,11 +1,14 @@
-//! Scripts of several kinds: demand 3's lists with the sequential model, lists of any calls, and calls on damaged sheets.
+//! Scripts of several kinds: demand 3's lists with the sequential model, lists of any calls, orders closed write by write,
+//! and calls on damaged sheets.
 
-use super::arguments::{any_key, clock};
+use super::arguments::{any_key, clock, limit};
 use super::bad_lines::bad_line;
+use super::closes;
 use super::closing::close;
 use super::damage::damage;
 use super::forge::forge;
 use super::history::{History, Rule};
+use super::orders;
 use super::random::Random;
 use super::requests::{begin, stray};
 use super::script::Script;
@@ -109,12 +112,33 @@ pub fn free(random: &mut Random, seen: &mut Seen, extent: Extent) -> Script {
 pub fn crowded(random: &mut Random, seen: &mut Seen) -> Script {
     let mut script = Script::new(&sheets::crowded(random));
     for _ in 0..16 {
-        let store = script.state.sheets.store();
-        script.ask(seen, &stray(random, &[], &store));
+        let sheets = &script.state.sheets;
+        let request = match random.once_in(6) {
+            true => closes::of_forged(random, sheets),
+            false => stray(random, &[], &sheets.store()),
+        };
+        script.ask(seen, &request);
     }
     for _ in 0..4 {
         let slot = random.below(SLOTS);
         any_line(random, seen, &mut script, &Line::Show { slot });
+    }
+    script.show_all(seen, random.once_in(3));
+    script
+}
+
+/// Orders of many groups, each closed by some writes at a time, with other calls between. The first is under way already.
+pub fn closed(random: &mut Random, seen: &mut Seen) -> Script {
+    let mut sheets = sheets::spread(random);
+    let mut order = closes::under_way(random, &mut sheets);
+    let mut script = Script::new(&sheets);
+    for _ in 0..2 {
+        for _ in 0..random.pick(&[1, 2, 4]) {
+            let request = closes::next(random, order, &sheets);
+            order = closes::after(&request, order, &mut sheets);
+            script.ask(seen, &request);
+        }
+        order = orders::order(random, &sheets.store());
     }
     script.show_all(seen, random.once_in(3));
     script
@@ -128,7 +152,11 @@ fn beside(random: &mut Random, seen: &mut Seen, script: &mut Script, history: &H
         1..=3 => looked_up(random, &history.sheets.store().records),
         4..=12 => Line::Show { slot },
         13 => {
-            let good = Line::Advance { slot, now: 0 };
+            let (now, limit) = (0, limit(random));
+            let good = random.pick(&[
+                Line::Advance { slot, now },
+                Line::Close { slot, now, limit },
+            ]);
             return unfit(random, seen, script, &good);
         }
         14 => Line::Sheets,
@@ -172,7 +200,8 @@ pub fn damaged(random: &mut Random, seen: &mut Seen) -> Script {
         let slot = random.below(SLOTS);
         let key = any_key(random, records);
         let now = clock(random, records);
-        match random.below(11) {
+        let limit = limit(random);
+        match random.below(12) {
             0 => script.add(seen, random.pick(&[Line::Check, Line::Sheets])),
             1 => script.add(seen, looked_up(random, records)),
             2 => script.add(seen, Line::Visit { key, now }),
@@ -180,6 +209,7 @@ pub fn damaged(random: &mut Random, seen: &mut Seen) -> Script {
             4 => any_line(random, seen, &mut script, &Line::Read { slot, key, now }),
             5 => any_line(random, seen, &mut script, &Line::Abort { slot }),
             6 => any_line(random, seen, &mut script, &Line::Sheets),
+            7 => any_line(random, seen, &mut script, &Line::Close { slot, now, limit }),
             _ => script.ask(seen, &stray(random, &[], &store)),
         }
     }

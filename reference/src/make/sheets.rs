@@ -63,6 +63,23 @@ pub fn crowded(random: &mut Random) -> Sheets {
     with_keys(random, &keys, size, mix)
 }
 
+/// Small sheets without PREPARED lines, each line mostly a unit of its own: room for orders of many groups.
+pub fn spread(random: &mut Random) -> Sheets {
+    // So many numbers that some are undecided, most often.
+    let decisions = 6 + random.below(4);
+    let size = Size {
+        records: 8 + random.below(5),
+        decisions,
+        issued: decisions - random.below(2),
+    };
+    let keys = close_keys(random, size.records);
+    let mut sheets = with_keys(random, &keys, size, Mix::Settled);
+    if !random.once_in(6) {
+        sheets.coordinator[5..14].fill(b'R');
+    }
+    sheets
+}
+
 /// Sheets of the size asked for. Beyond 500 or 999 lines they keep every rule but that one.
 pub fn of_size(random: &mut Random, size: Size, mix: Mix) -> Sheets {
     let keys = keys(random, size.records);

@@ -25,6 +25,13 @@ pub fn forged(random: &mut Random, mut base: Transaction, store: &Store) -> Tran
     base
 }
 
+/// A forged one of an issued number: for a step or a close, of which there are more kinds than of any other call.
+pub fn forged_begun(random: &mut Random, store: &Store) -> Transaction {
+    let number = 1 + random.below(store.coordinator.issued as usize) as u32;
+    let base = Transaction::begun(number, random.once_in(2));
+    forged(random, base, store)
+}
+
 /// The entries in any phase, with the verdict that goes with it.
 fn unreached(random: &mut Random, base: Transaction, store: &Store) -> Transaction {
     let phase = random.pick(&[
@@ -151,7 +158,7 @@ fn some_lines<'a>(random: &mut Random, records: &'a [Record]) -> Vec<&'a Record>
 }
 
 /// As if the line had been written since: one part of the condition fails and no other does.
-fn date_back(random: &mut Random, seen: &mut Image) {
+pub fn date_back(random: &mut Random, seen: &mut Image) {
     match random.below(2) {
         1 if seen.tx_id == 0 && seen.version > 0 => seen.tx_id = 1,
         // An ABSENT line, as if it had been COMMITTED at layout.

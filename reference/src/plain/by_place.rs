@@ -12,8 +12,9 @@ pub const READ: u32 = 2;
 pub const PUT: u32 = 3;
 pub const ADVANCE: u32 = 4;
 pub const ABORT: u32 = 5;
+pub const CLOSE: u32 = 6;
 /// From here on a number is that of no call.
-pub const CALLS: u32 = 6;
+pub const CALLS: u32 = 7;
 
 /// What is asked, as numbers: the number of a call and all that any call takes. Each takes its own.
 #[derive(Clone, Copy, Debug, PartialEq, Eq)]
@@ -22,13 +23,18 @@ pub struct Asked {
     pub key: Key,
     pub columns: [u32; 2],
     pub now: u32,
+    pub limit: u32,
 }
 
 impl Asked {
     /// The request that it is to this transaction, if there is such a call.
     pub fn request(&self, transaction: Transaction) -> Option<Request> {
         let Asked {
-            key, columns, now, ..
+            key,
+            columns,
+            now,
+            limit,
+            ..
         } = *self;
         Some(match self.call {
             BEGIN => begin(false),
@@ -45,6 +51,11 @@ impl Asked {
             },
             ADVANCE => Request::Advance { transaction, now },
             ABORT => Request::Abort { transaction },
+            CLOSE => Request::Close {
+                transaction,
+                now,
+                limit,
+            },
             _ => return None,
         })
     }
@@ -64,7 +75,7 @@ fn request_at(list: &[Transaction], place: usize, asked: &Asked) -> Option<Reque
 }
 
 /// Makes the call of the transaction at this place of a lent list, where what is returned replaces it: what a read came
-/// to, else 0, or the refusal.
+/// to, how many writes a close made, else 0, or the refusal.
 pub fn call_at(
     records: &mut [u8],
     coordinator: &mut [u8],
@@ -84,11 +95,15 @@ pub fn call_at(
     Ok(number_of(&answer))
 }
 
-/// 0 absent, 1 columns, 2 again; 0 of every other call.
 fn number_of(answer: &Answer) -> u32 {
-    let Answer::Read(_, reading) = answer else {
-        return 0;
-    };
+    match answer {
+        Answer::Read(_, reading) => number_of_reading(reading),
+        Answer::Closed(_, writes) => *writes,
+        Answer::Returned(_) | Answer::Visited(_) => 0,
+    }
+}
+
+fn number_of_reading(reading: &Reading) -> u32 {
     match reading {
         Reading::Absent => 0,
         Reading::Columns(_) => 1,

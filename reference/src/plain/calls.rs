@@ -1,4 +1,6 @@
-//! The six calls on sheets. The lowest refusal that applies is given, and it changes nothing.
+//! The seven calls on sheets; of these `close` stands apart. The lowest refusal that applies is given, and it changes nothing.
+
+pub use super::close::close;
 
 use super::key::Key;
 use super::record::{columns_in_range, MOST_VERSION};
@@ -23,7 +25,7 @@ fn on_sheets<T>(
 }
 
 /// The refusal unless what was asked for holds.
-fn require(holds: bool, refusal: u32) -> Result<(), u32> {
+pub(super) fn require(holds: bool, refusal: u32) -> Result<(), u32> {
     holds.then_some(()).ok_or(refusal)
 }
 

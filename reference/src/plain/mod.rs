@@ -2,6 +2,7 @@
 
 pub mod by_place;
 pub mod calls;
+pub mod close;
 pub mod coordinator;
 pub mod field;
 pub mod groups;
@@ -48,9 +49,9 @@ pub const VERSION_SPENT: u32 = 11;
 /// An undecided line has not expired.
 pub const BUSY: u32 = 12;
 
-/// The version of the functions for C: 1.0.0.
+/// The version of the functions for C: 2.0.0.
 pub fn version() -> u32 {
-    10_000
+    20_000
 }
 
 /// 0 where both sheets are accepted, else the refusal.

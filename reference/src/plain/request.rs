@@ -27,6 +27,11 @@ pub enum Request {
     Abort {
         transaction: Transaction,
     },
+    Close {
+        transaction: Transaction,
+        now: u32,
+        limit: u32,
+    },
     Visit {
         key: Key,
         now: u32,
@@ -39,6 +44,8 @@ pub enum Answer {
     Returned(Transaction),
     Read(Transaction, Reading),
     Visited(Visit),
+    /// With the number of writes made.
+    Closed(Transaction, u32),
 }
 
 impl Request {
@@ -65,6 +72,12 @@ impl Request {
             Request::Abort { transaction } => {
                 calls::abort(records, coordinator, transaction).map(Answer::Returned)
             }
+            Request::Close {
+                transaction,
+                now,
+                limit,
+            } => calls::close(records, coordinator, transaction, now, limit)
+                .map(|(transaction, writes)| Answer::Closed(transaction, writes)),
             Request::Visit { key, now } => {
                 calls::visit(records, coordinator, key, now).map(Answer::Visited)
             }
@@ -77,7 +90,8 @@ impl Request {
             Request::Read { transaction, .. }
             | Request::Put { transaction, .. }
             | Request::Advance { transaction, .. }
-            | Request::Abort { transaction } => Some(transaction),
+            | Request::Abort { transaction }
+            | Request::Close { transaction, .. } => Some(transaction),
             Request::Begin { .. } | Request::Visit { .. } => None,
         }
     }
@@ -87,7 +101,9 @@ impl Answer {
     /// The transaction that the call returns.
     pub fn returned(&self) -> Option<&Transaction> {
         match self {
-            Answer::Returned(transaction) | Answer::Read(transaction, _) => Some(transaction),
+            Answer::Returned(transaction)
+            | Answer::Read(transaction, _)
+            | Answer::Closed(transaction, _) => Some(transaction),
             Answer::Visited(_) => None,
         }
     }

@@ -31,6 +31,11 @@ pub enum Line {
     Abort {
         slot: usize,
     },
+    Close {
+        slot: usize,
+        now: u32,
+        limit: u32,
+    },
     Visit {
         key: Key,
         now: u32,
@@ -103,6 +108,11 @@ impl Line {
             },
             (b"advance", [now]) => Line::Advance { slot, now: *now },
             (b"abort", []) => Line::Abort { slot },
+            (b"close", [now, limit]) => Line::Close {
+                slot,
+                now: *now,
+                limit: *limit,
+            },
             (b"show", []) => Line::Show { slot },
             (b"set", fields) => Line::Set {
                 slot,
@@ -159,6 +169,7 @@ impl fmt::Display for Line {
             } => write!(out, "put {slot} {} {}", key(k), words(columns)),
             Line::Advance { slot, now } => write!(out, "advance {slot} {now}"),
             Line::Abort { slot } => write!(out, "abort {slot}"),
+            Line::Close { slot, now, limit } => write!(out, "close {slot} {now} {limit}"),
             Line::Visit { key: k, now } => write!(out, "visit {} {now}", key(k)),
             Line::Lookup { key: k } => write!(out, "lookup {}", key(k)),
             Line::LineOf { key: k } => write!(out, "line {}", key(k)),

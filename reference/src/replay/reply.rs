@@ -16,6 +16,8 @@ pub enum Reply {
     Read(Reading),
     /// The transaction after the step.
     Advanced(Transaction),
+    /// The transaction as it was left, and how many writes were made.
+    Closed(Transaction, u32),
     Visited(Visit),
     /// The place of a line, from 0.
     Found(usize),
@@ -36,6 +38,9 @@ impl Reply {
             Reply::Begun(number) => format!("ok {number}"),
             Reply::Read(reading) => format!("ok {}", reading_text(reading)),
             Reply::Advanced(t) => format!("ok {}", words(&[t.phase, t.place, t.verdict])),
+            Reply::Closed(t, writes) => {
+                format!("ok {}", words(&[*writes, t.phase, t.place, t.verdict]))
+            }
             Reply::Visited(visit) => format!("ok {}", visit_text(*visit)),
             Reply::Found(place) => format!("ok {place}"),
             Reply::Line(line) => format!("ok {}", String::from_utf8_lossy(line)),

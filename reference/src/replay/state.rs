@@ -69,7 +69,7 @@ impl ReplayState {
         }
     }
 
-    /// One of the six calls on both sheets.
+    /// One of the seven calls on both sheets.
     fn call(&mut self, line: &Line) -> Reply {
         let Some((slot, request)) = self.request(line) else {
             return Reply::BadLine;
@@ -84,13 +84,14 @@ impl ReplayState {
         match (request, answer) {
             (_, Answer::Visited(visit)) => Reply::Visited(visit),
             (_, Answer::Read(_, reading)) => Reply::Read(reading),
+            (_, Answer::Closed(t, writes)) => Reply::Closed(t, writes),
             (Request::Begin { .. }, Answer::Returned(t)) => Reply::Begun(t.number),
             (Request::Advance { .. }, Answer::Returned(t)) => Reply::Advanced(t),
             (_, Answer::Returned(_)) => Reply::Done,
         }
     }
 
-    /// The call of a line that makes one of the six, and the slot that it takes and fills.
+    /// The call of a line that makes one of the seven, and the slot that it takes and fills.
     pub fn request(&self, line: &Line) -> Option<(Option<usize>, Request)> {
         let taken = |slot: usize| self.slots[slot];
         Some(match *line {
@@ -120,6 +121,15 @@ impl ReplayState {
             Line::Abort { slot } => {
                 let transaction = taken(slot);
                 (Some(slot), Request::Abort { transaction })
+            }
+            Line::Close { slot, now, limit } => {
+                let transaction = taken(slot);
+                let close = Request::Close {
+                    transaction,
+                    now,
+                    limit,
+                };
+                (Some(slot), close)
             }
             Line::Visit { key, now } => (None, Request::Visit { key, now }),
             _ => return None,

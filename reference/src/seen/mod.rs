@@ -1,7 +1,9 @@
-//! What a comparison has seen: every refusal of every call and every step from phase to phase, counted.
+//! What a comparison has seen: every refusal of every call, every step from phase to phase and every report of a close,
+//! counted.
 
 mod answers;
 mod clients;
+mod closes;
 mod steps;
 
 use crate::compare::Case;
@@ -13,8 +15,9 @@ use crate::replay::line::Line;
 use crate::replay::reply::Reply;
 use answers::{Answers, Row};
 use clients::Clients;
+use closes::Closes;
 use std::fmt;
-use steps::Steps;
+use steps::{Steps, ADVANCES};
 
 /// The calls of a replay.
 const LINES: &[Row] = &[
@@ -24,6 +27,7 @@ const LINES: &[Row] = &[
     ("put", &[0, 1, 2, 3, 4, 5, 6, 7, 10, 11]),
     ("advance", &[0, 1, 2, 3, 4]),
     ("abort", &[0, 1, 2, 3, 4]),
+    ("close", &[0, 1, 2, 3, 4]),
     ("visit", &[0, 1, 2, 5, 6, 12]),
     ("lookup", &[0, 1, 5, 6]),
     ("line", &[0]),
@@ -52,6 +56,7 @@ const BY_PLACE: &[Row] = &[
     ("put", &[0, 1, 2, 3, 4, 5, 6, 7, 10, 11]),
     ("advance", &[0, 1, 2, 3, 4]),
     ("abort", &[0, 1, 2, 3, 4]),
+    ("close", &[0, 1, 2, 3, 4]),
     ("no such call", &[1, 2, 3]),
 ];
 
@@ -68,6 +73,8 @@ pub struct Seen {
     visitor: Answers,
     steps: Steps,
     steps_by_place: Steps,
+    closes: Closes,
+    closes_by_place: Closes,
     readings: [u64; 3],
     changes: [u64; 4],
     /// How often it was told beside a call what it has written. It isn't counted as a call.
@@ -84,8 +91,10 @@ impl Default for Seen {
             exported: Answers::new(EXPORTED),
             by_place: Answers::new(BY_PLACE),
             visitor: Answers::new(VISITOR),
-            steps: Steps::default(),
-            steps_by_place: Steps::default(),
+            steps: Steps::new("step to", &ADVANCES),
+            steps_by_place: Steps::new("step to", &ADVANCES),
+            closes: Closes::default(),
+            closes_by_place: Closes::default(),
             readings: [0; 3],
             changes: [0; 4],
             told_beside: 0,
@@ -109,9 +118,10 @@ fn call_of(line: &Line) -> Option<usize> {
         Line::Put { .. } => 3,
         Line::Advance { .. } => 4,
         Line::Abort { .. } => 5,
-        Line::Visit { .. } => 6,
-        Line::Lookup { .. } => 7,
-        Line::LineOf { .. } => 8,
+        Line::Close { .. } => 6,
+        Line::Visit { .. } => 7,
+        Line::Lookup { .. } => 8,
+        Line::LineOf { .. } => 9,
         Line::Show { .. } | Line::Set { .. } | Line::Entry { .. } | Line::Sheets => return None,
     })
 }
@@ -133,7 +143,7 @@ impl Seen {
         taken: Option<&Transaction>,
         reply: &Reply,
     ) -> bool {
-        let Some(call) = line.and_then(call_of) else {
+        let Some((line, call)) = line.and_then(|line| Some((line, call_of(line)?))) else {
             self.other_lines += 1;
             return false;
         };
@@ -142,8 +152,12 @@ impl Seen {
             _ => 0,
         };
         self.lines.note(call, refusal);
-        if let (Some(taken), Reply::Advanced(returned)) = (taken, reply) {
-            self.steps.note(taken, returned);
+        match (line, taken, reply) {
+            (_, Some(taken), Reply::Advanced(returned)) => self.steps.note(taken, returned),
+            (Line::Close { limit, .. }, Some(taken), Reply::Closed(returned, writes)) => {
+                self.closes.note(*limit, *writes, taken, returned);
+            }
+            _ => {}
         }
         true
     }
@@ -190,6 +204,11 @@ impl Seen {
                     by_place::READ if refusal == 0 => self.readings[answer as usize] += 1,
                     by_place::ADVANCE if refusal == 0 => {
                         self.steps_by_place.note(&before[*place], &after[*place]);
+                    }
+                    by_place::CLOSE if refusal == 0 => {
+                        let (taken, returned) = (&before[*place], &after[*place]);
+                        let closes = &mut self.closes_by_place;
+                        closes.note(asked.limit, answer, taken, returned);
                     }
                     _ => {}
                 }
@@ -248,6 +267,8 @@ impl Seen {
         let mut amiss: Vec<String> = answers.into_iter().flat_map(Answers::amiss).collect();
         amiss.extend(self.steps.amiss("advance"));
         amiss.extend(self.steps_by_place.amiss("advance by place"));
+        amiss.extend(self.closes.amiss("close"));
+        amiss.extend(self.closes_by_place.amiss("close by place"));
         amiss.extend(unseen("read by place", &READINGS, &self.readings));
         amiss.extend(unseen("written", &CHANGES, &self.changes));
         amiss
@@ -274,13 +295,15 @@ fn named(names: &[&str], counts: &[u64]) -> String {
 }
 
 impl fmt::Display for Seen {
-    /// The answers of each call in a replay, the steps from phase to phase, the answers of the functions for C and of the
-    /// visiting program.
+    /// The answers of each call in a replay, the steps from phase to phase and how closes ended, the same of the functions
+    /// for C, and the answers of the visiting program.
     fn fmt(&self, out: &mut fmt::Formatter) -> fmt::Result {
         writeln!(out, "{}\n\n{}\n", self.lines, self.steps)?;
+        writeln!(out, "{}\n", self.closes)?;
         writeln!(out, "for C\n{}\n", self.exported)?;
         writeln!(out, "for C, by place\n{}\n", self.by_place)?;
         writeln!(out, "{}\n", self.steps_by_place)?;
+        writeln!(out, "{}\n", self.closes_by_place)?;
         writeln!(out, "read by place: {}", named(&READINGS, &self.readings))?;
         writeln!(out, "written: {}", named(&CHANGES, &self.changes))?;
         write!(out, "{}\n\n{}", self.clients, self.visitor)

@@ -31,6 +31,8 @@ pub enum Case {
     Prepare,
     /// From begin to done, with 8 puts in 8 groups: 19 calls.
     Transaction,
+    /// The same in two calls, begin and close.
+    Close,
 }
 
 /// In the order printed.
@@ -55,6 +57,7 @@ impl Case {
             Case::VisitStays | Case::VisitBack => make(&Call::Visit { key, now: NOW }, lent),
             Case::Prepare => make(&ADVANCE, lent),
             Case::Transaction => transaction(make, lent),
+            Case::Close => closed(make, lent),
         }
     }
 
@@ -68,7 +71,7 @@ impl Case {
 
     /// Whether the case is drawn too.
     pub fn is_drawn(self) -> bool {
-        matches!(self.mix(), Mix::Thirds)
+        matches!(self.mix(), Mix::Thirds) && self != Case::Close
     }
 
     /// Sheets of so many record lines and a list for the call. A third of the lines each is ABSENT, COMMITTED and
@@ -96,16 +99,22 @@ impl Case {
     }
 }
 
-/// An advance at place 0, which takes none of the numbers but the clock.
-const ADVANCE: Call = Call::At {
-    place: 0,
-    asked: Asked {
-        call: by_place::ADVANCE,
-        key: NO_KEY,
-        columns: [0; 2],
-        now: NOW,
-    },
-};
+/// An advance at place 0, which takes none of the numbers but the clock, and a close, which has the limit besides.
+const ADVANCE: Call = at_place_0(by_place::ADVANCE);
+const CLOSE: Call = at_place_0(by_place::CLOSE);
+
+const fn at_place_0(call: u32) -> Call {
+    Call::At {
+        place: 0,
+        asked: Asked {
+            call,
+            key: NO_KEY,
+            columns: [0; 2],
+            now: NOW,
+            limit: 17,
+        },
+    }
+}
 
 const NO_KEY: Key = Key {
     storage: 0,
@@ -160,15 +169,28 @@ fn in_prepare(store: &Store, number: u32) -> Transaction {
     transaction
 }
 
-/// Begins, fills the new transaction with the entries and advances it until it is done.
-fn transaction(make: Make, lent: &mut Lent) -> u32 {
+/// Begins, and fills the new transaction with the entries.
+fn begun(make: Make, lent: &mut Lent) -> u32 {
     let number = make(&Call::Begin, lent);
     let transaction = &mut lent.list[0];
     transaction.number = number;
     transaction.phase = OPEN;
+    number
+}
+
+/// Advances a new transaction until it is done.
+fn transaction(make: Make, lent: &mut Lent) -> u32 {
+    let number = begun(make, lent);
     while lent.list[0].phase != DONE {
         let answer = make(&ADVANCE, lent);
         assert_eq!(answer, 0, "the transaction goes through");
     }
+    number
+}
+
+/// Closes a new transaction in one call, which makes as many writes as any can.
+fn closed(make: Make, lent: &mut Lent) -> u32 {
+    let number = begun(make, lent);
+    assert_eq!(make(&CLOSE, lent), 17, "the transaction goes through");
     number
 }

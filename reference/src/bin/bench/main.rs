@@ -13,51 +13,92 @@ use engine::calls::by_engine;
 use reference::exported::by_fast;
 use reference::make::random::Random;
 use std::process::ExitCode;
-use timing::{Cell, Times};
+use timing::{Cell, Side, Times};
 
 const ENGINE: Make = by_engine;
 const BASELINE: Make = by_fast;
 const RUNS: usize = 101;
 
-/// A case at each number of lines.
-fn cells(case: Case) -> Vec<Cell> {
-    let mut random = Random::new(1);
-    let cell = |lines: &usize| Cell::new(case, case.lent(&mut random, *lines), ENGINE, BASELINE);
-    LINES.iter().map(cell).collect()
+/// A case by the engine, and what is held beside it.
+struct Row {
+    case: Case,
+    name: &'static str,
+    beside: &'static str,
+    other: Side,
+}
+
+/// Each case beside the baseline; the close beside the engine's own calls for the same order.
+fn rows() -> Vec<Row> {
+    let beside_baseline = |(case, name): &(Case, &'static str)| Row {
+        case: *case,
+        name,
+        beside: "baseline",
+        other: Side {
+            case: *case,
+            make: BASELINE,
+        },
+    };
+    let close = Row {
+        case: Case::Close,
+        name: "whole transaction, begin, close",
+        beside: "19 calls",
+        other: Side {
+            case: Case::Transaction,
+            make: ENGINE,
+        },
+    };
+    CASES.iter().map(beside_baseline).chain([close]).collect()
+}
+
+impl Row {
+    /// The row at each number of lines.
+    fn cells(&self) -> Vec<Cell> {
+        let mut random = Random::new(1);
+        let engine = Side {
+            case: self.case,
+            make: ENGINE,
+        };
+        let sides = [engine, self.other];
+        let cell = |lines: &usize| Cell::new(sides, self.case.lent(&mut random, *lines));
+        LINES.iter().map(cell).collect()
+    }
 }
 
 /// A case with its times at each number of lines.
 pub struct Measured {
     case: Case,
     name: &'static str,
+    beside: &'static str,
     times: Vec<Times>,
 }
 
 fn measure() -> Vec<Measured> {
-    let row = |(case, name): &(Case, &'static str)| (*case, *name, cells(*case));
-    let mut rows: Vec<_> = CASES.iter().map(row).collect();
+    let rows = rows();
+    let mut cells: Vec<Vec<Cell>> = rows.iter().map(Row::cells).collect();
     for _ in 0..RUNS {
-        for cell in rows.iter_mut().flat_map(|(_, _, cells)| cells) {
-            cell.turn(ENGINE, BASELINE);
+        for cell in cells.iter_mut().flatten() {
+            cell.turn();
         }
     }
-    let measured = |(case, name, cells): (Case, &'static str, Vec<Cell>)| Measured {
-        case,
-        name,
+    let measured = |(row, cells): (Row, Vec<Cell>)| Measured {
+        case: row.case,
+        name: row.name,
+        beside: row.beside,
         times: cells.iter().map(Cell::times).collect(),
     };
-    rows.into_iter().map(measured).collect()
+    rows.into_iter().zip(cells).map(measured).collect()
 }
 
 fn print_row(name: &str, side: &str, values: impl Iterator<Item = String>) {
     let values: String = values.map(|value| format!("{value:>9}")).collect();
-    println!("{name:<30} {side:<9}{values}");
+    println!("{name:<32} {side:<9}{values}");
 }
 
-fn print_case(name: &str, times: &[Times]) {
+fn print_case(row: &Measured) {
     let rounded = |time: f64| format!("{time:.0}");
-    print_row(name, "engine", times.iter().map(|t| rounded(t.engine)));
-    print_row("", "baseline", times.iter().map(|t| rounded(t.baseline)));
+    let times = &row.times;
+    print_row(row.name, "engine", times.iter().map(|t| rounded(t.engine)));
+    print_row("", row.beside, times.iter().map(|t| rounded(t.other)));
     print_row("", "ratio", times.iter().map(|t| format!("{:.2}", t.ratio)));
 }
 
@@ -66,7 +107,7 @@ fn main() -> ExitCode {
     let head = LINES.iter().map(usize::to_string);
     print_row("nanoseconds at record lines", "", head);
     for row in &measured {
-        print_case(row.name, &row.times);
+        print_case(row);
     }
     let Some(file) = std::env::args().nth(1) else {
         return ExitCode::SUCCESS;

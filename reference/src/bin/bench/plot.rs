@@ -77,13 +77,13 @@ fn panel(name: &str, times: &[Times]) -> String {
     // The lines rise from the left, so that this corner is free.
     let ratio = format!("{ratio:.2} times the baseline at 500");
     svg += &text(LEFT + 8.0, TOP + 18.0, "start", &ratio);
-    svg += &scale.line(times.iter().map(|t| t.baseline), BASELINE);
+    svg += &scale.line(times.iter().map(|t| t.other), BASELINE);
     svg + &scale.line(times.iter().map(|t| t.engine), ENGINE)
 }
 
 /// The longest time in microseconds.
 fn most_of(times: &[Times]) -> f64 {
-    let most = times.iter().map(|t| t.engine.max(t.baseline) / 1e3);
+    let most = times.iter().map(|t| t.engine.max(t.other) / 1e3);
     most.fold(0.0, f64::max)
 }
 

@@ -52,6 +52,7 @@ extern "C" {
         column1: u32,
         column2: u32,
         clock: u32,
+        limit: u32,
     ) -> u32;
     fn rapyheo_lookup(
         records: *const u8,
@@ -109,7 +110,7 @@ fn visit(records: &mut [u8], coordinator: &mut [u8], key: Key, clock: u32) -> u3
     }
 }
 
-/// What a read at this place of the list came to, else 0.
+/// What a read at this place of the list came to, how many writes a close made, else 0.
 fn call_at(
     list: &mut [Transaction],
     place: usize,
@@ -137,6 +138,7 @@ fn call_at(
             asked.columns[0],
             asked.columns[1],
             asked.now,
+            asked.limit,
         )
     }
 }
