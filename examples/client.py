@@ -26,7 +26,7 @@ REFUSALS = {
     7: "a put column is over 99999999",
     8: "every number of the coordinator sheet is issued",
     10: "the key is not held: read it before the put",
-    12: "the line is undecided and has not expired",
+    12: "the line is undecided, and not every line of its owner has expired",
 }
 KEYS = {"stock": (1, 1, 1, 1, 1), "account": (2, 1, 1, 1, 1), "note": (2, 1, 1, 1, 2), "nothing": (2, 1, 1, 1, 3)}
 

@@ -98,7 +98,7 @@ fn refusal_text(refusal: u32) -> &'static str {
         7 => "a put column is over 99999999",
         8 => "every number of the coordinator sheet is issued",
         10 => "the key is not held: read it before the put",
-        12 => "the line is undecided and has not expired",
+        12 => "the line is undecided, and not every line of its owner has expired",
         _ => "another refusal",
     }
 }

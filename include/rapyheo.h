@@ -7,9 +7,9 @@
  * What is proved. Each call does what the specification says, for every input: whatever the bytes and numbers are, it returns, and a refused one
  * changes no byte of any slice. Of whole orders: clients that keep their lists and change them by these calls only, each list lost at a crash,
  * make a legal history, whatever they ask and in whatever order (theorem `clients-legal`, crates/theorems), so that demand 3 holds of everything
- * done so (`clients-recovered`). Once every line has been visited twice, an undecided one at readings where it has expired, the record sheet is
- * byte for byte what the committed orders wrote, none lost and none half done. It rests on the duties that follow, which no contract of the
- * engine can see.
+ * done so (`clients-recovered`). Once every line has been visited twice, an undecided one at readings where every line of its owner has expired,
+ * the record sheet is byte for byte what the committed orders wrote, none lost and none half done. It rests on the duties that follow, which no
+ * contract of the engine can see.
  *
  * Duties towards the orders:
  *   - hand on what the last call left, the list and both sheets. The first sheets are accepted ones without a PREPARED line, and nothing but
@@ -104,7 +104,7 @@ enum {
     RAPYHEO_ENTRIES_SPENT = 9,   /* a read of a new key where 8 are held */
     RAPYHEO_NOT_HELD = 10,       /* a put of a key that was not read */
     RAPYHEO_VERSIONS_SPENT = 11, /* a put over version 99999 */
-    RAPYHEO_BUSY = 12            /* the line is undecided and has not expired */
+    RAPYHEO_BUSY = 12            /* the line is undecided, and not every line of its owner has expired */
 };
 
 /* What is asked by place. */
@@ -369,7 +369,7 @@ static inline const char *rapyheo_refusal_text(uint32_t refusal) {
         "the key is new, and 8 are held",
         "the key is not held: read it before the put",
         "the version read is 99999, and no put can follow it",
-        "the line is undecided and has not expired",
+        "the line is undecided, and not every line of its owner has expired",
     };
     if (refusal > RAPYHEO_REFUSED)
         refusal -= RAPYHEO_REFUSED;

@@ -100,6 +100,6 @@ unfolding written result
 by-written P c s n h = unless-by (λ (x : Result Answer). P (writeOf x)) (conditions c s) n h
 
 -- what a visit writes
-pub by-visit {κ} : (P : Write → Type κ) (k : Key) (now : ℕ) (s : Sheets) → P nothing → P (recoveryWrite (meeting now (s .coordinator) (lineOf k (s .lines))) (lineOf k (s .lines))) → P (written (visit k now) s)
+pub by-visit {κ} : (P : Write → Type κ) (k : Key) (now : ℕ) (s : Sheets) → P nothing → P (recoveryWrite (meeting now s (lineOf k (s .lines))) (lineOf k (s .lines))) → P (written (visit k now) s)
 unfolding outcome
 by-visit P k now s n h = by-written P (visit k now) s n (λ z. h)

@@ -95,9 +95,9 @@ module _ (s : Sheets) (good : GoodSheets s) where
 
   -- Visit.
 
-  pub visit-fits : (k : Key) (now : ℕ) → hasLine k (s .lines) ≡ true → Fit s (recoveryWrite (meeting now (s .coordinator) (lineOf k (s .lines))) (lineOf k (s .lines)))
+  pub visit-fits : (k : Key) (now : ℕ) → hasLine k (s .lines) ≡ true → Fit s (recoveryWrite (meeting now s (lineOf k (s .lines))) (lineOf k (s .lines)))
   unfolding recoveryWrite
-  visit-fits k now h = any-fits (meeting now (s .coordinator) (lineOf k (s .lines)))
+  visit-fits k now h = any-fits (meeting now s (lineOf k (s .lines)))
     where
       known : lineOf k (s .lines) .image .txid ≤ s .coordinator .issued
       known = line-good s good k h .txid
@@ -118,7 +118,7 @@ module _ (s : Sheets) (good : GoodSheets s) where
   -- Read.
 
   -- a line that was visited, and neither aborted nor busy
-  visited-good : (k : Key) (now : ℕ) → hasLine k (s .lines) ≡ true → isAgain (meeting now (s .coordinator) (lineOf k (s .lines))) ≡ false → isBusy (meeting now (s .coordinator) (lineOf k (s .lines))) ≡ false → GoodParts (s .coordinator .issued) (recovered (meeting now (s .coordinator) (lineOf k (s .lines))) (lineOf k (s .lines))) × (isPrepared (recovered (meeting now (s .coordinator) (lineOf k (s .lines))) (lineOf k (s .lines))) ≡ false)
+  visited-good : (k : Key) (now : ℕ) → hasLine k (s .lines) ≡ true → isAgain (meeting now s (lineOf k (s .lines))) ≡ false → isBusy (meeting now s (lineOf k (s .lines))) ≡ false → GoodParts (s .coordinator .issued) (recovered (meeting now s (lineOf k (s .lines))) (lineOf k (s .lines))) × (isPrepared (recovered (meeting now s (lineOf k (s .lines))) (lineOf k (s .lines))) ≡ false)
   unfolding meeting recovered rolledForward
   visited-good k now h =
       by-meeting
@@ -162,7 +162,7 @@ module _ (s : Sheets) (good : GoodSheets s) where
   read-keeps t k now z =
       let p = taken-parts s t _ z in
       let r = lineOf k (s .lines) in
-      let v = meeting now (s .coordinator) r in
+      let v = meeting now s r in
       let c4 : not (eqb (t .phase) 0) ≡ false = accepted 4 (read t k now) s z in
       let c6 : not (hasLine k (s .lines)) ≡ false = accepted 6 (read t k now) s z in
       let c9 : (isNew k t && leb 8 (t .count)) ≡ false = accepted 9 (read t k now) s z in

@@ -177,7 +177,7 @@ unfolding outcome readNew
 outcome-made (begin b) s = is-made _ _ refl
 outcome-made (read t k now) s =
     choose-by Made (isNew k t)
-    (λ n. choose-by Made (isAgain (meeting now (s .coordinator) (lineOf k (s .lines)))) (λ a. is-made _ _ refl) (λ a. is-made _ _ refl))
+    (λ n. choose-by Made (isAgain (meeting now s (lineOf k (s .lines)))) (λ a. is-made _ _ refl) (λ a. is-made _ _ refl))
     (λ n. is-made _ _ refl)
 outcome-made (put t k c) s = is-made _ _ refl
 outcome-made (advance t now) s = is-made _ _ refl

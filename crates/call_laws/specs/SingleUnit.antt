@@ -164,14 +164,14 @@ unfolding outcome readNew
 outcome-single (begin b) s = issue-unit (unitsOf s)
 outcome-single (read t k now) s =
     choose-by (λ (x : Result Answer). Single s (writeOf x)) (isNew k t)
-    (λ e. choose-by (λ (x : Result Answer). Single s (writeOf x)) (isAgain (meeting now (s .coordinator) (lineOf k (s .lines))))
-    (λ f. visit-unit (unitsOf s) (meeting now (s .coordinator) (lineOf k (s .lines))) (lineOf k (s .lines)))
-    (λ f. visit-unit (unitsOf s) (meeting now (s .coordinator) (lineOf k (s .lines))) (lineOf k (s .lines))))
+    (λ e. choose-by (λ (x : Result Answer). Single s (writeOf x)) (isAgain (meeting now s (lineOf k (s .lines))))
+    (λ f. visit-unit (unitsOf s) (meeting now s (lineOf k (s .lines))) (lineOf k (s .lines)))
+    (λ f. visit-unit (unitsOf s) (meeting now s (lineOf k (s .lines))) (lineOf k (s .lines))))
     (λ e. nothing-unit (unitsOf s))
 outcome-single (put t k c) s = nothing-unit (unitsOf s)
 outcome-single (advance t now) s = step-single t now s
 outcome-single (abort t) s = nothing-unit (unitsOf s)
-outcome-single (visit k now) s = visit-unit (unitsOf s) (meeting now (s .coordinator) (lineOf k (s .lines))) (lineOf k (s .lines))
+outcome-single (visit k now) s = visit-unit (unitsOf s) (meeting now s (lineOf k (s .lines))) (lineOf k (s .lines))
 
 -- "writes to at most one unit or the coordinator sheet", whatever the call, its arguments and the sheets
 pub single-unit : (c : Call) (s : Sheets) → Single s (written c s)

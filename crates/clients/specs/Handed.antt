@@ -61,7 +61,7 @@ module _ (t : Transaction) (s : Sheets) where
   read-hands k now z =
       let l : 1 ≤ t .number = positive _ z in
       choose-by (Moving (read t k now)) (isNew k t)
-      (λ n. choose-by (Moving (read t k now)) (isAgain (meeting now (s .coordinator) (lineOf k (s .lines))))
+      (λ n. choose-by (Moving (read t k now)) (isAgain (meeting now s (lineOf k (s .lines))))
       (λ a. moves refl l refl refl)
       (λ a. moves refl l refl refl))
       (λ n. moves refl l refl refl)

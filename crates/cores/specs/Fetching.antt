@@ -3,7 +3,6 @@ use Rattle.lists.specs.Basics.{_≡_, refl, sym, ap, subst, _∙_, ℕ, _≤_, 
 use Rattle.model.specs.Types.{Key, Record, At, Nothing, Transaction, Recovery, Stays, Forward, Back, Again, Busy}
 use Rattle.types.specs.declared.Reading.the-variants.{Again as Read-again}
 use Rattle.model.specs.Records.{records, found, isMissing, hasLine, lineOf}
-use Rattle.model.specs.Coordinator.{coordinatorOf}
 use Rattle.model.specs.Refusals.{Condition, refuse, refusalOf}
 use Rattle.model.specs.Transactions.{heldAt, reading, entryAs}
 use Rattle.model.specs.Images.{rolledForward, rolledBack, byRecovery}
@@ -54,7 +53,7 @@ met-fetched Busy r t = refl
 -- what is asked of a read of a key that has a line
 abbrev lineConditions : Transaction → Key → ℕ → Sheets → List Condition
 lineConditions t k now s =
-    refuse 9 (isNew k t && leb 8 (t .count)) ∷ refuse 12 (isNew k t && isBusy (meeting now (s .coordinator) (lineOf k (s .lines)))) ∷ []
+    refuse 9 (isNew k t && leb 8 (t .count)) ∷ refuse 12 (isNew k t && isBusy (meeting now s (lineOf k (s .lines)))) ∷ []
 
 module _ (t : Transaction) (k : Key) (now : ℕ) (s : Sheets) where
   pub read-away : (n : ℕ) → n ≡ refusalOf (admittingOpen t k s) → (n ≡ 0 → ⊥) → result (read t k now) s ≡ refused n
@@ -118,13 +117,13 @@ module _ (t : Transaction) (now : ℕ) (rs cs : List ℕ) (i : ℕ) (a : NewRead
   unfolding refusalOf
   read-full l = read-has t (here .key) now rs cs i (a .line) ∙ rw (a .new, le-leb 8 (t .count) l)
 
-  read-met : t .count < 8 → result (read t (here .key) now) (sheetsOf rs cs) ≡ unlessBusy (meeting now (coordinatorOf cs) here) (readMet (meeting now (coordinatorOf cs) here) here t) here
+  read-met : t .count < 8 → result (read t (here .key) now) (sheetsOf rs cs) ≡ unlessBusy (meeting now (sheetsOf rs cs) here) (readMet (meeting now (sheetsOf rs cs) here) here t) here
   unfolding outcome refusalOf
   read-met l =
       let n : leb 8 (t .count) ≡ false = lt-leb 8 (t .count) l in
       read-has t (here .key) now rs cs i (a .line)
-      ∙ (rw (a .new, n) (met-new t (meeting now (coordinatorOf cs) (lineOf (here .key) (records rs))) (lineOf (here .key) (records rs)))
-      ∙ ap (λ (r : Record). unlessBusy (meeting now (coordinatorOf cs) r) (readMet (meeting now (coordinatorOf cs) r) r t) r) (sym (read-standing .index .line)))
+      ∙ (rw (a .new, n) (met-new t (meeting now (sheetsOf rs cs) (lineOf (here .key) (records rs))) (lineOf (here .key) (records rs)))
+      ∙ ap (λ (r : Record). unlessBusy (meeting now (sheetsOf rs cs) r) (readMet (meeting now (sheetsOf rs cs) r) r t) r) (sym (read-standing .index .line)))
 
   -- the record is that of line i after the visit
   pub read-outcome : (v : Recovery) (r : Record) {answer : Performed} {rs′ cs′ : List ℕ} → t .count < 8 → Recovered now i rs cs v rs′ cs′ → r ≡ lineAt rs′ i → answer ≡ fetchedMet v r t → Outcome (toPerformed t) (result (read t (here .key) now) (sheetsOf rs cs)) rs cs answer rs′ cs′

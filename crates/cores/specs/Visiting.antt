@@ -2,7 +2,6 @@
 use Rattle.lists.specs.Basics.{_≡_, refl, sym, ap, ap₂, subst, _∙_, ℕ, Bool, true, false, not, cond, List, [], _∷_}
 use Rattle.model.specs.Types.{Key, Record, At, Nothing, Recovery, Stays, Forward, Back, Again, Busy}
 use Rattle.model.specs.Records.{records, keyInRange, found, isMissing, hasLine, lineOf}
-use Rattle.model.specs.Coordinator.{coordinatorOf}
 use Rattle.model.specs.Refusals.{refuse, refusalOf}
 use Rattle.model.specs.Visits.{meeting, isBusy, recoveryWrite}
 use Rattle.model.specs.Results.{visit, Answer, visited, Result, refused, made, unless}
@@ -39,16 +38,16 @@ said-by Again r = refl
 said-by Busy r = refl
 
 module _ (now : ℕ) (rs cs : List ℕ) (i : ℕ) (s : Standing rs cs i) where
-  visit-met : result (visit (lineAt rs i .key) now) (sheetsOf rs cs) ≡ unlessBusy (meeting now (coordinatorOf cs) (lineAt rs i)) (visited (meeting now (coordinatorOf cs) (lineAt rs i))) (lineAt rs i)
+  visit-met : result (visit (lineAt rs i .key) now) (sheetsOf rs cs) ≡ unlessBusy (meeting now (sheetsOf rs cs) (lineAt rs i)) (visited (meeting now (sheetsOf rs cs) (lineAt rs i))) (lineAt rs i)
   unfolding result outcome conditions
   visit-met =
       let k = lineAt rs i .key in
-      let v = meeting now (coordinatorOf cs) (lineOf k (records rs)) in
+      let v = meeting now (sheetsOf rs cs) (lineOf k (records rs)) in
       let h : hasLine k (records rs) ≡ true = has-line k (records rs) ∙ s .index .listed in
       ap₂ (λ (x y : Bool). unless (refuse 5 (not x) ∷ refuse 6 (not y) ∷ refuse 12 (isBusy v) ∷ []) (made (visited v) (recoveryWrite v (lineOf k (records rs)))))
       (line-parts rs cs i s .key) h
       ∙ (unless-busy (isBusy v) _
-      ∙ ap (λ (r : Record). unlessBusy (meeting now (coordinatorOf cs) r) (visited (meeting now (coordinatorOf cs) r)) r) (sym (s .index .line)))
+      ∙ ap (λ (r : Record). unlessBusy (meeting now (sheetsOf rs cs) r) (visited (meeting now (sheetsOf rs cs) r)) r) (sym (s .index .line)))
 
   pub visit-outcome : (v : Recovery) {answer : Visited} {rs′ cs′ : List ℕ} → Recovered now i rs cs v rs′ cs′ → answer ≡ visitedBy v → Outcome toVisited (result (visit (lineAt rs i .key) now) (sheetsOf rs cs)) rs cs answer rs′ cs′
   visit-outcome v h a =

@@ -48,15 +48,15 @@ unfoldable pub outcome : Call → Sheets → Result Answer
 -- "Begin raises the issued count by one"
 outcome (begin b) s = made (returned (newTransaction (s .coordinator .issued + 1) b)) issue
 outcome (read t k now) s =
-    cond (isNew k t) (readNew t (meeting now (s .coordinator) (lineOf k (s .lines))) (lineOf k (s .lines)))
+    cond (isNew k t) (readNew t (meeting now s (lineOf k (s .lines))) (lineOf k (s .lines)))
     (readHeld t (heldEntry k t))
 outcome (put t k c) s = made (returned (afterPut t k c)) nothing
 outcome (advance t now) s = made (returned (step t now s .transaction)) (step t now s .write)
 -- "Abort turns open, prepare, check or decide into withdraw."
 outcome (abort t) s = made (returned (moved withdrawPhase 0 (t .verdict) t)) nothing
 outcome (visit k now) s =
-    made (visited (meeting now (s .coordinator) (lineOf k (s .lines))))
-    (recoveryWrite (meeting now (s .coordinator) (lineOf k (s .lines))) (lineOf k (s .lines)))
+    made (visited (meeting now s (lineOf k (s .lines))))
+    (recoveryWrite (meeting now s (lineOf k (s .lines))) (lineOf k (s .lines)))
 
 -- Every call: refused by the first of its conditions that holds, or what an accepted one comes to.
 unfoldable pub result : Call → Sheets → Result Answer

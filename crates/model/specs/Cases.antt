@@ -6,7 +6,7 @@ use Rattle.model.specs.Lines.{text}
 use Rattle.model.specs.Records.{recordIn, noImage}
 use Rattle.model.specs.Transactions.{noEntry, entryAs, openPhase, preparePhase, decidePhase, finishPhase, undoPhase}
 use Rattle.model.specs.Groups.{groupCount}
-use Rattle.model.specs.Images.{lineExpired}
+use Rattle.model.specs.Images.{lineExpired, byRecovery}
 use Rattle.model.specs.Results.{advance, Answer, turnedAway, returned, answered, visited, reported, Result, answerOf}
 use Rattle.model.specs.ByteCalls.{resultOn, recordsAfter, coordinatorAfter}
 use Rattle.model.specs.Visitor.{visitorOutput}
@@ -89,11 +89,11 @@ groupCase unit expected =
 
 -- An advance of number 2, which has put 600 and 300 over version 3 of the line: both sheets, and phase, place and verdict.
 
-abbrev pub transactionIn : ℕ → ℕ → Transaction
-transactionIn phase verdict =
+abbrev pub transactionAs : ℕ → ℕ → ℕ → Transaction
+transactionAs serializable phase verdict =
     record {
       number = 2;
-      serializable = 0;
+      serializable = serializable;
       phase = phase;
       place = 0;
       verdict = verdict;
@@ -108,12 +108,16 @@ transactionIn phase verdict =
           });
     }
 
+abbrev pub transactionIn : ℕ → ℕ → Transaction
+transactionIn = transactionAs 0
+
 abbrev pub told : Answer → List ℕ
 told (turnedAway n) = n ∷ []
 told (returned t) = t .phase ∷ t .place ∷ t .verdict ∷ []
 told (answered v t) = []
-told (visited v) = []
-told (reported n t) = []
+-- 0 stays, 1 forward, 2 back, 3 again
+told (visited v) = byRecovery v 0 1 2 3 0 ∷ []
+told (reported n t) = n ∷ t .phase ∷ t .place ∷ t .verdict ∷ []
 
 abbrev pub advanced : Transaction → List ℕ → List ℕ → Result Answer
 advanced t line own = resultOn (advance t 7000) (text (line ∷ [])) (coordinatorWith own)
@@ -129,6 +133,7 @@ advanceCase t line own line′ own′ answer =
     }
 
 unfoldable pub cases : List Case
+unfolding Bytes.bytes Bytes.eqList Each.all Each.any Each.filter Each.count Each.joined Each.pieces Each.less Field.stepped Field.scanned Field.within Field.figure Field.number Field.isNumber Field.ahead Field.fieldText Layouts.words Layouts.recordLayout Layouts.keyLayout Layouts.imageLayout Layouts.columnsLayout Layouts.headLayout Layouts.lineLayout Lines.wordFrom Lines.fieldValue Lines.fieldBytes Lines.inRange Lines.rowOf Lines.lineSet Lines.lineText Lines.rowGood Lines.linesOf Lines.linesSet Records.stateNumber Records.stateOf Records.keyNumbers Records.imageNumbers Records.keyOf Records.imageFrom Records.recordOf Records.recordNumbers Records.isZero Records.absentRule Records.committedRule Records.preparedRule Records.goodAlone Records.keyLess Records.inOrder Records.rising Records.recordsGood Records.recordIn Records.recordText Records.records Records.recordsText Records.recordsAccepted Records.keyInRange Records.sameKey Search.firstFrom Records.found Records.isMissing Records.lineOf Coordinator.decisionNumber Coordinator.decisionOf Coordinator.unitNumber Coordinator.unitOf Coordinator.isUndecided Coordinator.decision Coordinator.withDecision Coordinator.coordinatorGood Coordinator.decisionIn Coordinator.coordinatorOf Coordinator.numbered Coordinator.coordinatorAccepted Coordinator.namesIssued Coordinator.decisionTexts Coordinator.headNumbers Coordinator.coordinatorText Refusals.refusalOf SheetCalls.allIssued SheetCalls.checkConditions Transactions.held Transactions.puts Transactions.toValidate Groups.unitFields Groups.unitFor Groups.scope Groups.addScope Groups.scopes Groups.groupCount Groups.groupPlace Groups.group Images.preparedBy Images.unchanged Images.prepared Images.committed Images.rolledForward Images.rolledBack Images.elapsed Images.lineExpired Images.recovery Writes.entryFor Writes.isOf Writes.lineAfter Writes.linesAfter Writes.decisionsAfter Writes.apply WellFormed.imageInRange WellFormed.columnsInRange WellFormed.putFits WellFormed.entryFormed WellFormed.distinctKeys WellFormed.placeFormed WellFormed.verdictFormed WellFormed.formed WellFormed.linesHeld WellFormed.wellFormed Visits.numberExpired Visits.meeting Visits.recoveryWrite Conditions.cannotAdvance Conditions.conditions Steps.holds Steps.onePhaseAllowed Steps.onePhase Steps.openStep Steps.nextGroup Steps.prepareStep Steps.decideStep Steps.finishStep Steps.undoStep Steps.step Calls.outcome Calls.result ByteCalls.resultOn ByteCalls.recordsAfter ByteCalls.coordinatorAfter ByteHistories.afterOn Visitor.firstLayout Visitor.inputFits Visitor.inputConditions Visitor.visitedAll Visitor.swept Visitor.visitorOutput
 cases =
     -- the four clock edges: 14999, 15000, 2147483647 and 2147483648 ticks
     expiryCase 19999 0
@@ -168,5 +173,5 @@ cases =
     ∷ []
 
 pub twelve-cases : map (λ (c : Case). c .given) cases ≡ map (λ (c : Case). c .expected) cases
-unfolding cases Bytes.bytes Bytes.eqList Each.all Each.any Each.filter Each.count Each.joined Each.pieces Each.less Field.stepped Field.scanned Field.within Field.figure Field.number Field.isNumber Field.ahead Field.fieldText Layouts.words Layouts.recordLayout Layouts.keyLayout Layouts.imageLayout Layouts.columnsLayout Layouts.headLayout Layouts.lineLayout Lines.wordFrom Lines.fieldValue Lines.fieldBytes Lines.inRange Lines.rowOf Lines.lineSet Lines.lineText Lines.rowGood Lines.linesOf Lines.linesSet Records.stateNumber Records.stateOf Records.keyNumbers Records.imageNumbers Records.keyOf Records.imageFrom Records.recordOf Records.recordNumbers Records.isZero Records.absentRule Records.committedRule Records.preparedRule Records.goodAlone Records.keyLess Records.inOrder Records.rising Records.recordsGood Records.recordIn Records.recordText Records.records Records.recordsText Records.recordsAccepted Records.keyInRange Records.sameKey Search.firstFrom Records.found Records.isMissing Records.lineOf Coordinator.decisionNumber Coordinator.decisionOf Coordinator.unitNumber Coordinator.unitOf Coordinator.isUndecided Coordinator.decision Coordinator.withDecision Coordinator.coordinatorGood Coordinator.decisionIn Coordinator.coordinatorOf Coordinator.numbered Coordinator.coordinatorAccepted Coordinator.namesIssued Coordinator.decisionTexts Coordinator.headNumbers Coordinator.coordinatorText Refusals.refusalOf SheetCalls.allIssued SheetCalls.checkConditions Transactions.held Transactions.puts Transactions.toValidate Groups.unitFields Groups.unitFor Groups.scope Groups.addScope Groups.scopes Groups.groupCount Groups.groupPlace Groups.group Images.preparedBy Images.unchanged Images.prepared Images.committed Images.rolledForward Images.rolledBack Images.elapsed Images.lineExpired Images.recovery Writes.entryFor Writes.isOf Writes.lineAfter Writes.linesAfter Writes.decisionsAfter Writes.apply WellFormed.imageInRange WellFormed.columnsInRange WellFormed.putFits WellFormed.entryFormed WellFormed.distinctKeys WellFormed.placeFormed WellFormed.verdictFormed WellFormed.formed WellFormed.linesHeld WellFormed.wellFormed Visits.meeting Visits.recoveryWrite Conditions.cannotAdvance Conditions.conditions Steps.holds Steps.onePhaseAllowed Steps.onePhase Steps.openStep Steps.nextGroup Steps.prepareStep Steps.decideStep Steps.finishStep Steps.undoStep Steps.step Calls.outcome Calls.result ByteCalls.resultOn ByteCalls.recordsAfter ByteCalls.coordinatorAfter ByteHistories.afterOn Visitor.firstLayout Visitor.inputFits Visitor.inputConditions Visitor.visitedAll Visitor.swept Visitor.visitorOutput
+unfolding cases
 twelve-cases = refl

@@ -20,9 +20,9 @@ isNew k t = isMissing (heldAt k t)
 abbrev pub heldEntry : Key → Transaction → Entry
 heldEntry k t = byFound (heldAt k t) noEntry (λ (i : ℕ). getD (t .entries) i noEntry)
 
--- the visit of the key would find its line undecided and not expired
+-- the visit of the key would find its line undecided, and its owner not expired
 abbrev pub busy : Key → ℕ → Sheets → Bool
-busy k now s = isBusy (meeting now (s .coordinator) (lineOf k (s .lines)))
+busy k now s = isBusy (meeting now s (lineOf k (s .lines)))
 
 abbrev pub notOpen : Transaction → Bool
 notOpen t = not (eqb (t .phase) openPhase)

@@ -36,4 +36,5 @@ pub mod Recovered
 pub mod SerialOrder
 pub mod Visitor
 pub mod Cases
+pub mod Notes
 pub mod Learners

@@ -8,7 +8,7 @@ use Rattle.model.specs.Layouts.{recordBytes, coordinatorBytes}
 use Rattle.model.specs.Records.{noRecord, records, recordText, recordsText, recordsGood, goodAlone, sameKey, found, lineOf, preparedRule}
 use Rattle.model.specs.Coordinator.{Coordinator, coordinatorOf, namesIssued}
 use Rattle.model.specs.Images.{isPrepared, preparedBy, rolledForward, rolledBack, byRecovery}
-use Rattle.model.specs.Writes.{Write, sheetsGood, nothing, decide, forward, back, isOf, lineAfter, linesAfter, decisionsAfter, apply}
+use Rattle.model.specs.Writes.{Sheets, Write, sheetsGood, nothing, decide, forward, back, isOf, lineAfter, linesAfter, decisionsAfter, apply}
 use Rattle.model.specs.Visits.{ownerDecision, ownerExpired, meeting, isBusy, recovered, recoveryWrite}
 use Rattle.model.specs.Results.{Answer, Result, refused, made}
 use Rattle.model.specs.ByteCalls.{sheetsOf, recordsAfter, coordinatorAfter}
@@ -48,15 +48,15 @@ pending v r = byRecovery v true (isPrepared r) (isPrepared r) (isPrepared r) tru
 abbrev pub Pending : Recovery → Record → Type 0
 Pending v r = pending v r ≡ true
 
-pub meeting-pending : (now : ℕ) (cs : List ℕ) (r : Record) → Pending (meeting now (coordinatorOf cs) r) r
+pub meeting-pending : (now : ℕ) (s : Sheets) (r : Record) → Pending (meeting now s r) r
 unfolding meeting pending
-meeting-pending now cs r =
-    by-meeting (λ (v : Recovery). Pending v r) r (ownerDecision r (coordinatorOf cs)) (ownerExpired now r)
+meeting-pending now s r =
+    by-meeting (λ (v : Recovery). Pending v r) r (ownerDecision r (s .coordinator)) (ownerExpired now (s .lines) r)
     (λ p. refl) (λ p d. p) (λ p d. p) (λ p d x. p) (λ p d x. refl)
 
 -- What a visit of line i gives and leaves.
 pub record Recovered (now i : ℕ) (rs cs : List ℕ) (v : Recovery) (rs′ cs′ : List ℕ) : Type 0 where
-  pub met : v ≡ meeting now (coordinatorOf cs) (lineAt rs i)
+  pub met : v ≡ meeting now (sheetsOf rs cs) (lineAt rs i)
   pub written : Written (recoveryWrite v (lineAt rs i)) rs cs rs′ cs′
 
 -- The write of one key.
@@ -154,7 +154,7 @@ module _ (now : ℕ) (rs cs : List ℕ) (i : ℕ) (s : Standing rs cs i) (v : Re
   visit-fit : Fit (sheetsOf rs cs) (recoveryWrite v (lineAt rs i))
   visit-fit =
       let k = lineAt rs i .key in
-      let met : v ≡ meeting now (coordinatorOf cs) (lineOf k (records rs)) = h .met ∙ ap (meeting now (coordinatorOf cs)) (s .index .line) in
+      let met : v ≡ meeting now (sheetsOf rs cs) (lineOf k (records rs)) = h .met ∙ ap (meeting now (sheetsOf rs cs)) (s .index .line) in
       subst (λ (r : Record). Fit (sheetsOf rs cs) (recoveryWrite v r)) (sym (s .index .line))
       (subst (λ (x : Recovery). Fit (sheetsOf rs cs) (recoveryWrite x (lineOf k (records rs)))) (sym met)
       (visit-fits (sheetsOf rs cs) (s .accepted .good) k now (has-line k (records rs) ∙ s .index .listed)))
@@ -167,7 +167,7 @@ module _ (now : ℕ) (rs cs : List ℕ) (i : ℕ) (s : Standing rs cs i) (v : Re
       let g : recordsGood (linesAfter w (records rs)) ≡ true = search (tests, good) in
       let l : i < length (records rs) = s .index .within in
       let m : i < length (map (lineAfter w) (records rs)) = omega (arith, length-map (records rs) (lineAfter w)) in
-      let p : Pending v (lineAt rs i) = subst (λ (x : Recovery). Pending x (lineAt rs i)) (sym (h .met)) (meeting-pending now cs (lineAt rs i)) in
+      let p : Pending v (lineAt rs i) = subst (λ (x : Recovery). Pending x (lineAt rs i)) (sym (h .met)) (meeting-pending now (sheetsOf rs cs) (lineAt rs i)) in
       ap (λ (x : List ℕ). getD (records x) i noRecord) (h .written .lines)
       ∙ (ap (λ (ls : List Record). getD ls i noRecord) (records-read-written (linesAfter w (records rs)) g .0 ∙ lines-mapped w (records rs))
       ∙ (getD-any (map (lineAfter w) (records rs)) i noRecord (lineAfter w noRecord) m

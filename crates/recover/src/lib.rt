@@ -3,12 +3,14 @@ ghost use mathlib.Core.Path.{_≡_};
 ghost use mathlib.Core.Bool.{true, _&&_, cond};
 ghost use lib.Dec.{leb};
 ghost use Rattle.model.specs.Records.{recordsAccepted};
-ghost use Rattle.model.specs.Coordinator.{coordinatorOf};
+ghost use Rattle.model.specs.Records as sheet;
 ghost use Rattle.model.specs.Images as model;
 ghost use Rattle.model.specs.Images.{byDecision};
-ghost use Rattle.model.specs.Visits.{meeting, recoveryWrite};
+ghost use Rattle.model.specs.Visits.{numberExpired, meeting, recoveryWrite};
+ghost use Rattle.model.specs.ByteCalls.{sheetsOf};
 ghost use Rattle.call_laws.specs.Accepted.{Written};
 ghost use Rattle.types.specs.declared.Recovery.the-variants.{Forward, Back, Again, Busy};
+ghost use Rattle.recover.specs.Clocks.{lineAllows};
 ghost use Rattle.recover.specs.Recovering.{lineAt, Standing, Pending, Recovered};
 use codec::coordinator;
 use codec::reading;
@@ -31,14 +33,44 @@ fn has_expired(now: u32, clock: u32) -> bool
     (15000 <= ticks) & (ticks <= 2147483647)
 }
 
-// A prepared line by its owner's decision. Undecided: expired, the visit comes again; otherwise the owner may still be at work.
-fn pending(owner: Decision, expired: bool) -> Recovery
-    ensures { λ v. ⌜ v ≡ byDecision owner (cond expired Again Busy) Forward Back ⌝ }
+// Whether line i lets the number count as expired: it is not the number's, which is asked before its clock is read, or it has expired.
+fn line_allows(n: u32, i: usize, clock: u32, records: &[u8]) -> bool
+    requires { ⌜ recordsAccepted (now records) ≡ true ⌝ }
+    ensures { λ b. ⌜ b ≡ lineAllows clock n (lineAt (now (records .entry)) i) ⌝ }
+{
+    if !reading::is_prepared(records, i) {
+        return true;
+    }
+    if reading::txid(records, i) != n {
+        return true;
+    }
+    has_expired(clock, reading::clock(records, i))
+}
+
+// Whether a number has expired: every line prepared by it has, on the whole sheet. The first that hasn't ends the search.
+fn number_expired(n: u32, clock: u32, records: &[u8]) -> bool
+    requires { ⌜ recordsAccepted (now records) ≡ true ⌝ }
+    ensures { λ b. ⌜ b ≡ numberExpired clock (sheet.records (now (records .entry))) n ⌝ }
+{
+    let count = codec::records::count(records);
+    for i in 0..count {
+        if !line_allows(n, i, clock, records) {
+            return false;
+        }
+    }
+    true
+}
+
+// A line prepared by a number, by the number's decision. Undecided: expired, the visit comes again; otherwise the owner may still be at work. The number's
+// lines are looked at there only.
+fn pending(owner: Decision, n: u32, clock: u32, records: &[u8]) -> Recovery
+    requires { ⌜ recordsAccepted (now records) ≡ true ⌝ }
+    ensures { λ v. ⌜ v ≡ byDecision owner (cond (numberExpired clock (sheet.records (now (records .entry))) n) Again Busy) Forward Back ⌝ }
 {
     match owner {
         Decision::Committed => Recovery::Forward,
         Decision::Aborted => Recovery::Back,
-        Decision::Undecided => undecided(expired),
+        Decision::Undecided => undecided(number_expired(n, clock, records)),
     }
 }
 
@@ -54,14 +86,14 @@ fn undecided(expired: bool) -> Recovery
 // What a visit of line i comes to.
 fn meet(i: usize, clock: u32, records: &[u8], decisions: &[u8]) -> Recovery
     requires { ⌜ recordsAccepted (now records) ≡ true ⌝ }
-    ensures { λ v. ⌜ v ≡ meeting clock (coordinatorOf (now (decisions .entry))) (lineAt (now (records .entry)) i) ⌝ }
+    ensures { λ v. ⌜ v ≡ meeting clock (sheetsOf (now (records .entry)) (now (decisions .entry))) (lineAt (now (records .entry)) i) ⌝ }
 {
     if !reading::is_prepared(records, i) {
         return Recovery::Stays;
     }
-    let owner = coordinator::decision_at(decisions, reading::txid(records, i));
-    let expired = has_expired(clock, reading::clock(records, i));
-    pending(owner, expired)
+    let n = reading::txid(records, i);
+    let owner = coordinator::decision_at(decisions, n);
+    pending(owner, n, clock, records)
 }
 
 // What the visit writes: that line alone, or the decision of its owner.

@@ -36,20 +36,20 @@ use Rattle.recovery.specs.Invariant.{Remembered, open-unprepared, Inv, M
 
 -- What a visit of a line writes is gentle, and away from every number: it aborts only the owner of the line.
 
-pub visit-gentle : (s : Sheets) (now : ℕ) (r : Record) → Gentle s (recoveryWrite (meeting now (s .coordinator) r) r)
+pub visit-gentle : (s : Sheets) (now : ℕ) (r : Record) → Gentle s (recoveryWrite (meeting now s r) r)
 unfolding meeting recoveryWrite
 visit-gentle s now r =
-    by-meeting (λ (v : Recovery). Gentle s (recoveryWrite v r)) r (ownerDecision r (s .coordinator)) (ownerExpired now r)
+    by-meeting (λ (v : Recovery). Gentle s (recoveryWrite v r)) r (ownerDecision r (s .coordinator)) (ownerExpired now (s .lines) r)
     (λ p. gentle-nothing)
     (λ p d. gentle-forward (r .image .txid) (r .key ∷ []) d)
     (λ p d. gentle-back (r .image .txid) (r .key ∷ []) d)
     (λ p d x. gentle-abort (r .image .txid) d)
     (λ p d x. gentle-nothing)
 
-pub visit-away : (s : Sheets) (now : ℕ) (k : Key) (j : ℕ) → Away s j (recoveryWrite (meeting now (s .coordinator) (lineOf k (s .lines))) (lineOf k (s .lines)))
+pub visit-away : (s : Sheets) (now : ℕ) (k : Key) (j : ℕ) → Away s j (recoveryWrite (meeting now s (lineOf k (s .lines))) (lineOf k (s .lines)))
 unfolding meeting recoveryWrite preparedBy
 visit-away s now k j =
-    by-meeting (λ (v : Recovery). Away s j (recoveryWrite v r)) r (ownerDecision r (s .coordinator)) (ownerExpired now r)
+    by-meeting (λ (v : Recovery). Away s j (recoveryWrite v r)) r (ownerDecision r (s .coordinator)) (ownerExpired now (s .lines) r)
     (λ p. away-nothing)
     (λ p d. away-forward (r .image .txid) (r .key ∷ []) (λ e. ap (λ (x : ℕ). decision x (s .coordinator)) (sym e) ∙ d))
     (λ p d. away-back (r .image .txid) (r .key ∷ []) (λ e. ap (λ (x : ℕ). decision x (s .coordinator)) (sym e) ∙ d))
@@ -115,7 +115,7 @@ module _ {base : ℕ} {one : ℕ → Bool} (s : Sheets) (es : List Event) (m : M
   visit-kept : (k : Key) (now : ℕ) → refusalOf (conditions (visit k now) s) ≡ 0 → Kept (visit k now) (outcome (visit k now) s)
   unfolding outcome conditions testOf modelStep returns
   visit-kept k now z g w a =
-      inv-free s es m (recoveryWrite (meeting now (s .coordinator) (lineOf k (s .lines))) (lineOf k (s .lines))) _ inv refl g
+      inv-free s es m (recoveryWrite (meeting now s (lineOf k (s .lines))) (lineOf k (s .lines))) _ inv refl g
       (visit-gentle s now (lineOf k (s .lines))) (visit-away s now k)
 
   advance-kept : (t : Transaction) (now : ℕ) → refusalOf (conditions (advance t now) s) ≡ 0 → Kept (advance t now) (outcome (advance t now) s)
@@ -239,7 +239,7 @@ module _ {base : ℕ} {one : ℕ → Bool} (s : Sheets) (es : List Event) (m : M
       let c4 : not (eqb (t .phase) 0) ≡ false = accepted 4 (read t k now) s z in
       let ph : t .phase ≡ 0 = eqb-true (t .phase) 0 (not-false (eqb (t .phase) 0) c4) in
       let r = lineOf k (s .lines) in
-      let v = meeting now (s .coordinator) r in
+      let v = meeting now s r in
       let gentle : Gentle s (recoveryWrite v r) = visit-gentle s now r in
       let away : (j : ℕ) → Away s j (recoveryWrite v r) = visit-away s now k in
       choose-by (Kept (read t k now)) (isNew k t)

@@ -14,5 +14,7 @@ pub mod Pass
 pub mod Theorem
 pub mod Commits
 pub mod PassExists
+pub mod Readings
+pub mod PassNeeds
 pub mod NextReader
 pub mod Corollaries

@@ -22,17 +22,17 @@ use Rattle.recovery.specs.Pass.{visit-made, rolled-line}
 
 module _ (s : Sheets) (good : GoodSheets s) (k : Key) (now : ℕ) (listed : listsKey k (s .lines) ≡ true) (pending : isPrepared (lineOf k (s .lines)) ≡ true) (owner : ownerDecision (lineOf k (s .lines)) (s .coordinator) ≡ Committed) where
   -- the line is not undecided
-  decided : lineUndecided s (lineOf k (s .lines)) ≡ true → ownerExpired now (lineOf k (s .lines)) ≡ true
+  decided : lineUndecided s (lineOf k (s .lines)) ≡ true → ownerExpired now (s .lines) (lineOf k (s .lines)) ≡ true
   unfolding lineUndecided isUndecided
   decided u = absurd (true≢false (sym u ∙ ap₂ (λ (b : Bool) (d : Decision). b && isUndecided d) pending owner))
 
-  meets-forward : meeting now (s .coordinator) (lineOf k (s .lines)) ≡ Forward
+  meets-forward : meeting now s (lineOf k (s .lines)) ≡ Forward
   unfolding meeting recovery
   meets-forward =
-      ap (λ (b : Bool). cond b (byDecision (ownerDecision (lineOf k (s .lines)) (s .coordinator)) (cond (ownerExpired now (lineOf k (s .lines))) Again Busy) Forward Back) Stays) pending
-      ∙ ap (λ (d : Decision). byDecision d (cond (ownerExpired now (lineOf k (s .lines))) Again Busy) Forward Back) owner
+      ap (λ (b : Bool). cond b (byDecision (ownerDecision (lineOf k (s .lines)) (s .coordinator)) (cond (ownerExpired now (s .lines) (lineOf k (s .lines))) Again Busy) Forward Back) Stays) pending
+      ∙ ap (λ (d : Decision). byDecision d (cond (ownerExpired now (s .lines) (lineOf k (s .lines))) Again Busy) Forward Back) owner
 
-  finished : (w : Write) → w ≡ recoveryWrite (meeting now (s .coordinator) (lineOf k (s .lines))) (lineOf k (s .lines)) → lineOf k (apply w s .lines) ≡ rolledForward (lineOf k (s .lines))
+  finished : (w : Write) → w ≡ recoveryWrite (meeting now s (lineOf k (s .lines))) (lineOf k (s .lines)) → lineOf k (apply w s .lines) ≡ rolledForward (lineOf k (s .lines))
   unfolding recoveryWrite lineAfter
   finished w e =
       ap (λ (x : Write). lineOf k (apply x s .lines)) (e ∙ ap (λ (v : Recovery). recoveryWrite v (lineOf k (s .lines))) meets-forward)
@@ -56,7 +56,7 @@ module _ (s : Sheets) (good : GoodSheets s) (k : Key) (now : ℕ) (listed : list
       r = lineOf k (s .lines)
 
       v : Recovery
-      v = meeting now (s .coordinator) r
+      v = meeting now s r
 
       writes : writeOf (outcome (read t k now) s) ≡ recoveryWrite v r
       writes =

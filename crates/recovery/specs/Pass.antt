@@ -75,7 +75,7 @@ settled-stays w v r p = go (isPrepared (lineAfter w r)) refl
     go true e = absurd (true≢false (sym e ∙ (ap isPrepared (prepared-before w v r e) ∙ p)))
     go false e = refl
 
-undecided-before : (w : Write) → Visiting w → (s : Sheets) (n : ℕ) → decision n (decisionsAfter w (s .coordinator)) ≡ Undecided → decision n (s .coordinator) ≡ Undecided
+pub undecided-before : (w : Write) → Visiting w → (s : Sheets) (n : ℕ) → decision n (decisionsAfter w (s .coordinator)) ≡ Undecided → decision n (s .coordinator) ≡ Undecided
 unfolding decisionsAfter
 undecided-before w visiting-nothing s n e = e
 undecided-before w (visiting-abort i) s n e = abort-undecided (s .coordinator) i n e
@@ -95,27 +95,27 @@ rank-kept (suc zero) s w k v a = λ p u.
 rank-kept (suc (suc n)) s w k v a = ap isPrepared (line-after s w (visiting-still (s .lines) w v) k) ∙ settled-stays w v (lineOf k (s .lines)) a
 
 -- A visit at a reading at which an undecided line has expired.
-module _ (s : Sheets) (good : GoodSheets s) (k : Key) (now : ℕ) (listed : listsKey k (s .lines) ≡ true) (expiring : lineUndecided s (lineOf k (s .lines)) ≡ true → ownerExpired now (lineOf k (s .lines)) ≡ true) where
-  no-busy : isPrepared (lineOf k (s .lines)) ≡ true → ownerDecision (lineOf k (s .lines)) (s .coordinator) ≡ Undecided → ownerExpired now (lineOf k (s .lines)) ≡ false → ⊥
+module _ (s : Sheets) (good : GoodSheets s) (k : Key) (now : ℕ) (listed : listsKey k (s .lines) ≡ true) (expiring : lineUndecided s (lineOf k (s .lines)) ≡ true → ownerExpired now (s .lines) (lineOf k (s .lines)) ≡ true) where
+  no-busy : isPrepared (lineOf k (s .lines)) ≡ true → ownerDecision (lineOf k (s .lines)) (s .coordinator) ≡ Undecided → ownerExpired now (s .lines) (lineOf k (s .lines)) ≡ false → ⊥
   unfolding lineUndecided isUndecided
   no-busy p d x = true≢false (sym (expiring (ap₂ (λ (b : Bool) (e : Decision). b && isUndecided e) p d)) ∙ x)
 
-  not-busy : isBusy (meeting now (s .coordinator) (lineOf k (s .lines))) ≡ false
+  not-busy : isBusy (meeting now s (lineOf k (s .lines))) ≡ false
   unfolding meeting
   not-busy =
-      by-meeting (λ (v : Recovery). isBusy v ≡ false) (lineOf k (s .lines)) (ownerDecision (lineOf k (s .lines)) (s .coordinator)) (ownerExpired now (lineOf k (s .lines)))
+      by-meeting (λ (v : Recovery). isBusy v ≡ false) (lineOf k (s .lines)) (ownerDecision (lineOf k (s .lines)) (s .coordinator)) (ownerExpired now (s .lines) (lineOf k (s .lines)))
       (λ p. refl) (λ p d. refl) (λ p d. refl) (λ p d x. refl)
       (λ p d x. absurd (no-busy p d x))
 
   -- it is accepted
-  pub visit-made : result (visit k now) s ≡ made (visited (meeting now (s .coordinator) (lineOf k (s .lines)))) (recoveryWrite (meeting now (s .coordinator) (lineOf k (s .lines))) (lineOf k (s .lines)))
+  pub visit-made : result (visit k now) s ≡ made (visited (meeting now s (lineOf k (s .lines)))) (recoveryWrite (meeting now s (lineOf k (s .lines))) (lineOf k (s .lines)))
   unfolding result outcome conditions refusalOf
   visit-made =
       let i : keyInRange k ≡ true = ap keyInRange (sym (line-of-key k (s .lines))) ∙ listed-good s good k listed .key in
       let h : hasLine k (s .lines) ≡ true = has-line k (s .lines) ∙ listed in
       rw (i, h, not-busy)
 
-  visit-written : written (visit k now) s ≡ recoveryWrite (meeting now (s .coordinator) (lineOf k (s .lines))) (lineOf k (s .lines))
+  visit-written : written (visit k now) s ≡ recoveryWrite (meeting now s (lineOf k (s .lines))) (lineOf k (s .lines))
   unfolding written
   visit-written = ap writeOf visit-made
 
@@ -164,20 +164,20 @@ module _ (s : Sheets) (good : GoodSheets s) (k : Key) (now : ℕ) (listed : list
   unfolding recoveryWrite lineAfter
   same-again = line-after s (decide owner Aborted) (still-decide (s .lines) owner Aborted) k
 
-  raised : (n : ℕ) → AtLeast n s k → AtLeast (suc n) (apply (recoveryWrite (meeting now (s .coordinator) (lineOf k (s .lines))) (lineOf k (s .lines))) s) k
+  raised : (n : ℕ) → AtLeast n s k → AtLeast (suc n) (apply (recoveryWrite (meeting now s (lineOf k (s .lines))) (lineOf k (s .lines))) s) k
   unfolding meeting recoveryWrite apply decisionsAfter
   raised zero a =
-      by-meeting (λ (v : Recovery). AtLeast 1 (apply (recoveryWrite v (lineOf k (s .lines))) s) k) (lineOf k (s .lines)) (ownerDecision (lineOf k (s .lines)) (s .coordinator)) (ownerExpired now (lineOf k (s .lines)))
+      by-meeting (λ (v : Recovery). AtLeast 1 (apply (recoveryWrite v (lineOf k (s .lines))) s) k) (lineOf k (s .lines)) (ownerDecision (lineOf k (s .lines)) (s .coordinator)) (ownerExpired now (s .lines) (lineOf k (s .lines)))
       (λ p q u. true≢false (sym q ∙ clear-stays p))
       (λ p d q u. true≢false (sym q ∙ clear-forward p))
       (λ p d q u. true≢false (sym q ∙ clear-back p))
       (λ p d x q u. decided-now p (ap (λ (r : Record). decision (r .image .txid) (withDecision (lineOf k (s .lines) .image .txid) Aborted (s .coordinator))) (sym same-again) ∙ u))
       (λ p d x q u. no-busy p d x)
   raised (suc zero) a =
-      by-meeting (λ (v : Recovery). isPrepared (lineAfterVisit v) ≡ false) (lineOf k (s .lines)) (ownerDecision (lineOf k (s .lines)) (s .coordinator)) (ownerExpired now (lineOf k (s .lines)))
+      by-meeting (λ (v : Recovery). isPrepared (lineAfterVisit v) ≡ false) (lineOf k (s .lines)) (ownerDecision (lineOf k (s .lines)) (s .coordinator)) (ownerExpired now (s .lines) (lineOf k (s .lines)))
       clear-stays (λ p d. clear-forward p) (λ p d. clear-back p) (λ p d x. absurd (a p d)) (λ p d x. absurd (a p d))
   raised (suc (suc n)) a =
-      by-meeting (λ (v : Recovery). isPrepared (lineAfterVisit v) ≡ false) (lineOf k (s .lines)) (ownerDecision (lineOf k (s .lines)) (s .coordinator)) (ownerExpired now (lineOf k (s .lines)))
+      by-meeting (λ (v : Recovery). isPrepared (lineAfterVisit v) ≡ false) (lineOf k (s .lines)) (ownerDecision (lineOf k (s .lines)) (s .coordinator)) (ownerExpired now (s .lines) (lineOf k (s .lines)))
       clear-stays (λ p d. clear-forward p) (λ p d. clear-back p)
       (λ p d x. absurd (true≢false (sym p ∙ a))) (λ p d x. absurd (true≢false (sym p ∙ a)))
 
@@ -201,13 +201,13 @@ lower (suc (suc n)) (suc zero) s k l a = λ p u. true≢false (sym p ∙ a)
 lower (suc (suc n)) (suc (suc p)) s k l a = a
 
 -- one visit of a pass, seen from a line
-turn : (v : Visit) (s : Sheets) (good : GoodSheets s) (k : Key) (n : ℕ) → listsKey k (s .lines) ≡ true → (lineUndecided s (lineOf (v .key) (s .lines)) ≡ true → ownerExpired (v .clock) (lineOf (v .key) (s .lines)) ≡ true) → AtLeast n s k → AtLeast (cond (sameKey (v .key) k) (suc n) n) (after (visitCall v) s) k
+turn : (v : Visit) (s : Sheets) (good : GoodSheets s) (k : Key) (n : ℕ) → listsKey k (s .lines) ≡ true → (lineUndecided s (lineOf (v .key) (s .lines)) ≡ true → ownerExpired (v .clock) (s .lines) (lineOf (v .key) (s .lines)) ≡ true) → AtLeast n s k → AtLeast (cond (sameKey (v .key) k) (suc n) n) (after (visitCall v) s) k
 unfolding after
 turn v s good k n h x a =
     choose-by (λ (i : ℕ). AtLeast i (after (visitCall v) s) k) (sameKey (v .key) k)
     (λ e. let q : v .key ≡ k = same-key (v .key) k e in
     subst (λ (j : Key). AtLeast (suc n) (after (visit j (v .clock)) s) k) (sym q)
-    (visit-raises s good k (v .clock) h (subst (λ (j : Key). lineUndecided s (lineOf j (s .lines)) ≡ true → ownerExpired (v .clock) (lineOf j (s .lines)) ≡ true) q x) n a))
+    (visit-raises s good k (v .clock) h (subst (λ (j : Key). lineUndecided s (lineOf j (s .lines)) ≡ true → ownerExpired (v .clock) (s .lines) (lineOf j (s .lines)) ≡ true) q x) n a))
     (λ e. rank-kept n s (written (visitCall v) s) k (visit-visiting (v .key) (v .clock) s) a)
 
 -- A visit leaves good sheets, the same settled lines and the same keys.

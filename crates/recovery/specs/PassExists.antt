@@ -1,77 +1,100 @@
--- A recovery pass exists after every history: each line visited twice, at a reading 15000 ticks after its prepare clock. A line that is still prepared during
--- the pass is the line that stood there at first, so that the reading fits it.
-use Rattle.lists.specs.Basics.{_≡_, refl, sym, ap, _∙_, ℕ, suc, _+_, _-_, _%_, _^_, _≤_, Bool, true, false, _||_, cond, true≢false, List, [], _∷_, _++_, map}
-use Rattle.lists.specs.Basics.{arith, any, count, and-fst}
-use Rattle.model.specs.Types.{Key, Record}
+-- A recovery pass exists where each undecided number has a reading at which it has expired: every line visited twice, at its number's reading. During the pass
+-- a number's PREPARED lines are those of the first sheets, or fewer, so that the reading fits them still.
+use Rattle.lists.specs.Basics.{_≡_, refl, sym, ap, _∙_, ℕ, suc, _+_, _≤_, Bool, true, false, not, _||_, cond, true≢false, List, [], _∷_, _++_, map}
+use Rattle.lists.specs.Basics.{arith, all, any, count, and-fst, and-snd, and-both}
+use Rattle.model.specs.Types.{Key, Record, Decision, Undecided, Committed, Aborted}
 use Rattle.model.specs.Records.{sameKey, lineOf}
-use Rattle.model.specs.Coordinator.{isUndecided}
-use Rattle.model.specs.Images.{isPrepared, elapsed, lineExpired}
-use Rattle.model.specs.Writes.{Sheets, sheetsGood}
-use Rattle.model.specs.Visits.{ownerDecision, ownerExpired}
+use Rattle.model.specs.Coordinator.{isUndecided, decision}
+use Rattle.model.specs.Images.{isPrepared, preparedBy, lineExpired}
+use Rattle.model.specs.Writes.{Sheets, Write, lineAfter, apply}
+use Rattle.model.specs.Visits.{ownerDecision, numberExpired, ownerExpired}
 use Rattle.model.specs.Histories.{written, after}
-use Rattle.model.specs.RecoveryPass.{Visit, visitCall, lineUndecided, timesVisited, Expiring, Closing}
-use Rattle.call_laws.specs.Lines.{listsKey, has-line, unlisted}
-use Rattle.call_laws.specs.Sheets.{GoodSheets, good-parts}
-use Rattle.recovery.specs.View.{listed-good, line-after}
+use Rattle.model.specs.RecoveryPass.{Visit, visitCall, lineUndecided, timesVisited, Expiring, Closing, Readings}
+use Rattle.call_laws.specs.Lines.{listsKey, has-line, unlisted, lines-mapped}
+use Rattle.recovery.specs.View.{line-after}
 use Rattle.recovery.specs.Theorem.{keysIn}
-use Rattle.recovery.specs.Pass.{visit-visiting, visiting-still, prepared-before, call-lists}
+use Rattle.recovery.specs.Pass.{Visiting, undecided-before, visit-visiting, visiting-still, prepared-before, call-lists}
 
--- a reading at which a line has expired
-abbrev pub reading : Record → ℕ
-reading r = (r .clock + 15000) % 2 ^ 32
+-- a line that isn't prepared doesn't hinder a number
+plain-expired : (n now : ℕ) (r : Record) → isPrepared r ≡ false → (not (preparedBy n r) || lineExpired now r) ≡ true
+unfolding preparedBy
+plain-expired n now r p = rw p
 
-ticks : (c : ℕ) → c ≤ 4294967295 → ((c + 15000) % 2 ^ 32 + (2 ^ 32 - c)) % 2 ^ 32 ≡ 15000
-ticks c l = omega arith
+-- a number that has expired has expired after a visit: its lines are the same or fewer
+expired-later : (w : Write) → Visiting w → (now n : ℕ) (rs : List Record) → numberExpired now rs n ≡ true → numberExpired now (map (lineAfter w) rs) n ≡ true
+unfolding numberExpired all
+expired-later w v now n [] h = refl
+expired-later w v now n (r ∷ rs) h =
+    and-both (go (isPrepared (lineAfter w r)) refl)
+    (expired-later w v now n rs (and-snd (not (preparedBy n r) || lineExpired now r) _ h))
+  where
+    go : (b : Bool) → isPrepared (lineAfter w r) ≡ b → (not (preparedBy n (lineAfter w r)) || lineExpired now (lineAfter w r)) ≡ true
+    go true e = ap (λ (x : Record). not (preparedBy n x) || lineExpired now x) (prepared-before w v r e) ∙ and-fst (not (preparedBy n r) || lineExpired now r) _ h
+    go false e = plain-expired n now (lineAfter w r) e
 
-expired-then : (r : Record) → r .clock ≤ 4294967295 → lineExpired (reading r) r ≡ true
-unfolding lineExpired elapsed
-expired-then r l =
-    let e : ((r .clock + 15000) % 2 ^ 32 + (2 ^ 32 - r .clock)) % 2 ^ 32 ≡ 15000 = ticks (r .clock) l in
-    rw e refl
-
--- During the pass a line that is prepared is the line of the first sheets.
+-- During the pass a line that is prepared is the line of the first sheets, who is undecided was so before, and what has expired stays so.
 record Same (s s′ : Sheets) : Type 0 where
   lists : (k : Key) → listsKey k (s′ .lines) ≡ listsKey k (s .lines)
   line : (k : Key) → listsKey k (s .lines) ≡ true → isPrepared (lineOf k (s′ .lines)) ≡ true → lineOf k (s′ .lines) ≡ lineOf k (s .lines)
+  undecided : (n : ℕ) → decision n (s′ .coordinator) ≡ Undecided → decision n (s .coordinator) ≡ Undecided
+  expired : (now n : ℕ) → numberExpired now (s .lines) n ≡ true → numberExpired now (s′ .lines) n ≡ true
 
 same-first : (s : Sheets) → Same s s
-same-first s = record { lists = λ k. refl; line = λ k h p. refl }
+same-first s = record { lists = λ k. refl; line = λ k h p. refl; undecided = λ n u. u; expired = λ now n h. h }
 
 same-next : (s s′ : Sheets) (v : Visit) → Same s s′ → Same s (after (visitCall v) s′)
-unfolding after
+unfolding after apply
 same-next s s′ v x =
+    let w = written (visitCall v) s′ in
+    let y : Visiting w = visit-visiting (v .key) (v .clock) s′ in
     record {
       lists = λ k. call-lists (visitCall v) s′ k ∙ x .lists k;
-      line = λ k h p. let l = line-after s′ (written (visitCall v) s′) (visiting-still (s′ .lines) (written (visitCall v) s′) (visit-visiting (v .key) (v .clock) s′)) k in
-          let e = l ∙ prepared-before (written (visitCall v) s′) (visit-visiting (v .key) (v .clock) s′) (lineOf k (s′ .lines)) (ap isPrepared (sym l) ∙ p) in
+      line = λ k h p. let l = line-after s′ w (visiting-still (s′ .lines) w y) k in
+          let e = l ∙ prepared-before w y (lineOf k (s′ .lines)) (ap isPrepared (sym l) ∙ p) in
           e ∙ x .line k h (ap isPrepared (sym e) ∙ p);
+      undecided = λ n u. x .undecided n (undecided-before w y s′ n u);
+      expired = λ now n h. ap (λ (rs : List Record). numberExpired now rs n) (lines-mapped w (s′ .lines)) ∙ expired-later w y now n (s′ .lines) (x .expired now n h);
     }
 
--- the visit of a key at the reading of its line on the first sheets
-abbrev visitFor : Sheets → Key → Visit
-visitFor s k = record { key = k; clock = reading (lineOf k (s .lines)) }
+-- the visit of a key at the reading of the number that its line names on the first sheets
+abbrev visitFor : (ℕ → ℕ) → Sheets → Key → Visit
+visitFor clocks s k = record { key = k; clock = clocks (lineOf k (s .lines) .image .txid) }
 
-fits-then : (s s′ : Sheets) → GoodSheets s → Same s s′ → (k : Key) → lineUndecided s′ (lineOf k (s′ .lines)) ≡ true → ownerExpired (reading (lineOf k (s .lines))) (lineOf k (s′ .lines)) ≡ true
-unfolding lineUndecided
-fits-then s s′ g x k u = go (listsKey k (s .lines)) refl
+pub undecided-is : (d : Decision) → isUndecided d ≡ true → d ≡ Undecided
+unfolding isUndecided
+undecided-is Undecided h = refl
+undecided-is Committed h = absurd (true≢false (sym h))
+undecided-is Aborted h = absurd (true≢false (sym h))
+
+fits-then : (clocks : ℕ → ℕ) (s s′ : Sheets) → Readings clocks s → Same s s′ → (k : Key) → lineUndecided s′ (lineOf k (s′ .lines)) ≡ true → ownerExpired (clocks (lineOf k (s .lines) .image .txid)) (s′ .lines) (lineOf k (s′ .lines)) ≡ true
+unfolding lineUndecided isUndecided
+fits-then clocks s s′ g x k u = go (listsKey k (s .lines)) refl
   where
-    p : isPrepared (lineOf k (s′ .lines)) ≡ true
-    p = and-fst (isPrepared (lineOf k (s′ .lines))) (isUndecided (ownerDecision (lineOf k (s′ .lines)) (s′ .coordinator))) u
+    d : Decision
+    d = ownerDecision (lineOf k (s′ .lines)) (s′ .coordinator)
 
-    go : (b : Bool) → listsKey k (s .lines) ≡ b → ownerExpired (reading (lineOf k (s .lines))) (lineOf k (s′ .lines)) ≡ true
-    go true h = ap (lineExpired (reading (lineOf k (s .lines)))) (x .line k h p) ∙ expired-then (lineOf k (s .lines)) (listed-good s g k h .clock)
+    p : isPrepared (lineOf k (s′ .lines)) ≡ true
+    p = and-fst (isPrepared (lineOf k (s′ .lines))) (isUndecided d) u
+
+    go : (b : Bool) → listsKey k (s .lines) ≡ b → ownerExpired (clocks (lineOf k (s .lines) .image .txid)) (s′ .lines) (lineOf k (s′ .lines)) ≡ true
+    go true h =
+        let e : lineOf k (s′ .lines) ≡ lineOf k (s .lines) = x .line k h p in
+        let q : decision (lineOf k (s .lines) .image .txid) (s .coordinator) ≡ Undecided =
+        x .undecided _ (ap (λ (r : Record). ownerDecision r (s′ .coordinator)) (sym e) ∙ undecided-is d (and-snd (isPrepared (lineOf k (s′ .lines))) (isUndecided d) u)) in
+        ap (λ (r : Record). numberExpired (clocks (lineOf k (s .lines) .image .txid)) (s′ .lines) (r .image .txid)) e
+        ∙ x .expired _ _ (g .expired k (and-both (ap isPrepared (sym e) ∙ p) (ap isUndecided q)))
     go false h = absurd (true≢false (sym p ∙ ap isPrepared (unlisted k (s′ .lines) (x .lists k ∙ h))))
 
-expiring-for : (ks : List Key) (s s′ : Sheets) → GoodSheets s → Same s s′ → Expiring (λ (y : Sheets). y) after (map (visitFor s) ks) s′
-expiring-for [] s s′ g x = tt
-expiring-for (k ∷ ks) s s′ g x =
-    (omega arith, (fits-then s s′ g x k, expiring-for ks s (after (visitCall (visitFor s k)) s′) g (same-next s s′ (visitFor s k) x)))
+expiring-for : (clocks : ℕ → ℕ) (ks : List Key) (s s′ : Sheets) → Readings clocks s → Same s s′ → Expiring (λ (y : Sheets). y) after (map (visitFor clocks s) ks) s′
+expiring-for clocks [] s s′ g x = tt
+expiring-for clocks (k ∷ ks) s s′ g x =
+    (g .fits _, (fits-then clocks s s′ g x k, expiring-for clocks ks s (after (visitCall (visitFor clocks s k)) s′) g (same-next s s′ (visitFor clocks s k) x)))
 
 -- Every key twice.
-times-for : (s : Sheets) (k : Key) (ks : List Key) → timesVisited k (map (visitFor s) ks) ≡ count (λ (j : Key). sameKey j k) ks
+times-for : (clocks : ℕ → ℕ) (s : Sheets) (k : Key) (ks : List Key) → timesVisited k (map (visitFor clocks s) ks) ≡ count (λ (j : Key). sameKey j k) ks
 unfolding count
-times-for s k [] = refl
-times-for s k (j ∷ ks) = ap (λ (n : ℕ). cond (sameKey j k) (suc n) n) (times-for s k ks)
+times-for clocks s k [] = refl
+times-for clocks s k (j ∷ ks) = ap (λ (n : ℕ). cond (sameKey j k) (suc n) n) (times-for clocks s k ks)
 
 count-append : (p : Key → Bool) (xs ys : List Key) → count p (xs ++ ys) ≡ count p xs + count p ys
 unfolding count
@@ -92,17 +115,17 @@ counted-once k (r ∷ rs) h = go (sameKey (r .key) k) h (counted-once k rs)
     go false g f = f g
 
 -- the visits of every line, twice
-unfoldable pub recoveryPass : Sheets → List Visit
-recoveryPass s = map (visitFor s) (keysIn (s .lines) ++ keysIn (s .lines))
+unfoldable pub recoveryPass : (ℕ → ℕ) → Sheets → List Visit
+recoveryPass clocks s = map (visitFor clocks s) (keysIn (s .lines) ++ keysIn (s .lines))
 
-pub pass-exists : (s : Sheets) → sheetsGood s ≡ true → Closing (λ (y : Sheets). y) after (recoveryPass s) s
+pub pass-exists : (clocks : ℕ → ℕ) (s : Sheets) → Readings clocks s → Closing (λ (y : Sheets). y) after (recoveryPass clocks s) s
 unfolding recoveryPass
-pass-exists s g =
+pass-exists clocks s g =
     record {
       twice = λ k h. let l : listsKey k (s .lines) ≡ true = sym (has-line k (s .lines)) ∙ h in
           let one : 1 ≤ count (λ (j : Key). sameKey j k) (keysIn (s .lines)) = counted-once k (s .lines) l in
           let sum = count-append (λ (j : Key). sameKey j k) (keysIn (s .lines)) (keysIn (s .lines)) in
-          let all = times-for s k (keysIn (s .lines) ++ keysIn (s .lines)) in
+          let all = times-for clocks s k (keysIn (s .lines) ++ keysIn (s .lines)) in
           omega (arith, one, sum, all);
-      expiring = expiring-for (keysIn (s .lines) ++ keysIn (s .lines)) s s (good-parts s g) (same-first s);
+      expiring = expiring-for clocks (keysIn (s .lines) ++ keysIn (s .lines)) s s g (same-first s);
     }

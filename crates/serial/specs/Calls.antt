@@ -40,11 +40,11 @@ pub record SoFar (first : Key → Record) (s : Sheets) (es : List Event) (m : Mo
 
 -- What a visit of a line leaves, where it rolls or stays, is the model's line.
 visited-line : {s : Sheets} {es : List Event} {m : Model} → Facts s es m → (k : Key) (now : ℕ)
-    → isAgain (meeting now (s .coordinator) (lineOf k (s .lines))) ≡ false → busy k now s ≡ false
-    → m .line k ≡ recovered (meeting now (s .coordinator) (lineOf k (s .lines))) (lineOf k (s .lines))
+    → isAgain (meeting now s (lineOf k (s .lines))) ≡ false → busy k now s ≡ false
+    → m .line k ≡ recovered (meeting now s (lineOf k (s .lines))) (lineOf k (s .lines))
 unfolding meeting recovered
 visited-line {s} {es} {m} f k now =
-    by-meeting (λ (v : Recovery). isAgain v ≡ false → isBusy v ≡ false → m .line k ≡ recovered v r) r (ownerDecision r (s .coordinator)) (ownerExpired now r)
+    by-meeting (λ (v : Recovery). isAgain v ≡ false → isBusy v ≡ false → m .line k ≡ recovered v r) r (ownerDecision r (s .coordinator)) (ownerExpired now (s .lines) r)
     (λ p x y. sym (f .view k) ∙ settled-plain (s .coordinator) r p)
     (λ p d x y. sym (f .view k) ∙ settled-by (s .coordinator) r Committed p d)
     (λ p d x y. sym (f .view k) ∙ settled-by (s .coordinator) r Aborted p d)
@@ -210,7 +210,7 @@ module _ {first : Key → Record} {s : Sheets} {es : List Event} {m : Model} {ps
       r = lineOf k (s .lines)
 
       v : Recovery
-      v = meeting now (s .coordinator) r
+      v = meeting now s r
 
       w : Write
       w = recoveryWrite v r

@@ -10,14 +10,14 @@ use Rattle.model.specs.Results.{refusalIn}
 use Rattle.model.specs.Closing.{changes, turn, closing, closeBarred, closeConditions}
 use Rattle.model.specs.Histories.{Event, leftBy}
 use Rattle.model.specs.SequentialModel.{firstModel, modelBegin, modelPut, modelCommit, modelCall, modelStep, modelAfter}
-use Rattle.model.specs.RecoveryPass.{Visit, visitCall, nonePrepared, Closing}
+use Rattle.model.specs.RecoveryPass.{Visit, visitCall, nonePrepared, Closing, lineUndecided, expirable, leavesReadings, readingIn, readingsOf}
 use Rattle.model.specs.ByteHistories.{Bytes, saying, Passing, answerOn, afterOn}
 use Rattle.model.specs.Turns.{Turn, turnEventOn, turnAfterOn, turnsLeft, turnEvents, LegalTurns}
 use Rattle.model.specs.Recovered.{modelOn, bytesRecovered}
 use Rattle.model.specs.Clients.{Act, asks, loses, visits, begins, World, unused, Unused, turnsIn, listsAfter, worldAfter, turnsOf, clockAsked, clockFits}
 use Rattle.clients.specs.Clients.{unused-number, clients-legal}
 use Rattle.recovery.specs.PassExists.{recoveryPass}
-use Rattle.turns.specs.Bytes.{recovery-pass-exists}
+use Rattle.turns.specs.Bytes.{recovery-pass-told}
 use Rattle.theorems.specs.Tables.{keyA, keyB, columns, told}
 use Rattle.model.specs.Steps as Steps
 
@@ -99,7 +99,7 @@ abbrev visitAt : Key → ℕ → Visit
 visitAt k now = record { key = k; clock = now }
 
 abbrev pub clientVisits : List Visit
-clientVisits = visitAt keyA 15000 ∷ visitAt keyB 15102 ∷ visitAt keyA 15000 ∷ visitAt keyB 15102 ∷ []
+clientVisits = visitAt keyA 15102 ∷ visitAt keyB 15102 ∷ visitAt keyA 15102 ∷ visitAt keyB 15102 ∷ []
 
 abbrev lastBytes : Bytes
 lastBytes = sheets issued3 firstCommitted secondAborted writtenA pendingB
@@ -116,12 +116,13 @@ record Computed : Type 0 where
   pub left : turnsLeft turnAfterOn clientTurns (clientWorld .bytes) ≡ lastBytes
   pub refusals : clientRefusals ≡ 0 ∷ 0 ∷ 0 ∷ 3 ∷ 0 ∷ 0 ∷ 0 ∷ 0 ∷ 0 ∷ 0 ∷ 0 ∷ 0 ∷ 0 ∷ 0 ∷ []
   pub committed : modelOn clientTurns (clientWorld .bytes) .committed ≡ 1 ∷ []
-  pub visits : recoveryPass (saying lastBytes) ≡ clientVisits
+  pub readable : leavesReadings (saying lastBytes) ≡ true
+  pub visits : recoveryPass (readingsOf (saying lastBytes)) (saying lastBytes) ≡ clientVisits
   pub recovered : leftBy answerOn afterOn (map visitCall clientVisits) lastBytes ≡ clientRecovered
 
 computed : Computed
-unfolding told recoveryPass leftBy turnsLeft turnEvents turnsOf turnsIn worldAfter listsAfter listAfter clockAsked clockFits Steps.withdrawStep changes turn closing closeBarred closeConditions modelAfter modelStep modelCall modelBegin modelPut modelCommit firstModel
-computed = record { passes = refl; unprepared = refl; fits = refl; left = refl; refusals = refl; committed = refl; visits = refl; recovered = refl }
+unfolding told lineUndecided expirable leavesReadings readingIn recoveryPass leftBy turnsLeft turnEvents turnsOf turnsIn worldAfter listsAfter listAfter clockAsked clockFits Steps.withdrawStep changes turn closing closeBarred closeConditions modelAfter modelStep modelCall modelBegin modelPut modelCommit firstModel
+computed = record { passes = refl; unprepared = refl; fits = refl; left = refl; refusals = refl; committed = refl; readable = refl; visits = refl; recovered = refl }
 
 -- The hypotheses, met.
 
@@ -143,8 +144,9 @@ client-legal = clients-legal clientActs clientWorld client-passes client-unused 
 pub client-closing : Closing saying afterOn clientVisits (turnsLeft turnAfterOn clientTurns (clientWorld .bytes))
 client-closing =
     subst (λ (vs : List Visit). Closing saying afterOn vs (turnsLeft turnAfterOn clientTurns (clientWorld .bytes)))
-    (ap (λ (b : Bytes). recoveryPass (saying b)) (computed .left) ∙ computed .visits)
-    (recovery-pass-exists (clientWorld .bytes) client-passes clientTurns client-legal)
+    (ap (λ (b : Bytes). recoveryPass (readingsOf (saying b)) (saying b)) (computed .left) ∙ computed .visits)
+    (recovery-pass-told (clientWorld .bytes) client-passes clientTurns client-legal
+    (ap (λ (b : Bytes). leavesReadings (saying b)) (computed .left) ∙ computed .readable))
 
 -- The one refusal, the bytes at the end, and the numbers that the sequential model has committed.
 

@@ -15,12 +15,12 @@ use Rattle.model.specs.Operations.{standsFor}
 use Rattle.model.specs.Requests.{operationOf}
 use Rattle.model.specs.Histories.{Event, leftBy}
 use Rattle.model.specs.SequentialModel.{firstModel, modelBegin, modelPut, modelCommit, modelCall, modelStep, modelAfter}
-use Rattle.model.specs.RecoveryPass.{Visit, visitCall, nonePrepared, Closing}
+use Rattle.model.specs.RecoveryPass.{Visit, visitCall, nonePrepared, Closing, lineUndecided, expirable, leavesReadings, readingIn, readingsOf}
 use Rattle.model.specs.ByteHistories.{Bytes, saying, Passing, answerOn, afterOn}
 use Rattle.model.specs.Turns.{Turn, turnEventOn, turnAfterOn, turnsLeft, LegalTurns}
 use Rattle.model.specs.Recovered.{modelOn, bytesRecovered}
 use Rattle.recovery.specs.PassExists.{recoveryPass}
-use Rattle.turns.specs.Bytes.{recovery-pass-exists}
+use Rattle.turns.specs.Bytes.{recovery-pass-told}
 use Rattle.theorems.specs.Tables.{keyA, keyB, keyC, image, columns, Row, row, rowAt, told, LegalRows, rows-left, rows-events, rows-legal, apart, untaken}
 use Rattle.theorems.specs.Tables.{_⊗_}
 use Rattle.model.specs.Results as Results
@@ -191,11 +191,11 @@ visitAt k now = record { key = k; clock = now }
 abbrev pub sampleVisits : List Visit
 sampleVisits =
     visitAt keyA 2147498653
-    ∷ visitAt keyB 15000
-    ∷ visitAt keyC 15000
+    ∷ visitAt keyB 0
+    ∷ visitAt keyC 0
     ∷ visitAt keyA 2147498653
-    ∷ visitAt keyB 15000
-    ∷ visitAt keyC 15000
+    ∷ visitAt keyB 0
+    ∷ visitAt keyC 0
     ∷ []
 
 abbrev lastBytes : Bytes
@@ -209,12 +209,13 @@ record Computed : Type 0 where
   pub passes : Passing sampleBytes
   pub unprepared : nonePrepared (records (sampleBytes .records)) ≡ true
   pub true-story : told story sampleBytes ≡ story
-  pub visits : recoveryPass (saying lastBytes) ≡ sampleVisits
+  pub readable : leavesReadings (saying lastBytes) ≡ true
+  pub visits : recoveryPass (readingsOf (saying lastBytes)) (saying lastBytes) ≡ sampleVisits
   pub recovered : leftBy answerOn afterOn (map visitCall sampleVisits) lastBytes ≡ recoveredBytes
 
 computed : Computed
-unfolding told recoveryPass leftBy
-computed = record { passes = refl; unprepared = refl; true-story = refl; visits = refl; recovered = refl }
+unfolding told lineUndecided expirable leavesReadings readingIn recoveryPass leftBy
+computed = record { passes = refl; unprepared = refl; true-story = refl; readable = refl; visits = refl; recovered = refl }
 
 -- Each turn takes nothing, or a state that an earlier turn returned, and the turns since took none or one of another number.
 story-legal : LegalRows story []
@@ -264,8 +265,8 @@ left = rows-left story sampleBytes (computed .true-story)
 pub sample-closing : Closing saying afterOn sampleVisits (turnsLeft turnAfterOn sampleTurns sampleBytes)
 sample-closing =
     subst (λ (vs : List Visit). Closing saying afterOn vs (turnsLeft turnAfterOn sampleTurns sampleBytes))
-    (ap (λ (b : Bytes). recoveryPass (saying b)) left ∙ computed .visits)
-    (recovery-pass-exists sampleBytes sample-passes sampleTurns sample-legal)
+    (ap (λ (b : Bytes). recoveryPass (readingsOf (saying b)) (saying b)) left ∙ computed .visits)
+    (recovery-pass-told sampleBytes sample-passes sampleTurns sample-legal (ap (λ (b : Bytes). leavesReadings (saying b)) left ∙ computed .readable))
 
 -- The bytes at the end, and the numbers that the sequential model has committed, the last one first.
 

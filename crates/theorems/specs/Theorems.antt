@@ -21,15 +21,18 @@ use Rattle.model.specs.Histories.{ClockFits}
 use Rattle.model.specs.ByteHistories.{Bytes, saying, Passing, answerOn, afterOn}
 use Rattle.model.specs.AtomicWrites.{OneUnit}
 use Rattle.model.specs.Changes.{linesStored, toldOf, ToldAtomic}
-use Rattle.model.specs.RecoveryPass.{Visit, nonePrepared, Closing}
+use Rattle.model.specs.RecoveryPass.{Visit, nonePrepared, Closing, Readings, leavesReadings, readingsOf}
 use Rattle.model.specs.Turns.{Turn, byPlace, turnCall, turnWritesOnce, turnEventOn, turnAfterOn, turnsLeft, LegalTurns}
 use Rattle.model.specs.Clients.{Act, World, Unused, turnsOf, clockFits}
 use Rattle.model.specs.Recovered.{Recovered, modelOn, bytesRecovered}
 use Rattle.model.specs.SerialOrder.{callsOn, begunChecked, serialOrder, serialLine, Serializable}
 use Rattle.model.specs.Cases.{Case, cases, twelve-cases}
+use Rattle.model.specs.Notes.{noteCases, note-cases}
 use Rattle.sheet_laws.specs.Records as RecordLaws
 use Rattle.sheet_laws.specs.Coordinator as CoordinatorLaws
 use Rattle.call_laws.specs.Exactness as Exactness
+use Rattle.call_laws.specs.Sheets.{good-parts}
+use Rattle.call_laws.specs.Lifting.{passing-good}
 use Rattle.call_laws.specs.Operations as Operations
 use Rattle.call_laws.specs.ByPlace as ByPlace
 use Rattle.call_laws.specs.ByteUnits as ByteUnits
@@ -43,6 +46,7 @@ use Rattle.turns.specs.Bytes as Recovery
 use Rattle.clients.specs.Clients as Clients
 use Rattle.recovery.specs.PassExists.{recoveryPass}
 use Rattle.recovery.specs.NextReader as NextReader
+use Rattle.recovery.specs.Readings as ReadingLaws
 use Rattle.serial.specs.Bytes as Serial
 use Rattle.theorems.specs.Sample as Sample
 use Rattle.theorems.specs.ClientSample as ClientSample
@@ -132,6 +136,10 @@ coordinator-read-again c g = CoordinatorLaws.coordinator-read-written c g
 pub cases-hold : map (λ (c : Case). c .given) cases ≡ map (λ (c : Case). c .expected) cases
 cases-hold = twelve-cases
 
+-- and cases of document 02's requests
+pub note-cases-hold : map (λ (c : Case). c .given) noteCases ≡ map (λ (c : Case). c .expected) noteCases
+note-cases-hold = note-cases
+
 -- DOCUMENT 02, NOTE 1, for every input at a clock reading below 2^32, as every u32 is.
 
 -- "For every limit the report, transaction and sheets are those of advances made one after another up to there": none of them is refused, and the report is the
@@ -177,9 +185,18 @@ none-greater t now limit b fits n u e = Closes.none-greater t now limit b fits n
 pub demand-3 : (b : Bytes) → Passing b → nonePrepared (records (b .records)) ≡ true → (xs : List Turn) → LegalTurns turnAfterOn turnEventOn xs b [] → (vs : List Visit) → Closing saying afterOn vs (turnsLeft turnAfterOn xs b) → Recovered vs xs b
 demand-3 b p z xs legal vs c = Recovery.demand-3 b p z xs legal vs c
 
--- after every legal history there is a recovery pass
-pub recovery-pass-exists : (b : Bytes) → Passing b → (xs : List Turn) → LegalTurns turnAfterOn turnEventOn xs b [] → Closing saying afterOn (recoveryPass (saying (turnsLeft turnAfterOn xs b))) (turnsLeft turnAfterOn xs b)
-recovery-pass-exists b p xs legal = Recovery.recovery-pass-exists b p xs legal
+-- DOCUMENT 02, NOTE 2. A number has expired exactly when every line PREPARED by it has (Visits `numberExpired`), and demand 3 is for readings at which it has. After
+-- a legal history there is a recovery pass if each undecided number has such a reading, one a number ..
+pub recovery-pass-exists : (b : Bytes) → Passing b → (xs : List Turn) → LegalTurns turnAfterOn turnEventOn xs b [] → (clocks : ℕ → ℕ) → Readings clocks (saying (turnsLeft turnAfterOn xs b)) → Closing saying afterOn (recoveryPass clocks (saying (turnsLeft turnAfterOn xs b))) (turnsLeft turnAfterOn xs b)
+recovery-pass-exists b p xs legal clocks g = Recovery.recovery-pass-exists b p xs legal clocks g
+
+-- .. and only then: "A list that leaves an undecided number whose prepare clocks allow no such reading falls outside demand 3." Whether it does can be told from the
+-- sheets: a number has a reading exactly if one stands 15000 ticks after one of its prepare clocks
+pub recovery-pass-needs : (b : Bytes) → Passing b → (vs : List Visit) → Closing saying afterOn vs b → leavesReadings (saying b) ≡ true
+recovery-pass-needs b p vs c = Recovery.recovery-pass-needs b p vs c
+
+pub readings-told : (b : Bytes) → Passing b → (leavesReadings (saying b) ≡ true → Readings (readingsOf (saying b)) (saying b)) × ((clocks : ℕ → ℕ) → Readings clocks (saying b) → leavesReadings (saying b) ≡ true)
+readings-told b p = (ReadingLaws.readings-exist (saying b), ReadingLaws.readings-needed (saying b) (good-parts (saying b) (passing-good b p)))
 
 -- a history and a pass that meet the hypotheses, the bytes that they leave, and what was committed, the last number first
 pub sample-legal : (Passing Sample.sampleBytes × (nonePrepared (records (Sample.sampleBytes .records)) ≡ true)) × (LegalTurns turnAfterOn turnEventOn Sample.sampleTurns Sample.sampleBytes [] × Closing saying afterOn Sample.sampleVisits (turnsLeft turnAfterOn Sample.sampleTurns Sample.sampleBytes))

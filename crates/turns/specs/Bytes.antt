@@ -1,11 +1,11 @@
 -- Demand 3 over bytes: the bytes of both sheets are a kind of sheets, and an accepted record sheet is the text of what it says.
-use Rattle.lists.specs.Basics.{_≡_, sym, ap, _∙_, true, List, [], map}
+use Rattle.lists.specs.Basics.{_≡_, sym, ap, _∙_, ℕ, true, List, [], map}
 use Rattle.model.specs.Types.{Record}
 use Rattle.model.specs.Coordinator.{decision}
 use Rattle.model.specs.Records.{records, recordsText}
 use Rattle.model.specs.Writes.{Sheets}
 use Rattle.model.specs.SequentialModel.{Model, isCommitted}
-use Rattle.model.specs.RecoveryPass.{Visit, nonePrepared, Closing}
+use Rattle.model.specs.RecoveryPass.{Visit, nonePrepared, Closing, Readings, leavesReadings, readingsOf}
 use Rattle.model.specs.ByteHistories.{Bytes, saying, Passing, answerOn, afterOn}
 use Rattle.model.specs.Turns.{Turn, turnEventOn, turnAfterOn, turnsLeft, LegalTurns}
 use Rattle.model.specs.Recovered.{bytesRecovered, Recovered}
@@ -13,7 +13,8 @@ use Rattle.call_laws.specs.Lifting.{passing-good, passing-encoded, bytes-stay-p
 use Rattle.turns.specs.Turns.{same-event, turn-stays-passing}
 use Rattle.recovery.specs.Commits.{exactly-same}
 use Rattle.recovery.specs.PassExists.{recoveryPass}
-use Rattle.turns.specs.Lift.{Kind, LiftedPass, pass-lift, pass-exists-on}
+use Rattle.recovery.specs.Readings.{readings-exist}
+use Rattle.turns.specs.Lift.{Kind, LiftedPass, pass-lift, pass-exists-on, pass-needs-on}
 
 abbrev pub bytesKind : Kind Bytes
 bytesKind =
@@ -47,6 +48,17 @@ demand-3 b p z xs legal vs c =
           (r .committed n new k x (ap (λ (m : Model). m .writes n k) (l .model) ∙ put));
     }
 
--- after every legal history a recovery pass exists
-pub recovery-pass-exists : (b : Bytes) → Passing b → (xs : List Turn) → LegalTurns turnAfterOn turnEventOn xs b [] → Closing saying afterOn (recoveryPass (saying (turnsLeft turnAfterOn xs b))) (turnsLeft turnAfterOn xs b)
-recovery-pass-exists b p xs legal = pass-exists-on bytesKind b p xs legal
+-- after a legal history that leaves each undecided number a reading a recovery pass exists ..
+pub recovery-pass-exists : (b : Bytes) → Passing b → (xs : List Turn) → LegalTurns turnAfterOn turnEventOn xs b [] → (clocks : ℕ → ℕ) → Readings clocks (saying (turnsLeft turnAfterOn xs b)) → Closing saying afterOn (recoveryPass clocks (saying (turnsLeft turnAfterOn xs b))) (turnsLeft turnAfterOn xs b)
+recovery-pass-exists b p xs legal clocks g = pass-exists-on bytesKind b p xs legal clocks g
+
+-- .. of which it can be told from the sheets whether there is one ..
+pub recovery-pass-told : (b : Bytes) → Passing b → (xs : List Turn) → LegalTurns turnAfterOn turnEventOn xs b [] → leavesReadings (saying (turnsLeft turnAfterOn xs b)) ≡ true
+    → Closing saying afterOn (recoveryPass (readingsOf (saying (turnsLeft turnAfterOn xs b))) (saying (turnsLeft turnAfterOn xs b))) (turnsLeft turnAfterOn xs b)
+recovery-pass-told b p xs legal h =
+    let s = saying (turnsLeft turnAfterOn xs b) in
+    recovery-pass-exists b p xs legal (readingsOf s) (readings-exist s h)
+
+-- .. and no other does
+pub recovery-pass-needs : (b : Bytes) → Passing b → (vs : List Visit) → Closing saying afterOn vs b → leavesReadings (saying b) ≡ true
+recovery-pass-needs b p vs c = pass-needs-on bytesKind b p vs c

@@ -5,10 +5,12 @@ use Rattle.model.specs.Writes.{Sheets, sheetsGood}
 use Rattle.model.specs.Results.{Call, Answer}
 use Rattle.model.specs.Histories.{Event, answer, after, ClockFits, Permitted, leftBy}
 use Rattle.model.specs.SequentialModel.{firstModel, modelAfter}
-use Rattle.model.specs.RecoveryPass.{Visit, visitCall, nonePrepared, Expiring, Closing}
+use Rattle.model.specs.RecoveryPass.{Visit, visitCall, nonePrepared, Expiring, Closing, Readings, leavesReadings}
 use Rattle.model.specs.Turns.{Turn, turnEvent, turnAfter, turnOnePhase, turnsLeft, onePhaseTurn, turnEvents, LegalTurns}
 use Rattle.model.specs.Recovered.{modelAfterTurns}
+use Rattle.call_laws.specs.Sheets.{good-parts}
 use Rattle.recovery.specs.PassExists.{recoveryPass, pass-exists}
+use Rattle.recovery.specs.PassNeeds.{pass-needs}
 use Rattle.turns.specs.Reduction.{recoveredAfter, modelOfTurns, RecoveredSheets, turns-recover}
 
 -- A kind of sheets: what they say, which pass, what calls and turns do with them, and that this is what they do with what the sheets say.
@@ -98,7 +100,7 @@ module _ {S : Type 0} (kind : Kind S) where
         recovered = turns-recover (sheets b) (kind .good b p) z xs (h .legal) vs closing;
       }
 
-  -- A recovery pass exists after every legal history.
+  -- A recovery pass exists after a legal history that leaves each undecided number a reading.
 
   expiring-on : (vs : List Visit) (b : S) → kind .passes b → Expiring (λ (s : Sheets). s) after vs (sheets b) → Expiring sheets (kind .leaves) vs b
   expiring-on [] b p x = tt
@@ -106,9 +108,15 @@ module _ {S : Type 0} (kind : Kind S) where
       let q = kind .call-stays (visitCall v) b (x .0) p in
       (x .0, (x .1 .0, expiring-on vs (kind .leaves (visitCall v) b) (q .1) (subst (Expiring (λ (s : Sheets). s) after vs) (sym (q .0)) (x .1 .1))))
 
-  pub pass-exists-on : (b : S) → kind .passes b → (xs : List Turn) → LegalTurns turned events xs b [] → Closing sheets (kind .leaves) (recoveryPass (sheets (turnsLeft turned xs b))) (turnsLeft turned xs b)
-  pass-exists-on b p xs legal =
+  pub pass-exists-on : (b : S) → kind .passes b → (xs : List Turn) → LegalTurns turned events xs b [] → (clocks : ℕ → ℕ) → Readings clocks (sheets (turnsLeft turned xs b))
+      → Closing sheets (kind .leaves) (recoveryPass clocks (sheets (turnsLeft turned xs b))) (turnsLeft turned xs b)
+  pass-exists-on b p xs legal clocks g =
       let left = turnsLeft turned xs b in
       let h : kind .passes left = lift xs b [] p legal .passes in
-      let c = pass-exists (sheets left) (kind .good left h) in
-      record { twice = c .twice; expiring = expiring-on (recoveryPass (sheets left)) left h (c .expiring) }
+      let c = pass-exists clocks (sheets left) g in
+      record { twice = c .twice; expiring = expiring-on (recoveryPass clocks (sheets left)) left h (c .expiring) }
+
+  -- and only where each undecided number has a reading
+  pub pass-needs-on : (b : S) → kind .passes b → (vs : List Visit) → Closing sheets (kind .leaves) vs b → leavesReadings (sheets b) ≡ true
+  pass-needs-on b p vs c =
+      pass-needs (sheets b) (good-parts (sheets b) (kind .good b p)) vs (record { twice = c .twice; expiring = visits-lift vs b p (c .expiring) .0 })

@@ -1,5 +1,6 @@
 -- A visit writes only where the line is prepared, as what it came to tells.
 use Rattle.lists.specs.Basics.{needs}
+use Rattle.model.specs.ByteCalls.{sheetsOf}
 use Rattle.recover.specs.Recovering.{lineAt, meeting-pending}
 use Rattle.recover.proofs.recover.Statement.{statement}
 use Rattle.recover.proofs.recover.Tie as tie
@@ -9,7 +10,7 @@ settle-requires c κs =
     let a = c .before .before .before .before .before .before .before .args in (
       c .before .before .before .before .before .before .before .pre,
       rw (c .before .before .meet .ensures)
-          (meeting-pending (a .clock) (a .decisions .now) (lineAt (a .records .now) (a .i))),
+          (meeting-pending (a .clock) (sheetsOf (a .records .now) (a .decisions .now)) (lineAt (a .records .now) (a .i))),
     )
 
 returns : tie.Need-returns

@@ -1,0 +1,93 @@
+-- Cases of document 02's requests as one table, and one theorem: each follows from the definitions by computation.
+use Rattle.lists.specs.Basics.{_≡_, refl, ℕ, List, [], _∷_, _++_, map, bytes}
+use Rattle.model.specs.Lines.{text}
+use Rattle.model.specs.Transactions.{openPhase, undoPhase}
+use Rattle.model.specs.Results.{visit, answerOf}
+use Rattle.model.specs.Operations.{Operation, once, close, responseOn, recordsLeft, coordinatorLeft}
+use Rattle.model.specs.Cases.{Case, cases, told, transactionAs, committedLine, writtenLine, coordinatorWith, undecidedLine, decidedLine, abortedLine}
+use Rattle.lists.specs.Bytes as Bytes
+use Rattle.lists.specs.Each as Each
+use Rattle.decimal.specs.Field as Field
+use Rattle.model.specs.Layouts as Layouts
+use Rattle.model.specs.Lines as Lines
+use Rattle.model.specs.Search as Search
+use Rattle.model.specs.Records as Records
+use Rattle.model.specs.Coordinator as Coordinator
+use Rattle.model.specs.Refusals as Refusals
+use Rattle.model.specs.SheetCalls as SheetCalls
+use Rattle.model.specs.Transactions as Transactions
+use Rattle.model.specs.Groups as Groups
+use Rattle.model.specs.Images as Images
+use Rattle.model.specs.Writes as Writes
+use Rattle.model.specs.WellFormed as WellFormed
+use Rattle.model.specs.Visits as Visits
+use Rattle.model.specs.Conditions as Conditions
+use Rattle.model.specs.Steps as Steps
+use Rattle.model.specs.Calls as Calls
+use Rattle.model.specs.Closing as Closing
+use Rattle.model.specs.Operations as Operations
+
+-- What an operation leaves of both sheets, and what it tells: a refusal; of a visit 0 to 3, of a close the report, phase, place and verdict.
+abbrev pub operationCase : Operation → (lines : List (List ℕ)) (coordinator : List ℕ) (lines′ : List (List ℕ)) (coordinator′ answer : List ℕ) → Case
+operationCase o lines cs lines′ cs′ answer =
+    record {
+      given =
+          recordsLeft (text lines) (responseOn o (text lines) cs)
+          ++ (coordinatorLeft cs (responseOn o (text lines) cs) ++ told (answerOf (responseOn o (text lines) cs)));
+      expected = text lines′ ++ (cs′ ++ answer);
+    }
+
+-- NOTE 1: the close, at 7000, of an order that puts one line.
+
+abbrev pub closeCase : (serializable phase verdict limit : ℕ) → List ℕ → List ℕ → List ℕ → List ℕ → List ℕ → Case
+closeCase serializable phase verdict limit line own line′ own′ answer =
+    operationCase (close (transactionAs serializable phase verdict) 7000 limit)
+    (line ∷ []) (coordinatorWith own) (line′ ∷ []) (coordinatorWith own′) answer
+
+-- NOTE 2: an order, number 1, with a line prepared at 0 and another at 10000, and a line of number 2.
+
+abbrev pub firstLine : List ℕ
+firstLine = bytes " 1  1  1     1     1  PREPARED     1   1      500      250     0   0        0        0          0"
+
+abbrev pub freshLine : List ℕ
+freshLine = bytes " 1  1  1     1     2  PREPARED     1   2       70       80     0   0        0        0      24000"
+
+abbrev pub lastLine : List ℕ
+lastLine = bytes " 1  1  1     1     3  PREPARED     1   1      600      300     0   0        0        0      10000"
+
+abbrev pub firstForward : List ℕ
+firstForward = bytes " 1  1  1     1     1 COMMITTED     1   1      500      250     0   0        0        0          0"
+
+abbrev pub ordersWith : List ℕ → List ℕ
+ordersWith own = text (bytes "   2 SSSSSSSSS" ∷ own ∷ bytes "   2         -" ∷ [])
+
+abbrev pub visitAt : (clustering now : ℕ) → Operation
+visitAt clustering now = once (visit (record { storage = 1; namespace = 1; table = 1; partition = 1; clustering = clustering }) now)
+
+-- "every line PREPARED by it": at 20000 the first has expired and the last hasn't, at 25000 both have
+abbrev pub liveOrder : List (List ℕ) → List Case
+liveOrder lines =
+    map (λ (o : Operation). operationCase o lines (ordersWith (bytes "   1         -")) lines (ordersWith (bytes "   1         -")) (12 ∷ []))
+    (visitAt 1 20000 ∷ visitAt 3 20000 ∷ visitAt 1 24999 ∷ [])
+    ++ map (λ (o : Operation). operationCase o lines (ordersWith (bytes "   1         -")) lines (ordersWith (bytes "   1   ABORTED")) (3 ∷ []))
+    (visitAt 1 25000 ∷ visitAt 3 25000 ∷ [])
+
+unfoldable pub noteCases : List Case
+noteCases =
+    -- limit 0: a checked order goes from open to prepare and writes nothing
+    closeCase 1 openPhase 0 0 committedLine undecidedLine committedLine undecidedLine (0 ∷ 1 ∷ 0 ∷ 0 ∷ [])
+    -- prepared, decided and finished
+    ∷ closeCase 1 openPhase 0 17 committedLine undecidedLine writtenLine decidedLine (3 ∷ 7 ∷ 0 ∷ 1 ∷ [])
+    -- unchecked: one-phase
+    ∷ closeCase 0 openPhase 0 17 committedLine undecidedLine writtenLine undecidedLine (1 ∷ 7 ∷ 0 ∷ 1 ∷ [])
+    -- "A step that changes no line makes none": a visitor has rolled the line back
+    ∷ closeCase 0 undoPhase 2 17 committedLine abortedLine committedLine abortedLine (0 ∷ 7 ∷ 0 ∷ 2 ∷ [])
+    -- a decided owner is not asked whether it has expired
+    ∷ operationCase (visitAt 1 20000)
+    (firstLine ∷ lastLine ∷ []) (ordersWith (bytes "   1 COMMITTED")) (firstForward ∷ lastLine ∷ []) (ordersWith (bytes "   1 COMMITTED")) (1 ∷ [])
+    -- a line of another number in between doesn't matter
+    ∷ liveOrder (firstLine ∷ lastLine ∷ []) ++ liveOrder (firstLine ∷ freshLine ∷ lastLine ∷ [])
+
+pub note-cases : map (λ (c : Case). c .given) noteCases ≡ map (λ (c : Case). c .expected) noteCases
+unfolding noteCases cases Closing.changes Closing.turn Closing.closing Closing.closeBarred Closing.closeConditions Operations.response Operations.responseOn Operations.recordsLeft Operations.coordinatorLeft
+note-cases = refl
