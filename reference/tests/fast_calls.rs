@@ -2,9 +2,11 @@
 
 use reference::exported::{by_fast, by_plain, is_fast, Call, Lent};
 use reference::make::exported::next;
+use reference::make::halfway::{asking, halfway};
 use reference::make::history::{History, Rule};
 use reference::make::random::Random;
-use reference::make::sheets::{of_size, Mix, Size};
+use reference::make::sheets::{crowded, of_size, Mix, Size};
+use reference::plain::request::Request;
 use std::collections::BTreeMap;
 
 /// The answer of both.
@@ -84,4 +86,29 @@ fn on_sheets_of_full_size() {
         let (call, lent) = next_fast(random, &mut history);
         agreed(&call, lent);
     }
+}
+
+/// Where it matters that a number has several lines: *again*, and 12 though the visited line has expired.
+#[test]
+fn on_orders_half_way() {
+    let mut again = 0;
+    let mut busy = 0;
+    for seed in 0..4_000 {
+        let random = &mut Random::new(seed);
+        let sheets = match random.once_in(3) {
+            true => crowded(random),
+            false => halfway(random),
+        };
+        let (key, now) = match asking(random, &sheets) {
+            Request::Visit { key, now } | Request::Read { key, now, .. } => (key, now),
+            request => panic!("{request:?}"),
+        };
+        let store = sheets.store();
+        let line = store.place_of(&key).map(|place| store.records[place]);
+        let list = Vec::new();
+        let answer = agreed(&Call::Visit { key, now }, Lent { sheets, list });
+        again += usize::from(answer == 3);
+        busy += usize::from(answer == 1_012 && line.is_ok_and(|line| line.has_expired(now)));
+    }
+    assert!(again > 500 && busy > 200, "{again} again, {busy} busy");
 }

@@ -5,7 +5,7 @@ use crate::make::bad_lines::bad_input;
 use crate::make::clients::clients;
 use crate::make::random::Random;
 use crate::make::script::Script;
-use crate::make::scripts::{closed, crowded, damaged, free, legal, Extent};
+use crate::make::scripts::{closed, crowded, damaged, free, halfway, legal, Extent};
 use crate::make::{exports, visits};
 use crate::seen::Seen;
 
@@ -91,9 +91,10 @@ impl Tally {
 
     fn crowded(&mut self, random: &mut Random) -> Vec<Case> {
         let mut case = || {
-            let script = match random.once_in(2) {
-                true => closed(random, &mut self.seen),
-                false => crowded(random, &mut self.seen),
+            let script = match random.below(7) {
+                0 => halfway(random, &mut self.seen),
+                1..=3 => closed(random, &mut self.seen),
+                _ => crowded(random, &mut self.seen),
             };
             self.replay(random, script)
         };

@@ -22,8 +22,22 @@ pub fn tx_id(line: &[u8; LINE]) -> u32 {
     figure(&line[36..40])
 }
 
+/// The four columns of the TxID, to be compared unread.
+#[inline(always)]
+fn tx_id_text(line: &[u8; LINE]) -> [u8; 4] {
+    line[36..40].try_into().unwrap()
+}
+
+/// Whether every line has expired that is PREPARED under the TxID of the one at this place. Of most lines the TxID is another,
+/// which settles them without a look at the state, and a clock is read only where both fit.
+pub fn owner_has_expired(lines: &[[u8; LINE]], place: usize, now: u32) -> bool {
+    let owner = tx_id_text(&lines[place]);
+    let own = |line: &&[u8; LINE]| tx_id_text(line) == owner && is_prepared(line);
+    lines.iter().filter(own).all(|line| has_expired(line, now))
+}
+
 /// Whether a prepared line has expired at this reading of the clock.
-pub fn has_expired(line: &[u8; LINE], now: u32) -> bool {
+fn has_expired(line: &[u8; LINE], now: u32) -> bool {
     // Ten digits are enough for a clock, the first column being blank.
     EXPIRED.contains(&now.wrapping_sub(figure(&line[87..97])))
 }

@@ -70,7 +70,7 @@ pub fn visit(records: &mut [u8], coordinator: &mut [u8], key: Key, now: u32) -> 
             line::back(line);
             Ok(Visit::Back)
         }
-        Decision::Undecided if line::has_expired(line, now) => {
+        Decision::Undecided if line::owner_has_expired(lines, place, now) => {
             decide_on(owner, b"   ABORTED");
             Ok(Visit::Again)
         }

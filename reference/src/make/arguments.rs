@@ -1,5 +1,7 @@
 //! Arguments of calls: keys, columns, clocks and limits, most often such that something happens.
+//! What depends on all lines of a number stands in `expiry`.
 
+use super::expiry::lines_of;
 use super::random::Random;
 use crate::plain::key::Key;
 use crate::plain::record::{Record, State};
@@ -109,30 +111,25 @@ pub fn clock(random: &mut Random, records: &[Record]) -> u32 {
     reading_after(random, record)
 }
 
-/// A reading for a call on the line of this key: near an edge of its own clock, if it is prepared.
+/// A reading for a call on the line of this key: if it is prepared, near an edge of its own clock or of another line's that
+/// the same number has prepared.
 pub fn clock_for(random: &mut Random, key: &Key, records: &[Record]) -> u32 {
     let line = records.iter().find(|record| record.key == *key);
     match line {
-        Some(record) if record.state == State::Prepared => reading_after(random, record),
+        Some(record) if record.state == State::Prepared => {
+            let own = lines_of(records, record.image.tx_id);
+            let record = random.pick(&own);
+            reading_after(random, record)
+        }
         _ => clock(random, records),
     }
 }
 
 /// A reading at some time after the line was prepared, most often near an edge.
-fn reading_after(random: &mut Random, record: &Record) -> u32 {
+pub fn reading_after(random: &mut Random, record: &Record) -> u32 {
     let elapsed = match random.below(3) {
         0 => random.figure(0, u32::MAX),
         _ => random.pick(&EDGES),
     };
     record.prepare_clock.wrapping_add(elapsed)
-}
-
-/// A reading at which a line prepared at this clock has expired.
-pub fn expired_clock(random: &mut Random, record: &Record) -> u32 {
-    loop {
-        let now = reading_after(random, record);
-        if record.has_expired(now) {
-            return now;
-        }
-    }
 }

@@ -1,7 +1,8 @@
 //! Histories of clients that keep lists of transactions: calls by place, crashes that lose a list, and closing visits.
 
 use super::arguments::close_keys;
-use super::closing::close;
+use super::closing::{close, own_close};
+use super::expiry::{without_reading, Stop};
 use super::history::Rule;
 use super::lists::{asked, beyond, no_call, unused};
 use super::random::Random;
@@ -40,12 +41,10 @@ pub fn clients(
     let (sheets, calls) = first(random, extent);
     let mut clients = Clients::new(random, &sheets);
     let lengths = clients.lists.iter().map(Vec::len).collect();
-    for _ in 0..calls {
-        clients.turn(random, seen);
-    }
-    clients.close(random, seen);
+    clients.turns(random, seen, calls);
+    let inside = clients.close(random, seen);
     seen.clients.note(&clients.model);
-    if clients.sheets.records != clients.model.sheet() {
+    if inside && clients.sheets.records != clients.model.sheet() {
         let sheets = &clients.sheets;
         return Err(format!("not the sequential model's sheet\n{sheets}"));
     }
@@ -70,7 +69,11 @@ fn first(random: &mut Random, extent: Extent) -> (Sheets, usize) {
         issued,
     };
     let keys = close_keys(random, size.records);
-    (with_keys(random, &keys, size, Mix::Settled), calls)
+    let mut sheets = with_keys(random, &keys, size, Mix::Settled);
+    if random.once_in(3) {
+        sheets.part_units();
+    }
+    (sheets, calls)
 }
 
 impl Clients {
@@ -83,6 +86,17 @@ impl Clients {
             store: sheets.store(),
             model: SequentialModel::new(&sheets.records).expect("the first sheet is accepted"),
             turns: Vec::new(),
+        }
+    }
+
+    /// So many turns, or fewer where it is to stop early.
+    fn turns(&mut self, random: &mut Random, seen: &mut Seen, calls: usize) {
+        let stop = Stop::new(random, calls);
+        for call in 0..calls {
+            if stop.is_before(call, &self.store) {
+                break;
+            }
+            self.turn(random, seen);
         }
     }
 
@@ -106,13 +120,33 @@ impl Clients {
         self.make(seen, client, Call::At { place, asked });
     }
 
-    /// Visits to every line, by no client: the lists stay.
-    fn close(&mut self, random: &mut Random, seen: &mut Seen) {
+    /// The close of this number in the list that still has it, if there is one.
+    fn close_own(&mut self, random: &mut Random, seen: &mut Seen, number: u32) {
+        let places = |list: &Vec<Transaction>| list.iter().position(|t| t.number == number);
+        let mut held = self.lists.iter().map(places).enumerate();
+        if let Some((client, place)) = held.find_map(|(client, place)| Some((client, place?))) {
+            let records = &self.store.records;
+            let request = own_close(random, self.lists[client][place], records);
+            let asked = asked(random, &request, records);
+            self.make(seen, client, Call::At { place, asked });
+        }
+    }
+
+    /// Visits to every line, by no client: the lists stay. Numbers that no visit can decide are closed in their own lists
+    /// first; answers whether that leaves none.
+    fn close(&mut self, random: &mut Random, seen: &mut Seen) -> bool {
+        let left = without_reading(&self.store);
+        for number in &left {
+            self.close_own(random, seen, *number);
+        }
+        let outside = without_reading(&self.store);
+        seen.lists.note(&left, &outside);
         for event in close(random, &mut self.sheets.as_ref().clone()) {
             if let Request::Visit { key, now } = event.request {
                 self.make(seen, 0, Call::Visit { key, now });
             }
         }
+        outside.is_empty()
     }
 
     /// Makes the call by `plain`, and keeps what is expected of it.
@@ -123,9 +157,9 @@ impl Clients {
             list: before.clone(),
         };
         let answer = by_plain(&call, &mut lent);
+        seen.note_call(&call, &before, answer, &lent);
         let Lent { sheets, list } = lent;
         let written = Written::told(|lines| written_by_plain(&self.sheets, &sheets, lines));
-        seen.note_call(&call, &before, answer, &list);
         seen.note_written_beside(written.answer);
         if refusal_of(&call, answer) == 0 {
             self.note(&call, &before, &list);
@@ -178,6 +212,7 @@ fn request(random: &mut Random, named: Transaction, records: &[Record]) -> Reque
     let client = Client {
         transaction: named,
         appetite: APPETITES[named.number as usize % APPETITES.len()],
+        thorough: named.number.is_multiple_of(2),
     };
     client.request(random, records)
 }

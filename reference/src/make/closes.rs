@@ -1,6 +1,7 @@
 //! Closes with limits that matter to them, of orders and of forged transactions.
 
-use super::arguments::{clock, expired_clock, limit, prepared};
+use super::arguments::{limit, prepared};
+use super::expiry::{clock_for_step, expired_reading};
 use super::orders::order;
 use super::random::Random;
 use super::requests::visit;
@@ -18,7 +19,7 @@ const WANTED: [u32; 10] = [
 
 /// A close that stops before any of its writes, or goes on to the end; seldom with any other limit.
 fn close(random: &mut Random, transaction: Transaction, sheets: &Sheets) -> Request {
-    let now = clock(random, &sheets.store().records);
+    let now = clock_for_step(random, transaction.number, &sheets.store().records);
     let close = |limit| Request::Close {
         transaction,
         now,
@@ -56,24 +57,24 @@ pub fn next(random: &mut Random, transaction: Transaction, sheets: &Sheets) -> R
     }
 }
 
-fn advance(random: &mut Random, transaction: Transaction, records: &[Record]) -> Request {
+pub fn advance(random: &mut Random, transaction: Transaction, records: &[Record]) -> Request {
     Request::Advance {
         transaction,
-        now: clock(random, records),
+        now: clock_for_step(random, transaction.number, records),
     }
 }
 
-/// A visit of a PREPARED line that has expired, which aborts an undecided order; of any line where there is none.
+/// A visit of a PREPARED line at a reading at which its number has expired, which aborts an undecided order; any visit where
+/// there is none.
 fn visit_late(random: &mut Random, records: &[Record]) -> Request {
-    match prepared(records).as_slice() {
-        [] => visit(random, records),
-        prepared => {
-            let line = random.pick(prepared);
-            Request::Visit {
-                key: line.key,
-                now: expired_clock(random, line),
-            }
-        }
+    let lines = prepared(records);
+    if lines.is_empty() {
+        return visit(random, records);
+    }
+    let line = random.pick(&lines);
+    match expired_reading(random, records, line.image.tx_id) {
+        Some(now) => Request::Visit { key: line.key, now },
+        None => visit(random, records),
     }
 }
 

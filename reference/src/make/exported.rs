@@ -1,9 +1,11 @@
 //! Exported calls out of random histories or from nowhere, at times on damaged or forged sheets.
 
-use super::arguments::{any_key, clock};
+use super::arguments::any_key;
 use super::closes;
 use super::damage::damage;
+use super::expiry::clock_for_step;
 use super::forge::forge;
+use super::halfway;
 use super::history::{Event, History};
 use super::lists::{asked, list_of, no_call, other};
 use super::random::Random;
@@ -24,11 +26,13 @@ pub fn next(random: &mut Random, history: &mut History) -> (Call, Lent) {
     spoilt(random, 6, call)
 }
 
-/// A call with a transaction that was forged for sheets of its own, or a close of an order there, among others such.
+/// A call with a transaction that was forged for sheets of its own, a close of an order there, among others such, or a call
+/// that comes upon an order half-way.
 pub fn from_nowhere(random: &mut Random) -> (Call, Lent) {
-    let (request, sheets) = match random.once_in(5) {
-        true => closes::of_order(random),
-        false => on_crowded(random),
+    let (request, sheets) = match random.below(10) {
+        0 | 1 => closes::of_order(random),
+        2 => on_halfway(random),
+        _ => on_crowded(random),
     };
     let call = exported(random, &request, &[], sheets);
     spoilt(random, 24, call)
@@ -40,14 +44,22 @@ fn on_crowded(random: &mut Random) -> (Request, Sheets) {
     let store = sheets.store();
     let request = match random.below(14) {
         0 => begin(random),
-        1..=5 => Request::Advance {
-            transaction: forged_begun(random, &store),
-            now: clock(random, &store.records),
-        },
+        1..=5 => {
+            let transaction = forged_begun(random, &store);
+            Request::Advance {
+                transaction,
+                now: clock_for_step(random, transaction.number, &store.records),
+            }
+        }
         6 | 7 => closes::of_forged(random, &sheets),
         _ => stray(random, &[], &store),
     };
     (request, sheets)
+}
+
+fn on_halfway(random: &mut Random) -> (Request, Sheets) {
+    let sheets = halfway::halfway(random);
+    (halfway::asking(random, &sheets), sheets)
 }
 
 /// A look-up in sheets of every kind.

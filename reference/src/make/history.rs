@@ -1,6 +1,7 @@
 //! Random histories: several clients that take turns on the same sheets, stop at any time and send strange requests.
 
 use super::arguments::close_keys;
+use super::closing::own_close;
 use super::random::Random;
 use super::requests::{begin, stray, Client};
 use super::sheets::{with_keys, Mix, Size};
@@ -60,7 +61,10 @@ impl History {
             Rule::Free => random.pick(&[Mix::Settled, Mix::Thirds]),
         };
         let keys = close_keys(random, records);
-        let sheets = with_keys(random, &keys, size, mix);
+        let mut sheets = with_keys(random, &keys, size, mix);
+        if random.once_in(3) {
+            sheets.part_units();
+        }
         History::on(random, rule, sheets)
     }
 
@@ -94,6 +98,18 @@ impl History {
             self.sheets = sheets;
             return event;
         }
+    }
+
+    /// The close of this number by the client that still holds its state, if there is one. Of a legal history.
+    pub fn close_own(&mut self, random: &mut Random, number: u32) -> Option<Event> {
+        let mut held = self.clients.iter().flatten();
+        let own = held.find(|client| client.transaction.number == number)?;
+        let request = own_close(random, own.transaction, &self.sheets.store().records);
+        let event = Event::make(request, &mut self.sheets);
+        if let Ok(answer) = &event.answer {
+            self.hand_on(random, &request, answer);
+        }
+        Some(event)
     }
 
     /// Whether the call may stand in the history if it is accepted.

@@ -7,9 +7,11 @@ pub mod closes;
 pub mod closing;
 pub mod conversions;
 pub mod damage;
+pub mod expiry;
 pub mod exported;
 pub mod exports;
 pub mod forge;
+pub mod halfway;
 pub mod history;
 pub mod lists;
 pub mod orders;
@@ -50,6 +52,11 @@ pub fn any(random: &mut Random) -> Sheets {
 }
 
 impl Sheets {
+    /// Makes every line a unit of its own, so that orders have as many groups as puts.
+    pub fn part_units(&mut self) {
+        self.coordinator[5..14].fill(b'R');
+    }
+
     /// Makes a call on these sheets.
     pub fn ask(&mut self, request: Request) -> Result<Answer, u32> {
         request.make(&mut self.records, &mut self.coordinator)

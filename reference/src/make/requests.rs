@@ -1,6 +1,7 @@
 //! What clients ask for: the next call of a transaction, or one that comes from nowhere.
 
-use super::arguments::{any_key, clock, clock_for, columns, limit, prepared};
+use super::arguments::{any_key, clock_for, columns, limit, prepared};
+use super::expiry::clock_for_step;
 use super::random::Random;
 use super::transactions::{forged, full};
 use crate::plain::key::Key;
@@ -16,14 +17,33 @@ pub struct Client {
     pub transaction: Transaction,
     /// How many keys it reads before it advances.
     pub appetite: u32,
+    /// Whether it puts to all of them first, so that it has several groups.
+    pub thorough: bool,
 }
 
 impl Client {
     pub fn new(random: &mut Random, transaction: Transaction) -> Client {
+        let thorough = random.once_in(2);
         Client {
             transaction,
-            appetite: random.pick(&[0, 1, 1, 2, 2, 3, 3, 4, 9]),
+            appetite: match thorough {
+                true => random.pick(&[2, 3, 3, 4]),
+                false => random.pick(&[0, 1, 1, 2, 2, 3, 3, 4, 9]),
+            },
+            thorough,
         }
+    }
+
+    /// The keys that a thorough client still has to put before it advances. A checked transaction keeps one to be checked.
+    fn unput(&self) -> Vec<Key> {
+        let transaction = &self.transaction;
+        if !self.thorough || transaction.phase != OPEN {
+            return Vec::new();
+        }
+        let held = transaction.held().iter();
+        let held = held.skip(transaction.serializable as usize);
+        let left = held.filter(|entry| entry.wrote == 0 && entry.seen.version < MOST_VERSION);
+        left.map(|entry| entry.key).collect()
     }
 
     /// The next call of the transaction, at times one that does not go with its phase.
@@ -31,6 +51,7 @@ impl Client {
         let transaction = self.transaction;
         let hungry = transaction.phase == OPEN && transaction.count < self.appetite;
         let held = transaction.held();
+        let unput = self.unput();
         let kind = match random.below(32) {
             0 => Kind::Abort,
             1 => Kind::Put,
@@ -38,10 +59,12 @@ impl Client {
             3..=18 if hungry => Kind::Read,
             19..=28 if transaction.phase == OPEN && !held.is_empty() => Kind::Put,
             _ if hungry => Kind::Read,
+            5.. if !unput.is_empty() => Kind::Put,
             _ if random.once_in(4) => Kind::Close,
             _ => Kind::Advance,
         };
         let key = match kind {
+            Kind::Put if !unput.is_empty() && !random.once_in(4) => random.pick(&unput),
             Kind::Put if !held.is_empty() && !random.once_in(8) => random.pick(held).key,
             _ => any_key(random, records),
         };
@@ -149,12 +172,12 @@ impl Kind {
             },
             Kind::Advance => Request::Advance {
                 transaction,
-                now: clock(random, records),
+                now: clock_for_step(random, transaction.number, records),
             },
             Kind::Abort => Request::Abort { transaction },
             Kind::Close => Request::Close {
                 transaction,
-                now: clock(random, records),
+                now: clock_for_step(random, transaction.number, records),
                 limit: limit(random),
             },
         }

@@ -55,7 +55,8 @@ impl Script {
         let request = line.and_then(|line| self.state.request(&line));
         let taken = request.as_ref().and_then(|(_, request)| request.taken());
         let reply = replay::reply(&mut self.state, text);
-        self.calls += u64::from(seen.note(line.as_ref(), taken, &reply));
+        let records = &self.state.sheets.records;
+        self.calls += u64::from(seen.note(line.as_ref(), taken, &reply, records));
         self.input.extend(text);
         self.input.push(b'\n');
         self.answers.extend(reply.printed());

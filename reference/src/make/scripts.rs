@@ -1,13 +1,15 @@
 //! Scripts of several kinds: demand 3's lists with the sequential model, lists of any calls, orders closed write by write,
-//! and calls on damaged sheets.
+//! orders that stopped half-way, and calls on damaged sheets.
 
 use super::arguments::{any_key, clock, limit};
 use super::bad_lines::bad_line;
 use super::closes;
 use super::closing::close;
 use super::damage::damage;
+use super::expiry::{without_reading, Stop};
 use super::forge::forge;
-use super::history::{History, Rule};
+use super::halfway;
+use super::history::{Event, History, Rule};
 use super::orders;
 use super::random::Random;
 use super::requests::{begin, stray};
@@ -65,24 +67,14 @@ fn sizes(random: &mut Random, records: usize, decisions: usize) -> Size {
 
 /// A legal history, closed by visits, or how it departs from the sequential model.
 pub fn legal(random: &mut Random, seen: &mut Seen, extent: Extent) -> Result<Script, String> {
-    let (mut history, calls) = history(random, Rule::Legal, extent);
-    let mut script = Script::new(&history.sheets);
-    let mut model =
-        SequentialModel::new(&history.sheets.records).expect("the first sheet is accepted");
-    for _ in 0..calls {
-        if !script.has_room() {
-            break;
-        }
-        let event = history.step(random);
-        model.note(&event.request, &event.answer);
-        beside(random, seen, &mut script, &history);
-        script.ask(seen, &event.request);
-    }
-    for event in close(random, &mut history.sheets) {
-        model.note(&event.request, &event.answer);
-        script.ask(seen, &event.request);
-    }
-    if script.state.sheets.records != model.sheet() {
+    let (history, calls) = history(random, Rule::Legal, extent);
+    let mut list = LegalList::new(history);
+    list.steps(random, seen, calls);
+    let inside = list.close(random, seen);
+    let LegalList {
+        mut script, model, ..
+    } = list;
+    if inside && script.state.sheets.records != model.sheet() {
         return Err(format!(
             "not the sequential model's sheet\n{}",
             script.state.sheets
@@ -90,6 +82,60 @@ pub fn legal(random: &mut Random, seen: &mut Seen, extent: Extent) -> Result<Scr
     }
     script.show_all(seen, random.once_in(3));
     Ok(script)
+}
+
+/// A legal history, its script and the sequential model, which are told of each call.
+struct LegalList {
+    history: History,
+    script: Script,
+    model: SequentialModel,
+}
+
+impl LegalList {
+    fn new(history: History) -> LegalList {
+        let records = &history.sheets.records;
+        LegalList {
+            script: Script::new(&history.sheets),
+            model: SequentialModel::new(records).expect("the first sheet is accepted"),
+            history,
+        }
+    }
+
+    fn tell(&mut self, seen: &mut Seen, event: &Event) {
+        self.model.note(&event.request, &event.answer);
+        self.script.ask(seen, &event.request);
+    }
+
+    /// So many calls, or fewer where there is no room or it is to stop early.
+    fn steps(&mut self, random: &mut Random, seen: &mut Seen, calls: usize) {
+        let stop = Stop::new(random, calls);
+        for call in 0..calls {
+            let store = self.history.sheets.store();
+            if stop.is_before(call, &store) || !self.script.has_room() {
+                break;
+            }
+            let event = self.history.step(random);
+            beside(random, seen, &mut self.script, &self.history);
+            self.tell(seen, &event);
+        }
+    }
+
+    /// The closing visits. Numbers that they can't decide are closed by their own clients first; answers whether that leaves
+    /// none, so that the list is one of demand 3's.
+    fn close(&mut self, random: &mut Random, seen: &mut Seen) -> bool {
+        let left = without_reading(&self.history.sheets.store());
+        for number in &left {
+            if let Some(event) = self.history.close_own(random, *number) {
+                self.tell(seen, &event);
+            }
+        }
+        let outside = without_reading(&self.history.sheets.store());
+        seen.lists.note(&left, &outside);
+        for event in close(random, &mut self.history.sheets) {
+            self.tell(seen, &event);
+        }
+        outside.is_empty()
+    }
 }
 
 /// A history of any calls from any sheets.
@@ -141,6 +187,17 @@ pub fn closed(random: &mut Random, seen: &mut Seen) -> Script {
         order = orders::order(random, &sheets.store());
     }
     script.show_all(seen, random.once_in(3));
+    script
+}
+
+/// Visits and reads of orders that stopped half-way.
+pub fn halfway(random: &mut Random, seen: &mut Seen) -> Script {
+    let mut script = Script::new(&halfway::halfway(random));
+    for _ in 0..8 {
+        let request = halfway::asking(random, &script.state.sheets);
+        script.ask(seen, &request);
+    }
+    script.show_all(seen, false);
     script
 }
 

@@ -1,6 +1,7 @@
 //! Accepted sheets of every size, written by the standard library's formatting and not by `plain`.
 
 use super::arguments::close_keys;
+use super::expiry::apart;
 use super::random::Random;
 use super::Sheets;
 use std::collections::BTreeSet;
@@ -75,7 +76,7 @@ pub fn spread(random: &mut Random) -> Sheets {
     let keys = close_keys(random, size.records);
     let mut sheets = with_keys(random, &keys, size, Mix::Settled);
     if !random.once_in(6) {
-        sheets.coordinator[5..14].fill(b'R');
+        sheets.part_units();
     }
     sheets
 }
@@ -101,9 +102,12 @@ fn record_sheet(
     mix: Mix,
 ) -> Vec<u8> {
     let mut text = String::with_capacity(keys.len() * 98);
+    // In half the sheets clocks lie near one another, so that of a number's lines some have expired and some haven't.
+    let near = random.figure(0, u32::MAX);
+    let near = random.once_in(2).then_some(near);
     for key in keys {
         let [storage, namespace, table, partition, clustering] = key;
-        let rest = after_key(random, issued as u32, mix);
+        let rest = after_key(random, issued as u32, mix, near);
         let key = format!("{storage:>2}{namespace:>3}{table:>3}{partition:>6}{clustering:>6}");
         text += &format!("{key}{rest}\n");
     }
@@ -130,8 +134,8 @@ fn keys(random: &mut Random, count: usize) -> BTreeSet<[u32; 5]> {
     keys
 }
 
-/// A line's fields from the state word on.
-fn after_key(random: &mut Random, issued: u32, mix: Mix) -> String {
+/// A line's fields from the state word on, prepared near this clock if one is told.
+fn after_key(random: &mut Random, issued: u32, mix: Mix, near: Option<u32>) -> String {
     let state = match mix {
         Mix::Committed => 1,
         Mix::Prepared => 2,
@@ -140,13 +144,13 @@ fn after_key(random: &mut Random, issued: u32, mix: Mix) -> String {
     };
     match state {
         0 => fields("ABSENT", [0; 4], [0; 4], 0),
-        2 if issued > 0 => prepared(random, issued),
+        2 if issued > 0 => prepared(random, issued, near),
         // Without an issued number no line can be PREPARED.
         _ => fields("COMMITTED", image(random, issued), [0; 4], 0),
     }
 }
 
-fn prepared(random: &mut Random, issued: u32) -> String {
+fn prepared(random: &mut Random, issued: u32, near: Option<u32>) -> String {
     let before = if random.once_in(4) {
         [0; 4]
     } else {
@@ -157,9 +161,10 @@ fn prepared(random: &mut Random, issued: u32) -> String {
     let mut image = image(random, issued);
     image[0] = before[0] + 1;
     image[1] = random.figure(1, issued);
-    let clock = match random.below(8) {
-        0 => 4_294_967_000 + random.below(296) as u32,
-        _ => random.figure(0, u32::MAX),
+    let clock = match near {
+        Some(near) => near.wrapping_add(apart(random)),
+        None if random.once_in(8) => 4_294_967_000 + random.below(296) as u32,
+        None => random.figure(0, u32::MAX),
     };
     fields("PREPARED", image, before, clock)
 }

@@ -2,6 +2,7 @@
 
 use super::arguments::clock;
 use super::damage::TELLING;
+use super::halfway::halfway;
 use super::random::Random;
 use super::sheets::{accepted, crowded, of_size, Mix, Size};
 use super::{any, Sheets};
@@ -25,9 +26,10 @@ pub fn cases(random: &mut Random, seen: &mut Seen) -> Vec<Case> {
 fn input(random: &mut Random) -> Vec<u8> {
     match random.below(9) {
         0..=2 | 8 => {
-            let sheets = match random.once_in(3) {
-                false => crowded(random),
-                true => accepted(random),
+            let sheets = match random.below(6) {
+                0 | 1 => accepted(random),
+                2 => halfway(random),
+                _ => crowded(random),
             };
             let clock = clock(random, &sheets.store().records);
             text(&sheets, clock.into())

@@ -46,7 +46,7 @@ pub const TOO_MANY_KEYS: u32 = 9;
 pub const KEY_NOT_HELD: u32 = 10;
 /// A put over the greatest version.
 pub const VERSION_SPENT: u32 = 11;
-/// An undecided line has not expired.
+/// The line's owner is undecided and has not expired.
 pub const BUSY: u32 = 12;
 
 /// The version of the functions for C: 2.0.0.

@@ -75,7 +75,15 @@ impl Store {
         self.coordinator.decisions[number as usize - 1] = decision;
     }
 
-    /// Lazy recovery of one line: refusal 12, or at most one write.
+    /// Whether a number has expired at this reading of the clock: every line of the sheet that is PREPARED by it has. So an
+    /// order whose first lines are old stays alive while its last ones are still going in.
+    pub fn has_expired(&self, number: u32, now: u32) -> bool {
+        let lines = self.records.iter();
+        let mut own = lines.filter(|line| line.is_prepared_by(number));
+        own.all(|line| line.has_expired(now))
+    }
+
+    /// Lazy recovery of one line: refusal 12, or at most one write. Expiry is asked of an undecided owner only.
     pub fn visit(&mut self, place: usize, now: u32) -> Result<Visit, u32> {
         let record = self.records[place];
         if record.state != State::Prepared {
@@ -91,7 +99,7 @@ impl Store {
                 self.records[place] = record.back();
                 Ok(Visit::Back)
             }
-            Decision::Undecided if record.has_expired(now) => {
+            Decision::Undecided if self.has_expired(owner, now) => {
                 self.decide(owner, Decision::Aborted);
                 Ok(Visit::Again)
             }

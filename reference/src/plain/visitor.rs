@@ -11,7 +11,7 @@ const FIRST: usize = 20;
 const COORDINATOR_LINE: usize = 15;
 
 /// The coordinator sheet, the record sheet and the clock of an input whose first line fits it.
-fn parts(input: &[u8]) -> Option<(Vec<u8>, Vec<u8>, u32)> {
+pub fn parts(input: &[u8]) -> Option<(Vec<u8>, Vec<u8>, u32)> {
     if input.len() < FIRST || input[FIRST - 1] != b'\n' {
         return None;
     }

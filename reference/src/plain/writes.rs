@@ -59,7 +59,11 @@ impl Record {
         self.settled(self.before)
     }
 
-    /// Whether a prepared line has expired at this reading of the clock.
+    pub fn is_prepared_by(&self, number: u32) -> bool {
+        self.state == State::Prepared && self.image.tx_id == number
+    }
+
+    /// Whether a prepared line has expired at this reading of the clock. Whether its number has is another question.
     pub fn has_expired(&self, now: u32) -> bool {
         EXPIRED.contains(&now.wrapping_sub(self.prepare_clock))
     }

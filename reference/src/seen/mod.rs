@@ -1,21 +1,25 @@
-//! What a comparison has seen: every refusal of every call, every step from phase to phase and every report of a close,
-//! counted.
+//! What a comparison has seen: every refusal of every call, every step from phase to phase, every report of a close, and
+//! where it mattered that a number has several lines, counted.
 
 mod answers;
 mod clients;
 mod closes;
+mod expiry;
+mod lists;
 mod steps;
 
 use crate::compare::Case;
 use crate::conversions::Conversion;
-use crate::exported::{refusal_of, Call};
+use crate::exported::{refusal_of, Call, Lent};
 use crate::plain::by_place;
 use crate::plain::transaction::Transaction;
 use crate::replay::line::Line;
 use crate::replay::reply::Reply;
-use answers::{Answers, Row};
+use answers::{count, Answers, Row};
 use clients::Clients;
 use closes::Closes;
+use expiry::{Expiry, Found};
+use lists::Lists;
 use std::fmt;
 use steps::{Steps, ADVANCES};
 
@@ -80,6 +84,8 @@ pub struct Seen {
     /// How often it was told beside a call what it has written. It isn't counted as a call.
     pub told_beside: u64,
     pub clients: Clients,
+    pub lists: Lists,
+    expiry: Expiry,
     /// Lines that show, forge or have another form.
     pub other_lines: u64,
 }
@@ -99,6 +105,8 @@ impl Default for Seen {
             changes: [0; 4],
             told_beside: 0,
             clients: Clients::default(),
+            lists: Lists::default(),
+            expiry: Expiry::default(),
             other_lines: 0,
         }
     }
@@ -136,12 +144,14 @@ fn conversion_of(conversion: Conversion) -> usize {
 }
 
 impl Seen {
-    /// Notes the reply to a line, and the transaction that its call took; answers whether it is a call.
+    /// Notes the reply to a line, the transaction that its call took and the record sheet afterwards; answers whether it is
+    /// a call.
     pub fn note(
         &mut self,
         line: Option<&Line>,
         taken: Option<&Transaction>,
         reply: &Reply,
+        records: &[u8],
     ) -> bool {
         let Some((line, call)) = line.and_then(|line| Some((line, call_of(line)?))) else {
             self.other_lines += 1;
@@ -152,6 +162,7 @@ impl Seen {
             _ => 0,
         };
         self.lines.note(call, refusal);
+        self.expiry.note(Found::in_replay(line, reply), records);
         match (line, taken, reply) {
             (_, Some(taken), Reply::Advanced(returned)) => self.steps.note(taken, returned),
             (Line::Close { limit, .. }, Some(taken), Reply::Closed(returned, writes)) => {
@@ -170,7 +181,7 @@ impl Seen {
                 lent,
                 answer,
                 after,
-            } => self.note_call(call, &lent.list, *answer, &after.list),
+            } => self.note_call(call, &lent.list, *answer, after),
             Case::Convert {
                 conversion, answer, ..
             } => self.exported.note(conversion_of(*conversion), *answer),
@@ -182,15 +193,12 @@ impl Seen {
         }
     }
 
-    /// Notes a call of a function for C, and the list before and after it.
-    pub fn note_call(
-        &mut self,
-        call: &Call,
-        before: &[Transaction],
-        answer: u32,
-        after: &[Transaction],
-    ) {
+    /// Notes a call of a function for C, the list before it, and what it was lent afterwards.
+    pub fn note_call(&mut self, call: &Call, before: &[Transaction], answer: u32, lent: &Lent) {
         let refusal = refusal_of(call, answer);
+        let after = &lent.list;
+        let found = Found::for_c(call, answer);
+        self.expiry.note(found, &lent.sheets.records);
         let row = match call {
             Call::Check => 0,
             Call::Begin => 1,
@@ -232,7 +240,8 @@ impl Seen {
 
     /// Notes an input of the visiting program.
     pub fn note_visits(&mut self, case: &Case) {
-        if let Case::Visit { expected, .. } = case {
+        if let Case::Visit { input, expected } = case {
+            self.expiry.note_visits(input, expected);
             self.visitor.note(
                 0,
                 match expected.as_slice() {
@@ -271,6 +280,8 @@ impl Seen {
         amiss.extend(self.closes_by_place.amiss("close by place"));
         amiss.extend(unseen("read by place", &READINGS, &self.readings));
         amiss.extend(unseen("written", &CHANGES, &self.changes));
+        amiss.extend(self.expiry.amiss());
+        amiss.extend(self.lists.amiss());
         amiss
     }
 }
@@ -296,7 +307,7 @@ fn named(names: &[&str], counts: &[u64]) -> String {
 
 impl fmt::Display for Seen {
     /// The answers of each call in a replay, the steps from phase to phase and how closes ended, the same of the functions
-    /// for C, and the answers of the visiting program.
+    /// for C, the answers of the visiting program, and where several lines of a number mattered.
     fn fmt(&self, out: &mut fmt::Formatter) -> fmt::Result {
         writeln!(out, "{}\n\n{}\n", self.lines, self.steps)?;
         writeln!(out, "{}\n", self.closes)?;
@@ -306,6 +317,7 @@ impl fmt::Display for Seen {
         writeln!(out, "{}\n", self.closes_by_place)?;
         writeln!(out, "read by place: {}", named(&READINGS, &self.readings))?;
         writeln!(out, "written: {}", named(&CHANGES, &self.changes))?;
-        write!(out, "{}\n\n{}", self.clients, self.visitor)
+        writeln!(out, "{}\n{}\n", self.clients, self.lists)?;
+        write!(out, "{}\n\n{}", self.visitor, self.expiry)
     }
 }

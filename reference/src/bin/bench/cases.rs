@@ -27,6 +27,8 @@ pub enum Case {
     Begin,
     VisitStays,
     VisitBack,
+    /// The owner has a second line, so that all lines are looked through.
+    VisitAgain,
     /// One step in prepare, with 8 puts in 8 groups.
     Prepare,
     /// From begin to done, with 8 puts in 8 groups: 19 calls.
@@ -36,11 +38,12 @@ pub enum Case {
 }
 
 /// In the order printed.
-pub const CASES: [(Case, &str); 8] = [
+pub const CASES: [(Case, &str); 9] = [
     (Case::Check, "check"),
     (Case::Begin, "begin"),
     (Case::VisitStays, "visit, line stays"),
     (Case::VisitBack, "visit, rolls back"),
+    (Case::VisitAgain, "visit, writes ABORTED"),
     (Case::Prepare, "advance, 8 puts in 8 groups"),
     (Case::Transaction, "whole transaction, 8 puts, 19 calls"),
     (Case::CheckCommitted, "check, all COMMITTED"),
@@ -54,7 +57,9 @@ impl Case {
         match self {
             Case::Check | Case::CheckCommitted | Case::CheckPrepared => make(&Call::Check, lent),
             Case::Begin => make(&Call::Begin, lent),
-            Case::VisitStays | Case::VisitBack => make(&Call::Visit { key, now: NOW }, lent),
+            Case::VisitStays | Case::VisitBack | Case::VisitAgain => {
+                make(&Call::Visit { key, now: NOW }, lent)
+            }
             Case::Prepare => make(&ADVANCE, lent),
             Case::Transaction => transaction(make, lent),
             Case::Close => closed(make, lent),
@@ -90,8 +95,10 @@ impl Case {
         for place in places(lines) {
             store.records[place] = settled(store.records[place].key);
         }
-        if self == Case::VisitBack {
-            store.records[lines / 2] = prepared(store.records[lines / 2].key);
+        match self {
+            Case::VisitBack => prepare(&mut store.records[lines / 2], 1, NOW),
+            Case::VisitAgain => halfway(&mut store),
+            _ => {}
         }
         store.write(&mut sheets.records, &mut sheets.coordinator);
         let list = vec![in_prepare(&store, size.issued as u32)];
@@ -144,9 +151,21 @@ fn settled(key: Key) -> Record {
     }
 }
 
-/// Prepared by number 1, which is aborted.
-fn prepared(key: Key) -> Record {
-    settled(key).prepared(1, [600, 54_321], NOW)
+/// Prepares a line by this number at this clock.
+fn prepare(record: &mut Record, number: u32, clock: u32) {
+    *record = settled(record.key).prepared(number, [600, 54_321], clock);
+}
+
+/// The middle line and the last prepared by number 2, which is undecided and has expired; no other line is.
+fn halfway(store: &mut Store) {
+    store.coordinator.decisions[1] = Decision::Undecided;
+    let records = &mut store.records;
+    for record in records.iter_mut().filter(|line| line.is_prepared_by(2)) {
+        *record = settled(record.key);
+    }
+    let (middle, last) = (records.len() / 2, records.len() - 1);
+    prepare(&mut records[middle], 2, NOW - 15_000);
+    prepare(&mut records[last], 2, NOW - 15_001);
 }
 
 /// The key of the middle line as the list's fifth entry has it, so that nothing need be read from the sheet.
