@@ -1,7 +1,9 @@
 -- Cases of document 02's requests as one table, and one theorem: each follows from the definitions by computation.
-use Rattle.lists.specs.Basics.{_≡_, refl, ℕ, List, [], _∷_, _++_, map, bytes}
+use Rattle.lists.specs.Basics.{_≡_, refl, ℕ, List, [], _∷_, _++_, map, take, bytes}
 use Rattle.model.specs.Lines.{text}
 use Rattle.model.specs.Transactions.{openPhase, undoPhase}
+use Rattle.model.specs.Coordinator.{coordinatorOf}
+use Rattle.model.specs.Groups.{unitFields}
 use Rattle.model.specs.Results.{visit, answerOf}
 use Rattle.model.specs.Operations.{Operation, once, close, responseOn, recordsLeft, coordinatorLeft}
 use Rattle.model.specs.Cases.{Case, cases, told, transactionAs, committedLine, writtenLine, coordinatorWith, undecidedLine, decidedLine, abortedLine}
@@ -91,3 +93,9 @@ noteCases =
 pub note-cases : map (λ (c : Case). c .given) noteCases ≡ map (λ (c : Case). c .expected) noteCases
 unfolding noteCases cases Closing.changes Closing.turn Closing.closing Closing.closeBarred Closing.closeConditions Operations.response Operations.responseOn Operations.recordsLeft Operations.coordinatorLeft
 note-cases = refl
+
+-- NOTE 3: "The number of key fields that a unit letter compares .. the published listing, which has five cases": the letters of storages 1 to 5 of this head are R,
+-- P, T, N and S, RECORD to STORAGE.
+pub five-letters : map unitFields (take 5 (coordinatorOf (text (bytes "   0 RPTNSRRRR" ∷ bytes "   1         -" ∷ [])) .units)) ≡ 5 ∷ 4 ∷ 3 ∷ 2 ∷ 1 ∷ []
+unfolding cases
+five-letters = refl

@@ -15,7 +15,8 @@ use crate::keys;
 use types::Key;
 use types::Transaction;
 
-// How many fields of a key the unit of a letter compares.
+// How many fields of a key the unit of a letter compares: the five cases of the published listing (source document 000), RECORD to STORAGE. The rest is for what is
+// no letter of an accepted sheet.
 fn unit_fields(letter: u8) -> u32
     ensures { λ r. ⌜ r ≡ unitFields (unitIn letter) ⌝ }
 {
@@ -24,6 +25,7 @@ fn unit_fields(letter: u8) -> u32
         b'P' => 4,
         b'T' => 3,
         b'N' => 2,
+        b'S' => 1,
         _ => 1,
     }
 }

@@ -1,8 +1,10 @@
 -- What is proved of the engine: every headline statement, in the words of the definitions of `model`, each by citing the law that proves it.
 -- The engine's contracts cite the same definitions, so that what holds of `answerOn`, `afterOn`, `responseOn` and `responseAtOn` holds of the functions that run.
-use Rattle.lists.specs.Basics.{_≡_, ap, _∙_, ℕ, _+_, _*_, _%_, _^_, _≤_, _<_, true, List, [], _∷_, map, length, some, all}
+use Rattle.lists.specs.Basics.{_≡_, ap, _∙_, ℕ, _+_, _*_, _%_, _^_, _≤_, _<_, true, List, [], _∷_, map, length, take, some, all, bytes}
 use Rattle.model.specs.Types.{Key, Record, Committed, Transaction, Forward, Request}
 use Rattle.model.specs.Layouts.{recordBytes}
+use Rattle.model.specs.Lines.{text}
+use Rattle.model.specs.Groups.{unitFields}
 use Rattle.model.specs.Records.{records, recordsText, recordsGood, recordsAccepted, lineOf, hasLine}
 use Rattle.model.specs.Coordinator.{Coordinator, coordinatorOf, coordinatorText, coordinatorGood, coordinatorAccepted}
 use Rattle.model.specs.Refusals.{Condition, askingOrder, firstAsked}
@@ -27,7 +29,7 @@ use Rattle.model.specs.Clients.{Act, World, Unused, turnsOf, clockFits}
 use Rattle.model.specs.Recovered.{Recovered, modelOn, bytesRecovered}
 use Rattle.model.specs.SerialOrder.{callsOn, begunChecked, serialOrder, serialLine, Serializable}
 use Rattle.model.specs.Cases.{Case, cases, twelve-cases}
-use Rattle.model.specs.Notes.{noteCases, note-cases}
+use Rattle.model.specs.Notes.{noteCases, note-cases, five-letters}
 use Rattle.sheet_laws.specs.Records as RecordLaws
 use Rattle.sheet_laws.specs.Coordinator as CoordinatorLaws
 use Rattle.call_laws.specs.Exactness as Exactness
@@ -139,6 +141,10 @@ cases-hold = twelve-cases
 -- and cases of document 02's requests
 pub note-cases-hold : map (λ (c : Case). c .given) noteCases ≡ map (λ (c : Case). c .expected) noteCases
 note-cases-hold = note-cases
+
+-- DOCUMENT 02, NOTE 3: the letters R, P, T, N and S, RECORD to STORAGE, compare 5, 4, 3, 2 and 1 fields of a key
+pub unit-letters : map unitFields (take 5 (coordinatorOf (text (bytes "   0 RPTNSRRRR" ∷ bytes "   1         -" ∷ [])) .units)) ≡ 5 ∷ 4 ∷ 3 ∷ 2 ∷ 1 ∷ []
+unit-letters = five-letters
 
 -- DOCUMENT 02, NOTE 1, for every input at a clock reading below 2^32, as every u32 is.
 

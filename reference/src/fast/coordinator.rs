@@ -49,6 +49,8 @@ impl Accepted {
             b'P' => 4,
             b'T' => 3,
             b'N' => 2,
+            b'S' => 1,
+            // No letter of an accepted sheet.
             _ => 1,
         }
     }
