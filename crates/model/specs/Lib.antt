@@ -24,6 +24,7 @@ pub mod RecoveryPass
 pub mod ByteHistories
 pub mod AtomicWrites
 pub mod Changes
+pub mod TwoSheets
 pub mod Closing
 pub mod Operations
 pub mod Closes

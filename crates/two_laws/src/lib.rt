@@ -1,0 +1,1 @@
+// Theorems about the plain sheet and the bookkeeping sheet (specs/); no code.
