@@ -1,0 +1,108 @@
+-- What the loop that joins keeps.
+use Rattle.lists.specs.Basics.{ℕ, _+_, _-_, _*_, _/_, _≤_, _≡_, sym, ap, ap₂, _∙_, List, [], _∷_, _++_, append-assoc, append-nil, arith}
+use Rattle.lists.specs.Basics.{length, take, drop, length-take, length-drop, length-append, take-at, drop-drop, take-take, take-all, joined}
+use Rattle.lists.specs.Basics.{pieces}
+use native.Mathlib.Nat.{zero-mul}
+use Rattle.lists.specs.Pieces.{over, over-part, over-next, length-over, length-pieces, pieces-add, take-drop-take}
+use Rattle.two_laws.specs.TwoLines.{length-joinLine}
+use Rattle.decimal.specs.Word.{putWord, put-fits}
+use Rattle.model.specs.Lines.{linesOf}
+use Rattle.model.specs.TwoSheets.{joinLine, joinLines, joinedSheet, plainBytes, bookkeepingBytes}
+use Rattle.model.specs.Layouts.{recordBytes}
+
+-- a part lent and come back as n bytes of another list
+pub part-over : (s f u : List ℕ) (a b n : ℕ) → a + n ≤ length s → b + n ≤ length f → u ≡ putWord (take (a + n - a) (drop a s)) (take (b + n - b) (drop b f)) → take a s ++ (u ++ drop (a + n - a) (drop a s)) ≡ over s a (take n (drop b f))
+part-over s f u a b n l m h =
+    let i : a + n - a ≡ n = omega arith in
+    let j : b + n - b ≡ n = omega arith in
+    let t = take n (drop b f) in
+    let w : length t ≡ n = simp (length-take, length-drop) (omega arith) in
+    let v : length (take n (drop a s)) ≡ n = simp (length-take, length-drop) (omega arith) in
+    let g : u ≡ putWord (take n (drop a s)) t = rw (i, j) at h in
+    let e : u ≡ t = g ∙ put-fits (take n (drop a s)) t (v ∙ sym w) in
+    let k : length t ≡ a + n - a = w ∙ sym i in
+    ap (λ (x : List ℕ). take a s ++ (x ++ drop (a + n - a) (drop a s))) e ∙ over-part s t a (a + n) k
+
+-- the parts of line i of either sheet, as bytes of the sheet
+pub join-bytes : (p b : List ℕ) (i : ℕ) → take 40 (drop (i * bookkeepingBytes) b) ++ (take 18 (drop (i * plainBytes + 20) p) ++ take 40 (drop (i * bookkeepingBytes + 40) b)) ≡ joinLine (take plainBytes (drop (i * plainBytes) p)) (take bookkeepingBytes (drop (i * bookkeepingBytes) b))
+unfolding joinLine
+join-bytes p b i =
+    let q = drop (i * plainBytes) p in
+    let c = drop (i * bookkeepingBytes) b in
+    let x : take 40 (take bookkeepingBytes c) ≡ take 40 c = take-take 40 bookkeepingBytes c (omega arith) in
+    let y : take 18 (drop 20 (take plainBytes q)) ≡ take 18 (drop (i * plainBytes + 20) p) =
+    take-drop-take 18 20 plainBytes q (omega arith) ∙ ap (take 18) (drop-drop 20 (i * plainBytes) p) in
+    let z : drop 40 (take bookkeepingBytes c) ≡ take 40 (drop (i * bookkeepingBytes + 40) b) =
+    drop-take c ∙ ap (take 40) (drop-drop 40 (i * bookkeepingBytes) b) in
+    sym (ap₂ (λ (u v : List ℕ). u ++ (take 18 (drop 20 (take plainBytes q)) ++ v)) x z ∙ ap (λ (u : List ℕ). take 40 c ++ (u ++ take 40 (drop (i * bookkeepingBytes + 40) b))) y)
+  where
+    drop-take : (l : List ℕ) → drop 40 (take bookkeepingBytes l) ≡ take 40 (drop 40 l)
+    drop-take l =
+        let e : take 40 (drop 40 (take bookkeepingBytes l)) ≡ take 40 (drop 40 l) = take-drop-take 40 40 bookkeepingBytes l (omega arith) in
+        let m : length (drop 40 (take bookkeepingBytes l)) ≤ 40 = simp (length-drop, length-take) (omega arith) in
+        sym (take-all 40 (drop 40 (take bookkeepingBytes l)) m) ∙ e
+
+-- three parts, one after another, are the line joined
+pub three-parts : (s p b : List ℕ) (i : ℕ) → i * plainBytes + plainBytes ≤ length p → i * bookkeepingBytes + bookkeepingBytes ≤ length b → i * recordBytes + recordBytes ≤ length s → over (over (over s (i * recordBytes) (take 40 (drop (i * bookkeepingBytes) b))) (i * recordBytes + 40) (take 18 (drop (i * plainBytes + 20) p))) (i * recordBytes + 58) (take 40 (drop (i * bookkeepingBytes + 40) b)) ≡ over s (i * recordBytes) (joinLine (take plainBytes (drop (i * plainBytes) p)) (take bookkeepingBytes (drop (i * bookkeepingBytes) b)))
+three-parts s p b i l m n =
+    let x = take 40 (drop (i * bookkeepingBytes) b) in
+    let y = take 18 (drop (i * plainBytes + 20) p) in
+    let z = take 40 (drop (i * bookkeepingBytes + 40) b) in
+    let u : length x ≡ 40 = simp (length-take, length-drop) (omega arith) in
+    let v : length y ≡ 18 = simp (length-take, length-drop) (omega arith) in
+    let w : i * recordBytes + 58 ≡ i * recordBytes + length (x ++ y) = simp length-append (omega arith) in
+    ap (λ (t : List ℕ). over t (i * recordBytes + 58) z) (over-next s x y (i * recordBytes) (i * recordBytes + 40) (omega arith) (omega arith))
+    ∙ (over-next s (x ++ y) z (i * recordBytes) (i * recordBytes + 58) w (omega arith)
+    ∙ ap (over s (i * recordBytes)) (append-assoc x y z ∙ join-bytes p b i))
+
+-- one pair more
+joins-snoc : (xs ys : List (List ℕ)) (p b : List ℕ) → length xs ≡ length ys → joined (joinLines (xs ++ (p ∷ [])) (ys ++ (b ∷ []))) ≡ joined (joinLines xs ys) ++ joinLine p b
+unfolding joined joinLines
+joins-snoc [] [] p b e = append-nil (joinLine p b)
+joins-snoc [] (y ∷ ys) p b e = absurd (omega arith)
+joins-snoc (x ∷ xs) [] p b e = absurd (omega arith)
+joins-snoc (x ∷ xs) (y ∷ ys) p b e =
+    ap (λ (t : List ℕ). joinLine x y ++ t) (joins-snoc xs ys p b (omega arith)) ∙ sym (append-assoc (joinLine x y) (joined (joinLines xs ys)) (joinLine p b))
+
+-- the first i lines joined
+abbrev pub firstJoined : List ℕ → List ℕ → ℕ → List ℕ
+firstJoined p b i = joined (joinLines (pieces plainBytes i p) (pieces bookkeepingBytes i b))
+
+pub next-joined : (p b : List ℕ) (i : ℕ) → firstJoined p b (i + 1) ≡ firstJoined p b i ++ joinLine (take plainBytes (drop (i * plainBytes) p)) (take bookkeepingBytes (drop (i * bookkeepingBytes) b))
+unfolding pieces
+next-joined p b i =
+    ap₂ (λ (x y : List (List ℕ)). joined (joinLines x y)) (pieces-add plainBytes i 1 p) (pieces-add bookkeepingBytes i 1 b)
+    ∙ joins-snoc (pieces plainBytes i p) (pieces bookkeepingBytes i b) (take plainBytes (drop (i * plainBytes) p)) (take bookkeepingBytes (drop (i * bookkeepingBytes) b)) (length-pieces plainBytes i p ∙ sym (length-pieces bookkeepingBytes i b))
+
+-- the loop's turn
+pub turn : (s u p b : List ℕ) (i : ℕ) → i * plainBytes + plainBytes ≤ length p → i * bookkeepingBytes + bookkeepingBytes ≤ length b → i * recordBytes + recordBytes ≤ length s → take (i * recordBytes) s ≡ firstJoined p b i → u ≡ over s (i * recordBytes) (joinLine (take plainBytes (drop (i * plainBytes) p)) (take bookkeepingBytes (drop (i * bookkeepingBytes) b))) → (length u ≡ length s) × (take ((i + 1) * recordBytes) u ≡ firstJoined p b (i + 1))
+turn s u p b i l m n e h =
+    let q = take plainBytes (drop (i * plainBytes) p) in
+    let c = take bookkeepingBytes (drop (i * bookkeepingBytes) b) in
+    let j = joinLine q c in
+    let x : length q ≡ plainBytes = simp (length-take, length-drop) (omega arith) in
+    let y : length c ≡ bookkeepingBytes = simp (length-take, length-drop) (omega arith) in
+    let w : length j ≡ recordBytes = length-joinLine q c x y in
+    let k : length (take (i * recordBytes) s ++ j) ≡ (i + 1) * recordBytes = simp (length-append, length-take) (omega arith) in (
+      ap length h ∙ length-over s j (i * recordBytes) (omega arith),
+      ap (take ((i + 1) * recordBytes)) (h ∙ split s j (i * recordBytes))
+          ∙ (take-at (take (i * recordBytes) s ++ j) (drop (i * recordBytes + length j) s) ((i + 1) * recordBytes) k
+          ∙ (ap (λ (t : List ℕ). t ++ j) e ∙ sym (next-joined p b i))),
+    )
+  where
+    split : (t j : List ℕ) (a : ℕ) → over t a j ≡ (take a t ++ j) ++ drop (a + length j) t
+    split t j a = unfold over in sym (append-assoc (take a t) j (drop (a + length j) t))
+
+-- no line left
+pub all-joined : (s p b : List ℕ) (m i : ℕ) → length s ≡ m → m ≡ m / recordBytes * recordBytes → length p ≡ m / recordBytes * plainBytes → length b ≡ m / recordBytes * bookkeepingBytes → i ≡ m / recordBytes → take (i * recordBytes) s ≡ firstJoined p b i → s ≡ joinedSheet p b
+unfolding joinedSheet linesOf
+all-joined s p b m i a l k h c e =
+    let x : length p / plainBytes ≡ i = omega arith in
+    let y : length b / bookkeepingBytes ≡ i = omega arith in
+    let z : length s ≤ i * recordBytes = omega arith in
+    sym (take-all (i * recordBytes) s z)
+    ∙ (e ∙ sym (ap₂ (λ (g j : ℕ). joined (joinLines (pieces plainBytes g p) (pieces bookkeepingBytes j b))) x y))
+
+pub no-line : (s p b : List ℕ) → take (0 * recordBytes) s ≡ firstJoined p b 0
+unfolding pieces joined joinLines
+no-line s p b = ap (λ (k : ℕ). take k s) (zero-mul recordBytes)
