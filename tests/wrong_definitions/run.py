@@ -2,7 +2,7 @@
 """Wrong definitions that the theorems must refuse.
 
 A must-fail edit of a crate re-proves that crate alone, and the definitions stand in another crate than the theorems about them. So each edit here is
-applied to a copy of the crates that the theorems stand on, proofs adapted as one would who believed in it, and the copy must be refused where the
+applied to a copy of the crates that its theorem stands on, proofs adapted as one would who believed in it, and the copy must be refused where the
 edit says. The cases that the definitions' own crate shows by computation are left out of the copy: they would refuse most edits first. The copy
 stands outside the repository, so that nothing that is built here is touched.
 
@@ -18,10 +18,24 @@ import tempfile
 
 HERE = pathlib.Path(__file__).resolve().parent
 ROOT = HERE.parent.parent
-CRATES = ["lists", "decimal", "types", "model", "sheet_laws", "call_laws", "recovery", "closing_laws", "turns", "serial", "clients", "theorems"]
-TOP = CRATES[-1]
-# what the definitions' own crate shows by computation, and the file that cites it
-LEFT_OUT = [("model", "Cases"), ("model", "Notes"), ("model", "Learners"), ("theorems", "Theorems")]
+EDITS = sorted(HERE.glob("*.edit"))
+# what the definitions' own crate shows by computation
+LEFT_OUT = ["Cases", "Notes", "Learners"]
+
+
+def needed():
+    """The crates whose theorems are to refuse an edit, and all that these stand on, each with its line of crates.txt."""
+    uses = {line.split(":")[0]: line for line in (ROOT / "crates.txt").read_text().splitlines() if ":" in line and line[0] != "#"}
+    more = {re.search(r"^refused: (\w+)", edit.read_text(), re.M)[1] for edit in EDITS}
+    found = {}
+    while more:
+        crate = more.pop()
+        found[crate] = uses[crate]
+        more |= set(uses[crate].split(":")[1].split()) - set(found)
+    return found
+
+
+CRATES = needed()
 
 
 def lay_out(tree):
@@ -29,10 +43,9 @@ def lay_out(tree):
     shutil.rmtree(tree / "crates", ignore_errors=True)
     for crate in CRATES:
         shutil.copytree(ROOT / "crates" / crate, tree / "crates" / crate, ignore=shutil.ignore_patterns("must-fail"))
-    lines = (ROOT / "crates.txt").read_text().splitlines()
-    (tree / "crates.txt").write_text("\n".join(line for line in lines if line.split(":")[0] in CRATES) + "\n")
-    for crate, name in LEFT_OUT:
-        specs = tree / "crates" / crate / "specs"
+    (tree / "crates.txt").write_text("\n".join(CRATES.values()) + "\n")
+    for name in LEFT_OUT:
+        specs = tree / "crates" / "model" / "specs"
         (specs / f"{name}.antt").unlink()
         lib = (specs / "Lib.antt").read_text()
         (specs / "Lib.antt").write_text(lib.replace(f"pub mod {name}\n", ""))
@@ -58,8 +71,8 @@ def apply(edit, tree):
     return refused
 
 
-def prove(tree):
-    done = subprocess.run(["rt", "check", TOP], cwd=tree, capture_output=True, text=True)
+def prove(tree, crates):
+    done = subprocess.run(["rt", "check", *crates], cwd=tree, capture_output=True, text=True)
     return done.returncode, done.stdout + done.stderr
 
 
@@ -70,13 +83,13 @@ def refusals(log):
 
 def try_all(tree):
     lay_out(tree)
-    status, log = prove(tree)
+    status, log = prove(tree, CRATES)
     if status != 0:
         sys.exit("the definitions as they are must be proved:\n" + log[-2000:])
-    for edit in sorted(HERE.glob("*.edit")):
+    for edit in EDITS:
         lay_out(tree)
         crate, name = apply(edit, tree)
-        status, log = prove(tree)
+        status, log = prove(tree, [crate])
         found = refusals(log)
         if status == 0 or not found:
             sys.exit(f"wrong definition {edit.stem}: NOT REFUSED")

@@ -6,9 +6,9 @@ use mir.Val.{Val}
 use denote.Laws.{Is}
 use denote.Struct.Declared.{row}
 use Rattle.types.proofs.Transaction.{the-type}
-use Rattle.model.specs.Types.{Key, AtomicityUnit, Transaction}
+use Rattle.model.specs.Types.{Key, Transaction}
 use Rattle.model.specs.Records.{records, keyInRange}
-use Rattle.model.specs.Coordinator.{coordinatorOf}
+use Rattle.model.specs.Coordinator.{Letter, coordinatorOf}
 use Rattle.model.specs.Refusals.{Condition, refuse, refusalOf}
 use Rattle.model.specs.WellFormed.{formed, linesHeld, wellFormed}
 use Rattle.model.specs.Writes.{Sheets}
@@ -26,7 +26,7 @@ use Rattle.admission.specs.declared.Admitted.{Admitted}
 
 -- Well-formedness, in the order in which the code asks.
 
-formed-few : (us : List AtomicityUnit) (n : ℕ) (t : Transaction) → formed us n t ≡ true → t .count ≤ 8
+formed-few : (us : List Letter) (n : ℕ) (t : Transaction) → formed us n t ≡ true → t .count ≤ 8
 formed-few us n t h = go (headFormed n t) refl
   where
     go : (b : Bool) → headFormed n t ≡ b → t .count ≤ 8
@@ -35,7 +35,7 @@ formed-few us n t h = go (headFormed n t) refl
 
 module _ (t : Transaction) (rs cs : List ℕ) (a : Accepted rs cs) (n : ℕ) (e : n ≡ coordinatorOf cs .issued) where
   letters-formed : formed (unitsIn (take 9 (drop 5 cs))) n t ≡ formed (coordinatorOf cs .units) (coordinatorOf cs .issued) t
-  letters-formed = ap₂ (λ (us : List AtomicityUnit) (m : ℕ). formed us m t) (units-said cs (a .decisions)) e
+  letters-formed = ap₂ (λ (us : List Letter) (m : ℕ). formed us m t) (units-said cs (a .decisions)) e
 
   pub well-formed-few : formed (unitsIn (take 9 (drop 5 cs))) n t ≡ true → t .count ≤ 8
   well-formed-few h = formed-few (unitsIn (take 9 (drop 5 cs))) n t h

@@ -1,6 +1,10 @@
-// What is asked of a transaction before a call looks into it, on sheets that the check has let pass: refusal 3, and 4 and 5 of read and put.
+// What is asked of a transaction before a call looks into it, on sheets that the check has let pass: refusal 3, and 4 and 5 of read and put; and 8 of begin.
 ghost use mathlib.Core.Path.{_≡_};
 ghost use mathlib.Core.Bool.{false};
+ghost use Prim.Native.Nat.{_/_};
+ghost use lib.ListN.{length, drop};
+ghost use lib.Dec.{eqb};
+ghost use Rattle.model.specs.Layouts.{coordinatorBytes};
 ghost use Rattle.model.specs.Refusals.{refusalOf};
 ghost use Rattle.model.specs.Conditions.{notOpen};
 ghost use Rattle.model.specs.ByteCalls.{sheetsOf};
@@ -96,4 +100,11 @@ pub fn open_refusal(t: Transaction, key: Key, records: &[u8], coordinator: &[u8]
         return 5;
     }
     0
+}
+
+// Refusal 8 of a begin: every line of the coordinator sheet has its number issued.
+pub fn all_spent(coordinator: &[u8], issued: u32) -> bool
+    ensures { λ r. ⌜ r ≡ eqb issued (length (drop coordinatorBytes (now (coordinator .entry))) / coordinatorBytes) ⌝ }
+{
+    issued as usize == codec::coordinator::count(coordinator)
 }

@@ -1,8 +1,7 @@
 -- The call by place, from what the two functions that it calls ensure: where place and call are named, and where they aren't.
-use Rattle.lists.specs.Basics.{_≡_, refl, sym, ap, _∙_, ℕ, _+_, _≤_, _<_, eqb, Bool, true, false, cond, and-true, List, length, set, all, and-fst, and-snd}
+use Rattle.lists.specs.Basics.{_≡_, refl, sym, ap, _∙_, ℕ, _<_, Bool, true, false, cond, and-true, List, length, set, and-fst, and-snd}
 use lib.Seq.{set-getD}
 use Rattle.model.specs.Types.{Transaction, Request}
-use Rattle.model.specs.Refusals.{refusalOf, lastRefusal}
 use Rattle.model.specs.Writes.{Sheets}
 use Rattle.model.specs.Results.{Answer, Response, refused, made, unless}
 use Rattle.model.specs.SheetCalls.{checkConditions}
@@ -10,11 +9,10 @@ use Rattle.model.specs.Operations.{responseOn, recordsLeft, coordinatorLeft}
 use Rattle.model.specs.Requests.{operationOf}
 use Rattle.model.specs.CallByPlace.{listed, named, operationAt, responseAtOn, listAfter}
 use Rattle.call_laws.specs.ByPlace.{leftWith, listed-within, named-response-on, unlisted-refused, refusal-leaves}
-use Rattle.call_laws.specs.Exactness.{small}
 use Rattle.cores.specs.Answers.{toPerformed}
 use Rattle.c_api.specs.declared.Called.{Called}
-use Rattle.c_api.specs.Numbers.{callNumber, unlistedNumber}
-use Rattle.c_api.specs.Asked.{isCall, asks, naming, calledAtOn}
+use Rattle.by_place.specs.Numbers.{callNumber, unlistedNumber}
+use Rattle.by_place.specs.Asked.{isCall, asks, naming, calledAtOn}
 
 -- what a call answers as one number, and the transaction, as it came where the call is refused
 abbrev pub called : Transaction → Response Answer Sheets → Called
@@ -24,15 +22,6 @@ called t r = record { answer = callNumber r; transaction = leftWith t r }
 pub performed-left : (t : Transaction) (r : Response Answer Sheets) → toPerformed t r .transaction ≡ leftWith t r
 performed-left t (refused n) = refl
 performed-left t (made a s) = refl
-
--- the refusal of the check that comes first where nothing is named is at most the last, and its answer as one number is the one for that
-pub check-numbered : (rs cs : List ℕ) → (refusalOf (checkConditions rs cs) ≤ lastRefusal) × (cond (eqb (refusalOf (checkConditions rs cs)) 0) 1003 (1000 + refusalOf (checkConditions rs cs)) ≡ unlistedNumber rs cs)
-unfolding checkConditions all
-check-numbered rs cs = (small (checkConditions rs cs) refl, go (eqb (refusalOf (checkConditions rs cs)) 0))
-  where
-    go : (b : Bool) → cond b 1003 (1000 + refusalOf (checkConditions rs cs)) ≡ callNumber (cond b (refused 3) (refused (refusalOf (checkConditions rs cs))))
-    go true = refl
-    go false = refl
 
 pub naming-within : (n place call : ℕ) → naming n place call ≡ true → place < n
 naming-within n place call e = listed-within n place (and-fst (listed n place) (isCall call) e)

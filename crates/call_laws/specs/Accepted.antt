@@ -4,9 +4,9 @@ use Rattle.lists.specs.Basics.{_≡_, refl, sym, ap, subst, _∙_, ℕ, _≤_, 
 use Rattle.lists.specs.Basics.{and-snd}
 use Rattle.model.specs.Types.{Record}
 use Rattle.model.specs.Records.{records, recordsText, recordsAccepted}
-use Rattle.model.specs.Coordinator.{Coordinator, coordinatorOf, coordinatorText, coordinatorAccepted}
+use Rattle.model.specs.Coordinator.{Coordinator, coordinatorOf, coordinatorText, coordinatorReadable}
 use Rattle.model.specs.Refusals.{Condition, refusalOf}
-use Rattle.model.specs.SheetCalls.{checkConditions}
+use Rattle.model.specs.SheetCalls.{readableConditions, checkConditions}
 use Rattle.model.specs.Writes.{Write, nothing, lineAfter, decisionsAfter, apply}
 use Rattle.model.specs.Results.{Call, Answer, Response, Result, refused, made, unless}
 use Rattle.model.specs.Calls.{result}
@@ -17,7 +17,7 @@ use Rattle.sheet_laws.specs.Coordinator.{coordinator-written-read}
 use Rattle.call_laws.specs.Choices.{hasNumber, not-first}
 use Rattle.call_laws.specs.Lines.{lines-unmoved}
 use Rattle.call_laws.specs.Sheets.{GoodSheets, good-parts}
-use Rattle.call_laws.specs.Lifting.{passing-parts, passing-good}
+use Rattle.call_laws.specs.Lifting.{readable-both, passing-readable, readable-good}
 
 -- The bytes after a write are those of the decoded sheets after it.
 pub record Written (w : Write) (rs cs rs′ cs′ : List ℕ) : Type 0 where
@@ -80,18 +80,22 @@ module _ {A E : Type 0} (ps qs : List Condition) (r : Response A E) where
   pub unless-past : all hasNumber ps ≡ true → refusalOf ps ≡ 0 → unless (ps ++ qs) r ≡ unless qs r
   unless-past l h = ap (λ (n : ℕ). cond (eqb n 0) r (refused n)) (refusal-past ps qs l h)
 
--- What the check tells of two sheets that it lets pass.
+-- What is known of two sheets that break no rule, letters of either case.
 pub record Accepted (rs cs : List ℕ) : Type 0 where
-  pub passing : refusalOf (checkConditions rs cs) ≡ 0
+  pub readable : refusalOf (readableConditions rs cs) ≡ 0
   pub lines : recordsAccepted rs ≡ true
-  pub decisions : coordinatorAccepted cs ≡ true
+  pub decisions : coordinatorReadable cs ≡ true
   pub good : GoodSheets (sheetsOf rs cs)
 
-pub accepted : (rs cs : List ℕ) → refusalOf (checkConditions rs cs) ≡ 0 → Accepted rs cs
-accepted rs cs h =
+pub accepted-readable : (rs cs : List ℕ) → refusalOf (readableConditions rs cs) ≡ 0 → Accepted rs cs
+accepted-readable rs cs h =
     let b : Bytes = record { records = rs; coordinator = cs } in
-    let p = passing-parts b h in
-    record { passing = h; lines = p .0; decisions = p .1 .0; good = good-parts (sheetsOf rs cs) (passing-good b h) }
+    let p = readable-both b h in
+    record { readable = h; lines = p .0; decisions = p .1 .0; good = good-parts (sheetsOf rs cs) (readable-good b h) }
+
+-- the check lets them pass, which asks for capitals too
+pub accepted : (rs cs : List ℕ) → refusalOf (checkConditions rs cs) ≡ 0 → Accepted rs cs
+accepted rs cs h = accepted-readable rs cs (passing-readable (record { records = rs; coordinator = cs }) h .0)
 
 -- Every call: refused by the check, or what it comes to on the decoded sheets.
 module _ {B : Type 0} (f : Result Answer → B) (c : Call) (rs cs : List ℕ) {answer : B} where

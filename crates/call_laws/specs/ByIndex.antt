@@ -7,13 +7,13 @@ use Rattle.decimal.specs.Field.{fieldText}
 use Rattle.model.specs.Types.{Key, Record, Decision, At}
 use Rattle.model.specs.Layouts.{recordBytes, coordinatorBytes}
 use Rattle.model.specs.Records.{noRecord, recordText, recordsText, records, recordsAccepted, goodAlone, keyLess, inOrder, rising, sameKey, found, lineOf}
-use Rattle.model.specs.Coordinator.{coordinatorOf, coordinatorText, coordinatorAccepted, withDecision, withIssued}
+use Rattle.model.specs.Coordinator.{coordinatorOf, coordinatorText, coordinatorReadable, withDecision, withIssued}
 use Rattle.sheet_laws.specs.Records.{sheet-written-read, good-ranged}
 use Rattle.sheet_laws.specs.ByIndex.{whole-lines, length-records, records-over, accepted-over}
 use Rattle.sheet_laws.specs.Search.{first-at}
 use Rattle.sheet_laws.specs.Coordinator.{decisionText, coordinator-written-read, bounds}
-use Rattle.sheet_laws.specs.Decisions.{numberHasLine, Accepted, accepted-parts, accepted-length, length-decisions, coordinator-over, accepted-decided}
-use Rattle.sheet_laws.specs.Decisions.{coordinator-counted, accepted-raised}
+use Rattle.sheet_laws.specs.Decisions.{numberHasLine, Readable, readable-parts, readable-length, length-decisions, coordinator-over, readable-decided}
+use Rattle.sheet_laws.specs.Decisions.{coordinator-counted, readable-raised}
 use Rattle.call_laws.specs.Keys.{same-key, same-key-refl}
 use Rattle.call_laws.specs.Lines.{listsKey, key-later, apart}
 
@@ -117,24 +117,24 @@ line-replaced s i r a l g e =
     )
 
 -- the decision of an issued number written over its line
-pub decision-written : (s : List ℕ) (n : ℕ) (d : Decision) → coordinatorAccepted s ≡ true → 1 ≤ n → n ≤ coordinatorOf s .issued
+pub decision-written : (s : List ℕ) (n : ℕ) (d : Decision) → coordinatorReadable s ≡ true → 1 ≤ n → n ≤ coordinatorOf s .issued
     → cond (numberHasLine n s) (over s (n * coordinatorBytes) (decisionText n d)) s ≡ coordinatorText (withDecision n d (coordinatorOf s))
 decision-written s zero d a l m = absurd (omega arith)
 decision-written s (suc i) d a l m =
-    let p : Accepted s = accepted-parts s a in
+    let p : Readable s = readable-parts s a in
     let b = bounds (coordinatorOf s) (p .good) in
     let few : length (coordinatorOf s .decisions) ≤ 999 = b .few in
     let most : coordinatorOf s .issued ≤ length (coordinatorOf s .decisions) = b .issued in
     let count : length (coordinatorOf s .decisions) ≡ length (drop coordinatorBytes s) / coordinatorBytes = length-decisions s in
     let h : numberHasLine (suc i) s ≡ true = and-both (le-leb 1 (suc i) l) (le-leb (suc i) (length (drop coordinatorBytes s) / coordinatorBytes) (omega arith)) in
     rw h
-    (sym (coordinator-written-read (over s (suc i * coordinatorBytes) (decisionText (suc i) d)) (accepted-decided s i d a (omega arith)))
-    ∙ ap coordinatorText (coordinator-over s i d (accepted-length s a) (omega arith) (omega arith) (p .whole)))
+    (sym (coordinator-written-read (over s (suc i * coordinatorBytes) (decisionText (suc i) d)) (readable-decided s i d a (omega arith)))
+    ∙ ap coordinatorText (coordinator-over s i d (readable-length s a) (omega arith) (omega arith) (p .whole)))
 
 -- one more number issued
-pub count-raised : (s : List ℕ) → coordinatorAccepted s ≡ true → coordinatorOf s .issued < length (coordinatorOf s .decisions)
+pub count-raised : (s : List ℕ) → coordinatorReadable s ≡ true → coordinatorOf s .issued < length (coordinatorOf s .decisions)
     → over s 0 (fieldText 4 (suc (coordinatorOf s .issued))) ≡ coordinatorText (withIssued (suc (coordinatorOf s .issued)) (coordinatorOf s))
 count-raised s a l =
-    let few : length (coordinatorOf s .decisions) ≤ 999 = bounds (coordinatorOf s) (accepted-parts s a .good) .few in
-    sym (coordinator-written-read (over s 0 (fieldText 4 (suc (coordinatorOf s .issued)))) (accepted-raised s a l))
-    ∙ ap coordinatorText (coordinator-counted s (suc (coordinatorOf s .issued)) (accepted-length s a) (omega arith))
+    let few : length (coordinatorOf s .decisions) ≤ 999 = bounds (coordinatorOf s) (readable-parts s a .good) .few in
+    sym (coordinator-written-read (over s 0 (fieldText 4 (suc (coordinatorOf s .issued)))) (readable-raised s a l))
+    ∙ ap coordinatorText (coordinator-counted s (suc (coordinatorOf s .issued)) (readable-length s a) (omega arith))

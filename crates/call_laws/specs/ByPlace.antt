@@ -78,6 +78,7 @@ module _ (list : List Transaction) (place : ℕ) (q : Request) (rs cs : List ℕ
       go : (q : Request) → firstAsked (refusalOf (allConditionsAt list place q rs cs)) (allConditionsAt list place q rs cs) ≡ true
       go (asked.Begin b) = row-first (allConditionsAt list place (asked.Begin b) rs cs) refl
       go (asked.Read k now) = row-first (allConditionsAt list place (asked.Read k now) rs cs) refl
+      go (asked.Second k now c) = row-first (allConditionsAt list place (asked.Second k now c) rs cs) refl
       go (asked.Put k c) = row-first (allConditionsAt list place (asked.Put k c) rs cs) refl
       go (asked.Advance now) = row-first (allConditionsAt list place (asked.Advance now) rs cs) refl
       go asked.Abort = row-first (allConditionsAt list place asked.Abort rs cs) refl

@@ -11,14 +11,14 @@ use Rattle.model.specs.SheetCalls.{lineAt}
 use Rattle.model.specs.Writes.{Write, sheetsGood, lineAfter, linesAfter, apply}
 use Rattle.model.specs.Results.{Call}
 use Rattle.model.specs.Histories.{written, after, ClockFits}
-use Rattle.model.specs.ByteHistories.{Bytes, saying, Passing, afterOn}
+use Rattle.model.specs.ByteHistories.{Bytes, saying, Readable, Passing, afterOn}
 use Rattle.model.specs.AtomicWrites.{OneUnit, lines-of-one-unit, coordinator-only}
 use Rattle.sheet_laws.specs.Records.{record-written-read, records-read-written, sheet-written-read}
 use Rattle.sheet_laws.specs.Coordinator.{coordinator-written-read}
 use Rattle.sheet_laws.specs.ByIndex.{whole-lines, length-records, record-at, line-set}
 use Rattle.call_laws.specs.Lines.{lines-mapped, lines-unmoved}
 use Rattle.call_laws.specs.Closure.{sheets-stay-good}
-use Rattle.call_laws.specs.Lifting.{passing-parts, passing-good, encoded, same-bytes}
+use Rattle.call_laws.specs.Lifting.{readable-both, passing-readable, readable-good, encoded, same-bytes}
 use Rattle.call_laws.specs.SingleUnit.{Single, single-unit}
 use Rattle.call_laws.specs.SingleUnit as Units
 
@@ -33,7 +33,7 @@ no-line s i a l =
     let m : length s ≤ i * recordBytes = omega (arith, whole-lines s a) in
     ap (take recordBytes) (drop-of-length-le s m)
 
-module _ (b : Bytes) (passing : Passing b) (w : Write) (good : sheetsGood (apply w (saying b)) ≡ true) where
+module _ (b : Bytes) (readable : Readable b) (w : Write) (good : sheetsGood (apply w (saying b)) ≡ true) where
   abbrev lines : List Record
   lines = records (b .records)
 
@@ -41,7 +41,7 @@ module _ (b : Bytes) (passing : Passing b) (w : Write) (good : sheetsGood (apply
   sheet = recordsText (linesAfter w lines)
 
   accepted : recordsAccepted (b .records) ≡ true
-  accepted = passing-parts b passing .0
+  accepted = readable-both b readable .0
 
   read-back : (records sheet ≡ linesAfter w lines) × (recordsAccepted sheet ≡ true)
   unfolding sheetsGood apply
@@ -82,14 +82,16 @@ module _ (b : Bytes) (passing : Passing b) (w : Write) (good : sheetsGood (apply
   pub write-unit : Single (saying b) w → OneUnit b (encoded (apply w (saying b)))
   unfolding apply
   write-unit (Units.one-unit g others stays) =
-      lines-of-one-unit g (ap coordinatorText (stays (saying b .coordinator)) ∙ coordinator-written-read (b .coordinator) (passing-parts b passing .1 .0))
+      lines-of-one-unit g (ap coordinatorText (stays (saying b .coordinator)) ∙ coordinator-written-read (b .coordinator) (readable-both b readable .1 .0))
       same-length (λ i d. line-stays i (others _ d))
   write-unit (Units.coordinator-only stays) =
       coordinator-only (ap recordsText (lines-unmoved w stays lines) ∙ sheet-written-read (b .records) accepted)
 
+-- what a call on what readable bytes say writes, encoded
+pub readable-unit : (c : Call) (b : Bytes) → ClockFits c → Readable b → OneUnit b (encoded (after c (saying b)))
+unfolding after
+readable-unit c b l p = write-unit b p (written c (saying b)) (sheets-stay-good c (saying b) l (readable-good b p)) (single-unit c (saying b))
+
 -- "writes to at most one unit or the coordinator sheet"
 pub call-unit : (c : Call) (b : Bytes) → ClockFits c → Passing b → OneUnit b (afterOn c b)
-unfolding after
-call-unit c b l p =
-    subst (OneUnit b) (sym (same-bytes c b p))
-    (write-unit b p (written c (saying b)) (sheets-stay-good c (saying b) l (passing-good b p)) (single-unit c (saying b)))
+call-unit c b l p = subst (OneUnit b) (sym (same-bytes c b p)) (readable-unit c b l (passing-readable b p .0))

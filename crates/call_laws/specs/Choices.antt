@@ -1,16 +1,17 @@
 -- What holds of a choice holds of each of its cases: one rule for each combinator of the specification, with the case's equation at hand.
 use Rattle.lists.specs.Basics.{_≡_, refl, ℕ, _≤_, eqb, leb, Bool, true, false, cond, List, [], _∷_, arith, eqb-true, eqb-false, leb-true, all, and-fst, and-snd}
 use Rattle.lists.specs.Basics.{choose-by}
-use Rattle.model.specs.Types.{Key, Record, Decision, Undecided, Committed, Aborted, Recovery, Stays, Forward, Back, Again, Busy}
+use Rattle.model.specs.Types.{Key, Image, Record, Entry, Transaction, Decision, Undecided, Committed, Aborted, Recovery, Stays, Forward, Back, Again, Busy}
+use Rattle.types.specs.declared.Reading.the-variants as readings
 use Rattle.model.specs.Records.{lineOf}
 use Rattle.model.specs.Refusals.{Condition, refuse, refusalOf}
-use Rattle.model.specs.Transactions.{byPhase}
+use Rattle.model.specs.Transactions.{byPhase, reading, entryAs}
 use Rattle.model.specs.Images.{isPrepared, byDecision, recovery}
 use Rattle.model.specs.Writes.{Sheets, Write, nothing}
-use Rattle.model.specs.Visits.{meeting, recoveryWrite}
-use Rattle.model.specs.Results.{Call, begin, read, put, advance, abort, visit, Answer, Response, Result, refused, unless, writeOf}
-use Rattle.model.specs.Conditions.{conditions}
-use Rattle.model.specs.Calls.{outcome, result}
+use Rattle.model.specs.Visits.{meeting, isAgain, recovered, recoveryWrite}
+use Rattle.model.specs.Results.{Call, begin, read, second, put, advance, abort, visit, Answer, answered, Response, Result, refused, made, unless, writeOf}
+use Rattle.model.specs.Conditions.{isNew, heldEntry, conditions}
+use Rattle.model.specs.Calls.{readHeld, readNew, holding, wholeRead, outcome, result}
 use Rattle.model.specs.Histories.{written}
 
 pub by-phase {ℓ κ} : {A : Type ℓ} (P : A → Type κ) (p : ℕ) {o r v d w f u e x : A} → P o → P r → P v → P d → P w → P f → P u → P e → P x → P (byPhase p o r v d w f u e x)
@@ -85,6 +86,7 @@ conditions-numbered : (c : Call) (s : Sheets) → all hasNumber (conditions c s)
 unfolding all conditions
 conditions-numbered (begin b) s = refl
 conditions-numbered (read t k now) s = refl
+conditions-numbered (second t k now c) s = refl
 conditions-numbered (put t k c) s = refl
 conditions-numbered (advance t now) s = refl
 conditions-numbered (abort t) s = refl
@@ -103,3 +105,24 @@ by-written P c s n h = unless-by (λ (x : Result Answer). P (writeOf x)) (condit
 pub by-visit {κ} : (P : Write → Type κ) (k : Key) (now : ℕ) (s : Sheets) → P nothing → P (recoveryWrite (meeting now s (lineOf k (s .lines))) (lineOf k (s .lines))) → P (written (visit k now) s)
 unfolding outcome
 by-visit P k now s n h = by-written P (visit k now) s n (λ z. h)
+
+-- what a whole read comes to, by what it sees of the line
+module _ (sees : Record → Image) (t : Transaction) (k : Key) (now : ℕ) (s : Sheets) where
+  abbrev line : Record
+  line = lineOf k (s .lines)
+
+  -- what the visit comes to
+  abbrev met : Recovery
+  met = meeting now s line
+
+  -- the entry of a new key
+  abbrev pub entryRead : Entry
+  entryRead = entryAs (line .key) (sees (recovered met line))
+
+  pub by-whole {κ} : (P : Result Answer → Type κ)
+      → (isNew k t ≡ true → isAgain met ≡ true → P (made (answered readings.Again t) (recoveryWrite met line)))
+      → (isNew k t ≡ true → isAgain met ≡ false → P (made (answered (reading entryRead) (holding entryRead t)) (recoveryWrite met line)))
+      → (isNew k t ≡ false → P (readHeld t (heldEntry k t)))
+      → P (wholeRead sees t k now s)
+  unfolding wholeRead readNew
+  by-whole P again new held = choose-by P (isNew k t) (λ n. choose-by P (isAgain met) (again n) (new n)) held

@@ -1,28 +1,31 @@
 -- T4: after an accepted call the sheets are good and the transaction that it returns is well formed; after a refused one nothing has changed.
-use Rattle.lists.specs.Basics.{_≡_, refl, sym, ap, _∙_, ℕ, suc, _+_, _^_, _≤_, _<_, eqb, leb, Bool, true, false, not, _&&_, _||_, true≢false, List, length}
-use Rattle.lists.specs.Basics.{take, getD, set, some, Option·none-ne-some, arith, add-one, eqb-true, leb-false, le-leb, not-false, all, and-both, choose-by}
+use Rattle.lists.specs.Basics.{_≡_, refl, sym, ap, ap₂, _∙_, ℕ, suc, _+_, _^_, _≤_, _<_, eqb, leb, Bool, true, false, not, _&&_, _||_, true≢false, List, length}
+use Rattle.lists.specs.Basics.{take, getD, set, some, Option·none-ne-some, arith, add-one, eqb-true, leb-false, le-leb, not-true, not-false, all, and-fst, and-snd, and-both, choose-by}
 use Rattle.lists.specs.Basics.{tests}
 use Rattle.lists.specs.All.{all-at}
-use Rattle.model.specs.Types.{Key, Record, AtomicityUnit, Found, Columns, Entry, Transaction, Recovery, Stays, Forward, Back, Again, Busy}
-use Rattle.model.specs.Records.{isZero, sameKey, hasLine, lineOf, byFound}
-use Rattle.model.specs.Coordinator.{withIssued}
+use Rattle.model.specs.Types.{Key, Image, Record, Found, Columns, Entry, Transaction, Recovery, Stays, Forward, Back, Again, Busy}
+use Rattle.model.specs.Layouts.{recordLayout, imageLayout, columnsLayout}
+use Rattle.model.specs.Lines.{inRange, rowGood}
+use Rattle.model.specs.Records.{imageNumbers, isZero, sameKey, hasLine, lineOf, byFound}
+use Rattle.model.specs.Coordinator.{Letter, withIssued}
+use Rattle.model.specs.Groups.{isLower}
 use Rattle.model.specs.Transactions.{withdrawPhase, noVerdict, held, noEntry, heldAt, entryAs, withPut, moved, withEntry}
-use Rattle.model.specs.Images.{isPrepared, rolledForward}
+use Rattle.model.specs.Images.{isAbsent, isPrepared, rolledForward}
 use Rattle.model.specs.Writes.{Sheets, sheetsGood, nothing, issue, decisionsAfter, apply}
 use Rattle.model.specs.WellFormed.{columnsInRange, imageInRange, putFits, entryFormed, distinctKeys, placeFormed, verdictFormed, linesHeld, wellFormed}
 use Rattle.model.specs.Visits.{meeting, isAgain, isBusy, recovered, recoveryWrite}
 use Rattle.model.specs.Refusals.{refusalOf}
-use Rattle.model.specs.Results.{Call, begin, read, put, advance, abort, visit, returned, returns}
-use Rattle.model.specs.Conditions.{isNew, heldEntry, busy, cannotAbort, conditions}
+use Rattle.model.specs.Results.{Call, begin, read, second, put, advance, abort, visit, returned, returns}
+use Rattle.model.specs.Conditions.{isNew, takesTwo, heldEntry, busy, cannotAbort, conditions}
 use Rattle.model.specs.Steps.{unitsOf, step}
-use Rattle.model.specs.Calls.{newTransaction, readNew, holding, afterPut, outcome, result}
+use Rattle.model.specs.Calls.{newTransaction, seenSecond, holding, wholeRead, afterPut, outcome, result}
 use Rattle.model.specs.Histories.{answer, written, after, ClockFits}
 use Rattle.sheet_laws.specs.Search.{first-by}
 use Rattle.sheet_laws.specs.Coordinator.{bounds}
-use Rattle.call_laws.specs.Choices.{by-phase-of, unless-by, testOf, accepted, by-meeting}
+use Rattle.call_laws.specs.Choices.{by-phase-of, unless-by, testOf, accepted, by-meeting, entryRead, by-whole}
 use Rattle.call_laws.specs.Keys.{hasKey}
 use Rattle.call_laws.specs.Ranges.{GoodParts}
-use Rattle.call_laws.specs.Images.{back-plain, when-settled, forward-fine, back-fine}
+use Rattle.call_laws.specs.Images.{back-plain, version-some, when-settled, forward-fine, back-fine}
 use Rattle.call_laws.specs.Lines.{line-of-key}
 use Rattle.call_laws.specs.Sheets.{GoodSheets, good-parts, parts-good, Fit, fit-nothing, fit-issue, fit-decide, fit-forward, fit-back, write-closed}
 use Rattle.call_laws.specs.Transactions.{Body, Stage, parts-well-formed, body-moved, verdict-at, to-withdraw}
@@ -47,9 +50,9 @@ module _ (s : Sheets) (good : GoodSheets s) where
         lines = refl;
       }
 
-  begin-stage : (us : List AtomicityUnit) (n : ℕ) (b : Bool) → Stage us (newTransaction n b)
+  begin-stage : (us : List Letter) (n : ℕ) (b : Bool) → Stage us (newTransaction n b)
   unfolding placeFormed verdictFormed
-  begin-stage us n b = record { decides = refl; validates = refl; place = refl; verdict = refl }
+  begin-stage us n b = record { decides = refl; place = refl; verdict = refl }
 
   begin-keeps : (b : Bool) → refusalOf (conditions (begin b) s) ≡ 0 → Keeps s (outcome (begin b) s)
   unfolding outcome conditions returns testOf
@@ -130,11 +133,31 @@ module _ (s : Sheets) (good : GoodSheets s) where
       (λ p d x a b. absurd (true≢false a))
       (λ p d x a b. absurd (true≢false b))
 
+  -- a good line with other columns in range
+  columns-ranged : (m : Image) (c : Columns) → imageInRange m ≡ true → columnsInRange c ≡ true → imageInRange (record { version = m .version; txid = m .txid; column1 = c .column1; column2 = c .column2 }) ≡ true
+  unfolding imageInRange columnsInRange columnsLayout imageLayout recordLayout rowGood inRange imageNumbers
+  columns-ranged m c h g =
+      let v = leb 0 (m .version) && leb (m .version) 99999 in
+      let n = leb 0 (m .txid) && leb (m .txid) 999 in
+      let rest = and-snd v _ h in
+      and-both (and-fst v _ h) (and-both (and-fst n _ rest) g)
+
   -- the entry of a good line that isn't prepared is well formed
   entry-of-line : (k : Key) (r : Record) → GoodParts (s .coordinator .issued) r → isPrepared r ≡ false → entryFormed (s .coordinator .issued) (entryAs k (r .image)) ≡ true
   unfolding entryFormed putFits
   entry-of-line k r g p =
       and-both (and-both (and-both (and-both refl (g .image)) (le-leb (r .image .txid) (s .coordinator .issued) (g .txid))) (when-settled r p (g .rule))) refl
+
+  -- and so is that of a second call, whose columns are in range where they count
+  entry-of-second : (lower : Bool) (c : Columns) (k : Key) (r : Record) → (lower ≡ true → columnsInRange c ≡ true) → GoodParts (s .coordinator .issued) r → isPrepared r ≡ false → entryFormed (s .coordinator .issued) (entryAs k (seenSecond lower c r)) ≡ true
+  unfolding entryFormed putFits seenSecond
+  entry-of-second lower c k r h g p =
+      choose-by (λ (m : Image). entryFormed (s .coordinator .issued) (entryAs k m) ≡ true) (lower && not (isAbsent r))
+      (λ e. let v : leb 1 (r .image .version) ≡ true = version-some r p (not-true (isAbsent r) (and-snd lower (not (isAbsent r)) e)) (g .rule) in
+      and-both
+      (and-both (and-both (and-both refl (columns-ranged (r .image) c (g .image) (h (and-fst lower (not (isAbsent r)) e)))) (le-leb (r .image .txid) (s .coordinator .issued) (g .txid)))
+      (rw v)) refl)
+      (λ e. entry-of-line k r g p)
 
   module _ (t : Transaction) (b : Body s t) where
     -- one more entry, of a key that isn't held
@@ -157,31 +180,61 @@ module _ (s : Sheets) (good : GoodSheets s) where
               ∙ all-more (λ (x : Entry). hasLine (x .key) (s .lines)) e (t .count) (t .entries) (b .lines) h;
         }
 
+  -- the whole read, by what it sees of the line
+  module _ (sees : Record → Image) (t : Transaction) (k : Key) (now : ℕ) (p : Body s t × Stage (unitsOf s) t) (ph : t .phase ≡ 0) (h : hasLine k (s .lines) ≡ true) where
+    abbrev line : Record
+    line = lineOf k (s .lines)
+
+    abbrev met : Recovery
+    met = meeting now s line
+
+    whole-keeps : (isNew k t && leb 8 (t .count)) ≡ false → (isNew k t ≡ true → isBusy met ≡ false)
+        → ((r : Record) → isNew k t ≡ true → GoodParts (s .coordinator .issued) r → isPrepared r ≡ false → entryFormed (s .coordinator .issued) (entryAs (line .key) (sees r)) ≡ true)
+        → Keeps s (wholeRead sees t k now s)
+    unfolding returns
+    whole-keeps few free formed =
+        by-whole sees t k now s (Keeps s)
+        (λ n a. keeps-made s _ (recoveryWrite met line) t refl (visit-fits k now h) (formed-after s (recoveryWrite met line) t (p .0) (p .1)))
+        (λ n a. let u = visited-good k now h a (free n) in
+        let e = entryRead sees t k now s in
+        let l : leb 8 (t .count) ≡ false = ap (λ (x : Bool). x && leb 8 (t .count)) (sym n) ∙ few in
+        let kk : line .key ≡ k = line-of-key k (s .lines) in
+        let body : Body s (holding e t) =
+        holding-body t (p .0) e (less-than-eight (t .count) l) (ap (λ (x : Key). hasKey x (held t)) kk ∙ not-held k t n)
+        (formed (recovered met line) n (u .0) (u .1)) (ap (λ (x : Key). hasLine x (s .lines)) kk ∙ h) in
+        keeps-made s _ (recoveryWrite met line) (holding e t) refl (visit-fits k now h)
+        (formed-after s (recoveryWrite met line) (holding e t) body (open-again (unitsOf s) t (p .1) ph (t .count + 1) (t .count) e)))
+        (λ n. keeps-made s _ nothing t refl fit-nothing (formed-after s nothing t (p .0) (p .1)))
+
   read-keeps : (t : Transaction) (k : Key) (now : ℕ) → refusalOf (conditions (read t k now) s) ≡ 0 → Keeps s (outcome (read t k now) s)
-  unfolding outcome conditions returns readNew testOf
+  unfolding outcome conditions returns testOf
   read-keeps t k now z =
       let p = taken-parts s t _ z in
-      let r = lineOf k (s .lines) in
-      let v = meeting now s r in
       let c4 : not (eqb (t .phase) 0) ≡ false = accepted 4 (read t k now) s z in
       let c6 : not (hasLine k (s .lines)) ≡ false = accepted 6 (read t k now) s z in
       let c9 : (isNew k t && leb 8 (t .count)) ≡ false = accepted 9 (read t k now) s z in
-      let c12 : (isNew k t && busy k now s) ≡ false = accepted 12 (read t k now) s z in
-      let h : hasLine k (s .lines) ≡ true = not-false (hasLine k (s .lines)) c6 in
-      let ph : t .phase ≡ 0 = eqb-true (t .phase) 0 (not-false (eqb (t .phase) 0) c4) in
-      choose-by (Keeps s) (isNew k t)
-      (λ n. choose-by (Keeps s) (isAgain v)
-      (λ a. keeps-made s _ (recoveryWrite v r) t refl (visit-fits k now h) (formed-after s (recoveryWrite v r) t (p .0) (p .1)))
-      (λ a. let u = visited-good k now h a (ap (λ (x : Bool). x && busy k now s) (sym n) ∙ c12) in
-      let e = entryAs (r .key) (recovered v r .image) in
-      let l : leb 8 (t .count) ≡ false = ap (λ (x : Bool). x && leb 8 (t .count)) (sym n) ∙ c9 in
-      let kk : r .key ≡ k = line-of-key k (s .lines) in
-      let body : Body s (holding e t) =
-      holding-body t (p .0) e (less-than-eight (t .count) l) (ap (λ (x : Key). hasKey x (held t)) kk ∙ not-held k t n)
-      (entry-of-line (r .key) (recovered v r) (u .0) (u .1)) (ap (λ (x : Key). hasLine x (s .lines)) kk ∙ h) in
-      keeps-made s _ (recoveryWrite v r) (holding e t) refl (visit-fits k now h)
-      (formed-after s (recoveryWrite v r) (holding e t) body (open-again (unitsOf s) t (p .1) ph (t .count + 1) (t .count) e))))
-      (λ n. keeps-made s _ nothing t refl fit-nothing (formed-after s nothing t (p .0) (p .1)))
+      let c12 : (isNew k t && not (isLower (unitsOf s) k) && busy k now s) ≡ false = accepted 12 (read t k now) s z in
+      choose-by (Keeps s) (takesTwo (unitsOf s) k t)
+      (λ e. keeps-made s _ nothing t refl fit-nothing (formed-after s nothing t (p .0) (p .1)))
+      (λ e. whole-keeps (λ (r : Record). r .image) t k now p (eqb-true (t .phase) 0 (not-false (eqb (t .phase) 0) c4)) (not-false (hasLine k (s .lines)) c6) c9
+      (λ n. let f : isLower (unitsOf s) k ≡ false = ap (λ (x : Bool). x && isLower (unitsOf s) k) (sym n) ∙ e in
+      ap₂ (λ (x y : Bool). x && not y && busy k now s) (sym n) (sym f) ∙ c12)
+      (λ r n g q. entry-of-line _ r g q))
+
+  second-keeps : (t : Transaction) (k : Key) (now : ℕ) (c : Columns) → refusalOf (conditions (second t k now c) s) ≡ 0 → Keeps s (outcome (second t k now c) s)
+  unfolding outcome conditions returns testOf
+  second-keeps t k now c z =
+      let call = second t k now c in
+      let lower = isLower (unitsOf s) k in
+      let c4 : not (eqb (t .phase) 0) ≡ false = accepted 4 call s z in
+      let c6 : not (hasLine k (s .lines)) ≡ false = accepted 6 call s z in
+      let c7 : (isNew k t && lower && not (columnsInRange c)) ≡ false = accepted 7 call s z in
+      let c9 : (isNew k t && leb 8 (t .count)) ≡ false = accepted 9 call s z in
+      let c12 : (isNew k t && busy k now s) ≡ false = accepted 12 call s z in
+      whole-keeps (seenSecond lower c) t k now (taken-parts s t _ z) (eqb-true (t .phase) 0 (not-false (eqb (t .phase) 0) c4)) (not-false (hasLine k (s .lines)) c6) c9
+      (λ n. ap (λ (x : Bool). x && busy k now s) (sym n) ∙ c12)
+      (λ r n g q. entry-of-second lower c _ r
+      (λ e. not-false (columnsInRange c) (ap₂ (λ (x y : Bool). x && y && not (columnsInRange c)) (sym n) (sym e) ∙ c7)) g q)
 
   -- Put.
 
@@ -243,6 +296,7 @@ module _ (s : Sheets) (good : GoodSheets s) where
 accepted-keeps : (c : Call) (s : Sheets) → GoodSheets s → ClockFits c → refusalOf (conditions c s) ≡ 0 → Keeps s (outcome c s)
 accepted-keeps (begin b) s g l = begin-keeps s g b
 accepted-keeps (read t k now) s g l = read-keeps s g t k now
+accepted-keeps (second t k now c) s g l = second-keeps s g t k now c
 accepted-keeps (put t k c) s g l = put-keeps s g t k c
 accepted-keeps (advance t now) s g l = advance-keeps s g t now l
 accepted-keeps (abort t) s g l = abort-keeps s g t

@@ -3,18 +3,18 @@
 use Rattle.lists.specs.Basics.{_≡_, refl, sym, ap, _∙_, ℕ, _≤_, eqb, leb, Bool, true, false, not, _&&_, _||_, cond, List, [], _∷_, _++_, map, arith, eqb-true}
 use Rattle.lists.specs.Basics.{leb-true, eq-eqb, ne-eqb, le-leb, all, any, and-fst, and-snd, and-both, choose-by}
 use Rattle.lists.specs.All.{map-map, all-map, all-weaken}
-use Rattle.model.specs.Refusals.{Condition, refuse, refusalOf, lastRefusal, askingOrder, countBefore, asked, noneBefore, firstAsked}
+use Rattle.model.specs.Refusals.{Condition, refuse, refusalOf, lastRefusal, countBefore, asked, noneBefore, firstAsked}
 use Rattle.model.specs.SheetCalls.{checkConditions}
-use Rattle.model.specs.Records.{lineOf}
+use Rattle.model.specs.Types.{Key, Image, Record, Transaction}
 use Rattle.model.specs.Writes.{Sheets, Write}
-use Rattle.model.specs.Visits.{meeting, isAgain}
-use Rattle.model.specs.Results.{Call, begin, read, put, advance, abort, visit, Answer, refusalIn, Response, Result, refused, made, answerOf}
+use Rattle.model.specs.Steps.{unitsOf}
+use Rattle.model.specs.Results.{Call, begin, read, second, put, advance, abort, visit, Answer, refusalIn, Response, Result, refused, made, answerOf}
 use Rattle.model.specs.Results.{unless}
-use Rattle.model.specs.Conditions.{isNew, conditions, refusals}
-use Rattle.model.specs.Calls.{readNew, outcome, result}
+use Rattle.model.specs.Conditions.{takesTwo, conditions, refusals}
+use Rattle.model.specs.Calls.{wholeRead, outcome, result}
 use Rattle.model.specs.ByteCalls.{sheetsOf, allConditions, resultOn, recordsAfter, coordinatorAfter}
 use Rattle.model.specs.ByteHistories.{Bytes, saying, bytesAfter, answerOn, afterOn}
-use Rattle.call_laws.specs.Choices.{hasNumber, unless-of}
+use Rattle.call_laws.specs.Choices.{hasNumber, unless-of, by-whole}
 use Rattle.call_laws.specs.Accepted.{refusal-front, refusal-past}
 
 -- from n on the numbers rise
@@ -59,11 +59,6 @@ first-is-first n (c ∷ cs) l h =
     let k : all (λ (x : Condition). leb 1 (x .number)) cs ≡ true = and-snd (leb 1 (c .number)) (all (λ (x : Condition). leb 1 (x .number)) cs) l in
     first-cons (c .number) (c .holds) cs m g (first-is-first (asked (c .number)) cs k g)
 
--- the order of asking rises, so that the first of it is the lowest
-pub order-rises : risingFrom 1 askingOrder ≡ true
-unfolding risingFrom
-order-rises = refl
-
 -- no number is above the last
 pub small : (cs : List Condition) → all (λ (c : Condition). leb (c .number) lastRefusal) cs ≡ true → refusalOf cs ≤ lastRefusal
 unfolding all refusalOf
@@ -83,10 +78,22 @@ pub numbers-are : (call : Call) (rs cs : List ℕ) → numbers (allConditions ca
 unfolding allConditions checkConditions conditions refusals
 numbers-are (begin b) rs cs = refl
 numbers-are (read t k now) rs cs = refl
+numbers-are (second t k now c) rs cs = refl
 numbers-are (put t k c) rs cs = refl
 numbers-are (advance t now) rs cs = refl
 numbers-are (abort t) rs cs = refl
 numbers-are (visit k now) rs cs = refl
+
+-- beside a record sheet a row rises, so that the first that applies is the lowest
+pub rows-rise : (call : Call) → risingFrom 1 (refusals call) ≡ true
+unfolding refusals risingFrom
+rows-rise (begin b) = refl
+rows-rise (read t k now) = refl
+rows-rise (second t k now c) = refl
+rows-rise (put t k c) = refl
+rows-rise (advance t now) = refl
+rows-rise (abort t) = refl
+rows-rise (visit k now) = refl
 
 -- a row: its numbers are of the table, in the order of asking
 abbrev rowInOrder : List ℕ → Bool
@@ -96,6 +103,7 @@ row-in-order : (call : Call) → rowInOrder (refusals call) ≡ true
 unfolding refusals risingFrom all countBefore
 row-in-order (begin b) = refl
 row-in-order (read t k now) = refl
+row-in-order (second t k now c) = refl
 row-in-order (put t k c) = refl
 row-in-order (advance t now) = refl
 row-in-order (abort t) = refl
@@ -172,13 +180,14 @@ refusal-then cs ps r l h =
 data Made : Result Answer → Type 0 where
   is-made : (a : Answer) (w : Write) → refusalIn a ≡ 0 → Made (made a w)
 
+whole-made : (sees : Record → Image) (t : Transaction) (k : Key) (now : ℕ) (s : Sheets) → Made (wholeRead sees t k now s)
+whole-made sees t k now s = by-whole sees t k now s Made (λ n a. is-made _ _ refl) (λ n a. is-made _ _ refl) (λ n. is-made _ _ refl)
+
 outcome-made : (c : Call) (s : Sheets) → Made (outcome c s)
-unfolding outcome readNew
+unfolding outcome
 outcome-made (begin b) s = is-made _ _ refl
-outcome-made (read t k now) s =
-    choose-by Made (isNew k t)
-    (λ n. choose-by Made (isAgain (meeting now s (lineOf k (s .lines)))) (λ a. is-made _ _ refl) (λ a. is-made _ _ refl))
-    (λ n. is-made _ _ refl)
+outcome-made (read t k now) s = choose-by Made (takesTwo (unitsOf s) k t) (λ e. is-made _ _ refl) (λ e. whole-made _ t k now s)
+outcome-made (second t k now c) s = whole-made _ t k now s
 outcome-made (put t k c) s = is-made _ _ refl
 outcome-made (advance t now) s = is-made _ _ refl
 outcome-made (abort t) s = is-made _ _ refl
@@ -204,6 +213,7 @@ conditions-small : (call : Call) (s : Sheets) → all (λ (c : Condition). leb (
 unfolding all conditions
 conditions-small (begin b) s = refl
 conditions-small (read t k now) s = refl
+conditions-small (second t k now c) s = refl
 conditions-small (put t k c) s = refl
 conditions-small (advance t now) s = refl
 conditions-small (abort t) s = refl

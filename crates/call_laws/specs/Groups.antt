@@ -7,7 +7,8 @@ use Rattle.lists.specs.Chosen.{count-less, count-all}
 use Rattle.model.specs.Types.{Key, AtomicityUnit, Entry}
 use Rattle.types.specs.declared.AtomicityUnit.the-variants.{Record as RecordUnit, Partition, Table, Namespace, Storage}
 use Rattle.model.specs.Records.{keyNumbers, keyLess, sameKey}
-use Rattle.model.specs.Groups.{unitFields, unitFor, scope, addScope, scopes, groupCount, groupPlace, group}
+use Rattle.model.specs.Coordinator.{Letter}
+use Rattle.model.specs.Groups.{unitFields, letterFor, scope, addScope, scopes, groupCount, groupPlace, group}
 use Rattle.call_laws.specs.Keys.{same-key, hasKey, chosen-key}
 
 -- every unit compares the storage
@@ -19,7 +20,7 @@ first-field Table k = refl
 first-field Namespace k = refl
 first-field Storage k = refl
 
-module _ (us : List AtomicityUnit) where
+module _ (us : List Letter) where
   add-own : (s : List ℕ) (ss : List (List ℕ)) → any (eqList s) (addScope s ss) ≡ true
   unfolding addScope any
   add-own s ss = go (any (eqList s) ss) refl
@@ -50,8 +51,8 @@ module _ (us : List AtomicityUnit) where
   pub scope-between : (a k b : Key) → keyLess a k ≡ true → keyLess k b ≡ true → scope us a ≡ scope us b → scope us k ≡ scope us a
   unfolding scope keyLess
   scope-between a k b h g e =
-      let u = unitFor (a .storage) us in
-      let p : a .storage ≡ b .storage = sym (first-field u a) ∙ (ap first e ∙ first-field (unitFor (b .storage) us) b) in
+      let u = letterFor (a .storage) us .unit in
+      let p : a .storage ≡ b .storage = sym (first-field u a) ∙ (ap first e ∙ first-field (letterFor (b .storage) us .unit) b) in
       let f : take (unitFields u) (keyNumbers a) ≡ take (unitFields u) (keyNumbers b) = e ∙ ap (fields b) (sym p) in
       let m : take (unitFields u) (keyNumbers k) ≡ take (unitFields u) (keyNumbers a) =
       less-between (unitFields u) (keyNumbers a) (keyNumbers k) (keyNumbers b) h g f in
@@ -63,7 +64,7 @@ module _ (us : List AtomicityUnit) where
 
       -- the fields of a key that the unit of a storage compares
       fields : Key → ℕ → List ℕ
-      fields x n = take (unitFields (unitFor n us)) (keyNumbers x)
+      fields x n = take (unitFields (letterFor n us .unit)) (keyNumbers x)
 
   module _ (es : List Entry) where
     -- "Groups go in rising key order": a lower scope has a lower place.

@@ -5,7 +5,7 @@ use Rattle.lists.specs.Basics.{eq-eqb, ne-eqb, le-leb, and-both, choose-by, tes
 use Rattle.model.specs.Types.{Key, Image, Record, State}
 use Rattle.types.specs.declared.State.the-variants.{Absent, Committed, Prepared}
 use Rattle.model.specs.Records.{byState, isZero, absentRule, committedRule, preparedRule, stateRule, noImage}
-use Rattle.model.specs.Images.{isPrepared, Change, writtenImage, prepared, committed, rolledForward, beforeState, rolledBack}
+use Rattle.model.specs.Images.{isAbsent, isPrepared, Change, writtenImage, prepared, committed, rolledForward, beforeState, rolledBack}
 use Rattle.model.specs.WellFormed.{imageInRange, columnsInRange}
 use Rattle.call_laws.specs.Ranges.{GoodParts, image-ranged, zeros-ranged}
 
@@ -18,6 +18,16 @@ when-prepared r = go (r .state)
     go Absent p h = absurd (true≢false (sym p))
     go Committed p h = absurd (true≢false (sym p))
     go Prepared p h = h
+
+-- a record that is neither absent nor prepared has version 1 or more
+pub version-some : (r : Record) → isPrepared r ≡ false → isAbsent r ≡ false → stateRule r ≡ true → leb 1 (r .image .version) ≡ true
+unfolding committedRule
+version-some r = go (r .state)
+  where
+    go : (x : State) → byState x false false true ≡ false → byState x true false false ≡ false → byState x (absentRule r) (committedRule r) (preparedRule r) ≡ true → leb 1 (r .image .version) ≡ true
+    go Absent p a h = absurd (true≢false a)
+    go Committed p a h = search tests
+    go Prepared p a h = absurd (true≢false p)
 
 -- a record that isn't prepared has version 1 or more, or holds nothing
 pub when-settled : (r : Record) → isPrepared r ≡ false → stateRule r ≡ true → (leb 1 (r .image .version) || isZero (r .image)) ≡ true

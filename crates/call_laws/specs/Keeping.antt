@@ -2,9 +2,9 @@
 use Rattle.lists.specs.Basics.{_≡_, refl, sym, ap, subst, _∙_, ℕ, _≤_, _<_, eqb, leb, true, false, not, List, _∷_, some, Option·none-ne-some}
 use Rattle.lists.specs.Basics.{Option·some-injective, arith, eqb-true, eqb-false, leb-true, leb-false, le-leb, not-false, tests}
 use Rattle.lists.specs.All.{all-weaken}
-use Rattle.model.specs.Types.{Key, AtomicityUnit, Entry, Transaction}
+use Rattle.model.specs.Types.{Key, Entry, Transaction}
 use Rattle.model.specs.Records.{sameKey, hasLine, lineOf}
-use Rattle.model.specs.Coordinator.{Coordinator, withIssued}
+use Rattle.model.specs.Coordinator.{Letter, Coordinator, withIssued}
 use Rattle.model.specs.Refusals.{Condition, refuse, refusalOf}
 use Rattle.model.specs.Transactions.{held, heldAt, withEntry}
 use Rattle.model.specs.Writes.{Sheets, Write, nothing, issue, decide, commit, prepare, forward, back, linesAfter, decisionsAfter, apply}
@@ -74,7 +74,7 @@ pub formed-after : (s : Sheets) (w : Write) (t : Transaction) → Body s t → S
 unfolding apply
 formed-after s w t b g =
     parts-well-formed (apply w s) t (body-after s w t b)
-    (subst (λ (us : List AtomicityUnit). Stage us t) (sym (units-kept w (s .coordinator))) g)
+    (subst (λ (us : List Letter). Stage us t) (sym (units-kept w (s .coordinator))) g)
 
 -- What is asked of a call's result.
 pub record Keeps (s : Sheets) (r : Result Answer) : Type 0 where
@@ -111,7 +111,7 @@ unfolding heldAt
 not-held k t n = sym (some-found (λ (e : Entry). sameKey (e .key) k) 0 (held t)) ∙ ap not n
 
 -- an open transaction stays open with another entry
-pub open-again : (us : List AtomicityUnit) (t : Transaction) → Stage us t → t .phase ≡ 0 → (n i : ℕ) (e : Entry) → Stage us (withEntry n i e t)
+pub open-again : (us : List Letter) (t : Transaction) → Stage us t → t .phase ≡ 0 → (n i : ℕ) (e : Entry) → Stage us (withEntry n i e t)
 unfolding placeFormed verdictFormed
 open-again us t g ph n i e =
     stage-open us (withEntry n i e t) ph (eqb-true (t .place) 0 (place-at us t g 0 ph)) (eqb-true (t .verdict) 0 (verdict-at us t g 0 ph))

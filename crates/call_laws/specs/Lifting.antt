@@ -1,57 +1,109 @@
 -- The calls on bytes are the calls on decoded sheets: on accepted bytes the answer is the same, and what is written, encoded, says the sheets after the call.
-use Rattle.lists.specs.Basics.{_≡_, refl, sym, ap, subst, _∙_, ℕ, eqb, true, not, _&&_, cond, [], arith, not-false, all, and-fst, and-snd, and-both}
+use Rattle.lists.specs.Basics.{_≡_, refl, sym, ap, subst, _∙_, ℕ, zero, suc, eqb, Bool, true, false, not, _&&_, cond, List, [], _∷_, getD, arith, not-true, not-false, all, and-fst, and-snd, and-both}
+use Rattle.model.specs.Types.{Key}
 use Rattle.model.specs.Records.{records, recordsText, recordsGood, recordsAccepted}
 use Rattle.model.specs.Lines.{linesSet}
 use Rattle.model.specs.Layouts.{recordLayout, recordBytes}
-use Rattle.model.specs.Coordinator.{coordinatorText, coordinatorGood, coordinatorAccepted, namesIssued}
-use Rattle.model.specs.Refusals.{refusalOf}
-use Rattle.model.specs.SheetCalls.{allIssued, checkConditions}
-use Rattle.model.specs.Writes.{Sheets, sheetsGood, nothing, lineAfter, decisionsAfter, apply}
+use Rattle.model.specs.Coordinator.{Letter, coordinatorText, coordinatorGood, coordinatorReadable, allCapitals, coordinatorAccepted, namesIssued}
+use Rattle.model.specs.Groups.{noLetter, letterFor, isLower}
+use Rattle.model.specs.Refusals.{refuse, refusalOf}
+use Rattle.model.specs.SheetCalls.{allIssued, readableConditions, checkConditions}
+use Rattle.model.specs.Writes.{Sheets, sheetsGood, Write, nothing, lineAfter, decisionsAfter, apply}
 use Rattle.model.specs.Results.{Call, Response, Result, refused, made, writeOf, answerOf}
+use Rattle.model.specs.Steps.{unitsOf}
 use Rattle.model.specs.Calls.{result}
 use Rattle.model.specs.ByteCalls.{onSheets, resultOn, recordsAfter, coordinatorAfter}
 use Rattle.model.specs.Histories.{answer, written, after, ClockFits}
-use Rattle.model.specs.ByteHistories.{Bytes, saying, Passing, bytesAfter, answerOn, afterOn}
+use Rattle.model.specs.ByteHistories.{Bytes, saying, Readable, Passing, bytesAfter, answerOn, afterOn}
 use Rattle.sheet_laws.specs.Records.{records-read-written, sheet-written-read}
 use Rattle.sheet_laws.specs.Coordinator.{coordinator-read-written, coordinator-written-read}
-use Rattle.sheet_laws.specs.Decisions.{accepted-parts}
+use Rattle.sheet_laws.specs.Decisions.{accepted-parts, parts-accepted, readable-parts}
 use Rattle.call_laws.specs.Choices.{not-first}
 use Rattle.call_laws.specs.Lines.{lines-unmoved}
+use Rattle.call_laws.specs.Keeping.{units-kept}
 use Rattle.call_laws.specs.Closure.{sheets-stay-good}
+
+-- two conditions, of which the second is that one of two tests fails
+two-free : (x c n : Bool) → refusalOf (refuse 1 (not x) ∷ refuse 2 (not (c && n)) ∷ []) ≡ 0 → (x ≡ true) × ((c ≡ true) × (n ≡ true))
+two-free x c n h =
+    let p = not-first 1 (not x) _ (omega arith) h in
+    let q = not-first 2 (not (c && n)) [] (omega arith) (p .1) in
+    let e : (c && n) ≡ true = not-false (c && n) (q .0) in
+    (not-false x (p .0), (and-fst c n e, and-snd c n e))
+
+pub readable-both : (b : Bytes) → Readable b → (recordsAccepted (b .records) ≡ true) × ((coordinatorReadable (b .coordinator) ≡ true) × (allIssued (b .records) (b .coordinator) ≡ true))
+unfolding readableConditions
+readable-both b h = two-free (recordsAccepted (b .records)) (coordinatorReadable (b .coordinator)) (allIssued (b .records) (b .coordinator)) h
 
 pub passing-parts : (b : Bytes) → Passing b → (recordsAccepted (b .records) ≡ true) × ((coordinatorAccepted (b .coordinator) ≡ true) × (allIssued (b .records) (b .coordinator) ≡ true))
 unfolding checkConditions
-passing-parts b h =
-    let c = coordinatorAccepted (b .coordinator) in
-    let n = allIssued (b .records) (b .coordinator) in
-    let p = not-first 1 (not (recordsAccepted (b .records))) _ (omega arith) h in
-    let q = not-first 2 (not (c && n)) [] (omega arith) (p .1) in
-    let e : (c && n) ≡ true = not-false (c && n) (q .0) in
-    (not-false (recordsAccepted (b .records)) (p .0), (and-fst c n e, and-snd c n e))
+passing-parts b h = two-free (recordsAccepted (b .records)) (coordinatorAccepted (b .coordinator)) (allIssued (b .records) (b .coordinator)) h
 
--- accepted bytes say good sheets
-pub passing-good : (b : Bytes) → Passing b → sheetsGood (saying b) ≡ true
-unfolding sheetsGood recordsAccepted allIssued
-passing-good b h =
+-- accepted bytes are readable ones of capitals
+abbrev pub Capitals : Sheets → Type 0
+Capitals s = allCapitals (unitsOf s) ≡ true
+
+-- then no storage is marked
+capital-at : (us : List Letter) (i : ℕ) → allCapitals us ≡ true → getD us i noLetter .lower ≡ false
+unfolding allCapitals all
+capital-at [] i h = refl
+capital-at (l ∷ us) zero h = not-true (l .lower) (and-fst (not (l .lower)) (allCapitals us) h)
+capital-at (l ∷ us) (suc i) h = capital-at us i (and-snd (not (l .lower)) (allCapitals us) h)
+
+pub capitals-lower : (s : Sheets) → Capitals s → (k : Key) → isLower (unitsOf s) k ≡ false
+unfolding letterFor
+capitals-lower s a k = go (k .storage)
+  where
+    go : (n : ℕ) → letterFor n (unitsOf s) .lower ≡ false
+    go zero = refl
+    go (suc i) = capital-at (unitsOf s) i a
+
+pub passing-readable : (b : Bytes) → Passing b → Readable b × Capitals (saying b)
+unfolding readableConditions refusalOf
+passing-readable b h =
     let p = passing-parts b h in
+    let q = accepted-parts (b .coordinator) (p .1 .0) in
+    (rw (p .0, q .0, p .1 .1), q .1)
+
+pub readable-passing : (b : Bytes) → Readable b → Capitals (saying b) → Passing b
+unfolding checkConditions refusalOf
+readable-passing b h a =
+    let p = readable-both b h in
+    let q = parts-accepted (b .coordinator) (p .1 .0) a in
+    rw (p .0, q, p .1 .1)
+
+-- readable bytes say good sheets
+pub readable-good : (b : Bytes) → Readable b → sheetsGood (saying b) ≡ true
+unfolding sheetsGood recordsAccepted allIssued
+readable-good b h =
+    let p = readable-both b h in
     and-both
-    (and-both (and-snd (linesSet recordLayout recordBytes (b .records)) (recordsGood (records (b .records))) (p .0)) (accepted-parts (b .coordinator) (p .1 .0) .good))
+    (and-both (and-snd (linesSet recordLayout recordBytes (b .records)) (recordsGood (records (b .records))) (p .0)) (readable-parts (b .coordinator) (p .1 .0) .good))
     (p .1 .1)
+
+pub passing-good : (b : Bytes) → Passing b → sheetsGood (saying b) ≡ true
+passing-good b h = readable-good b (passing-readable b h .0)
 
 -- the bytes for two sheets
 abbrev pub encoded : Sheets → Bytes
 encoded s = record { records = recordsText (s .lines); coordinator = coordinatorText (s .coordinator) }
 
--- good sheets encoded say the same sheets, and pass
-pub encoded-says : (s : Sheets) → sheetsGood s ≡ true → (saying (encoded s) ≡ s) × Passing (encoded s)
-unfolding sheetsGood checkConditions allIssued refusalOf
-encoded-says s h =
+-- good sheets encoded say the same sheets, and are readable
+pub encoded-readable : (s : Sheets) → sheetsGood s ≡ true → (saying (encoded s) ≡ s) × Readable (encoded s)
+unfolding sheetsGood readableConditions allIssued refusalOf
+encoded-readable s h =
     let g : recordsGood (s .lines) ≡ true = and-fst _ (coordinatorGood (s .coordinator)) (and-fst _ (all (namesIssued (s .coordinator .issued)) (s .lines)) h) in
     let c : coordinatorGood (s .coordinator) ≡ true = and-snd (recordsGood (s .lines)) (coordinatorGood (s .coordinator)) (and-fst _ (all (namesIssued (s .coordinator .issued)) (s .lines)) h) in
     let n : all (namesIssued (s .coordinator .issued)) (s .lines) ≡ true = and-snd (recordsGood (s .lines) && coordinatorGood (s .coordinator)) _ h in
     let p = records-read-written (s .lines) g in
     let q = coordinator-read-written (s .coordinator) c in
     (λ i. record { lines = p .0 i; coordinator = q .0 i }, rw (p .1, q .1, p .0, q .0, n))
+
+-- and pass, if their letters are capitals
+pub encoded-says : (s : Sheets) → sheetsGood s ≡ true → Capitals s → (saying (encoded s) ≡ s) × Passing (encoded s)
+encoded-says s h a =
+    let e = encoded-readable s h in
+    (e .0, readable-passing (encoded s) (e .1) (ap (λ (x : Sheets). allCapitals (unitsOf x)) (e .0) ∙ a))
 
 -- Calls on accepted bytes.
 
@@ -70,11 +122,14 @@ pub apply-nothing : (s : Sheets) → apply nothing s ≡ s
 unfolding apply lineAfter decisionsAfter
 apply-nothing s = λ i. record { lines = lines-unmoved nothing (λ x. refl) (s .lines) i; coordinator = s .coordinator }
 
--- accepted bytes are those of the sheets that they say
-pub passing-encoded : (b : Bytes) → Passing b → encoded (saying b) ≡ b
-passing-encoded b h =
-    let p = passing-parts b h in
+-- readable bytes are those of the sheets that they say
+pub readable-encoded : (b : Bytes) → Readable b → encoded (saying b) ≡ b
+readable-encoded b h =
+    let p = readable-both b h in
     λ i. record { records = sheet-written-read (b .records) (p .0) i; coordinator = coordinator-written-read (b .coordinator) (p .1 .0) i }
+
+pub passing-encoded : (b : Bytes) → Passing b → encoded (saying b) ≡ b
+passing-encoded b h = readable-encoded b (passing-readable b h .0)
 
 -- the bytes after a result on accepted bytes are the sheets after it, encoded
 pub bytes-of-result : {A : Type 0} (b : Bytes) (r : Result A) → Passing b → bytesAfter b r ≡ encoded (apply (writeOf r) (saying b))
@@ -86,9 +141,15 @@ pub same-bytes : (c : Call) (b : Bytes) → Passing b → afterOn c b ≡ encode
 unfolding afterOn after written
 same-bytes c b h = ap (bytesAfter b) (same-result c b h) ∙ bytes-of-result b (result c (saying b)) h
 
+-- no write changes a letter
+pub capitals-kept : (w : Write) (s : Sheets) → Capitals s → Capitals (apply w s)
+unfolding apply
+capitals-kept w s a = ap allCapitals (units-kept w (s .coordinator)) ∙ a
+
 -- T4 on bytes: the sheets after any call pass, and say what the call leaves
 pub bytes-stay-passing : (c : Call) (b : Bytes) → ClockFits c → Passing b → (saying (afterOn c b) ≡ after c (saying b)) × Passing (afterOn c b)
+unfolding after
 bytes-stay-passing c b l h =
     let g : sheetsGood (after c (saying b)) ≡ true = sheets-stay-good c (saying b) l (passing-good b h) in
-    let e = encoded-says (after c (saying b)) g in
+    let e = encoded-says (after c (saying b)) g (capitals-kept (written c (saying b)) (saying b) (passing-readable b h .1)) in
     (ap saying (same-bytes c b h) ∙ e .0, subst Passing (sym (same-bytes c b h)) (e .1))

@@ -3,30 +3,30 @@
 use Rattle.lists.specs.Basics.{_≡_, refl, sym, ap, _∙_, ℕ, Bool, true, false, cond, true≢false, and-false, List, [], _∷_, getD, Option, none, all, any}
 use Rattle.lists.specs.Basics.{choose-by, or-left}
 use Rattle.lists.specs.Chosen.{any-map}
-use Rattle.model.specs.Types.{Key, Record, Decision, Committed, Aborted, AtomicityUnit, Entry, Transaction, Recovery, Stays, Forward, Back, Again, Busy}
+use Rattle.model.specs.Types.{Key, Image, Record, Decision, Committed, Aborted, Entry, Transaction, Recovery, Stays, Forward, Back, Again, Busy}
 use Rattle.model.specs.Records.{sameKey, lineOf}
-use Rattle.model.specs.Coordinator.{Coordinator, decision}
+use Rattle.model.specs.Coordinator.{Letter, Coordinator, decision}
 use Rattle.model.specs.Groups.{scope, group}
 use Rattle.model.specs.Images.{preparedBy, prepared, committed, rolledForward, rolledBack, changeOf}
 use Rattle.model.specs.Writes.{Sheets, Write, nothing, issue, decide, commit, prepare, forward, back, byEntry, isOf, lineAfter, decisionsAfter}
 use Rattle.model.specs.Transactions.{puts, toValidate, isEmpty, noEntry}
-use Rattle.model.specs.Visits.{recoveryWrite, meeting, isAgain}
+use Rattle.model.specs.Visits.{recoveryWrite, meeting}
 use Rattle.model.specs.Steps.{Step, holds, unitsOf, groupAt, keysOf, onePhaseAllowed, openWithoutPuts, onePhase, openStep, prepareStep, validateStep}
 use Rattle.model.specs.Steps.{decideStep, withdrawStep, finishStep, undoStep, step}
-use Rattle.model.specs.Results.{Call, begin, read, put, advance, abort, visit, Answer, Result, writeOf}
-use Rattle.model.specs.Conditions.{isNew}
-use Rattle.model.specs.Calls.{readNew, outcome}
+use Rattle.model.specs.Results.{Call, begin, read, second, put, advance, abort, visit, Answer, Result, writeOf}
+use Rattle.model.specs.Conditions.{takesTwo}
+use Rattle.model.specs.Calls.{wholeRead, outcome}
 use Rattle.model.specs.Histories.{written}
-use Rattle.call_laws.specs.Choices.{by-phase, by-decision, by-written}
+use Rattle.call_laws.specs.Choices.{by-phase, by-decision, by-written, by-whole}
 use Rattle.call_laws.specs.Keys.{other-key, same-key-refl, hasKey, no-entry}
 use Rattle.call_laws.specs.Groups.{InGroup, in-group, one-scope}
 
 -- a write to lines of one scope, or to the coordinator sheet
-pub data SingleUnit (us : List AtomicityUnit) (w : Write) : Type 0 where
+pub data SingleUnit (us : List Letter) (w : Write) : Type 0 where
   one-unit : (g : List ℕ) → ((r : Record) → (scope us (r .key) ≡ g → ⊥) → lineAfter w r ≡ r) → ((c : Coordinator) → decisionsAfter w c ≡ c) → SingleUnit us w
   coordinator-only : ((r : Record) → lineAfter w r ≡ r) → SingleUnit us w
 
-module _ (us : List AtomicityUnit) (es : List Entry) (i : ℕ) where
+module _ (us : List Letter) (es : List Entry) (i : ℕ) where
   -- the scope of the group at place i, no fields if there is none
   groupScope : List Entry → List ℕ
   groupScope [] = []
@@ -86,7 +86,7 @@ module _ (us : List AtomicityUnit) (es : List Entry) (i : ℕ) where
       (λ r d. ap (λ (b : Bool). cond b (rolledBack r) r) (not-of n r d))
       (λ c. refl)
 
-module _ (us : List AtomicityUnit) where
+module _ (us : List Letter) where
   -- nothing, one more number, a decision: no line changes
   pub nothing-unit : SingleUnit us nothing
   unfolding lineAfter
@@ -159,15 +159,22 @@ step-single t now s =
     none : Single s nothing
     none = nothing-unit (unitsOf s)
 
+whole-single : (sees : Record → Image) (t : Transaction) (k : Key) (now : ℕ) (s : Sheets) → Single s (writeOf (wholeRead sees t k now s))
+whole-single sees t k now s =
+    by-whole sees t k now s (λ (x : Result Answer). Single s (writeOf x)) (λ n a. visit-unit (unitsOf s) v r) (λ n a. visit-unit (unitsOf s) v r) (λ n. nothing-unit (unitsOf s))
+  where
+    r : Record
+    r = lineOf k (s .lines)
+
+    v : Recovery
+    v = meeting now s r
+
 outcome-single : (c : Call) (s : Sheets) → Single s (writeOf (outcome c s))
-unfolding outcome readNew
+unfolding outcome
 outcome-single (begin b) s = issue-unit (unitsOf s)
 outcome-single (read t k now) s =
-    choose-by (λ (x : Result Answer). Single s (writeOf x)) (isNew k t)
-    (λ e. choose-by (λ (x : Result Answer). Single s (writeOf x)) (isAgain (meeting now s (lineOf k (s .lines))))
-    (λ f. visit-unit (unitsOf s) (meeting now s (lineOf k (s .lines))) (lineOf k (s .lines)))
-    (λ f. visit-unit (unitsOf s) (meeting now s (lineOf k (s .lines))) (lineOf k (s .lines))))
-    (λ e. nothing-unit (unitsOf s))
+    choose-by (λ (x : Result Answer). Single s (writeOf x)) (takesTwo (unitsOf s) k t) (λ e. nothing-unit (unitsOf s)) (λ e. whole-single _ t k now s)
+outcome-single (second t k now c) s = whole-single _ t k now s
 outcome-single (put t k c) s = nothing-unit (unitsOf s)
 outcome-single (advance t now) s = step-single t now s
 outcome-single (abort t) s = nothing-unit (unitsOf s)

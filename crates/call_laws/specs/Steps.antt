@@ -39,6 +39,14 @@ few-issued s good =
     let z : s .coordinator .issued ≤ length (s .coordinator .decisions) = x .issued in
     omega arith
 
+-- an entry whose condition holds: its key has a line, which is as it was read
+pub holds-parts : (s : Sheets) (e : Entry) → holds s e ≡ true → (hasLine (e .key) (s .lines) ≡ true) × (unchanged e (lineOf (e .key) (s .lines)) ≡ true)
+unfolding holds
+holds-parts s e c =
+    let r = lineOf (e .key) (s .lines) in
+    let p : (hasLine (e .key) (s .lines) && unchanged e r) ≡ true = and-fst (hasLine (e .key) (s .lines) && unchanged e r) _ c in
+    (and-fst (hasLine (e .key) (s .lines)) (unchanged e r) p, and-snd (hasLine (e .key) (s .lines)) (unchanged e r) p)
+
 -- what is asked of a step
 pub record Closed (s : Sheets) (x : Step) : Type 0 where
   pub fits : Fit s (x .write)
@@ -56,11 +64,11 @@ module _ (s : Sheets) (good : GoodSheets s) (t : Transaction) (b : Body s t) whe
 
   -- an entry whose condition holds, well formed and with a put, may be written over the line of its key
   pub may-put-over : (e : Entry) → holds s e ≡ true → (entryFormed (s .coordinator .issued) e && isPut e) ≡ true → MayPut (s .coordinator .issued) (t .number) (changeOf e) (lineOf (e .key) (s .lines))
-  unfolding holds unchanged
+  unfolding unchanged
   may-put-over e c f =
       let i = s .coordinator .issued in
       let r = lineOf (e .key) (s .lines) in
-      let u : unchanged e r ≡ true = and-snd (hasLine (e .key) (s .lines)) (unchanged e r) c in
+      let u : unchanged e r ≡ true = holds-parts s e c .1 in
       let w : (leb (e .seen .version) 99998 && columnsInRange (e .put)) ≡ true =
       put-fits i e (and-fst (entryFormed i e) (isPut e) f) (and-snd (entryFormed i e) (isPut e) f) in
       let v : r .image .version ≡ e .seen .version = search (tests, u) in
@@ -77,12 +85,11 @@ module _ (s : Sheets) (good : GoodSheets s) (t : Transaction) (b : Body s t) whe
 
   -- the puts of a group whose conditions hold may be written
   pub may-put : all (holds s) (groupAt t s) ≡ true → MayPutAll s (t .number) (groupAt t s)
-  unfolding holds
   may-put h k e found =
       let i = s .coordinator .issued in
       let same : e .key ≡ k = entry-has-key k (groupAt t s) e found in
       let c : holds s e ≡ true = entry-passes (holds s) k (groupAt t s) e h found in
-      let l : hasLine (e .key) (s .lines) ≡ true = and-fst (hasLine (e .key) (s .lines)) (unchanged e (lineOf (e .key) (s .lines))) c in (
+      let l : hasLine (e .key) (s .lines) ≡ true = holds-parts s e c .0 in (
         ap (λ (x : Key). listsKey x (s .lines)) (sym same) ∙ (sym (has-line (e .key) (s .lines)) ∙ l),
         subst (λ (x : Key). MayPut i (t .number) (changeOf e) (lineOf x (s .lines))) same
             (may-put-over e c (entry-passes (λ (x : Entry). entryFormed i x && isPut x) k (groupAt t s) e group-formed found)),

@@ -1,10 +1,11 @@
 -- A well-formed transaction in parts: its body, which no step changes, and its stage (phase, place and verdict).
-use Rattle.lists.specs.Basics.{_≡_, refl, sym, ap, _∙_, ℕ, _+_, _≤_, _<_, eqb, leb, ltb, Bool, true, false, not, _&&_, _||_, cond, true≢false, List, [], _∷_}
-use Rattle.lists.specs.Basics.{length, arith, ltb-true, eq-eqb, le-leb, lt-ltb, not-true, all, any, filter, and-fst, and-snd, and-both, tests, or-left}
-use Rattle.model.specs.Types.{AtomicityUnit, Entry, Transaction}
+use Rattle.lists.specs.Basics.{_≡_, refl, sym, ap, _∙_, ℕ, _+_, _≤_, _<_, eqb, leb, ltb, Bool, true, false, not, _&&_, _||_, true≢false, List, [], _∷_}
+use Rattle.lists.specs.Basics.{length, arith, eq-eqb, le-leb, lt-ltb, not-true, all, any, and-fst, and-snd, and-both, tests, or-left}
+use Rattle.model.specs.Types.{Entry, Transaction}
 use Rattle.model.specs.Records.{sameKey}
+use Rattle.model.specs.Coordinator.{Letter}
 use Rattle.model.specs.Transactions.{preparePhase, validatePhase, decidePhase, withdrawPhase, finishPhase, undoPhase, donePhase, noVerdict, committedVerdict}
-use Rattle.model.specs.Transactions.{abortedVerdict, isSerializable, isPut, isEmpty, held, puts, mustValidate, toValidate, moved}
+use Rattle.model.specs.Transactions.{abortedVerdict, isEmpty, held, puts, toValidate, moved}
 use Rattle.model.specs.Groups.{scopes, groupCount, groupPlace}
 use Rattle.model.specs.Writes.{Sheets}
 use Rattle.model.specs.WellFormed.{entryFormed, distinctKeys, placeFormed, verdictFormed, formed, linesHeld, wellFormed}
@@ -22,9 +23,8 @@ pub record Body (s : Sheets) (t : Transaction) : Type 0 where
   pub lines : linesHeld (s .lines) t ≡ true
 
 -- phase, place and verdict
-pub record Stage (us : List AtomicityUnit) (t : Transaction) : Type 0 where
+pub record Stage (us : List Letter) (t : Transaction) : Type 0 where
   pub decides : (not (eqb (t .phase) decidePhase) || not (isEmpty (puts t))) ≡ true
-  pub validates : (not (eqb (t .phase) validatePhase) || isSerializable t) ≡ true
   pub place : placeFormed us t ≡ true
   pub verdict : verdictFormed t ≡ true
 
@@ -37,11 +37,9 @@ well-formed-parts s t h =
     let p1 = p0 && all (entryFormed (s .coordinator .issued)) (held t) in
     let p2 = p1 && distinctKeys (held t) in
     let p3 = p2 && (not (eqb (t .phase) decidePhase) || not (isEmpty (puts t))) in
-    let p4 = p3 && (not (eqb (t .phase) validatePhase) || isSerializable t) in
-    let p5 = p4 && placeFormed us t in
-    let h5 : p5 ≡ true = and-fst p5 (verdictFormed t) f in
-    let h4 : p4 ≡ true = and-fst p4 (placeFormed us t) h5 in
-    let h3 : p3 ≡ true = and-fst p3 (not (eqb (t .phase) validatePhase) || isSerializable t) h4 in
+    let p4 = p3 && placeFormed us t in
+    let h4 : p4 ≡ true = and-fst p4 (verdictFormed t) f in
+    let h3 : p3 ≡ true = and-fst p3 (placeFormed us t) h4 in
     let h2 : p2 ≡ true = and-fst p2 (not (eqb (t .phase) decidePhase) || not (isEmpty (puts t))) h3 in
     let h1 : p1 ≡ true = and-fst p1 (distinctKeys (held t)) h2 in
     let h0 : p0 ≡ true = and-fst p0 (all (entryFormed (s .coordinator .issued)) (held t)) h1 in (
@@ -56,9 +54,8 @@ well-formed-parts s t h =
       },
       record {
         decides = and-snd p2 (not (eqb (t .phase) decidePhase) || not (isEmpty (puts t))) h3;
-        validates = and-snd p3 (not (eqb (t .phase) validatePhase) || isSerializable t) h4;
-        place = and-snd p4 (placeFormed us t) h5;
-        verdict = and-snd p5 (verdictFormed t) f;
+        place = and-snd p3 (placeFormed us t) h4;
+        verdict = and-snd p4 (verdictFormed t) f;
       },
     )
 
@@ -73,14 +70,12 @@ parts-well-formed s t b g =
     (and-both
     (and-both
     (and-both
-    (and-both
     (and-both (le-leb 1 (t .number) (b .number)) (le-leb (t .number) (s .coordinator .issued) (b .known)))
     (le-leb (t .serializable) 1 (b .flag)))
     (le-leb (t .count) 8 (b .few)))
     (b .entries))
     (b .distinct))
     (g .decides))
-    (g .validates))
     (g .place))
     (g .verdict))
     (b .lines)
@@ -93,13 +88,13 @@ body-moved s t phase place verdict b =
 
 -- What the stage says in a phase.
 
-abbrev placeAt : List AtomicityUnit → ℕ → Transaction → Bool
+abbrev placeAt : List Letter → ℕ → Transaction → Bool
 placeAt us p t = placeFormed us (moved p (t .place) (t .verdict) t)
 
 abbrev verdictAt : ℕ → Transaction → Bool
 verdictAt p t = verdictFormed (moved p (t .place) (t .verdict) t)
 
-module _ (us : List AtomicityUnit) (t : Transaction) (g : Stage us t) where
+module _ (us : List Letter) (t : Transaction) (g : Stage us t) where
   pub place-at : (p : ℕ) → t .phase ≡ p → placeAt us p t ≡ true
   place-at p e = ap (λ (q : ℕ). placeAt us q t) (sym e) ∙ g .place
 
@@ -108,7 +103,7 @@ module _ (us : List AtomicityUnit) (t : Transaction) (g : Stage us t) where
 
 -- Groups and entries to validate: there are some.
 
-groups-some : (us : List AtomicityUnit) (es : List Entry) → isEmpty es ≡ false → 0 < groupCount us es
+groups-some : (us : List Letter) (es : List Entry) → isEmpty es ≡ false → 0 < groupCount us es
 unfolding any
 groups-some us [] h = absurd (true≢false h)
 groups-some us (e ∷ es) h =
@@ -116,7 +111,7 @@ groups-some us (e ∷ es) h =
     let l : groupPlace us (e ∷ es) (e .key) < groupCount us (e ∷ es) = place-below us (e ∷ es) (e .key) k in
     omega arith
 
-pub groups-none : (us : List AtomicityUnit) (es : List Entry) (i : ℕ) → i < groupCount us es → isEmpty es ≡ false
+pub groups-none : (us : List Letter) (es : List Entry) (i : ℕ) → i < groupCount us es → isEmpty es ≡ false
 unfolding groupCount scopes
 groups-none us [] i l = absurd (omega arith)
 groups-none us (e ∷ es) i l = refl
@@ -125,38 +120,17 @@ length-some : (es : List Entry) → isEmpty es ≡ false → 0 < length es
 length-some [] h = absurd (true≢false h)
 length-some (e ∷ es) h = omega arith
 
-length-none : (es : List Entry) (i : ℕ) → i < length es → isEmpty es ≡ false
-length-none [] i l = absurd (omega arith)
-length-none (e ∷ es) i l = refl
-
-filter-never : (p : Entry → Bool) → ((e : Entry) → p e ≡ false) → (es : List Entry) → filter p es ≡ []
-unfolding filter
-filter-never p h [] = refl
-filter-never p h (e ∷ es) = ap (λ (b : Bool). cond b (e ∷ filter p es) (filter p es)) (h e) ∙ filter-never p h es
-
--- only a serializable transaction has entries to validate
-validates-serializable : (us : List AtomicityUnit) (t : Transaction) → isEmpty (toValidate us t) ≡ false → isSerializable t ≡ true
-unfolding toValidate
-validates-serializable us t h = go (isSerializable t) refl
-  where
-    go : (b : Bool) → isSerializable t ≡ b → b ≡ true
-    go true e = refl
-    go false e =
-        let n : filter (mustValidate us t) (held t) ≡ [] = filter-never (mustValidate us t) (λ x. ap (λ (b : Bool). b && not (isPut x)) e) (held t) in
-        absurd (true≢false (sym (ap isEmpty n) ∙ h))
-
 -- The stages that steps lead to. A new phase starts at place 0.
-module _ (us : List AtomicityUnit) (t : Transaction) where
+module _ (us : List Letter) (t : Transaction) where
   pub to-withdraw : t .verdict ≡ noVerdict → Stage us (moved withdrawPhase 0 (t .verdict) t)
   unfolding placeFormed verdictFormed puts held
-  to-withdraw v = record { decides = refl; validates = refl; place = refl; verdict = eq-eqb (t .verdict) 0 v }
+  to-withdraw v = record { decides = refl; place = refl; verdict = eq-eqb (t .verdict) 0 v }
 
   pub to-prepare : t .verdict ≡ noVerdict → isEmpty (puts t) ≡ false → Stage us (moved preparePhase 0 (t .verdict) t)
   unfolding placeFormed verdictFormed puts held
   to-prepare v n =
       record {
         decides = refl;
-        validates = refl;
         place = lt-ltb 0 (groupCount us (puts t)) (groups-some us (puts t) n);
         verdict = eq-eqb (t .verdict) 0 v;
       }
@@ -166,55 +140,53 @@ module _ (us : List AtomicityUnit) (t : Transaction) where
   to-validate v n =
       record {
         decides = refl;
-        validates = validates-serializable us t n;
         place = lt-ltb 0 (length (toValidate us t)) (length-some (toValidate us t) n);
         verdict = eq-eqb (t .verdict) 0 v;
       }
 
   pub to-decide : t .verdict ≡ noVerdict → isEmpty (puts t) ≡ false → Stage us (moved decidePhase 0 (t .verdict) t)
   unfolding placeFormed verdictFormed puts held
-  to-decide v n = record { decides = ap not n; validates = refl; place = refl; verdict = eq-eqb (t .verdict) 0 v }
+  to-decide v n = record { decides = ap not n; place = refl; verdict = eq-eqb (t .verdict) 0 v }
 
   pub to-finish : isEmpty (puts t) ≡ false → Stage us (moved finishPhase 0 committedVerdict t)
   unfolding placeFormed verdictFormed puts held
   to-finish n =
-      record { decides = refl; validates = refl; place = lt-ltb 0 (groupCount us (puts t)) (groups-some us (puts t) n); verdict = refl }
+      record { decides = refl; place = lt-ltb 0 (groupCount us (puts t)) (groups-some us (puts t) n); verdict = refl }
 
   pub to-undo : isEmpty (puts t) ≡ false → Stage us (moved undoPhase 0 abortedVerdict t)
   unfolding placeFormed verdictFormed puts held
   to-undo n =
-      record { decides = refl; validates = refl; place = lt-ltb 0 (groupCount us (puts t)) (groups-some us (puts t) n); verdict = refl }
+      record { decides = refl; place = lt-ltb 0 (groupCount us (puts t)) (groups-some us (puts t) n); verdict = refl }
 
   pub to-done-committed : Stage us (moved donePhase 0 committedVerdict t)
   unfolding placeFormed verdictFormed
-  to-done-committed = record { decides = refl; validates = refl; place = refl; verdict = refl }
+  to-done-committed = record { decides = refl; place = refl; verdict = refl }
 
   pub to-done-aborted : Stage us (moved donePhase 0 abortedVerdict t)
   unfolding placeFormed verdictFormed
-  to-done-aborted = record { decides = refl; validates = refl; place = refl; verdict = refl }
+  to-done-aborted = record { decides = refl; place = refl; verdict = refl }
 
   -- the next place in the same phase
   pub next-prepare : t .verdict ≡ noVerdict → ltb (t .place + 1) (groupCount us (puts t)) ≡ true → Stage us (moved preparePhase (t .place + 1) (t .verdict) t)
   unfolding placeFormed verdictFormed puts held
-  next-prepare v l = record { decides = refl; validates = refl; place = l; verdict = eq-eqb (t .verdict) 0 v }
+  next-prepare v l = record { decides = refl; place = l; verdict = eq-eqb (t .verdict) 0 v }
 
   pub next-validate : t .verdict ≡ noVerdict → ltb (t .place + 1) (length (toValidate us t)) ≡ true → Stage us (moved validatePhase (t .place + 1) (t .verdict) t)
   unfolding placeFormed verdictFormed toValidate held
   next-validate v l =
       record {
         decides = refl;
-        validates = validates-serializable us t (length-none (toValidate us t) (t .place + 1) (ltb-true (t .place + 1) (length (toValidate us t)) l));
         place = l;
         verdict = eq-eqb (t .verdict) 0 v;
       }
 
   pub next-finish : t .verdict ≡ committedVerdict → ltb (t .place + 1) (groupCount us (puts t)) ≡ true → Stage us (moved finishPhase (t .place + 1) (t .verdict) t)
   unfolding placeFormed verdictFormed puts held
-  next-finish v l = record { decides = refl; validates = refl; place = l; verdict = eq-eqb (t .verdict) 1 v }
+  next-finish v l = record { decides = refl; place = l; verdict = eq-eqb (t .verdict) 1 v }
 
   pub next-undo : t .verdict ≡ abortedVerdict → ltb (t .place + 1) (groupCount us (puts t)) ≡ true → Stage us (moved undoPhase (t .place + 1) (t .verdict) t)
   unfolding placeFormed verdictFormed puts held
-  next-undo v l = record { decides = refl; validates = refl; place = l; verdict = eq-eqb (t .verdict) 2 v }
+  next-undo v l = record { decides = refl; place = l; verdict = eq-eqb (t .verdict) 2 v }
 
   -- "decide has a put"
   pub has-put : Stage us t → t .phase ≡ decidePhase → isEmpty (puts t) ≡ false
@@ -226,7 +198,6 @@ module _ (us : List AtomicityUnit) (t : Transaction) where
   stage-open e p v =
       record {
         decides = ap (λ (q : ℕ). not (eqb q decidePhase) || not (isEmpty (puts t))) e;
-        validates = ap (λ (q : ℕ). not (eqb q validatePhase) || isSerializable t) e;
         place = ap (λ (q : ℕ). placeAt us q t) e ∙ eq-eqb (t .place) 0 p;
         verdict = ap (λ (q : ℕ). verdictAt q t) e ∙ eq-eqb (t .verdict) 0 v;
       }

@@ -6,26 +6,21 @@ use Rattle.lists.specs.Basics.{Option·none-ne-some, Option·some-injective, _�
 use Rattle.lists.specs.Basics.{choose-by}
 use Rattle.model.specs.Types.{Transaction, Request}
 use Rattle.types.specs.declared.Request.the-variants as asked
-use Rattle.model.specs.Writes.{Sheets, apply}
-use Rattle.model.specs.Steps.{step}
-use Rattle.model.specs.Calls.{result}
-use Rattle.model.specs.Results.{Call, begin, visit, Answer, turnedAway, returned, answered, visited, reported, Response, writeOf, answerOf}
-use Rattle.model.specs.Closing.{Run, starting, mostSteps, closeConditions}
-use Rattle.model.specs.Operations.{Operation, once, close, standsFor, response, sheetsLeft}
+use Rattle.model.specs.Coordinator.{Coordinator}
+use Rattle.model.specs.Writes.{Sheets}
+use Rattle.model.specs.Results.{Call, begin, visit, Answer, turnedAway, returned, answered, visited, reported, Response, answerOf}
+use Rattle.model.specs.Operations.{once, standsFor, sheetsLeft}
 use Rattle.model.specs.Requests.{operationOf}
 use Rattle.model.specs.CallByPlace.{named, callAt, responseAt, responseAtOn, listAfter}
 use Rattle.model.specs.Histories.{Event, given, takenBy, taken, Available, ClockFits, Permitted}
 use Rattle.model.specs.ByteHistories.{Bytes, saying, Passing}
 use Rattle.model.specs.Turns.{Turn, single, byPlace, turnCall, turnResponse, turnAfter, turnResponseOn, turnEventOn, turnAfterOn, turnsLeft, LegalTurns}
 use Rattle.model.specs.Clients.{Act, asks, loses, visits, begins, World, unused, Unused, withList, turnsIn, listsAfter, worldAfter, turnsOf, clockAsked, clockFits}
-use Rattle.call_laws.specs.Choices.{unless-by}
 use Rattle.call_laws.specs.Keeping.{issued-grows}
 use Rattle.call_laws.specs.Lifting.{on-passing}
 use Rattle.call_laws.specs.ByPlace.{leftWith, others-stay}
 use Rattle.clients.specs.Handed.{Handed, stays, begun, moves, place-hands, left-at-place}
-use Rattle.closing_laws.specs.Steps.{closing-every}
-use Rattle.turns.specs.Operations.{settled-left}
-use Rattle.turns.specs.Turns.{by-turn, turn-stays-passing}
+use Rattle.turns.specs.Turns.{turn-keeps, turn-stays-passing}
 
 -- a place in a client's list
 record Slot : Type 0 where
@@ -205,25 +200,16 @@ asked-fits : (q : Request) (t : Transaction) → clockAsked q < 2 ^ 32 → Clock
 unfolding clockAsked operationOf standsFor
 asked-fits (asked.Begin b) t l = tt
 asked-fits (asked.Read k now) t l = l
+asked-fits (asked.Second k now c) t l = l
 asked-fits (asked.Put k c) t l = tt
 asked-fits (asked.Advance now) t l = l
 asked-fits asked.Abort t l = tt
 asked-fits (asked.Visit k now) t l = l
 asked-fits (asked.Close now limit) t l = l
 
-operation-issued : (o : Operation) (s : Sheets) → s .coordinator .issued ≤ sheetsLeft s (response o s) .coordinator .issued
-unfolding response apply
-operation-issued (once c) s = subst (λ (z : Sheets). s .coordinator .issued ≤ z .coordinator .issued) (sym (settled-left s (result c s))) (issued-grows (writeOf (result c s)) (s .coordinator))
-operation-issued (close t now limit) s =
-    unless-by (λ (r : Response Answer Sheets). s .coordinator .issued ≤ sheetsLeft s r .coordinator .issued) (closeConditions t s) (omega arith)
-    (λ z. closing-every (λ (x : Run). s .coordinator .issued ≤ x .sheets .coordinator .issued) now
-    (λ y l. let g = issued-grows (step (y .transaction) now (y .sheets) .write) (y .sheets .coordinator) in omega (arith, g, l)) mostSteps (starting t limit s) (omega arith))
-
 turn-issued : (x : Turn) (s : Sheets) → s .coordinator .issued ≤ turnAfter x s .coordinator .issued
-unfolding turnAfter
 turn-issued x s =
-    by-turn (λ (c : Call) (r : Response Answer Sheets). s .coordinator .issued ≤ sheetsLeft s r .coordinator .issued) s x
-    (λ o. operation-issued o s) (λ c. omega arith)
+    turn-keeps (λ (c : Coordinator). s .coordinator .issued ≤ c .issued) (λ w c l. let g = issued-grows w c in omega (arith, g, l)) x s (omega arith)
 
 abbrev issuedIn : Bytes → ℕ
 issuedIn b = saying b .coordinator .issued

@@ -1,24 +1,24 @@
 -- What is asked by place takes of its client and what it leaves with it: nothing is taken and the transaction stays, or one of a new number is given, or the
 -- transaction is taken and comes back under its number. One case for each kind of request; the number of a transaction is what no step changes.
 use Rattle.lists.specs.Basics.{_≡_, refl, sym, subst, _∙_, ℕ, _≤_, _<_, Bool, true, false, not, List, _∷_, length, getD, none, some, arith, choose-by}
-use Rattle.model.specs.Types.{Key, Found, At, Nothing, Columns, Transaction, Request}
+use Rattle.model.specs.Types.{Key, Image, Record, Found, At, Nothing, Columns, Transaction, Request}
 use Rattle.types.specs.declared.Request.the-variants as asked
-use Rattle.model.specs.Records.{lineOf, byFound}
+use Rattle.model.specs.Records.{byFound}
 use Rattle.model.specs.Coordinator.{withIssued}
 use Rattle.model.specs.Transactions.{noEntry, heldAt, withPut, withEntry}
 use Rattle.model.specs.Writes.{Sheets, decisionsAfter, apply}
 use Rattle.model.specs.WellFormed.{wellFormed}
-use Rattle.model.specs.Visits.{meeting, isAgain}
 use Rattle.model.specs.Refusals.{Condition, refuse, refusalOf}
-use Rattle.model.specs.Results.{Call, begin, read, put, advance, abort, visit, Answer, Response, Result, answerOf, returns}
-use Rattle.model.specs.Conditions.{isNew, conditions}
-use Rattle.model.specs.Calls.{readNew, afterPut, outcome, result}
+use Rattle.model.specs.Results.{Call, begin, read, second, put, advance, abort, visit, Answer, Response, Result, answerOf, returns}
+use Rattle.model.specs.Conditions.{takesTwo, conditions}
+use Rattle.model.specs.Steps.{unitsOf}
+use Rattle.model.specs.Calls.{wholeRead, afterPut, outcome, result}
 use Rattle.model.specs.Closing.{Run, starting, mostSteps, closeConditions}
 use Rattle.model.specs.Operations.{standsFor, settled, closeRun, response, sheetsLeft}
 use Rattle.model.specs.Requests.{operationOf}
 use Rattle.model.specs.CallByPlace.{listed, named, callAt, responseAt, listAfter}
 use Rattle.model.specs.Histories.{given, takenBy}
-use Rattle.call_laws.specs.Choices.{unless-by}
+use Rattle.call_laws.specs.Choices.{unless-by, by-whole}
 use Rattle.call_laws.specs.Keeping.{taken-parts}
 use Rattle.call_laws.specs.ByPlace.{leftWith, listed-within, unlisted-response, by-place, named-replaced}
 use Rattle.closing_laws.specs.Steps.{closing-every, step-number}
@@ -56,15 +56,15 @@ module _ (t : Transaction) (s : Sheets) where
   positive : (cs : List Condition) → refusalOf (refuse 3 (not (wellFormed s t)) ∷ cs) ≡ 0 → 1 ≤ t .number
   positive cs z = taken-parts s t cs z .0 .number
 
+  whole-hands : (c : Call) → given c ≡ some t → 1 ≤ t .number → (sees : Record → Image) (k : Key) (now : ℕ) → Moving c (wholeRead sees t k now s)
+  unfolding returns
+  whole-hands c e l sees k now = by-whole sees t k now s (Moving c) (λ n a. moves e l refl refl) (λ n a. moves e l refl refl) (λ n. moves e l refl refl)
+
   read-hands : (k : Key) (now : ℕ) → refusalOf (conditions (read t k now) s) ≡ 0 → Moving (read t k now) (outcome (read t k now) s)
-  unfolding conditions outcome readNew given returns
+  unfolding conditions outcome given returns
   read-hands k now z =
       let l : 1 ≤ t .number = positive _ z in
-      choose-by (Moving (read t k now)) (isNew k t)
-      (λ n. choose-by (Moving (read t k now)) (isAgain (meeting now s (lineOf k (s .lines))))
-      (λ a. moves refl l refl refl)
-      (λ a. moves refl l refl refl))
-      (λ n. moves refl l refl refl)
+      choose-by (Moving (read t k now)) (takesTwo (unitsOf s) k t) (λ n. moves refl l refl refl) (λ n. whole-hands (read t k now) refl l _ k now)
 
   closed-number : (now limit : ℕ) → closeRun t now limit s .transaction .number ≡ t .number
   closed-number now limit =
@@ -74,6 +74,7 @@ module _ (t : Transaction) (s : Sheets) where
   unfolding operationOf standsFor response conditions closeConditions outcome given returns apply decisionsAfter withIssued
   response-hands (asked.Begin b) = call-hands (begin b) (λ z. begun refl refl (omega arith) (omega arith))
   response-hands (asked.Read k now) = call-hands (read t k now) (read-hands k now)
+  response-hands (asked.Second k now c) = call-hands (second t k now c) (λ z. whole-hands (second t k now c) refl (positive _ z) _ k now)
   response-hands (asked.Put k c) = call-hands (put t k c) (λ z. moves refl (positive _ z) refl (put-number t k c))
   response-hands (asked.Advance now) = call-hands (advance t now) (λ z. moves refl (positive _ z) refl (step-number t now s))
   response-hands asked.Abort = call-hands (abort t) (λ z. moves refl (positive _ z) refl refl)

@@ -10,7 +10,7 @@ use Rattle.model.specs.Transactions.{byPhase, isEmpty, puts, toValidate, noEntr
 use Rattle.model.specs.Groups.{scopes, groupCount}
 use Rattle.model.specs.Images.{preparedBy, byDecision}
 use Rattle.model.specs.Writes.{Sheets, isOf}
-use Rattle.model.specs.Steps.{Step, holds, unitsOf, groupAt, keysOf, to, onePhaseAllowed, openWithoutPuts, onePhase, openStep, prepareStep, validateStep}
+use Rattle.model.specs.Steps.{Step, holds, unitsOf, groupAt, keysOf, to, holdsLower, onePhaseAllowed, openWithoutPuts, onePhase, openStep, prepareStep, validateStep}
 use Rattle.model.specs.Steps.{decideStep, withdrawStep, finishStep, undoStep, noStep, step}
 use Rattle.model.specs.Closing.{changes}
 use Rattle.model.specs.ByteCalls.{sheetsOf}
@@ -19,7 +19,7 @@ use Rattle.call_laws.specs.Keys.{same-key, same-key-refl, same-key-flip}
 use Rattle.call_laws.specs.Lines.{listsKey, apart}
 use Rattle.call_laws.specs.ByIndex.{found-at}
 use Rattle.call_laws.specs.Sheets.{good-parts}
-use Rattle.call_laws.specs.Lifting.{passing-good}
+use Rattle.call_laws.specs.Lifting.{readable-good}
 use Rattle.transactions.specs.Held.{entryAt, some-kept}
 use Rattle.group_writes.specs.declared.lines.Located.{Located}
 use Rattle.group_writes.specs.Groups.{ofGroup, group-in}
@@ -130,7 +130,7 @@ module _ (rs cs : List ℕ) (t : Transaction) where
 
 -- the lines of accepted bytes are in order
 pub in-order : (rs cs : List ℕ) (t : Transaction) (l : Located) → MayStep rs cs t l → rising (records rs) ≡ true
-in-order rs cs t l ready = good-parts (sheetsOf rs cs) (passing-good (record { records = rs; coordinator = cs }) (ready .passing)) .order
+in-order rs cs t l ready = good-parts (sheetsOf rs cs) (readable-good (record { records = rs; coordinator = cs }) (ready .readable)) .order
 
 -- The step table, phase by phase.
 
@@ -148,7 +148,7 @@ module _ (t : Transaction) (s : Sheets) where
   unfolding onePhaseAllowed groupCount scopes
   no-puts e = go (puts t) e
     where
-      go : (es : List Entry) → isEmpty es ≡ true → (eqb (groupCount (unitsOf s) es) 1 && not (eqb (t .serializable) 1)) ≡ false
+      go : (es : List Entry) → isEmpty es ≡ true → (eqb (groupCount (unitsOf s) es) 1 && not (eqb (t .serializable) 1) && not (holdsLower (unitsOf s) t)) ≡ false
       go [] h = refl
       go (x ∷ es) h = absurd (true≢false (sym h))
 

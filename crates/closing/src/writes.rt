@@ -62,7 +62,7 @@ fn open_writes(t: Transaction, located: Located, records: &[u8], coordinator: &[
     requires { ⌜ groups.Ready (now records) (now coordinator) t located ⌝ }
     ensures { λ r. ⌜ r ≡ (onePhaseAllowed t (sheetsOf (now (records .entry)) (now (coordinator .entry))) && putsGroup t (sheetsOf (now (records .entry)) (now (coordinator .entry)))) ⌝ }
 {
-    steps::phases::one_phase_allowed(located.groups, t)
+    steps::phases::one_phase_allowed(located.groups, &coordinator[5..14], t)
         & puts_group(t, located, records, coordinator)
 }
 

@@ -8,7 +8,7 @@ use Rattle.model.specs.Results.{Answer, reported}
 use Rattle.model.specs.ByteHistories.{Bytes, saying, Passing}
 use Rattle.model.specs.Closing.{Run, closing, starting, mostSteps, closeConditions}
 use Rattle.model.specs.Greatest.{greatestSheets, greatestTransaction}
-use Rattle.call_laws.specs.Lifting.{passing-good, encoded, encoded-says}
+use Rattle.call_laws.specs.Lifting.{Capitals, passing-good, encoded, encoded-says}
 use Rattle.closing_laws.specs.Steps.{starts-sound}
 use Rattle.closing_laws.specs.Report.{report-within, greatest-possible}
 use Rattle.lists.specs.Bytes as Lists
@@ -40,7 +40,7 @@ greatestClosed n = moved donePhase 0 committedVerdict (greatestTransaction n)
 
 -- what a close reports and returns; what the computations unfold is named here, once for all counts
 unfoldable ended : Run → Answer
-unfolding Lists.eqList Each.all Each.any Each.filter Each.count Each.less Layouts.recordLayout Layouts.imageLayout Layouts.columnsLayout Lines.inRange Lines.rowGood Search.firstFrom Records.stateNumber Records.keyNumbers Records.imageNumbers Records.recordNumbers Records.isZero Records.absentRule Records.goodAlone Records.keyLess Records.inOrder Records.rising Records.recordsGood Records.sameKey Records.found Records.isMissing Records.lineOf Coordinator.decision Coordinator.withDecision Coordinator.coordinatorGood Coordinator.namesIssued Refusals.refusalOf Transactions.held Transactions.puts Transactions.toValidate Groups.unitFields Groups.unitFor Groups.scope Groups.addScope Groups.scopes Groups.groupCount Groups.groupPlace Groups.group Images.preparedBy Images.unchanged Images.prepared Images.rolledForward Writes.sheetsGood Writes.entryFor Writes.isOf Writes.lineAfter Writes.linesAfter Writes.decisionsAfter Writes.apply WellFormed.imageInRange WellFormed.columnsInRange WellFormed.putFits WellFormed.entryFormed WellFormed.distinctKeys WellFormed.placeFormed WellFormed.verdictFormed WellFormed.formed WellFormed.linesHeld WellFormed.wellFormed Steps.holds Steps.onePhaseAllowed Steps.openStep Steps.nextGroup Steps.prepareStep Steps.decideStep Steps.finishStep Steps.step Closing.changes Closing.turn Closing.closing Closing.closeBarred Closing.closeConditions Greatest.greatestLines Greatest.greatestCoordinator Greatest.greatestTransaction
+unfolding Lists.eqList Each.all Each.any Each.filter Each.count Each.less Layouts.recordLayout Layouts.imageLayout Layouts.columnsLayout Lines.inRange Lines.rowGood Search.firstFrom Records.stateNumber Records.keyNumbers Records.imageNumbers Records.recordNumbers Records.isZero Records.absentRule Records.goodAlone Records.keyLess Records.inOrder Records.rising Records.recordsGood Records.sameKey Records.found Records.isMissing Records.lineOf Coordinator.decision Coordinator.withDecision Coordinator.coordinatorGood Coordinator.namesIssued Refusals.refusalOf Transactions.held Transactions.puts Transactions.toValidate Groups.unitFields Groups.letterFor Groups.scope Groups.addScope Groups.scopes Groups.groupCount Groups.groupPlace Groups.group Images.preparedBy Images.unchanged Images.prepared Images.rolledForward Writes.sheetsGood Writes.entryFor Writes.isOf Writes.lineAfter Writes.linesAfter Writes.decisionsAfter Writes.apply WellFormed.imageInRange WellFormed.columnsInRange WellFormed.putFits WellFormed.entryFormed WellFormed.distinctKeys WellFormed.placeFormed WellFormed.verdictFormed WellFormed.formed WellFormed.linesHeld WellFormed.wellFormed Steps.holds Steps.onePhaseAllowed Steps.openStep Steps.nextGroup Steps.prepareStep Steps.decideStep Steps.finishStep Steps.step Closing.changes Closing.turn Closing.closing Closing.closeBarred Closing.closeConditions Greatest.greatestLines Greatest.greatestCoordinator Greatest.greatestTransaction
 ended x = reported (x .writes) (x .transaction)
 
 record Computed (n count : ℕ) : Type 0 where
@@ -102,12 +102,16 @@ pub record Reached (n : ℕ) : Type 0 where
   pub closes : refusalOf (closeConditions (greatestTransaction n) (greatestSheets n)) ≡ 0
   pub report : (now : ℕ) → reported (greatestClose n now .writes) (greatestClose n now .transaction) ≡ reported (2 * n + 1) (greatestClosed n)
 
+capitals : (n : ℕ) → Capitals (greatestSheets n)
+unfolding Each.all Coordinator.allCapitals Greatest.greatestCoordinator
+capitals n = refl
+
 -- "for each count of 1 to 8 puts"
 pub greatest-reached : (n : ℕ) → 1 ≤ n → n ≤ 8 → Reached n
 unfolding ended
 greatest-reached n l m =
     let c : Computed n (2 * n + 1) = computed n l m in
-    let e = encoded-says (greatestSheets n) (c .good) in
+    let e = encoded-says (greatestSheets n) (c .good) (capitals n) in
     record {
       puts-are = c .puts-are;
       passes = e .1;

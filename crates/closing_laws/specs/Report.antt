@@ -1,11 +1,12 @@
 -- The report is at most 17. Each phase has a budget of writes, by the groups left: a step that writes takes it at least one lower, any other doesn't raise it;
 -- and eight entries have at most eight groups.
 use Rattle.lists.specs.Basics.{_≡_, refl, sym, ap, subst, _∙_, ℕ, _+_, _-_, _*_, _^_, _≤_, _<_, eqb, ltb, Bool, true, false, not, _&&_, _||_, cond}
-use Rattle.lists.specs.Basics.{true≢false, and-false, List, [], _∷_, length, take, getD, length-take, arith, eqb-false, ltb-true, all, any, filter, eqList}
+use Rattle.lists.specs.Basics.{true≢false, List, [], _∷_, length, take, getD, length-take, arith, eqb-false, ltb-true, all, any, filter, eqList}
 use Rattle.lists.specs.Basics.{choose-by}
-use Rattle.model.specs.Types.{Decision, Aborted, AtomicityUnit, Entry, Transaction}
+use Rattle.model.specs.Types.{Decision, Aborted, Entry, Transaction}
+use Rattle.model.specs.Coordinator.{Letter}
 use Rattle.model.specs.Transactions.{byPhase, donePhase, abortedVerdict, isSerializable, isEmpty, held, isPut, puts, mustValidate, toValidate, noEntry, moved}
-use Rattle.model.specs.Groups.{scope, addScope, scopes, groupCount}
+use Rattle.model.specs.Groups.{isLower, scope, addScope, scopes, groupCount}
 use Rattle.model.specs.Writes.{Sheets, Write, nothing, decide, prepare, forward, back}
 use Rattle.model.specs.WellFormed.{placeFormed}
 use Rattle.model.specs.Conditions.{ownDecision}
@@ -144,7 +145,7 @@ scope-more : (s : List ℕ) (ss : List (List ℕ)) → length (addScope s ss) �
 unfolding addScope
 scope-more s ss = choose-by (λ (x : List (List ℕ)). length x ≤ length ss + 1) (any (eqList s) ss) (λ e. omega arith) (λ e. omega arith)
 
-pub few-scopes : (us : List AtomicityUnit) (es : List Entry) → groupCount us es ≤ length es
+pub few-scopes : (us : List Letter) (es : List Entry) → groupCount us es ≤ length es
 unfolding groupCount scopes
 few-scopes us [] = omega arith
 few-scopes us (e ∷ es) =
@@ -169,7 +170,7 @@ unfolding puts toValidate held
 few-steps t s l =
     let us = unitsOf s in
     let a = few-scopes us (puts t) in
-    let b = apart-filters isPut (mustValidate us t) (λ e h. ap (λ (b : Bool). isSerializable t && not b) h ∙ and-false (isSerializable t)) (held t) in
+    let b = apart-filters isPut (mustValidate us t) (λ e h. ap (λ (b : Bool). not b && (isSerializable t || isLower us (e .key))) h) (held t) in
     let c : length (take (t .count) (t .entries)) ≤ t .count = simp length-take (omega arith) in
     omega (arith, a, b, c, l)
 

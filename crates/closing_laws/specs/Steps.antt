@@ -2,8 +2,8 @@
 -- own line reads as the next phase wants it; in every other phase it stays as it was.
 use Rattle.lists.specs.Basics.{_≡_, refl, sym, ap, _∙_, ℕ, _+_, _^_, _≤_, _<_, eqb, ltb, Bool, true, false, not, _&&_, _||_, true≢false, cond, List, length}
 use Rattle.lists.specs.Basics.{getD, zero, suc, _⊎_, inl, inr, arith, eqb-true, not-false, all, choose-by}
-use Rattle.model.specs.Types.{Decision, Committed, Aborted, AtomicityUnit, Transaction}
-use Rattle.model.specs.Coordinator.{decision, withDecision}
+use Rattle.model.specs.Types.{Decision, Committed, Aborted, Transaction}
+use Rattle.model.specs.Coordinator.{Letter, decision, withDecision}
 use Rattle.model.specs.Refusals.{refusalOf}
 use Rattle.model.specs.Transactions.{donePhase, abortedVerdict, isEmpty, held, puts, toValidate, noEntry, moved}
 use Rattle.model.specs.Groups.{groupCount}
@@ -187,7 +187,7 @@ step-number t now s = step-leaves (λ (u : Transaction). u .number) t (λ p q v.
 pub groups-after : (s : Sheets) (t : Transaction) (now : ℕ) → groupsOf (step t now s .transaction) (apply (step t now s .write) s) ≡ groupsOf t s
 unfolding apply puts held
 groups-after s t now =
-    ap (λ (us : List AtomicityUnit). groupCount us (puts (step t now s .transaction))) (units-kept (step t now s .write) (s .coordinator))
+    ap (λ (us : List Letter). groupCount us (puts (step t now s .transaction))) (units-kept (step t now s .write) (s .coordinator))
     ∙ step-leaves (λ (u : Transaction). groupCount (unitsOf s) (puts u)) t (λ p q v. refl) s now
 
 -- how many entries there are to validate
@@ -197,5 +197,5 @@ validations t s = length (toValidate (unitsOf s) t)
 pub validations-after : (s : Sheets) (t : Transaction) (now : ℕ) → validations (step t now s .transaction) (apply (step t now s .write) s) ≡ validations t s
 unfolding apply toValidate held
 validations-after s t now =
-    ap (λ (us : List AtomicityUnit). length (toValidate us (step t now s .transaction))) (units-kept (step t now s .write) (s .coordinator))
+    ap (λ (us : List Letter). length (toValidate us (step t now s .transaction))) (units-kept (step t now s .write) (s .coordinator))
     ∙ step-leaves (λ (u : Transaction). length (toValidate (unitsOf s) u)) t (λ p q v. refl) s now

@@ -6,7 +6,7 @@ use Rattle.model.specs.Types.{Key, Record, Decision, Undecided, Committed, Abor
 use Rattle.model.specs.Records.{sameKey, hasLine, lineOf}
 use Rattle.model.specs.Coordinator.{decision}
 use Rattle.model.specs.Transactions.{isEmpty, puts, toValidate, noEntry}
-use Rattle.model.specs.Images.{isPrepared, preparedBy, unchanged, prepared, committed, rolledForward, rolledBack, byDecision, changeOf}
+use Rattle.model.specs.Images.{isPrepared, preparedBy, prepared, committed, rolledForward, rolledBack, byDecision, changeOf}
 use Rattle.model.specs.Writes.{Sheets, sheetsGood, Write, nothing, issue, decide, commit, prepare, forward, back, entryFor, byEntry, isOf, lineAfter, linesAfter}
 use Rattle.model.specs.Writes.{decisionsAfter, apply}
 use Rattle.model.specs.WellFormed.{wellFormed}
@@ -20,8 +20,8 @@ use Rattle.call_laws.specs.Images.{forward-plain, back-plain}
 use Rattle.call_laws.specs.Lines.{has-line, line-key, line-mapped, lines-unmoved, line-of-key}
 use Rattle.call_laws.specs.Sheets.{GoodSheets, good-parts, parts-good, write-closed}
 use Rattle.call_laws.specs.Transactions.{Body, well-formed-parts}
-use Rattle.call_laws.specs.Steps.{Closed, step-closed}
-use Rattle.call_laws.specs.Lifting.{encoded, encoded-says}
+use Rattle.call_laws.specs.Steps.{holds-parts, Closed, step-closed}
+use Rattle.call_laws.specs.Lifting.{encoded, encoded-readable}
 use Rattle.closing_laws.specs.Steps.{own-line}
 
 -- What doesn't count.
@@ -92,12 +92,11 @@ version-changes s w k h up e =
 group-changes : (s : Sheets) (w : List Entry → Write)
     → ((e : Entry) (es : List Entry) (r : Record) → r .key ≡ e .key → lineAfter (w (e ∷ es)) r .image .version ≡ r .image .version + 1) → (es : List Entry)
     → all (holds s) es ≡ true → not (isEmpty es) ≡ true → apply (w es) s ≡ s → ⊥
-unfolding all holds
+unfolding all
 group-changes s w up [] c h e = true≢false (sym h)
 group-changes s w up (x ∷ es) c h e =
     let a : holds s x ≡ true = and-fst (holds s x) (all (holds s) es) c in
-    let l : hasLine (x .key) (s .lines) ≡ true = and-fst (hasLine (x .key) (s .lines)) (unchanged x (lineOf (x .key) (s .lines))) a in
-    version-changes s (w (x ∷ es)) (x .key) l (up x es) e
+    version-changes s (w (x ∷ es)) (x .key) (holds-parts s x a .0) (up x es) e
 
 own-entry : (e : Entry) (es : List Entry) (r : Record) → r .key ≡ e .key → entryFor (r .key) (e ∷ es) ≡ some e
 unfolding entryFor
@@ -162,7 +161,7 @@ written-bytes s g t f now fits h e =
     let w = step t now s .write in
     let y : Closed s (step t now s) = step-closed s good t (parts .0) (parts .1) now (omega (arith, fits)) in
     let kept : sheetsGood (apply w s) ≡ true = parts-good (apply w s) (write-closed s good (y .fits)) in
-    step-changes s good t (parts .0) now h (sym (encoded-says (apply w s) kept .0) ∙ (ap saying e ∙ encoded-says s g .0))
+    step-changes s good t (parts .0) now h (sym (encoded-readable (apply w s) kept .0) ∙ (ap saying e ∙ encoded-readable s g .0))
 
 pub unwritten-bytes : (s : Sheets) (t : Transaction) (now : ℕ) → changes (step t now s .write) s ≡ false → encoded (apply (step t now s .write) s) ≡ encoded s
 unwritten-bytes s t now h = ap encoded (no-change (step t now s .write) s h)

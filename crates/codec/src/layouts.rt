@@ -87,14 +87,14 @@ const FIRST_UNIT: Column = Column {
     width: 2,
     kind: Kind::UnitLetter,
     low: 0,
-    high: 4,
+    high: 9,
 };
 
 const UNIT: Column = Column {
     width: 1,
     kind: Kind::UnitLetter,
     low: 0,
-    high: 4,
+    high: 9,
 };
 
 const NUMBER: Column = Column {
@@ -210,6 +210,11 @@ pub fn word(kind: Kind, n: u32) -> [u8; 10]
             2 => *b"         T",
             3 => *b"         N",
             4 => *b"         S",
+            5 => *b"         r",
+            6 => *b"         p",
+            7 => *b"         t",
+            8 => *b"         n",
+            9 => *b"         s",
             _ => *b"          ",
         },
         Kind::Figure => *b"          ",
@@ -223,7 +228,7 @@ pub fn count(kind: Kind) -> u32
     match kind {
         Kind::StateWord => 3,
         Kind::DecisionWord => 3,
-        Kind::UnitLetter => 5,
+        Kind::UnitLetter => 10,
         Kind::Figure => 0,
     }
 }

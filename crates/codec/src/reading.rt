@@ -8,12 +8,16 @@ ghost use Rattle.decimal.specs.Digits.{figureAt};
 ghost use Rattle.model.specs.Layouts.{recordBytes};
 ghost use Rattle.model.specs.Records.{noRecord, recordsAccepted};
 ghost use Rattle.model.specs.Records as model;
-ghost use Rattle.model.specs.Images.{isPrepared, beforeState};
+ghost use Rattle.model.specs.Images.{isPrepared, beforeState, columnsOf};
 use crate::fields;
 use crate::records;
 use types::BEFORE_AT;
 use types::CLOCK_AT;
 use types::CLOCK_BYTES;
+use types::COLUMN_BYTES;
+use types::COLUMN1_AT;
+use types::COLUMN2_AT;
+use types::Columns;
 use types::Kind;
 use types::RECORD_BYTES;
 use types::STATE_AT;
@@ -65,6 +69,17 @@ pub fn txid(records: &[u8], i: usize) -> u32
     ensures { λ r. ⌜ r ≡ getD (model.records (now (records .entry))) i noRecord .image .txid ⌝ }
 {
     figure(records, i, TXID_AT, TXID_BYTES) as u32
+}
+
+// Both its columns.
+pub fn columns(records: &[u8], i: usize) -> Columns
+    requires { ⌜ recordsAccepted (now records) ≡ true ⌝ }
+    ensures { λ r. ⌜ r ≡ columnsOf (getD (model.records (now (records .entry))) i noRecord .image) ⌝ }
+{
+    Columns {
+        column1: figure(records, i, COLUMN1_AT, COLUMN_BYTES) as u32,
+        column2: figure(records, i, COLUMN2_AT, COLUMN_BYTES) as u32,
+    }
 }
 
 // Its prepare clock.

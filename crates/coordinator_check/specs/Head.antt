@@ -8,43 +8,53 @@ use Rattle.model.specs.Types.{Column, UnitLetter}
 use Rattle.model.specs.Layouts.{headLayout, words, word, coordinatorBytes, lineEnd}
 use Rattle.model.specs.Lines.{fieldValue, wordFrom, lineSet}
 
--- one of R, P, T, N and S
+-- one of R, P, T, N and S, or of their small letters
 abbrev pub isUnit : ℕ → Bool
-isUnit b = eqb b 82 || eqb b 80 || eqb b 84 || eqb b 78 || eqb b 83
+isUnit b = eqb b 82 || eqb b 80 || eqb b 84 || eqb b 78 || eqb b 83 || eqb b 114 || eqb b 112 || eqb b 116 || eqb b 110 || eqb b 115
 
 -- what follows the count
 unfoldable pub lettersSet : List ℕ → Bool
 lettersSet head = eqb (getD head 4 0) 32 && all isUnit (take 9 (drop 5 head)) && eqb (getD head lineEnd 0) 10
 
--- one of five words, after a space where one is wanted
-letters : (z a b c d e : Bool)
+-- one of ten words, after a space where one is wanted
+letters : (z a b c d e f g h i j : Bool)
     → isNumber
     (cond (z && (a && true)) (Number 0)
     (cond (z && (b && true)) (Number 1)
     (cond (z && (c && true)) (Number 2)
     (cond (z && (d && true)) (Number 3)
-    (cond (z && (e && true)) (Number 4) Wrong)))))
-    ≡ (z && (a || b || c || d || e))
+    (cond (z && (e && true)) (Number 4)
+    (cond (z && (f && true)) (Number 5)
+    (cond (z && (g && true)) (Number 6)
+    (cond (z && (h && true)) (Number 7)
+    (cond (z && (i && true)) (Number 8)
+    (cond (z && (j && true)) (Number 9) Wrong))))))))))
+    ≡ (z && (a || b || c || d || e || f || g || h || i || j))
 unfolding isNumber
-letters false a b c d e = refl
-letters true true b c d e = refl
-letters true false true c d e = refl
-letters true false false true d e = refl
-letters true false false false true e = refl
-letters true false false false false true = refl
-letters true false false false false false = refl
+letters false a b c d e f g h i j = refl
+letters true true b c d e f g h i j = refl
+letters true false true c d e f g h i j = refl
+letters true false false true d e f g h i j = refl
+letters true false false false true e f g h i j = refl
+letters true false false false false true f g h i j = refl
+letters true false false false false false true g h i j = refl
+letters true false false false false false false true h i j = refl
+letters true false false false false false false false true i j = refl
+letters true false false false false false false false false true j = refl
+letters true false false false false false false false false false true = refl
+letters true false false false false false false false false false false = refl
 
 -- the column of a letter, and that of the first with the space before it
 abbrev letter : ℕ → Column
-letter w = word w UnitLetter 4
+letter w = word w UnitLetter 9
 
 letter-set : (b : ℕ) → isNumber (fieldValue (letter 1) (b ∷ [])) ≡ isUnit b
 unfolding fieldValue wordFrom words bytes eqList
-letter-set b = letters true (eqb b 82) (eqb b 80) (eqb b 84) (eqb b 78) (eqb b 83)
+letter-set b = letters true (eqb b 82) (eqb b 80) (eqb b 84) (eqb b 78) (eqb b 83) (eqb b 114) (eqb b 112) (eqb b 116) (eqb b 110) (eqb b 115)
 
 first-set : (a b : ℕ) → isNumber (fieldValue (letter 2) (a ∷ b ∷ [])) ≡ (eqb a 32 && isUnit b)
 unfolding fieldValue wordFrom words bytes eqList
-first-set a b = letters (eqb a 32) (eqb b 82) (eqb b 80) (eqb b 84) (eqb b 78) (eqb b 83)
+first-set a b = letters (eqb a 32) (eqb b 82) (eqb b 80) (eqb b 84) (eqb b 78) (eqb b 83) (eqb b 114) (eqb b 112) (eqb b 116) (eqb b 110) (eqb b 115)
 
 -- n letters and LF
 letters-set : (n : ℕ) (s : List ℕ) → lineSet (replicate n (letter 1)) s ≡ (all isUnit (take n s) && eqList (drop n s) (10 ∷ []))

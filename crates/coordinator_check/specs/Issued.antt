@@ -14,13 +14,13 @@ use Rattle.lists.specs.Walks.{LeftFrom, left-here}
 use Rattle.model.specs.Layouts.{recordLayout, txidField, beforeTxidField, offset, recordOffset, recordBytes, coordinatorBytes}
 use Rattle.model.specs.Lines.{fieldValue, lineSet, linesOf, linesSet}
 use Rattle.model.specs.Records.{noRecord, recordOf, imageFrom, recordIn, records, recordsAccepted}
-use Rattle.model.specs.Coordinator.{coordinatorOf, coordinatorAccepted, namesIssued}
+use Rattle.model.specs.Coordinator.{coordinatorOf, coordinatorReadable, namesIssued}
 use Rattle.model.specs.SheetCalls.{allIssued}
 use Rattle.sheet_laws.specs.Lines.{fieldAt, field-at}
 use Rattle.sheet_laws.specs.ByIndex.{record-at, length-records}
-use Rattle.sheet_laws.specs.Decisions.{accepted-length}
+use Rattle.sheet_laws.specs.Decisions.{readable-length}
 use Rattle.coordinator_check.specs.Lines.{Bytes}
-use Rattle.coordinator_check.specs.Sheet.{accepted-head}
+use Rattle.coordinator_check.specs.Sheet.{readable-head}
 
 -- the TxIDs of a record line
 txid-at : (line : List ℕ) → lineSet recordLayout line ≡ true → figure 0 999 (take 4 (drop (recordOffset txidField) line)) ≡ Number (recordIn line .image .txid)
@@ -50,7 +50,7 @@ figures-order s t a b p q f g n =
 abbrev pub NamedTo : (rs cs : List ℕ) (i : ℕ) → Type 0
 NamedTo rs cs i = LeftFrom (records rs) (all (namesIssued (coordinatorOf cs .issued))) (allIssued rs cs) i
 
-module _ (rs cs : List ℕ) (good-rs : recordsAccepted rs ≡ true) (good-cs : coordinatorAccepted cs ≡ true) (bytes-rs : Bytes rs) (bytes-cs : Bytes cs) where
+module _ (rs cs : List ℕ) (good-rs : recordsAccepted rs ≡ true) (good-cs : coordinatorReadable cs ≡ true) (bytes-rs : Bytes rs) (bytes-cs : Bytes cs) where
   -- the number of the four bytes at o of record i is at most that of the count
   abbrev named : (i o : ℕ) → Bool
   named i o = leb (numberOf (bytesAt rs 4 (i * recordBytes + o))) (numberOf (bytesAt cs 4 0))
@@ -69,8 +69,8 @@ module _ (rs cs : List ℕ) (good-rs : recordsAccepted rs ≡ true) (good-cs : c
   named-is i o v l m e =
       let w : take 4 (drop o (take recordBytes (drop (i * recordBytes) rs))) ≡ bytesAt rs 4 (i * recordBytes + o) =
       take-drop-take 4 o recordBytes (drop (i * recordBytes) rs) m ∙ ap (take 4) (drop-drop o (i * recordBytes) rs) in
-      let long : coordinatorBytes ≤ length cs = accepted-length cs good-cs in
-      figures-order (bytesAt rs 4 (i * recordBytes + o)) (bytesAt cs 4 0) v (coordinatorOf cs .issued) (rw w at e) (accepted-head cs good-cs .0)
+      let long : coordinatorBytes ≤ length cs = readable-length cs good-cs in
+      figures-order (bytesAt rs 4 (i * recordBytes + o)) (bytesAt cs 4 0) v (coordinatorOf cs .issued) (rw w at e) (readable-head cs good-cs .0)
       (part-bytes rs 4 (i * recordBytes + o) bytes-rs) (part-bytes cs 4 0 bytes-cs) (simp (length-take, length-drop) (omega arith))
 
   record-is : (i : ℕ) → i < length rs / recordBytes → namesIssued (coordinatorOf cs .issued) (getD (records rs) i noRecord) ≡ (named i (recordOffset txidField) && named i (recordOffset beforeTxidField))

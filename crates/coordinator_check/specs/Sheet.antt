@@ -1,5 +1,5 @@
 -- The sheet as the check takes it: whole lines, the head, lines up to the issued count with any decision, and lines above it with none.
--- That this is acceptance is shown each way from the parts of acceptance, the lines cut at the issued count.
+-- That such a sheet keeps the rules, and one that keeps them is such, is shown from the parts of the rules, the lines cut at the issued count.
 use Rattle.lists.specs.Basics.{_≡_, refl, sym, ap, ap₂, _∙_, ℕ, suc, _+_, _-_, _*_, _/_, _%_, _≤_, _<_, eqb, leb, Bool, true, false, _&&_, true≢false}
 use Rattle.lists.specs.Basics.{and-assoc, List, [], _∷_, _++_, map, length, take, drop, getD, length-map, length-take, length-drop, drop-drop, take-take}
 use Rattle.lists.specs.Basics.{getD-take, getD-drop, arith, eqb-true, leb-true, eq-eqb, le-leb, lt-leb, all, pieces, bytes, and-fst, and-snd, and-both}
@@ -15,10 +15,10 @@ use Rattle.line_bytes.specs.Loads.{loaded}
 use Rattle.model.specs.Types.{Decision, Undecided, Committed, Aborted}
 use Rattle.model.specs.Layouts.{headLayout, lineLayout, words, coordinatorBytes, leastCoordinatorBytes, lineEnd, mostCoordinatorBytes}
 use Rattle.model.specs.Lines.{rowOf, lineSet, linesOf}
-use Rattle.model.specs.Coordinator.{decisionNumber, unitOf, isUndecided, coordinatorGood, decisionIn, coordinatorOf, numbered, coordinatorAccepted}
+use Rattle.model.specs.Coordinator.{decisionNumber, letterOf, isUndecided, coordinatorGood, decisionIn, coordinatorOf, numbered, coordinatorReadable}
 use Rattle.sheet_laws.specs.Lines.{length-rowOf}
 use Rattle.sheet_laws.specs.Coordinator.{bounds}
-use Rattle.sheet_laws.specs.Decisions.{issued-at, accepted-parts, parts-accepted, accepted-length, length-decisions}
+use Rattle.sheet_laws.specs.Decisions.{issued-at, readable-parts, parts-readable, readable-length, length-decisions}
 use Rattle.coordinator_check.specs.Numbers.{columns}
 use Rattle.coordinator_check.specs.Head.{lettersSet, head-set}
 use Rattle.coordinator_check.specs.Lines.{Bytes, table, wordFor, backOf, told, decisionFor}
@@ -80,19 +80,19 @@ nine-units : (s : List ℕ) → length (coordinatorOf s .units) ≡ 9
 unfolding coordinatorOf headLayout
 nine-units s =
     let n : length (rowOf headLayout (take coordinatorBytes s)) ≡ 10 = length-rowOf headLayout (take coordinatorBytes s) in
-    length-map (drop 1 (rowOf headLayout (take coordinatorBytes s))) unitOf ∙ (length-drop 1 (rowOf headLayout (take coordinatorBytes s)) ∙ omega arith)
+    length-map (drop 1 (rowOf headLayout (take coordinatorBytes s))) letterOf ∙ (length-drop 1 (rowOf headLayout (take coordinatorBytes s)) ∙ omega arith)
 
 head-parts : (s : List ℕ) → coordinatorBytes ≤ length s → lineSet headLayout (take coordinatorBytes s) ≡ (isNumber (figure 0 999 (take 4 s)) && lettersSet (take coordinatorBytes s))
 head-parts s l =
     head-set (take coordinatorBytes s) (simp length-take (omega arith))
     ∙ ap (λ (t : List ℕ). isNumber (figure 0 999 t) && lettersSet (take coordinatorBytes s)) (take-take 4 coordinatorBytes s (omega arith))
 
--- the first four bytes of an accepted sheet hold its count, and the letters after them are set
-pub accepted-head : (s : List ℕ) → coordinatorAccepted s ≡ true
+-- the first four bytes of a sheet that keeps the rules hold its count, and the letters after them are set
+pub readable-head : (s : List ℕ) → coordinatorReadable s ≡ true
     → (figure 0 999 (take 4 s) ≡ Number (coordinatorOf s .issued)) × (lettersSet (take coordinatorBytes s) ≡ true)
-accepted-head s h =
+readable-head s h =
     let f = figure 0 999 (take 4 s) in
-    let p = sym (head-parts s (accepted-length s h)) ∙ accepted-parts s h .head in
+    let p = sym (head-parts s (readable-length s h)) ∙ readable-parts s h .head in
     (isNumber-number f (and-fst (isNumber f) (lettersSet (take coordinatorBytes s)) p) ∙ ap Number (issued-at s), and-snd (isNumber f) (lettersSet (take coordinatorBytes s)) p)
 
 -- The lines cut at the issued count.
@@ -194,22 +194,22 @@ module _ (s : List ℕ) (each : Bytes s) where
         (simp length-drop (omega arith)) (omega arith) (search tests) in
         (l, (rw (after 0) at r, rw (after v) at t))
 
-  accepted-passes : coordinatorAccepted s ≡ true → sheetMade s ≡ true
+  readable-passes : coordinatorReadable s ≡ true → sheetMade s ≡ true
   unfolding sheetMade wholeLines lettersSet ofNumber coordinatorGood
-  accepted-passes h =
-      let a = accepted-parts s h in
+  readable-passes h =
+      let a = readable-parts s h in
       let v = coordinatorOf s .issued in
       let n = length (coordinatorOf s .decisions) in
       let some : 1 ≤ n = leb-true 1 n (search (tests, a .good)) in
       let few : n ≤ 999 = bounds (coordinatorOf s) (a .good) .few in
       let most : v ≤ n = bounds (coordinatorOf s) (a .good) .issued in
       let above : all isUndecided (drop v (coordinatorOf s .decisions)) ≡ true = search (tests, a .good) in
-      let long : coordinatorBytes ≤ length s = accepted-length s h in
+      let long : coordinatorBytes ≤ length s = readable-length s h in
       let lines : n ≡ length (drop coordinatorBytes s) / coordinatorBytes = length-decisions s in
       let whole : length (drop coordinatorBytes s) ≡ length (drop coordinatorBytes s) / coordinatorBytes * coordinatorBytes = a .whole in
       let size : length (drop coordinatorBytes s) ≡ length s - coordinatorBytes = length-drop coordinatorBytes s in
       let rest : length (drop coordinatorBytes s) / coordinatorBytes ≡ v + (count s - v) = omega arith in
-      let head = accepted-head s h in
+      let head = readable-head s h in
       let letters : lettersSet (take coordinatorBytes s) ≡ true = head .1 in
       let lf : getD s lineEnd 0 ≡ 10 =
       sym (getD-take coordinatorBytes s lineEnd 0 (omega arith)) ∙ eqb-true (getD (take coordinatorBytes s) lineEnd 0) 10 (search (tests, letters)) in
@@ -223,9 +223,9 @@ module _ (s : List ℕ) (each : Bytes s) where
       (and-both (and-both (le-leb leastCoordinatorBytes (length s) (omega arith)) (le-leb (length s) mostCoordinatorBytes (omega arith))) (eq-eqb (length s % coordinatorBytes) 0 (omega arith)))
       (and-both letters (ap (ofNumber (λ (issued : ℕ). decisionsMade issued s)) (head .0) ∙ pass))
 
-  passes-accepted : sheetMade s ≡ true → coordinatorAccepted s ≡ true
+  passes-readable : sheetMade s ≡ true → coordinatorReadable s ≡ true
   unfolding sheetMade isNumber coordinatorGood
-  passes-accepted h =
+  passes-readable h =
       let w = whole-parts (length s) (search tests) in
       let f = figure 0 999 (take 4 s) in
       let v = number f in
@@ -244,7 +244,7 @@ module _ (s : List ℕ) (each : Bytes s) where
       let bounded = and-both
       (and-both (eq-eqb (length (coordinatorOf s .units)) 9 (nine-units s)) (le-leb 1 n (omega arith)))
       (le-leb n 999 (omega arith)) in
-      parts-accepted s
+      parts-readable s
       (record {
         head = head-parts s (omega arith) ∙ and-both (ap isNumber (c .0)) letters;
         whole = omega arith;
@@ -253,9 +253,9 @@ module _ (s : List ℕ) (each : Bytes s) where
         good = and-both (and-both bounded (le-leb (coordinatorOf s .issued) n (omega arith))) above;
       })
 
-  -- what the check computes is acceptance
-  pub accepted-made : coordinatorAccepted s ≡ sheetMade s
-  accepted-made = same-test (coordinatorAccepted s) (sheetMade s) accepted-passes passes-accepted
+  -- what the check computes is whether the sheet keeps the rules
+  pub readable-made : coordinatorReadable s ≡ sheetMade s
+  readable-made = same-test (coordinatorReadable s) (sheetMade s) readable-passes passes-readable
 
 -- The code's passes: each starts with the columns of the number before its first line.
 

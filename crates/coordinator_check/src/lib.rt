@@ -2,7 +2,7 @@
 ghost use mathlib.Core.Path.{_≡_};
 ghost use mathlib.Core.Bool.{true};
 ghost use Rattle.model.specs.Records.{recordsAccepted};
-ghost use Rattle.model.specs.Coordinator.{coordinatorAccepted};
+ghost use Rattle.model.specs.Coordinator.{coordinatorReadable, coordinatorAccepted};
 ghost use Rattle.model.specs.SheetCalls.{allIssued};
 ghost use Rattle.coordinator_check.specs.Sheet.{wholeLines};
 
@@ -14,6 +14,7 @@ use line_bytes::half;
 use types::BEFORE_TXID_AT;
 use types::COORDINATOR_BYTES;
 use types::LEAST_COORDINATOR_BYTES;
+use types::LINE_END;
 use types::MOST_COORDINATOR_BYTES;
 use types::RECORD_BYTES;
 use types::TXID_AT;
@@ -27,9 +28,9 @@ fn whole_lines(size: usize) -> bool
         & (size % COORDINATOR_BYTES == 0)
 }
 
-// Whether the sheet breaks no rule of its own.
-pub fn coordinator_ok(coordinator: &[u8]) -> bool
-    ensures { λ r. ⌜ r ≡ coordinatorAccepted (now (coordinator .entry)) ⌝ }
+// Whether the sheet breaks no rule of its own, with letters of either case.
+pub fn coordinator_readable(coordinator: &[u8]) -> bool
+    ensures { λ r. ⌜ r ≡ coordinatorReadable (now (coordinator .entry)) ⌝ }
 {
     if !whole_lines(coordinator.len()) {
         return false;
@@ -44,11 +45,21 @@ pub fn coordinator_ok(coordinator: &[u8]) -> bool
     }
 }
 
+// Whether it is, besides, one of capitals: small letters are for two sheets only.
+pub fn coordinator_ok(coordinator: &[u8]) -> bool
+    ensures { λ r. ⌜ r ≡ coordinatorAccepted (now (coordinator .entry)) ⌝ }
+{
+    if !coordinator_readable(coordinator) {
+        return false;
+    }
+    head::capitals(&coordinator[5..LINE_END])
+}
+
 // Whether every number that a record names, as its TxID or its before TxID, has been issued. Figures of one width order as their bytes do, so
 // that none is read.
 pub fn all_issued(records: &[u8], coordinator: &[u8]) -> bool
     requires { ⌜ recordsAccepted (now records) ≡ true ⌝ }
-    requires { ⌜ coordinatorAccepted (now coordinator) ≡ true ⌝ }
+    requires { ⌜ coordinatorReadable (now coordinator) ≡ true ⌝ }
     ensures { λ r. ⌜ r ≡ allIssued (now (records .entry)) (now (coordinator .entry)) ⌝ }
 {
     let issued = half(coordinator, 0);

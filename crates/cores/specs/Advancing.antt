@@ -1,10 +1,8 @@
 -- Advance, case by case in the order of its conditions; an accepted one is the step of its phase.
-use Rattle.lists.specs.Basics.{_≡_, ℕ, Bool, true, false, List}
-use Rattle.model.specs.Types.{Decision, Transaction}
+use Rattle.lists.specs.Basics.{_≡_, ℕ, true, false, List}
+use Rattle.model.specs.Types.{Transaction}
 use Rattle.model.specs.Coordinator.{coordinatorOf, decision}
 use Rattle.model.specs.Refusals.{refusalOf}
-use Rattle.model.specs.Transactions.{byPhase}
-use Rattle.model.specs.Images.{byDecision}
 use Rattle.model.specs.WellFormed.{wellFormed}
 use Rattle.model.specs.Results.{advance, returned, refused, made}
 use Rattle.model.specs.Conditions.{cannotAdvance, conditions}
@@ -12,14 +10,9 @@ use Rattle.model.specs.Steps.{step}
 use Rattle.model.specs.Calls.{outcome, result}
 use Rattle.model.specs.ByteCalls.{sheetsOf}
 use Rattle.call_laws.specs.Accepted.{Outcome, outcome-made}
+use Rattle.well_formed.specs.Barred.{forbids}
 use Rattle.steps.specs.Stepped.{Stepped}
 use Rattle.cores.specs.Answers.{toReturned, returned-made}
-
--- refusal 4, by the phase and the decision on the own line
-unfoldable pub forbids : ℕ → Decision → Bool
-forbids p own =
-    byPhase p false false false (byDecision own false true false) (byDecision own false true false)
-    (byDecision own true false true) (byDecision own true true false) true true
 
 module _ (t : Transaction) (clock : ℕ) (rs cs : List ℕ) where
   pub advance-ill : wellFormed (sheetsOf rs cs) t ≡ false → result (advance t clock) (sheetsOf rs cs) ≡ refused 3

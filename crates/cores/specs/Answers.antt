@@ -1,7 +1,7 @@
 -- What the calls answer, as numbers: a refusal or 0, and what an accepted call gives.
 use Rattle.lists.specs.Basics.{_≡_, ap, ℕ, eqb, Bool, false, _&&_}
 use Rattle.model.specs.Types.{Columns, Transaction, Recovery, Stays, Reading}
-use Rattle.types.specs.declared.Reading.the-variants.{Absent, Value, Again}
+use Rattle.types.specs.declared.Reading.the-variants.{Absent, Value, Again, First}
 use Rattle.model.specs.Images.{byRecovery}
 use Rattle.model.specs.Writes.{Sheets, Write}
 use Rattle.model.specs.Results.{Answer, turnedAway, returned, answered, visited, reported, heldAfter, Response, Result, refused, made}
@@ -51,20 +51,22 @@ toVisited (made a w) = record { refusal = 0; reply = replyNumber (recoveryIn a) 
 abbrev pub visitedBy : Recovery → Visited
 visitedBy v = record { refusal = byRecovery v 0 0 0 0 12; reply = replyNumber v }
 
--- 0 absent, 1 a value, 2 again
+-- 0 absent, 1 a value, 2 again, 3 what the first of two calls reads
 abbrev pub readingNumber : Reading → ℕ
 readingNumber Absent = 0
 readingNumber (Value c) = 1
 readingNumber Again = 2
+readingNumber (First c) = 3
 
 abbrev pub noColumns : Columns
 noColumns = record { column1 = 0; column2 = 0 }
 
--- the columns of a value, zeros where there is none
+-- the columns of a value or of a first call, zeros where there are none
 abbrev pub readingColumns : Reading → Columns
 readingColumns Absent = noColumns
 readingColumns (Value c) = c
 readingColumns Again = noColumns
+readingColumns (First c) = c
 
 -- what was read, with the transaction as it now is
 abbrev pub performedAs : Reading → Transaction → Performed

@@ -3,7 +3,7 @@ use Rattle.lists.specs.Basics.{_≡_, refl, sym, ap, _∙_, ℕ, _+_, _/_, _≤
 use Rattle.lists.specs.Pieces.{over}
 use Rattle.decimal.specs.Field.{fieldText}
 use Rattle.model.specs.Layouts.{coordinatorBytes}
-use Rattle.model.specs.Coordinator.{coordinatorOf, coordinatorText, coordinatorAccepted, withIssued}
+use Rattle.model.specs.Coordinator.{coordinatorOf, coordinatorText, coordinatorReadable, withIssued}
 use Rattle.model.specs.Refusals.{refusalOf}
 use Rattle.model.specs.Writes.{issue, lineAfter, decisionsAfter, apply}
 use Rattle.model.specs.Results.{begin, returned, refused, made}
@@ -11,7 +11,7 @@ use Rattle.model.specs.Conditions.{conditions}
 use Rattle.model.specs.Calls.{newTransaction, outcome, result}
 use Rattle.model.specs.ByteCalls.{sheetsOf}
 use Rattle.sheet_laws.specs.Coordinator.{bounds}
-use Rattle.sheet_laws.specs.Decisions.{length-decisions, accepted-length, accepted-parts}
+use Rattle.sheet_laws.specs.Decisions.{length-decisions, readable-length, readable-parts}
 use Rattle.call_laws.specs.Keeping.{strictly}
 use Rattle.call_laws.specs.ByIndex.{count-raised}
 use Rattle.call_laws.specs.Accepted.{Written, Outcome, outcome-refused, outcome-made, Accepted, lines-kept}
@@ -22,7 +22,7 @@ use Rattle.cores.specs.Answers.{toIssued}
 pub record Issues (cs : List ℕ) (r : Issued) (cs′ : List ℕ) : Type 0 where
   pub beside : (b : Bool) (rs : List ℕ) → Accepted rs cs → Outcome toIssued (result (begin b) (sheetsOf rs cs)) rs cs r rs cs′
 
-module _ (cs : List ℕ) (a : coordinatorAccepted cs ≡ true) where
+module _ (cs : List ℕ) (a : coordinatorReadable cs ≡ true) where
   pub issue-spent : eqb (coordinatorOf cs .issued) (length (drop coordinatorBytes cs) / coordinatorBytes) ≡ true → Issues cs (toIssued (refused 8)) cs
   unfolding result conditions refusalOf
   issue-spent spent = record { beside = λ b rs h. outcome-refused toIssued rs cs 8 (rw (length-decisions cs, spent)) refl }
@@ -30,13 +30,13 @@ module _ (cs : List ℕ) (a : coordinatorAccepted cs ≡ true) where
   module _ (left : eqb (coordinatorOf cs .issued) (length (drop coordinatorBytes cs) / coordinatorBytes) ≡ false) where
     issued-below : coordinatorOf cs .issued < length (coordinatorOf cs .decisions)
     issued-below =
-        strictly (coordinatorOf cs .issued) (length (coordinatorOf cs .decisions)) (bounds (coordinatorOf cs) (accepted-parts cs a .good) .issued)
+        strictly (coordinatorOf cs .issued) (length (coordinatorOf cs .decisions)) (bounds (coordinatorOf cs) (readable-parts cs a .good) .issued)
         (ap (eqb (coordinatorOf cs .issued)) (length-decisions cs) ∙ left)
 
     pub number-fits : coordinatorOf cs .issued < 999
     number-fits =
         let l : coordinatorOf cs .issued < length (coordinatorOf cs .decisions) = issued-below in
-        let m : length (coordinatorOf cs .decisions) ≤ 999 = bounds (coordinatorOf cs) (accepted-parts cs a .good) .few in
+        let m : length (coordinatorOf cs .decisions) ≤ 999 = bounds (coordinatorOf cs) (readable-parts cs a .good) .few in
         omega arith
 
     begin-made : (b : Bool) (rs : List ℕ) → result (begin b) (sheetsOf rs cs) ≡ made (returned (newTransaction (coordinatorOf cs .issued + 1) b)) issue
@@ -47,7 +47,7 @@ module _ (cs : List ℕ) (a : coordinatorAccepted cs ≡ true) where
     unfolding lineAfter decisionsAfter apply
     begin-written rs h e =
         let n = coordinatorOf cs .issued in
-        let l : coordinatorBytes ≤ length cs = accepted-length cs a in
+        let l : coordinatorBytes ≤ length cs = readable-length cs a in
         let m : leb 4 (length cs) ≡ true = le-leb 4 (length cs) (omega arith) in
         record {
           lines = lines-kept rs cs h issue (λ r. refl);

@@ -1,12 +1,11 @@
 -- Close, case by case in the order of its conditions; an accepted one is the run of its steps.
-use Rattle.lists.specs.Basics.{_≡_, sym, ap, _∙_, ℕ, true, false, List, ne-eqb}
-use Rattle.lists.specs.Chosen.{Missed}
-use Rattle.model.specs.Types.{Decision, Transaction}
+use Rattle.lists.specs.Basics.{_≡_, sym, ap, _∙_, ℕ, true, false, List}
+use Rattle.model.specs.Types.{Transaction}
 use Rattle.model.specs.Refusals.{refusalOf}
 use Rattle.model.specs.Writes.{Sheets}
 use Rattle.model.specs.WellFormed.{wellFormed}
 use Rattle.model.specs.Results.{Answer, Response, refused}
-use Rattle.model.specs.Closing.{Run, closeBarred, cannotClose, closeConditions}
+use Rattle.model.specs.Closing.{Run, cannotClose, closeConditions}
 use Rattle.model.specs.ByteCalls.{sheetsOf}
 use Rattle.model.specs.Operations.{close, closeRun, ended, response, recordsLeft, coordinatorLeft}
 use Rattle.call_laws.specs.Accepted.{unless-held, unless-free}
@@ -14,12 +13,6 @@ use Rattle.closing.specs.declared.Ran.{Ran}
 use Rattle.closing.specs.Running.{Closed as Ended}
 use Rattle.cores.specs.declared.Closed.{Closed}
 use Rattle.cores.specs.Answers.{toClosed}
-use Rattle.cores.specs.Advancing.{forbids}
-
--- "refused as one advance would be", from decide on
-pub barred-later : (p : ℕ) (own : Decision) → Missed 3 p → forbids p own ≡ closeBarred p own
-unfolding forbids closeBarred
-barred-later p own m = rw (ne-eqb p 0 (m .0 .0 .1), ne-eqb p 1 (m .0 .1), ne-eqb p 2 (m .1))
 
 -- Its refusal, by what is asked.
 module _ (t : Transaction) (s : Sheets) where

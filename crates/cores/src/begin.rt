@@ -1,21 +1,10 @@
 // One more number, and its transaction.
 ghost use mathlib.Core.Path.{_≡_};
 ghost use mathlib.Core.Bool.{true};
-ghost use Prim.Native.Nat.{_/_};
-ghost use lib.ListN.{length, drop};
-ghost use lib.Dec.{eqb};
-ghost use Rattle.model.specs.Layouts.{coordinatorBytes};
-ghost use Rattle.model.specs.Coordinator.{coordinatorAccepted};
+ghost use Rattle.model.specs.Coordinator.{coordinatorReadable};
 ghost use Rattle.cores.specs.Answers.{ofIssued};
 ghost use Rattle.cores.specs.Begins.{Issues};
 use crate::Returned;
-
-// Every line of the coordinator sheet has its number issued.
-fn all_spent(coordinator: &[u8], issued: u32) -> bool
-    ensures { λ r. ⌜ r ≡ eqb issued (length (drop coordinatorBytes (now (coordinator .entry))) / coordinatorBytes) ⌝ }
-{
-    issued as usize == codec::coordinator::count(coordinator)
-}
 
 // What issuing a number comes to: a refusal or 0, and the number, 0 where it is refused.
 #[repr(C)]
@@ -26,11 +15,11 @@ pub struct Issued {
 
 // Whatever accepted record sheet lies beside: begin looks at none of its lines.
 pub fn issue(coordinator: &mut [u8]) -> Issued
-    requires { ⌜ coordinatorAccepted (now coordinator) ≡ true ⌝ }
+    requires { ⌜ coordinatorReadable (now coordinator) ≡ true ⌝ }
     ensures { λ r. ⌜ Issues (now (coordinator .entry)) r (now (coordinator .exit)) ⌝ }
 {
     let issued = codec::coordinator::issued(coordinator);
-    if all_spent(coordinator, issued) {
+    if admission::all_spent(coordinator, issued) {
         return Issued {
             refusal: 8,
             number: 0,

@@ -1,16 +1,14 @@
 // All steps of a transaction in one call, up to done or to a step that would write beyond a limit.
 ghost use mathlib.Core.Path.{_≡_};
 ghost use Rattle.model.specs.Results.{refused};
-ghost use Rattle.model.specs.Closing.{closeBarred};
 ghost use Rattle.model.specs.ByteCalls.{sheetsOf};
 ghost use Rattle.model.specs.Operations.{response, recordsLeft, coordinatorLeft};
 ghost use Rattle.model.specs.Operations as model;
 ghost use Rattle.call_laws.specs.Accepted.{Accepted};
 ghost use Rattle.cores.specs.Answers.{toClosed};
 use crate::Closed;
-use crate::advance;
-use types::Decision;
 use types::Transaction;
+use well_formed::barred;
 
 // A refused close makes no write, and gives its transaction back as it came.
 pub fn refusal(n: u32, t: Transaction) -> Closed
@@ -20,18 +18,6 @@ pub fn refusal(n: u32, t: Transaction) -> Closed
         refusal: n,
         writes: 0,
         transaction: t,
-    }
-}
-
-// Refusal 4: as of an advance, and where the own line is COMMITTED before a decision. A single step from there would still go through, but not all of them.
-fn bars(phase: u32, own: Decision) -> bool
-    ensures { λ r. ⌜ r ≡ closeBarred phase own ⌝ }
-{
-    match phase {
-        0 => advance::is_committed(own),
-        1 => advance::is_committed(own),
-        2 => advance::is_committed(own),
-        _ => advance::forbids(phase, own),
     }
 }
 
@@ -53,7 +39,7 @@ pub fn close(
         return refusal(3, t);
     }
     let own = codec::coordinator::decision_at(coordinator, t.number);
-    if bars(t.phase, own) {
+    if barred::bars(t.phase, own) {
         return refusal(4, t);
     }
     let located = admitted.located;

@@ -28,7 +28,7 @@ pub struct Visited {
     pub reply: u32,
 }
 
-// What any call answers: a refusal or 0, what a read (0 absent, 1 a value, 2 again) or a visit came to or how many writes a close made, the columns that were
+// What any call answers: a refusal or 0, what a read (0 absent, 1 a value, 2 again, 3 columns read by the first of two calls) or a visit came to or how many writes a close made, the columns that were
 // read, and the transaction, as it came where the call is refused.
 #[repr(C)]
 pub struct Performed {

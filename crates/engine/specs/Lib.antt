@@ -1,4 +1,3 @@
--- The answers of one function for every call, a number issued, and a close.
-pub mod Performing
+-- A number issued, and operations refused or let pass by the check.
 pub mod Issuing
-pub mod Closing
+pub mod Responses

@@ -1,15 +1,13 @@
 // The calls on two lent sheets, for every input: refusals 1 and 2 by the check, the others and what is done by the call on accepted sheets. A refusal leaves
-// both sheets as they were.
+// both sheets as they were. `perform` is every call by one function.
 ghost use mathlib.Core.Path.{_≡_};
 ghost use Rattle.model.specs.Results as model;
 ghost use Rattle.model.specs.ByteCalls.{resultOn, recordsAfter, coordinatorAfter};
 ghost use Rattle.model.specs.Operations.{responseOn, recordsLeft, coordinatorLeft};
 ghost use Rattle.model.specs.Operations as operations;
+ghost use Rattle.model.specs.Requests.{operationOf};
 ghost use Rattle.engine.specs.Issuing.{IssuesOn};
 ghost use Rattle.cores.specs.Answers.{toBegun, toReturned, toPerformed, toClosed, toVisited};
-
-pub mod perform;
-
 use cores::Closed;
 use cores::Performed;
 use cores::Returned;
@@ -18,6 +16,7 @@ use cores::begin::Issued;
 use sheets::check;
 use types::Columns;
 use types::Key;
+use types::Request;
 use types::Transaction;
 
 // A number issued, without its transaction: checked or not, it is the same.
@@ -126,4 +125,22 @@ pub fn visit(key: Key, clock: u32, records: &mut [u8], coordinator: &mut [u8]) -
         return cores::visit::refusal(checked);
     }
     cores::visit::visit(key, clock, records, coordinator)
+}
+
+// Every call by one function: what is asked, of a transaction.
+pub fn perform(
+    request: Request,
+    t: Transaction,
+    records: &mut [u8],
+    coordinator: &mut [u8],
+) -> Performed
+    ensures answer { λ r. ⌜ r ≡ toPerformed t (responseOn (operationOf request t) (now (records .entry)) (now (coordinator .entry))) ⌝ }
+    ensures lines { λ r. ⌜ now (records .exit) ≡ recordsLeft (now (records .entry)) (responseOn (operationOf request t) (now (records .entry)) (now (coordinator .entry))) ⌝ }
+    ensures decisions { λ r. ⌜ now (coordinator .exit) ≡ coordinatorLeft (now (coordinator .entry)) (responseOn (operationOf request t) (now (records .entry)) (now (coordinator .entry))) ⌝ }
+{
+    let checked = check::check(records, coordinator);
+    if checked != 0 {
+        return cores::read::refusal(checked, t);
+    }
+    perform::perform(request, t, records, coordinator)
 }

@@ -22,7 +22,7 @@ greatestAnswer n rs cs = record { refusal = refusalOf (greatestConditions n rs c
 
 -- the coordinator sheet, byte by byte
 pub coordinator-bytes : coordinatorText greatestCoordinator ≡ text (bytes "   1 RRRRRRRRR" ∷ bytes "   1         -" ∷ [])
-unfolding bytes joined Field.ahead Field.fieldText Layouts.words Layouts.headLayout Layouts.lineLayout Lines.fieldBytes Lines.lineText Coordinator.decisionNumber Coordinator.unitNumber Coordinator.decisionTexts Coordinator.headNumbers coordinatorText greatestCoordinator
+unfolding bytes joined Field.ahead Field.fieldText Layouts.words Layouts.headLayout Layouts.lineLayout Lines.fieldBytes Lines.lineText Coordinator.decisionNumber Coordinator.unitNumber Coordinator.decisionTexts Coordinator.letterNumber Coordinator.headNumbers coordinatorText greatestCoordinator
 coordinator-bytes = refl
 
 module _ (n : ℕ) (rs cs : List ℕ) where

@@ -9,8 +9,9 @@ use denote.Laws.{Is}
 use denote.Struct.Declared.{row}
 use Rattle.lists.specs.All.{all-always, all-at}
 use Rattle.types.proofs.Transaction.{the-type}
-use Rattle.model.specs.Types.{Key, Record, AtomicityUnit, Found, At, Nothing, Entry, Transaction}
+use Rattle.model.specs.Types.{Key, Record, Found, At, Nothing, Entry, Transaction}
 use Rattle.model.specs.Records.{sameKey, found, isMissing, byFound, hasLine}
+use Rattle.model.specs.Coordinator.{Letter}
 use Rattle.model.specs.Transactions.{held, puts, heldAt, noEntry, mustValidate, toValidate}
 use Rattle.model.specs.Groups.{groupCount}
 use Rattle.model.specs.WellFormed.{linesHeld, placeFormed}
@@ -38,7 +39,7 @@ indicesOf rs t zero = noIndices
 indicesOf rs t (suc n) = set (indicesOf rs t n) n (lineIndex (entryAt t n .key) rs)
 
 -- what is found of a transaction's entries, by the lines and the units
-abbrev pub locatedIn : List Record → List AtomicityUnit → Transaction → Located
+abbrev pub locatedIn : List Record → List Letter → Transaction → Located
 locatedIn rs us t = record { indices = indicesOf rs t (t .count); groups = groupCount us (puts t); of = groupsIn us t }
 
 -- of these indices the one of a key, 0 if the transaction does not hold it
@@ -50,7 +51,7 @@ pub record Indexed (rs : List Record) (t : Transaction) (is : List ℕ) (n : ℕ
   pub at : (i : ℕ) → i < n → found (entryAt t i .key) rs ≡ At (getD is i 0)
 
 -- the groups are those of the units, and each entry's own is told by its place
-pub record Grouped (us : List AtomicityUnit) (t : Transaction) (l : Located) : Type 0 where
+pub record Grouped (us : List Letter) (t : Transaction) (l : Located) : Type 0 where
   pub count : l .groups ≡ groupCount us (puts t)
   pub own : (i : ℕ) → i < t .count → eqb (getD (l .of) i 0) (t .place) ≡ inGroup us t (t .place) (entryAt t i)
 
@@ -130,11 +131,11 @@ module _ (rs : List Record) (t : Transaction) where
         record { at = λ i l. found-line (entryAt t i .key) rs (has-line i l) ∙ ap At (sym (index-stays (t .count) i l few)) }
 
 -- The groups found are those of the units.
-pub grouped-in : (rs : List Record) (us : List AtomicityUnit) (t : Transaction) {vs : List Val} → Is (row the-type) t vs → t .count ≤ 8 → t .place < 8 → Grouped us t (locatedIn rs us t)
+pub grouped-in : (rs : List Record) (us : List Letter) (t : Transaction) {vs : List Val} → Is (row the-type) t vs → t .count ≤ 8 → t .place < 8 → Grouped us t (locatedIn rs us t)
 grouped-in rs us t p few l = record { count = refl; own = λ i m. in-group-at us t (has-room t p few) i 0 (t .place) m l }
 
 -- a place is below eight
-pub place-few : (us : List AtomicityUnit) (t : Transaction) → t .count ≤ 8 → placeFormed us t ≡ true → t .place < 8
+pub place-few : (us : List Letter) (t : Transaction) → t .count ≤ 8 → placeFormed us t ≡ true → t .place < 8
 unfolding placeFormed toValidate held
 place-few us t few =
     by-phase-of (λ (x : Bool). x ≡ true → t .place < 8) (t .phase) (λ e. zeroth) (λ e. in-groups) (λ e. in-entries) (λ e. zeroth) (λ e. zeroth)

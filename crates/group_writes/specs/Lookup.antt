@@ -1,10 +1,11 @@
 -- What a look-up by key tells, by the two cases of what is found: a key out of range is found nowhere, and a found index is that of the key's line.
-use Rattle.lists.specs.Basics.{_≡_, refl, sym, ap, _∙_, ℕ, true, false, true≢false, List, getD, all, tests}
+use Rattle.lists.specs.Basics.{_≡_, refl, sym, ap, _∙_, ℕ, Bool, true, false, not, _&&_, _||_, true≢false, and-true, List, getD, all, tests}
 use Rattle.model.specs.Types.{Key, Record, Found, At, Nothing, Entry}
 use Rattle.model.specs.Records.{noRecord, records, recordsGood, recordsAccepted, goodAlone, keyInRange, found, isMissing, hasLine, lineOf}
-use Rattle.model.specs.Images.{unchanged}
+use Rattle.model.specs.Groups.{isLower}
+use Rattle.model.specs.Images.{unchanged, sameColumns}
 use Rattle.model.specs.Writes.{Sheets}
-use Rattle.model.specs.Steps.{holds}
+use Rattle.model.specs.Steps.{unitsOf, holds}
 use Rattle.sheet_laws.specs.Records.{good-ranged}
 use Rattle.sheet_laws.specs.Keys.{key-ranged}
 use Rattle.call_laws.specs.Lines.{listsKey, line-of-key, line-passes}
@@ -39,6 +40,21 @@ module _ (k : Key) (rs : List Record) where
   has-no-line e = rw e
 
 module _ (s : Sheets) (e : Entry) where
-  pub holds-at : (i : ℕ) → found (e .key) (s .lines) ≡ At i → unchanged e (getD (s .lines) i noRecord) ≡ holds s e
+  -- the condition by the line at the index
+  pub holds-at : (i : ℕ) → found (e .key) (s .lines) ≡ At i
+      → (unchanged e (getD (s .lines) i noRecord) && (not (isLower (unitsOf s) (e .key)) || sameColumns e (getD (s .lines) i noRecord))) ≡ holds s e
   unfolding holds isMissing
-  holds-at i h = rw h (ap (unchanged e) (found-at (e .key) (s .lines) i h .line))
+  holds-at i h =
+      rw h (ap (λ (r : Record). unchanged e r && (not (isLower (unitsOf s) (e .key)) || sameColumns e r)) (found-at (e .key) (s .lines) i h .line))
+
+  -- which is that of the line alone unless its storage can't be read consistently
+  pub holds-capital : (i : ℕ) → found (e .key) (s .lines) ≡ At i → isLower (unitsOf s) (e .key) ≡ false → unchanged e (getD (s .lines) i noRecord) ≡ holds s e
+  holds-capital i h l =
+      let r = getD (s .lines) i noRecord in
+      sym (ap (λ (b : Bool). unchanged e r && (not b || sameColumns e r)) l ∙ and-true (unchanged e r)) ∙ holds-at i h
+
+  pub holds-lower : (i : ℕ) → found (e .key) (s .lines) ≡ At i → isLower (unitsOf s) (e .key) ≡ true
+      → (unchanged e (getD (s .lines) i noRecord) && sameColumns e (getD (s .lines) i noRecord)) ≡ holds s e
+  holds-lower i h l =
+      let r = getD (s .lines) i noRecord in
+      sym (ap (λ (b : Bool). unchanged e r && (not b || sameColumns e r)) l) ∙ holds-at i h

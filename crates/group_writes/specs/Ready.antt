@@ -1,24 +1,26 @@
 -- What the writes of a step ask for follows from accepted bytes and a well-formed transaction: puts whose conditions hold may be written over their lines, and
 -- what a number has prepared may be rolled.
-use Rattle.lists.specs.Basics.{_≡_, sym, ap, _∙_, ℕ, _≤_, Bool, true, _&&_, List, all, and-fst, and-snd, choose-by, tests}
+use Rattle.lists.specs.Basics.{_≡_, sym, ap, _∙_, ℕ, _≤_, Bool, true, _&&_, List, length, take, drop, arith, all, and-fst, and-snd, choose-by, tests}
 use Rattle.lists.specs.All.{all-and, all-weaken}
 use Rattle.lists.specs.Chosen.{all-filter}
 use Rattle.model.specs.Types.{Record, Entry, Transaction}
 use Rattle.model.specs.Records.{records, recordsAccepted, goodAlone, hasLine, lineOf}
 use Rattle.model.specs.Coordinator.{coordinatorOf, namesIssued}
 use Rattle.model.specs.Transactions.{isPut, held}
-use Rattle.model.specs.Images.{changeOf, isPrepared, preparedBy, unchanged}
+use Rattle.model.specs.Images.{changeOf, isPrepared, preparedBy}
 use Rattle.model.specs.WellFormed.{entryFormed, linesHeld}
 use Rattle.model.specs.Steps.{holds, groupAt}
 use Rattle.model.specs.ByteCalls.{sheetsOf}
+use Rattle.sheet_laws.specs.Letters.{unitsIn, units-said}
+use Rattle.sheet_laws.specs.Decisions.{readable-length}
 use Rattle.call_laws.specs.Ranges.{GoodParts, fine, fine-parts, parts-fine}
 use Rattle.call_laws.specs.Images.{MayPut, committed-fine, prepared-fine, forward-fine, back-fine}
 use Rattle.call_laws.specs.Lines.{has-line, line-passes}
 use Rattle.call_laws.specs.Sheets.{GoodSheets, good-parts}
 use Rattle.call_laws.specs.Transactions.{Body}
-use Rattle.call_laws.specs.Steps.{group-formed, may-put-over}
-use Rattle.model.specs.ByteHistories.{Passing}
-use Rattle.call_laws.specs.Lifting.{passing-parts, passing-good}
+use Rattle.call_laws.specs.Steps.{holds-parts, group-formed, may-put-over}
+use Rattle.model.specs.ByteHistories.{Readable}
+use Rattle.call_laws.specs.Lifting.{readable-both, readable-good}
 use Rattle.group_writes.specs.declared.changes.Effect.{Effect}
 use Rattle.group_writes.specs.declared.changes.Effect.the-variants.{Commit, Prepare, Forward, Back}
 use Rattle.group_writes.specs.Groups.{ofGroup, group-in}
@@ -29,20 +31,27 @@ use Rattle.group_writes.specs.Turns.{MayChange}
 
 -- accepted bytes, and a transaction whose body is well formed and whose lines and groups are these
 pub record Ready (rs cs : List ℕ) (t : Transaction) (l : Located) : Type 0 where
-  pub passing : Passing (record { records = rs; coordinator = cs })
+  pub readable : Readable (record { records = rs; coordinator = cs })
   pub body : Body (sheetsOf rs cs) t
   pub indexed : Indexed (records rs) t (l .indices) (t .count)
   pub grouped : Grouped (coordinatorOf cs .units) t l
 
 module _ (rs cs : List ℕ) (t : Transaction) (l : Located) (ready : Ready rs cs t l) where
   pub accepted : recordsAccepted rs ≡ true
-  accepted = passing-parts (record { records = rs; coordinator = cs }) (ready .passing) .0
+  accepted = readable-both (record { records = rs; coordinator = cs }) (ready .readable) .0
+
+  -- the letters of the head say the units
+  pub units : unitsIn (take 9 (drop 5 cs)) ≡ coordinatorOf cs .units
+  units = units-said cs (readable-both (record { records = rs; coordinator = cs }) (ready .readable) .1 .0)
+
+  pub has-letters : 14 ≤ length cs
+  has-letters = omega (arith, readable-length cs (readable-both (record { records = rs; coordinator = cs }) (ready .readable) .1 .0))
 
   abbrev issued : ℕ
   issued = sheetsOf rs cs .coordinator .issued
 
   good : GoodSheets (sheetsOf rs cs)
-  good = good-parts (sheetsOf rs cs) (passing-good (record { records = rs; coordinator = cs }) (ready .passing))
+  good = good-parts (sheetsOf rs cs) (readable-good (record { records = rs; coordinator = cs }) (ready .readable))
 
   line-good : (e : Entry) → hasLine (e .key) (records rs) ≡ true → GoodParts issued (lineOf (e .key) (records rs))
   line-good e h =
@@ -73,8 +82,7 @@ module _ (rs cs : List ℕ) (t : Transaction) (l : Located) (ready : Ready rs cs
   put-over h = all-and (holds (sheetsOf rs cs)) (λ (e : Entry). entryFormed issued e && isPut e) (groupAt t (sheetsOf rs cs)) h (group-formed (sheetsOf rs cs) good t (ready .body))
 
   has-its-line : (e : Entry) → holds (sheetsOf rs cs) e ≡ true → hasLine (e .key) (records rs) ≡ true
-  unfolding holds
-  has-its-line e h = and-fst (hasLine (e .key) (records rs)) (unchanged e (lineOf (e .key) (records rs))) h
+  has-its-line e h = holds-parts (sheetsOf rs cs) e h .0
 
   -- the puts of a group whose conditions hold, where a put over its line keeps the rules
   may-put : (c : Effect) → ((e : Entry) (r : Record) → GoodParts issued r → MayPut issued (t .number) (changeOf e) r → GoodParts issued (changed c (t .number) (changeOf e) r)) → all (holds (sheetsOf rs cs)) (groupAt t (sheetsOf rs cs)) ≡ true → MayChange c rs cs t l

@@ -3,12 +3,16 @@ ghost use mathlib.Core.Path.{_≡_};
 ghost use mathlib.Core.Bool.{true};
 ghost use mathlib.Core.List.{List};
 ghost use Prim.Native.Nat.{ℕ, _≤_};
-ghost use Rattle.model.specs.Records.{recordsAccepted, found};
+ghost use lib.ListN.{getD};
+ghost use Rattle.model.specs.Records.{noRecord, recordsAccepted, found};
 ghost use Rattle.model.specs.Records as sheet;
+ghost use Rattle.model.specs.Coordinator.{coordinatorOf};
+ghost use Rattle.model.specs.Images.{unchanged, sameColumns};
 ghost use Rattle.model.specs.WellFormed.{linesHeld};
 ghost use Rattle.model.specs.Steps as model;
 ghost use Rattle.model.specs.ByteCalls.{sheetsOf};
 ghost use Rattle.types.specs.declared.Found.the-variants.{At};
+ghost use Rattle.sheet_laws.specs.Letters.{unitsIn};
 ghost use Rattle.group_writes.specs.Located.{lineIndex, indicesOf, indexIn};
 use codec::reading;
 use sheets::lookup;
@@ -65,14 +69,35 @@ pub fn lines_of(records: &[u8], t: Transaction) -> Lines
     Lines { all, indices }
 }
 
-// The condition of an entry by the index of its line: the line is as it was read, whatever coordinator sheet lies beside.
-pub fn holds(records: &[u8], e: Entry, index: usize) -> bool
-    requires { ⌜ (recordsAccepted (now records) ≡ true) × (found (e .key) (sheet.records (now records)) ≡ At index) ⌝ }
-    ensures { λ r. ⌜ ((cs : List ℕ) → r ≡ model.holds (sheetsOf (now (records .entry)) cs) e) ⌝ }
+// The line of an entry isn't pending and has the TxID and version read.
+fn is_unchanged(records: &[u8], e: Entry, index: usize) -> bool
+    requires { ⌜ recordsAccepted (now records) ≡ true ⌝ }
+    ensures { λ r. ⌜ r ≡ unchanged e (getD (sheet.records (now (records .entry))) index noRecord) ⌝ }
 {
     !reading::is_prepared(records, index)
         & (reading::txid(records, index) == e.seen.txid)
         & (reading::version(records, index) == e.seen.version)
+}
+
+// The line of an entry has the columns read.
+fn same_columns(records: &[u8], e: Entry, index: usize) -> bool
+    requires { ⌜ recordsAccepted (now records) ≡ true ⌝ }
+    ensures { λ r. ⌜ r ≡ sameColumns e (getD (sheet.records (now (records .entry))) index noRecord) ⌝ }
+{
+    let columns = reading::columns(records, index);
+    (columns.column1 == e.seen.column1) & (columns.column2 == e.seen.column2)
+}
+
+// The condition of an entry by the index of its line, beside any coordinator sheet with these letters: the line is as it was read, and so are its columns where
+// they may have been read at another time than the rest.
+pub fn holds(records: &[u8], letters: &[u8], e: Entry, index: usize) -> bool
+    requires { ⌜ (recordsAccepted (now records) ≡ true) × (found (e .key) (sheet.records (now records)) ≡ At index) ⌝ }
+    ensures { λ r. ⌜ ((cs : List ℕ) → unitsIn (now (letters .entry)) ≡ coordinatorOf cs .units → r ≡ model.holds (sheetsOf (now (records .entry)) cs) e) ⌝ }
+{
+    if !transactions::is_lower(letters, e.key.storage) {
+        return is_unchanged(records, e, index);
+    }
+    is_unchanged(records, e, index) & same_columns(records, e, index)
 }
 
 // Of the indices of a transaction's lines the one of a key; 0 for a key that it does not hold.

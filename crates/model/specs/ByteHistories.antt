@@ -1,7 +1,7 @@
 -- Histories over the bytes of both sheets: the calls as an engine makes them. Demand 3 speaks of these.
 use Rattle.lists.specs.Basics.{_≡_, ℕ, List}
 use Rattle.model.specs.Refusals.{refusalOf}
-use Rattle.model.specs.SheetCalls.{checkConditions}
+use Rattle.model.specs.SheetCalls.{readableConditions, checkConditions}
 use Rattle.model.specs.Writes.{Sheets}
 use Rattle.model.specs.Results.{Call, Answer, Result, answerOf}
 use Rattle.model.specs.ByteCalls.{sheetsOf, resultOn, recordsAfter, coordinatorAfter}
@@ -17,6 +17,10 @@ saying b = sheetsOf (b .records) (b .coordinator)
 -- "Accepted sheets are those that refusals 1 and 2 let pass."
 abbrev pub Passing : Bytes → Type 0
 Passing b = refusalOf (checkConditions (b .records) (b .coordinator)) ≡ 0
+
+-- the bytes break no rule but perhaps that of capitals
+abbrev pub Readable : Bytes → Type 0
+Readable b = refusalOf (readableConditions (b .records) (b .coordinator)) ≡ 0
 
 -- the bytes after a result
 abbrev pub bytesAfter : {A : Type 0} → Bytes → Result A → Bytes

@@ -1,14 +1,16 @@
 -- The calls over decoded sheets: refused by the first condition that holds, or an answer and a write. Document 01, "Transaction".
-use Rattle.lists.specs.Basics.{ℕ, _+_, Bool, cond, getD, replicate}
-use Rattle.model.specs.Types.{Key, Record, Columns, Entry, Transaction, Recovery}
-use Rattle.types.specs.declared.Reading.the-variants.{Again}
+use Rattle.lists.specs.Basics.{ℕ, _+_, Bool, not, _&&_, cond, getD, replicate}
+use Rattle.model.specs.Types.{Key, Image, Record, Columns, Entry, Transaction, Recovery}
+use Rattle.types.specs.declared.Reading.the-variants.{Again, First}
 use Rattle.model.specs.Records.{lineOf, byFound}
+use Rattle.model.specs.Groups.{isLower}
+use Rattle.model.specs.Images.{isAbsent, columnsOf}
 use Rattle.model.specs.Transactions.{openPhase, withdrawPhase, noVerdict, noEntry, heldAt, reading, entryAs, withPut, moved, withEntry}
 use Rattle.model.specs.Writes.{Sheets, nothing, issue}
 use Rattle.model.specs.Visits.{meeting, isAgain, recovered, recoveryWrite}
-use Rattle.model.specs.Results.{Call, begin, read, put, advance, abort, visit, Answer, returned, answered, visited, Result, made, unless}
-use Rattle.model.specs.Conditions.{isNew, heldEntry, conditions}
-use Rattle.model.specs.Steps.{step}
+use Rattle.model.specs.Results.{Call, begin, read, second, put, advance, abort, visit, Answer, returned, answered, visited, Result, made, unless}
+use Rattle.model.specs.Conditions.{isNew, takesTwo, heldEntry, conditions}
+use Rattle.model.specs.Steps.{unitsOf, step}
 
 -- "Begin .. gives that number, checked or not as the caller says, phase open, no entries."
 abbrev pub newTransaction : ℕ → Bool → Transaction
@@ -32,12 +34,29 @@ abbrev pub holding : Entry → Transaction → Transaction
 holding e t = withEntry (t .count + 1) (t .count) e t
 
 -- "a new key is visited and then held"; "answer *again* (read too, holding no entry)"
-unfoldable pub readNew : Transaction → Recovery → Record → Result Answer
-readNew t v r =
+unfoldable pub readNew : Transaction → Recovery → Record → Image → Result Answer
+readNew t v r seen =
     cond (isAgain v) (made (answered Again t) (recoveryWrite v r))
-    (made
-    (answered (reading (entryAs (r .key) (recovered v r .image))) (holding (entryAs (r .key) (recovered v r .image)) t))
-    (recoveryWrite v r))
+    (made (answered (reading (entryAs (r .key) seen)) (holding (entryAs (r .key) seen) t)) (recoveryWrite v r))
+
+-- what a second call sees of a line: where the storage can't be read consistently it "answers and holds these columns; if the line is ABSENT it answers absent and
+-- holds 0", which an ABSENT line has
+unfoldable pub seenSecond : Bool → Columns → Record → Image
+seenSecond lower c r =
+    cond (lower && not (isAbsent r))
+    (record { version = r .image .version; txid = r .image .txid; column1 = c .column1; column2 = c .column2 })
+    (r .image)
+
+-- the whole read, by what it sees of the line after the visit
+unfoldable pub wholeRead : (Record → Image) → Transaction → Key → ℕ → Sheets → Result Answer
+wholeRead sees t k now s =
+    cond (isNew k t)
+    (readNew t (meeting now s (lineOf k (s .lines))) (lineOf k (s .lines)) (sees (recovered (meeting now s (lineOf k (s .lines))) (lineOf k (s .lines)))))
+    (readHeld t (heldEntry k t))
+
+-- "The first .. answers the plain sheet's columns and writes nothing", whatever the state of the line
+abbrev pub firstRead : Transaction → Record → Result Answer
+firstRead t r = made (answered (First (columnsOf (r .image))) t) nothing
 
 -- "Put replaces an earlier put."
 unfoldable pub afterPut : Transaction → Key → Columns → Transaction
@@ -48,8 +67,9 @@ unfoldable pub outcome : Call → Sheets → Result Answer
 -- "Begin raises the issued count by one"
 outcome (begin b) s = made (returned (newTransaction (s .coordinator .issued + 1) b)) issue
 outcome (read t k now) s =
-    cond (isNew k t) (readNew t (meeting now s (lineOf k (s .lines))) (lineOf k (s .lines)))
-    (readHeld t (heldEntry k t))
+    cond (takesTwo (unitsOf s) k t) (firstRead t (lineOf k (s .lines))) (wholeRead (λ (r : Record). r .image) t k now s)
+outcome (second t k now c) s =
+    wholeRead (seenSecond (isLower (unitsOf s) k) c) t k now s
 outcome (put t k c) s = made (returned (afterPut t k c)) nothing
 outcome (advance t now) s = made (returned (step t now s .transaction)) (step t now s .write)
 -- "Abort turns open, prepare, check or decide into withdraw."

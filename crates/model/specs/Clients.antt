@@ -65,6 +65,7 @@ turnsOf (a ∷ acts) w = turnsIn a w ++ turnsOf acts (worldAfter a w)
 unfoldable pub clockAsked : Request → ℕ
 clockAsked (asked.Begin b) = 0
 clockAsked (asked.Read k now) = now
+clockAsked (asked.Second k now c) = now
 clockAsked (asked.Put k c) = 0
 clockAsked (asked.Advance now) = now
 clockAsked asked.Abort = 0

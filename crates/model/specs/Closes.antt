@@ -4,8 +4,9 @@ use Rattle.model.specs.Types.{Transaction}
 use Rattle.model.specs.Transactions.{donePhase}
 use Rattle.model.specs.Results.{advance, Answer, returned, reportIn, answerOf}
 use Rattle.model.specs.ByteHistories.{Bytes, answerOn, afterOn}
-use Rattle.model.specs.AtomicWrites.{OneUnit}
+use Rattle.model.specs.AtomicWrites.{OneUnit, OneUnitTwo}
 use Rattle.model.specs.Operations.{close, responseOn, bytesLeft}
+use Rattle.model.specs.TwoCalls.{TwoBytes, responseTwo, twoLeft}
 
 -- what it answers, and the bytes that it leaves
 abbrev pub closeAnswer : Transaction → (clock limit : ℕ) → Bytes → Answer
@@ -24,12 +25,19 @@ pub data Advances (clock : ℕ) : Transaction → Bytes → ℕ → Transaction 
       → Advances clock u (afterOn (advance t clock) b) n v c → Advances clock t b (suc n) v c
 
 -- "demand 2's single unit holds for each write in it, from one limit to the next, instead of for the call": the next limit changes nothing, or it is one more
--- write, within one unit or to the coordinator sheet
-pub data NextLimit (t : Transaction) (clock limit : ℕ) (b : Bytes) : Type 0 where
-  nothing-more : closeAnswer t clock (limit + 1) b ≡ closeAnswer t clock limit b → closeLeaves t clock (limit + 1) b ≡ closeLeaves t clock limit b
-      → NextLimit t clock limit b
-  one-write-more : reportIn (closeAnswer t clock (limit + 1) b) ≡ reportIn (closeAnswer t clock limit b) + 1
-      → OneUnit (closeLeaves t clock limit b) (closeLeaves t clock (limit + 1) b) → NextLimit t clock limit b
+-- write, within one unit or to the coordinator sheet. Of the answers and of what is left, on sheets of any kind.
+pub data NextWrite {S : Type 0} (unit : S → S → Type 0) (answer answer′ : Answer) (left left′ : S) : Type 0 where
+  nothing-more : answer′ ≡ answer → left′ ≡ left → NextWrite unit answer answer′ left left′
+  one-write-more : reportIn answer′ ≡ reportIn answer + 1 → unit left left′ → NextWrite unit answer answer′ left left′
+
+abbrev pub NextLimit : Transaction → (clock limit : ℕ) → Bytes → Type 0
+NextLimit t clock limit b =
+    NextWrite OneUnit (closeAnswer t clock limit b) (closeAnswer t clock (limit + 1) b) (closeLeaves t clock limit b) (closeLeaves t clock (limit + 1) b)
+
+abbrev pub NextLimitTwo : Transaction → (clock limit : ℕ) → TwoBytes → Type 0
+NextLimitTwo t clock limit b =
+    NextWrite OneUnitTwo (answerOf (responseTwo (close t clock limit) b)) (answerOf (responseTwo (close t clock (limit + 1)) b))
+    (twoLeft b (responseTwo (close t clock limit) b)) (twoLeft b (responseTwo (close t clock (limit + 1)) b))
 
 -- "before a step that would write beyond it returns the transaction as it stands", and nowhere else but at done: as many writes were made as the limit
 -- allows, and one more advance would change a byte

@@ -3,18 +3,24 @@
 use Rattle.lists.specs.Basics.{ℕ, eqb, leb, Bool, true, false, not, _&&_, List, [], _∷_, length, getD}
 use Rattle.model.specs.Types.{Key, Decision, Entry, Transaction}
 use Rattle.model.specs.Records.{keyInRange, hasLine, lineOf, isMissing, byFound}
-use Rattle.model.specs.Coordinator.{decision}
+use Rattle.model.specs.Coordinator.{Letter, decision}
+use Rattle.model.specs.Groups.{isLower}
 use Rattle.model.specs.Refusals.{Condition, refuse}
 use Rattle.model.specs.Transactions.{byPhase, openPhase, noEntry, heldAt}
 use Rattle.model.specs.Images.{byDecision}
 use Rattle.model.specs.Writes.{Sheets}
 use Rattle.model.specs.Visits.{meeting, isBusy}
 use Rattle.model.specs.WellFormed.{columnsInRange, wellFormed}
-use Rattle.model.specs.Results.{Call, begin, read, put, advance, abort, visit}
+use Rattle.model.specs.Steps.{unitsOf}
+use Rattle.model.specs.Results.{Call, begin, read, second, put, advance, abort, visit}
 
 -- the key is not held, so that a read visits its line
 abbrev pub isNew : Key → Transaction → Bool
 isNew k t = isMissing (heldAt k t)
+
+-- "There a read of a new key takes two calls."
+abbrev pub takesTwo : List Letter → Key → Transaction → Bool
+takesTwo us k t = isNew k t && isLower us k
 
 -- the entry that holds the key, if there is one
 abbrev pub heldEntry : Key → Transaction → Entry
@@ -50,6 +56,15 @@ conditions (read t k now) s =
     ∷ refuse 5 (not (keyInRange k))
     ∷ refuse 6 (not (hasLine k (s .lines)))
     ∷ refuse 9 (isNew k t && leb 8 (t .count))
+    ∷ refuse 12 (isNew k t && not (isLower (unitsOf s) k) && busy k now s)  -- "The first, never refused with 12"
+    ∷ []
+conditions (second t k now c) s =
+    refuse 3 (not (wellFormed s t))
+    ∷ refuse 4 (notOpen t)
+    ∷ refuse 5 (not (keyInRange k))
+    ∷ refuse 6 (not (hasLine k (s .lines)))
+    ∷ refuse 7 (takesTwo (unitsOf s) k t && not (columnsInRange c))  -- "7 if too large"; "For any other read either call is the whole one, without 7."
+    ∷ refuse 9 (isNew k t && leb 8 (t .count))
     ∷ refuse 12 (isNew k t && busy k now s)
     ∷ []
 conditions (put t k c) s =
@@ -69,6 +84,7 @@ conditions (visit k now) s = refuse 5 (not (keyInRange k)) ∷ refuse 6 (not (ha
 unfoldable pub refusals : Call → List ℕ
 refusals (begin serializable) = 1 ∷ 2 ∷ 8 ∷ []
 refusals (read t k now) = 1 ∷ 2 ∷ 3 ∷ 4 ∷ 5 ∷ 6 ∷ 9 ∷ 12 ∷ []
+refusals (second t k now c) = 1 ∷ 2 ∷ 3 ∷ 4 ∷ 5 ∷ 6 ∷ 7 ∷ 9 ∷ 12 ∷ []
 refusals (put t k c) = 1 ∷ 2 ∷ 3 ∷ 4 ∷ 5 ∷ 6 ∷ 7 ∷ 10 ∷ 11 ∷ []
 refusals (advance t now) = 1 ∷ 2 ∷ 3 ∷ 4 ∷ []
 refusals (abort t) = 1 ∷ 2 ∷ 3 ∷ 4 ∷ []

@@ -1,14 +1,20 @@
 -- The coordinator sheet: numbers issued, units and decisions, and its rules. Document 01, "Coordinator sheet".
-use Rattle.lists.specs.Basics.{ℕ, zero, suc, eqb, leb, Bool, true, false, _&&_, List, [], _∷_, _++_, map, length, take, drop, getD, set, all, joined}
+use Rattle.lists.specs.Basics.{ℕ, zero, suc, _+_, _-_, eqb, leb, Bool, true, false, not, _&&_, cond, List, [], _∷_, _++_, map, length, take, drop, getD, set, all, joined}
 use Rattle.model.specs.Types.{Record, Decision, Undecided, Committed, Aborted, AtomicityUnit}
 use Rattle.types.specs.declared.AtomicityUnit.the-variants.{Record as RecordUnit, Partition, Table, Namespace, Storage}
 use Rattle.model.specs.Layouts.{headLayout, lineLayout, decisionColumn, decisionField, coordinatorBytes, headFields}
 use Rattle.model.specs.Lines.{rowOf, lineText, lineSet, inRange, rowGood, linesOf, linesSet}
 
--- count of numbers issued, units of storages 1 to 9, decisions of numbers 1, 2, ..
+-- The unit letter of a storage: its unit and its case. Document 02, note 4: "a lower-case unit letter marks a storage that can't be read
+-- consistently".
+pub record Letter : Type 0 where
+  pub unit : AtomicityUnit
+  pub lower : Bool
+
+-- count of numbers issued, letters of storages 1 to 9, decisions of numbers 1, 2, ..
 pub record Coordinator : Type 0 where
   pub issued : ℕ
-  pub units : List AtomicityUnit
+  pub units : List Letter
   pub decisions : List Decision
 
 -- Words by their index among the words.
@@ -36,6 +42,13 @@ unitOf (suc zero) = Partition
 unitOf (suc (suc zero)) = Table
 unitOf (suc (suc (suc zero))) = Namespace
 unitOf (suc (suc (suc (suc n)))) = Storage
+
+-- the five capitals, and then the five small letters
+unfoldable pub letterNumber : Letter → ℕ
+letterNumber l = unitNumber (l .unit) + cond (l .lower) 5 0
+
+unfoldable pub letterOf : ℕ → Letter
+letterOf n = record { unit = unitOf (cond (leb n 4) n (n - 5)); lower = not (leb n 4) }
 
 unfoldable pub isUndecided : Decision → Bool
 isUndecided Undecided = true
@@ -79,7 +92,7 @@ unfoldable pub coordinatorOf : List ℕ → Coordinator
 coordinatorOf s =
     record {
       issued = getD (rowOf headLayout (take coordinatorBytes s)) 0 0;
-      units = map unitOf (drop 1 (rowOf headLayout (take coordinatorBytes s)));
+      units = map letterOf (drop 1 (rowOf headLayout (take coordinatorBytes s)));
       decisions = map decisionIn (decisionLines s);
     }
 
@@ -88,13 +101,21 @@ unfoldable pub numbered : ℕ → List (List ℕ) → Bool
 numbered k [] = true
 numbered k (line ∷ ls) = eqb (getD (rowOf lineLayout line) 0 0) k && numbered (suc k) ls
 
--- the coordinator sheets that break no rule of their own
-unfoldable pub coordinatorAccepted : List ℕ → Bool
-coordinatorAccepted s =
+-- the coordinator sheets that break no rule of their own, letters of either case
+unfoldable pub coordinatorReadable : List ℕ → Bool
+coordinatorReadable s =
     lineSet headLayout (take coordinatorBytes s)
     && linesSet lineLayout coordinatorBytes (drop coordinatorBytes s)
     && numbered 1 (decisionLines s)
     && coordinatorGood (coordinatorOf s)
+
+-- every letter is a capital
+unfoldable pub allCapitals : List Letter → Bool
+allCapitals ls = all (λ (l : Letter). not (l .lower)) ls
+
+-- those of capitals: lower-case letters are for "two sheets only"
+unfoldable pub coordinatorAccepted : List ℕ → Bool
+coordinatorAccepted s = coordinatorReadable s && allCapitals (coordinatorOf s .units)
 
 -- "No record line names a TxID above that count": the before TxID counts too.
 unfoldable pub namesIssued : ℕ → Record → Bool
@@ -107,7 +128,7 @@ decisionTexts k (d ∷ ds) = lineText lineLayout (k ∷ decisionNumber d ∷ [])
 
 -- the numbers of the head
 unfoldable pub headNumbers : Coordinator → List ℕ
-headNumbers c = c .issued ∷ map unitNumber (c .units)
+headNumbers c = c .issued ∷ map letterNumber (c .units)
 
 unfoldable pub coordinatorText : Coordinator → List ℕ
 coordinatorText c = lineText headLayout (headNumbers c) ++ joined (decisionTexts 1 (c .decisions))
@@ -119,7 +140,7 @@ coordinatorNumbers c = headNumbers c ++ map decisionNumber (c .decisions)
 
 unfoldable pub coordinatorFrom : List ℕ → Coordinator
 coordinatorFrom v =
-    record { issued = getD v 0 0; units = map unitOf (take 9 (drop 1 v)); decisions = map decisionOf (drop headFields v) }
+    record { issued = getD v 0 0; units = map letterOf (take 9 (drop 1 v)); decisions = map decisionOf (drop headFields v) }
 
 -- numbers in range that keep the rules
 unfoldable pub numbersAccepted : List ℕ → Bool
@@ -128,3 +149,4 @@ numbersAccepted v =
     && rowGood headLayout (take headFields v)
     && all (inRange decisionColumn) (drop headFields v)
     && coordinatorGood (coordinatorFrom v)
+    && allCapitals (coordinatorFrom v .units)

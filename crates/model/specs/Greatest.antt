@@ -2,10 +2,10 @@
 -- possible for it; any other count is refused with 3."
 use Rattle.lists.specs.Basics.{ℕ, zero, suc, _*_, eqb, leb, true, false, not, _&&_, cond, List, [], _∷_, _++_, length, replicate}
 use Rattle.model.specs.Types.{Key, Record, Undecided, Entry, Transaction}
-use Rattle.types.specs.declared.AtomicityUnit.the-variants.{Record as RecordUnit}
 use Rattle.model.specs.Layouts.{recordBytes, leastCoordinatorBytes}
 use Rattle.model.specs.Records.{noImage, absentAt, recordsText}
 use Rattle.model.specs.Coordinator.{Coordinator, coordinatorText}
+use Rattle.model.specs.Groups.{noLetter}
 use Rattle.model.specs.Refusals.{Condition, refuse, refusalOf}
 use Rattle.model.specs.SheetCalls.{unlessRefused}
 use Rattle.model.specs.Transactions.{entryAs, withPut, withEntry}
@@ -24,7 +24,7 @@ greatestLines zero = []
 greatestLines (suc n) = greatestLines n ++ (absentAt (greatestKey (suc n)) ∷ [])
 
 unfoldable pub greatestCoordinator : Coordinator
-greatestCoordinator = record { issued = 1; units = replicate 9 RecordUnit; decisions = Undecided ∷ [] }
+greatestCoordinator = record { issued = 1; units = replicate 9 noLetter; decisions = Undecided ∷ [] }
 
 abbrev pub greatestSheets : ℕ → Sheets
 greatestSheets n = record { lines = greatestLines n; coordinator = greatestCoordinator }

@@ -2,7 +2,7 @@
 use Rattle.lists.specs.Basics.{_≡_, ℕ, _^_, _<_, Bool, false, _||_, List, [], _∷_, Option, none, some, _⊎_}
 use Rattle.model.specs.Types.{Transaction}
 use Rattle.model.specs.Writes.{Sheets, Write, isOnePhase, apply}
-use Rattle.model.specs.Results.{Call, begin, read, put, advance, abort, visit, Answer, turnedAway, returned, answered, visited, reported}
+use Rattle.model.specs.Results.{Call, begin, read, second, put, advance, abort, visit, Answer, turnedAway, returned, answered, visited, reported}
 use Rattle.model.specs.Results.{returns, writeOf, answerOf}
 use Rattle.model.specs.Calls.{result}
 
@@ -27,6 +27,7 @@ after c s = apply (written c s) s
 unfoldable pub given : Call → Option Transaction
 given (begin b) = none
 given (read t k now) = some t
+given (second t k now c) = some t
 given (put t k c) = some t
 given (advance t now) = some t
 given (abort t) = some t
@@ -53,6 +54,7 @@ Available t (e ∷ es) = (returns (e .answer) ≡ some t) ⊎ ((taken e ≡ some
 abbrev pub ClockFits : Call → Type 0
 ClockFits (begin b) = Unit {0}
 ClockFits (read t k now) = now < 2 ^ 32
+ClockFits (second t k now c) = now < 2 ^ 32
 ClockFits (put t k c) = Unit {0}
 ClockFits (advance t now) = now < 2 ^ 32
 ClockFits (abort t) = Unit {0}

@@ -5,6 +5,9 @@ use Rattle.types.specs.declared.State.the-variants.{Absent, Committed, Prepared
 use Rattle.types.specs.declared.Decision.the-variants as Decided
 use Rattle.model.specs.Records.{byState, noImage}
 
+abbrev pub isAbsent : Record → Bool
+isAbsent r = byState (r .state) true false false
+
 -- pending: prepared by a transaction, and neither rolled forward nor back
 abbrev pub isPrepared : Record → Bool
 isPrepared r = byState (r .state) false false true
@@ -20,6 +23,14 @@ unchanged e r =
     && eqb (r .image .txid) (e .seen .txid)
     && eqb (r .image .version) (e .seen .version)
 
+-- the line has the columns read
+unfoldable pub sameColumns : Entry → Record → Bool
+sameColumns e r = eqb (r .image .column1) (e .seen .column1) && eqb (r .image .column2) (e .seen .column2)
+
+-- the columns alone
+abbrev pub columnsOf : Image → Columns
+columnsOf m = record { column1 = m .column1; column2 = m .column2 }
+
 -- What an entry does to its line: the columns of its put.
 abbrev pub Change : Type 0
 Change = Columns
@@ -29,7 +40,7 @@ changeOf e = e .put
 
 -- what a prepared line says is done once it is rolled forward
 abbrev pub changeIn : Record → Change
-changeIn r = record { column1 = r .image .column1; column2 = r .image .column2 }
+changeIn r = columnsOf (r .image)
 
 -- the image that a change writes under a number: "version + 1"
 abbrev pub writtenImage : ℕ → Change → Record → Image

@@ -11,7 +11,19 @@ unfoldable pub words : Kind → List (List ℕ)
 words Figure = []
 words StateWord = bytes "    ABSENT" ∷ bytes " COMMITTED" ∷ bytes "  PREPARED" ∷ []
 words DecisionWord = bytes "         -" ∷ bytes " COMMITTED" ∷ bytes "   ABORTED" ∷ []
-words UnitLetter = bytes "         R" ∷ bytes "         P" ∷ bytes "         T" ∷ bytes "         N" ∷ bytes "         S" ∷ []
+-- capitals, and then the small letters of storages that can't be read consistently
+words UnitLetter =
+    bytes "         R"
+    ∷ bytes "         P"
+    ∷ bytes "         T"
+    ∷ bytes "         N"
+    ∷ bytes "         S"
+    ∷ bytes "         r"
+    ∷ bytes "         p"
+    ∷ bytes "         t"
+    ∷ bytes "         n"
+    ∷ bytes "         s"
+    ∷ []
 
 -- word n of a kind, ten spaces where there is none
 abbrev pub wordAt : Kind → ℕ → List ℕ
@@ -104,15 +116,15 @@ imageBytes = offset imageFields imageLayout
 unfoldable pub headLayout : List Column
 headLayout =
     figures 4 0 999  -- count of numbers issued
-    ∷ word 2 UnitLetter 4  -- the unit of storage 1, with the space before it
-    ∷ word 1 UnitLetter 4
-    ∷ word 1 UnitLetter 4
-    ∷ word 1 UnitLetter 4
-    ∷ word 1 UnitLetter 4
-    ∷ word 1 UnitLetter 4
-    ∷ word 1 UnitLetter 4
-    ∷ word 1 UnitLetter 4
-    ∷ word 1 UnitLetter 4
+    ∷ word 2 UnitLetter 9  -- the unit of storage 1, with the space before it
+    ∷ word 1 UnitLetter 9
+    ∷ word 1 UnitLetter 9
+    ∷ word 1 UnitLetter 9
+    ∷ word 1 UnitLetter 9
+    ∷ word 1 UnitLetter 9
+    ∷ word 1 UnitLetter 9
+    ∷ word 1 UnitLetter 9
+    ∷ word 1 UnitLetter 9
     ∷ []
 
 abbrev pub decisionColumn : Column

@@ -2,7 +2,7 @@
 use Rattle.lists.specs.Basics.{_≡_, refl, ℕ, List, [], _∷_, _++_, map, take, bytes}
 use Rattle.model.specs.Lines.{text}
 use Rattle.model.specs.Transactions.{openPhase, undoPhase}
-use Rattle.model.specs.Coordinator.{coordinatorOf}
+use Rattle.model.specs.Coordinator.{Letter, coordinatorOf}
 use Rattle.model.specs.Groups.{unitFields}
 use Rattle.model.specs.Results.{visit, answerOf}
 use Rattle.model.specs.Operations.{Operation, once, close, responseOn, recordsLeft, coordinatorLeft}
@@ -96,6 +96,6 @@ note-cases = refl
 
 -- NOTE 3: "The number of key fields that a unit letter compares .. the published listing, which has five cases": the letters of storages 1 to 5 of this head are R,
 -- P, T, N and S, RECORD to STORAGE.
-pub five-letters : map unitFields (take 5 (coordinatorOf (text (bytes "   0 RPTNSRRRR" ∷ bytes "   1         -" ∷ [])) .units)) ≡ 5 ∷ 4 ∷ 3 ∷ 2 ∷ 1 ∷ []
+pub five-letters : map (λ (l : Letter). unitFields (l .unit)) (take 5 (coordinatorOf (text (bytes "   0 RPTNSRRRR" ∷ bytes "   1         -" ∷ [])) .units)) ≡ 5 ∷ 4 ∷ 3 ∷ 2 ∷ 1 ∷ []
 unfolding cases
 five-letters = refl

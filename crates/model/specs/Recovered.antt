@@ -1,27 +1,22 @@
--- What demand 3 claims, of bytes, a history of turns on them and visits that follow it.
+-- What demand 3 claims, of sheets, a history of turns on them and visits that follow it.
 use Rattle.lists.specs.Basics.{_≡_, ℕ, _<_, Bool, true, List, [], map, some, _⊎_}
 use Rattle.model.specs.Types.{Key, Record, Decision, Committed}
-use Rattle.model.specs.Records.{records, recordsText}
-use Rattle.model.specs.Coordinator.{coordinatorOf, decision}
+use Rattle.model.specs.Records.{recordsText}
+use Rattle.model.specs.Coordinator.{decision}
 use Rattle.model.specs.Images.{Change}
 use Rattle.model.specs.Writes.{Sheets}
 use Rattle.model.specs.Histories.{Event, leftBy}
-use Rattle.model.specs.ByteHistories.{Bytes, saying, answerOn, afterOn}
+use Rattle.model.specs.ByteHistories.{Bytes}
 use Rattle.model.specs.SequentialModel.{Model, firstModel, modelAfter, isCommitted}
 use Rattle.model.specs.RecoveryPass.{Visit, visitCall, nonePrepared}
-use Rattle.model.specs.Turns.{Turn, turnEventOn, turnAfterOn, turnOnePhaseOn, turnsLeft, onePhaseTurn, turnEvents}
+use Rattle.model.specs.Turns.{Turn, turnOnePhase, turnsLeft, onePhaseTurn, turnEvents}
+use Rattle.model.specs.TwoCalls.{TwoBytes}
+use Rattle.model.specs.Kinds.{Kind, bytesKind, twoKind}
 
 -- the sequential model after a history, which starts from what the record sheet says
 module _ {S : Type 0} (sheets : S → Sheets) (leaves : Turn → S → S) (events : Turn → S → Event) where
   abbrev pub modelAfterTurns : List Turn → S → Model
   modelAfterTurns xs s = modelAfter (turnEvents leaves events xs s []) (firstModel (sheets s .lines))
-
-abbrev pub modelOn : List Turn → Bytes → Model
-modelOn xs b = modelAfterTurns saying turnAfterOn turnEventOn xs b
-
--- the bytes after a history, and after visits that follow it
-abbrev pub bytesRecovered : List Visit → List Turn → Bytes → Bytes
-bytesRecovered vs xs b = leftBy answerOn afterOn (map visitCall vs) (turnsLeft turnAfterOn xs b)
 
 -- "A transaction .. is committed exactly when its coordinator line says so or its one-phase write was made."
 pub record CommittedExactly (committed : Bool) (line : Decision) (onePhase : Bool) : Type 0 where
@@ -29,10 +24,45 @@ pub record CommittedExactly (committed : Bool) (line : Decision) (onePhase : Boo
   pub decided : line ≡ Committed → committed ≡ true
   pub one-phased : onePhase ≡ true → committed ≡ true
 
-pub record Recovered (vs : List Visit) (xs : List Turn) (b : Bytes) : Type 0 where
-  -- "no line is PREPARED"
-  pub unprepared : nonePrepared (records (bytesRecovered vs xs b .records)) ≡ true
-  -- "and each is, byte for byte, its line in document 01's plain book"
-  pub lines : bytesRecovered vs xs b .records ≡ recordsText (map (λ (r : Record). modelOn xs b .line (r .key)) (records (b .records)))
-  -- of the numbers begun in the history those that have put something
-  pub committed : (n : ℕ) → coordinatorOf (b .coordinator) .issued < n → (k : Key) (c : Change) → modelOn xs b .writes n k ≡ some c → CommittedExactly (isCommitted n (modelOn xs b)) (decision n (coordinatorOf (bytesRecovered vs xs b .coordinator))) (onePhaseTurn turnAfterOn turnOnePhaseOn n xs b)
+-- On sheets of any kind.
+module _ {S : Type 0} (kind : Kind S) where
+  abbrev pub historyModel : List Turn → S → Model
+  historyModel xs b = modelAfterTurns (kind .sheets) (kind .turned) (kind .events) xs b
+
+  -- the sheets after a history, and after visits that follow it
+  abbrev pub sheetsRecovered : List Visit → List Turn → S → S
+  sheetsRecovered vs xs b = leftBy (kind .answers) (kind .leaves) (map visitCall vs) (turnsLeft (kind .turned) xs b)
+
+  -- the one-phase write of a number was made
+  abbrev pub onePhaseMade : ℕ → List Turn → S → Bool
+  onePhaseMade n xs b = onePhaseTurn (kind .turned) (λ (n : ℕ) (x : Turn) (b : S). turnOnePhase n x (kind .sheets b)) n xs b
+
+  pub record RecoveredOn (vs : List Visit) (xs : List Turn) (b : S) : Type 0 where
+    -- "no line is PREPARED"
+    pub unprepared : nonePrepared (kind .sheets (sheetsRecovered vs xs b) .lines) ≡ true
+    -- "and each is, byte for byte, its line in document 01's plain book"
+    pub lines : kind .text (sheetsRecovered vs xs b) ≡ recordsText (map (λ (r : Record). historyModel xs b .line (r .key)) (kind .sheets b .lines))
+    -- of the numbers begun in the history those that have put something
+    pub committed : (n : ℕ) → kind .sheets b .coordinator .issued < n → (k : Key) (c : Change) → historyModel xs b .writes n k ≡ some c → CommittedExactly (isCommitted n (historyModel xs b)) (decision n (kind .sheets (sheetsRecovered vs xs b) .coordinator)) (onePhaseMade n xs b)
+
+-- On a record sheet.
+
+abbrev pub modelOn : List Turn → Bytes → Model
+modelOn xs b = historyModel bytesKind xs b
+
+abbrev pub bytesRecovered : List Visit → List Turn → Bytes → Bytes
+bytesRecovered vs xs b = sheetsRecovered bytesKind vs xs b
+
+abbrev pub Recovered : List Visit → List Turn → Bytes → Type 0
+Recovered vs xs b = RecoveredOn bytesKind vs xs b
+
+-- On a plain sheet and a bookkeeping sheet. Document 02, note 4: "demand 3's lines and the plain book's are the joined sheet's, under lower-case letters as well".
+
+abbrev pub modelTwo : List Turn → TwoBytes → Model
+modelTwo xs b = historyModel twoKind xs b
+
+abbrev pub twoRecovered : List Visit → List Turn → TwoBytes → TwoBytes
+twoRecovered vs xs b = sheetsRecovered twoKind vs xs b
+
+abbrev pub RecoveredTwo : List Visit → List Turn → TwoBytes → Type 0
+RecoveredTwo vs xs b = RecoveredOn twoKind vs xs b

@@ -7,7 +7,10 @@ use Rattle.model.specs.Writes.{Write, nothing}
 -- The arguments of a call, the sheets excepted. A number ℕ is the clock reading at which the call is made.
 pub data Call : Type 0 where
   begin : Bool → Call
+  -- of a read in two calls the first
   read : Transaction → Key → ℕ → Call
+  -- and the second, which takes the columns that the first answered
+  second : Transaction → Key → ℕ → Columns → Call
   put : Transaction → Key → Columns → Call
   advance : Transaction → ℕ → Call
   abort : Transaction → Call

@@ -6,7 +6,7 @@ use Rattle.model.specs.Types.{Key, Record, Transaction}
 use Rattle.model.specs.Records.{noImage, sameKey, lineOf}
 use Rattle.model.specs.Images.{Change, writtenImage}
 use Rattle.model.specs.Transactions.{noVerdict, committedVerdict}
-use Rattle.model.specs.Results.{Call, begin, read, put, advance, abort, visit, Answer, turnedAway, returned, answered, visited, reported}
+use Rattle.model.specs.Results.{Call, begin, read, second, put, advance, abort, visit, Answer, turnedAway, returned, answered, visited, reported}
 use Rattle.model.specs.Histories.{Event}
 
 -- what is to be done to the line of each key
@@ -61,6 +61,7 @@ unfoldable pub modelCall : Call → Option Transaction → Model → Model
 modelCall (begin b) u m = modelBegin (numberOf u) m
 modelCall (put t k c) u m = modelPut (t .number) k c m
 modelCall (read t k now) u m = cond (commitsIt (some t) u) (modelCommit (t .number) m) m
+modelCall (second t k now c) u m = cond (commitsIt (some t) u) (modelCommit (t .number) m) m
 modelCall (advance t now) u m = cond (commitsIt (some t) u) (modelCommit (t .number) m) m
 modelCall (abort t) u m = cond (commitsIt (some t) u) (modelCommit (t .number) m) m
 modelCall (visit k now) u m = m

@@ -1,27 +1,36 @@
 -- What a checked transaction saw: the order in which the transactions of a history count, the serial run of the committed ones in that order, and what is
 -- claimed of both. Document 02, note 8.
-use Rattle.lists.specs.Basics.{_≡_, ℕ, eqb, leb, Bool, true, _&&_, _||_, cond, List, [], _∷_, Option, none, some, count}
+use Rattle.lists.specs.Basics.{_≡_, ℕ, eqb, leb, Bool, true, false, _&&_, _||_, cond, List, [], _∷_, Option, none, some, count}
 use Rattle.lists.specs.Members.{Mem}
-use Rattle.model.specs.Types.{Key, Record, Transaction, Reading}
-use Rattle.types.specs.declared.Reading.the-variants.{Again}
+use Rattle.model.specs.Types.{Key, Record, Columns, Transaction, Reading}
+use Rattle.types.specs.declared.Reading.the-variants.{Absent, Value, Again, First}
 use Rattle.model.specs.Records.{lineOf}
 use Rattle.model.specs.Transactions.{openPhase, preparePhase, validatePhase, decidePhase, donePhase, isEmpty, puts, reading}
-use Rattle.model.specs.Results.{Call, begin, read, put, advance, abort, visit, answered, refusalIn, returns}
+use Rattle.model.specs.Results.{Call, begin, read, second, put, advance, abort, visit, answered, refusalIn, returns}
 use Rattle.model.specs.Conditions.{heldEntry}
 use Rattle.model.specs.Histories.{Event, taken, eventsAfter}
 use Rattle.model.specs.SequentialModel.{Model, overwritten, isCommitted}
-use Rattle.model.specs.ByteHistories.{Bytes, saying, answerOn, afterOn}
+use Rattle.model.specs.ByteHistories.{Bytes}
 use Rattle.model.specs.Turns.{Turn, expanded}
+use Rattle.model.specs.TwoCalls.{TwoBytes}
+use Rattle.model.specs.Kinds.{Kind, bytesKind, twoKind}
 
--- the calls that the turns of a history come to, made on its bytes one after another, and their answers; the last one first
+-- the calls that the turns of a history come to, made on its sheets one after another, and their answers; the last one first
+abbrev pub callsMade : {S : Type 0} → Kind S → List Turn → S → List Event
+callsMade kind xs b = eventsAfter (kind .answers) (kind .leaves) (expanded xs (kind .sheets b)) b []
+
 abbrev pub callsOn : List Turn → Bytes → List Event
-callsOn xs b = eventsAfter answerOn afterOn (expanded xs (saying b)) b []
+callsOn xs b = callsMade bytesKind xs b
+
+abbrev pub callsTwo : List Turn → TwoBytes → List Event
+callsTwo xs b = callsMade twoKind xs b
 
 -- "Suppose every transaction is begun as checked": begin is told so wherever it is accepted.
 
 abbrev pub toldChecked : Call → Bool
 toldChecked (begin serializable) = serializable
 toldChecked (read t k now) = true
+toldChecked (second t k now c) = true
 toldChecked (put t k c) = true
 toldChecked (advance t now) = true
 toldChecked (abort t) = true
@@ -72,12 +81,28 @@ pub record Saw (line : Record) (k : Key) (v : Reading) (t′ : Transaction) : Ty
   pub answer : v ≡ reading (heldEntry k t′)
   pub first-read : heldEntry k t′ .seen ≡ line .image
 
+-- "Refused reads, *again* and first readings under lower-case letters don't count as reads."
+abbrev pub countsAsRead : Reading → Bool
+countsAsRead Absent = true
+countsAsRead (Value c) = true
+countsAsRead Again = false
+countsAsRead (First c) = false
+
+-- this call of a committed transaction, wherever it was made and counts as a read, saw the line that those before it leave
+abbrev pub Reads : List Record → Model → List Event → Transaction → Key → Call → Type 0
+Reads first m es t k call =
+    (v : Reading) (t′ : Transaction)
+    → Mem (record { call = call; answer = answered v t′ }) es
+    → countsAsRead v ≡ true
+    → isCommitted (t .number) m ≡ true
+    → Saw (serialLine first m (placedBefore (t .number) (serialOrder es)) k) k v t′
+
 -- "the committed ones read and wrote what they would have", of the first record sheet, the sequential model at the end of the history and the calls made in it
 pub record Serializable (first : List Record) (m : Model) (es : List Event) : Type 0 where
   -- each committed one has one position
   pub placed : (n : ℕ) → isCommitted n m ≡ true → count (eqb n) (serialOrder es) ≡ 1
-  -- each of its reads saw the line that those before it leave. "Refused reads, *again* .. don't count as reads."
-  pub reads : (t : Transaction) (k : Key) (now : ℕ) (v : Reading) (t′ : Transaction) → Mem (record { call = read t k now; answer = answered v t′ }) es
-      → (v ≡ Again → ⊥) → isCommitted (t .number) m ≡ true → Saw (serialLine first m (placedBefore (t .number) (serialOrder es)) k) k v t′
+  -- each of its reads saw the line that those before it leave, and so did each that took two calls
+  pub reads : (t : Transaction) (k : Key) (now : ℕ) → Reads first m es t k (read t k now)
+  pub second-reads : (t : Transaction) (k : Key) (now : ℕ) (c : Columns) → Reads first m es t k (second t k now c)
   -- and all of them together leave the lines that the commits of the history left
   pub writes : (k : Key) → serialLine first m (serialOrder es) k ≡ m .line k

@@ -4,7 +4,7 @@ use Rattle.lists.specs.Basics.{ℕ, _+_, _*_, _/_, eqb, Bool, not, _&&_, cond, 
 use Rattle.model.specs.Types.{Key, Found, At, Nothing}
 use Rattle.model.specs.Layouts.{recordBytes, coordinatorBytes, recordFields, headFields}
 use Rattle.model.specs.Records.{records, recordsAccepted, recordsText, recordOf, rows, rowsAccepted, allNumbers, keyInRange, found, isMissing}
-use Rattle.model.specs.Coordinator.{coordinatorOf, coordinatorAccepted, coordinatorText, coordinatorFrom, coordinatorNumbers, numbersAccepted}
+use Rattle.model.specs.Coordinator.{coordinatorOf, coordinatorReadable, coordinatorAccepted, coordinatorText, coordinatorFrom, coordinatorNumbers, numbersAccepted}
 use Rattle.model.specs.Coordinator.{namesIssued}
 use Rattle.model.specs.Refusals.{Condition, refuse, refusalOf}
 
@@ -17,6 +17,10 @@ unlessRefused cs written target = cond (eqb (refusalOf cs) 0) written target
 -- no record names a number that has not been issued
 unfoldable pub allIssued : List ℕ → List ℕ → Bool
 allIssued rs cs = all (namesIssued (coordinatorOf cs .issued)) (records rs)
+
+-- of sheets with letters of either case
+unfoldable pub readableConditions : List ℕ → List ℕ → List Condition
+readableConditions rs cs = refuse 1 (not (recordsAccepted rs)) ∷ refuse 2 (not (coordinatorReadable cs && allIssued rs cs)) ∷ []
 
 unfoldable pub checkConditions : List ℕ → List ℕ → List Condition
 checkConditions rs cs = refuse 1 (not (recordsAccepted rs)) ∷ refuse 2 (not (coordinatorAccepted cs && allIssued rs cs)) ∷ []

@@ -1,12 +1,12 @@
 -- The step table: what an advance does in each of the eight phases, whether or not it would be refused. Document 01, "Transaction".
-use Rattle.lists.specs.Basics.{ℕ, _+_, eqb, ltb, Bool, not, _&&_, cond, List, map, length, getD, all}
-use Rattle.model.specs.Types.{Key, Committed, Aborted, AtomicityUnit, Entry, Transaction}
+use Rattle.lists.specs.Basics.{ℕ, _+_, eqb, ltb, Bool, not, _&&_, _||_, cond, List, map, length, getD, all, any}
+use Rattle.model.specs.Types.{Key, Committed, Aborted, Entry, Transaction}
 use Rattle.model.specs.Records.{hasLine, lineOf}
-use Rattle.model.specs.Coordinator.{decision}
+use Rattle.model.specs.Coordinator.{Letter, decision}
 use Rattle.model.specs.Transactions.{byPhase, preparePhase, validatePhase, decidePhase, withdrawPhase, finishPhase, undoPhase, donePhase}
-use Rattle.model.specs.Transactions.{committedVerdict, abortedVerdict, isSerializable, isEmpty, puts, toValidate, noEntry, moved}
-use Rattle.model.specs.Groups.{groupCount, group}
-use Rattle.model.specs.Images.{unchanged, byDecision}
+use Rattle.model.specs.Transactions.{committedVerdict, abortedVerdict, isSerializable, isEmpty, held, puts, toValidate, noEntry, moved}
+use Rattle.model.specs.Groups.{isLower, groupCount, group}
+use Rattle.model.specs.Images.{unchanged, sameColumns, byDecision}
 use Rattle.model.specs.Writes.{Sheets, Write, nothing, decide, commit, prepare, forward, back}
 
 -- the transaction that comes back, and what is written
@@ -14,12 +14,16 @@ pub record Step : Type 0 where
   pub transaction : Transaction
   pub write : Write
 
--- "The condition of an entry": total, and false where its key has no line
-unfoldable pub holds : Sheets → Entry → Bool
-holds s e = hasLine (e .key) (s .lines) && unchanged e (lineOf (e .key) (s .lines))
-
-abbrev pub unitsOf : Sheets → List AtomicityUnit
+abbrev pub unitsOf : Sheets → List Letter
 unitsOf s = s .coordinator .units
+
+-- "The condition of an entry": total, and false where its key has no line. Where the storage can't be read consistently "its conditions there compare columns
+-- besides TxID and version".
+unfoldable pub holds : Sheets → Entry → Bool
+holds s e =
+    hasLine (e .key) (s .lines)
+    && unchanged e (lineOf (e .key) (s .lines))
+    && (not (isLower (unitsOf s) (e .key)) || sameColumns e (lineOf (e .key) (s .lines)))
 
 abbrev pub groupsOf : Transaction → Sheets → ℕ
 groupsOf t s = groupCount (unitsOf s) (puts t)
@@ -43,12 +47,16 @@ noStep t = record { transaction = t; write = nothing }
 abbrev pub commits : Transaction → Transaction
 commits t = moved donePhase 0 committedVerdict t
 
--- "one group and not checked"
-unfoldable pub onePhaseAllowed : Transaction → Sheets → Bool
-onePhaseAllowed t s = eqb (groupsOf t s) 1 && not (isSerializable t)
+-- the transaction holds a key, put or not, of a storage that can't be read consistently
+abbrev pub holdsLower : List Letter → Transaction → Bool
+holdsLower us t = any (λ (e : Entry). isLower us (e .key)) (held t)
 
--- "no puts: to check if checked with entries, else done, committed"
-unfoldable pub openWithoutPuts : List AtomicityUnit → Transaction → Step
+-- "one group and not checked"; "a transaction holding such a key doesn't use one-phase"
+unfoldable pub onePhaseAllowed : Transaction → Sheets → Bool
+onePhaseAllowed t s = eqb (groupsOf t s) 1 && not (isSerializable t) && not (holdsLower (unitsOf s) t)
+
+-- "no puts: to check if checked with entries", or with such entries if not, "else done, committed"
+unfoldable pub openWithoutPuts : List Letter → Transaction → Step
 openWithoutPuts us t = cond (isEmpty (toValidate us t)) (record { transaction = commits t; write = nothing }) (to validatePhase t)
 
 -- "if all conditions in the group hold, write the puts as COMMITTED under this number, version + 1, to done, committed (one-phase); if not, to withdraw"
@@ -62,7 +70,7 @@ unfoldable pub openStep : Transaction → Sheets → Step
 openStep t s = cond (isEmpty (puts t)) (openWithoutPuts (unitsOf s) t) (cond (onePhaseAllowed t s) (onePhase t s) (to preparePhase t))
 
 -- "after the last check (if checked with entries not put) or decide"
-abbrev pub afterPrepare : List AtomicityUnit → Transaction → ℕ
+abbrev pub afterPrepare : List Letter → Transaction → ℕ
 afterPrepare us t = cond (isEmpty (toValidate us t)) decidePhase validatePhase
 
 -- the next group, or after the last another phase and its verdict
@@ -79,7 +87,7 @@ prepareStep t now s =
     (to withdrawPhase t)
 
 -- "next, after the last decide, or done, committed, without puts"
-unfoldable pub nextEntry : List AtomicityUnit → Transaction → Transaction
+unfoldable pub nextEntry : List Letter → Transaction → Transaction
 nextEntry us t =
     cond (ltb (t .place + 1) (length (toValidate us t))) (moved validatePhase (t .place + 1) (t .verdict) t)
     (cond (isEmpty (puts t)) (commits t) (moved decidePhase 0 (t .verdict) t))

@@ -1,9 +1,11 @@
 -- A transaction as its client keeps it: names for its numbers, and the entries that it holds. Document 01, "Transaction".
-use Rattle.lists.specs.Basics.{ℕ, eqb, Bool, true, false, not, _&&_, cond, List, [], _∷_, take, set, filter}
-use Rattle.model.specs.Types.{Key, Image, AtomicityUnit, Found, Columns, Entry, Transaction, Reading}
+use Rattle.lists.specs.Basics.{ℕ, eqb, Bool, true, false, not, _&&_, _||_, cond, List, [], _∷_, take, set, filter}
+use Rattle.model.specs.Types.{Key, Image, Found, Columns, Entry, Transaction, Reading}
 use Rattle.types.specs.declared.Reading.the-variants.{Absent, Value}
 use Rattle.model.specs.Search.{firstFrom}
 use Rattle.model.specs.Records.{noImage, noRecord, sameKey}
+use Rattle.model.specs.Coordinator.{Letter}
+use Rattle.model.specs.Groups.{isLower}
 
 -- Phases by number, in the order of the step table. Validate is document 01's check.
 
@@ -68,11 +70,12 @@ isPut e = eqb (e .wrote) 1
 unfoldable pub puts : Transaction → List Entry
 puts t = filter isPut (held t)
 
--- an entry that must be validated before the transaction may commit: one without a put, if the transaction is serializable, whatever the units
-abbrev pub mustValidate : List AtomicityUnit → Transaction → Entry → Bool
-mustValidate us t e = isSerializable t && not (isPut e)
+-- an entry that must be validated before the transaction may commit: one without a put, if the transaction is serializable or the storage can't be read
+-- consistently ("Unchecked transactions go to check .. for such entries only")
+abbrev pub mustValidate : List Letter → Transaction → Entry → Bool
+mustValidate us t e = not (isPut e) && (isSerializable t || isLower us (e .key))
 
-unfoldable pub toValidate : List AtomicityUnit → Transaction → List Entry
+unfoldable pub toValidate : List Letter → Transaction → List Entry
 toValidate us t = filter (mustValidate us t) (held t)
 
 abbrev pub noEntry : Entry

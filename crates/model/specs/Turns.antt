@@ -6,7 +6,7 @@ use Rattle.model.specs.Types.{Transaction, Request}
 use Rattle.model.specs.Writes.{Sheets}
 use Rattle.model.specs.Results.{Call, Answer, Response, answerOf}
 use Rattle.model.specs.Histories.{Event, written, after, Permitted, onePhaseIn}
-use Rattle.model.specs.ByteHistories.{Bytes, saying}
+use Rattle.model.specs.ByteHistories.{Bytes}
 use Rattle.model.specs.Operations.{Operation, writesOnce, standsFor, response, sheetsLeft, callsOf, responseOn, bytesLeft}
 use Rattle.model.specs.CallByPlace.{listed, operationAt, callAt, responseAt, responseAtOn}
 
@@ -64,9 +64,6 @@ turnEventOn x b = record { call = turnCall x; answer = answerOf (turnResponseOn 
 
 unfoldable pub turnAfterOn : Turn → Bytes → Bytes
 turnAfterOn x b = bytesLeft b (turnResponseOn x b)
-
-abbrev pub turnOnePhaseOn : ℕ → Turn → Bytes → Bool
-turnOnePhaseOn n x b = turnOnePhase n x (saying b)
 
 -- Histories of turns over any kind of sheets, by how a turn leaves them ..
 module _ {S : Type 0} (leaves : Turn → S → S) where

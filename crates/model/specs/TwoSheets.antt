@@ -1,13 +1,14 @@
 -- The plain sheet and the bookkeeping sheet, joined and apart. Document 02, note 4: "Some saddlers' fitting sheets may not be widened. Add a plain sheet with key,
 -- column 1 and column 2, and a bookkeeping sheet with key and the remaining fields, as in source document 000's decoupling."
-use Rattle.lists.specs.Basics.{ℕ, _+_, Bool, true, false, _&&_, not, List, [], _∷_, _++_, map, take, drop, getD, all, joined}
+use Rattle.lists.specs.Basics.{ℕ, _+_, _*_, eqb, Bool, true, false, _&&_, not, cond, List, [], _∷_, _++_, map, take, drop, getD, all, joined}
 use Rattle.types.specs.declared.State.the-variants.{Committed}
-use Rattle.model.specs.Types.{Column, Record}
+use Rattle.model.specs.Types.{Key, Column, Record, Found, At, Nothing}
 use Rattle.model.specs.Layouts.{recordLayout, imageField, beforeField, keyLayout, columnsLayout, keyBytes, recordBytes}
 use Rattle.model.specs.Lines.{rowOf, linesOf, linesSet}
-use Rattle.model.specs.Records.{stateOf, keyOf, imageFrom, noImage, recordsGood, recordsAccepted, sameKey}
-use Rattle.model.specs.Coordinator.{coordinatorOf, coordinatorAccepted, namesIssued}
+use Rattle.model.specs.Records.{stateOf, keyOf, imageFrom, noImage, recordsGood, records, recordsAccepted, sameKey, keyInRange, found, isMissing}
+use Rattle.model.specs.Coordinator.{coordinatorOf, coordinatorReadable, namesIssued}
 use Rattle.model.specs.Refusals.{Condition, refuse}
+use Rattle.model.specs.SheetCalls.{unlessRefused}
 
 -- Layouts: "a plain sheet with key, column 1 and column 2, and a bookkeeping sheet with key and the remaining fields .. with widths and field order as in document 01".
 
@@ -120,12 +121,50 @@ unfoldable pub sameKeys : List ℕ → List ℕ → Bool
 sameKeys ps bs =
     sameKeysIn (map plainRecord (linesOf plainBytes ps)) (map bookkeepingRecord (linesOf bookkeepingBytes bs))
 
--- "Errors: 13, after 2": either sheet alone, the joined sheet where the keys agree, the coordinator sheet, the keys
-unfoldable pub twoConditions : List ℕ → List ℕ → List ℕ → List Condition
-twoConditions ps bs cs =
+-- "Refusal 1 is for either sheet alone and, where 13 doesn't apply, for the joined one."
+unfoldable pub linesConditions : List ℕ → List ℕ → List Condition
+linesConditions ps bs =
     refuse 1 (not (plainAlone ps))
     ∷ refuse 1 (not (bookkeepingAlone bs))
     ∷ refuse 1 (sameKeys ps bs && not (recordsAccepted (joinedSheet ps bs)))
-    ∷ refuse 2 (not (coordinatorAccepted cs && all (namesIssued (coordinatorOf cs .issued)) (map bookkeepingRecord (linesOf bookkeepingBytes bs))))
-    ∷ refuse 13 (not (sameKeys ps bs))
     ∷ []
+
+-- and 13, as far as both sheets are asked alone
+unfoldable pub keyConditions : List ℕ → List ℕ → List Condition
+keyConditions ps bs = linesConditions ps bs ++ (refuse 13 (not (sameKeys ps bs)) ∷ [])
+
+-- the coordinator sheet, with letters of either case, and the numbers that the bookkeeping sheet names
+unfoldable pub coordinatorFits : List ℕ → List ℕ → Bool
+coordinatorFits bs cs = coordinatorReadable cs && all (namesIssued (coordinatorOf cs .issued)) (map bookkeepingRecord (linesOf bookkeepingBytes bs))
+
+-- "Errors: 13, after 2"
+unfoldable pub twoConditions : List ℕ → List ℕ → List ℕ → List Condition
+twoConditions ps bs cs = linesConditions ps bs ++ (refuse 2 (not (coordinatorFits bs cs)) ∷ refuse 13 (not (sameKeys ps bs)) ∷ [])
+
+-- The look-up "hands back the line of whichever sheet is named, an empty part under 13 too".
+
+unfoldable pub lookupTwoConditions : List ℕ → List ℕ → Key → List Condition
+lookupTwoConditions ps bs k =
+    keyConditions ps bs ++ (refuse 5 (not (keyInRange k)) ∷ refuse 6 (isMissing (found k (records (joinedSheet ps bs)))) ∷ [])
+
+-- the sheets by the numbers that name them
+abbrev pub plainNamed : ℕ
+plainNamed = 0
+
+abbrev pub bookkeepingNamed : ℕ
+bookkeepingNamed = 1
+
+-- the bytes of the line at an index, none where nothing was found
+unfoldable pub lineOfSheet : ℕ → List ℕ → Found → List ℕ
+lineOfSheet width s (At i) = take width (drop (i * width) s)
+lineOfSheet width s Nothing = []
+
+-- the line that has the key, or nothing; nothing too where no sheet has that name
+unfoldable pub lookedUpTwo : List ℕ → List ℕ → ℕ → Key → List ℕ
+lookedUpTwo ps bs named k =
+    unlessRefused (lookupTwoConditions ps bs k)
+    (cond (eqb named plainNamed) (lineOfSheet plainBytes ps at) (cond (eqb named bookkeepingNamed) (lineOfSheet bookkeepingBytes bs at) []))
+    []
+  where
+    at : Found
+    at = found k (records (joinedSheet ps bs))

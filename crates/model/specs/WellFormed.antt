@@ -1,11 +1,12 @@
 -- Well-formed transactions (refusal 3): a line for each clause of document 01, "Transaction". Where it leaves room, docs/DECISIONS.md says what was decided.
 use Rattle.lists.specs.Basics.{ℕ, eqb, leb, ltb, Bool, true, false, not, _&&_, _||_, List, [], _∷_, length, all, any}
-use Rattle.model.specs.Types.{Image, Record, AtomicityUnit, Columns, Entry, Transaction}
+use Rattle.model.specs.Types.{Image, Record, Columns, Entry, Transaction}
 use Rattle.model.specs.Layouts.{imageLayout, columnsLayout}
 use Rattle.model.specs.Lines.{rowGood}
 use Rattle.model.specs.Records.{imageNumbers, isZero, sameKey, hasLine}
-use Rattle.model.specs.Transactions.{byPhase, validatePhase, decidePhase, noVerdict, committedVerdict, abortedVerdict, isSerializable, isPut, isEmpty}
+use Rattle.model.specs.Transactions.{byPhase, decidePhase, noVerdict, committedVerdict, abortedVerdict, isPut, isEmpty}
 use Rattle.model.specs.Transactions.{held, puts, toValidate}
+use Rattle.model.specs.Coordinator.{Letter}
 use Rattle.model.specs.Groups.{groupCount}
 use Rattle.model.specs.Writes.{Sheets}
 
@@ -35,8 +36,9 @@ unfoldable pub distinctKeys : List Entry → Bool
 distinctKeys [] = true
 distinctKeys (e ∷ es) = not (any (λ (f : Entry). sameKey (f .key) (e .key)) es) && distinctKeys es
 
--- "place is below the number of groups (prepare, finish, undo) or of entries without put (check), else 0"; a number that is no phase has no place
-unfoldable pub placeFormed : List AtomicityUnit → Transaction → Bool
+-- "place is below the number of groups (prepare, finish, undo) or of entries without put (check), else 0"; a number that is no phase has no place. Entries
+-- without put are those to validate, so that "only a checked one is in check", or one that holds such entries: another has no place there.
+unfoldable pub placeFormed : List Letter → Transaction → Bool
 placeFormed us t =
     byPhase (t .phase) (eqb (t .place) 0) (ltb (t .place) (groupCount us (puts t))) (ltb (t .place) (length (toValidate us t)))
     (eqb (t .place) 0) (eqb (t .place) 0) (ltb (t .place) (groupCount us (puts t))) (ltb (t .place) (groupCount us (puts t)))
@@ -50,7 +52,7 @@ verdictFormed t =
     (eqb (t .verdict) abortedVerdict) (eqb (t .verdict) committedVerdict || eqb (t .verdict) abortedVerdict) false
 
 -- What can be told from the units and the issued count.
-unfoldable pub formed : List AtomicityUnit → ℕ → Transaction → Bool
+unfoldable pub formed : List Letter → ℕ → Transaction → Bool
 formed us issued t =
     leb 1 (t .number)
     && leb (t .number) issued  -- "its number is 1 to the issued count"
@@ -59,7 +61,6 @@ formed us issued t =
     && all (entryFormed issued) (held t)
     && distinctKeys (held t)
     && (not (eqb (t .phase) decidePhase) || not (isEmpty (puts t)))  -- "decide has a put"
-    && (not (eqb (t .phase) validatePhase) || isSerializable t)  -- "only a checked one is in check"
     && placeFormed us t
     && verdictFormed t
 

@@ -4,13 +4,14 @@ use Rattle.lists.specs.Basics.{_≡_, refl, sym, ap, ap₂, _∙_, ℕ, suc, _+
 use Rattle.lists.specs.Basics.{length-map, length-take, arith, eq-eqb, ne-eqb, all, joined, and-fst, and-snd, tests}
 use Rattle.lists.specs.All.{map-map, map-equal}
 use Rattle.model.specs.Layouts.{headLayout, lineLayout, decisionColumn, figures, coordinatorBytes, headFields}
-use Rattle.model.specs.Lines.{rowOf, lineText, lineSet, rowGood, inRange, linesOf, linesSet}
-use Rattle.model.specs.Coordinator.{decisionNumber, decisionOf, decisionIn, decisionTexts, headNumbers, coordinatorOf, coordinatorAccepted, coordinatorText}
+use Rattle.model.specs.Lines.{rowOf, lineText, lineSet, rowGood, inRange, linesOf}
+use Rattle.model.specs.Coordinator.{decisionNumber, decisionOf, decisionIn, decisionTexts, headNumbers, coordinatorOf, coordinatorReadable, coordinatorAccepted, coordinatorText}
 use Rattle.model.specs.Coordinator.{coordinatorNumbers, coordinatorFrom, numbersAccepted}
 use Rattle.model.specs.Refusals.{refusalOf}
 use Rattle.model.specs.SheetCalls.{readCoordinatorConditions, decisionsRead, writeCoordinatorConditions, coordinatorWritten}
 use Rattle.sheet_laws.specs.Lines.{length-rowOf, line-written-read, row-in-range}
 use Rattle.sheet_laws.specs.Coordinator.{head-layout-ok, line-layout-ok, number-of-decision, head-numbers, bounds}
+use Rattle.sheet_laws.specs.Decisions.{accepted-parts, readable-parts}
 use Rattle.numbers.specs.DecisionFills.{decisionField, lineTexts, numbersIn, sheetFor}
 
 -- a line that can be read says its decision's number
@@ -20,18 +21,17 @@ field-is line h =
     let r = line-written-read lineLayout line line-layout-ok h in
     number-of-decision (getD (rowOf lineLayout line) 1 0) (row-in-range lineLayout (rowOf lineLayout line) (figures 0 0 0) 1 (r .1) (omega arith))
 
--- the numbers in an accepted sheet are those of its coordinator
-numbers-in : (s : List ℕ) → coordinatorAccepted s ≡ true → numbersIn s ≡ coordinatorNumbers (coordinatorOf s)
-unfolding numbersIn coordinatorNumbers coordinatorOf headNumbers coordinatorAccepted linesSet
+-- the numbers in a sheet that keeps the rules are those of its coordinator
+numbers-in : (s : List ℕ) → coordinatorReadable s ≡ true → numbersIn s ≡ coordinatorNumbers (coordinatorOf s)
+unfolding numbersIn coordinatorNumbers coordinatorOf headNumbers linesOf
 numbers-in s h =
-    let head : lineSet headLayout (take coordinatorBytes s) ≡ true = search tests in
-    let each : all (lineSet lineLayout) (linesOf coordinatorBytes (drop coordinatorBytes s)) ≡ true = search tests in
-    let r = line-written-read headLayout (take coordinatorBytes s) head-layout-ok head in
+    let p = readable-parts s h in
+    let r = line-written-read headLayout (take coordinatorBytes s) head-layout-ok (p .head) in
     let n : length (rowOf headLayout (take coordinatorBytes s)) ≡ headFields = unfold headLayout in length-rowOf headLayout (take coordinatorBytes s) in
     sym
     (ap₂ _++_ (head-numbers (rowOf headLayout (take coordinatorBytes s)) (r .1) n)
     (map-map decisionNumber decisionIn (linesOf coordinatorBytes (drop coordinatorBytes s))
-    ∙ map-equal (lineSet lineLayout) (λ (x : List ℕ). decisionNumber (decisionIn x)) decisionField field-is (linesOf coordinatorBytes (drop coordinatorBytes s)) each))
+    ∙ map-equal (lineSet lineLayout) (λ (x : List ℕ). decisionNumber (decisionIn x)) decisionField field-is (linesOf coordinatorBytes (drop coordinatorBytes s)) (p .readable)))
 
 -- the lines of decisions in range
 texts-are : (k : ℕ) (ds : List ℕ) → all (inRange decisionColumn) ds ≡ true → lineTexts k ds ≡ decisionTexts k (map decisionOf ds)
@@ -87,7 +87,7 @@ module _ (s t : List ℕ) where
   pub read-done : (u : List ℕ) → length t ≡ headFields + length (drop coordinatorBytes s) / coordinatorBytes → coordinatorAccepted s ≡ true → u ≡ numbersIn s → ReadCoordinator 0 u
   unfolding readCoordinatorConditions decisionsRead refusalOf
   read-done u n e q =
-      let k = numbers-in s e in
+      let k = numbers-in s (accepted-parts s e .0) in
       rw (eq-eqb (length t) (headFields + length (drop coordinatorBytes s) / coordinatorBytes) n, e) (refl, q ∙ k)
 
 -- Numbers to coordinator sheet.

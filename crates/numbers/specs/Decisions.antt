@@ -1,14 +1,14 @@
 -- A coordinator as numbers, judged decision by decision: below the issued count any of the three, from it on none.
 -- The two tests of the rules, range and no decision, are one pass, by induction on the decisions.
 use Rattle.lists.specs.Basics.{_≡_, refl, sym, ap, ap₂, _∙_, ℕ, zero, suc, _+_, _-_, _*_, _/_, _%_, _≤_, _<_, eqb, leb, Bool, true, false, _&&_, and-assoc}
-use Rattle.lists.specs.Basics.{and-false, List, [], _∷_, map, length, take, drop, getD, length-map, length-take, length-drop, arith, eqb-true, leb-true, eq-eqb}
+use Rattle.lists.specs.Basics.{and-true, and-false, List, [], _∷_, map, length, take, drop, getD, length-map, length-take, length-drop, arith, eqb-true, leb-true, eq-eqb}
 use Rattle.lists.specs.Basics.{ne-eqb, le-leb, lt-leb, all, same-test}
 use lib.Dec.{leb·zero}
 use Rattle.lists.specs.Tests.{and-swap}
 use Rattle.lists.specs.Walks.{LeftFrom, left-first, left-here, left-last}
 use Rattle.model.specs.Layouts.{headLayout, decisionColumn, coordinatorBytes, headFields}
 use Rattle.model.specs.Lines.{inRange, rowGood}
-use Rattle.model.specs.Coordinator.{decisionOf, unitOf, isUndecided, coordinatorGood, coordinatorFrom, numbersAccepted}
+use Rattle.model.specs.Coordinator.{decisionOf, letterOf, isUndecided, coordinatorGood, allCapitals, coordinatorFrom, numbersAccepted}
 
 -- the highest decision that may stand where k numbers of those from here on are issued
 unfoldable pub highest : ℕ → ℕ
@@ -79,26 +79,39 @@ pub pass-last : (issued : ℕ) (ds : List ℕ) (i : ℕ) → length ds ≤ i →
 unfolding decisionsPass
 pass-last issued ds i l p = left-last ds (decisionsPass (issued - i)) (decisionsPass issued ds) i l p
 
--- the decisions judged last
-reorder : (g a b c d z : Bool) → (g && a && (b && c && d && z)) ≡ (g && (b && (c && (d && (a && z)))))
-reorder false a b c d z = refl
-reorder true a b c d z = and-swap true a (b && c && d) z ∙ (and-assoc (b && c) d (a && z) ∙ and-assoc b c (d && (a && z)))
+-- what the code asks of numbers, in its order
+abbrev askedOf : List ℕ → Bool
+askedOf v =
+    leb headFields (length v)
+    && (rowGood headLayout (take headFields v)
+    && (allCapitals (map letterOf (take 9 (drop 1 v)))
+    && (leb 1 (length v - headFields)
+    && (leb (length v - headFields) 999
+    && (leb (getD v 0 0) (length v - headFields) && decisionsPass (getD v 0 0) (drop headFields v))))))
 
--- the acceptance of numbers, in the order in which the code asks
-pub accepted-numbers : (v : List ℕ) → numbersAccepted v ≡ (leb headFields (length v) && (rowGood headLayout (take headFields v) && (leb 1 (length v - headFields) && (leb (length v - headFields) 999 && (leb (getD v 0 0) (length v - headFields) && decisionsPass (getD v 0 0) (drop headFields v))))))
+-- the letters judged before the decisions, and these last
+reorder : (g k a b c d z : Bool) → (g && a && (b && c && d && z) && k) ≡ (g && (k && (b && (c && (d && (a && z))))))
+reorder false k a b c d z = refl
+reorder true false a b c d z = and-false (a && (b && c && d && z))
+reorder true true a b c d z =
+    and-true (a && (b && c && d && z))
+    ∙ (and-swap true a (b && c && d) z ∙ (and-assoc (b && c) d (a && z) ∙ and-assoc b c (d && (a && z))))
+
+-- the acceptance of numbers is what the code asks
+pub accepted-numbers : (v : List ℕ) → numbersAccepted v ≡ askedOf v
 unfolding numbersAccepted coordinatorGood coordinatorFrom
 accepted-numbers v = go (leb headFields (length v)) refl
   where
     count : length (map decisionOf (drop headFields v)) ≡ length v - headFields
     count = length-map (drop headFields v) decisionOf ∙ length-drop headFields v
 
-    go : (b : Bool) → leb headFields (length v) ≡ b → numbersAccepted v ≡ (leb headFields (length v) && (rowGood headLayout (take headFields v) && (leb 1 (length v - headFields) && (leb (length v - headFields) 999 && (leb (getD v 0 0) (length v - headFields) && decisionsPass (getD v 0 0) (drop headFields v))))))
+    go : (b : Bool) → leb headFields (length v) ≡ b → numbersAccepted v ≡ askedOf v
     go true e =
         let l = leb-true headFields (length v) e in
-        let n : length (map unitOf (take 9 (drop 1 v))) ≡ 9 = length-map (take 9 (drop 1 v)) unitOf ∙ simp (length-take, length-drop) (omega arith) in
+        let n : length (map letterOf (take 9 (drop 1 v))) ≡ 9 = length-map (take 9 (drop 1 v)) letterOf ∙ simp (length-take, length-drop) (omega arith) in
         rw (e, n, count)
-        (reorder (rowGood headLayout (take headFields v)) (all (inRange decisionColumn) (drop headFields v)) (leb 1 (length v - headFields)) (leb (length v - headFields) 999) (leb (getD v 0 0) (length v - headFields)) (all isUndecided (drop (getD v 0 0) (map decisionOf (drop headFields v))))
-        ∙ ap (λ (b : Bool). rowGood headLayout (take headFields v) && (leb 1 (length v - headFields) && (leb (length v - headFields) 999 && (leb (getD v 0 0) (length v - headFields) && b)))) (decisions-pass (getD v 0 0) (drop headFields v)))
+        (reorder (rowGood headLayout (take headFields v)) (allCapitals (map letterOf (take 9 (drop 1 v)))) (all (inRange decisionColumn) (drop headFields v)) (leb 1 (length v - headFields)) (leb (length v - headFields) 999) (leb (getD v 0 0) (length v - headFields)) (all isUndecided (drop (getD v 0 0) (map decisionOf (drop headFields v))))
+        ∙ ap (λ (b : Bool). rowGood headLayout (take headFields v) && (allCapitals (map letterOf (take 9 (drop 1 v))) && (leb 1 (length v - headFields) && (leb (length v - headFields) 999 && (leb (getD v 0 0) (length v - headFields) && b))))) (decisions-pass (getD v 0 0) (drop headFields v)))
     go false e = rw e
 
 -- The room for a head and n lines, by whole lines.

@@ -7,7 +7,7 @@ ghost use lib.Dec.{eqb};
 ghost use Rattle.lists.specs.Each.{joined};
 ghost use Rattle.model.specs.Layouts.{coordinatorBytes, headFields};
 ghost use Rattle.model.specs.Lines.{linesOf};
-ghost use Rattle.model.specs.Coordinator.{numbersAccepted};
+ghost use Rattle.model.specs.Coordinator.{letterOf, allCapitals, numbersAccepted};
 ghost use Rattle.model.specs.Refusals.{refusalOf};
 ghost use Rattle.model.specs.SheetCalls.{readCoordinatorConditions, decisionsRead, writeCoordinatorConditions, coordinatorWritten};
 ghost use Rattle.numbers.specs.Decisions.{highest, decisionsPass};
@@ -46,7 +46,20 @@ fn as_count(issued: u32) -> usize
     issued as usize
 }
 
-// The numbers are those of a coordinator that keeps the rules.
+// Every letter is a capital, those being the first five: small letters are for two sheets only.
+fn capitals(letters: &[u32]) -> bool
+    ensures { λ r. ⌜ r ≡ allCapitals (map letterOf (now (letters .entry))) ⌝ }
+{
+    let n = letters.len();
+    for i in 0..n {
+        if 4 < letters[i] {
+            return false;
+        }
+    }
+    true
+}
+
+// The numbers are those of a coordinator of capitals that keeps the rules.
 pub fn numbers_ok(numbers: &[u32]) -> bool
     ensures { λ r. ⌜ r ≡ numbersAccepted (now (numbers .entry)) ⌝ }
 {
@@ -54,6 +67,9 @@ pub fn numbers_ok(numbers: &[u32]) -> bool
         return false;
     }
     if !codec::lines::row_good(Layout::CoordinatorHead, &numbers[..HEAD_FIELDS]) {
+        return false;
+    }
+    if !capitals(&numbers[1..HEAD_FIELDS]) {
         return false;
     }
     let n = numbers.len() - HEAD_FIELDS;

@@ -4,8 +4,9 @@ use Rattle.lists.specs.Basics.{eqb-true, any, filter, count, less, eqList, eqLi
 use Rattle.model.specs.Types.{Key, AtomicityUnit, Entry, Transaction}
 use Rattle.types.specs.declared.AtomicityUnit.the-variants.{Record as RecordUnit, Partition, Table, Namespace, Storage}
 use Rattle.model.specs.Records.{keyNumbers}
+use Rattle.model.specs.Coordinator.{Letter}
 use Rattle.model.specs.Transactions.{isPut, held, puts}
-use Rattle.model.specs.Groups.{unitFields, unitFor, scope, addScope, scopes, groupPlace, group}
+use Rattle.model.specs.Groups.{unitFields, letterFor, scope, addScope, scopes, groupPlace, group}
 use Rattle.transactions.specs.Held.{tallied}
 
 -- a unit compares the storage at least
@@ -28,31 +29,31 @@ module _ (m n x y : ℕ) (s t : List ℕ) (differ : eqb x y ≡ false) where
   first-decides = rw differ (or-false (ltb x y))
 
 -- Two scopes are compared in the fields that the unit of the first storage compares: where the storages differ, they decide.
-module _ (us : List AtomicityUnit) (a b : Key) where
-  by-scope : (f : List ℕ → List ℕ → Bool) → ((m n x y : ℕ) (s t : List ℕ) → eqb x y ≡ false → f (take (suc m) (x ∷ s)) (take (suc m) (y ∷ t)) ≡ f (take (suc m) (x ∷ s)) (take (suc n) (y ∷ t))) → f (take (unitFields (unitFor (a .storage) us)) (keyNumbers a)) (take (unitFields (unitFor (a .storage) us)) (keyNumbers b)) ≡ f (scope us a) (scope us b)
+module _ (us : List Letter) (a b : Key) where
+  by-scope : (f : List ℕ → List ℕ → Bool) → ((m n x y : ℕ) (s t : List ℕ) → eqb x y ≡ false → f (take (suc m) (x ∷ s)) (take (suc m) (y ∷ t)) ≡ f (take (suc m) (x ∷ s)) (take (suc n) (y ∷ t))) → f (take (unitFields (letterFor (a .storage) us .unit)) (keyNumbers a)) (take (unitFields (letterFor (a .storage) us .unit)) (keyNumbers b)) ≡ f (scope us a) (scope us b)
   unfolding scope keyNumbers
   by-scope f decided = go (eqb (a .storage) (b .storage)) refl
     where
-      go : (e : Bool) → eqb (a .storage) (b .storage) ≡ e → f (take (unitFields (unitFor (a .storage) us)) (keyNumbers a)) (take (unitFields (unitFor (a .storage) us)) (keyNumbers b)) ≡ f (scope us a) (scope us b)
-      go true e = ap (λ (n : ℕ). f (scope us a) (take (unitFields (unitFor n us)) (keyNumbers b))) (eqb-true (a .storage) (b .storage) e)
+      go : (e : Bool) → eqb (a .storage) (b .storage) ≡ e → f (take (unitFields (letterFor (a .storage) us .unit)) (keyNumbers a)) (take (unitFields (letterFor (a .storage) us .unit)) (keyNumbers b)) ≡ f (scope us a) (scope us b)
+      go true e = ap (λ (n : ℕ). f (scope us a) (take (unitFields (letterFor n us .unit)) (keyNumbers b))) (eqb-true (a .storage) (b .storage) e)
       go false e =
-          rw (some-field (unitFor (a .storage) us), some-field (unitFor (b .storage) us))
-          (decided (unitFields (unitFor (a .storage) us) - 1) (unitFields (unitFor (b .storage) us) - 1) (a .storage) (b .storage) _ _ e)
+          rw (some-field (letterFor (a .storage) us .unit), some-field (letterFor (b .storage) us .unit))
+          (decided (unitFields (letterFor (a .storage) us .unit) - 1) (unitFields (letterFor (b .storage) us .unit) - 1) (a .storage) (b .storage) _ _ e)
 
-  pub scope-same : eqList (take (unitFields (unitFor (a .storage) us)) (keyNumbers a)) (take (unitFields (unitFor (a .storage) us)) (keyNumbers b)) ≡ eqList (scope us a) (scope us b)
+  pub scope-same : eqList (take (unitFields (letterFor (a .storage) us .unit)) (keyNumbers a)) (take (unitFields (letterFor (a .storage) us .unit)) (keyNumbers b)) ≡ eqList (scope us a) (scope us b)
   scope-same = by-scope eqList (λ m n x y s t e. first-differs m m x y s t e ∙ sym (first-differs m n x y s t e))
 
-  pub scope-less : less (take (unitFields (unitFor (a .storage) us)) (keyNumbers a)) (take (unitFields (unitFor (a .storage) us)) (keyNumbers b)) ≡ less (scope us a) (scope us b)
+  pub scope-less : less (take (unitFields (letterFor (a .storage) us .unit)) (keyNumbers a)) (take (unitFields (letterFor (a .storage) us .unit)) (keyNumbers b)) ≡ less (scope us a) (scope us b)
   scope-less = by-scope less (λ m n x y s t e. first-decides m m x y s t e ∙ sym (first-decides m n x y s t e))
 
 -- Groups, one by one.
 
 -- a later put of the entry's scope
-abbrev pub sameScope : List AtomicityUnit → Entry → Entry → Bool
+abbrev pub sameScope : List Letter → Entry → Entry → Bool
 sameScope us e f = isPut f && eqList (scope us (e .key)) (scope us (f .key))
 
 -- the last put of its scope
-abbrev pub lastOfScope : List AtomicityUnit → Entry → List Entry → Bool
+abbrev pub lastOfScope : List Letter → Entry → List Entry → Bool
 lastOfScope us e es = isPut e && not (any (sameScope us e) es)
 
 -- a scope is among those with one more exactly if it is that one or among them
@@ -65,7 +66,7 @@ any-added s s′ ss = go (any (eqList s′) ss) refl (eqList s s′) refl
     go true e false h = rw (e, h)
     go true e true h = rw (e, h) (rw (sym (eqList-true s s′ h)) at e)
 
-module _ (us : List AtomicityUnit) where
+module _ (us : List Letter) where
   -- the scopes with those of one more entry, if it is a put
   any-more : (b r : Bool) (s : List ℕ) (e : Entry) (es : List Entry) → any (eqList s) (scopes us es) ≡ r → any (eqList s) (scopes us (cond b (e ∷ es) es)) ≡ (b && eqList s (scope us (e .key)) || r)
   unfolding scopes
@@ -95,7 +96,7 @@ module _ (us : List AtomicityUnit) where
 
 -- The group at a place, among all the entries in use.
 
-abbrev pub inGroup : List AtomicityUnit → Transaction → ℕ → Entry → Bool
+abbrev pub inGroup : List Letter → Transaction → ℕ → Entry → Bool
 inGroup us t i e = isPut e && eqb (groupPlace us (puts t) (e .key)) i
 
 -- what two filters keep is what both tests let pass
@@ -111,6 +112,6 @@ module _ (p q : Entry → Bool) where
   filter-filter [] = refl
   filter-filter (e ∷ es) = both-kept (p e) (q e) e (filter p es) (filter (λ (x : Entry). p x && q x) es) refl (filter-filter es)
 
-pub group-held : (us : List AtomicityUnit) (t : Transaction) (i : ℕ) → group us (puts t) i ≡ filter (inGroup us t i) (held t)
+pub group-held : (us : List Letter) (t : Transaction) (i : ℕ) → group us (puts t) i ≡ filter (inGroup us t i) (held t)
 unfolding group puts
 group-held us t i = filter-filter isPut (λ (e : Entry). eqb (groupPlace us (puts t) (e .key)) i) (held t)

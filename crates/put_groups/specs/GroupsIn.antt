@@ -3,16 +3,17 @@ use Rattle.lists.specs.Basics.{_≡_, refl, sym, ap, ap₂, _∙_, ℕ, suc, _�
 use Rattle.lists.specs.Basics.{_++_, map, length, take, drop, getD, length-take, arith, ne-eqb, lt-ltb, le-ltb, any, joined, less, choose-by}
 use lib.ListN.{List·getD-append}
 use Rattle.lists.specs.Chosen.{count-all}
-use Rattle.model.specs.Types.{Key, AtomicityUnit, Entry, Transaction}
+use Rattle.model.specs.Types.{Key, Entry, Transaction}
 use Rattle.model.specs.Records.{keyNumbers}
+use Rattle.model.specs.Coordinator.{Letter}
 use Rattle.model.specs.Transactions.{isPut, held, puts}
-use Rattle.model.specs.Groups.{unitFields, unitFor, scope, groupCount, groupPlace}
+use Rattle.model.specs.Groups.{unitFields, letterFor, scope, groupCount, groupPlace}
 use Rattle.transactions.specs.Held.{entryAt, tallied, tallied-few, length-mapped, mapped-at}
 use Rattle.put_groups.specs.Groups.{some-field, scope-same, scope-less, sameScope, lastOfScope, countsAs, groups-tallied, inGroup}
 use Rattle.put_groups.specs.Scopes.{putFields, keyRows, sameFirst, before, anyRow, countRows, eachRow, lastFields, lastsOf, countLasts, placing, placesOf}
 
 -- the place of an entry's group; 8, which is no group's place, without a put
-abbrev groupOf : List AtomicityUnit → Transaction → Entry → ℕ
+abbrev groupOf : List Letter → Transaction → Entry → ℕ
 groupOf us t e = cond (isPut e) (groupPlace us (puts t) (e .key)) 8
 
 abbrev pub noGroups : List ℕ
@@ -23,19 +24,19 @@ abbrev pub foundPlaces : List ℕ → List ℕ → List ℕ
 foundPlaces ks fs = placesOf ks fs (lastsOf ks fs) ++ drop (length fs) noGroups
 
 -- the place of each entry's group, 8 behind the entries in use
-unfoldable pub groupsIn : List AtomicityUnit → Transaction → List ℕ
+unfoldable pub groupsIn : List Letter → Transaction → List ℕ
 groupsIn us t = map (groupOf us t) (held t) ++ drop (t .count) noGroups
 
 turned : (b : Bool) (m n : ℕ) → cond (not b) m n ≡ cond b n m
 turned true m n = refl
 turned false m n = refl
 
-module _ (us : List AtomicityUnit) where
+module _ (us : List Letter) where
   abbrev fieldsOf : Entry → ℕ
-  fieldsOf e = unitFields (unitFor (e .key .storage) us)
+  fieldsOf e = unitFields (letterFor (e .key .storage) us .unit)
 
   some-fields : (e : Entry) → 0 < fieldsOf e
-  some-fields e = let f = some-field (unitFor (e .key .storage) us) in omega arith
+  some-fields e = let f = some-field (letterFor (e .key .storage) us .unit) in omega arith
 
   some-if : (b : Bool) (e : Entry) → ltb 0 (cond b (fieldsOf e) 0) ≡ b
   some-if true e = lt-ltb 0 (fieldsOf e) (some-fields e)

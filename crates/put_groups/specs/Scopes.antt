@@ -4,15 +4,16 @@ use Rattle.lists.specs.Basics.{map, length, take, drop, getD, set, length-map, 
 use Rattle.lists.specs.Fill.{FilledTo, fill-first, fill-next, fill-last, StoredTo, store-first, store-next, store-last}
 use Rattle.lists.specs.Pieces.{over-part}
 use Rattle.lists.specs.Walks.{drop-here}
-use Rattle.model.specs.Types.{AtomicityUnit, Entry, Transaction}
+use Rattle.model.specs.Types.{Entry, Transaction}
 use Rattle.model.specs.Records.{keyNumbers}
+use Rattle.model.specs.Coordinator.{Letter}
 use Rattle.model.specs.Transactions.{isPut, held}
-use Rattle.model.specs.Groups.{unitFields, unitFor}
+use Rattle.model.specs.Groups.{unitFields, letterFor}
 use Rattle.transactions.specs.Held.{entryAt, length-mapped, mapped-at, one-few, one-counted}
 
 -- how many fields make the scope of an entry, 0 without a put
-abbrev pub putFields : List AtomicityUnit → Entry → ℕ
-putFields us e = cond (isPut e) (unitFields (unitFor (e .key .storage) us)) 0
+abbrev pub putFields : List Letter → Entry → ℕ
+putFields us e = cond (isPut e) (unitFields (letterFor (e .key .storage) us .unit)) 0
 
 -- the keys of entries, one after another
 abbrev pub keyRows : List Entry → List ℕ

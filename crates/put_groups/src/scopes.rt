@@ -8,31 +8,36 @@ ghost use lib.ListN.{length};
 ghost use lib.Dec.{eqb};
 ghost use Rattle.model.specs.Records.{keyNumbers};
 ghost use Rattle.model.specs.Transactions.{held};
-ghost use Rattle.model.specs.Groups.{unitFields, unitFor};
+ghost use Rattle.model.specs.Groups.{unitFields, letterFor};
 ghost use Rattle.transactions.specs.Units.{unitIn, unitsIn};
 ghost use Rattle.put_groups.specs.Scopes.{putFields, keyRows, lastFields, lastsOf, countLasts, placeOf, placesOf};
 use crate::keys;
 use types::Key;
 use types::Transaction;
 
-// How many fields of a key the unit of a letter compares: the five cases of the published listing (source document 000), RECORD to STORAGE. The rest is for what is
-// no letter of an accepted sheet.
+// How many fields of a key the unit of a letter compares: the five cases of the published listing (source document 000), RECORD to STORAGE, each by its capital and
+// its small letter. The rest is for what is no letter of a sheet that keeps the rules.
 fn unit_fields(letter: u8) -> u32
     ensures { λ r. ⌜ r ≡ unitFields (unitIn letter) ⌝ }
 {
     match letter {
         b'R' => 5,
+        b'r' => 5,
         b'P' => 4,
+        b'p' => 4,
         b'T' => 3,
+        b't' => 3,
         b'N' => 2,
+        b'n' => 2,
         b'S' => 1,
+        b's' => 1,
         _ => 1,
     }
 }
 
 // How many fields the unit of a storage compares; one without a letter counts as R.
 fn scope_fields(letters: &[u8], storage: u32) -> u32
-    ensures { λ r. ⌜ r ≡ unitFields (unitFor storage (unitsIn (now (letters .entry)))) ⌝ }
+    ensures { λ r. ⌜ r ≡ unitFields (letterFor storage (unitsIn (now (letters .entry))) .unit) ⌝ }
 {
     if storage < 1 {
         return 5;
@@ -46,7 +51,7 @@ fn scope_fields(letters: &[u8], storage: u32) -> u32
 
 // How many fields make the scope of an entry, 0 without a put.
 fn put_fields(letters: &[u8], wrote: u32, storage: u32) -> u32
-    ensures { λ r. ⌜ r ≡ cond (eqb wrote 1) (unitFields (unitFor storage (unitsIn (now (letters .entry))))) 0 ⌝ }
+    ensures { λ r. ⌜ r ≡ cond (eqb wrote 1) (unitFields (letterFor storage (unitsIn (now (letters .entry))) .unit)) 0 ⌝ }
 {
     if wrote != 1 {
         return 0;

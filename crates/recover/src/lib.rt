@@ -1,4 +1,4 @@
-// Meeting a line: what a visit of it comes to, and what it writes. A visit reads only the fields that it needs, and rolls a line by moving its bytes.
+// Meeting a line: what a visit of it comes to, what it writes, and what a read sees of the record then. A visit reads only the fields that it needs, and rolls a line by moving its bytes.
 ghost use mathlib.Core.Path.{_≡_};
 ghost use mathlib.Core.Bool.{true, _&&_, cond};
 ghost use lib.Dec.{leb};
@@ -7,6 +7,7 @@ ghost use Rattle.model.specs.Records as sheet;
 ghost use Rattle.model.specs.Images as model;
 ghost use Rattle.model.specs.Images.{byDecision};
 ghost use Rattle.model.specs.Visits.{numberExpired, meeting, recoveryWrite};
+ghost use Rattle.model.specs.Calls.{seenSecond};
 ghost use Rattle.model.specs.ByteCalls.{sheetsOf};
 ghost use Rattle.call_laws.specs.Accepted.{Written};
 ghost use Rattle.types.specs.declared.Recovery.the-variants.{Forward, Back, Again, Busy};
@@ -15,8 +16,12 @@ ghost use Rattle.recover.specs.Recovering.{lineAt, Standing, Pending, Re
 use codec::coordinator;
 use codec::reading;
 use codec::settling;
+use types::Columns;
 use types::Decision;
+use types::Image;
+use types::Record;
 use types::Recovery;
+use types::State;
 
 // The ticks since a clock reading, modulo 2^32.
 fn elapsed(now: u32, clock: u32) -> u32
@@ -122,4 +127,30 @@ pub fn recover(i: usize, clock: u32, records: &mut [u8], decisions: &mut [u8]) -
     let v = meet(i, clock, records, decisions);
     settle(v, i, records, decisions);
     v
+}
+
+// What a second call sees of a record: the columns handed in, where they may be older or newer than the rest. An ABSENT record has none.
+pub fn seen(lower: bool, columns: Columns, r: Record) -> Image
+    ensures { λ m. ⌜ m ≡ seenSecond lower columns r ⌝ }
+{
+    let image = r.image;
+    if !lower {
+        return image;
+    }
+    let state = r.state;
+    match state {
+        State::Absent => image,
+        State::Committed => Image {
+            version: image.version,
+            txid: image.txid,
+            column1: columns.column1,
+            column2: columns.column2,
+        },
+        State::Prepared => Image {
+            version: image.version,
+            txid: image.txid,
+            column1: columns.column1,
+            column2: columns.column2,
+        },
+    }
 }

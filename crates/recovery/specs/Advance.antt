@@ -1,11 +1,11 @@
 -- An advance moves the settled lines as the model does, and what is remembered of its transaction stays true: phase by phase, a walk of the step table.
-use Rattle.lists.specs.Basics.{_≡_, refl, sym, ap, subst, _∙_, ℕ, _+_, _≤_, _<_, eqb, ltb, Bool, true, false, not, _&&_, cond, true≢false, and-false, length}
-use Rattle.lists.specs.Basics.{getD, none, arith, eqb-true, ltb-true, ltb-false, ne-eqb, le-ltb, all, and-fst, choose-by}
+use Rattle.lists.specs.Basics.{_≡_, refl, sym, ap, subst, _∙_, ℕ, _+_, _≤_, _<_, eqb, ltb, Bool, true, false, _&&_, cond, true≢false, and-false, length}
+use Rattle.lists.specs.Basics.{getD, none, arith, eqb-true, ltb-true, ltb-false, ne-eqb, le-ltb, all, choose-by, tests}
 use Rattle.model.specs.Types.{Key, Decision, Undecided, Committed, Aborted, Transaction}
 use Rattle.model.specs.Records.{lineOf}
 use Rattle.model.specs.Coordinator.{decision}
 use Rattle.model.specs.Transactions.{preparePhase, validatePhase, decidePhase, withdrawPhase, finishPhase, undoPhase, donePhase, noVerdict, committedVerdict}
-use Rattle.model.specs.Transactions.{abortedVerdict, isSerializable, isEmpty, held, puts, toValidate, noEntry, moved}
+use Rattle.model.specs.Transactions.{abortedVerdict, isEmpty, held, puts, toValidate, noEntry, moved}
 use Rattle.model.specs.Groups.{groupCount, groupPlace}
 use Rattle.model.specs.Images.{byDecision}
 use Rattle.model.specs.Writes.{Sheets, Write, nothing, decide, commit, prepare, forward, back, decisionsAfter, apply, isOnePhase}
@@ -135,11 +135,12 @@ module _ (s : Sheets) (m : Model) (t : Transaction) (good : GoodSheets s) (view 
       (λ l. memory-at validatePhase 0 (t .verdict) early
       (λ k. done-in-validate (unitsOf s) (moved validatePhase 0 (t .verdict) t) refl k
       ∙ (put-in-empty k (held t) e ∙ sym (done-in-open (unitsOf s) t ph k))))))
-      (λ e. choose-by StepMoves (eqb (groupsOf t s) 1 && not (isSerializable t))
+      (λ e. choose-by StepMoves (onePhaseAllowed t s)
       (λ f. choose-by StepMoves (all (holds s) (groupAt t s))
       (λ h. let may : MayPutAll s (t .number) (groupAt t s) = may-put s good t body h in
+      let one : groupsOf t s ≡ 1 = search (tests, f) in
       commits-it (commit (t .number) (groupAt t s)) (commits t) (ap (λ (x : ℕ). eqb x 0 && true) v)
-      (one-phase-view s good t m (known .sets) may z (eqb-true (groupsOf t s) 1 (and-fst (eqb (groupsOf t s) 1) (not (isSerializable t)) f)) view)
+      (one-phase-view s good t m (known .sets) may z one view)
       (λ j d. away-commit (t .number) (groupAt t s) may) refl refl (omega arith) (λ q. refl) (by-one-phase (groupAt t s) (away-commit (t .number) (groupAt t s) may) (record { undecided = known .open-undecided ph; unprepared = open-unprepared s m t known ph })))
       (λ h. withdraws (omega arith)))
       (λ f. moves preparePhase 0 (t .verdict) (never-both (t .verdict)) (omega arith) (λ q. omega (arith, q))

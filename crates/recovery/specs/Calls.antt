@@ -1,24 +1,25 @@
--- Every call keeps the invariant of a history. A refused call changes nothing; a visit makes a gentle write; begin adds a state of a new number; read, put,
--- abort and advance replace the state that they take.
+-- Every call keeps the invariant of a history. A refused call changes nothing; a visit makes a gentle write; begin adds a state of a new number; read, its
+-- second call, put, abort and advance replace the state that they take.
 use Rattle.lists.specs.Basics.{_≡_, refl, sym, ap, subst, _∙_, ℕ, zero, suc, _+_, _≤_, _<_, eqb, Bool, true, false, not, _&&_, cond, true≢false, List, [], _∷_}
 use Rattle.lists.specs.Basics.{take, drop, getD, set, none, some, arith, add-one, eqb-true, eq-eqb, ne-eqb, not-false, all, and-snd, and-both, choose-by, tests}
-use Rattle.model.specs.Types.{Key, Record, Decision, Undecided, Committed, Aborted, Found, Nothing, Columns, Entry, Transaction, Recovery}
+use Rattle.model.specs.Types.{Key, Image, Record, Decision, Undecided, Committed, Aborted, Found, Nothing, Columns, Entry, Transaction, Recovery}
 use Rattle.model.specs.Refusals.{refusalOf}
 use Rattle.model.specs.Records.{sameKey, lineOf, isMissing, byFound}
 use Rattle.model.specs.Coordinator.{Coordinator, decision, isUndecided, coordinatorGood}
+use Rattle.model.specs.Groups.{isLower}
 use Rattle.model.specs.Images.{preparedBy}
 use Rattle.model.specs.Writes.{Sheets, Write, nothing, issue, lineAfter, decisionsAfter, apply}
 use Rattle.model.specs.WellFormed.{wellFormed}
-use Rattle.model.specs.Visits.{ownerDecision, ownerExpired, meeting, isAgain, recovered, recoveryWrite}
-use Rattle.model.specs.Results.{Call, begin, read, put, advance, abort, visit, Result, refused, writeOf, Answer, returns, answerOf}
-use Rattle.model.specs.Transactions.{withdrawPhase, isPut, held, noEntry, heldAt, entryAs, withPut, moved, withEntry}
-use Rattle.model.specs.Conditions.{isNew, cannotAdvance, cannotAbort, conditions}
+use Rattle.model.specs.Visits.{ownerDecision, ownerExpired, meeting, recoveryWrite}
+use Rattle.model.specs.Results.{Call, begin, read, second, put, advance, abort, visit, Result, refused, writeOf, Answer, returns, answerOf}
+use Rattle.model.specs.Transactions.{withdrawPhase, isPut, held, noEntry, heldAt, withPut, moved, withEntry}
+use Rattle.model.specs.Conditions.{isNew, takesTwo, cannotAdvance, cannotAbort, conditions}
 use Rattle.model.specs.Steps.{unitsOf, step}
-use Rattle.model.specs.Calls.{newTransaction, readNew, holding, afterPut, outcome, result}
+use Rattle.model.specs.Calls.{newTransaction, seenSecond, holding, wholeRead, afterPut, outcome, result}
 use Rattle.model.specs.Histories.{Event, given, takenBy, Available}
 use Rattle.model.specs.SequentialModel.{Model, modelBegin, modelPut, modelCommit, modelCall, modelStep}
 use Rattle.sheet_laws.specs.Search.{FirstAt, first-by}
-use Rattle.call_laws.specs.Choices.{by-phase-of, unless-by, testOf, accepted, by-meeting}
+use Rattle.call_laws.specs.Choices.{by-phase-of, unless-by, testOf, accepted, by-meeting, entryRead, by-whole}
 use Rattle.call_laws.specs.Keys.{same-key}
 use Rattle.call_laws.specs.Lines.{still-issue}
 use Rattle.call_laws.specs.Sheets.{GoodSheets}
@@ -233,32 +234,50 @@ module _ {base : ℕ} {one : ℕ → Bool} (s : Sheets) (es : List Event) (m : M
         effect = quiet gentle refl (λ l. absurd (omega (arith, l, ph)));
       })
 
+  -- the whole read, whatever it sees of the line, as a call that takes the transaction and puts nothing
+  whole-kept : (c : Call) (t : Transaction) → given c ≡ some t → ((u : Transaction) → modelCall c (some u) m ≡ cond (eqb (t .verdict) 0 && eqb (u .verdict) 1) (modelCommit (t .number) m) m) → t .phase ≡ 0 → (sees : Record → Image) (k : Key) (now : ℕ) → Kept c (wholeRead sees t k now s)
+  unfolding modelStep returns afterStep
+  whole-kept c t takes model ph sees k now =
+      let r = lineOf k (s .lines) in
+      let w = recoveryWrite (meeting now s r) r in
+      let e = entryRead sees t k now s in
+      let gentle : Gentle s w = visit-gentle s now r in
+      let away : (j : ℕ) → Away s j w = visit-away s now k in
+      by-whole sees t k now s (Kept c)
+      (λ n x g f a. inv-taken s es m _ t t w _ inv (a t takes) takes refl (omega arith) g (f t refl)
+      (subst (λ (x : Model). Moves s m t w x t) (sym (model t))
+      (plain s m t (inv .good) (inv .view) (inv .known t (a t takes)) w t (never-both (t .verdict)) gentle (λ j d. away j) refl refl (λ l. l)
+      (λ l. undecided-kept s (t .number) w (away (t .number)) (open-unprepared s m t (inv .known t (a t takes)) ph) (inv .known t (a t takes) .open-undecided ph))
+      (λ l. memory-kept s t w (away (t .number)) (inv .known t (a t takes) .memory l)))))
+      (λ n x g f a. inv-taken s es m _ t (holding e t) w _ inv (a t takes) takes refl (omega arith) g (f (holding e t) refl)
+      (subst (λ (x : Model). Moves s m t w x (holding e t)) (sym (model (holding e t)))
+      (read-moves t e w (inv .known t (a t takes)) ph refl gentle away)))
+      (λ n g f a. inv-taken s es m _ t t nothing _ inv (a t takes) takes refl (omega arith) g (f t refl)
+      (subst (λ (x : Model). Moves s m t nothing x t) (sym (model t)) (stays s m t (inv .good) (inv .view) (inv .known t (a t takes)))))
+
+  -- the first of two calls leaves the transaction as it is
   read-kept : (t : Transaction) (k : Key) (now : ℕ) → refusalOf (conditions (read t k now) s) ≡ 0 → Kept (read t k now) (outcome (read t k now) s)
-  unfolding outcome conditions testOf readNew modelStep modelCall returns given afterStep
+  unfolding outcome conditions testOf modelStep modelCall returns given afterStep
   read-kept t k now z =
       let c4 : not (eqb (t .phase) 0) ≡ false = accepted 4 (read t k now) s z in
       let ph : t .phase ≡ 0 = eqb-true (t .phase) 0 (not-false (eqb (t .phase) 0) c4) in
-      let r = lineOf k (s .lines) in
-      let v = meeting now s r in
-      let gentle : Gentle s (recoveryWrite v r) = visit-gentle s now r in
-      let away : (j : ℕ) → Away s j (recoveryWrite v r) = visit-away s now k in
-      choose-by (Kept (read t k now)) (isNew k t)
-      (λ n. choose-by (Kept (read t k now)) (isAgain v)
-      (λ x g w a. inv-taken s es m _ t t (recoveryWrite v r) _ inv (a t refl) refl refl (omega arith) g (w t refl)
-      (plain s m t (inv .good) (inv .view) (inv .known t (a t refl)) (recoveryWrite v r) t (never-both (t .verdict)) gentle (λ j d. away j) refl refl (λ l. l)
-      (λ l. undecided-kept s (t .number) (recoveryWrite v r) (away (t .number)) (open-unprepared s m t (inv .known t (a t refl)) ph) (inv .known t (a t refl) .open-undecided ph))
-      (λ l. memory-kept s t (recoveryWrite v r) (away (t .number)) (inv .known t (a t refl) .memory l))))
-      (λ x g w a. let e = entryAs (r .key) (recovered v r .image) in
-      inv-taken s es m _ t (holding e t) (recoveryWrite v r) _ inv (a t refl) refl refl (omega arith) g (w (holding e t) refl)
-      (read-moves t e (recoveryWrite v r) (inv .known t (a t refl)) ph refl gentle away)))
+      choose-by (Kept (read t k now)) (takesTwo (unitsOf s) k t)
       (λ n g w a. inv-taken s es m _ t t nothing _ inv (a t refl) refl refl (omega arith) g (w t refl)
       (stays s m t (inv .good) (inv .view) (inv .known t (a t refl))))
+      (λ n. whole-kept (read t k now) t refl (λ u. refl) ph (λ (r : Record). r .image) k now)
+
+  second-kept : (t : Transaction) (k : Key) (now : ℕ) (c : Columns) → refusalOf (conditions (second t k now c) s) ≡ 0 → Kept (second t k now c) (outcome (second t k now c) s)
+  unfolding outcome conditions testOf modelCall given
+  second-kept t k now c z =
+      let c4 : not (eqb (t .phase) 0) ≡ false = accepted 4 (second t k now c) s z in
+      whole-kept (second t k now c) t refl (λ u. refl) (eqb-true (t .phase) 0 (not-false (eqb (t .phase) 0) c4)) (seenSecond (isLower (unitsOf s) k) c) k now
 
   -- Every call.
 
   accepted-kept : (c : Call) → refusalOf (conditions c s) ≡ 0 → Kept c (outcome c s)
   accepted-kept (begin b) = begin-kept b
   accepted-kept (read t k now) = read-kept t k now
+  accepted-kept (second t k now c) = second-kept t k now c
   accepted-kept (put t k c) = put-kept t k c
   accepted-kept (advance t now) = advance-kept t now
   accepted-kept (abort t) = abort-kept t

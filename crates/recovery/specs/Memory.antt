@@ -2,9 +2,9 @@
 -- those put in the groups done so far. Writes of others keep it.
 use Rattle.lists.specs.Basics.{_≡_, refl, sym, ap, _∙_, ℕ, zero, suc, eqb, ltb, Bool, true, false, _&&_, cond, and-false, List, [], _∷_, getD, set, Option}
 use Rattle.lists.specs.Basics.{none, some, Option·none-ne-some, eqb-true, eqb-false, ne-eqb, choose-by}
-use Rattle.model.specs.Types.{Key, Record, Decision, Undecided, Committed, Aborted, AtomicityUnit, Entry, Transaction}
+use Rattle.model.specs.Types.{Key, Record, Decision, Undecided, Committed, Aborted, Entry, Transaction}
 use Rattle.model.specs.Records.{lineOf, sameKey}
-use Rattle.model.specs.Coordinator.{Coordinator, decision, withDecision}
+use Rattle.model.specs.Coordinator.{Letter, Coordinator, decision, withDecision}
 use Rattle.model.specs.Transactions.{byPhase, isPut, held, puts}
 use Rattle.model.specs.Groups.{groupCount, groupPlace}
 use Rattle.model.specs.Images.{isPrepared, preparedBy, prepared, committed, rolledForward, rolledBack, Change, changeOf, changeIn}
@@ -27,11 +27,11 @@ unfoldable pub preparedChange : ℕ → Record → Option Change
 preparedChange n r = cond (preparedBy n r) (some (changeIn r)) none
 
 -- the groups done so far: none in open, those before the place in prepare, all in validate and decide
-unfoldable pub groupsDone : List AtomicityUnit → Transaction → ℕ
+unfoldable pub groupsDone : List Letter → Transaction → ℕ
 groupsDone us t = byPhase (t .phase) 0 (t .place) (groupCount us (puts t)) (groupCount us (puts t)) 0 0 0 0 0
 
 -- what is put for a key that is in a group done so far
-unfoldable pub doneAt : List AtomicityUnit → Transaction → Key → Option Change
+unfoldable pub doneAt : List Letter → Transaction → Key → Option Change
 doneAt us t k = cond (ltb (groupPlace us (puts t) k) (groupsDone us t)) (putIn k (held t)) none
 
 pub record Memory (s : Sheets) (t : Transaction) : Type 0 where
@@ -146,7 +146,7 @@ memory-kept s t w a m =
       changes = λ e k. let u : decision (t .number) (s .coordinator) ≡ Undecided = away-stood Undecided s (t .number) w (λ i. abort-undecided (s .coordinator) i (t .number)) a e in
           ap (preparedChange (t .number)) (line-after s w (away-still s (t .number) w a) k)
           ∙ (away-columns s (t .number) u (lineOf k (s .lines)) (own-key s k) w a
-          ∙ (m .changes u k ∙ ap (λ (us : List AtomicityUnit). doneAt us t k) (sym (units-kept w (s .coordinator)))));
+          ∙ (m .changes u k ∙ ap (λ (us : List Letter). doneAt us t k) (sym (units-kept w (s .coordinator)))));
     }
 
 owns-none : (s : Sheets) (j : ℕ) → ((k : Key) → preparedChange j (lineOf k (s .lines)) ≡ none) → PreparedLine s j → ⊥

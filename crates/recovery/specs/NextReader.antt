@@ -1,22 +1,24 @@
--- "if COMMITTED was written, the next reader finishes it": whoever next visits a line PREPARED by a COMMITTED owner, or reads it as a key that it doesn't hold,
--- leaves it rolled forward, at any reading of the clock. The owner is decided, so that neither expiry nor refusal 12 is asked.
-use Rattle.lists.specs.Basics.{_≡_, refl, sym, ap, ap₂, _∙_, ℕ, _^_, _<_, Bool, true, false, _&&_, cond, true≢false, [], _∷_, choose-by}
-use Rattle.model.specs.Types.{Key, Record, Decision, Committed, Transaction, Recovery, Stays, Forward, Back, Again, Busy}
+-- "if COMMITTED was written, the next reader finishes it": whoever next visits a line PREPARED by a COMMITTED owner, or reads it as a key that it doesn't hold, in one
+-- call or by the second of two, leaves it rolled forward, at any reading of the clock. The owner is decided, so that neither expiry nor refusal 12 is asked.
+use Rattle.lists.specs.Basics.{_≡_, refl, sym, ap, ap₂, _∙_, ℕ, _^_, _<_, Bool, true, false, _&&_, cond, true≢false, [], _∷_, and-snd, choose-by}
+use Rattle.model.specs.Types.{Key, Image, Record, Decision, Committed, Columns, Transaction, Recovery, Stays, Forward, Back, Again, Busy}
 use Rattle.model.specs.Records.{records, lineOf, hasLine}
 use Rattle.model.specs.Coordinator.{coordinatorOf, isUndecided}
 use Rattle.model.specs.Images.{isPrepared, byDecision, rolledForward, recovery}
 use Rattle.model.specs.Writes.{Sheets, Write, forward, lineAfter, apply}
-use Rattle.model.specs.Visits.{ownerDecision, ownerExpired, meeting, isAgain, recoveryWrite}
-use Rattle.model.specs.Results.{read, visit, Result, writeOf, visited, refusalIn, answerOf, Answer}
-use Rattle.model.specs.Conditions.{isNew, heldEntry, conditions}
-use Rattle.model.specs.Calls.{readHeld, readNew, outcome, result}
+use Rattle.model.specs.Visits.{ownerDecision, ownerExpired, meeting, recoveryWrite}
+use Rattle.model.specs.Results.{read, second, visit, Result, writeOf, visited, refusalIn, answerOf, Answer}
+use Rattle.model.specs.Conditions.{isNew, takesTwo, conditions}
+use Rattle.model.specs.Groups.{isLower}
+use Rattle.model.specs.Steps.{unitsOf}
+use Rattle.model.specs.Calls.{seenSecond, wholeRead, outcome, result}
 use Rattle.model.specs.Histories.{answer, written, after}
 use Rattle.model.specs.ByteHistories.{Bytes, saying, Passing, answerOn, afterOn}
 use Rattle.model.specs.RecoveryPass.{lineUndecided}
-use Rattle.call_laws.specs.Choices.{unless-of}
+use Rattle.call_laws.specs.Choices.{unless-of, by-whole}
 use Rattle.call_laws.specs.Lines.{listsKey, has-line, still-forward}
 use Rattle.call_laws.specs.Sheets.{GoodSheets, good-parts}
-use Rattle.call_laws.specs.Lifting.{passing-good, same-answer, bytes-stay-passing}
+use Rattle.call_laws.specs.Lifting.{capitals-lower, passing-readable, passing-good, same-answer, bytes-stay-passing}
 use Rattle.recovery.specs.View.{line-after}
 use Rattle.recovery.specs.Pass.{visit-made, rolled-line}
 
@@ -45,23 +47,27 @@ module _ (s : Sheets) (good : GoodSheets s) (k : Key) (now : ℕ) (listed : list
       (ap answerOf m ∙ ap visited meets-forward, finished (written (visit k now) s) (ap writeOf m))
 
   -- a read that is accepted, of a key that is not held
-  pub read-finishes : (t : Transaction) → isNew k t ≡ true → refusalIn (answer (read t k now) s) ≡ 0 → lineOf k (after (read t k now) s .lines) ≡ rolledForward (lineOf k (s .lines))
-  unfolding answer after written result outcome readNew
-  read-finishes t new =
-      unless-of (λ (x : Result Answer). refusalIn (answerOf x) ≡ 0 → lineOf k (apply (writeOf x) s .lines) ≡ rolledForward (lineOf k (s .lines))) (conditions (read t k now) s)
-      (λ z a. absurd (z a))
-      (λ z a. finished (writeOf (outcome (read t k now) s)) writes)
-    where
-      r : Record
-      r = lineOf k (s .lines)
+  module _ (t : Transaction) (new : isNew k t ≡ true) where
+    abbrev Finishes : Result Answer → Type 0
+    Finishes x = refusalIn (answerOf x) ≡ 0 → lineOf k (apply (writeOf x) s .lines) ≡ rolledForward (lineOf k (s .lines))
 
-      v : Recovery
-      v = meeting now s r
+    whole-finishes : (sees : Record → Image) → Finishes (wholeRead sees t k now s)
+    whole-finishes sees = by-whole sees t k now s Finishes (λ n a z. finished _ refl) (λ n a z. finished _ refl) (λ n. absurd (true≢false (sym new ∙ n)))
 
-      writes : writeOf (outcome (read t k now) s) ≡ recoveryWrite v r
-      writes =
-          ap (λ (b : Bool). writeOf (cond b (readNew t v r) (readHeld t (heldEntry k t)))) new
-          ∙ choose-by (λ (x : Result Answer). writeOf x ≡ recoveryWrite v r) (isAgain v) (λ e. refl) (λ e. refl)
+    -- in one call
+    pub read-finishes : isLower (unitsOf s) k ≡ false → refusalIn (answer (read t k now) s) ≡ 0 → lineOf k (after (read t k now) s .lines) ≡ rolledForward (lineOf k (s .lines))
+    unfolding answer after written result outcome
+    read-finishes l =
+        unless-of Finishes (conditions (read t k now) s) (λ z a. absurd (z a))
+        (λ z. choose-by Finishes (takesTwo (unitsOf s) k t)
+        (λ e. absurd (true≢false (sym (and-snd (isNew k t) (isLower (unitsOf s) k) e) ∙ l)))
+        (λ e. whole-finishes (λ (r : Record). r .image)))
+
+    -- or in two, of which the second visits
+    pub second-finishes : (c : Columns) → refusalIn (answer (second t k now c) s) ≡ 0 → lineOf k (after (second t k now c) s .lines) ≡ rolledForward (lineOf k (s .lines))
+    unfolding answer after written result outcome
+    second-finishes c =
+        unless-of Finishes (conditions (second t k now c) s) (λ z a. absurd (z a)) (λ z. whole-finishes (seenSecond (isLower (unitsOf s) k) c))
 
 -- Over bytes.
 module _ (b : Bytes) (passing : Passing b) (k : Key) (now : ℕ) (fits : now < 2 ^ 32) (has : hasLine k (records (b .records)) ≡ true) (pending : isPrepared (lineOf k (records (b .records))) ≡ true) (owner : ownerDecision (lineOf k (records (b .records))) (coordinatorOf (b .coordinator)) ≡ Committed) where
@@ -79,4 +85,4 @@ module _ (b : Bytes) (passing : Passing b) (k : Key) (now : ℕ) (fits : now < 2
   pub next-read-finishes : (t : Transaction) → isNew k t ≡ true → refusalIn (answerOn (read t k now) b) ≡ 0 → lineOf k (records (afterOn (read t k now) b .records)) ≡ rolledForward (lineOf k (records (b .records)))
   next-read-finishes t new accepted =
       ap (λ (s : Sheets). lineOf k (s .lines)) (bytes-stay-passing (read t k now) b fits passing .0)
-      ∙ read-finishes (saying b) good k now listed pending owner t new (ap refusalIn (sym (same-answer (read t k now) b passing)) ∙ accepted)
+      ∙ read-finishes (saying b) good k now listed pending owner t new (capitals-lower (saying b) (passing-readable b passing .1) k) (ap refusalIn (sym (same-answer (read t k now) b passing)) ∙ accepted)

@@ -3,9 +3,9 @@
 use Rattle.lists.specs.Basics.{_≡_, refl, sym, ap, ap₂, _∙_, ℕ, _+_, _≤_, _<_, eqb, ltb, Bool, true, false, _&&_, cond, List, length, Option, none, some, arith}
 use Rattle.lists.specs.Basics.{eqb-true, eqb-false, ltb-true, ltb-false, eq-eqb, lt-ltb, le-ltb, choose-by, tests}
 use Rattle.types.specs.declared.State.the-variants as State
-use Rattle.model.specs.Types.{Key, Record, Undecided, Committed, AtomicityUnit, Entry, Transaction}
+use Rattle.model.specs.Types.{Key, Record, Undecided, Committed, Entry, Transaction}
 use Rattle.model.specs.Records.{lineOf, preparedRule, noImage}
-use Rattle.model.specs.Coordinator.{Coordinator, decision, withDecision}
+use Rattle.model.specs.Coordinator.{Letter, Coordinator, decision, withDecision}
 use Rattle.model.specs.Transactions.{held, puts}
 use Rattle.model.specs.Groups.{groupCount, groupPlace}
 use Rattle.model.specs.Images.{isPrepared, preparedBy, prepared, committed, rolledForward, rolledBack, Change, changeOf, changeIn}
@@ -22,14 +22,14 @@ use Rattle.recovery.specs.Memory.{putIn, preparedChange}
 use Rattle.recovery.specs.Puts.{putOf, put-in-puts, entry-in-group, found-has-key}
 
 -- the columns of a key that is in one of the first p groups
-abbrev pub doneTo : List AtomicityUnit → Transaction → ℕ → Key → Option Change
+abbrev pub doneTo : List Letter → Transaction → ℕ → Key → Option Change
 doneTo us t p k = cond (ltb (groupPlace us (puts t) k) p) (putIn k (held t)) none
 
-pub no-put : (us : List AtomicityUnit) (t : Transaction) (p : ℕ) (k : Key) → putIn k (held t) ≡ none → doneTo us t p k ≡ none
+pub no-put : (us : List Letter) (t : Transaction) (p : ℕ) (k : Key) → putIn k (held t) ≡ none → doneTo us t p k ≡ none
 no-put us t p k e = choose-by (λ (x : Option Change). x ≡ none) (ltb (groupPlace us (puts t) k) p) (λ b. e) (λ b. refl)
 
 -- a key with a put is in one of the groups
-pub all-done : (us : List AtomicityUnit) (t : Transaction) (k : Key) → doneTo us t (groupCount us (puts t)) k ≡ putIn k (held t)
+pub all-done : (us : List Letter) (t : Transaction) (k : Key) → doneTo us t (groupCount us (puts t)) k ≡ putIn k (held t)
 unfolding puts
 all-done us t k = go (entryFor k (puts t)) refl
   where

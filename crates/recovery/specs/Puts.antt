@@ -2,9 +2,10 @@
 use Rattle.lists.specs.Basics.{_≡_, refl, sym, ap, ap₂, _∙_, ℕ, zero, suc, _<_, eqb, Bool, true, false, not, _&&_, _||_, cond, true≢false, List, [], _∷_}
 use Rattle.lists.specs.Basics.{length, take, getD, set, Option, none, some, Option·none-ne-some, arith, not-true, any, filter, and-fst, and-snd, choose-by}
 use Rattle.lists.specs.Basics.{or-left, or-right}
-use Rattle.model.specs.Types.{Key, AtomicityUnit, Entry}
+use Rattle.model.specs.Types.{Key, Entry}
 use Rattle.model.specs.Images.{Change}
 use Rattle.model.specs.Records.{sameKey}
+use Rattle.model.specs.Coordinator.{Letter}
 use Rattle.model.specs.Transactions.{isPut, isEmpty}
 use Rattle.model.specs.Groups.{groupPlace, group}
 use Rattle.model.specs.Writes.{entryFor}
@@ -44,7 +45,7 @@ entry-chosen q k (e ∷ es) = go (q (e .key)) refl (sameKey (e .key) k) refl (en
     go false s false c h = h
 
 -- the entry of a key in a group
-pub entry-in-group : (us : List AtomicityUnit) (es : List Entry) (i : ℕ) (k : Key) → entryFor k (group us es i) ≡ cond (eqb (groupPlace us es k) i) (entryFor k es) none
+pub entry-in-group : (us : List Letter) (es : List Entry) (i : ℕ) (k : Key) → entryFor k (group us es i) ≡ cond (eqb (groupPlace us es k) i) (entryFor k es) none
 unfolding group
 entry-in-group us es i k = entry-chosen (λ (x : Key). eqb (groupPlace us es x) i) k es
 

@@ -1,8 +1,8 @@
 -- What is remembered as a transaction goes from phase to phase without a write, or after preparing a group.
 use Rattle.lists.specs.Basics.{_≡_, sym, ap, _∙_, ℕ, Bool, cond, List, none, arith, le-ltb}
-use Rattle.model.specs.Types.{Key, AtomicityUnit, Transaction}
+use Rattle.model.specs.Types.{Key, Transaction}
 use Rattle.model.specs.Records.{lineOf}
-use Rattle.model.specs.Coordinator.{decision}
+use Rattle.model.specs.Coordinator.{Letter, decision}
 use Rattle.model.specs.Transactions.{held, puts, moved}
 use Rattle.model.specs.Groups.{groupCount, groupPlace}
 use Rattle.model.specs.Writes.{Sheets}
@@ -19,7 +19,7 @@ memory-as s t t′ n d m =
           ∙ (m .changes (ap (λ (x : ℕ). decision x (s .coordinator)) (sym n) ∙ e) k ∙ sym (d k));
     }
 
-module _ (us : List AtomicityUnit) (t : Transaction) where
+module _ (us : List Letter) (t : Transaction) where
   done-to : (p : ℕ) → groupsDone us t ≡ p → (k : Key) → doneAt us t k ≡ doneTo us t p k
   unfolding doneAt
   done-to p e k = ap (λ (n : ℕ). doneTo us t n k) e

@@ -2,30 +2,26 @@
 // of a history.
 ghost use mathlib.Core.Path.{_≡_};
 ghost use Prim.Native.Nat.{_+_, _≤_};
-ghost use lib.ListN.{length, replicate};
+ghost use lib.ListN.{length};
 
-mod print;
+mod calls;
 
 use script::reply::Reply;
+use script::room;
 use script::scan::Command;
 use script::scan::Kind;
 use types::COORDINATOR_BYTES;
 use types::RECORD_BYTES;
 
-// A history has at most 500,000 bytes, and one byte more tells a longer one.
-const LONGEST: usize = 500000;
-
-// The two arrays before they are filled. A call makes each, since the check would count the bytes of a local array one by one, for seconds and a gigabyte.
-fn blank_input() -> [u8; 500001]
-    ensures { λ r. ⌜ r ≡ replicate 500001 0 ⌝ }
+// Both sheets, which follow what the buffer holds.
+fn print_sheets(coordinator: &[u8], records: &[u8], out: &[u8; 4096], fill: usize) -> usize
+    requires { ⌜ fill ≤ 4096 ⌝ }
+    ensures { λ r. ⌜ r ≤ 4096 ⌝ }
 {
-    [0u8; 500001]
-}
-
-fn blank_sheet() -> [u8; 150000]
-    ensures { λ r. ⌜ r ≡ replicate 150000 0 ⌝ }
-{
-    [0u8; 150000]
+    let taken = printing::sheets(out, fill);
+    streams::write(coordinator);
+    streams::write(records);
+    taken
 }
 
 // Both sheets where a line asks for them; else the reply to a call as a line, with the part of the record sheet that the call asks for.
@@ -43,10 +39,10 @@ fn answer(
 {
     let kind = command.kind;
     match kind {
-        Kind::Sheets => print::sheets(coordinator, records, out, fill),
+        Kind::Sheets => print_sheets(coordinator, records, out, fill),
         _ => {
-            let part = script_calls::calls::part(command, records);
-            print::line(reply, part, out, fill)
+            let part = calls::part(command, records);
+            printing::line(reply, part, out, fill)
         }
     }
 }
@@ -69,8 +65,8 @@ fn answer_calls(
     while at < n {
         let end = script::scan::end_of(input, at, b'\n');
         let next = end + 1;
-        let command = script::scan::parse(&input[at..end]);
-        let turn = script_calls::slots::run(command, slots, &mut input[from..to], coordinator);
+        let command = script::scan::parse(false, &input[at..end]);
+        let turn = calls::run(command, slots, &mut input[from..to], coordinator);
         slots = turn.slots;
         let reply = turn.reply;
         fill = answer(command, reply, coordinator, &input[from..to], out, fill);
@@ -86,7 +82,7 @@ fn replay(input: &mut [u8], from: usize, to: usize, coordinator: &mut [u8])
     decimal::put(coordinator, &input[9..from]);
     let mut out = [0u8; 4096];
     let fill = answer_calls(input, from, to, coordinator, &mut out);
-    print::sheets(coordinator, &input[from..to], &out, fill);
+    print_sheets(coordinator, &input[from..to], &out, fill);
 }
 
 // A history, whose first line says how long its sheets are.
@@ -103,14 +99,14 @@ fn history(input: &mut [u8]) {
         streams::write(b"bad input\n");
         return;
     }
-    let mut coordinator = blank_sheet();
+    let mut coordinator = room::blank_sheet();
     replay(input, from, to, &mut coordinator[..size]);
 }
 
 fn main() {
-    let mut input = blank_input();
+    let mut input = room::blank_input();
     let n = streams::read(&mut input);
-    if LONGEST < n {
+    if room::LONGEST < n {
         streams::write(b"bad input\n");
         return;
     }

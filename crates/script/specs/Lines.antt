@@ -7,7 +7,7 @@ use Rattle.decimal.specs.declared.Scan.the-variants.{Blank, Number, Wrong}
 use Rattle.decimal.specs.Field.{figure}
 use Rattle.script.specs.declared.scan.Command.{Command}
 use Rattle.script.specs.declared.scan.Kind.{Kind}
-use Rattle.script.specs.declared.scan.Kind.the-variants.{Check, Begin, Read, Put, Advance, Close, Abort, Visit, Lookup, Line, Show, Set, Entry, Sheets, BadLine}
+use Rattle.script.specs.declared.scan.Kind.the-variants.{Check, Begin, Read, Second, Put, Advance, Close, Abort, Visit, Lookup, Line, Show, Set, Entry, Sheets, BadLine}
 use Rattle.script.specs.declared.scan.Numbers.{Numbers}
 
 -- The words.
@@ -47,9 +47,9 @@ unfoldable pub callKind : List ℕ → Kind
 callKind w =
     firstNamed (eqList w (bytes "check")) Check (eqList w (bytes "visit")) Visit (eqList w (bytes "lookup")) Lookup (eqList w (bytes "line")) Line (slotKind w)
 
--- a call, or both sheets
-unfoldable pub kindOf : List ℕ → Kind
-kindOf w = cond (eqList w (bytes "sheets")) Sheets (callKind w)
+-- a call, or all sheets; the second call of a read is there for two sheets only
+unfoldable pub kindOf : Bool → List ℕ → Kind
+kindOf two w = cond (eqList w (bytes "sheets")) Sheets (cond (two && eqList w (bytes "second")) Second (callKind w))
 
 module _ (a b c d : Bool) (k l m n other : Kind) where
   pub first-named : a ≡ true → k ≡ firstNamed a k b l c m d n other
@@ -72,23 +72,28 @@ module _ (a b c d : Bool) (k l m n other : Kind) where
   unfolding firstNamed
   none-named e f g h = rw (e, f, g, h)
 
+-- where there are two sheets, a look-up says which one's line it asks for
+abbrev pub lineArity : Bool → ℕ
+lineArity two = cond two 6 5
+
 -- how many numbers a call has
-abbrev pub arity : Kind → ℕ
-arity Check = 0
-arity Begin = 2
-arity Read = 7
-arity Put = 8
-arity Advance = 2
-arity Close = 3
-arity Abort = 1
-arity Visit = 6
-arity Lookup = 5
-arity Line = 5
-arity Show = 1
-arity Set = 7
-arity Entry = 14
-arity Sheets = 0
-arity BadLine = 0
+abbrev pub arity : Bool → Kind → ℕ
+arity two Check = 0
+arity two Begin = 2
+arity two Read = 7
+arity two Second = 9
+arity two Put = 8
+arity two Advance = 2
+arity two Close = 3
+arity two Abort = 1
+arity two Visit = 6
+arity two Lookup = 5
+arity two Line = lineArity two
+arity two Show = 1
+arity two Set = 7
+arity two Entry = 14
+arity two Sheets = 0
+arity two BadLine = 0
 
 -- The numbers.
 
@@ -118,20 +123,20 @@ abbrev pub badCommand : Command
 badCommand = record { kind = BadLine; numbers = replicate 14 0 }
 
 -- a call with its numbers, if it has so many
-abbrev pub called : Kind → Numbers → Command
-called k n = cond (n .good && eqb (n .count) (arity k)) (record { kind = k; numbers = n .values }) badCommand
+abbrev pub called : Bool → Kind → Numbers → Command
+called two k n = cond (n .good && eqb (n .count) (arity two k)) (record { kind = k; numbers = n .values }) badCommand
 
-unfoldable pub calledBy : List (List ℕ) → Command
-calledBy [] = badCommand
-calledBy (w ∷ ws) = called (kindOf w) (withWords noNumbers ws)
+unfoldable pub calledBy : Bool → List (List ℕ) → Command
+calledBy two [] = badCommand
+calledBy two (w ∷ ws) = called two (kindOf two w) (withWords noNumbers ws)
 
--- what the line says
-abbrev pub said : List ℕ → Command
-said line = calledBy (words line)
+-- what the line says, on the joined sheet or on two
+abbrev pub said : Bool → List ℕ → Command
+said two line = calledBy two (words line)
 
 -- by what the two tests say
-pub called-by : (k : Kind) (n : Numbers) (b d : Bool) → n .good ≡ b → eqb (n .count) (arity k) ≡ d → cond (b && d) (record { kind = k; numbers = n .values }) badCommand ≡ called k n
-called-by k n b d e f = ap₂ (λ (x y : Bool). cond (x && y) (record { kind = k; numbers = n .values }) badCommand) (sym e) (sym f)
+pub called-by : (two : Bool) (k : Kind) (n : Numbers) (b d : Bool) → n .good ≡ b → eqb (n .count) (arity two k) ≡ d → cond (b && d) (record { kind = k; numbers = n .values }) badCommand ≡ called two k n
+called-by two k n b d e f = ap₂ (λ (x y : Bool). cond (x && y) (record { kind = k; numbers = n .values }) badCommand) (sym e) (sym f)
 
 -- How it is read: up to the first space, then word by word.
 
@@ -193,12 +198,12 @@ first-word (b ∷ s) = go (eqb b 32) (first-word s)
     go false h = ap (longer b) h
 
 -- the line by its first word, which ends at a column, and the words after it
-pub said-read : (line : List ℕ) (end : ℕ) → end ≡ length (upTo 32 line) → called (kindOf (take end line)) (withWords noNumbers (wordsAfter (drop end line))) ≡ said line
+pub said-read : (two : Bool) (line : List ℕ) (end : ℕ) → end ≡ length (upTo 32 line) → called two (kindOf two (take end line)) (withWords noNumbers (wordsAfter (drop end line))) ≡ said two line
 unfolding calledBy
-said-read line end e =
-    ap₂ (λ (w : List ℕ) (s : List ℕ). called (kindOf w) (withWords noNumbers (wordsAfter s)))
+said-read two line end e =
+    ap₂ (λ (w : List ℕ) (s : List ℕ). called two (kindOf two w) (withWords noNumbers (wordsAfter s)))
     (ap (λ (k : ℕ). take k line) e ∙ take-up-to 32 line) (ap (λ (k : ℕ). drop k line) e ∙ drop-up-to 32 line)
-    ∙ ap calledBy (sym (first-word line))
+    ∙ ap (calledBy two) (sym (first-word line))
 
 -- one word more, between the space in a column and the end that was found
 pub next-word : (line : List ℕ) (n : Numbers) (at end size : ℕ) → at < length line → end ≡ at + 1 + length (upTo 32 (drop (at + 1) line)) → size + (at + 1) ≡ end → withWords (withWord n (take size (drop (at + 1) line))) (wordsAfter (drop end line)) ≡ withWords n (wordsAfter (drop at line))

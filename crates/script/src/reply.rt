@@ -8,6 +8,7 @@ pub enum Form {
     Made,
     Absent,
     Columns,
+    First,
     Again,
     Stays,
     Forward,

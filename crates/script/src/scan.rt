@@ -2,16 +2,17 @@
 ghost use mathlib.Core.Path.{_≡_};
 ghost use Prim.Native.Nat.{_+_, _≤_};
 ghost use lib.ListN.{length, drop};
-ghost use Rattle.script.specs.Lines.{closeKind, otherSlotKind, slotKind, callKind, kindOf};
+ghost use Rattle.script.specs.Lines.{closeKind, otherSlotKind, slotKind, callKind, kindOf, lineArity};
 ghost use Rattle.script.specs.Lines.{noNumbers, withWord, withWords, wordsAfter, badCommand, called, said, upTo};
 ghost use Rattle.script.specs.Lines as model;
 use decimal::Scan;
 
-// The calls of a history; Sheets asks for both sheets, and BadLine is a line of another form.
+// The calls of a history; Sheets asks for all sheets, and BadLine is a line of another form. Second is for two sheets only.
 pub enum Kind {
     Check,
     Begin,
     Read,
+    Second,
     Put,
     Advance,
     Close,
@@ -123,31 +124,45 @@ fn call_kind(word: &[u8]) -> Kind
     slot_kind(word)
 }
 
-// What a line with this first word asks for.
-fn kind_of(word: &[u8]) -> Kind
-    ensures { λ r. ⌜ r ≡ kindOf (now (word .entry)) ⌝ }
+// What a line with this first word asks for; the second call of a read is there for two sheets only.
+fn kind_of(two: bool, word: &[u8]) -> Kind
+    ensures { λ r. ⌜ r ≡ kindOf two (now (word .entry)) ⌝ }
 {
     if decimal::same(word, b"sheets") {
         return Kind::Sheets;
     }
+    if two & decimal::same(word, b"second") {
+        return Kind::Second;
+    }
     call_kind(word)
 }
 
+// Where there are two sheets, a look-up says which one's line it asks for.
+fn line_arity(two: bool) -> usize
+    ensures { λ r. ⌜ r ≡ lineArity two ⌝ }
+{
+    if two {
+        return 6;
+    }
+    5
+}
+
 // How many numbers a call has.
-fn arity(kind: Kind) -> usize
-    ensures { λ r. ⌜ r ≡ model.arity kind ⌝ }
+fn arity(two: bool, kind: Kind) -> usize
+    ensures { λ r. ⌜ r ≡ model.arity two kind ⌝ }
 {
     match kind {
         Kind::Check => 0,
         Kind::Begin => 2,
         Kind::Read => 7,
+        Kind::Second => 9,
         Kind::Put => 8,
         Kind::Advance => 2,
         Kind::Close => 3,
         Kind::Abort => 1,
         Kind::Visit => 6,
         Kind::Lookup => 5,
-        Kind::Line => 5,
+        Kind::Line => line_arity(two),
         Kind::Show => 1,
         Kind::Set => 7,
         Kind::Entry => 14,
@@ -223,14 +238,14 @@ fn bad_command() -> Command
 }
 
 // A call with its numbers, if it has so many.
-fn called(kind: Kind, numbers: Numbers) -> Command
-    ensures { λ r. ⌜ r ≡ called kind numbers ⌝ }
+fn called(two: bool, kind: Kind, numbers: Numbers) -> Command
+    ensures { λ r. ⌜ r ≡ called two kind numbers ⌝ }
 {
     let values = numbers.values;
     if !numbers.good {
         return bad_command();
     }
-    if numbers.count != arity(kind) {
+    if numbers.count != arity(two, kind) {
         return bad_command();
     }
     Command {
@@ -239,11 +254,12 @@ fn called(kind: Kind, numbers: Numbers) -> Command
     }
 }
 
-pub fn parse(line: &[u8]) -> Command
-    ensures { λ r. ⌜ r ≡ said (now (line .entry)) ⌝ }
+// A line of a history on the joined sheet, or on two.
+pub fn parse(two: bool, line: &[u8]) -> Command
+    ensures { λ r. ⌜ r ≡ said two (now (line .entry)) ⌝ }
 {
     let end = end_of(line, 0, b' ');
-    let kind = kind_of(&line[..end]);
+    let kind = kind_of(two, &line[..end]);
     let numbers = numbers_after(line, end);
-    called(kind, numbers)
+    called(two, kind, numbers)
 }

@@ -1,10 +1,9 @@
--- The part of the record sheet that a line of a history asks for: `line` asks for what the look-up hands back.
+-- The part of a sheet that a line of a history asks for: `line` asks for what the look-up hands back.
 use Rattle.lists.specs.Basics.{_≡_, sym, ap, ℕ, _+_, Bool, true, false, cond, List, [], getD}
-use Rattle.model.specs.Types.{Key}
-use Rattle.model.specs.SheetCalls.{lookedUp}
+use Rattle.model.specs.Types.{Key, Columns}
 use Rattle.script.specs.declared.scan.Command.{Command}
 use Rattle.script.specs.declared.scan.Kind.{Kind}
-use Rattle.script.specs.declared.scan.Kind.the-variants.{Check, Begin, Read, Put, Advance, Close, Abort, Visit, Lookup, Line, Show, Set, Entry, Sheets, BadLine}
+use Rattle.script.specs.declared.scan.Kind.the-variants.{Check, Begin, Read, Second, Put, Advance, Close, Abort, Visit, Lookup, Line, Show, Set, Entry, Sheets, BadLine}
 
 -- the key whose five numbers begin at number i
 abbrev pub keyFrom : List ℕ → ℕ → Key
@@ -17,10 +16,15 @@ keyFrom n at =
       clustering = getD n (at + 4) 0;
     }
 
+-- the columns whose two numbers begin at number i
+abbrev pub columnsFrom : List ℕ → ℕ → Columns
+columnsFrom n at = record { column1 = getD n at 0; column2 = getD n (at + 1) 0 }
+
 abbrev pub asksLine : Kind → Bool
 asksLine Check = false
 asksLine Begin = false
 asksLine Read = false
+asksLine Second = false
 asksLine Put = false
 asksLine Advance = false
 asksLine Close = false
@@ -34,12 +38,13 @@ asksLine Entry = false
 asksLine Sheets = false
 asksLine BadLine = false
 
--- the part asked for, an empty one where none is
+-- the part asked for, of what was looked up: an empty one where none is
 abbrev pub partAsked : Command → List ℕ → List ℕ
-partAsked c rs = cond (asksLine (c .kind)) (lookedUp rs (keyFrom (c .numbers) 0)) []
+partAsked c found = cond (asksLine (c .kind)) found []
 
-pub part-none : (c : Command) (rs : List ℕ) → asksLine (c .kind) ≡ false → [] ≡ partAsked c rs
-part-none c rs e = ap (λ (b : Bool). cond b (lookedUp rs (keyFrom (c .numbers) 0)) []) (sym e)
+module _ (c : Command) (found : List ℕ) where
+  pub part-none : asksLine (c .kind) ≡ false → [] ≡ partAsked c found
+  part-none e = ap (λ (b : Bool). cond b found []) (sym e)
 
-pub part-asked : (c : Command) (rs : List ℕ) → asksLine (c .kind) ≡ true → lookedUp rs (keyFrom (c .numbers) 0) ≡ partAsked c rs
-part-asked c rs e = ap (λ (b : Bool). cond b (lookedUp rs (keyFrom (c .numbers) 0)) []) (sym e)
+  pub part-asked : asksLine (c .kind) ≡ true → found ≡ partAsked c found
+  part-asked e = ap (λ (b : Bool). cond b found []) (sym e)

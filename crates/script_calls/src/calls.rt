@@ -1,7 +1,8 @@
-// The calls of a history, each by the engine's.
+// What a line asks of the engine, and what is replied to what was performed.
 ghost use mathlib.Core.Path.{_≡_};
 ghost use Prim.Native.Nat.{_≤_};
-ghost use Rattle.script_calls.specs.Parts.{keyFrom, asksLine, partAsked};
+ghost use Rattle.script_calls.specs.Parts.{keyFrom, columnsFrom, asksLine};
+ghost use Rattle.script_calls.specs.Asking.{begun, onSlot, askedFor};
 use cores::Performed;
 use script::reply;
 use script::reply::Form;
@@ -9,21 +10,17 @@ use script::reply::Reply;
 use script::scan::Command;
 use script::scan::Kind;
 use types::Columns;
-use types::Entry;
-use types::Found;
-use types::Image;
 use types::Key;
 use types::Request;
-use types::Transaction;
 
-// What a call on a slot leaves: its transaction and the reply.
-pub struct Done {
-    pub transaction: Transaction,
-    pub reply: Reply,
+// The call that a line asks for, if it asks for one.
+pub enum Asked {
+    Call(Request),
+    Nothing,
 }
 
 // The key whose five numbers begin at `at`.
-fn key_at(n: [u32; 14], at: usize) -> Key
+pub fn key_at(n: [u32; 14], at: usize) -> Key
     requires { ⌜ at ≤ 9 ⌝ }
     ensures { λ r. ⌜ r ≡ keyFrom n at ⌝ }
 {
@@ -36,39 +33,26 @@ fn key_at(n: [u32; 14], at: usize) -> Key
     }
 }
 
-pub fn ok() -> Reply
-    ensures { λ r. ⌜ r .count ≤ 102 ⌝ }
+// The columns whose two numbers begin at `at`.
+fn columns_at(n: [u32; 14], at: usize) -> Columns
+    requires { ⌜ at ≤ 12 ⌝ }
+    ensures { λ r. ⌜ r ≡ columnsFrom n at ⌝ }
 {
-    reply::answer(Form::Made, 0, 0, 0, 0)
-}
-
-pub fn check(records: &[u8], coordinator: &[u8]) -> Reply
-    ensures { λ r. ⌜ r .count ≤ 102 ⌝ }
-{
-    reply::unless_refused(sheets::check::check(records, coordinator), ok())
-}
-
-pub fn lookup(n: [u32; 14], records: &[u8]) -> Reply
-    ensures { λ r. ⌜ r .count ≤ 102 ⌝ }
-{
-    let key = key_at(n, 0);
-    let refused = sheets::lookup::lookup_refusal(records, key);
-    if refused != 0 {
-        return reply::refused(refused);
-    }
-    match sheets::lookup::find(records, key) {
-        Found::At(i) => reply::answer(Form::Made, 1, i as u32, 0, 0),
-        Found::Nothing => reply::refused(6),
+    Columns {
+        column1: n[at],
+        column2: n[at + 1],
     }
 }
 
-fn asks_line(kind: Kind) -> bool
+// Whether a part of a sheet is printed after the reply: the line that a look-up hands back.
+pub fn asks_line(kind: Kind) -> bool
     ensures { λ r. ⌜ r ≡ asksLine kind ⌝ }
 {
     match kind {
         Kind::Check => false,
         Kind::Begin => false,
         Kind::Read => false,
+        Kind::Second => false,
         Kind::Put => false,
         Kind::Advance => false,
         Kind::Close => false,
@@ -84,35 +68,63 @@ fn asks_line(kind: Kind) -> bool
     }
 }
 
-// What is printed after the reply: the part of the record sheet that the look-up hands back, and an empty part for a call that asks for none.
-pub fn part(c: Command, records: &[u8]) -> &[u8]
-    ensures { λ r. ⌜ now r ≡ partAsked c (now (records .entry)) ⌝ }
+// A begin says 0 or 1 for checked.
+fn begun(checked: u32) -> Asked
+    ensures { λ r. ⌜ r ≡ begun checked ⌝ }
+{
+    if 1 < checked {
+        return Asked::Nothing;
+    }
+    Asked::Call(Request::Begin(checked == 1))
+}
+
+// A call on a slot, which is one of sixteen.
+fn on_slot(slot: u32, asked: Asked) -> Asked
+    ensures { λ r. ⌜ r ≡ onSlot slot asked ⌝ }
+{
+    if 16 <= slot {
+        return Asked::Nothing;
+    }
+    asked
+}
+
+pub fn request(c: Command) -> Asked
+    ensures { λ r. ⌜ r ≡ askedFor (c .kind) (c .numbers) ⌝ }
 {
     let kind = c.kind;
     let n = c.numbers;
-    if !asks_line(kind) {
-        return &records[..0];
+    match kind {
+        Kind::Check => Asked::Nothing,
+        Kind::Begin => on_slot(n[0], begun(n[1])),
+        Kind::Read => on_slot(n[0], Asked::Call(Request::Read(key_at(n, 1), n[6]))),
+        Kind::Second => {
+            on_slot(
+                n[0],
+                Asked::Call(Request::Second(key_at(n, 1), n[6], columns_at(n, 7))),
+            )
+        }
+        Kind::Put => on_slot(
+            n[0],
+            Asked::Call(Request::Put(key_at(n, 1), columns_at(n, 6))),
+        ),
+        Kind::Advance => on_slot(n[0], Asked::Call(Request::Advance(n[1]))),
+        Kind::Close => on_slot(n[0], Asked::Call(Request::Close(n[1], n[2]))),
+        Kind::Abort => on_slot(n[0], Asked::Call(Request::Abort)),
+        Kind::Visit => Asked::Call(Request::Visit(key_at(n, 0), n[5])),
+        Kind::Lookup => Asked::Nothing,
+        Kind::Line => Asked::Nothing,
+        Kind::Show => Asked::Nothing,
+        Kind::Set => Asked::Nothing,
+        Kind::Entry => Asked::Nothing,
+        Kind::Sheets => Asked::Nothing,
+        Kind::BadLine => Asked::Nothing,
     }
-    sheets::lookup::lookup(records, key_at(n, 0))
 }
 
-// What a line asks of the engine.
-fn request(kind: Kind, n: [u32; 14]) -> Request {
-    match kind {
-        Kind::Begin => Request::Begin(n[1] == 1),
-        Kind::Read => Request::Read(key_at(n, 1), n[6]),
-        Kind::Put => {
-            let columns = Columns {
-                column1: n[6],
-                column2: n[7],
-            };
-            Request::Put(key_at(n, 1), columns)
-        }
-        Kind::Advance => Request::Advance(n[1]),
-        Kind::Close => Request::Close(n[1], n[2]),
-        Kind::Visit => Request::Visit(key_at(n, 0), n[5]),
-        _ => Request::Abort,
-    }
+pub fn ok() -> Reply
+    ensures { λ r. ⌜ r .count ≤ 102 ⌝ }
+{
+    reply::answer(Form::Made, 0, 0, 0, 0)
 }
 
 fn visit_form(reply: u32) -> Form {
@@ -124,13 +136,14 @@ fn visit_form(reply: u32) -> Form {
     }
 }
 
-// The reply of a read: 0 absent, 1 a value, 2 again.
+// The reply of a read: 0 absent, 1 a value, 2 again, 3 what the first of two calls reads.
 fn reading(reply: u32, columns: Columns) -> Reply
     ensures { λ r. ⌜ r .count ≤ 102 ⌝ }
 {
     match reply {
         0 => reply::answer(Form::Absent, 0, 0, 0, 0),
         1 => reply::answer(Form::Columns, 2, columns.column1, columns.column2, 0),
+        3 => reply::answer(Form::First, 2, columns.column1, columns.column2, 0),
         _ => reply::answer(Form::Again, 0, 0, 0, 0),
     }
 }
@@ -143,7 +156,7 @@ fn replied(kind: Kind, performed: Performed) -> Reply
     let columns = performed.columns;
     match kind {
         Kind::Begin => reply::answer(Form::Made, 1, t.number, 0, 0),
-        Kind::Read => reading(performed.reply, columns),
+        Kind::Read | Kind::Second => reading(performed.reply, columns),
         Kind::Advance => reply::answer(Form::Made, 3, t.phase, t.place, t.verdict),
         Kind::Close => reply::report(performed.reply, t.phase, t.place, t.verdict),
         Kind::Visit => reply::answer(visit_form(performed.reply), 0, 0, 0, 0),
@@ -151,175 +164,9 @@ fn replied(kind: Kind, performed: Performed) -> Reply
     }
 }
 
-// A call of the engine on a transaction. A refused begin leaves it as it was.
-fn perform(
-    kind: Kind,
-    n: [u32; 14],
-    t: Transaction,
-    records: &mut [u8],
-    coordinator: &mut [u8],
-) -> Done
-    ensures { λ r. ⌜ r .reply .count ≤ 102 ⌝ }
-{
-    let performed = engine::perform::perform(request(kind, n), t, records, coordinator);
-    let transaction = performed.transaction;
-    let reply = reply::unless_refused(performed.refusal, replied(kind, performed));
-    Done { transaction, reply }
-}
-
-// A visit takes no transaction, so that any will do.
-pub fn visit(n: [u32; 14], records: &mut [u8], coordinator: &mut [u8]) -> Reply
+// What is printed of a call that was performed.
+pub fn answered(kind: Kind, performed: Performed) -> Reply
     ensures { λ r. ⌜ r .count ≤ 102 ⌝ }
 {
-    let none = transactions::new_transaction(0, false);
-    let done = perform(Kind::Visit, n, none, records, coordinator);
-    done.reply
-}
-
-// A begin says 0 or 1 for checked.
-fn begin(n: [u32; 14], t: Transaction, records: &mut [u8], coordinator: &mut [u8]) -> Done
-    ensures { λ r. ⌜ r .reply .count ≤ 102 ⌝ }
-{
-    if 1 < n[1] {
-        let reply = reply::bad_line();
-        return Done {
-            transaction: t,
-            reply,
-        };
-    }
-    perform(Kind::Begin, n, t, records, coordinator)
-}
-
-// The numbers of an entry, in the order of the line that sets one.
-fn entry_numbers(e: Entry) -> [u32; 12] {
-    [
-        e.key.storage,
-        e.key.namespace,
-        e.key.table,
-        e.key.partition,
-        e.key.clustering,
-        e.seen.version,
-        e.seen.txid,
-        e.seen.column1,
-        e.seen.column2,
-        e.wrote,
-        e.put.column1,
-        e.put.column2,
-    ]
-}
-
-// The row over twelve numbers from `at` on.
-fn with_row(numbers: [u32; 102], at: usize, row: [u32; 12]) -> [u32; 102]
-    requires { ⌜ at ≤ 90 ⌝ }
-{
-    let mut after = numbers;
-    for j in 0..12 {
-        after[at + j] = row[j];
-    }
-    after
-}
-
-// How many entries of a transaction are shown: a forged count may be any number.
-fn shown(count: u32) -> usize
-    ensures { λ r. ⌜ r ≤ 8 ⌝ }
-{
-    if count < 8 {
-        return count as usize;
-    }
-    8
-}
-
-fn show(t: Transaction) -> Done
-    ensures { λ r. ⌜ r .reply .count ≤ 102 ⌝ }
-{
-    let mut numbers = [0u32; 102];
-    numbers[0] = t.number;
-    numbers[1] = t.serializable;
-    numbers[2] = t.phase;
-    numbers[3] = t.place;
-    numbers[4] = t.verdict;
-    numbers[5] = t.count;
-    let n = shown(t.count);
-    for k in 0..n {
-        let e = t.entries[k];
-        numbers = with_row(numbers, 6 + k * 12, entry_numbers(e));
-    }
-    Done {
-        transaction: t,
-        reply: Reply {
-            form: Form::Made,
-            count: 6 + n * 12,
-            numbers,
-        },
-    }
-}
-
-// A transaction with other numbers and the same entries.
-fn set(n: [u32; 14], t: Transaction) -> Done
-    ensures { λ r. ⌜ r .reply .count ≤ 102 ⌝ }
-{
-    let entries = t.entries;
-    let transaction = Transaction {
-        number: n[1],
-        serializable: n[2],
-        phase: n[3],
-        place: n[4],
-        verdict: n[5],
-        count: n[6],
-        entries,
-    };
-    let reply = ok();
-    Done { transaction, reply }
-}
-
-// A transaction with another entry at an index.
-fn entry(n: [u32; 14], t: Transaction) -> Done
-    ensures { λ r. ⌜ r .reply .count ≤ 102 ⌝ }
-{
-    let index = n[1];
-    if 7 < index {
-        let reply = reply::bad_line();
-        return Done {
-            transaction: t,
-            reply,
-        };
-    }
-    let e = Entry {
-        key: key_at(n, 2),
-        seen: Image {
-            version: n[7],
-            txid: n[8],
-            column1: n[9],
-            column2: n[10],
-        },
-        wrote: n[11],
-        put: Columns {
-            column1: n[12],
-            column2: n[13],
-        },
-    };
-    let transaction = transactions::with_entry(t.count, index as usize, e, t);
-    let reply = ok();
-    Done { transaction, reply }
-}
-
-// A call that names a slot, on its transaction. The calls without one never come here.
-pub fn call(c: Command, t: Transaction, records: &mut [u8], coordinator: &mut [u8]) -> Done
-    ensures { λ r. ⌜ r .reply .count ≤ 102 ⌝ }
-{
-    let kind = c.kind;
-    let n = c.numbers;
-    match kind {
-        Kind::Begin => begin(n, t, records, coordinator),
-        Kind::Read | Kind::Put | Kind::Advance | Kind::Close | Kind::Abort => {
-            perform(kind, n, t, records, coordinator)
-        }
-        Kind::Show => show(t),
-        Kind::Set => set(n, t),
-        Kind::Entry => entry(n, t),
-        _ => Done {
-            transaction: t,
-            reply: reply::bad_line(),
-        },
-    }
+    reply::unless_refused(performed.refusal, replied(kind, performed))
 }

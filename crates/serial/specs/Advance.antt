@@ -1,8 +1,8 @@
 -- An advance keeps the invariant of the order: phase by phase, a walk of the step table. A checked transaction never commits in one phase; it gets its position
 -- by its last prepare or on leaving open, validates entry by entry, and commits by its decision or, without puts, by its last step.
-use Rattle.lists.specs.Basics.{_≡_, refl, sym, ap, subst, _∙_, ℕ, zero, suc, _+_, _≤_, _<_, eqb, ltb, Bool, true, false, not, _&&_, cond, true≢false, and-false}
+use Rattle.lists.specs.Basics.{_≡_, refl, sym, ap, subst, _∙_, ℕ, zero, suc, _+_, _≤_, _<_, eqb, ltb, Bool, true, false, not, cond, true≢false, and-false}
 use Rattle.lists.specs.Basics.{List, _∷_, length, getD, none, some, Option·none-ne-some, _⊎_, inl, inr, arith, eqb-true, ltb-true, ltb-false, eq-eqb, ne-eqb}
-use Rattle.lists.specs.Basics.{le-ltb, not-true, all, and-snd, choose-by}
+use Rattle.lists.specs.Basics.{le-ltb, not-true, all, choose-by, tests}
 use Rattle.lists.specs.Members.{Mem, mem-passes, mem-filter}
 use Rattle.model.specs.Types.{Key, Record, Decision, Undecided, Committed, Aborted, Entry, Transaction}
 use Rattle.model.specs.Coordinator.{decision}
@@ -203,8 +203,9 @@ module _ {first : Key → Record} {s : Sheets} {es : List Event} {m : Model} {ps
       (λ u x n i. absurd (none-in (puts t) (mem-filter isPut (held t) n i) e))
       (λ q. absurd (omega (arith, q)))
       (λ z. o .calm t a (omega (arith, ph)) e))))
-      (λ e. choose-by StepKept (eqb (groupsOf t s) 1 && not (isSerializable t))
-      (λ g. absurd (true≢false (sym (o .checked t a) ∙ not-true (isSerializable t) (and-snd (eqb (groupsOf t s) 1) (not (isSerializable t)) g))))
+      (λ e. choose-by StepKept (onePhaseAllowed t s)
+      (λ g. let free : not (isSerializable t) ≡ true = search (tests, g) in
+      absurd (true≢false (sym (o .checked t a) ∙ not-true (isSerializable t) free)))
       (λ g. let t′ = moved preparePhase 0 (t .verdict) t in
       becomes nothing t′ m ps (same t′ (never-both (t .verdict))) (unplaced t t′ ps preparePhase refl refl refl)
       (λ h. to-prepare preparePhase 0 (t .verdict) h o (omega (arith, ph)) refl e

@@ -1,15 +1,15 @@
--- What reads answered: of every read that gave a value, the transaction still holds what it then had as first read, since calls add entries and put to them, and
--- none takes an entry away or changes what it has as first read.
+-- What reads answered: of every read that gave a value, in one call or by the second of two, the transaction still holds what it then had as first read, since
+-- calls add entries and put to them, and none takes an entry away or changes what it has as first read.
 use Rattle.lists.specs.Basics.{_≡_, refl, sym, subst, _∙_, eqb, Bool, true, false, List, [], _∷_, eqb-true, eqb-false}
 use Rattle.lists.specs.Members.{Mem, here, there}
 use Rattle.model.specs.Types.{Key, Transaction, Reading}
-use Rattle.types.specs.declared.Reading.the-variants.{Again}
 use Rattle.model.specs.Transactions.{held, reading}
 use Rattle.model.specs.Writes.{Sheets, Write}
-use Rattle.model.specs.Results.{Call, begin, read, put, advance, abort, visit, Answer, turnedAway, returned, answered, visited, reported}
+use Rattle.model.specs.Results.{Call, begin, read, second, put, advance, abort, visit, Answer, turnedAway, returned, answered, visited, reported}
 use Rattle.model.specs.Conditions.{isNew, heldEntry}
 use Rattle.model.specs.Histories.{Event, Available}
 use Rattle.model.specs.SequentialModel.{Model}
+use Rattle.model.specs.SerialOrder.{countsAsRead}
 use Rattle.serial.specs.Handover.{Handover, now-available, still-available}
 use Rattle.serial.specs.Untaken.{Untaken, still-there}
 use Rattle.serial.specs.Holding.{Seen, HoldsOn, held-entry}
@@ -31,13 +31,14 @@ pub record ReadHeld (es : List Event) (t : Transaction) (k : Key) (v : Reading) 
 abbrev pub ToldRead : List Event → Transaction → Key → Answer → Type 0
 ToldRead es t k (turnedAway n) = Unit {0}
 ToldRead es t k (returned t′) = Unit {0}
-ToldRead es t k (answered v t′) = (v ≡ Again → ⊥) → ReadHeld es t k v t′
+ToldRead es t k (answered v t′) = countsAsRead v ≡ true → ReadHeld es t k v t′
 ToldRead es t k (visited v) = Unit {0}
 ToldRead es t k (reported n t′) = Unit {0}
 
 abbrev pub Told : List Event → Call → Answer → Type 0
 Told es (begin b) a = Unit {0}
 Told es (read t k now) a = ToldRead es t k a
+Told es (second t k now c) a = ToldRead es t k a
 Told es (put t k c) a = Unit {0}
 Told es (advance t now) a = Unit {0}
 Told es (abort t) a = Unit {0}
@@ -64,6 +65,7 @@ module _ (es es′ : List Event) (still : (t′ : Transaction) (k : Key) → Sti
   told-later : (c : Call) (a : Answer) → Told es c a → Told es′ c a
   told-later (begin b) a h = tt
   told-later (read t k now) a h = read-later t k a h
+  told-later (second t k now c) a h = read-later t k a h
   told-later (put t k c) a h = tt
   told-later (advance t now) a h = tt
   told-later (abort t) a h = tt

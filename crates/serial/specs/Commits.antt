@@ -14,7 +14,7 @@ use Rattle.model.specs.Histories.{Event, Available}
 use Rattle.model.specs.SequentialModel.{Model, overwritten, modelCommit, isCommitted}
 use Rattle.recovery.specs.Memory.{putIn}
 use Rattle.recovery.specs.Puts.{put-in-empty}
-use Rattle.serial.specs.Runs.{Placing, Fresh, NoNewer, no-newer-after}
+use Rattle.serial.specs.Runs.{Placing, Fresh, NotAhead, no-newer-after}
 use Rattle.serial.specs.Order.{Consistent, weaker, enters}
 use Rattle.serial.specs.OrderCommits.{FreshPut, commits}
 use Rattle.serial.specs.Entries.{put-entry}
@@ -54,7 +54,7 @@ module _ {first : Key → Record} {s : Sheets} {w : Write} {es : List Event} {e 
         commits = m .writes (t .number);
         lines = λ k. refl;
         clear = λ u b d l z k c g. sets k ∙ elsewhere (u .number) d k (owns f u b l z k c g);
-        aged = λ x n. no-newer-after (m .line) (modelCommit (t .number) m .line) x (t .number) (m .writes (t .number) (x .key)) refl (o .aged t a x n);
+        aged = λ x n. no-newer-after (m .line) (modelCommit (t .number) m .line) x (t .number) _ (m .writes (t .number) (x .key)) refl (o .aged t a x n);
         prepared-fresh = λ l. absurd (omega (arith, l, late));
         member = λ l z. absurd (omega (arith, z, late));
         own-position = λ q n z. (own q z (extends-back ext q n), omega (arith, late));
@@ -82,9 +82,9 @@ module _ {first : Key → Record} {s : Sheets} {w : Write} {es : List Event} {e 
       out : 2 ≤ p → p ≤ 3 → decision (t .number) (apply w s .coordinator) ≡ Undecided → ⊥
       out l z u = omega (arith, z, late)
 
-      known : (q : Placing) → Mem q ps ⊎ (q ≡ placing t) → InDoubt s es (q .number) → (x : Entry) → Mem x (q .entries) → NoNewer (m .line) x
-      known q (inl n) y x j = aged-in-doubt f o q n y x j
-      known q (inr d) y x j = o .aged t a x (subst (λ (r : Placing). Mem x (r .entries)) d j)
+      known : (q : Placing) → Mem q ps ⊎ (q ≡ placing t) → InDoubt s es (q .number) → (x : Entry) → Mem x (q .entries) → NotAhead (m .line) x
+      known q (inl n) y x j = aged-in-doubt f o q n y x j .0
+      known q (inr d) y x j = o .aged t a x (subst (λ (r : Placing). Mem x (r .entries)) d j) .0
 
       validated : (q : Placing) (x : Entry) → Validated (apply w s) (e ∷ es) (modelCommit (t .number) m .committed) q x
           → OrOwnEntry t (Validated s es (m .committed)) q x

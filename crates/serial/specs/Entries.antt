@@ -3,9 +3,11 @@
 use Rattle.lists.specs.Basics.{_≡_, refl, sym, ap, ap₂, _∙_, Bool, true, false, not, _&&_, cond, true≢false, and-false, List, [], _∷_, none, some}
 use Rattle.lists.specs.Basics.{Option·none-ne-some, _⊎_, inl, inr, not-true, any, filter, and-fst, and-snd, and-both, or-left, or-right, or-fst, or-snd}
 use Rattle.lists.specs.Members.{Mem, here, there, mem-filter}
-use Rattle.model.specs.Types.{Key, AtomicityUnit, Entry, Transaction}
+use Rattle.model.specs.Types.{Key, Entry, Transaction}
+use Rattle.model.specs.Groups.{isLower}
 use Rattle.model.specs.Images.{Change, changeOf}
 use Rattle.model.specs.Records.{sameKey}
+use Rattle.model.specs.Coordinator.{Letter}
 use Rattle.model.specs.Transactions.{held, isPut, mustValidate, toValidate, isEmpty, isSerializable}
 use Rattle.model.specs.WellFormed.{distinctKeys}
 use Rattle.call_laws.specs.Keys.{same-key, same-key-refl, hasKey}
@@ -17,14 +19,14 @@ none-in es here h = true≢false (sym h)
 none-in es (there m) h = true≢false (sym h)
 
 -- every entry of a checked transaction is a put or is to be validated
-pub put-or-validated : (us : List AtomicityUnit) (t : Transaction) → isSerializable t ≡ true → (e : Entry) → Mem e (held t)
+pub put-or-validated : (us : List Letter) (t : Transaction) → isSerializable t ≡ true → (e : Entry) → Mem e (held t)
     → (isPut e ≡ true) ⊎ Mem e (toValidate us t)
 unfolding toValidate
 put-or-validated us t c e m = go (isPut e) refl
   where
     go : (b : Bool) → isPut e ≡ b → (isPut e ≡ true) ⊎ Mem e (filter (mustValidate us t) (held t))
     go true p = inl p
-    go false p = inr (mem-filter (mustValidate us t) (held t) m (and-both c (ap not p)))
+    go false p = inr (mem-filter (mustValidate us t) (held t) m (and-both (ap not p) (or-left (isSerializable t) (isLower us (e .key)) c)))
 
 -- the entry of what is put for a key
 pub record EntryOf (k : Key) (es : List Entry) : Type 0 where

@@ -3,9 +3,9 @@
 use Rattle.lists.specs.Basics.{_≡_, refl, sym, ap, subst, _∙_, ℕ, _≤_, eqb, Bool, true, false, List, _∷_, length, Option, none, some, Option·some-injective}
 use Rattle.lists.specs.Basics.{_⊎_, inl, inr, eqb-true, eqb-false}
 use Rattle.lists.specs.Members.{Mem, here, there}
-use Rattle.model.specs.Types.{Key, Record, Undecided, AtomicityUnit, Entry, Transaction}
+use Rattle.model.specs.Types.{Key, Record, Undecided, Entry, Transaction}
 use Rattle.model.specs.Results.{returns}
-use Rattle.model.specs.Coordinator.{decision}
+use Rattle.model.specs.Coordinator.{Letter, decision}
 use Rattle.model.specs.Images.{Change}
 use Rattle.model.specs.Transactions.{held, puts, isEmpty, isSerializable}
 use Rattle.model.specs.Writes.{Sheets, Write, apply}
@@ -26,15 +26,19 @@ pub stood-undecided : (s : Sheets) (w : Write) (j : ℕ) → Away s j w → deci
 unfolding apply
 stood-undecided s w j a u = away-stood Undecided s j w (λ i x. abort-undecided (s .coordinator) i j x) a u
 
--- a write leaves the units, and so what is done and what is validated
+-- a write leaves the letters, and so what is done, what is validated and what is no newer
 
 pub same-done : (s : Sheets) (w : Write) (t : Transaction) (k : Key) → doneAt (unitsOf s) t k ≡ doneAt (unitsOf (apply w s)) t k
 unfolding apply
-same-done s w t k = ap (λ (us : List AtomicityUnit). doneAt us t k) (sym (units-kept w (s .coordinator)))
+same-done s w t k = ap (λ (us : List Letter). doneAt us t k) (sym (units-kept w (s .coordinator)))
 
 pub same-validated : (s : Sheets) (w : Write) (t : Transaction) (x : Entry) → ValidatedIn (unitsOf (apply w s)) t x → ValidatedIn (unitsOf s) t x
 unfolding apply
-same-validated s w t x = subst (λ (us : List AtomicityUnit). ValidatedIn us t x) (units-kept w (s .coordinator))
+same-validated s w t x = subst (λ (us : List Letter). ValidatedIn us t x) (units-kept w (s .coordinator))
+
+pub same-aged : (s : Sheets) (w : Write) (line : Key → Record) (t : Transaction) → Aged (unitsOf s) line t → Aged (unitsOf (apply w s)) line t
+unfolding apply
+same-aged s w line t = subst (λ (us : List Letter). Aged us line t) (sym (units-kept w (s .coordinator)))
 
 -- nobody aborts a state without puts, since it has prepared nothing
 pub calm-kept : {first : Key → Record} {s : Sheets} {es : List Event} {m : Model} {ps : List Placing} → Facts s es m → Ordered first s es m ps
@@ -129,7 +133,7 @@ pub record OwnCase (first : Key → Record) (s : Sheets) (w : Write) (es : List 
   pub lines : (k : Key) → m′ .line k ≡ overwritten (t .number) (commits k) (m .line k)
   pub clear : (u : Transaction) → Available u es → (u .number ≡ t .number → ⊥) → u .phase ≤ 3 → decision (u .number) (s .coordinator) ≡ Undecided
       → (k : Key) (c : Change) → doneAt (unitsOf s) u k ≡ some c → commits k ≡ none
-  pub aged : Aged (m′ .line) t′
+  pub aged : Aged (unitsOf s) (m′ .line) t′
   pub prepared-fresh : PreparedFresh (unitsOf s) (apply w s .coordinator) (m′ .line) t′
   pub member : HasPosition ps′ t′
   -- a position of its number is its own
@@ -145,8 +149,9 @@ pub ordered-handover : {first : Key → Record} {s : Sheets} {w : Write} {es : L
 ordered-handover {first} {s} {w} {es} {e} {m} {m′} {t} {t′} {ps} {ps′} h o c =
     record {
       consistent = c .consistent;
-      aged = λ u b. by-number h (Aged (m′ .line)) u b (c .aged)
-          (λ a d y n. no-newer-after (m .line) (m′ .line) y (t .number) (c .commits (y .key)) (c .lines (y .key)) (o .aged u a y n));
+      aged = λ u b. same-aged s w (m′ .line) u
+          (by-number h (Aged (unitsOf s) (m′ .line)) u b (c .aged)
+          (λ a d y n. no-newer-after (m .line) (m′ .line) y (t .number) _ (c .commits (y .key)) (c .lines (y .key)) (o .aged u a y n)));
       prepared-fresh = λ u b. by-number h (PreparedFresh (unitsOf (apply w s)) (apply w s .coordinator) (m′ .line)) u b
           (λ l v y n z g. c .prepared-fresh l v y n z (same-done s w t′ (y .key) ∙ g))
           (λ a d l v y n z g. fresh-kept u a d l (stood-undecided s w (u .number) (h .away (u .number) d) v) y n z (same-done s w u (y .key) ∙ g));

@@ -6,6 +6,8 @@ use lib.Seq.{take-suc-set}
 use Rattle.lists.specs.Members.{Mem, mem-before, mem-last, mem-more, mem-set, mem-kept, mem-at, mem-set-at}
 use Rattle.model.specs.Types.{Key, Image, Record, Found, Columns, Entry, Transaction}
 use Rattle.model.specs.Records.{sameKey, isMissing, byFound}
+use Rattle.model.specs.Coordinator.{Letter}
+use Rattle.model.specs.Groups.{isLower}
 use Rattle.model.specs.Transactions.{held, noEntry, heldAt, withPut, withEntry}
 use Rattle.model.specs.Writes.{Sheets}
 use Rattle.model.specs.Conditions.{isNew, heldEntry}
@@ -19,7 +21,7 @@ use Rattle.call_laws.specs.Moved.{step-leaves}
 use Rattle.recovery.specs.Puts.{take-set}
 use Rattle.recovery.specs.Calls.{missing-none}
 use Rattle.serial.specs.Entries.{member-key}
-use Rattle.serial.specs.Runs.{Fresh, NoNewer}
+use Rattle.serial.specs.Runs.{NoNewer}
 use Rattle.serial.specs.Invariant.{Aged}
 
 -- an entry of the key that has this as first read
@@ -63,12 +65,12 @@ module _ (e : Entry) (t : Transaction) (l : t .count < length (t .entries)) wher
   holds-on-more x n =
       record { entry = x; member = subst (Mem x) (sym (holds-more e t l)) (mem-before (held t) (e ∷ []) n); key = refl; first-read = refl }
 
-  pub aged-more : (line : Key → Record) → Fresh line e → Aged line t → Aged line (holding e t)
-  aged-more line x aged y n = go (mem-more e (held t) (subst (Mem y) (holds-more e t l) n))
+  pub aged-more : (us : List Letter) (line : Key → Record) → NoNewer (isLower us (e .key)) line e → Aged us line t → Aged us line (holding e t)
+  aged-more us line x aged y n = go (mem-more e (held t) (subst (Mem y) (holds-more e t l) n))
     where
-      go : Mem y (held t) ⊎ (y ≡ e) → NoNewer line y
+      go : Mem y (held t) ⊎ (y ≡ e) → NoNewer (isLower us (y .key)) line y
       go (inl m) = aged y m
-      go (inr q) = subst (NoNewer line) (sym q) (inl x)
+      go (inr q) = subst (λ (z : Entry). NoNewer (isLower us (z .key)) line z) (sym q) x
 
   -- which is the one of its key, if that is new
   module _ (k : Key) (same : e .key ≡ k) where
@@ -120,13 +122,13 @@ module _ (c : Columns) (t : Transaction) (i : ℕ) (l : i < length (held t)) whe
             first-read = ap (λ (z : Entry). z .seen) same;
           }
 
-  pub aged-put : (line : Key → Record) → Aged line t → Aged line (withEntry (t .count) i replaced t)
-  aged-put line aged y n = go (mem-set replaced i (held t) (subst (Mem y) holds-put n))
+  pub aged-put : (us : List Letter) (line : Key → Record) → Aged us line t → Aged us line (withEntry (t .count) i replaced t)
+  aged-put us line aged y n = go (mem-set replaced i (held t) (subst (Mem y) holds-put n))
     where
-      go : Mem y (held t) ⊎ (y ≡ replaced) → NoNewer line y
+      go : Mem y (held t) ⊎ (y ≡ replaced) → NoNewer (isLower us (y .key)) line y
       go (inl m) = aged y m
       go (inr q) =
-          subst (NoNewer line) (sym q) (aged (getD (t .entries) i noEntry) (subst (λ (x : Entry). Mem x (held t)) same-entry (mem-at (held t) i noEntry l)))
+          subst (λ (z : Entry). NoNewer (isLower us (z .key)) line z) (sym q) (aged (getD (t .entries) i noEntry) (subst (λ (x : Entry). Mem x (held t)) same-entry (mem-at (held t) i noEntry l)))
 
 -- A step.
 pub step-holds : (t : Transaction) (now : ℕ) (s : Sheets) → held (step t now s .transaction) ≡ held t

@@ -1,17 +1,20 @@
 -- Transactions in doubt: those that have their position and may still commit. What one of them has put it has prepared (recovery's memory), so that two of them
--- put to different lines, and a line whose condition holds is put to by none; and an entry whose condition holds is as the line, having no lower version.
-use Rattle.lists.specs.Basics.{_≡_, refl, sym, ap, _∙_, ℕ, _≤_, eqb, Bool, true, false, cond, List, none, some, Option·none-ne-some, inl, inr, arith, eqb-true}
+-- put to different lines, and a line whose condition holds is put to by none; and an entry whose condition holds is as the line, having its version or, where
+-- columns are compared, all that it has.
+use Rattle.lists.specs.Basics.{_≡_, refl, sym, ap, _∙_, ℕ, _≤_, eqb, Bool, true, false, not, _&&_, _||_, cond, List, none, some, Option·none-ne-some, arith, eqb-true}
 use Rattle.lists.specs.Basics.{eqb-false, not-true, and-snd, tests}
-use Rattle.model.specs.Types.{Key, Record, Undecided, AtomicityUnit, Entry, Transaction}
+use Rattle.model.specs.Types.{Key, Record, Undecided, Entry, Transaction}
 use Rattle.model.specs.Records.{lineOf, hasLine}
-use Rattle.model.specs.Coordinator.{decision}
-use Rattle.model.specs.Images.{Change, changeIn, isPrepared, preparedBy, unchanged}
+use Rattle.model.specs.Coordinator.{Letter, decision}
+use Rattle.model.specs.Groups.{isLower}
+use Rattle.model.specs.Images.{Change, changeIn, isPrepared, preparedBy, unchanged, sameColumns}
 use Rattle.model.specs.Transactions.{held}
 use Rattle.model.specs.Writes.{Sheets}
 use Rattle.model.specs.Steps.{holds, unitsOf}
 use Rattle.model.specs.Histories.{Event, Available}
 use Rattle.model.specs.SequentialModel.{Model, isCommitted}
 use Rattle.call_laws.specs.Sheets.{GoodSheets}
+use Rattle.call_laws.specs.Steps.{holds-parts}
 use Rattle.recovery.specs.Settling.{settled-plain}
 use Rattle.recovery.specs.View.{View}
 use Rattle.recovery.specs.Memory.{putIn, preparedChange, doneAt, not-prepared, other-owner}
@@ -45,7 +48,7 @@ in-doubt s es t a lo hi u n q =
     record { state = t; available = a; number = sym q; from = lo; to = hi; undecided = ap (λ (i : ℕ). decision i (s .coordinator)) q ∙ u }
 
 -- in validate and decide all groups are done
-pub all-prepared : (us : List AtomicityUnit) (t : Transaction) → 2 ≤ t .phase → t .phase ≤ 3 → (k : Key) → doneAt us t k ≡ putIn k (held t)
+pub all-prepared : (us : List Letter) (t : Transaction) → 2 ≤ t .phase → t .phase ≤ 3 → (k : Key) → doneAt us t k ≡ putIn k (held t)
 all-prepared us t lo hi k = go (eqb (t .phase) 2) refl
   where
     go : (b : Bool) → eqb (t .phase) 2 ≡ b → doneAt us t k ≡ putIn k (held t)
@@ -97,21 +100,46 @@ module _ {s : Sheets} {es : List Event} {m : Model} (f : Facts s es m) where
     free : isPrepared (lineOf (e .key) (s .lines)) ≡ false
     line : m .line (e .key) ≡ lineOf (e .key) (s .lines)
     version : lineOf (e .key) (s .lines) .image .version ≡ e .seen .version
+    compared : isLower (unitsOf s) (e .key) ≡ true → e .seen ≡ lineOf (e .key) (s .lines) .image
 
   held-line : (e : Entry) → holds s e ≡ true → Held e
-  unfolding holds unchanged
+  unfolding holds unchanged sameColumns
   held-line e h =
-      let u : unchanged e (lineOf (e .key) (s .lines)) ≡ true = and-snd (hasLine (e .key) (s .lines)) (unchanged e (lineOf (e .key) (s .lines))) h in
-      let p : isPrepared (lineOf (e .key) (s .lines)) ≡ false = not-true (isPrepared (lineOf (e .key) (s .lines))) (search (tests, u)) in
-      record { free = p; line = sym (f .view (e .key)) ∙ settled-plain (s .coordinator) (lineOf (e .key) (s .lines)) p; version = search (tests, u) }
+      record { free = p; line = sym (f .view (e .key)) ∙ settled-plain (s .coordinator) r p; version = v; compared = compared }
+    where
+      r : Record
+      r = lineOf (e .key) (s .lines)
+
+      u : unchanged e r ≡ true
+      u = holds-parts s e h .1
+
+      p : isPrepared r ≡ false
+      p = not-true (isPrepared r) (search (tests, u))
+
+      v : r .image .version ≡ e .seen .version
+      v = search (tests, u)
+
+      x : r .image .txid ≡ e .seen .txid
+      x = search (tests, u)
+
+      compared : isLower (unitsOf s) (e .key) ≡ true → e .seen ≡ r .image
+      compared l =
+          let q : sameColumns e r ≡ true =
+          ap (λ (b : Bool). not b || sameColumns e r) (sym l) ∙ and-snd (hasLine (e .key) (s .lines) && unchanged e r) (not (isLower (unitsOf s) (e .key)) || sameColumns e r) h in
+          let a : r .image .column1 ≡ e .seen .column1 = search (tests, q) in
+          let b : r .image .column2 ≡ e .seen .column2 = search (tests, q) in
+          λ i. record { version = sym v i; txid = sym x i; column1 = sym a i; column2 = sym b i }
 
   -- it is as the line
-  pub holds-fresh : (e : Entry) → holds s e ≡ true → NoNewer (m .line) e → Fresh (m .line) e
-  holds-fresh e h (inl x) = x
-  holds-fresh e h (inr l) =
-      let x = held-line e h in
-      let v : m .line (e .key) .image .version ≡ e .seen .version = ap (λ (r : Record). r .image .version) (x .line) ∙ x .version in
-      absurd (omega (arith, l, v))
+  pub holds-fresh : (e : Entry) → holds s e ≡ true → NoNewer (isLower (unitsOf s) (e .key)) (m .line) e → Fresh (m .line) e
+  holds-fresh e h n = go (isLower (unitsOf s) (e .key)) refl
+    where
+      x : Held e
+      x = held-line e h
+
+      go : (b : Bool) → isLower (unitsOf s) (e .key) ≡ b → Fresh (m .line) e
+      go true q = x .compared q ∙ ap (λ (r : Record). r .image) (sym (x .line))
+      go false q = n .1 q (sym (ap (λ (r : Record). r .image .version) (x .line) ∙ x .version))
 
   -- and put to by no one in doubt
   pub holds-free : (e : Entry) → holds s e ≡ true → {n : ℕ} (x : InDoubt s es n) → putIn (e .key) (held (x .state)) ≡ none

@@ -3,9 +3,10 @@
 use Rattle.lists.specs.Basics.{_≡_, sym, ap, subst, _∙_, ℕ, _≤_, eqb, true, false, _&&_, _||_, cond, and-false, List, [], _∷_, length, take, Option, none, some}
 use Rattle.lists.specs.Basics.{_⊎_, any}
 use Rattle.lists.specs.Members.{Mem}
-use Rattle.model.specs.Types.{Key, Record, Undecided, AtomicityUnit, Entry, Transaction}
+use Rattle.model.specs.Types.{Key, Record, Undecided, Entry, Transaction}
 use Rattle.model.specs.Results.{returns}
-use Rattle.model.specs.Coordinator.{Coordinator, decision}
+use Rattle.model.specs.Coordinator.{Letter, Coordinator, decision}
+use Rattle.model.specs.Groups.{isLower}
 use Rattle.model.specs.Images.{Change}
 use Rattle.model.specs.Transactions.{openPhase, preparePhase, validatePhase, decidePhase, donePhase, held, isPut, puts, toValidate, isEmpty, isSerializable}
 use Rattle.model.specs.Writes.{Sheets}
@@ -37,7 +38,7 @@ placings [] = []
 placings (e ∷ es) = placedAs (taken e) (returns (e .answer)) (placings es)
 
 -- an entry whose condition has held since the position was given: in decide every one, in validate the puts and those before the place
-abbrev pub ValidatedIn : List AtomicityUnit → Transaction → Entry → Type 0
+abbrev pub ValidatedIn : List Letter → Transaction → Entry → Type 0
 ValidatedIn us t e = (t .phase ≡ decidePhase) ⊎ ((isPut e ≡ true) ⊎ Mem e (take (t .place) (toValidate us t)))
 
 pub record ValidatedInDoubt (s : Sheets) (es : List Event) (p : Placing) (e : Entry) : Type 0 where
@@ -74,12 +75,12 @@ pub record InOrder (n : ℕ) (ps : List Placing) : Type 0 where
 
 -- What is known of an available state.
 
--- none of its entries is newer than its line
-abbrev pub Aged : (Key → Record) → Transaction → Type 0
-Aged line t = (e : Entry) → Mem e (held t) → NoNewer line e
+-- none of its entries is newer than its line; where a storage can't be read consistently, columns may have been brought
+abbrev pub Aged : List Letter → (Key → Record) → Transaction → Type 0
+Aged us line t = (e : Entry) → Mem e (held t) → NoNewer (isLower us (e .key)) line e
 
 -- the entries of the keys that it has prepared are fresh, while its own line is `-`
-abbrev pub PreparedFresh : List AtomicityUnit → Coordinator → (Key → Record) → Transaction → Type 0
+abbrev pub PreparedFresh : List Letter → Coordinator → (Key → Record) → Transaction → Type 0
 PreparedFresh us c line t =
     t .phase ≤ 3
     → decision (t .number) c ≡ Undecided
@@ -95,7 +96,7 @@ Calm c t = t .phase ≤ 3 → isEmpty (puts t) ≡ true → decision (t .number)
 
 pub record Ordered (first : Key → Record) (s : Sheets) (es : List Event) (m : Model) (ps : List Placing) : Type 0 where
   pub consistent : ConsistentAt first s es (m .line) (m .committed) ps
-  pub aged : (t : Transaction) → Available t es → Aged (m .line) t
+  pub aged : (t : Transaction) → Available t es → Aged (unitsOf s) (m .line) t
   pub prepared-fresh : (t : Transaction) → Available t es → PreparedFresh (unitsOf s) (s .coordinator) (m .line) t
   pub member : (t : Transaction) → Available t es → HasPosition ps t
   pub holder : (p : Placing) → Mem p ps → Holder es p
@@ -115,6 +116,6 @@ module _ {first : Key → Record} {s : Sheets} {es : List Event} {m : Model} {ps
       (ap placing e ∙ h .same, subst (λ (x : Transaction). 2 ≤ x .phase) (sym e) (h .late))
 
   -- entries of one in doubt are no newer than their lines
-  pub aged-in-doubt : (p : Placing) → Mem p ps → InDoubt s es (p .number) → (e : Entry) → Mem e (p .entries) → NoNewer (m .line) e
+  pub aged-in-doubt : (p : Placing) → Mem p ps → InDoubt s es (p .number) → (e : Entry) → Mem e (p .entries) → NoNewer (isLower (unitsOf s) (e .key)) (m .line) e
   aged-in-doubt p n x e i =
       o .aged (x .state) (x .available) e (subst (λ (y : Placing). Mem e (y .entries)) (sym (own-position p n (x .state) (x .available) (x .number) .0)) i)

@@ -17,4 +17,5 @@ pub mod Answers
 pub mod Calls
 pub mod History
 pub mod Theorem
+pub mod Kinds
 pub mod Bytes

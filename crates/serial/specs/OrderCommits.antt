@@ -6,7 +6,7 @@ use Rattle.lists.specs.Members.{Mem, here, there}
 use Rattle.model.specs.Types.{Key, Record, Entry}
 use Rattle.model.specs.Images.{Change}
 use Rattle.model.specs.SequentialModel.{overwritten}
-use Rattle.serial.specs.Runs.{Placing, wrote, ran, runLine, overwritten-none, unwritten, run-other, Fresh, NoNewer, fresh-unwritten}
+use Rattle.serial.specs.Runs.{Placing, wrote, ran, runLine, overwritten-none, unwritten, run-other, Fresh, NotAhead, fresh-unwritten}
 use Rattle.serial.specs.Order.{Later, Stands, EachStands, none-placed, one-more, Consistent, same-number}
 
 -- the number n is committed now, and nothing else
@@ -34,7 +34,7 @@ pub record CommitOf (first line line′ : Key → Record) (c c′ : ℕ → Bool
   pub puts : (k : Key) (x : Change) → wrote k p ≡ some x → FreshPut line p k
   -- those in doubt afterwards were so before, and none of their entries is newer than its line
   pub fewer : (q : Placing) → Mem q all → doubt′ (q .number) → doubt (q .number)
-  pub known : (q : Placing) → Mem q all → doubt′ (q .number) → (e : Entry) → Mem e (q .entries) → NoNewer line e
+  pub known : (q : Placing) → Mem q all → doubt′ (q .number) → (e : Entry) → Mem e (q .entries) → NotAhead line e
   -- what is validated afterwards was so before
   pub validated : (q : Placing) → Mem q all → (e : Entry) → Mem e (q .entries) → valid′ q e → valid q e
 

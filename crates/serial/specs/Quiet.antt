@@ -6,6 +6,7 @@ use Rattle.lists.specs.Members.{Mem}
 use Rattle.model.specs.Types.{Key, Record, Undecided, Aborted, Entry, Transaction}
 use Rattle.model.specs.Coordinator.{decision}
 use Rattle.model.specs.Transactions.{held, puts, isEmpty, isSerializable, moved}
+use Rattle.model.specs.Groups.{isLower}
 use Rattle.model.specs.Writes.{Sheets, Write, nothing, decisionsAfter, apply}
 use Rattle.model.specs.Steps.{unitsOf}
 use Rattle.model.specs.Histories.{Event}
@@ -21,7 +22,7 @@ use Rattle.serial.specs.Handover.{Handover, doubt-before, validated-befo
 
 pub record OutOfDoubt (s : Sheets) (w : Write) (m : Model) (t t′ : Transaction) (ps : List Placing) : Type 0 where
   pub out : 2 ≤ t′ .phase → t′ .phase ≤ 3 → decision (t .number) (apply w s .coordinator) ≡ Undecided → ⊥
-  pub aged : Aged (m .line) t′
+  pub aged : Aged (unitsOf s) (m .line) t′
   pub prepared-fresh : PreparedFresh (unitsOf s) (apply w s .coordinator) (m .line) t′
   pub member : HasPosition ps t′
   pub position : 2 ≤ t .phase → (placing t′ ≡ placing t) × (2 ≤ t′ .phase)
@@ -40,7 +41,7 @@ module _ {first : Key → Record} {s : Sheets} {w : Write} {es : List Event} {e 
         commits = λ k. none;
         lines = λ k. ap (λ (l : Key → Record). l k) lines;
         clear = λ u a d l v k c g. refl;
-        aged = λ x n. subst (λ (l : Key → Record). NoNewer l x) (sym lines) (q .aged x n);
+        aged = λ x n. subst (λ (l : Key → Record). NoNewer (isLower (unitsOf s) (x .key)) l x) (sym lines) (q .aged x n);
         prepared-fresh = λ l v x n c g. subst (λ (k : Key → Record). Fresh k x) (sym lines) (q .prepared-fresh l v x n c g);
         member = q .member;
         own-position = λ p n z. let x = own-position (h .before) o p n t (h .available) z in let y = q .position (x .1) in (y .0 ∙ x .0, y .1);
@@ -57,7 +58,7 @@ module _ {first : Key → Record} {s : Sheets} {w : Write} {es : List Event} {e 
 
   -- In open, before and after: a read or a put.
   pub open-kept : Handover s w es e m m′ t t′ → Ordered first s es m ps → Away s (t .number) w → t .phase ≡ 0 → t′ .phase ≡ 0 → m′ .line ≡ m .line
-      → m′ .committed ≡ m .committed → isSerializable t′ ≡ true → length (t′ .entries) ≡ 8 → Aged (m .line) t′
+      → m′ .committed ≡ m .committed → isSerializable t′ ≡ true → length (t′ .entries) ≡ 8 → Aged (unitsOf s) (m .line) t′
       → Ordered first (apply w s) (e ∷ es) m′ ps
   unfolding apply
   open-kept h o away ph ph′ lines committed checked room aged =

@@ -1,6 +1,6 @@
 -- Serial runs, apart from sheets. The line of a key depends only on those that write it, and a line that is written gets a higher version: so an entry that is
--- no newer than its line stays so, and where it is as the line afterwards the line was not written.
-use Rattle.lists.specs.Basics.{_≡_, refl, sym, ap, ap₂, _∙_, ℕ, _+_, _<_, Bool, true, false, cond, List, [], _∷_, Option, none, some, _⊎_, inl, inr, arith}
+-- no newer than its line stays so, whether or not it has the line's columns, and where it is as the line afterwards the line was not written.
+use Rattle.lists.specs.Basics.{_≡_, refl, sym, ap, ap₂, _∙_, ℕ, _+_, _≤_, Bool, true, false, cond, List, [], _∷_, Option, none, some, _⊎_, inl, inr, arith}
 use Rattle.lists.specs.Members.{Mem, here, there}
 use Rattle.model.specs.Types.{Key, Image, Record, Entry}
 use Rattle.model.specs.Images.{Change}
@@ -55,12 +55,13 @@ run-other c c′ first k (p ∷ ps) h = go (h p here) (run-other c c′ first k 
 abbrev pub Fresh : (Key → Record) → Entry → Type 0
 Fresh line e = e .seen ≡ line (e .key) .image
 
--- the line has gone on
-abbrev pub Stale : (Key → Record) → Entry → Type 0
-Stale line e = e .seen .version < line (e .key) .image .version
+-- it has no higher version
+abbrev pub NotAhead : (Key → Record) → Entry → Type 0
+NotAhead line e = e .seen .version ≤ line (e .key) .image .version
 
-abbrev pub NoNewer : (Key → Record) → Entry → Type 0
-NoNewer line e = Fresh line e ⊎ Stale line e
+-- and where it has the line's version it is the line, but for columns that a second call may have brought
+abbrev pub NoNewer : Bool → (Key → Record) → Entry → Type 0
+NoNewer brought line e = NotAhead line e × (brought ≡ false → e .seen .version ≡ line (e .key) .image .version → Fresh line e)
 
 -- a line that is written has a higher version
 overwritten-version : (n : ℕ) (c : Change) (r : Record) → overwritten n (some c) r .image .version ≡ r .image .version + 1
@@ -73,23 +74,20 @@ module _ (line line′ : Key → Record) (e : Entry) (n : ℕ) where
   written-version c l = ap (λ (r : Record). r .image .version) l ∙ overwritten-version n c (line (e .key))
 
   -- no entry becomes newer
-  pub no-newer-after : (o : Option Change) → line′ (e .key) ≡ overwritten n o (line (e .key)) → NoNewer line e → NoNewer line′ e
+  pub no-newer-after : (brought : Bool) (o : Option Change) → line′ (e .key) ≡ overwritten n o (line (e .key)) → NoNewer brought line e → NoNewer brought line′ e
   unfolding overwritten
-  no-newer-after none l (inl f) = inl (f ∙ ap (λ (r : Record). r .image) (sym l))
-  no-newer-after none l (inr f) =
-      inr (let v : line′ (e .key) .image .version ≡ line (e .key) .image .version = ap (λ (r : Record). r .image .version) l in omega (arith, v, f))
-  no-newer-after (some c) l (inl f) =
-      inr (let g : e .seen .version ≡ line (e .key) .image .version = ap (λ (i : Image). i .version) f in omega (arith, written-version c l, g))
-  no-newer-after (some c) l (inr f) = inr (omega (arith, written-version c l, f))
+  no-newer-after brought none l a =
+      let v : line′ (e .key) .image .version ≡ line (e .key) .image .version = ap (λ (r : Record). r .image .version) l in
+      let f = a .0 in
+      (omega (arith, v, f), λ b q. a .1 b (q ∙ v) ∙ ap (λ (r : Record). r .image) (sym l))
+  no-newer-after brought (some c) l a =
+      let v = written-version c l in
+      let f = a .0 in
+      (omega (arith, v, f), λ b q. absurd (omega (arith, v, f, q)))
 
   -- an entry that is as the line afterwards is of a key that was not written
-  pub fresh-unwritten : (o : Option Change) → line′ (e .key) ≡ overwritten n o (line (e .key)) → NoNewer line e → Fresh line′ e → o ≡ none
+  pub fresh-unwritten : (o : Option Change) → line′ (e .key) ≡ overwritten n o (line (e .key)) → NotAhead line e → Fresh line′ e → o ≡ none
   fresh-unwritten none l a f = refl
-  fresh-unwritten (some c) l a f = absurd (go a)
-    where
-      v : e .seen .version ≡ line (e .key) .image .version + 1
-      v = ap (λ (i : Image). i .version) f ∙ written-version c l
-
-      go : NoNewer line e → ⊥
-      go (inl q) = let w : e .seen .version ≡ line (e .key) .image .version = ap (λ (i : Image). i .version) q in omega (arith, v, w)
-      go (inr q) = omega (arith, v, q)
+  fresh-unwritten (some c) l a f =
+      let v : e .seen .version ≡ line (e .key) .image .version + 1 = ap (λ (i : Image). i .version) f ∙ written-version c l in
+      absurd (omega (arith, v, a))

@@ -100,6 +100,7 @@ end-serializable rs {s} es m f k =
       placed = λ n c. let x = o .placed n c in
           ap₂ (λ (i : ℕ) (ns : List ℕ). count (eqb i) ns) (sym (x .number)) (order-is es) ∙ one-of ps each (x .position) (x .member);
       reads = λ t j now v t′ n d c. saw t j v t′ c (told-of es es n (k .told) d);
+      second-reads = λ t j now x v t′ n d c. saw t j v t′ c (told-of es es n (k .told) d);
       writes = λ j. ap (λ (ns : List ℕ). serialLine rs m ns j) (order-is es) ∙ (run-is rs m j ps (λ p n. page p n j) ∙ o .consistent .lines j);
     }
   where

@@ -6,6 +6,8 @@ use Rattle.model.specs.Results.{returns}
 use Rattle.model.specs.Records.{lineOf}
 use Rattle.model.specs.Coordinator.{decision}
 use Rattle.model.specs.Transactions.{held, isEmpty, isSerializable}
+use Rattle.model.specs.Groups.{isLower}
+use Rattle.model.specs.Steps.{unitsOf}
 use Rattle.model.specs.Writes.{Sheets, Write, apply}
 use Rattle.model.specs.Histories.{Event, Available, taken}
 use Rattle.model.specs.SequentialModel.{Model}
@@ -18,7 +20,7 @@ use Rattle.serial.specs.Order.{weaker}
 use Rattle.serial.specs.Entries.{none-in}
 use Rattle.serial.specs.InDoubt.{Facts, InDoubt}
 use Rattle.serial.specs.Invariant.{Validated, same-model, Ordered}
-use Rattle.serial.specs.Handover.{stood-undecided, same-done, same-validated, calm-kept}
+use Rattle.serial.specs.Handover.{stood-undecided, same-done, same-validated, same-aged, calm-kept}
 
 -- the state of a new number, as begin gives it
 pub record New (s : Sheets) (t : Transaction) : Type 0 where
@@ -54,7 +56,8 @@ pub ordered-untaken : {first : Key → Record} {s : Sheets} {w : Write} {es : Li
 ordered-untaken {first} {s} {w} {es} {e} {m} {m′} {ps} u o =
     record {
       consistent = same-model m m′ (u .lines) (u .committed) (weaker ps (λ q n x. was-in-doubt x) was-validated (o .consistent));
-      aged = λ t b x n. subst (λ (l : Key → Record). NoNewer l x) (sym (u .lines)) (by t b (λ a. o .aged t a x n) (λ c. absurd (holds-none c x n)));
+      aged = λ t b. same-aged s w (m′ .line) t
+          (λ x n. subst (λ (l : Key → Record). NoNewer (isLower (unitsOf s) (x .key)) l x) (sym (u .lines)) (by t b (λ a. o .aged t a x n) (λ c. absurd (holds-none c x n))));
       prepared-fresh = λ t b l v x n c d. subst (λ (k : Key → Record). Fresh k x) (sym (u .lines))
           (by t b (λ a. o .prepared-fresh t a l (stood t v) x n c (same-done s w t (x .key) ∙ d)) (λ z. absurd (holds-none z x n)));
       member = λ t b l i. by t b (λ a. o .member t a l i) (λ c. let q = c .in-open in absurd (omega (arith, l, q)));

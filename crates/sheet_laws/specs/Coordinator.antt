@@ -1,7 +1,7 @@
 -- The coordinator sheet: both round trips, by the head and then line by line, and as numbers; what setting a decision and
 -- raising the issued count do.
-use Rattle.lists.specs.Basics.{_≡_, refl, ap, ap₂, _∙_, ℕ, zero, suc, _+_, _*_, _/_, _≤_, eqb, leb, true, _&&_, List, [], _∷_, _++_, map, length, take, drop}
-use Rattle.lists.specs.Basics.{getD, length-map, drop-at, take-at, arith, eqb-true, leb-true, eq-eqb, le-leb, all, joined, pieces, listed, eqList, bytes}
+use Rattle.lists.specs.Basics.{_≡_, refl, ap, ap₂, _∙_, ℕ, zero, suc, _+_, _*_, _/_, _-_, _≤_, eqb, leb, Bool, true, false, not, _&&_, cond, List, [], _∷_, _++_, map, length, take, drop}
+use Rattle.lists.specs.Basics.{getD, length-map, drop-at, take-at, arith, eqb-true, leb-true, leb-false, eq-eqb, le-leb, lt-leb, all, joined, pieces, listed, eqList, bytes}
 use Rattle.lists.specs.Basics.{and-fst, and-snd, and-both, tests}
 use lib.ListN.{take-append-drop}
 use Rattle.lists.specs.All.{all-map, all-weaken, all-always, map-map, map-same, listed-is}
@@ -10,8 +10,8 @@ use Rattle.model.specs.Types.{Decision, Undecided, Committed, Aborted, Atomicit
 use Rattle.types.specs.declared.AtomicityUnit.the-variants.{Record as RecordUnit, Partition, Table, Namespace, Storage}
 use Rattle.model.specs.Layouts.{headLayout, lineLayout, decisionColumn, words, figures, coordinatorBytes, headFields}
 use Rattle.model.specs.Lines.{fieldValue, fieldBytes, wordFrom, rowOf, lineSet, lineText, rowGood, inRange, linesOf, linesSet}
-use Rattle.model.specs.Coordinator.{Coordinator, decisionNumber, decisionOf, unitNumber, unitOf, coordinatorGood, decisionIn, coordinatorOf, numbered}
-use Rattle.model.specs.Coordinator.{coordinatorAccepted, decisionTexts, headNumbers, coordinatorText}
+use Rattle.model.specs.Coordinator.{Letter, Coordinator, decisionNumber, decisionOf, unitNumber, unitOf, letterNumber, letterOf, coordinatorGood, decisionIn, coordinatorOf, numbered}
+use Rattle.model.specs.Coordinator.{coordinatorReadable, decisionTexts, headNumbers, coordinatorText}
 use Rattle.sheet_laws.specs.Fields.{columnOk, allBelow, isThe, wordOk}
 use Rattle.sheet_laws.specs.Lines.{layoutOk, lineBytes, length-rowOf, line-length, line-written-read, line-read-written, row-read-written, row-in-range}
 
@@ -44,22 +44,60 @@ unit-of-number Table = refl
 unit-of-number Namespace = refl
 unit-of-number Storage = refl
 
-number-of-unit : (n : ℕ) → leb n 4 ≡ true → unitNumber (unitOf n) ≡ n
+number-of-unit : (n : ℕ) → n ≤ 4 → unitNumber (unitOf n) ≡ n
 unfolding unitOf unitNumber
 number-of-unit zero l = refl
 number-of-unit (suc zero) l = refl
 number-of-unit (suc (suc zero)) l = refl
 number-of-unit (suc (suc (suc zero))) l = refl
 number-of-unit (suc (suc (suc (suc zero)))) l = refl
-number-of-unit (suc (suc (suc (suc (suc n))))) l = absurd (omega (arith, leb-true (suc (suc (suc (suc (suc n))))) 4 l))
+number-of-unit (suc (suc (suc (suc (suc n))))) l = absurd (omega arith)
 
-unit-ranged : (u : AtomicityUnit) → leb (unitNumber u) 4 ≡ true
+unit-ranged : (u : AtomicityUnit) → unitNumber u ≤ 4
 unfolding unitNumber
-unit-ranged RecordUnit = refl
-unit-ranged Partition = refl
-unit-ranged Table = refl
-unit-ranged Namespace = refl
-unit-ranged Storage = refl
+unit-ranged RecordUnit = omega arith
+unit-ranged Partition = omega arith
+unit-ranged Table = omega arith
+unit-ranged Namespace = omega arith
+unit-ranged Storage = omega arith
+
+letter-of-number : (l : Letter) → letterOf (letterNumber l) ≡ l
+unfolding letterOf letterNumber
+letter-of-number l = go (l .lower)
+  where
+    n : ℕ
+    n = unitNumber (l .unit)
+
+    letter-as : (b c : Bool) (i : ℕ) → leb i 4 ≡ c → not c ≡ b → cond c i (i - 5) ≡ n → letterOf i ≡ record { unit = l .unit; lower = b }
+    letter-as b c i e f g =
+        λ j. record {
+          unit = (ap (λ (x : Bool). unitOf (cond x i (i - 5))) e ∙ (ap unitOf g ∙ unit-of-number (l .unit))) j;
+          lower = (ap not e ∙ f) j;
+        }
+
+    go : (b : Bool) → letterOf (n + cond b 5 0) ≡ record { unit = l .unit; lower = b }
+    go true = letter-as true false (n + 5) (lt-leb (n + 5) 4 (omega arith)) refl (omega arith)
+    go false = let m = unit-ranged (l .unit) in letter-as false true (n + 0) (le-leb (n + 0) 4 (omega arith)) refl (omega arith)
+
+number-of-letter : (n : ℕ) → leb n 9 ≡ true → letterNumber (letterOf n) ≡ n
+unfolding letterOf letterNumber
+number-of-letter n l = go (leb n 4) refl
+  where
+    go : (b : Bool) → leb n 4 ≡ b → unitNumber (unitOf (cond b n (n - 5))) + cond (not b) 5 0 ≡ n
+    go true e = let m = number-of-unit n (leb-true n 4 e) in omega arith
+    go false e =
+        let a = leb-true n 9 l in
+        let b = leb-false n 4 e in
+        let m = number-of-unit (n - 5) (omega arith) in
+        omega arith
+
+letter-ranged : (l : Letter) → leb (letterNumber l) 9 ≡ true
+unfolding letterNumber
+letter-ranged l = go (l .lower)
+  where
+    go : (b : Bool) → leb (unitNumber (l .unit) + cond b 5 0) 9 ≡ true
+    go true = let m = unit-ranged (l .unit) in le-leb (unitNumber (l .unit) + 5) 9 (omega arith)
+    go false = let m = unit-ranged (l .unit) in le-leb (unitNumber (l .unit) + 0) 9 (omega arith)
 
 pub head-layout-ok : layoutOk headLayout ≡ true
 unfolding all columnOk headLayout words allBelow wordOk isThe fieldValue fieldBytes wordFrom bytes eqList
@@ -177,39 +215,39 @@ from-bound h (c ∷ cs) (v ∷ vs) b g n =
     and-both (and-both (le-leb (c .low) v (omega arith)) (le-leb v (c .high) (omega arith)))
     (from-bound h cs vs (and-snd (eqb (c .low) 0 && eqb (c .high) h) t b) (and-snd (leb v h) (all (λ (x : ℕ). leb x h) vs) g) (omega arith))
 
--- a head's numbers: a count, and units by their numbers
-units-same : (us : List ℕ) → all (λ (v : ℕ). leb v 4) us ≡ true → map unitNumber (map unitOf us) ≡ us
-units-same us h = map-map unitNumber unitOf us ∙ map-same (λ (v : ℕ). leb v 4) (λ (v : ℕ). unitNumber (unitOf v)) number-of-unit us h
+-- a head's numbers: a count, and letters by their numbers
+letters-same : (us : List ℕ) → all (λ (v : ℕ). leb v 9) us ≡ true → map letterNumber (map letterOf us) ≡ us
+letters-same us h = map-map letterNumber letterOf us ∙ map-same (λ (v : ℕ). leb v 9) (λ (v : ℕ). letterNumber (letterOf v)) number-of-letter us h
 
-pub units-back : (us : List AtomicityUnit) → map unitOf (map unitNumber us) ≡ us
-units-back us =
-    map-map unitOf unitNumber us
-    ∙ map-same (λ (u : AtomicityUnit). true) (λ (u : AtomicityUnit). unitOf (unitNumber u)) (λ u e. unit-of-number u) us (all-always us)
+pub letters-back : (us : List Letter) → map letterOf (map letterNumber us) ≡ us
+letters-back us =
+    map-map letterOf letterNumber us
+    ∙ map-same (λ (u : Letter). true) (λ (u : Letter). letterOf (letterNumber u)) (λ u e. letter-of-number u) us (all-always us)
 
--- the numbers of a row in range of the head are its count and its units
-pub head-numbers : (v : List ℕ) → rowGood headLayout v ≡ true → length v ≡ headFields → getD v 0 0 ∷ map unitNumber (map unitOf (drop 1 v)) ≡ v
+-- the numbers of a row in range of the head are its count and its letters
+pub head-numbers : (v : List ℕ) → rowGood headLayout v ≡ true → length v ≡ headFields → getD v 0 0 ∷ map letterNumber (map letterOf (drop 1 v)) ≡ v
 unfolding headLayout rowGood all
 head-numbers [] g n = absurd (omega arith)
 head-numbers (x ∷ us) g n =
-    let b : all (λ (v : ℕ). leb v 4) us ≡ true =
-    same-bound 4 (drop 1 headLayout) us refl (and-snd (inRange (figures 4 0 999) x) (rowGood (drop 1 headLayout) us) g) (omega arith) in
-    ap (λ (t : List ℕ). x ∷ t) (units-same us b)
+    let b : all (λ (v : ℕ). leb v 9) us ≡ true =
+    same-bound 9 (drop 1 headLayout) us refl (and-snd (inRange (figures 4 0 999) x) (rowGood (drop 1 headLayout) us) g) (omega arith) in
+    ap (λ (t : List ℕ). x ∷ t) (letters-same us b)
 
 -- a coordinator's head numbers are in range
 pub head-ranged : (c : Coordinator) → c .issued ≤ 999 → length (c .units) ≡ 9 → rowGood headLayout (headNumbers c) ≡ true
 unfolding headLayout headNumbers rowGood inRange all
 head-ranged c l n =
-    let u : all (λ (v : ℕ). leb v 4) (map unitNumber (c .units)) ≡ true =
-    all-map (λ (v : ℕ). leb v 4) unitNumber (c .units) ∙ all-weaken (λ (x : AtomicityUnit). true) (λ (x : AtomicityUnit). leb (unitNumber x) 4) (λ x e. unit-ranged x) (c .units) (all-always (c .units)) in
-    let m : length (map unitNumber (c .units)) ≡ 9 = length-map (c .units) unitNumber ∙ n in
+    let u : all (λ (v : ℕ). leb v 9) (map letterNumber (c .units)) ≡ true =
+    all-map (λ (v : ℕ). leb v 9) letterNumber (c .units) ∙ all-weaken (λ (x : Letter). true) (λ (x : Letter). leb (letterNumber x) 9) (λ x e. letter-ranged x) (c .units) (all-always (c .units)) in
+    let m : length (map letterNumber (c .units)) ≡ 9 = length-map (c .units) letterNumber ∙ n in
     and-both (and-both (le-leb 0 (c .issued) (omega arith)) (le-leb (c .issued) 999 l))
-    (from-bound 4 (drop 1 headLayout) (map unitNumber (c .units)) refl u m)
+    (from-bound 9 (drop 1 headLayout) (map letterNumber (c .units)) refl u m)
 
 -- The sheet.
 
--- T3, coordinator sheet: an accepted sheet, read and written again, is the same sheet
-pub coordinator-written-read : (s : List ℕ) → coordinatorAccepted s ≡ true → coordinatorText (coordinatorOf s) ≡ s
-unfolding coordinatorAccepted linesSet coordinatorText coordinatorOf headNumbers linesOf
+-- T3, coordinator sheet: a sheet that keeps the rules, read and written again, is the same sheet
+pub coordinator-written-read : (s : List ℕ) → coordinatorReadable s ≡ true → coordinatorText (coordinatorOf s) ≡ s
+unfolding coordinatorReadable linesSet coordinatorText coordinatorOf headNumbers linesOf
 coordinator-written-read s h =
     let head : lineSet headLayout (take coordinatorBytes s) ≡ true = search tests in
     let whole : length (drop coordinatorBytes s) ≡ length (drop coordinatorBytes s) / coordinatorBytes * coordinatorBytes = search tests in
@@ -233,17 +271,17 @@ bounds c h = record { units = search tests; few = search tests; issued = search 
 
 head-count : (c : Coordinator) → length (c .units) ≡ 9 → length (headNumbers c) ≡ length headLayout
 unfolding headNumbers headLayout
-head-count c n = ap suc (length-map (c .units) unitNumber ∙ n)
+head-count c n = ap suc (length-map (c .units) letterNumber ∙ n)
 
 -- the coordinator that a head's numbers and decisions say
-said : (c : Coordinator) → _≡_ {A = Coordinator} (record { issued = getD (headNumbers c) 0 0; units = map unitOf (drop 1 (headNumbers c)); decisions = c .decisions }) c
+said : (c : Coordinator) → _≡_ {A = Coordinator} (record { issued = getD (headNumbers c) 0 0; units = map letterOf (drop 1 (headNumbers c)); decisions = c .decisions }) c
 unfolding headNumbers
-said c = ap (λ (us : List AtomicityUnit). record { issued = c .issued; units = us; decisions = c .decisions }) (units-back (c .units))
+said c = ap (λ (us : List Letter). record { issued = c .issued; units = us; decisions = c .decisions }) (letters-back (c .units))
 
--- T3, coordinator sheet: a rule-keeping coordinator, written and read, is the same, and its sheet is accepted
-pub coordinator-read-written : (c : Coordinator) → coordinatorGood c ≡ true → (coordinatorOf (coordinatorText c) ≡ c) × (coordinatorAccepted (coordinatorText c) ≡ true)
-unfolding coordinatorText coordinatorOf coordinatorAccepted linesSet linesOf
-coordinator-read-written c h = (same, accepted)
+-- T3, coordinator sheet: a rule-keeping coordinator, written and read, is the same, and its sheet keeps the rules
+pub coordinator-read-written : (c : Coordinator) → coordinatorGood c ≡ true → (coordinatorOf (coordinatorText c) ≡ c) × (coordinatorReadable (coordinatorText c) ≡ true)
+unfolding coordinatorText coordinatorOf coordinatorReadable linesSet linesOf
+coordinator-read-written c h = (same, readable)
   where
     b : Bounds c
     b = bounds c h
@@ -292,8 +330,8 @@ coordinator-read-written c h = (same, accepted)
     same : coordinatorOf (coordinatorText c) ≡ c
     same = rw (front, rest, row, cut, ls .same) (said c)
 
-    accepted : coordinatorAccepted (coordinatorText c) ≡ true
-    accepted =
+    readable : coordinatorReadable (coordinatorText c) ≡ true
+    readable =
         let k = count in
         let q : length lines ≡ length lines / coordinatorBytes * coordinatorBytes = omega arith in
         let first : lineSet headLayout (take coordinatorBytes (coordinatorText c)) ≡ true = rw front head-set in

@@ -13,9 +13,9 @@ use Rattle.model.specs.Types.{Decision, Undecided}
 use Rattle.model.specs.Layouts.{headLayout, lineLayout, words, figures, coordinatorBytes}
 use Rattle.model.specs.Lines.{fieldValue, wordFrom, rowOf, lineSet, linesOf, linesSet}
 use Rattle.model.specs.Coordinator.{Coordinator, isUndecided, decisionOf, decision, withDecision, withIssued, coordinatorGood, decisionIn, decisionLines}
-use Rattle.model.specs.Coordinator.{coordinatorOf, numbered, coordinatorAccepted}
+use Rattle.model.specs.Coordinator.{coordinatorOf, numbered, coordinatorReadable, allCapitals, coordinatorAccepted, coordinatorText}
 use Rattle.sheet_laws.specs.Lines.{line-length, first-field-row, first-field-set}
-use Rattle.sheet_laws.specs.Coordinator.{bounds, decisionText, head-bytes, decision-read-written, decision-text-set, length-decisionText}
+use Rattle.sheet_laws.specs.Coordinator.{bounds, decisionText, head-bytes, coordinator-read-written, decision-read-written, decision-text-set, length-decisionText}
 
 -- the lines after the head
 pub length-decisions : (s : List ℕ) → length (coordinatorOf s .decisions) ≡ length (drop coordinatorBytes s) / coordinatorBytes
@@ -57,30 +57,46 @@ numbered-set k (suc i) (l ∷ ls) t h e =
     (numbered-set (suc k) i ls t (and-snd (eqb (getD (rowOf lineLayout l) 0 0) k) (numbered (suc k) ls) h) (omega arith))
 
 -- what the rules say of a sheet, in parts
-pub record Accepted (s : List ℕ) : Type 0 where
+pub record Readable (s : List ℕ) : Type 0 where
   pub head : lineSet headLayout (take coordinatorBytes s) ≡ true
   pub whole : length (drop coordinatorBytes s) ≡ length (drop coordinatorBytes s) / coordinatorBytes * coordinatorBytes
   pub readable : all (lineSet lineLayout) (pieces coordinatorBytes (length (drop coordinatorBytes s) / coordinatorBytes) (drop coordinatorBytes s)) ≡ true
   pub in-turn : numbered 1 (pieces coordinatorBytes (length (drop coordinatorBytes s) / coordinatorBytes) (drop coordinatorBytes s)) ≡ true
   pub good : coordinatorGood (coordinatorOf s) ≡ true
 
-pub accepted-parts : (s : List ℕ) → coordinatorAccepted s ≡ true → Accepted s
-unfolding coordinatorAccepted linesSet linesOf
-accepted-parts s h = record { head = search tests; whole = search tests; readable = search tests; in-turn = search tests; good = search tests }
+pub readable-parts : (s : List ℕ) → coordinatorReadable s ≡ true → Readable s
+unfolding coordinatorReadable linesSet linesOf
+readable-parts s h = record { head = search tests; whole = search tests; readable = search tests; in-turn = search tests; good = search tests }
 
-pub parts-accepted : (s : List ℕ) → Accepted s → coordinatorAccepted s ≡ true
-unfolding coordinatorAccepted linesSet linesOf
-parts-accepted s a =
+pub parts-readable : (s : List ℕ) → Readable s → coordinatorReadable s ≡ true
+unfolding coordinatorReadable linesSet linesOf
+parts-readable s a =
     and-both
     (and-both
     (and-both (a .head) (and-both (eq-eqb (length (drop coordinatorBytes s)) (length (drop coordinatorBytes s) / coordinatorBytes * coordinatorBytes) (a .whole)) (a .readable)))
     (a .in-turn))
     (a .good)
 
--- an accepted sheet has its head
-pub accepted-length : (s : List ℕ) → coordinatorAccepted s ≡ true → coordinatorBytes ≤ length s
-accepted-length s h =
-    let l : length (take coordinatorBytes s) ≡ coordinatorBytes = line-length headLayout (take coordinatorBytes s) (accepted-parts s h .head) ∙ head-bytes in
+-- an accepted sheet is one of capitals that keeps the rules
+pub accepted-parts : (s : List ℕ) → coordinatorAccepted s ≡ true → (coordinatorReadable s ≡ true) × (allCapitals (coordinatorOf s .units) ≡ true)
+unfolding coordinatorAccepted
+accepted-parts s h =
+    (and-fst (coordinatorReadable s) (allCapitals (coordinatorOf s .units)) h, and-snd (coordinatorReadable s) (allCapitals (coordinatorOf s .units)) h)
+
+pub parts-accepted : (s : List ℕ) → coordinatorReadable s ≡ true → allCapitals (coordinatorOf s .units) ≡ true → coordinatorAccepted s ≡ true
+unfolding coordinatorAccepted
+parts-accepted s h a = and-both h a
+
+-- and the sheet of a rule-keeping coordinator of capitals is accepted
+pub text-accepted : (c : Coordinator) → coordinatorGood c ≡ true → allCapitals (c .units) ≡ true → coordinatorAccepted (coordinatorText c) ≡ true
+text-accepted c g a =
+    let r = coordinator-read-written c g in
+    parts-accepted (coordinatorText c) (r .1) (ap (λ (x : Coordinator). allCapitals (x .units)) (r .0) ∙ a)
+
+-- a sheet that keeps the rules has its head
+pub readable-length : (s : List ℕ) → coordinatorReadable s ≡ true → coordinatorBytes ≤ length s
+readable-length s h =
+    let l : length (take coordinatorBytes s) ≡ coordinatorBytes = line-length headLayout (take coordinatorBytes s) (readable-parts s h .head) ∙ head-bytes in
     omega (arith, length-take coordinatorBytes s)
 
 -- Setting the decision of a number.
@@ -124,22 +140,22 @@ good-decided i d c h l =
     let e : drop (c .issued) (set (c .decisions) i d) ≡ drop (c .issued) (c .decisions) = drop-set-lt (c .issued) (c .decisions) i d l in
     rw (n, e) h
 
--- an accepted sheet stays accepted where the number was issued
-pub accepted-decided : (s : List ℕ) (i : ℕ) (d : Decision) → coordinatorAccepted s ≡ true → i < coordinatorOf s .issued → coordinatorAccepted (over s (suc i * coordinatorBytes) (decisionText (suc i) d)) ≡ true
-accepted-decided s i d h l =
-    let a = accepted-parts s h in
+-- a sheet that keeps the rules keeps them where the number was issued
+pub readable-decided : (s : List ℕ) (i : ℕ) (d : Decision) → coordinatorReadable s ≡ true → i < coordinatorOf s .issued → coordinatorReadable (over s (suc i * coordinatorBytes) (decisionText (suc i) d)) ≡ true
+readable-decided s i d h l =
+    let a = readable-parts s h in
     let b = bounds (coordinatorOf s) (a .good) in
     let few : length (coordinatorOf s .decisions) ≤ 999 = b .few in
     let most : coordinatorOf s .issued ≤ length (coordinatorOf s .decisions) = b .issued in
     let count : length (coordinatorOf s .decisions) ≡ length (drop coordinatorBytes s) / coordinatorBytes = length-decisions s in
-    let head : coordinatorBytes ≤ length s = accepted-length s h in
+    let head : coordinatorBytes ≤ length s = readable-length s h in
     let inside : i < length (drop coordinatorBytes s) / coordinatorBytes = omega arith in
     let k : i < 999 = omega arith in
     let o = over-line s i d head inside k in
     let m = over-lines-length s i d head inside k in
     let p = lines-over s i d head inside k (a .whole) in
     let t = decision-read-written (suc i) d (omega arith) (omega arith) in
-    parts-accepted (over s (suc i * coordinatorBytes) (decisionText (suc i) d))
+    parts-readable (over s (suc i * coordinatorBytes) (decisionText (suc i) d))
     (record {
       head = rw (o .0) (a .head);
       whole = rw (o .1, m) (a .whole);
@@ -197,16 +213,16 @@ good-raised c h l =
     let f : all isUndecided (drop (suc (c .issued)) (c .decisions)) ≡ true = rw e at (all-drop isUndecided 1 (drop (c .issued) (c .decisions)) d) in
     and-both (and-both (and-both (and-both u p) q) (le-leb (suc (c .issued)) (length (c .decisions)) l)) f
 
--- an accepted sheet stays accepted where there is a line for the number
-pub accepted-raised : (s : List ℕ) → coordinatorAccepted s ≡ true → coordinatorOf s .issued < length (coordinatorOf s .decisions) → coordinatorAccepted (over s 0 (fieldText 4 (suc (coordinatorOf s .issued)))) ≡ true
-accepted-raised s h l =
-    let a = accepted-parts s h in
+-- a sheet that keeps the rules keeps them where there is a line for the number
+pub readable-raised : (s : List ℕ) → coordinatorReadable s ≡ true → coordinatorOf s .issued < length (coordinatorOf s .decisions) → coordinatorReadable (over s 0 (fieldText 4 (suc (coordinatorOf s .issued)))) ≡ true
+readable-raised s h l =
+    let a = readable-parts s h in
     let few : length (coordinatorOf s .decisions) ≤ 999 = bounds (coordinatorOf s) (a .good) .few in
     let n = suc (coordinatorOf s .issued) in
-    let head : coordinatorBytes ≤ length s = accepted-length s h in
+    let head : coordinatorBytes ≤ length s = readable-length s h in
     let k : n ≤ 999 = omega arith in
     let o = over-count s n head k in
-    parts-accepted (over s 0 (fieldText 4 n))
+    parts-readable (over s 0 (fieldText 4 n))
     (record {
       head = rw (o .0) (head-set s n head k (a .head));
       whole = rw (o .1) (a .whole);

@@ -11,5 +11,6 @@ pub mod Changed
 pub mod Coordinator
 pub mod CoordinatorNumbers
 pub mod Decisions
+pub mod Letters
 pub mod Singles
 pub mod RoundTrips

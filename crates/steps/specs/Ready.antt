@@ -1,17 +1,17 @@
 -- What the refusals have let pass, in the parts that each phase asks for: accepted bytes, and of a well-formed transaction its body, and its place by its phase.
 use Rattle.lists.specs.Basics.{_≡_, refl, sym, ap, _∙_, ℕ, zero, suc, _≤_, _<_, ltb, Bool, true, _||_, List, [], _∷_, length, take, drop, getD, arith, ltb-true}
 use Rattle.lists.specs.Basics.{any, or-right}
-use Rattle.model.specs.Types.{AtomicityUnit, Entry, Transaction}
+use Rattle.model.specs.Types.{Entry, Transaction}
 use Rattle.model.specs.Records.{records, recordsAccepted, sameKey}
-use Rattle.model.specs.Coordinator.{coordinatorOf, coordinatorAccepted}
+use Rattle.model.specs.Coordinator.{Letter, coordinatorOf, coordinatorReadable}
 use Rattle.model.specs.Transactions.{toValidate, mustValidate, held, puts, moved, noEntry}
 use Rattle.model.specs.Groups.{groupCount}
 use Rattle.model.specs.WellFormed.{wellFormed, placeFormed}
 use Rattle.model.specs.ByteCalls.{sheetsOf}
 use Rattle.call_laws.specs.Keys.{hasKey, kept-key, same-key-refl}
 use Rattle.call_laws.specs.Transactions.{Body, Stage, well-formed-parts, place-at}
-use Rattle.model.specs.ByteHistories.{Passing}
-use Rattle.call_laws.specs.Lifting.{passing-parts}
+use Rattle.model.specs.ByteHistories.{Readable}
+use Rattle.call_laws.specs.Lifting.{readable-both}
 use Rattle.transactions.specs.Units.{unitsIn, units-said}
 use Rattle.group_writes.specs.declared.lines.Located.{Located}
 use Rattle.group_writes.specs.Located.{Indexed, Grouped}
@@ -19,14 +19,14 @@ use Rattle.group_writes.specs.Ready.{Ready as MayWrite}
 
 -- what refusals 1 to 3 let pass, and what was found of the entries
 pub record Ready (rs cs : List ℕ) (t : Transaction) (l : Located) : Type 0 where
-  pub passing : Passing (record { records = rs; coordinator = cs })
+  pub readable : Readable (record { records = rs; coordinator = cs })
   pub formed : wellFormed (sheetsOf rs cs) t ≡ true
   pub indexed : Indexed (records rs) t (l .indices) (t .count)
   pub grouped : Grouped (coordinatorOf cs .units) t l
 
 -- a transaction whose number is issued, all that a decision asks for
 pub record Known (cs : List ℕ) (t : Transaction) : Type 0 where
-  pub accepted : coordinatorAccepted cs ≡ true
+  pub accepted : coordinatorReadable cs ≡ true
   pub number : 1 ≤ t .number
   pub issued : t .number ≤ coordinatorOf cs .issued
   pub few : t .count ≤ 8
@@ -39,7 +39,7 @@ key-at (e ∷ es) zero l = ap (λ (b : Bool). b || hasKey (e .key) es) (same-key
 key-at (e ∷ es) (suc i) l = or-right (sameKey (e .key) (getD es i noEntry .key)) (hasKey (getD es i noEntry .key) es) (key-at es i (omega arith))
 
 -- the entry to be validated is one that the transaction holds
-pub validate-held : (us : List AtomicityUnit) (t : Transaction) → t .place < length (toValidate us t) → hasKey (getD (toValidate us t) (t .place) noEntry .key) (held t) ≡ true
+pub validate-held : (us : List Letter) (t : Transaction) → t .place < length (toValidate us t) → hasKey (getD (toValidate us t) (t .place) noEntry .key) (held t) ≡ true
 unfolding toValidate
 validate-held us t l = kept-key (mustValidate us t) (getD (toValidate us t) (t .place) noEntry .key) (held t) (key-at (toValidate us t) (t .place) l)
 
@@ -51,24 +51,24 @@ module _ (rs cs : List ℕ) (t : Transaction) (l : Located) (ready : Ready rs cs
   stage = well-formed-parts (sheetsOf rs cs) t (ready .formed) .1
 
   pub records-accepted : recordsAccepted rs ≡ true
-  records-accepted = passing-parts (record { records = rs; coordinator = cs }) (ready .passing) .0
+  records-accepted = readable-both (record { records = rs; coordinator = cs }) (ready .readable) .0
 
-  pub coordinator-accepted : coordinatorAccepted cs ≡ true
-  coordinator-accepted = passing-parts (record { records = rs; coordinator = cs }) (ready .passing) .1 .0
+  pub coordinator-readable : coordinatorReadable cs ≡ true
+  coordinator-readable = readable-both (record { records = rs; coordinator = cs }) (ready .readable) .1 .0
 
   -- the letters of the head say the units
   pub units : unitsIn (take 9 (drop 5 cs)) ≡ coordinatorOf cs .units
-  units = units-said cs coordinator-accepted
+  units = units-said cs coordinator-readable
 
   pub few : t .count ≤ 8
   few = body .few
 
   pub may-write : MayWrite rs cs t l
-  may-write = record { passing = ready .passing; body = body; indexed = ready .indexed; grouped = ready .grouped }
+  may-write = record { readable = ready .readable; body = body; indexed = ready .indexed; grouped = ready .grouped }
 
   pub known : Known cs t
   known =
-      record { accepted = coordinator-accepted; number = body .number; issued = body .known; few = few }
+      record { accepted = coordinator-readable; number = body .number; issued = body .known; few = few }
 
   -- Where there is a place, it is below a number.
 

@@ -4,7 +4,7 @@ use Rattle.lists.specs.Pieces.{over}
 use Rattle.model.specs.Types.{Record, Decision, Transaction}
 use Rattle.model.specs.Layouts.{coordinatorBytes}
 use Rattle.model.specs.Records.{records, recordsText, recordsAccepted}
-use Rattle.model.specs.Coordinator.{coordinatorOf, coordinatorText, coordinatorAccepted}
+use Rattle.model.specs.Coordinator.{coordinatorOf, coordinatorText, coordinatorReadable}
 use Rattle.model.specs.Writes.{Sheets, Write, nothing, decide, lineAfter, linesAfter, decisionsAfter, apply}
 use Rattle.model.specs.Steps.{Step}
 use Rattle.model.specs.ByteCalls.{sheetsOf}
@@ -30,13 +30,13 @@ lines-stay w rs h a = sym (ap recordsText (lines-unmoved w h (records rs)) ∙ s
 
 module _ (rs cs : List ℕ) where
   -- nothing is written
-  pub wrote-nothing : recordsAccepted rs ≡ true → coordinatorAccepted cs ≡ true → (t u : Transaction) → u ≡ t → Stepped (sheetsOf rs cs) (record { transaction = t; write = nothing }) u rs cs
+  pub wrote-nothing : recordsAccepted rs ≡ true → coordinatorReadable cs ≡ true → (t u : Transaction) → u ≡ t → Stepped (sheetsOf rs cs) (record { transaction = t; write = nothing }) u rs cs
   unfolding apply lineAfter decisionsAfter
   wrote-nothing a b t u e =
       record { transaction = e; records = lines-stay nothing rs (λ r. refl) a; coordinator = sym (coordinator-written-read cs b) }
 
   -- the lines of a group, by a write that leaves the coordinator alone
-  pub wrote-lines : (w : Write) → decisionsAfter w (coordinatorOf cs) ≡ coordinatorOf cs → coordinatorAccepted cs ≡ true → (t u : Transaction) (rs′ : List ℕ) → u ≡ t → rs′ ≡ recordsText (linesAfter w (records rs)) → Stepped (sheetsOf rs cs) (record { transaction = t; write = w }) u rs′ cs
+  pub wrote-lines : (w : Write) → decisionsAfter w (coordinatorOf cs) ≡ coordinatorOf cs → coordinatorReadable cs ≡ true → (t u : Transaction) (rs′ : List ℕ) → u ≡ t → rs′ ≡ recordsText (linesAfter w (records rs)) → Stepped (sheetsOf rs cs) (record { transaction = t; write = w }) u rs′ cs
   unfolding apply
   wrote-lines w h a t u rs′ e r =
       record { transaction = e; records = r; coordinator = sym (ap coordinatorText h ∙ coordinator-written-read cs a) }

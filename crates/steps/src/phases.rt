@@ -1,10 +1,11 @@
 // What an advance does in each phase. A phase is lent only the sheets that it looks at.
 ghost use mathlib.Core.Path.{_≡_};
-ghost use Prim.Native.Nat.{_<_};
+ghost use Prim.Native.Nat.{_<_, _≤_};
 ghost use Rattle.model.specs.Transactions.{puts};
-ghost use Rattle.model.specs.Steps.{groupsOf, onePhaseAllowed, openStep, onePhase, nextGroup, prepareStep, validateStep, decideStep, withdrawStep, finishStep, undoStep};
+ghost use Rattle.model.specs.Steps.{unitsOf, groupsOf, onePhaseAllowed, openStep, onePhase, nextGroup, prepareStep, validateStep, decideStep, withdrawStep, finishStep, undoStep};
 ghost use Rattle.model.specs.Writes.{Sheets};
 ghost use Rattle.model.specs.ByteCalls.{sheetsOf};
+ghost use Rattle.sheet_laws.specs.Letters.{unitsIn};
 ghost use Rattle.steps.specs.Ready.{Ready, Known};
 ghost use Rattle.steps.specs.Stepped.{Stepped, ByCoordinator};
 use group_writes::changes;
@@ -15,11 +16,12 @@ use transactions::stages;
 use types::Decision;
 use types::Transaction;
 
-// One group, and not serializable.
-pub fn one_phase_allowed(groups: u32, t: Transaction) -> bool
-    ensures { λ r. ⌜ ((s : Sheets) → groups ≡ groupsOf t s → r ≡ onePhaseAllowed t s) ⌝ }
+// One group, not serializable, and no key of a storage that can't be read consistently: there the columns read must still be compared when the rest is prepared.
+pub fn one_phase_allowed(groups: u32, letters: &[u8], t: Transaction) -> bool
+    requires { ⌜ t .count ≤ 8 ⌝ }
+    ensures { λ r. ⌜ ((s : Sheets) → groups ≡ groupsOf t s → unitsIn (now (letters .entry)) ≡ unitsOf s → r ≡ onePhaseAllowed t s) ⌝ }
 {
-    (groups == 1) & !(t.serializable == 1)
+    (groups == 1) & !(t.serializable == 1) & !transactions::holds_lower(letters, t)
 }
 
 // The only group committed if its conditions hold.
@@ -50,7 +52,7 @@ pub fn open(t: Transaction, located: Located, records: &mut [u8], coordinator: &
         }
         return stages::to_phase(stages::VALIDATE, t);
     }
-    if !one_phase_allowed(located.groups, t) {
+    if !one_phase_allowed(located.groups, &coordinator[5..14], t) {
         return stages::to_phase(stages::PREPARE, t);
     }
     one_phase(t, located, records, coordinator)
@@ -101,7 +103,7 @@ pub fn validate(t: Transaction, located: Located, records: &[u8], coordinator: &
     let e = transactions::to_validate(letters, t, t.place);
     let indices = located.indices;
     let index = lines::index_of(e.key, t, indices);
-    if !lines::holds(records, e, index) {
+    if !lines::holds(records, letters, e, index) {
         return stages::to_phase(stages::WITHDRAW, t);
     }
     stages::next_entry(letters, t)

@@ -11,7 +11,7 @@ use Rattle.model.specs.SheetCalls.{checkConditions}
 use Rattle.model.specs.Visitor.{firstNumber, coordinatorSize, inputFits, inputSheets, inputConditions, printed, refusedText, swept, visitorOutput, firstBytes}
 use Rattle.sheet_laws.specs.ByIndex.{length-records}
 use Rattle.sheet_laws.specs.Coordinator.{bounds}
-use Rattle.sheet_laws.specs.Decisions.{length-decisions, accepted-parts}
+use Rattle.sheet_laws.specs.Decisions.{length-decisions, readable-parts, accepted-parts}
 use Rattle.call_laws.specs.Lifting.{passing-parts}
 use Rattle.sweep.specs.FirstLine.{firstOf, recordsFrom, first-small, fit, unfit-refused, fit-refused, accepted-input, records-within}
 
@@ -28,7 +28,7 @@ records-few s h =
 -- a head and 1 to 999 lines of 15 bytes
 coordinator-few : (s : List ℕ) → coordinatorAccepted s ≡ true → length s ≤ mostCoordinatorBytes
 coordinator-few s h =
-    let p = accepted-parts s h in
+    let p = readable-parts s (accepted-parts s h .0) in
     let f : length (coordinatorOf s .decisions) ≤ 999 = bounds (coordinatorOf s) (p .good) .few in
     let w : length (drop coordinatorBytes s) ≡ length (drop coordinatorBytes s) / coordinatorBytes * coordinatorBytes = p .whole in
     omega (arith, length-decisions s, length-drop coordinatorBytes s)

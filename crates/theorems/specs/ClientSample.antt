@@ -121,7 +121,7 @@ record Computed : Type 0 where
   pub recovered : leftBy answerOn afterOn (map visitCall clientVisits) lastBytes ≡ clientRecovered
 
 computed : Computed
-unfolding told lineUndecided expirable leavesReadings readingIn recoveryPass leftBy turnsLeft turnEvents turnsOf turnsIn worldAfter listsAfter listAfter clockAsked clockFits Steps.withdrawStep changes turn closing closeBarred closeConditions modelAfter modelStep modelCall modelBegin modelPut modelCommit firstModel
+unfolding told lineUndecided expirable leavesReadings readingIn recoveryPass leftBy turnsLeft turnEvents turnsOf turnsIn worldAfter listsAfter listAfter clockAsked clockFits changes turn closing closeBarred closeConditions modelAfter modelStep modelCall modelBegin modelPut modelCommit firstModel
 computed = record { passes = refl; unprepared = refl; fits = refl; left = refl; refusals = refl; committed = refl; readable = refl; visits = refl; recovered = refl }
 
 -- The hypotheses, met.

@@ -3,4 +3,6 @@ pub mod Tables
 pub mod Sample
 pub mod ClientSample
 pub mod SerialSample
+pub mod TwoSample
 pub mod Theorems
+pub mod TwoTheorems

@@ -18,6 +18,7 @@ use Rattle.model.specs.SequentialModel.{firstModel, modelBegin, modelPut, model
 use Rattle.model.specs.RecoveryPass.{Visit, visitCall, nonePrepared, Closing, lineUndecided, expirable, leavesReadings, readingIn, readingsOf}
 use Rattle.model.specs.ByteHistories.{Bytes, saying, Passing, answerOn, afterOn}
 use Rattle.model.specs.Turns.{Turn, turnEventOn, turnAfterOn, turnsLeft, LegalTurns}
+use Rattle.model.specs.Kinds.{bytesKind}
 use Rattle.model.specs.Recovered.{modelOn, bytesRecovered}
 use Rattle.recovery.specs.PassExists.{recoveryPass}
 use Rattle.turns.specs.Bytes.{recovery-pass-told}
@@ -147,7 +148,7 @@ rIn place = moved preparePhase place noVerdict r4
 abbrev forged : Transaction
 forged = moved finishPhase 0 committedVerdict (newTransaction 9 false)
 
-abbrev pub story : List Row
+abbrev pub story : List (Row Bytes)
 story =
     row (begin false) (returned p0) (sheets issued2 third fourth firstA firstB firstC)
     ∷ row (begin true) (returned q0) (sheets issued3 third fourth firstA firstB firstC)
@@ -181,7 +182,7 @@ story =
     ∷ []
 
 abbrev pub sampleTurns : List Turn
-sampleTurns = map (λ (r : Row). r .turn) story
+sampleTurns = map (λ (r : Row Bytes). r .turn) story
 
 -- The recovery pass: each line twice, the line that the dead client left at a reading at which it has expired.
 
@@ -208,7 +209,7 @@ recoveredBytes = sheets issued4 thirdCommitted fourthAborted writtenA writtenB w
 record Computed : Type 0 where
   pub passes : Passing sampleBytes
   pub unprepared : nonePrepared (records (sampleBytes .records)) ≡ true
-  pub true-story : told story sampleBytes ≡ story
+  pub true-story : told bytesKind story sampleBytes ≡ story
   pub readable : leavesReadings (saying lastBytes) ≡ true
   pub visits : recoveryPass (readingsOf (saying lastBytes)) (saying lastBytes) ≡ sampleVisits
   pub recovered : leftBy answerOn afterOn (map visitCall sampleVisits) lastBytes ≡ recoveredBytes
@@ -257,10 +258,10 @@ pub sample-unprepared : nonePrepared (records (sampleBytes .records)) ≡ true
 sample-unprepared = computed .unprepared
 
 pub sample-legal : LegalTurns turnAfterOn turnEventOn sampleTurns sampleBytes []
-sample-legal = rows-legal story sampleBytes [] (computed .true-story) story-legal
+sample-legal = rows-legal bytesKind story sampleBytes [] (computed .true-story) story-legal
 
 left : turnsLeft turnAfterOn sampleTurns sampleBytes ≡ lastBytes
-left = rows-left story sampleBytes (computed .true-story)
+left = rows-left bytesKind story sampleBytes (computed .true-story)
 
 pub sample-closing : Closing saying afterOn sampleVisits (turnsLeft turnAfterOn sampleTurns sampleBytes)
 sample-closing =
@@ -276,4 +277,4 @@ sample-recovered = ap (leftBy answerOn afterOn (map visitCall sampleVisits)) lef
 pub sample-committed : modelOn sampleTurns sampleBytes .committed ≡ 3 ∷ 2 ∷ []
 unfolding modelAfter modelStep modelCall modelBegin modelPut modelCommit firstModel operationOf standsFor
 sample-committed =
-    ap (λ (es : List Event). modelAfter es (firstModel (records (sampleBytes .records))) .committed) (rows-events story sampleBytes [] (computed .true-story))
+    ap (λ (es : List Event). modelAfter es (firstModel (records (sampleBytes .records))) .committed) (rows-events bytesKind story sampleBytes [] (computed .true-story))

@@ -7,21 +7,21 @@ use Rattle.types.specs.declared.Reading.the-variants.{Absent, Value}
 use Rattle.model.specs.Lines.{text}
 use Rattle.model.specs.Records.{noImage, records}
 use Rattle.model.specs.Transactions.{preparePhase, validatePhase, decidePhase, finishPhase, donePhase, entryAs, withPut, moved, withEntry}
-use Rattle.model.specs.Writes.{Sheets}
 use Rattle.model.specs.Calls.{newTransaction}
 use Rattle.model.specs.Results.{Call, begin, read, put, advance, Answer, turnedAway, returned, answered}
 use Rattle.model.specs.Histories.{Event, eventsAfter}
 use Rattle.model.specs.SequentialModel.{firstModel, modelBegin, modelPut, modelCommit, modelCall, modelStep, modelAfter}
 use Rattle.model.specs.RecoveryPass.{nonePrepared}
 use Rattle.model.specs.ByteHistories.{Bytes, saying, Passing, answerOn, afterOn}
-use Rattle.model.specs.Operations.{once, standsFor, callsOf}
-use Rattle.model.specs.Turns.{Turn, single, turnCall, turnResponseOn, turnEventOn, turnAfterOn, turnEvents, comesTo, expanded, LegalTurns}
+use Rattle.model.specs.Operations.{standsFor}
+use Rattle.model.specs.Turns.{Turn, turnCall, turnResponseOn, turnEventOn, turnAfterOn, turnEvents, LegalTurns}
+use Rattle.model.specs.Kinds.{bytesKind}
 use Rattle.model.specs.Recovered.{modelOn}
 use Rattle.model.specs.SerialOrder.{callsOn, begunChecked, serialOrder}
 use Rattle.model.specs.Results as Results
 use Rattle.model.specs.Histories as Histories
 use Rattle.turns.specs.Units.{once-leaves, once-answers}
-use Rattle.theorems.specs.Tables.{keyA, keyB, keyC, image, columns, Row, row, told, rowEvents, LegalRows, rows-events, rows-legal, apart, untaken, _⊗_}
+use Rattle.theorems.specs.Tables.{keyA, keyB, keyC, image, columns, Row, row, told, rowEvents, LegalRows, rows-events, rows-legal, apart, untaken, asTurn, singles, _⊗_}
 
 -- the head, the lines of numbers 1 and 3, and the record lines of A and B; the others stay as they are
 abbrev sheets : List ℕ → List ℕ → List ℕ → List ℕ → List ℕ → Bytes
@@ -118,7 +118,7 @@ z2 = withEntry 1 0 (withPut (columns 41 8) (entryAs keyB (image 1 0 40 7))) z1
 abbrev zIn : ℕ → ℕ → ℕ → Transaction
 zIn phase place verdict = moved phase place verdict z2
 
-abbrev story : List Row
+abbrev story : List (Row Bytes)
 story =
     row (begin true) (returned x0) (sheets issued1 first third firstA firstB)
     ∷ row (read x0 keyB 100) (answered (Value (columns 40 7)) x1) (sheets issued1 first third firstA firstB)
@@ -152,12 +152,12 @@ story =
     ∷ []
 
 abbrev pub serialTurns : List Turn
-serialTurns = map (λ (r : Row). r .turn) story
+serialTurns = map (λ (r : Row Bytes). r .turn) story
 
 record Computed : Type 0 where
   pub passes : Passing serialBytes
   pub unprepared : nonePrepared (records (serialBytes .records)) ≡ true
-  pub true-story : told story serialBytes ≡ story
+  pub true-story : told bytesKind story serialBytes ≡ story
 
 computed : Computed
 unfolding told
@@ -202,20 +202,12 @@ pub serial-unprepared : nonePrepared (records (serialBytes .records)) ≡ true
 serial-unprepared = computed .unprepared
 
 pub serial-legal : LegalTurns turnAfterOn turnEventOn serialTurns serialBytes []
-serial-legal = rows-legal story serialBytes [] (computed .true-story) story-legal
+serial-legal = rows-legal bytesKind story serialBytes [] (computed .true-story) story-legal
 
 -- Each turn is one call.
 
 abbrev serialCalls : List Call
-serialCalls = map (λ (r : Row). r .event .call) story
-
-abbrev asTurn : Call → Turn
-asTurn c = single (once c)
-
-singles : (cs : List Call) (s : Sheets) → expanded (map asTurn cs) s ≡ cs
-unfolding expanded comesTo callsOf
-singles [] s = refl
-singles (c ∷ cs) s = ap (λ (xs : List Call). c ∷ xs) (singles cs _)
+serialCalls = map (λ (r : Row Bytes). r .event .call) story
 
 single-events : (cs : List Call) (b : Bytes) (es : List Event) → eventsAfter answerOn afterOn cs b es ≡ turnEvents turnAfterOn turnEventOn (map asTurn cs) b es
 unfolding eventsAfter turnEvents turnEventOn turnAfterOn turnCall turnResponseOn standsFor
@@ -227,7 +219,7 @@ single-events (c ∷ cs) b es =
 calls-made : callsOn serialTurns serialBytes ≡ rowEvents story []
 calls-made =
     ap (λ (cs : List Call). eventsAfter answerOn afterOn cs serialBytes []) (singles serialCalls (saying serialBytes))
-    ∙ (single-events serialCalls serialBytes [] ∙ rows-events story serialBytes [] (computed .true-story))
+    ∙ (single-events serialCalls serialBytes [] ∙ rows-events bytesKind story serialBytes [] (computed .true-story))
 
 pub serial-checked : all begunChecked (callsOn serialTurns serialBytes) ≡ true
 unfolding all
@@ -242,4 +234,4 @@ serial-order = ap serialOrder calls-made
 pub serial-committed : modelOn serialTurns serialBytes .committed ≡ 1 ∷ 2 ∷ 3 ∷ []
 unfolding modelAfter modelStep modelCall modelBegin modelPut modelCommit firstModel
 serial-committed =
-    ap (λ (es : List Event). modelAfter es (firstModel (records (serialBytes .records))) .committed) (rows-events story serialBytes [] (computed .true-story))
+    ap (λ (es : List Event). modelAfter es (firstModel (records (serialBytes .records))) .committed) (rows-events bytesKind story serialBytes [] (computed .true-story))

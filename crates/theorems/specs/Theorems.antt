@@ -1,4 +1,4 @@
--- What is proved of the engine: every headline statement, in the words of the definitions of `model`, each by citing the law that proves it.
+-- What is proved of the engine: every headline statement, in the words of the definitions of `model`, each by citing the law that proves it. Document 02, note 4, is in TwoTheorems.
 -- The engine's contracts cite the same definitions, so that what holds of `answerOn`, `afterOn`, `responseOn` and `responseAtOn` holds of the functions that run.
 use Rattle.lists.specs.Basics.{_≡_, ap, _∙_, ℕ, _+_, _*_, _%_, _^_, _≤_, _<_, true, List, [], _∷_, map, length, take, some, all, bytes}
 use Rattle.model.specs.Types.{Key, Record, Committed, Transaction, Forward, Request}
@@ -6,8 +6,8 @@ use Rattle.model.specs.Layouts.{recordBytes}
 use Rattle.model.specs.Lines.{text}
 use Rattle.model.specs.Groups.{unitFields}
 use Rattle.model.specs.Records.{records, recordsText, recordsGood, recordsAccepted, lineOf, hasLine}
-use Rattle.model.specs.Coordinator.{Coordinator, coordinatorOf, coordinatorText, coordinatorGood, coordinatorAccepted}
-use Rattle.model.specs.Refusals.{Condition, askingOrder, firstAsked}
+use Rattle.model.specs.Coordinator.{Letter, Coordinator, coordinatorOf, coordinatorText, coordinatorGood, coordinatorReadable, allCapitals, coordinatorAccepted}
+use Rattle.model.specs.Refusals.{Condition, firstAsked}
 use Rattle.model.specs.Images.{isPrepared, rolledForward}
 use Rattle.model.specs.Visits.{ownerDecision}
 use Rattle.model.specs.WellFormed.{wellFormed}
@@ -32,6 +32,7 @@ use Rattle.model.specs.Cases.{Case, cases, twelve-cases}
 use Rattle.model.specs.Notes.{noteCases, note-cases, five-letters}
 use Rattle.sheet_laws.specs.Records as RecordLaws
 use Rattle.sheet_laws.specs.Coordinator as CoordinatorLaws
+use Rattle.sheet_laws.specs.Decisions as DecisionLaws
 use Rattle.call_laws.specs.Exactness as Exactness
 use Rattle.call_laws.specs.Sheets.{good-parts}
 use Rattle.call_laws.specs.Lifting.{passing-good}
@@ -57,7 +58,7 @@ use Rattle.theorems.specs.SerialSample as SerialSample
 -- DEMAND 1: "a result or the one refusal that our table names for that input, and after a refusal it finds both sheets and its transaction unchanged".
 -- A call by value returns its transaction as it came where it is refused: `cores` Answers.
 
--- the refusal given is the first of the call's conditions that hold in the order of asking, 0 where none does; the order rises, so that it is the lowest
+-- the refusal given is the first of the call's conditions that hold in the order of asking, 0 where none does
 pub refusal-exact : (c : Call) (b : Bytes) → firstAsked (refusalIn (answerOn c b)) (allConditions c (b .records) (b .coordinator)) ≡ true
 refusal-exact c b =
     ap (λ (n : ℕ). firstAsked n (allConditions c (b .records) (b .coordinator))) (Exactness.refusal-given c b)
@@ -73,8 +74,9 @@ refusal-exact-of-close t now limit rs cs =
     ap (λ (n : ℕ). firstAsked n (allOperationConditions (close t now limit) rs cs)) (Operations.response-refusal-given (close t now limit) rs cs)
     ∙ Operations.response-refusal-first (close t now limit) rs cs
 
-pub order-rises : Exactness.risingFrom 1 askingOrder ≡ true
-order-rises = Exactness.order-rises
+-- beside a record sheet a row rises, so that "the lowest number that applies is given"; document 02's order is no longer that of the numbers
+pub rows-rise : (c : Call) → Exactness.risingFrom 1 (refusals c) ≡ true
+rows-rise c = Exactness.rows-rise c
 
 -- and these are the conditions of the call's row of the table
 pub conditions-are-the-row : (c : Call) (rs cs : List ℕ) → map (λ (x : Condition). x .number) (allConditions c rs cs) ≡ refusals c
@@ -118,21 +120,23 @@ pub sheets-stay-accepted : (x : Turn) (b : Bytes) → ClockFits (turnEventOn x b
 sheets-stay-accepted x b l p = TurnLaws.turn-stays-passing x b l p .1
 
 pub returned-well-formed : (x : Turn) (b : Bytes) (t : Transaction) → ClockFits (turnEventOn x b .call) → Passing b → returns (turnEventOn x b .answer) ≡ some t → wellFormed (saying (turnAfterOn x b)) t ≡ true
-returned-well-formed x b t l p e = TurnLaws.turn-returns-formed-on x b t l p e
+returned-well-formed x b t l p e = Recovery.turn-returns-formed-on x b t l p e
 
 -- "an accepted sheet read into records and written again is the same sheet"
 pub records-written-again : (s : List ℕ) → recordsAccepted s ≡ true → recordsText (records s) ≡ s
 records-written-again s a = RecordLaws.sheet-written-read s a
 
 pub coordinator-written-again : (s : List ℕ) → coordinatorAccepted s ≡ true → coordinatorText (coordinatorOf s) ≡ s
-coordinator-written-again s a = CoordinatorLaws.coordinator-written-read s a
+coordinator-written-again s a = CoordinatorLaws.coordinator-written-read s (DecisionLaws.accepted-parts s a .0)
 
 -- "and records that keep its rules, written and read, are the same records"
 pub records-read-again : (rs : List Record) → recordsGood rs ≡ true → (records (recordsText rs) ≡ rs) × (recordsAccepted (recordsText rs) ≡ true)
 records-read-again rs g = RecordLaws.records-read-written rs g
 
-pub coordinator-read-again : (c : Coordinator) → coordinatorGood c ≡ true → (coordinatorOf (coordinatorText c) ≡ c) × (coordinatorAccepted (coordinatorText c) ≡ true)
-coordinator-read-again c g = CoordinatorLaws.coordinator-read-written c g
+-- with letters of either case the sheet breaks no other rule, and with capitals it is accepted
+pub coordinator-read-again : (c : Coordinator) → coordinatorGood c ≡ true
+    → (coordinatorOf (coordinatorText c) ≡ c) × ((coordinatorReadable (coordinatorText c) ≡ true) × (allCapitals (c .units) ≡ true → coordinatorAccepted (coordinatorText c) ≡ true))
+coordinator-read-again c g = let r = CoordinatorLaws.coordinator-read-written c g in (r .0, (r .1, DecisionLaws.text-accepted c g))
 
 -- document 01's twelve cases
 pub cases-hold : map (λ (c : Case). c .given) cases ≡ map (λ (c : Case). c .expected) cases
@@ -143,7 +147,7 @@ pub note-cases-hold : map (λ (c : Case). c .given) noteCases ≡ map (λ (c : C
 note-cases-hold = note-cases
 
 -- DOCUMENT 02, NOTE 3: the letters R, P, T, N and S, RECORD to STORAGE, compare 5, 4, 3, 2 and 1 fields of a key
-pub unit-letters : map unitFields (take 5 (coordinatorOf (text (bytes "   0 RPTNSRRRR" ∷ bytes "   1         -" ∷ [])) .units)) ≡ 5 ∷ 4 ∷ 3 ∷ 2 ∷ 1 ∷ []
+pub unit-letters : map (λ (l : Letter). unitFields (l .unit)) (take 5 (coordinatorOf (text (bytes "   0 RPTNSRRRR" ∷ bytes "   1         -" ∷ [])) .units)) ≡ 5 ∷ 4 ∷ 3 ∷ 2 ∷ 1 ∷ []
 unit-letters = five-letters
 
 -- DOCUMENT 02, NOTE 1, for every input at a clock reading below 2^32, as every u32 is.

@@ -1,1 +1,1 @@
-// What is proved, in one file (specs/Theorems.antt), and a history that meets its hypotheses; no code.
+// What is proved (specs/Theorems.antt, and of two sheets specs/TwoTheorems.antt), and histories that meet its hypotheses; no code.

@@ -6,6 +6,8 @@ ghost use lib.ListN.{length, getD};
 ghost use Rattle.model.specs.Records.{sameKey};
 ghost use Rattle.model.specs.Transactions as model;
 ghost use Rattle.model.specs.Transactions.{isEmpty, puts, toValidate, mustValidate, noEntry, heldAt, withEntry};
+ghost use Rattle.model.specs.Groups.{letterFor};
+ghost use Rattle.model.specs.Steps.{holdsLower};
 ghost use Rattle.model.specs.Calls.{newTransaction};
 ghost use Rattle.transactions.specs.Held.{entryAt};
 ghost use Rattle.transactions.specs.Units.{unitsIn};
@@ -133,11 +135,47 @@ pub fn has_puts(t: Transaction) -> bool
     false
 }
 
-// An entry to be validated: one without a put, if the transaction is serializable, whatever the letters.
+// The storage can't be read consistently: its letter is a small one, and these come after the capitals. One without a letter can.
+pub fn is_lower(letters: &[u8], storage: u32) -> bool
+    ensures { λ r. ⌜ r ≡ letterFor storage (unitsIn (now (letters .entry))) .lower ⌝ }
+{
+    if storage < 1 {
+        return false;
+    }
+    let i = (storage - 1) as usize;
+    if letters.len() <= i {
+        return false;
+    }
+    b'a' <= letters[i]
+}
+
+// An entry to be validated: one without a put, if the transaction is serializable, or if its storage can't be read consistently: there any transaction must look
+// whether what it read still stands.
 fn must_validate(letters: &[u8], serializable: u32, e: Entry) -> bool
     ensures { λ r. ⌜ ((t : Transaction) → t .serializable ≡ serializable → r ≡ mustValidate (unitsIn (now (letters .entry))) t e) ⌝ }
 {
-    (serializable == 1) & !(e.wrote == 1)
+    if e.wrote == 1 {
+        return false;
+    }
+    if serializable == 1 {
+        return true;
+    }
+    is_lower(letters, e.key.storage)
+}
+
+// Some entry, put or not, is of a storage that can't be read consistently: such a transaction doesn't commit in one phase, which looks at the puts only.
+pub fn holds_lower(letters: &[u8], t: Transaction) -> bool
+    requires { ⌜ t .count ≤ 8 ⌝ }
+    ensures { λ r. ⌜ r ≡ holdsLower (unitsIn (now (letters .entry))) t ⌝ }
+{
+    let n = t.count as usize;
+    for i in 0..n {
+        let e = t.entries[i];
+        if is_lower(letters, e.key.storage) {
+            return true;
+        }
+    }
+    false
 }
 
 // One more, or not.

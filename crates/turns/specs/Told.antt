@@ -1,39 +1,31 @@
 -- What is told of a turn on accepted sheets. Sheets keep their lengths, so that nothing is refused; lines that differ are of the one unit that the turn may
 -- write, and then the coordinator sheet stays. Keys rise, so that every line between two of one unit is of it too: the range told begins and ends in lines
 -- that differ, and is of one unit throughout.
-use Rattle.lists.specs.Basics.{_≡_, refl, sym, ap, _∙_, ℕ, zero, suc, _+_, _-_, _*_, _/_, _%_, _^_, _≤_, _<_, eqb, Bool, true, false, not}
+use Rattle.lists.specs.Basics.{_≡_, refl, sym, ap, subst, _∙_, ℕ, zero, suc, _+_, _-_, _*_, _/_, _%_, _^_, _≤_, _<_, eqb, Bool, true, false, not}
 use Rattle.lists.specs.Basics.{true≢false, List, length, getD, length-drop, length-set, arith, eqb-true, eqb-false, eq-eqb, lt-leb, tests, eqList}
 use Rattle.lists.specs.Basics.{eqList-true, eqList-refl}
-use Rattle.model.specs.Types.{Key, Record, AtomicityUnit, At}
+use Rattle.model.specs.Types.{Key, Record, At}
 use Rattle.model.specs.Layouts.{recordBytes, coordinatorBytes}
 use Rattle.model.specs.Records.{records, keyLess, rising, recordsGood, recordsAccepted, noRecord}
-use Rattle.model.specs.Coordinator.{Coordinator, coordinatorOf, coordinatorAccepted, withDecision, withIssued}
+use Rattle.model.specs.Coordinator.{Letter, Coordinator, coordinatorOf, coordinatorReadable, withDecision, withIssued}
 use Rattle.model.specs.Refusals.{refusalOf}
 use Rattle.model.specs.SheetCalls.{lineAt}
-use Rattle.model.specs.Writes.{Sheets, sheetsGood, Write, nothing, issue, decide, commit, prepare, forward, back, decisionsAfter, apply}
+use Rattle.model.specs.Writes.{Sheets, Write, nothing, issue, decide, commit, prepare, forward, back, decisionsAfter}
 use Rattle.model.specs.Groups.{scope}
-use Rattle.model.specs.Results.{Call, Answer, Response, writeOf}
-use Rattle.model.specs.Calls.{result}
-use Rattle.model.specs.Steps.{step}
 use Rattle.model.specs.Histories.{ClockFits}
-use Rattle.model.specs.Closing.{Run, starting, mostSteps, closeConditions}
-use Rattle.model.specs.Operations.{Operation, once, close, standsFor, response, sheetsLeft}
-use Rattle.model.specs.ByteHistories.{Bytes, saying, Passing}
+use Rattle.model.specs.ByteHistories.{Bytes, saying, Readable, Passing}
 use Rattle.model.specs.AtomicWrites.{scopeAt, OneUnit, lines-of-one-unit, coordinator-only}
-use Rattle.model.specs.Turns.{Turn, turnWritesOnce, turnEventOn, turnAfter, turnAfterOn}
+use Rattle.model.specs.Turns.{Turn, turnCall, turnWritesOnce, turnAfter, turnEventOn, turnAfterOn}
 use Rattle.model.specs.Changes.{differs, reachOf, lastReach, firstDiffering, lengthConditions, sheetsTold, writtenConditions, writtenNumber, toldOf}
 use Rattle.model.specs.Changes.{ToldAtomic, nothing-told, coordinator-told, lines-told}
 use Rattle.sheet_laws.specs.ByIndex.{whole-lines, length-records, record-at}
-use Rattle.sheet_laws.specs.Decisions.{accepted-parts, accepted-length, length-decisions}
+use Rattle.sheet_laws.specs.Decisions.{readable-parts, readable-length, length-decisions}
 use Rattle.call_laws.specs.Groups.{scope-between}
 use Rattle.call_laws.specs.ByIndex.{rising-at}
-use Rattle.call_laws.specs.Choices.{unless-by}
-use Rattle.call_laws.specs.Lifting.{passing-parts, passing-good}
+use Rattle.call_laws.specs.Lifting.{readable-both, passing-readable, encoded}
 use Rattle.call_laws.specs.Told.{reach-within, told-ends, told-none}
-use Rattle.closing_laws.specs.Steps.{starts-sound, closing-by}
-use Rattle.turns.specs.Operations.{settled-left}
-use Rattle.turns.specs.Turns.{by-turn, turn-stays-passing}
-use Rattle.turns.specs.Units.{turn-unit}
+use Rattle.turns.specs.Turns.{turn-keeps, turn-bytes, turn-stays-readable, turn-stays-passing}
+use Rattle.turns.specs.Units.{readable-unit}
 
 -- The sheets keep their lengths.
 
@@ -52,32 +44,21 @@ decisions-kept (prepare n now es) c = refl
 decisions-kept (forward n ks) c = refl
 decisions-kept (back n ks) c = refl
 
-operation-decisions : (o : Operation) (s : Sheets) → ClockFits (standsFor o) → sheetsGood s ≡ true → length (sheetsLeft s (response o s) .coordinator .decisions) ≡ length (s .coordinator .decisions)
-unfolding response standsFor apply
-operation-decisions (once c) s l g = ap (λ (z : Sheets). length (z .coordinator .decisions)) (settled-left s (result c s)) ∙ decisions-kept (writeOf (result c s)) (s .coordinator)
-operation-decisions (close t now limit) s l g =
-    unless-by (λ (r : Response Answer Sheets). length (sheetsLeft s r .coordinator .decisions) ≡ length (s .coordinator .decisions)) (closeConditions t s) refl
-    (λ z. closing-by (λ (x : Run). length (x .sheets .coordinator .decisions) ≡ length (s .coordinator .decisions)) now l
-    (λ y k q e. decisions-kept (step (y .transaction) now (y .sheets) .write) (y .sheets .coordinator) ∙ e) mostSteps (starting t limit s) (starts-sound t limit s g z) refl)
+turn-keeps-decisions : (x : Turn) (s : Sheets) → length (turnAfter x s .coordinator .decisions) ≡ length (s .coordinator .decisions)
+turn-keeps-decisions x s = turn-keeps (λ (c : Coordinator). length (c .decisions) ≡ length (s .coordinator .decisions)) (λ w c e. decisions-kept w c ∙ e) x s refl
 
 pub turn-decisions : (x : Turn) (b : Bytes) → ClockFits (turnEventOn x b .call) → Passing b → length (saying (turnAfterOn x b) .coordinator .decisions) ≡ length (saying b .coordinator .decisions)
-unfolding turnEventOn turnAfter
-turn-decisions x b l p =
-    ap (λ (s : Sheets). length (s .coordinator .decisions)) (turn-stays-passing x b l p .0)
-    ∙ by-turn
-    (λ (c : Call) (r : Response Answer Sheets). ClockFits c → sheetsGood (saying b) ≡ true
-    → length (sheetsLeft (saying b) r .coordinator .decisions) ≡ length (saying b .coordinator .decisions))
-    (saying b) x (λ o. operation-decisions o (saying b)) (λ c l g. refl) l (passing-good b p)
+turn-decisions x b l p = ap (λ (s : Sheets). length (s .coordinator .decisions)) (turn-stays-passing x b l p .0) ∙ turn-keeps-decisions x (saying b)
 
 -- a head and a line for each decision
-coordinator-size : (s : List ℕ) → coordinatorAccepted s ≡ true → length s ≡ coordinatorBytes + length (coordinatorOf s .decisions) * coordinatorBytes
-coordinator-size s a = omega (arith, accepted-length s a, accepted-parts s a .whole, length-decisions s, length-drop coordinatorBytes s)
+coordinator-size : (s : List ℕ) → coordinatorReadable s ≡ true → length s ≡ coordinatorBytes + length (coordinatorOf s .decisions) * coordinatorBytes
+coordinator-size s a = omega (arith, readable-length s a, readable-parts s a .whole, length-decisions s, length-drop coordinatorBytes s)
 
-coordinator-length : (b a : Bytes) → Passing b → Passing a → length (saying a .coordinator .decisions) ≡ length (saying b .coordinator .decisions) → length (b .coordinator) ≡ length (a .coordinator)
+coordinator-length : (b a : Bytes) → Readable b → Readable a → length (saying a .coordinator .decisions) ≡ length (saying b .coordinator .decisions) → length (b .coordinator) ≡ length (a .coordinator)
 coordinator-length b a p q n =
-    coordinator-size (b .coordinator) (passing-parts b p .1 .0)
+    coordinator-size (b .coordinator) (readable-both b p .1 .0)
     ∙ (ap (λ (m : ℕ). coordinatorBytes + m * coordinatorBytes) (sym n)
-    ∙ sym (coordinator-size (a .coordinator) (passing-parts a q .1 .0)))
+    ∙ sym (coordinator-size (a .coordinator) (readable-both a q .1 .0)))
 
 -- What is told where nothing is refused.
 
@@ -97,7 +78,7 @@ module _ (b : Bytes) (accepted : recordsAccepted (b .records) ≡ true) where
   abbrev keyAt : ℕ → Key
   keyAt i = getD (records (b .records)) i noRecord .key
 
-  abbrev units : List AtomicityUnit
+  abbrev units : List Letter
   units = coordinatorOf (b .coordinator) .units
 
   scope-at : (i : ℕ) → i < length (b .records) / recordBytes → scopeAt i b ≡ scope units (keyAt i)
@@ -182,12 +163,12 @@ same-size : (b a : Bytes) → OneUnit b a → length (b .records) ≡ length (a 
 same-size b a (lines-of-one-unit unit c n f) = sym n
 same-size b a (coordinator-only e) = sym (ap length e)
 
--- between accepted sheets that differ in one unit
-pub told-between : (b a : Bytes) (target : List ℕ) → length target ≡ 2 → Passing b → Passing a → OneUnit b a
+-- between readable sheets that differ in one unit
+pub told-between : (b a : Bytes) (target : List ℕ) → length target ≡ 2 → Readable b → Readable a → OneUnit b a
     → length (saying a .coordinator .decisions) ≡ length (saying b .coordinator .decisions) → ToldAtomic b a (toldOf b a target)
 unfolding writtenNumber
 told-between b a target t p q u d =
-    let r = passing-parts b p .0 in
+    let r = readable-both b p .0 in
     let w = whole b a r in
     let f : length (b .records) / recordBytes < 2 ^ 32 = omega (arith, few-lines (b .records) r) in
     let n = refusalOf (writtenConditions (b .records) (a .records) (b .coordinator) (a .coordinator) target) in
@@ -195,7 +176,16 @@ told-between b a target t p q u d =
     let e : eqb n 0 ≡ true = eq-eqb n 0 z in
     rw e (told-by-unit b a r u)
 
+-- and of a turn, on readable bytes with what it leaves on what they say, encoded
+pub told-of-readable : (x : Turn) (b : Bytes) (target : List ℕ) → length target ≡ 2 → turnWritesOnce x ≡ true → ClockFits (turnCall x) → Readable b
+    → ToldAtomic b (encoded (turnAfter x (saying b))) (toldOf b (encoded (turnAfter x (saying b))) target)
+told-of-readable x b target t w l p =
+    let e = turn-stays-readable x b l p in
+    told-between b (encoded (turnAfter x (saying b))) target t p (e .1) (readable-unit x b w l p)
+    (ap (λ (s : Sheets). length (s .coordinator .decisions)) (e .0) ∙ turn-keeps-decisions x (saying b))
+
 pub told-of-turn : (x : Turn) (b : Bytes) (target : List ℕ) → length target ≡ 2 → turnWritesOnce x ≡ true → ClockFits (turnEventOn x b .call) → Passing b
     → ToldAtomic b (turnAfterOn x b) (toldOf b (turnAfterOn x b) target)
+unfolding turnEventOn
 told-of-turn x b target t w l p =
-    told-between b (turnAfterOn x b) target t p (turn-stays-passing x b l p .1) (turn-unit x b w l p) (turn-decisions x b l p)
+    subst (λ (a : Bytes). ToldAtomic b a (toldOf b a target)) (sym (turn-bytes x b p)) (told-of-readable x b target t w l (passing-readable b p .0))

@@ -81,13 +81,18 @@ never-true : (a : Bool) → (a ≡ true → ⊥) → a ≡ false
 never-true true f = absurd (f refl)
 never-true false f = refl
 
+-- lines that agree are as many
+pub same-counts : (p b : List ℕ) → linesAgree (linesOf plainBytes p) (linesOf bookkeepingBytes b) ≡ true → length p / plainBytes ≡ length b / bookkeepingBytes
+unfolding linesOf
+same-counts p b e =
+    sym (length-pieces plainBytes (length p / plainBytes) p)
+    ∙ (counts (pieces plainBytes (length p / plainBytes) p) (pieces bookkeepingBytes (length b / bookkeepingBytes) b) e
+    ∙ length-pieces bookkeepingBytes (length b / bookkeepingBytes) b)
+
 pub counts-differ : (p b : List ℕ) → (length b / bookkeepingBytes ≡ length p / plainBytes → ⊥) → (whole plainBytes p && whole bookkeepingBytes b && linesAgree (linesOf plainBytes p) (linesOf bookkeepingBytes b)) ≡ false
 counts-differ p b d =
     never-true (whole plainBytes p && whole bookkeepingBytes b && linesAgree (linesOf plainBytes p) (linesOf bookkeepingBytes b))
-    (λ e. d (sym (same (and-snd (whole plainBytes p && whole bookkeepingBytes b) (linesAgree (linesOf plainBytes p) (linesOf bookkeepingBytes b)) e))))
-  where
-    same : linesAgree (linesOf plainBytes p) (linesOf bookkeepingBytes b) ≡ true → length p / plainBytes ≡ length b / bookkeepingBytes
-    same e = unfold linesOf in sym (length-pieces plainBytes (length p / plainBytes) p) ∙ (counts (pieces plainBytes (length p / plainBytes) p) (pieces bookkeepingBytes (length b / bookkeepingBytes) b) e ∙ length-pieces bookkeepingBytes (length b / bookkeepingBytes) b)
+    (λ e. d (sym (same-counts p b (and-snd (whole plainBytes p && whole bookkeepingBytes b) (linesAgree (linesOf plainBytes p) (linesOf bookkeepingBytes b)) e))))
 
 pub book-cut-short : (p b : List ℕ) → length b / bookkeepingBytes ≡ length p / plainBytes → (length b ≡ length p / plainBytes * bookkeepingBytes → ⊥) → (whole plainBytes p && whole bookkeepingBytes b && linesAgree (linesOf plainBytes p) (linesOf bookkeepingBytes b)) ≡ false
 book-cut-short p b g d =

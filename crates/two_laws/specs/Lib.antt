@@ -6,4 +6,5 @@ pub mod FilledSheets
 pub mod JoinedSheets
 pub mod KeysAsBytes
 pub mod Decision
+pub mod Encoding
 pub mod TwoCases

@@ -195,11 +195,12 @@ pub enum Recovery {
     Busy,
 }
 
-// What a read answers.
+// What a read answers: First by the first of two calls, with the columns that the second takes.
 pub enum Reading {
     Absent,
     Value(Columns),
     Again,
+    First(Columns),
 }
 
 // What is asked of the engine, apart from the transaction and the sheets. A begin says whether the transaction is serializable; a number is the reading
@@ -207,6 +208,7 @@ pub enum Reading {
 pub enum Request {
     Begin(bool),
     Read(Key, u32),
+    Second(Key, u32, Columns),
     Put(Key, Columns),
     Advance(u32),
     Abort,

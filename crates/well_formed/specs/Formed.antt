@@ -2,11 +2,12 @@
 use Rattle.lists.specs.Basics.{_≡_, refl, sym, ap, _∙_, ℕ, _+_, _≤_, _<_, eqb, leb, Bool, true, false, not, _&&_, _||_, and-assoc, and-true, List, arith}
 use Rattle.lists.specs.Basics.{leb-false, eq-eqb, all, any, tests}
 use lib.Dec.{leb·zero}
-use Rattle.model.specs.Types.{Image, AtomicityUnit, Columns, Entry, Transaction}
+use Rattle.model.specs.Types.{Image, Columns, Entry, Transaction}
 use Rattle.model.specs.Layouts.{recordLayout, imageLayout, columnsLayout}
 use Rattle.model.specs.Lines.{inRange, rowGood}
 use Rattle.model.specs.Records.{imageNumbers, isZero, sameKey}
-use Rattle.model.specs.Transactions.{validatePhase, decidePhase, isSerializable, isEmpty, held, puts}
+use Rattle.model.specs.Coordinator.{Letter}
+use Rattle.model.specs.Transactions.{decidePhase, isEmpty, held, puts}
 use Rattle.model.specs.WellFormed.{imageInRange, columnsInRange, entryFormed, distinctKeys, placeFormed, verdictFormed, formed}
 use Rattle.transactions.specs.Held.{PassedTo, entryAt, after, pass-here, pass-next, pass-last}
 
@@ -56,28 +57,27 @@ module _ (t : Transaction) (w : Bool) (i : ℕ) (p : PassedTo t distinctKeys w i
 abbrev pub headFormed : ℕ → Transaction → Bool
 headFormed issued t = leb 1 (t .number) && leb (t .number) issued && leb (t .serializable) 1 && leb (t .count) 8
 
--- "decide has a put", "only a checked one is in check"
-abbrev pub phaseFormed : Transaction → Bool
-phaseFormed t = (not (eqb (t .phase) decidePhase) || not (isEmpty (puts t))) && (not (eqb (t .phase) validatePhase) || isSerializable t)
+-- "decide has a put"
+abbrev pub decideFormed : Transaction → Bool
+decideFormed t = not (eqb (t .phase) decidePhase) || not (isEmpty (puts t))
 
 pub head-few : (issued : ℕ) (t : Transaction) → headFormed issued t ≡ true → t .count ≤ 8
 head-few issued t h = search tests
 
-regroup : (h a d p v l r : Bool) → (h && (a && d && (p && v) && l && r)) ≡ (h && a && d && p && v && l && r)
-regroup false a d p v l r = refl
-regroup true a d p v l r = ap (λ (x : Bool). x && l && r) (sym (and-assoc (a && d) p v))
+regroup : (h a d p l r : Bool) → (h && (a && d && p && l && r)) ≡ (h && a && d && p && l && r)
+regroup false a d p l r = refl
+regroup true a d p l r = refl
 
 -- what is asked of a transaction whose head is well formed
-abbrev restFormed : List AtomicityUnit → ℕ → Transaction → Bool
-restFormed us issued t = all (entryFormed issued) (held t) && distinctKeys (held t) && phaseFormed t && placeFormed us t && verdictFormed t
+abbrev restFormed : List Letter → ℕ → Transaction → Bool
+restFormed us issued t = all (entryFormed issued) (held t) && distinctKeys (held t) && decideFormed t && placeFormed us t && verdictFormed t
 
-module _ (us : List AtomicityUnit) (issued : ℕ) (t : Transaction) where
+module _ (us : List Letter) (issued : ℕ) (t : Transaction) where
   in-order : (headFormed issued t && restFormed us issued t) ≡ formed us issued t
   unfolding formed
   in-order =
-      regroup (headFormed issued t) (all (entryFormed issued) (held t)) (distinctKeys (held t))
-      (not (eqb (t .phase) decidePhase) || not (isEmpty (puts t))) (not (eqb (t .phase) validatePhase) || isSerializable t)
-      (placeFormed us t) (verdictFormed t)
+      regroup (headFormed issued t) (all (entryFormed issued) (held t)) (distinctKeys (held t)) (decideFormed t) (placeFormed us t)
+      (verdictFormed t)
 
   pub formed-not : headFormed issued t ≡ false → false ≡ formed us issued t
   formed-not e = sym (ap (λ (b : Bool). b && restFormed us issued t) e) ∙ in-order

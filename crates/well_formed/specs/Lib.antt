@@ -1,2 +1,3 @@
--- Well-formedness in the order in which the code asks.
+-- Well-formedness in the order in which the code asks, and what the own line forbids.
 pub mod Formed
+pub mod Barred

@@ -10,7 +10,10 @@ ghost use Rattle.model.specs.Groups.{groupCount};
 ghost use Rattle.model.specs.WellFormed.{imageInRange, columnsInRange, putFits, entryFormed, distinctKeys, placeFormed, verdictFormed};
 ghost use Rattle.model.specs.WellFormed as model;
 ghost use Rattle.transactions.specs.Units.{unitsIn};
-ghost use Rattle.well_formed.specs.Formed.{headFormed, phaseFormed};
+ghost use Rattle.well_formed.specs.Formed.{headFormed, decideFormed};
+
+pub mod barred;
+
 use types::Columns;
 use types::Entry;
 use types::Image;
@@ -96,15 +99,16 @@ pub fn head_formed(issued: u32, t: Transaction) -> bool
     (1 <= t.number) & (t.number <= issued) & (t.serializable <= 1) & (t.count <= 8)
 }
 
-// Decide has a put, and only a serializable transaction is in validate.
-fn phase_formed(t: Transaction) -> bool
+// Decide has a put.
+fn decide_formed(t: Transaction) -> bool
     requires { ⌜ t .count ≤ 8 ⌝ }
-    ensures { λ r. ⌜ r ≡ phaseFormed t ⌝ }
+    ensures { λ r. ⌜ r ≡ decideFormed t ⌝ }
 {
-    (!(t.phase == 3) | transactions::has_puts(t)) & (!(t.phase == 2) | (t.serializable == 1))
+    !(t.phase == 3) | transactions::has_puts(t)
 }
 
-// The place is below the number of groups or of entries to validate, else 0.
+// The place is below the number of groups or of entries to validate, else 0: a transaction in validate has a place only if it has an entry to validate, so that one
+// that isn't serializable is there for entries of storages that can't be read consistently.
 fn place_formed(letters: &[u8], groups: u32, t: Transaction) -> bool
     requires { ⌜ (t .count ≤ 8) × (groups ≡ groupCount (unitsIn (now letters)) (puts t)) ⌝ }
     ensures { λ r. ⌜ r ≡ placeFormed (unitsIn (now (letters .entry))) t ⌝ }
@@ -149,7 +153,7 @@ pub fn formed(letters: &[u8], groups: u32, issued: u32, t: Transaction) -> bool
 {
     entries_formed(issued, t)
         & distinct_keys(t)
-        & phase_formed(t)
+        & decide_formed(t)
         & place_formed(letters, groups, t)
         & verdict_formed(t)
 }

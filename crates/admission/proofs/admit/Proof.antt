@@ -1,10 +1,10 @@
 -- The head is asked first; then the letters of the sheet, which are its units, give the groups and the rest; then the lines.
 use Rattle.lists.specs.Basics.{sym, ap, _∙_, List, take, drop, arith, not-true, not-false, needs}
-use Rattle.model.specs.Types.{AtomicityUnit}
+use Rattle.model.specs.Coordinator.{Letter}
 use Rattle.model.specs.Transactions.{puts}
 use Rattle.model.specs.Groups.{groupCount}
 use Rattle.model.specs.ByteCalls.{sheetsOf}
-use Rattle.sheet_laws.specs.Decisions.{accepted-length}
+use Rattle.sheet_laws.specs.Decisions.{readable-length}
 use Rattle.transactions.specs.Units.{unitsIn, units-said}
 use Rattle.well_formed.specs.Formed.{head-few, formed-not}
 use Rattle.put_groups.specs.GroupsIn.{groupsIn}
@@ -25,7 +25,7 @@ returns c =
 part-letters-end : tie.Need-part-letters-end
 part-letters-end c =
     let a = c .before .before .before .before .before .args in
-    let l = accepted-length (a .coordinator .now) (c .before .before .before .before .before .pre .decisions) in omega arith
+    let l = readable-length (a .coordinator .now) (c .before .before .before .before .before .pre .decisions) in omega arith
 
 groups-of-requires : tie.Need-groups-of-requires
 groups-of-requires c κs =
@@ -73,11 +73,11 @@ returns-4 c =
     (λ i. record {
       indices = c .before .before .before .before .lines-of .ensures .1 i;
       groups =
-          (c .before .before .before .before .before .before .before .groups-of .ensures .0 ∙ ap (λ (us : List AtomicityUnit). groupCount us (puts (a .t)))
+          (c .before .before .before .before .before .before .before .groups-of .ensures .0 ∙ ap (λ (us : List Letter). groupCount us (puts (a .t)))
           (units-said (a .coordinator .now)
           (c .before .before .before .before .before .before .before .before .before .before .before .before .before .before .pre .decisions))) i;
       of =
-          (c .before .before .before .before .before .before .before .groups-of .ensures .1 ∙ ap (λ (us : List AtomicityUnit). groupsIn us (a .t))
+          (c .before .before .before .before .before .before .before .groups-of .ensures .1 ∙ ap (λ (us : List Letter). groupsIn us (a .t))
           (units-said (a .coordinator .now)
           (c .before .before .before .before .before .before .before .before .before .before .before .before .before .before .pre .decisions))) i;
     })

@@ -6,7 +6,7 @@ use Rattle.model.specs.Operations.{responseOn}
 use Rattle.model.specs.Requests.{operationOf}
 use Rattle.cores.specs.declared.Performed.{Performed}
 use Rattle.c_api.specs.declared.Called.{Called}
-use Rattle.c_api.specs.Numbers.{call-numbered}
+use Rattle.by_place.specs.Numbers.{call-numbered}
 use Rattle.c_api.specs.ByPlace.{performed-left}
 use Rattle.c_api.proofs.call_named.Statement.{statement}
 use Rattle.c_api.proofs.call_named.Tie as tie

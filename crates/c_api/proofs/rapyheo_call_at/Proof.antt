@@ -51,21 +51,21 @@ use Rattle.c_api.proofs.Called.Laws as O′
 use Rattle.model.specs.Calls.{newTransaction}
 use Rattle.model.specs.Operations.{responseOn, recordsLeft, coordinatorLeft}
 use Rattle.model.specs.Requests.{operationOf}
-use Rattle.c_api.specs.Numbers.{unlistedNumber}
-use Rattle.c_api.specs.Asked.{asks, naming}
+use Rattle.by_place.specs.Numbers.{unlistedNumber}
+use Rattle.by_place.specs.Asked.{asks, naming}
 use Rattle.c_api.specs.ByPlace.{called, naming-within, CallsAt, calls-named, calls-unnamed}
 use Rattle.c_api.proofs.call_named as core
 use Rattle.c_api.proofs.call_named.Symbol as core-def
 use Rattle.c_api.proofs.call_named.Symbol.{name as #c_api·call-named}
 use Rattle.c_api.proofs.call_named.Met as core-thm
-use Rattle.c_api.proofs.unlisted as unlisted
-use Rattle.c_api.proofs.unlisted.Symbol as unlisted-def
-use Rattle.c_api.proofs.unlisted.Symbol.{name as #c_api·unlisted}
-use Rattle.c_api.proofs.unlisted.Met as unlisted-thm
-use Rattle.c_api.proofs.is_named as is-named
-use Rattle.c_api.proofs.is_named.Symbol as is-named-def
-use Rattle.c_api.proofs.is_named.Symbol.{name as #c_api·is-named}
-use Rattle.c_api.proofs.is_named.Met as is-named-thm
+use Rattle.by_place.proofs.unlisted as unlisted
+use Rattle.by_place.proofs.unlisted.Symbol as unlisted-def
+use Rattle.by_place.proofs.unlisted.Symbol.{name as #by_place·unlisted}
+use Rattle.by_place.proofs.unlisted.Met as unlisted-thm
+use Rattle.by_place.proofs.is_named as is-named
+use Rattle.by_place.proofs.is_named.Symbol as is-named-def
+use Rattle.by_place.proofs.is_named.Symbol.{name as #by_place·is-named}
+use Rattle.by_place.proofs.is_named.Met as is-named-thm
 use Rattle.c_api.proofs.rapyheo_call_at.Key.{name as #c_api·rapyheo-call-at}
 use Rattle.c_api.proofs.rapyheo_call_at as f
 use Rattle.c_api.proofs.rapyheo_call_at.Statement as stated
@@ -209,7 +209,7 @@ module _ {M : Type 1} (𝓤 : URA M) (H : Heap 𝓤) (A : Atoms 𝓤) (W : Given
   goes-unlisted : ent 𝓤 (sep 𝓤 (sep 𝓤 (A .lft κ0 q0) (sep 𝓤 (A .lft κ1 q1) (sem 𝓤 H A ftrue))) (sem 𝓤 H A others-own)) (Unlisted 𝓤 H A mem run .pre to-unlisted)
   goes-unlisted = qed W ((‵ (flft κ0 q0) ⊛ (‵ (flft κ1 q1) ⊛ ‵ ftrue)) ∷ ‵ others-own ∷ []) ∵ move ! (1 ∷ []) $ fsplit ! $ move ! (1 ∷ []) $ fsplit ! $ move ! (1 ∷ []) $ drop ! $ nothing ! $ move ! (1 ∷ 0 ∷ []) $ fjoin ! $ move ! (1 ∷ 0 ∷ []) $ fjoin ! $ move ! (1 ∷ 0 ∷ []) $ join ! $ frame ! $ done !
 
-  module _ (C : Calls 𝓤 H) (Λ : Loops 𝓤 H) (fm : FmC 𝓤 H (W .laws) C) (known-listed : Triple 𝓤 (C #c_api·is-named) (Listed 𝓤 H A mem run)) (known-core : Triple 𝓤 (C #c_api·call-named) (Core 𝓤 H A mem run)) (known-unlisted : Triple 𝓤 (C #c_api·unlisted) (Unlisted 𝓤 H A mem run)) where
+  module _ (C : Calls 𝓤 H) (Λ : Loops 𝓤 H) (fm : FmC 𝓤 H (W .laws) C) (known-listed : Triple 𝓤 (C #by_place·is-named) (Listed 𝓤 H A mem run)) (known-core : Triple 𝓤 (C #c_api·call-named) (Core 𝓤 H A mem run)) (known-unlisted : Triple 𝓤 (C #by_place·unlisted) (Unlisted 𝓤 H A mem run)) where
     walk : ent 𝓤 (onEntry 𝓤 H A f.signature (κ, (κ0, (κ1, tt))) (q, (q0, (q1, tt))) x at) (WpFn 𝓤 H C Λ code.function (s ∷ vint w64 i ∷ s0 ∷ s1 ∷ vint w32 m2 ∷ vint w32 m3 ∷ vint w32 m4 ∷ vint w32 m5 ∷ vint w32 m6 ∷ vint w32 m7 ∷ vint w32 m8 ∷ vint w32 m9 ∷ vint w32 m10 ∷ vint w32 m11 ∷ []) Post)
     walk =
         qed W ((‵ (flft κ q) ⊛ (‵ (flft κ0 q0) ⊛ (‵ (flft κ1 q1) ⊛ ‵ ftrue))) ∷ ‵ (owns (MutSlice (named 0) κ T.the-row ∷ usize ∷ MutSlice (named 1) κ0 u8 ∷ MutSlice (named 2) κ1 u8 ∷ u32 ∷ u32 ∷ u32 ∷ u32 ∷ u32 ∷ u32 ∷ u32 ∷ u32 ∷ u32 ∷ u32 ∷ []) x at) ∷ []) ∵ enter ! C Λ code.function (s ∷ vint w64 i ∷ s0 ∷ s1 ∷ vint w32 m2 ∷ vint w32 m3 ∷ vint w32 m4 ∷ vint w32 m5 ∷ vint w32 m6 ∷ vint w32 m7 ∷ vint w32 m8 ∷ vint w32 m9 ∷ vint w32 m10 ∷ vint w32 m11 ∷ []) _ $
@@ -316,7 +316,7 @@ module _ {M : Type 1} (𝓤 : URA M) (H : Heap 𝓤) (A : Atoms 𝓤) (W : Given
         (calls-unnamed ys i m2 m3 m4 m5 m6 m7 m8 m9 m10 m11 x0 x1 r (zs .0) (zs .1 .0) is-false (e .0) (e .1 .0) (e .1 .1)))))))))))))))))))))))))))))))))))))))))))))))
 
 module _ {M : Type 1} (𝓤 : URA M) (H : Heap 𝓤) (A : Atoms 𝓤) (W : Given 𝓤 H A) (mem : Memory → SProp 𝓤) (run : Routine → Fun 𝓤) where
-  rapyheo-call-at-walks : (C : Calls 𝓤 H) (Λ : Loops 𝓤 H) → FmC 𝓤 H (W .laws) C → Triple 𝓤 (C #c_api·is-named) (Listed 𝓤 H A mem run) → Triple 𝓤 (C #c_api·call-named) (Core 𝓤 H A mem run) → Triple 𝓤 (C #c_api·unlisted) (Unlisted 𝓤 H A mem run)
+  rapyheo-call-at-walks : (C : Calls 𝓤 H) (Λ : Loops 𝓤 H) → FmC 𝓤 H (W .laws) C → Triple 𝓤 (C #by_place·is-named) (Listed 𝓤 H A mem run) → Triple 𝓤 (C #c_api·call-named) (Core 𝓤 H A mem run) → Triple 𝓤 (C #by_place·unlisted) (Unlisted 𝓤 H A mem run)
       → Walks 𝓤 H A f.ended stayed (WpFn 𝓤 H C Λ code.function) (f.clauses 𝓤 H A mem run)
   rapyheo-call-at-walks C Λ fm known-listed known-core known-unlisted = walked 𝓤 H A f.ended stayed (f.clauses 𝓤 H A mem run) (WpFn 𝓤 H C Λ code.function)
       (λ κs. (slice-vals, (uint-vals w64, (slice-vals, (slice-vals, (uint-vals w32, (uint-vals w32, (uint-vals w32, (uint-vals w32, (uint-vals w32, (uint-vals w32, (uint-vals w32, (uint-vals w32, (uint-vals w32, (uint-vals w32, tt)))))))))))))))
@@ -337,7 +337,7 @@ module _ {M : Type 1} (𝓤 : URA M) (H : Heap 𝓤) (A : Atoms 𝓤) (W : Given
       (a .1 .1 .1 .1 .1 .1 .1 .1 .1 .1 .1 .1 .1 .0) (are .1 .1 .1 .1 .1 .1 .1 .1 .1 .1 .1 .1 .1 .0 .1)
       C Λ fm known-listed known-core known-unlisted))
 
-rapyheo-call-at-meets : {M : Type 1} (𝓤 : URA M) (H : Heap 𝓤) (A : Atoms 𝓤) → Given 𝓤 H A → (mem : Memory → SProp 𝓤) (run : Routine → Fun 𝓤) (𝓣 : Tables 𝓤 H) → Triple 𝓤 (𝓣 .C #c_api·is-named) (Listed 𝓤 H A mem run) → Triple 𝓤 (𝓣 .C #c_api·call-named) (Core 𝓤 H A mem run) → Triple 𝓤 (𝓣 .C #c_api·unlisted) (Unlisted 𝓤 H A mem run)
+rapyheo-call-at-meets : {M : Type 1} (𝓤 : URA M) (H : Heap 𝓤) (A : Atoms 𝓤) → Given 𝓤 H A → (mem : Memory → SProp 𝓤) (run : Routine → Fun 𝓤) (𝓣 : Tables 𝓤 H) → Triple 𝓤 (𝓣 .C #by_place·is-named) (Listed 𝓤 H A mem run) → Triple 𝓤 (𝓣 .C #c_api·call-named) (Core 𝓤 H A mem run) → Triple 𝓤 (𝓣 .C #by_place·unlisted) (Unlisted 𝓤 H A mem run)
     → Meets 𝓤 H A f.signature (WpFn 𝓤 H (𝓣 .C) (𝓣 .Λ) code.function) (f.spec 𝓤 H A mem run)
 rapyheo-call-at-meets 𝓤 H A W mem run 𝓣 known-listed known-core known-unlisted =
     walk-meets 𝓤 H A f.ended stayed W (goes-slice 𝓤 H A W 3 0 tt (plain (λ _. T.the-row)), (goes-none 𝓤 H A W 3 (λ _. usize) yes (λ κs x f. refl), (goes-gave-slice 𝓤 H A W 3 1 tt (plain (λ _. u8)), (goes-gave-slice 𝓤 H A W 3 2 tt (plain (λ _. u8)), (goes-none 𝓤 H A W 3 (λ _. u32) yes (λ κs x f. refl), (goes-none 𝓤 H A W 3 (λ _. u32) yes (λ κs x f. refl), (goes-none 𝓤 H A W 3 (λ _. u32) yes (λ κs x f. refl), (goes-none 𝓤 H A W 3 (λ _. u32) yes (λ κs x f. refl), (goes-none 𝓤 H A W 3 (λ _. u32) yes (λ κs x f. refl), (goes-none 𝓤 H A W 3 (λ _. u32) yes (λ κs x f. refl), (goes-none 𝓤 H A W 3 (λ _. u32) yes (λ κs x f. refl), (goes-none 𝓤 H A W 3 (λ _. u32) yes (λ κs x f. refl), (goes-none 𝓤 H A W 3 (λ _. u32) yes (λ κs x f. refl), (goes-none 𝓤 H A W 3 (λ _. u32) yes (λ κs x f. refl), tt)))))))))))))) (f.clauses 𝓤 H A mem run)
@@ -349,6 +349,6 @@ rapyheo-call-at-spec 𝓤 H 𝓜 𝓖 𝓡 =
     entered 𝓤 H (tripleOf 𝓤 H (𝓖 .A) f.signature (f.spec 𝓤 H (𝓖 .A) (𝓜 .mem) (𝓡 .run)))
     (tables 𝓤 H 𝓜 𝓡 code.env .C) (tables 𝓤 H 𝓜 𝓡 code.env .Λ) #c_api·rapyheo-call-at code.function (code.unfolded 𝓤 H 𝓜 𝓡)
     (rapyheo-call-at-meets 𝓤 H (𝓖 .A) (givenOf 𝓤 H 𝓜 𝓖) (𝓜 .mem) (𝓡 .run) (tablesOf 𝓤 H 𝓜 (tables 𝓤 H 𝓜 𝓡 code.env))
-    (cited 𝓤 H (Listed 𝓤 H (𝓖 .A) (𝓜 .mem) (𝓡 .run)) 𝓜 𝓡 code.env #c_api·is-named is-named-def.routine code.calls-c-api·is-named (is-named-thm.met 𝓤 H 𝓜 𝓖 𝓡))
+    (cited 𝓤 H (Listed 𝓤 H (𝓖 .A) (𝓜 .mem) (𝓡 .run)) 𝓜 𝓡 code.env #by_place·is-named is-named-def.routine code.calls-by-place·is-named (is-named-thm.met 𝓤 H 𝓜 𝓖 𝓡))
     (cited 𝓤 H (Core 𝓤 H (𝓖 .A) (𝓜 .mem) (𝓡 .run)) 𝓜 𝓡 code.env #c_api·call-named core-def.routine code.calls-c-api·call-named (core-thm.met 𝓤 H 𝓜 𝓖 𝓡))
-    (cited 𝓤 H (Unlisted 𝓤 H (𝓖 .A) (𝓜 .mem) (𝓡 .run)) 𝓜 𝓡 code.env #c_api·unlisted unlisted-def.routine code.calls-c-api·unlisted (unlisted-thm.met 𝓤 H 𝓜 𝓖 𝓡)))
+    (cited 𝓤 H (Unlisted 𝓤 H (𝓖 .A) (𝓜 .mem) (𝓡 .run)) 𝓜 𝓡 code.env #by_place·unlisted unlisted-def.routine code.calls-by-place·unlisted (unlisted-thm.met 𝓤 H 𝓜 𝓖 𝓡)))

@@ -6,7 +6,7 @@ use Rattle.model.specs.Layouts.{recordLayout, offset}
 use Rattle.model.specs.Records.{records}
 use Rattle.model.specs.Coordinator.{coordinatorOf, namesIssued}
 use Rattle.model.specs.SheetCalls.{allIssued}
-use Rattle.sheet_laws.specs.Decisions.{accepted-length}
+use Rattle.sheet_laws.specs.Decisions.{readable-length}
 use Rattle.coordinator_check.specs.Issued.{NamedTo, named-turn}
 use Rattle.coordinator_check.proofs.all_issued.Statement.{statement}
 use Rattle.coordinator_check.proofs.all_issued.Tie as tie
@@ -19,7 +19,7 @@ abbrev μ-loop : tie.MeasureT-loop
 
 half-requires : tie.Need-half-requires Inv-loop μ-loop
 half-requires c κs =
-    let l = accepted-length (c .before .before .args .coordinator .now) (c .before .before .pre .1) in
+    let l = readable-length (c .before .before .args .coordinator .now) (c .before .before .pre .1) in
     omega arith
 
 loop-holds : tie.Need-loop-holds Inv-loop μ-loop

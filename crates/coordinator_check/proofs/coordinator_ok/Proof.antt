@@ -1,65 +1,32 @@
--- Each test is one of `sheetMade`, in its order, and `sheetMade` is acceptance.
-use Rattle.lists.specs.Basics.{_≡_, sym, _∙_, true, length, take, length-take, arith, not-true, not-false, needs}
-use Rattle.model.specs.Layouts.{coordinatorBytes}
-use Rattle.model.specs.Coordinator.{coordinatorAccepted}
-use Rattle.coordinator_check.specs.Head.{lettersSet}
-use Rattle.coordinator_check.specs.Sheet.{wholeLines, whole-parts, ofNumber, decisionsMade, accepted-made, not-whole, not-lettered, by-count}
+-- A sheet that keeps the rules has nine letters, and those that it is read to have are theirs.
+use Rattle.lists.specs.Basics.{_≡_, sym, ap, _∙_, true, false, arith, not-true, not-false, needs}
+use Rattle.model.specs.Coordinator.{coordinatorReadable, allCapitals, coordinatorAccepted}
+use Rattle.sheet_laws.specs.Decisions.{readable-length}
+use Rattle.sheet_laws.specs.Letters.{units-said}
 use Rattle.coordinator_check.proofs.coordinator_ok.Statement.{statement}
 use Rattle.coordinator_check.proofs.coordinator_ok.Tie as tie
 
--- past the first test the lines are whole, and past the second the letters are set
-whole : (c : tie.Else1) → wholeLines (length (c .before .before .before .args .coordinator .now)) ≡ true
-whole c = sym (c .before .whole-lines .ensures) ∙ not-false (c .before .whole-lines .result) (c .if1 .left)
-
-lettered : (c : tie.Else2) → lettersSet (take coordinatorBytes (c .before .before .before .before .before .before .args .coordinator .now)) ≡ true
-lettered c = sym (c .before .letters-ok .ensures) ∙ not-false (c .before .letters-ok .result) (c .if2 .left)
+-- past the first test the sheet keeps the rules
+kept : (c : tie.Else1) → coordinatorReadable (c .before .before .before .args .coordinator .now) ≡ true
+kept c = sym (c .before .coordinator-readable .ensures) ∙ not-false (c .before .coordinator-readable .result) (c .if1 .left)
 
 returns : tie.Need-returns
+unfolding coordinatorAccepted
 returns c =
-    let s = c .before .before .before .args .coordinator .now in
-    not-whole s (sym (c .before .whole-lines .ensures) ∙ not-true (c .before .whole-lines .result) (c .if1 .taken))
-    ∙ sym (accepted-made s (λ i. c .before .before .shared-slice-known .given i .fits))
+    let e : coordinatorReadable (c .before .before .before .args .coordinator .now) ≡ false =
+    sym (c .before .coordinator-readable .ensures) ∙ not-true (c .before .coordinator-readable .result) (c .if1 .taken) in
+    rw e
 
-slice-aggregate-letters-ok : tie.Need-slice-aggregate-letters-ok
-slice-aggregate-letters-ok c = let w = whole-parts _ (whole (c .before)) in simp length-take (omega arith)
-
-letters-ok-requires : tie.Need-letters-ok-requires
-letters-ok-requires c κs = let w = whole-parts _ (whole (c .before)) in simp length-take (omega arith)
+part-capitals-end : tie.Need-part-capitals-end
+part-capitals-end c = let l = readable-length _ (kept c) in omega arith
 
 returns-2 : tie.Need-returns-2
+unfolding coordinatorAccepted
 returns-2 c =
-    let s = c .before .before .before .before .before .before .args .coordinator .now in
-    not-lettered
-    s
-    (whole (c .before .before .before))
-    (sym (c .before .letters-ok .ensures) ∙ not-true (c .before .letters-ok .result) (c .if2 .taken))
-    ∙ sym (accepted-made s (λ i. c .before .before .before .before .before .shared-slice-known .given i .fits))
-
-slice-aggregate-read : tie.Need-slice-aggregate-read
-slice-aggregate-read c =
-    let w = whole-parts _ (whole (c .before .before .before .before)) in
-    simp length-take (omega arith)
-
-decisions-ok-requires : tie.Need-decisions-ok-requires
-decisions-ok-requires c κs =
-    (whole (c .before .before .before .before .before .before .before .before), sym (c .before .before .before .read .ensures) ∙ c .before .issued .given .1)
-
--- what is read decides, once the lines are whole and the letters set
-decided : (c : tie.After-read)
-    → let s = c .before .before .before .before .before .before .before .before .args .coordinator .now in
-    ofNumber (λ issued. decisionsMade issued s) (c .read .result) ≡ coordinatorAccepted s
-decided c =
-    let s = c .before .before .before .before .before .before .before .before .args .coordinator .now in
-    by-count s (c .read .result) (whole (c .before .before .before .before .before)) (lettered (c .before .before)) (c .read .ensures)
-    ∙ sym (accepted-made s (λ i. c .before .before .before .before .before .before .before .shared-slice-known .given i .fits))
-
-returns-3 : tie.Need-returns-3
-unfolding ofNumber
-returns-3 c = c .decisions-ok .ensures ∙ (rw (c .before .before .issued .given .1) at (decided (c .before .before .before .before)))
+    let s = c .before .before .before .before .before .args .coordinator .now in
+    let e = kept (c .before .before) in
+    rw e (c .capitals .ensures ∙ ap allCapitals (units-said s e))
 
 pub coordinator-ok-spec : {M : Type 1} → statement M
-unfolding ofNumber
 coordinator-ok-spec =
-    tie.close (tie.spec (λ c κs. search needs) returns slice-aggregate-letters-ok letters-ok-requires returns-2 slice-aggregate-read
-    (λ c κs. search needs) (λ c. search needs) (λ c. search needs) decisions-ok-requires (λ c. search needs) (λ c. search needs) returns-3
-    (λ c. rw (c .enum-told .given .1) at (decided (c .before .before))) (λ c. rw (c .enum-told2 .given .1) at (decided (c .before .before))))
+    tie.close (tie.spec (λ c κs. search needs) returns (λ c. search needs) (λ c. search needs) part-capitals-end (λ c κs. search needs) returns-2)

@@ -2,14 +2,15 @@
 use Rattle.lists.specs.Basics.{sym, _∙_, needs}
 use Rattle.model.specs.Operations as operations
 use Rattle.call_laws.specs.Accepted.{accepted}
-use Rattle.engine.specs.Closing.{close-turned-away, close-let-pass}
+use Rattle.cores.specs.Answers.{toClosed}
+use Rattle.engine.specs.Responses.{turned-away-as, let-pass-as}
 use Rattle.engine.proofs.close.Statement.{statement}
 use Rattle.engine.proofs.close.Tie as tie
 
 returns : tie.Need-returns
 returns c =
     let a = c .before .before .before .before .before .before .before .args in
-    close-turned-away (operations.close (a .t) (a .clock) (a .limit)) (a .t) (a .records .now) (a .coordinator .now) _ (c .before .before .check .ensures)
+    turned-away-as (toClosed (a .t)) (operations.close (a .t) (a .clock) (a .limit)) (a .records .now) (a .coordinator .now) _ (c .before .before .check .ensures)
     (c .before .if1 .taken) (c .refusal .ensures)
 
 close-requires : tie.Need-close-requires
@@ -20,7 +21,7 @@ close-requires c κs =
 returns-2 : tie.Need-returns-2
 returns-2 c =
     let a = c .before .before .before .before .before .before .before .before .before .before .before .before .before .args in
-    close-let-pass (operations.close (a .t) (a .clock) (a .limit)) (a .t) (a .records .now) (a .coordinator .now)
+    let-pass-as (toClosed (a .t)) (operations.close (a .t) (a .clock) (a .limit)) (a .records .now) (a .coordinator .now)
     (sym (c .before .before .before .before .before .before .before .before .check .ensures) ∙
     c .before .before .before .before .before .before .before .if1 .left) (c .before .before .before .before .close .ensures)
 

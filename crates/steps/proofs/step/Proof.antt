@@ -1,6 +1,6 @@
 -- By the phase; in done, or in no phase, nothing is done.
 use Rattle.lists.specs.Basics.{refl, needs}
-use Rattle.steps.specs.Ready.{records-accepted, coordinator-accepted, known}
+use Rattle.steps.specs.Ready.{records-accepted, coordinator-readable, known}
 use Rattle.steps.specs.Stepped.{wrote-nothing}
 use Rattle.steps.specs.Cases.{stepped-as, step-at, step-none}
 use Rattle.steps.proofs.step.Statement.{statement}
@@ -35,12 +35,12 @@ returns-8 : tie.Need-returns-8
 returns-8 c =
     stepped-as (step-at _ _ _ 7 (c .before .match .keys8))
     (wrote-nothing _ _ (records-accepted _ _ _ _ (c .before .before .before .before .pre))
-    (coordinator-accepted _ _ _ _ (c .before .before .before .before .pre)) _ _ (c .done .ensures))
+    (coordinator-readable _ _ _ _ (c .before .before .before .before .pre)) _ _ (c .done .ensures))
 
 returns-9 : tie.Need-returns-9
 returns-9 c =
     stepped-as (step-none _ _ _ (c .match .rest .0))
-    (wrote-nothing _ _ (records-accepted _ _ _ _ (c .before .before .before .pre)) (coordinator-accepted _ _ _ _ (c .before .before .before .pre)) _ _ refl)
+    (wrote-nothing _ _ (records-accepted _ _ _ _ (c .before .before .before .pre)) (coordinator-readable _ _ _ _ (c .before .before .before .pre)) _ _ refl)
 
 pub step-spec : {M : Type 1} → statement M
 step-spec =

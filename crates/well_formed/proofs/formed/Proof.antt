@@ -11,8 +11,8 @@ entries-formed-requires c κs = let s = c .before in head-few (s .args .issued) 
 distinct-keys-requires : tie.Need-distinct-keys-requires
 distinct-keys-requires c κs = let s = c .before .before in head-few (s .args .issued) (s .args .t) (s .pre .0)
 
-phase-formed-requires : tie.Need-phase-formed-requires
-phase-formed-requires c κs = let s = c .before .before .before in head-few (s .args .issued) (s .args .t) (s .pre .0)
+decide-formed-requires : tie.Need-decide-formed-requires
+decide-formed-requires c κs = let s = c .before .before .before in head-few (s .args .issued) (s .args .t) (s .pre .0)
 
 place-formed-requires : tie.Need-place-formed-requires
 place-formed-requires c κs = let s = c .before .before .before .before in (head-few (s .args .issued) (s .args .t) (s .pre .0), s .pre .1)
@@ -20,9 +20,9 @@ place-formed-requires c κs = let s = c .before .before .before .before in (head
 returns : tie.Need-returns
 returns c =
     let s = c .before .before .before .before .before .before in
-    rw (c .before .before .before .before .entries-formed .ensures, c .before .before .before .distinct-keys .ensures, c .before .before .phase-formed .ensures, c .before .place-formed .ensures, c .verdict-formed .ensures)
+    rw (c .before .before .before .before .entries-formed .ensures, c .before .before .before .distinct-keys .ensures, c .before .before .decide-formed .ensures, c .before .place-formed .ensures, c .verdict-formed .ensures)
     (formed-rest (unitsIn (s .args .letters .now)) (s .args .issued) (s .args .t) (s .pre .0))
 
 pub formed-spec : {M : Type 1} → statement M
 formed-spec =
-    tie.close (tie.spec entries-formed-requires distinct-keys-requires phase-formed-requires place-formed-requires (λ c κs. search needs) returns)
+    tie.close (tie.spec entries-formed-requires distinct-keys-requires decide-formed-requires place-formed-requires (λ c κs. search needs) returns)

@@ -5,7 +5,8 @@ use Rattle.model.specs.ByteCalls.{sheetsOf}
 use Rattle.call_laws.specs.Accepted.{outcome-refused}
 use Rattle.admission.specs.Admission.{formed-by, located-by, admitted-ready}
 use Rattle.cores.specs.Answers.{toReturned}
-use Rattle.cores.specs.Advancing.{forbids, advance-ill, advance-forbidden, step-outcome}
+use Rattle.well_formed.specs.Barred.{forbids}
+use Rattle.cores.specs.Advancing.{advance-ill, advance-forbidden, step-outcome}
 use Rattle.cores.proofs.advance.advance.Statement.{statement}
 use Rattle.cores.proofs.advance.advance.Tie as tie
 
@@ -38,7 +39,7 @@ step-requires c κs =
     (c .before .before .before .before .before .before .before .before .before .before .before .before .before .before .good .0) _
     (located-by s (a .t) (c .before .before .before .before .before .before .before .before .before .admit .ensures) f) f in
     record {
-      passing = c .before .before .before .before .before .before .before .before .before .before .before .before .before .before .pre .passing;
+      readable = c .before .before .before .before .before .before .before .before .before .before .before .before .before .before .pre .readable;
       formed = f;
       indexed = r .0;
       grouped = r .1;

@@ -1,5 +1,4 @@
 -- By what the visit came to.
-
 use Rattle.lists.specs.Basics.{needs}
 use Rattle.cores.proofs.read.read_met.Statement.{statement}
 use Rattle.cores.proofs.read.read_met.Tie as tie

@@ -8,13 +8,16 @@ use Rattle.group_writes.proofs.groups.entry_holds.Tie as tie
 
 returns : tie.Need-returns
 returns c =
-    let a = c .before .before .args in
-    λ cs. other-group (a .own) (holds (sheetsOf (a .records .now) cs) (a .e)) (not-true _ (c .if1 .taken))
+    let a = c .before .before .before .args in
+    λ cs u. other-group (a .own) (holds (sheetsOf (a .records .now) cs) (a .e)) (not-true _ (c .if1 .taken))
+
+holds-requires : tie.Need-holds-requires
+holds-requires c κs = c .before .before .before .pre
 
 returns-2 : tie.Need-returns-2
 returns-2 c =
-    let a = c .before .before .before .args in
-    λ cs. c .holds .ensures cs ∙ own-group (a .own) (holds (sheetsOf (a .records .now) cs) (a .e)) (not-false _ (c .before .if1 .left))
+    let a = c .before .before .before .before .args in
+    λ cs u. c .holds .ensures cs u ∙ own-group (a .own) (holds (sheetsOf (a .records .now) cs) (a .e)) (not-false _ (c .before .if1 .left))
 
 pub entry-holds-spec : {M : Type 1} → statement M
-entry-holds-spec = tie.close (tie.spec returns (λ c κs. c .before .before .pre) returns-2)
+entry-holds-spec = tie.close (tie.spec returns holds-requires returns-2)

@@ -1,7 +1,7 @@
 -- By the conditions in order; where none holds, what was filled is what the coordinator's numbers are.
 use Rattle.lists.specs.Basics.{sym, ap, _∙_, ℕ, _+_, length-drop, arith, not-true, not-false, needs}
 use Rattle.model.specs.Layouts.{coordinatorBytes, headFields}
-use Rattle.sheet_laws.specs.Decisions.{accepted-length}
+use Rattle.sheet_laws.specs.Decisions.{accepted-parts, readable-length}
 use Rattle.numbers.specs.DecisionAnswers.{read-misfit, read-bad, read-done}
 use Rattle.numbers.proofs.decisions.read_coordinator.Statement.{statement}
 use Rattle.numbers.proofs.decisions.read_coordinator.Tie as tie
@@ -20,7 +20,7 @@ returns-2 c =
     read-bad (a .coordinator .now) (a .numbers .now) (c .before .before .if1 .left ∙ ap (λ (n : ℕ). headFields + n) (c .before .before .before .count .ensures)) (sym (c .before .coordinator-ok .ensures) ∙ not-true _ (c .if2 .taken))
 
 fill-numbers-requires : tie.Need-fill-numbers-requires
-fill-numbers-requires c κs = (accepted-length (c .before .before .before .before .before .before .before .args .coordinator .now) (sym (c .before .before .coordinator-ok .ensures) ∙ not-false _ (c .before .if2 .left)), c .before .before .before .if1 .left ∙ ap (λ (n : ℕ). headFields + n) (c .before .before .before .before .count .ensures))
+fill-numbers-requires c κs = (readable-length (c .before .before .before .before .before .before .before .args .coordinator .now) (accepted-parts _ (sym (c .before .before .coordinator-ok .ensures) ∙ not-false _ (c .before .if2 .left)) .0), c .before .before .before .if1 .left ∙ ap (λ (n : ℕ). headFields + n) (c .before .before .before .before .count .ensures))
 
 returns-3 : tie.Need-returns-3
 returns-3 c =

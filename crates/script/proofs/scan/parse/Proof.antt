@@ -5,10 +5,11 @@ use Rattle.script.proofs.scan.parse.Statement.{statement}
 use Rattle.script.proofs.scan.parse.Tie as tie
 
 returns : tie.Need-returns
-returns c = let s = c .before .before .before .before .before .before .args .line .now in
+returns c = let a = c .before .before .before .before .before .before .args in
+    let s = a .line .now in
     let end = c .before .before .before .before .end-of .result in
     let e : end ≡ length (upTo 32 s) = omega arith in
-    c .called .ensures ∙ (ap₂ called (c .before .before .kind-of .ensures) (c .before .numbers-after .ensures) ∙ said-read s end e)
+    c .called .ensures ∙ (ap₂ (called (a .two)) (c .before .before .kind-of .ensures) (c .before .numbers-after .ensures) ∙ said-read (a .two) s end e)
 
 pub parse-spec : {M : Type 1} → statement M
 parse-spec =

@@ -1,5 +1,6 @@
 -- Case by case in the order of the refusals.
 use Rattle.lists.specs.Basics.{sym, _∙_, not-true, not-false, needs}
+use Rattle.sheet_laws.specs.Decisions.{accepted-parts}
 use Rattle.sheets.specs.Answers.{check-bad, check-coordinator, check-unissued, check-good}
 use Rattle.sheets.proofs.check.check.Statement.{statement}
 use Rattle.sheets.proofs.check.check.Tie as tie
@@ -15,7 +16,7 @@ returns-2 c =
     check-coordinator (a .records .now) (a .coordinator .now) (sym (c .before .before .before .records-ok .ensures) ∙ not-false _ (c .before .before .if1 .left)) (sym (c .before .coordinator-ok .ensures) ∙ not-true _ (c .if2 .taken))
 
 all-issued-requires : tie.Need-all-issued-requires
-all-issued-requires c κs = (sym (c .before .before .before .records-ok .ensures) ∙ not-false _ (c .before .before .if1 .left), sym (c .before .coordinator-ok .ensures) ∙ not-false _ (c .if2 .left))
+all-issued-requires c κs = (sym (c .before .before .before .records-ok .ensures) ∙ not-false _ (c .before .before .if1 .left), accepted-parts _ (sym (c .before .coordinator-ok .ensures) ∙ not-false _ (c .if2 .left)) .0)
 
 returns-3 : tie.Need-returns-3
 returns-3 c =

@@ -1,6 +1,6 @@
 -- By whether the conditions hold.
 use Rattle.lists.specs.Basics.{refl, sym, _∙_, needs}
-use Rattle.steps.specs.Ready.{records-accepted, coordinator-accepted, may-write}
+use Rattle.steps.specs.Ready.{records-accepted, coordinator-readable, may-write}
 use Rattle.steps.specs.Stepped.{wrote-nothing, wrote-lines}
 use Rattle.model.specs.Writes.{decisionsAfter}
 use Rattle.steps.specs.Cases.{stepped-as, one-phase-fails, one-phase-commits}
@@ -17,13 +17,13 @@ returns c =
     stepped-as
     (one-phase-commits _ _
     (sym (c .before .before .before .before .before .before .group-holds .ensures) ∙ c .before .before .before .before .before .if1 .taken))
-    (wrote-lines _ _ _ refl (coordinator-accepted _ _ _ _ (c .before .before .before .before .before .before .before .before .before .before .pre)) _ _ _
+    (wrote-lines _ _ _ refl (coordinator-readable _ _ _ _ (c .before .before .before .before .before .before .before .before .before .before .pre)) _ _ _
     (c .commits .ensures) (c .before .before .before .commit-group .ensures))
 
 returns-2 : tie.Need-returns-2
 returns-2 c = stepped-as (one-phase-fails _ _ (sym (c .before .before .group-holds .ensures) ∙ c .before .if1 .left))
     (wrote-nothing _ _ (records-accepted _ _ _ _ (c .before .before .before .before .before .before .pre))
-    (coordinator-accepted _ _ _ _ (c .before .before .before .before .before .before .pre)) _ _ (c .to-phase .ensures))
+    (coordinator-readable _ _ _ _ (c .before .before .before .before .before .before .pre)) _ _ (c .to-phase .ensures))
 
 pub one-phase-spec : {M : Type 1} → statement M
 one-phase-spec =

@@ -1,9 +1,12 @@
--- The definition, with the number of groups at hand.
-use Rattle.lists.specs.Basics.{sym}
+-- The definition, with the number of groups and the letters at hand.
 use Rattle.model.specs.Steps.{onePhaseAllowed}
+use borrow.Author.Needs.{needs}
 use Rattle.steps.proofs.phases.one_phase_allowed.Statement.{statement}
 use Rattle.steps.proofs.phases.one_phase_allowed.Tie as tie
 
-pub one-phase-allowed-spec : {M : Type 1} → statement M
+returns : tie.Need-returns
 unfolding onePhaseAllowed
-one-phase-allowed-spec = tie.close (tie.spec (λ c. λ s e. rw (sym e)))
+returns c = λ s e u. rw (c .holds-lower .ensures, u, ← e)
+
+pub one-phase-allowed-spec : {M : Type 1} → statement M
+one-phase-allowed-spec = tie.close (tie.spec (λ c κs. search needs) returns)

@@ -1,7 +1,7 @@
 -- By whether the conditions hold.
 use Rattle.lists.specs.Basics.{refl, sym, ap, _∙_, ℕ, arith, not-true, not-false, needs}
-use Rattle.sheet_laws.specs.Decisions.{accepted-length}
-use Rattle.steps.specs.Ready.{records-accepted, coordinator-accepted, few, units, may-write, place-prepare}
+use Rattle.sheet_laws.specs.Decisions.{readable-length}
+use Rattle.steps.specs.Ready.{records-accepted, coordinator-readable, few, units, may-write, place-prepare}
 use Rattle.steps.specs.Stepped.{wrote-nothing, wrote-lines}
 use Rattle.model.specs.Writes.{decisionsAfter}
 use Rattle.steps.specs.Cases.{stepped-as, prepare-fails, prepare-writes}
@@ -16,7 +16,7 @@ group-holds-requires c κs = may-write _ _ _ _ (c .before .before .before .pre .
 returns : tie.Need-returns
 returns c = stepped-as (prepare-fails _ _ _ (sym (c .before .before .group-holds .ensures) ∙ not-true _ (c .before .if1 .taken)))
     (wrote-nothing _ _ (records-accepted _ _ _ _ (c .before .before .before .before .before .before .pre .0))
-    (coordinator-accepted _ _ _ _ (c .before .before .before .before .before .before .pre .0)) _ _ (c .to-phase .ensures))
+    (coordinator-readable _ _ _ _ (c .before .before .before .before .before .before .pre .0)) _ _ (c .to-phase .ensures))
 
 prepare-group-requires : tie.Need-prepare-group-requires
 prepare-group-requires c κs = (
@@ -27,7 +27,7 @@ prepare-group-requires c κs = (
 
 part-after-prepare-end : tie.Need-part-after-prepare-end
 part-after-prepare-end c =
-    omega (arith, accepted-length _ (coordinator-accepted _ _ _ _ (c .before .before .before .before .before .before .before .before .before .pre .0)))
+    omega (arith, readable-length _ (coordinator-readable _ _ _ _ (c .before .before .before .before .before .before .before .before .before .pre .0)))
 
 after-prepare-requires : tie.Need-after-prepare-requires
 after-prepare-requires c κs = few _ _ _ _ (c .before .before .before .before .before .before .before .before .before .before .pre .0)
@@ -47,7 +47,7 @@ returns-2 c =
     (prepare-writes _ _ _
     (sym (c .before .before .before .before .before .before .before .before .group-holds .ensures) ∙ not-false _
     (c .before .before .before .before .before .before .before .if1 .left)))
-    (wrote-lines _ _ _ refl (coordinator-accepted _ _ _ _ p) _ _ _
+    (wrote-lines _ _ _ refl (coordinator-readable _ _ _ _ p) _ _ _
     (c .next-group .ensures _ (p .grouped .count) ∙ ap (λ (q : ℕ). nextGroup q (a .t) s) (rw (units _ _ _ _ p) at (c .before .after-prepare .ensures)))
     (c .before .before .before .before .before .prepare-group .ensures))
 

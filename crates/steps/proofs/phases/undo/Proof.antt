@@ -1,6 +1,6 @@
 -- The group's lines are written, and the next group comes.
 use Rattle.lists.specs.Basics.{refl, needs}
-use Rattle.steps.specs.Ready.{coordinator-accepted, may-write, place-undo}
+use Rattle.steps.specs.Ready.{coordinator-readable, may-write, place-undo}
 use Rattle.steps.specs.Stepped.{wrote-lines}
 use Rattle.model.specs.Writes.{decisionsAfter}
 use Rattle.model.specs.Steps.{undoStep}
@@ -13,7 +13,7 @@ next-group-requires c κs = let p = c .before .before .before .before .before .b
 returns : tie.Need-returns
 unfolding undoStep decisionsAfter
 returns c =
-    wrote-lines _ _ _ refl (coordinator-accepted _ _ _ _ (c .before .before .before .before .before .before .before .pre .0)) _ _ _
+    wrote-lines _ _ _ refl (coordinator-readable _ _ _ _ (c .before .before .before .before .before .before .before .pre .0)) _ _ _
     (c .next-group .ensures _ (c .before .before .before .before .before .before .before .pre .0 .grouped .count))
     (c .before .before .before .back-group .ensures)
 

@@ -1,16 +1,16 @@
 -- By whether the entry's condition holds; nothing is written.
 use Rattle.lists.specs.Basics.{sym, ap, _∙_, arith, not-true, not-false, needs}
 use Rattle.model.specs.Types.{At}
-use Rattle.sheet_laws.specs.Decisions.{accepted-length}
+use Rattle.sheet_laws.specs.Decisions.{readable-length}
 use Rattle.group_writes.specs.Located.{indexed-in}
-use Rattle.steps.specs.Ready.{records-accepted, coordinator-accepted, few, units, place-validate, validate-held}
+use Rattle.steps.specs.Ready.{records-accepted, coordinator-readable, few, units, place-validate, validate-held}
 use Rattle.steps.specs.Stepped.{wrote-nothing}
 use Rattle.steps.specs.Cases.{stepped-as, validate-fails, validate-passes}
 use Rattle.steps.proofs.phases.validate.Statement.{statement}
 use Rattle.steps.proofs.phases.validate.Tie as tie
 
 part-letters-end : tie.Need-part-letters-end
-part-letters-end c = omega (arith, accepted-length _ (coordinator-accepted _ _ _ _ (c .before .before .pre .0)))
+part-letters-end c = omega (arith, readable-length _ (coordinator-readable _ _ _ _ (c .before .before .pre .0)))
 
 holds-requires : tie.Need-holds-requires
 holds-requires c κs =
@@ -28,8 +28,8 @@ returns c =
     stepped-as
     (validate-fails _ _
     (rw (c .before .before .before .before .before .to-validate .ensures, units _ _ _ _ p) at
-    (sym (c .before .before .holds .ensures (a .coordinator .now)) ∙ not-true _ (c .before .if1 .taken))))
-    (wrote-nothing _ _ (records-accepted _ _ _ _ p) (coordinator-accepted _ _ _ _ p) _ _ (c .to-phase .ensures))
+    (sym (c .before .before .holds .ensures (a .coordinator .now) (units _ _ _ _ p)) ∙ not-true _ (c .before .if1 .taken))))
+    (wrote-nothing _ _ (records-accepted _ _ _ _ p) (coordinator-readable _ _ _ _ p) _ _ (c .to-phase .ensures))
 
 next-entry-requires : tie.Need-next-entry-requires
 next-entry-requires c κs =
@@ -43,8 +43,8 @@ returns-2 c =
     stepped-as
     (validate-passes _ _
     (rw (c .before .before .before .before .before .to-validate .ensures, units _ _ _ _ p) at
-    (sym (c .before .before .holds .ensures (a .coordinator .now)) ∙ not-false _ (c .before .if1 .left))))
-    (wrote-nothing _ _ (records-accepted _ _ _ _ p) (coordinator-accepted _ _ _ _ p) _ _ (rw (units _ _ _ _ p) at (c .next-entry .ensures)))
+    (sym (c .before .before .holds .ensures (a .coordinator .now) (units _ _ _ _ p)) ∙ not-false _ (c .before .if1 .left))))
+    (wrote-nothing _ _ (records-accepted _ _ _ _ p) (coordinator-readable _ _ _ _ p) _ _ (rw (units _ _ _ _ p) at (c .next-entry .ensures)))
 
 pub validate-spec : {M : Type 1} → statement M
 validate-spec =

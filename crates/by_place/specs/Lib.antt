@@ -1,0 +1,3 @@
+-- What C asks of a call by place and is answered, as numbers.
+pub mod Numbers
+pub mod Asked

@@ -1,0 +1,2 @@
+-- The answers of one function for every call.
+pub mod Performing

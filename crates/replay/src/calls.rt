@@ -1,0 +1,80 @@
+// The calls of a history on the record sheet and the coordinator sheet, each by the engine's.
+ghost use mathlib.Core.Path.{_≡_};
+ghost use Prim.Native.Nat.{_≤_};
+ghost use Rattle.model.specs.SheetCalls.{lookedUp};
+ghost use Rattle.script_calls.specs.Parts.{keyFrom, partAsked};
+use script::reply;
+use script::reply::Form;
+use script::reply::Reply;
+use script::scan::Command;
+use script::scan::Kind;
+use script_calls::calls;
+use script_calls::calls::Asked;
+use script_calls::slots;
+use script_calls::slots::Turn;
+use types::Found;
+use types::Transaction;
+
+fn check(records: &[u8], coordinator: &[u8]) -> Reply
+    ensures { λ r. ⌜ r .count ≤ 102 ⌝ }
+{
+    reply::unless_refused(sheets::check::check(records, coordinator), calls::ok())
+}
+
+fn lookup(n: [u32; 14], records: &[u8]) -> Reply
+    ensures { λ r. ⌜ r .count ≤ 102 ⌝ }
+{
+    let key = calls::key_at(n, 0);
+    let refused = sheets::lookup::lookup_refusal(records, key);
+    if refused != 0 {
+        return reply::refused(refused);
+    }
+    match sheets::lookup::find(records, key) {
+        Found::At(i) => reply::answer(Form::Made, 1, i as u32, 0, 0),
+        Found::Nothing => reply::refused(6),
+    }
+}
+
+// What is printed after the reply: the part of the record sheet that the look-up hands back, and an empty part for a call that asks for none.
+pub fn part(c: Command, records: &[u8]) -> &[u8]
+    ensures { λ r. ⌜ now r ≡ partAsked c (lookedUp (now (records .entry)) (keyFrom (c .numbers) 0)) ⌝ }
+{
+    let kind = c.kind;
+    let n = c.numbers;
+    if !calls::asks_line(kind) {
+        return &records[..0];
+    }
+    sheets::lookup::lookup(records, calls::key_at(n, 0))
+}
+
+// A line that asks for a call on a transaction or a visit, or for none.
+fn perform(c: Command, slots: [Transaction; 16], records: &mut [u8], coordinator: &mut [u8]) -> Turn
+    ensures { λ r. ⌜ r .reply .count ≤ 102 ⌝ }
+{
+    match calls::request(c) {
+        Asked::Call(request) => {
+            let t = slots::taken(c, slots);
+            slots::performed(c, slots, engine::perform(request, t, records, coordinator))
+        }
+        Asked::Nothing => slots::replied(c, slots),
+    }
+}
+
+// What a line leaves, and its reply.
+pub fn run(c: Command, slots: [Transaction; 16], records: &mut [u8], coordinator: &mut [u8]) -> Turn
+    ensures { λ r. ⌜ r .reply .count ≤ 102 ⌝ }
+{
+    let kind = c.kind;
+    let n = c.numbers;
+    match kind {
+        Kind::Check => Turn {
+            slots,
+            reply: check(records, coordinator),
+        },
+        Kind::Lookup => Turn {
+            slots,
+            reply: lookup(n, records),
+        },
+        _ => perform(c, slots, records, coordinator),
+    }
+}

@@ -1,0 +1,177 @@
+-- "An atomic write goes to both, within one unit." The joined sheet has this law already (turns), letters of either case; a line of either sheet is the part of the
+-- line joined, and says its key. So a line that stays joined stays in both parts.
+use Rattle.lists.specs.Basics.{_≡_, refl, sym, ap, subst, _∙_, ℕ, _+_, _*_, _/_, _^_, _≤_, _<_, eqb, ltb, Bool, true, false, List, [], map, length, take, getD}
+use Rattle.lists.specs.Basics.{length-map, length-take, length-drop, drop-of-length-le, List·getD-map, arith, eqb-true, ltb-true, ltb-false, joined}
+use native.Mathlib.Nat.{mul-le-mul-right}
+use Rattle.lists.specs.All.{all-of, getD-any}
+use Rattle.lists.specs.Pieces.{AllOf, length-pieces, pieces-joined, length-joined, getD-pieces}
+use Rattle.model.specs.Types.{Key, Record, Transaction, At}
+use Rattle.model.specs.Layouts.{recordBytes}
+use Rattle.model.specs.Lines.{linesOf}
+use Rattle.model.specs.Records.{recordIn}
+use Rattle.model.specs.Coordinator.{Letter, coordinatorOf}
+use Rattle.model.specs.Groups.{scope}
+use Rattle.model.specs.Refusals.{refusalOf}
+use Rattle.model.specs.SheetCalls.{lineAt}
+use Rattle.model.specs.Writes.{Sheets}
+use Rattle.model.specs.Results.{Call, answerOf}
+use Rattle.model.specs.Histories.{ClockFits}
+use Rattle.model.specs.ByteHistories.{Bytes, Readable}
+use Rattle.model.specs.Closing.{Run, closeConditions}
+use Rattle.model.specs.Operations.{once, writesOnce, standsFor, closeRun, ended, coordinatorLeft}
+use Rattle.model.specs.Turns.{Turn, single, turnCall, turnWritesOnce, turnAfter}
+use Rattle.model.specs.TwoSheets.{plainBytes, bookkeepingBytes, plainLine, bookkeepingLine, plainPart, bookkeepingPart, plainRecord, bookkeepingRecord, lineOfSheet}
+use Rattle.model.specs.TwoCalls.{TwoBytes, sayingTwo, conditionsOf, PassingTwo, responseTwo, plainLeft, bookkeepingLeft, twoLeft, afterTwo, turnResponseTwo}
+use Rattle.model.specs.TwoCalls.{turnAfterTwo}
+use Rattle.model.specs.Closes.{NextWrite, nothing-more, one-write-more, NextLimitTwo}
+use Rattle.model.specs.AtomicWrites.{OneUnit, lines-of-one-unit, coordinator-only, KeepsOthers, OneUnitTwo, lines-of-one-unit-two, coordinator-only-two}
+use Rattle.call_laws.specs.Lifting.{readable-both, readable-good, encoded, encoded-readable}
+use Rattle.turns.specs.Operations.{close-sound}
+use Rattle.turns.specs.Turns.{turn-stays-readable}
+use Rattle.turns.specs.Units.{readable-unit}
+use Rattle.turns.specs.Closes.{next-by, run-next}
+use Rattle.two_laws.specs.Deciding.{whole}
+use Rattle.two_laws.specs.FilledSheets.{lines-wide}
+use Rattle.two_laws.specs.TwoLines.{plainOf, bookkeepingOf, joined-plain-record, joined-bookkeeping-record, join-back, parts-agree, length-plainLine}
+use Rattle.two_laws.specs.TwoLines.{length-bookkeepingLine}
+use Rattle.two_laws.specs.Decision.{accepted-whole}
+use Rattle.two_laws.specs.Encoding.{joinedBytes, split-join, passing-joined}
+use Rattle.two_turns.specs.Turns.{turn-two}
+
+-- either part of a record line says its fields
+pub plain-says : (l : List ℕ) → length l ≡ recordBytes → plainRecord (plainLine l) ≡ plainOf (recordIn l)
+plain-says l h =
+    joined-plain-record (plainLine l) (bookkeepingLine l) (length-plainLine l h) (length-bookkeepingLine l h) (parts-agree l h)
+    ∙ ap (λ (x : List ℕ). plainOf (recordIn x)) (join-back l h)
+
+bookkeeping-says : (l : List ℕ) → length l ≡ recordBytes → bookkeepingRecord (bookkeepingLine l) ≡ bookkeepingOf (recordIn l)
+bookkeeping-says l h =
+    joined-bookkeeping-record (plainLine l) (bookkeepingLine l) (length-plainLine l h) (length-bookkeepingLine l h)
+    ∙ ap (λ (x : List ℕ). bookkeepingOf (recordIn x)) (join-back l h)
+
+-- so it has its key
+plain-key : (l : List ℕ) → length l ≡ recordBytes → plainRecord (plainLine l) .key ≡ recordIn l .key
+plain-key l h = ap (λ (r : Record). r .key) (plain-says l h)
+
+bookkeeping-key : (l : List ℕ) → length l ≡ recordBytes → bookkeepingRecord (bookkeepingLine l) .key ≡ recordIn l .key
+bookkeeping-key l h = ap (λ (r : Record). r .key) (bookkeeping-says l h)
+
+-- A part of every line, of w bytes, that says its key.
+module _ (w : ℕ) (part : List ℕ → List ℕ) (keyIn : List ℕ → Key)
+    (wide : (l : List ℕ) → length l ≡ recordBytes → length (part l) ≡ w) (key : (l : List ℕ) → length l ≡ recordBytes → keyIn (part l) ≡ recordIn l .key) where
+  abbrev parts : List ℕ → List ℕ
+  parts s = joined (map part (linesOf recordBytes s))
+
+  module _ (s : List ℕ) (h : whole recordBytes s ≡ true) where
+    abbrev lines : List (List ℕ)
+    lines = linesOf recordBytes s
+
+    all-wide : AllOf w (map part lines)
+    all-wide = all-of w (λ (x : List ℕ). eqb (length x) recordBytes) part (λ x e. wide x (eqb-true (length x) recordBytes e)) lines (lines-wide recordBytes s h)
+
+    count : length (map part lines) ≡ length s / recordBytes
+    unfolding linesOf
+    count = length-map lines part ∙ length-pieces recordBytes (length s / recordBytes) s
+
+    size-of : length (parts s) ≡ length s / recordBytes * w
+    size-of = length-joined w (map part lines) all-wide ∙ ap (λ (n : ℕ). n * w) count
+
+    -- line i of the parts is the part of line i
+    line-of : (i : ℕ) → i < length s / recordBytes → lineOfSheet w (parts s) (At i) ≡ part (lineAt s (At i))
+    unfolding lineOfSheet lineAt linesOf
+    line-of i l =
+        let k : i < length (map part lines) = omega (arith, count) in
+        sym (getD-pieces w i (length (map part lines)) (parts s) k)
+        ∙ (ap (λ (x : List (List ℕ)). getD x i []) (pieces-joined w (map part lines) all-wide)
+        ∙ (getD-any (map part lines) i [] (part []) k
+        ∙ (List·getD-map part lines i [] ∙ ap part (getD-pieces recordBytes i (length s / recordBytes) s l))))
+
+    -- and each is a whole line
+    line-wide : (i : ℕ) → i < length s / recordBytes → length (lineAt s (At i)) ≡ recordBytes
+    unfolding lineAt
+    line-wide i l =
+        let n : length s ≡ length s / recordBytes * recordBytes = eqb-true (length s) (length s / recordBytes * recordBytes) h in
+        simp (length-take, length-drop) (omega (arith, n))
+
+    line-past : (i : ℕ) → length s / recordBytes ≤ i → lineOfSheet w (parts s) (At i) ≡ take w []
+    unfolding lineOfSheet
+    line-past i l =
+        let m : length s / recordBytes * w ≤ i * w = mul-le-mul-right w l in
+        let k : length (parts s) ≤ i * w = omega (arith, size-of, m) in
+        ap (take w) (drop-of-length-le (parts s) k)
+
+  -- lines outside one unit keep their bytes in the parts, if they do so joined
+  keeps : (units : List Letter) (unit : List ℕ) (s s′ : List ℕ) → whole recordBytes s ≡ true → whole recordBytes s′ ≡ true → length s′ ≡ length s
+      → ((i : ℕ) → (scope units (recordIn (lineAt s (At i)) .key) ≡ unit → ⊥) → lineAt s′ (At i) ≡ lineAt s (At i))
+      → KeepsOthers units unit w keyIn (parts s) (parts s′)
+  keeps units unit s s′ h h′ n f =
+      record { size = size-of s′ h′ ∙ (ap (λ (k : ℕ). k / recordBytes * w) n ∙ sym (size-of s h)); others = λ i d. go i d (ltb i (length s / recordBytes)) refl }
+    where
+      go : (i : ℕ) → (scope units (keyIn (lineOfSheet w (parts s) (At i))) ≡ unit → ⊥) → (x : Bool) → ltb i (length s / recordBytes) ≡ x
+          → lineOfSheet w (parts s′) (At i) ≡ lineOfSheet w (parts s) (At i)
+      go i d true e =
+          let l : i < length s / recordBytes = ltb-true i (length s / recordBytes) e in
+          let k : keyIn (lineOfSheet w (parts s) (At i)) ≡ recordIn (lineAt s (At i)) .key = ap keyIn (line-of s h i l) ∙ key (lineAt s (At i)) (line-wide s h i l) in
+          line-of s′ h′ i (omega (arith, n)) ∙ (ap part (f i (λ q. d (ap (scope units) k ∙ q))) ∙ sym (line-of s h i l))
+      go i d false e =
+          let l : length s / recordBytes ≤ i = ltb-false i (length s / recordBytes) e in
+          line-past s′ h′ i (omega (arith, n)) ∙ sym (line-past s h i l)
+
+-- both parts of a record sheet, beside the coordinator sheet
+abbrev apart : Bytes → TwoBytes
+apart b = record { plain = plainPart (b .records); bookkeeping = bookkeepingPart (b .records); coordinator = b .coordinator }
+
+-- a write in one unit goes to both parts in that unit
+unit-apart : (b a : Bytes) → whole recordBytes (b .records) ≡ true → whole recordBytes (a .records) ≡ true → OneUnit b a → OneUnitTwo (apart b) (apart a)
+unfolding plainPart bookkeepingPart
+unit-apart b a h h′ (lines-of-one-unit unit c n f) =
+    let us = coordinatorOf (b .coordinator) .units in
+    lines-of-one-unit-two unit c
+    (keeps plainBytes plainLine (λ (l : List ℕ). plainRecord l .key) length-plainLine plain-key us unit (b .records) (a .records) h h′ n f)
+    (keeps bookkeepingBytes bookkeepingLine (λ (l : List ℕ). bookkeepingRecord l .key) length-bookkeepingLine bookkeeping-key us unit (b .records) (a .records) h h′ n f)
+unit-apart b a h h′ (coordinator-only e) = coordinator-only-two (ap plainPart e) (ap bookkeepingPart e)
+
+pub readable-whole : (b : Bytes) → Readable b → whole recordBytes (b .records) ≡ true
+readable-whole b h = accepted-whole (b .records) (readable-both b h .0)
+
+-- sheets that pass are the parts of the joined one
+passing-apart : (b : TwoBytes) → PassingTwo b → apart (joinedBytes b) ≡ b
+passing-apart b h =
+    let s = split-join b (passing-joined b h .lines) in
+    λ i. record { plain = s .0 i; bookkeeping = s .1 i; coordinator = b .coordinator }
+
+-- "An atomic write goes to both, within one unit."
+pub turn-unit-two : (x : Turn) (b : TwoBytes) → turnWritesOnce x ≡ true → ClockFits (turnCall x) → PassingTwo b → OneUnitTwo b (turnAfterTwo x b)
+turn-unit-two x b w l h =
+    let r = passing-joined b h .readable in
+    subst (λ (a : TwoBytes). OneUnitTwo a (turnAfterTwo x b)) (passing-apart b h)
+    (subst (OneUnitTwo (apart (joinedBytes b))) (sym (turn-two x b h))
+    (unit-apart (joinedBytes b) (encoded (turnAfter x (sayingTwo b))) (readable-whole (joinedBytes b) r)
+    (readable-whole (encoded (turnAfter x (sayingTwo b))) (turn-stays-readable x (joinedBytes b) l r .1)) (readable-unit x (joinedBytes b) w l r)))
+
+pub call-unit-two : (c : Call) (b : TwoBytes) → ClockFits c → PassingTwo b → OneUnitTwo b (afterTwo c b)
+unfolding afterTwo turnAfterTwo turnResponseTwo turnWritesOnce writesOnce turnCall standsFor
+call-unit-two c b l h = turn-unit-two (single (once c)) b refl l h
+
+-- A close, "from one limit to the next"
+pub next-limit-two : (t : Transaction) (now limit : ℕ) (b : TwoBytes) → now < 2 ^ 32 → NextLimitTwo t now limit b
+unfolding responseTwo plainLeft bookkeepingLeft coordinatorLeft
+next-limit-two t now limit b fits = next-by OneUnitTwo (twoLeft b) (conditionsOf b) t now limit s (λ h z. go h z (run-next t now limit (joinedBytes b) fits (passing-joined b h .readable) z))
+  where
+    s : Sheets
+    s = sayingTwo b
+
+    run : ℕ → Run
+    run m = closeRun t now m s
+
+    -- what is left is the parts of what the joined sheet would be, which has whole lines
+    whole-at : PassingTwo b → refusalOf (closeConditions t s) ≡ 0 → (m : ℕ) → whole recordBytes (encoded (run m .sheets) .records) ≡ true
+    whole-at h z m =
+        readable-whole (encoded (run m .sheets)) (encoded-readable (run m .sheets) (close-sound t now m s fits (readable-good (joinedBytes b) (passing-joined b h .readable)) z .good) .1)
+
+    go : PassingTwo b → refusalOf (closeConditions t s) ≡ 0
+        → NextWrite OneUnit (answerOf (ended (run limit))) (answerOf (ended (run (limit + 1)))) (encoded (run limit .sheets)) (encoded (run (limit + 1) .sheets))
+        → NextWrite OneUnitTwo (answerOf (ended (run limit))) (answerOf (ended (run (limit + 1)))) (twoLeft b (ended (run limit))) (twoLeft b (ended (run (limit + 1))))
+    go h z (nothing-more e f) = nothing-more e (ap apart f)
+    go h z (one-write-more e u) =
+        one-write-more e (unit-apart (encoded (run limit .sheets)) (encoded (run (limit + 1) .sheets)) (whole-at h z limit) (whole-at h z (limit + 1)) u)
