@@ -34,9 +34,9 @@ wrong:
 ## what is built, held from outside: histories, visits, streams, client-test and differ
 outside: histories visits streams client-test differ
 
-## the programs replay and visitor, proved and built in target/bin
+## the programs replay, replay_two and visitor, proved and built in target/bin
 programs:
-	@tools/quiet.sh programs rt check replay visitor
+	@tools/quiet.sh programs rt check replay replay_two visitor
 
 ## the learners' histories, and what the replay program must print of each
 histories: programs

@@ -2,8 +2,8 @@
 
 use crate::make::Sheets;
 use crate::plain::by_place::{self, Asked};
-use crate::plain::calls;
 use crate::plain::key::Key;
+use crate::plain::request::{Answer, Request};
 use crate::plain::store::Visit;
 use crate::plain::transaction::Transaction;
 use crate::plain::written::written;
@@ -59,6 +59,14 @@ fn visit_number(visit: Visit) -> u32 {
     }
 }
 
+/// What a begin or a visit gives: the number issued, or what was done.
+fn answer_number(answer: Answer) -> u32 {
+    match answer {
+        Answer::Visited(visit) => visit_number(visit),
+        Answer::Returned(t) | Answer::Read(t, _) | Answer::Closed(t, _) => t.number,
+    }
+}
+
 pub fn by_plain(call: &Call, lent: &mut Lent) -> u32 {
     let Sheets {
         records,
@@ -66,9 +74,18 @@ pub fn by_plain(call: &Call, lent: &mut Lent) -> u32 {
     } = &mut lent.sheets;
     match call {
         Call::Check => plain::check(records, coordinator),
-        Call::Begin => number(calls::begin(records, coordinator, false).map(|t| t.number)),
+        Call::Begin => {
+            let begin = Request::Begin {
+                serializable: false,
+            };
+            number(begin.make(records, coordinator).map(answer_number))
+        }
         Call::Visit { key, now } => {
-            number(calls::visit(records, coordinator, *key, *now).map(visit_number))
+            let visit = Request::Visit {
+                key: *key,
+                now: *now,
+            };
+            number(visit.make(records, coordinator).map(answer_number))
         }
         Call::At { place, asked } => {
             let list = &mut lent.list;

@@ -2,7 +2,7 @@
 //!
 //! - `plain` reads the paper in the most obvious way and is what the engine must agree with.
 //! - `sequential_model` is what `plain` must come to after any history, the plain book of the paper.
-//! - `replay` runs a history given as text over `plain`.
+//! - `replay` runs a history given as text over `plain`, on a joined sheet or on two.
 //! - `compare` makes cases from seeds and holds an implementation against them.
 //! - `exported` has the calls that the engine exports for C, over `plain`, and over `fast` those that are timed, and `conversions`
 //!   sheets to numbers and back.
@@ -14,8 +14,9 @@
 //!
 //! With `--features engine`, `cargo run --release --bin differ` holds the engine against `plain`, and `--bin bench` times it
 //! beside `fast`. Both need the engine's static archive, `../target/staticlib/libc_api.a` or the one in the folder that
-//! `RAPYHEO_ARCHIVE_DIR` names. The comparison needs the programs `replay` and `visitor` too, from `../target/bin` or the
-//! folder that `RAPYHEO_PROGRAMS_DIR` names; with `target/release` there, it is tried against `plain` itself.
+//! `RAPYHEO_ARCHIVE_DIR` names. The comparison needs the programs `replay`, `replay_two` and `visitor` too, from
+//! `../target/bin` or the folder that `RAPYHEO_PROGRAMS_DIR` names; with `target/release` there, it is tried against
+//! `plain` itself.
 //!
 //! With `--features faults`, `--bin faults` tries the comparison: `plain` and `replay` are built with the faults of `faults/`
 //! as switches, and each must show as a difference.

@@ -145,6 +145,7 @@ fn shown(event: &Event, after: &Sheets) -> String {
     let call = match event.request {
         Request::Begin { .. } => "begin",
         Request::Read { .. } => "read",
+        Request::Second { .. } => "second",
         Request::Put { .. } => "put",
         Request::Advance { .. } => "advance",
         Request::Abort { .. } => "abort",
@@ -184,7 +185,11 @@ fn on_damaged(random: &mut Random, event: &Event) -> Option<String> {
     if refusal == plain::ACCEPTED {
         return None;
     }
-    let event = Event::make(event.request, &mut sheets);
+    let event = Event {
+        request: event.request,
+        before: sheets.clone(),
+        answer: sheets.ask(event.request),
+    };
     assert_eq!(event.answer, Err(refusal));
     assert_eq!(event.before, sheets);
     Some(shown(&event, &sheets))

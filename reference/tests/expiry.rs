@@ -9,7 +9,7 @@ use reference::plain::request::{Answer, Request};
 use reference::plain::store::Visit;
 use reference::plain::transaction::{Reading, Transaction};
 use reference::plain::visitor::output;
-use reference::plain::{calls, BUSY};
+use reference::plain::BUSY;
 
 /// Clocks so far apart leave one reading at which both lines have expired.
 const LAST_APART: u32 = 2_147_468_647;
@@ -61,7 +61,11 @@ fn sheets(lines: &[String], words: [&str; 3]) -> Sheets {
 fn visit(sheets: &mut Sheets, storage: u32, now: u32) -> Result<Visit, u32> {
     let key = key(storage);
     let mut other = sheets.clone();
-    let visited = calls::visit(&mut sheets.records, &mut sheets.coordinator, key, now);
+    let visited = match sheets.ask(Request::Visit { key, now }) {
+        Ok(Answer::Visited(visit)) => Ok(visit),
+        Ok(answer) => panic!("{answer:?}"),
+        Err(refusal) => Err(refusal),
+    };
     let by_fast = fast::visit(&mut other.records, &mut other.coordinator, key, now);
     assert_eq!((by_fast, other), (visited, sheets.clone()));
     visited

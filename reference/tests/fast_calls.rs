@@ -5,7 +5,7 @@ use reference::make::exported::next;
 use reference::make::halfway::{asking, halfway};
 use reference::make::history::{History, Rule};
 use reference::make::random::Random;
-use reference::make::sheets::{crowded, of_size, Mix, Size};
+use reference::make::sheets::{crowded, of_size, spread, Mix, Size};
 use reference::plain::request::Request;
 use std::collections::BTreeMap;
 
@@ -97,7 +97,10 @@ fn on_orders_half_way() {
         let random = &mut Random::new(seed);
         let sheets = match random.once_in(3) {
             true => crowded(random),
-            false => halfway(random),
+            false => {
+                let sheets = spread(random);
+                halfway(random, sheets)
+            }
         };
         let (key, now) = match asking(random, &sheets) {
             Request::Visit { key, now } | Request::Read { key, now, .. } => (key, now),

@@ -5,6 +5,7 @@ use reference::make::closing::close;
 use reference::make::expiry::without_reading;
 use reference::make::history::{Event, History, Rule};
 use reference::make::random::Random;
+use reference::make::two_sheets::letters;
 use reference::make::Sheets;
 use reference::plain::coordinator::Decision;
 use reference::plain::groups::share_unit;
@@ -14,6 +15,7 @@ use reference::plain::request::{Answer, Request};
 use reference::plain::store::Store;
 use reference::plain::transaction::{Transaction, COMMITTED, DONE, OPEN};
 use reference::plain::BUSY;
+use reference::replay::Layout;
 use reference::sequential_model::SequentialModel;
 use std::collections::BTreeSet;
 
@@ -64,7 +66,8 @@ fn writes(event: &Event, limit: u32) -> Vec<Sheets> {
             now,
             limit,
         };
-        sheets.ask(request).expect("refused at no limit");
+        let closed = sheets.ask_either_case(request);
+        closed.expect("refused at no limit");
         if sheets == before {
             break;
         }
@@ -105,10 +108,12 @@ fn one_phase<'a>(event: &'a Event, after: &Sheets) -> Option<&'a Transaction> {
 }
 
 /// One legal history and its closing visits, held against the sequential model. Answers whether it is one of demand 3's:
-/// whether a reading is left for every undecided number.
-fn demand_3(seed: u64) -> bool {
+/// whether a reading is left for every undecided number. On two sheets letters are small, and its sheets are what they join
+/// to.
+fn demand_3(layout: Layout, seed: u64) -> bool {
     let mut random = Random::new(seed);
     let mut history = History::new(&mut random, Rule::Legal);
+    letters(&mut random, layout, &mut history.sheets);
     let mut model =
         SequentialModel::new(&history.sheets.records).expect("the first sheet is accepted");
     let mut one_phase_numbers = BTreeSet::new();
@@ -164,9 +169,12 @@ fn roll_back(store: &mut Store) {
 
 #[test]
 fn legal_histories_come_to_what_the_model_says() {
-    let outside = (0..HISTORIES).filter(|seed| !demand_3(*seed)).count();
-    println!("{outside} of {HISTORIES} left a number without a reading");
-    assert!((1..HISTORIES as usize / 20).contains(&outside));
+    for (layout, histories) in [(Layout::Joined, HISTORIES), (Layout::Two, HISTORIES / 2)] {
+        let seeds = 0..histories;
+        let outside = seeds.filter(|seed| !demand_3(layout, *seed)).count();
+        println!("{outside} of {histories} left a number without a reading");
+        assert!((1..histories as usize / 20).contains(&outside));
+    }
 }
 
 #[test]
@@ -174,6 +182,9 @@ fn any_transaction_leaves_accepted_sheets() {
     for seed in 0..HISTORIES {
         let mut random = Random::new(seed);
         let mut history = History::new(&mut random, Rule::Free);
+        if seed % 2 == 1 {
+            letters(&mut random, Layout::Two, &mut history.sheets);
+        }
         for _ in 0..100 {
             let event = history.step(&mut random);
             judge(&event, &history.sheets);

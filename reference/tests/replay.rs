@@ -6,12 +6,17 @@ use reference::make::scripts::{damaged, free, legal, Extent};
 use reference::plain::key::Key;
 use reference::plain::visitor::output;
 use reference::replay::line::Line;
-use reference::replay::replay;
+use reference::replay::{self, Layout};
 use reference::seen::Seen;
 
 const COORDINATOR: &str = "   0 SSSSSSSSS\n   1         -\n   2         -\n";
 const ABSENT: &str = " 1  1  1     1     1    ABSENT     0   0        0        0     0   0        0        0          0\n";
 const COMMITTED: &str = " 1  1  1     1     1 COMMITTED     1   1      500      250     0   0        0        0          0\n";
+
+/// The replay of joined sheets.
+fn replay(input: &[u8]) -> Vec<u8> {
+    replay::replay(Layout::Joined, input)
+}
 
 /// The output for these calls, before the sheets, and both sheets.
 fn replayed(calls: &str) -> (String, String) {
@@ -151,6 +156,43 @@ fn inputs_that_are_no_replay() {
 }
 
 #[test]
+fn two_sheets_are_read_in_two_calls() {
+    let coordinator = "   0 sSSSSSSSS\n   1         -\n   2         -\n";
+    let plain = " 1  1  1     1     1       40        3\n";
+    let bookkeeping =
+        " 1  1  1     1     1 COMMITTED     4   0     0   0        0        0          0\n";
+    let calls = "begin 3 0\nread 3 1 1 1 1 1 7\nsecond 3 1 1 1 1 1 7 40 4\nread 3 1 1 1 1 1 7\nshow 3\nadvance 3 0\nadvance 3 0\n\
+                 lookup 1 1 1 1 1\nline 1 1 1 1 1\nsheets\n\
+                 line 0 1 1 1 1 1\nline 1 1 1 1 1 1\nline 2 1 1 1 1 1\nline 0 1 1 1 1 2\n";
+    let input = format!("   1   1   2\n{coordinator}{plain}{bookkeeping}{calls}");
+    let output = replay::replay(Layout::Two, input.as_bytes());
+    let coordinator = coordinator.replacen('0', "1", 1);
+    let sheets = format!("sheets\n{coordinator}{plain}{bookkeeping}");
+    let answers = format!(
+        "ok 1\nok first 40 3\nok columns 40 4\nok columns 40 4\nok 1 0 0 0 0 1 1 1 1 1 1 4 0 40 4 0 0 0\nok 2 0 0\nok 4 0 0\n\
+         ok 0\nbad line\n{sheets}ok {plain}ok {bookkeeping}ok\nok\n{sheets}"
+    );
+    assert_eq!(String::from_utf8(output).unwrap(), answers);
+    // Each sheet is as long as the first line tells.
+    let good = input.split("begin").next().unwrap();
+    let is_bad = |input: &str| replay::replay(Layout::Two, input.as_bytes()) == b"bad input\n";
+    assert!(!is_bad(good));
+    for first in [
+        "   2   1   2",
+        "   1   2   2",
+        "   1   1   3",
+        "   1   1  02",
+    ] {
+        assert!(is_bad(&good.replacen("   1   1   2", first, 1)), "{first}");
+    }
+    for input in ["", "   1   1   2\n", &good[1..], &good[..good.len() - 1]] {
+        assert!(is_bad(input), "{input}");
+    }
+    assert!(is_bad(&good.replacen('\n', " ", 1)));
+    assert!(is_bad(&format!("{good}{}", "\n".repeat(500_000))));
+}
+
+#[test]
 fn the_visiting_program() {
     let coordinator = "   1 SSSSSSSSS\n   1         -\n";
     let prepared = " 1  1  1     1     1  PREPARED     1   1      500      250     0   0        0        0       5000\n";
@@ -182,17 +224,21 @@ fn the_visiting_program() {
 
 #[test]
 fn scripts_expect_what_a_replay_answers() {
-    let mut seen = Seen::default();
-    let holds = |script: Script| assert_eq!(replay(&script.input), script.expected());
-    for seed in 0..60 {
-        let random = &mut Random::new(seed);
-        holds(legal(random, &mut seen, Extent::Small).unwrap());
-        holds(free(random, &mut seen, Extent::Small));
-        holds(damaged(random, &mut seen));
+    for layout in [Layout::Joined, Layout::Two] {
+        let mut seen = Seen::default();
+        let holds = |script: Script| {
+            assert_eq!(replay::replay(layout, &script.input), script.expected());
+        };
+        for seed in 0..60 {
+            let random = &mut Random::new(seed);
+            holds(legal(random, &mut seen, layout, Extent::Small).unwrap());
+            holds(free(random, &mut seen, layout, Extent::Small));
+            holds(damaged(random, &mut seen, layout));
+        }
+        let random = &mut Random::new(60);
+        holds(legal(random, &mut seen, layout, Extent::Long).unwrap());
+        assert!(seen.calls() > 10_000, "{seen}");
     }
-    let random = &mut Random::new(60);
-    holds(legal(random, &mut seen, Extent::Long).unwrap());
-    assert!(seen.calls() > 10_000, "{seen}");
 }
 
 #[test]
@@ -225,7 +271,7 @@ fn a_line_is_read_as_it_is_written() {
         },
         Line::Visit { key, now: 6 },
         Line::Lookup { key },
-        Line::LineOf { key },
+        Line::LineOf { sheet: None, key },
         Line::Sheets,
         Line::Show { slot: 2 },
         Line::Set { slot: 3, fields },
@@ -235,6 +281,32 @@ fn a_line_is_read_as_it_is_written() {
             numbers,
         },
     ] {
-        assert_eq!(Line::parse(line.to_string().as_bytes()), Some(line));
+        let text = line.to_string();
+        for layout in [Layout::Joined, Layout::Two] {
+            let parsed = Line::parse(layout, text.as_bytes());
+            let known = !matches!(line, Line::LineOf { .. }) || layout == Layout::Joined;
+            assert_eq!(parsed, known.then_some(line));
+        }
+    }
+}
+
+#[test]
+fn a_line_of_two_sheets_is_read_as_it_is_written() {
+    let key = Key::from_numbers([1, 2, 3, 4, u32::MAX]);
+    for line in [
+        Line::Second {
+            slot: 15,
+            key,
+            now: 5,
+            columns: [0, u32::MAX],
+        },
+        Line::LineOf {
+            sheet: Some(1),
+            key,
+        },
+    ] {
+        let text = line.to_string();
+        assert_eq!(Line::parse(Layout::Two, text.as_bytes()), Some(line));
+        assert_eq!(Line::parse(Layout::Joined, text.as_bytes()), None);
     }
 }

@@ -6,13 +6,13 @@ use reference::conversions::{self, Conversion};
 use reference::exported::{self, Call, Lent};
 use reference::make::Sheets;
 use reference::plain::visitor;
-use reference::replay::replay;
+use reference::replay::{replay, Layout};
 
 struct Plain;
 
 impl Subject for Plain {
-    fn replay(&self, input: &[u8]) -> Result<Vec<u8>, String> {
-        Ok(replay(input))
+    fn replay(&self, layout: Layout, input: &[u8]) -> Result<Vec<u8>, String> {
+        Ok(replay(layout, input))
     }
 
     fn visitor(&self, input: &[u8]) -> Result<Vec<u8>, String> {
@@ -35,7 +35,7 @@ impl Subject for Plain {
 #[test]
 fn rounds_show_all() {
     let mut tally = Tally::default();
-    for seed in 0..280 {
+    for seed in 0..420 {
         tally.round(seed).expect("the sequential model's sheet");
     }
     println!("{}", tally.seen);
@@ -46,7 +46,7 @@ fn rounds_show_all() {
 #[test]
 fn plain_holds() {
     let mut tally = Tally::default();
-    for seed in (100..140).chain(660..700) {
+    for seed in (165..210).chain(1010..1050) {
         let cases = tally.round(seed).expect("the sequential model's sheet");
         assert!(cases.iter().all(|case| case.holds(&Plain)), "seed {seed}");
         let calls: u64 = cases.iter().map(Case::calls).sum();

@@ -10,14 +10,14 @@ use reference::exported::{self, Call, Lent};
 use reference::faults::{self, TITLES};
 use reference::make::Sheets;
 use reference::plain::visitor;
-use reference::replay::replay;
+use reference::replay::{replay, Layout};
 use std::panic::{catch_unwind, set_hook, AssertUnwindSafe};
 use std::process::ExitCode;
 
 /// A third of the calls that `make differ` makes.
 const CALLS: u64 = 66_000;
 /// At each of them rounds begin with small ones of every kind, as from 0 on.
-const SEEDS: [u64; 5] = [0, 168_000, 336_000, 504_000, 672_000];
+const SEEDS: [u64; 5] = [0, 252_000, 504_000, 756_000, 1_008_000];
 
 /// `plain` with this fault.
 struct Faulty(usize);
@@ -34,8 +34,8 @@ impl Faulty {
 }
 
 impl Subject for Faulty {
-    fn replay(&self, input: &[u8]) -> Result<Vec<u8>, String> {
-        self.program(|| replay(input))
+    fn replay(&self, layout: Layout, input: &[u8]) -> Result<Vec<u8>, String> {
+        self.program(|| replay(layout, input))
     }
 
     fn visitor(&self, input: &[u8]) -> Result<Vec<u8>, String> {
@@ -91,12 +91,15 @@ fn find(calls: u64, first: u64) -> Found {
 fn call_in(case: &Case, subject: &Faulty) -> u64 {
     match case {
         Case::Replay {
-            input, expected, ..
+            layout,
+            input,
+            expected,
+            ..
         } => {
-            let output = subject.replay(input).unwrap_or_default();
+            let output = subject.replay(*layout, input).unwrap_or_default();
             let both = output.iter().zip(expected);
             let same = both.take_while(|(one, other)| one == other).count();
-            calls_until(input, same)
+            calls_until(*layout, input, same)
         }
         Case::Clients(history) => history.difference(subject).map_or(1, |d| d.place),
         _ => 1,

@@ -7,14 +7,14 @@ use crate::conversions::{self, Conversion};
 use crate::exported::{self, Call, Lent};
 use crate::make::Sheets;
 use crate::plain::visitor;
-use crate::replay::{self, replay};
+use crate::replay::{self, replay, Layout};
 use crate::seen::is_call;
 use clients::ClientHistory;
 
-/// What is held against `plain`: two programs, and the functions for C.
+/// What is held against `plain`: three programs, and the functions for C.
 pub trait Subject {
-    /// The whole output of the replay program, or how it failed.
-    fn replay(&self, input: &[u8]) -> Result<Vec<u8>, String>;
+    /// The whole output of a replay program, or how it failed.
+    fn replay(&self, layout: Layout, input: &[u8]) -> Result<Vec<u8>, String>;
     /// The same of the visiting program.
     fn visitor(&self, input: &[u8]) -> Result<Vec<u8>, String>;
     fn call(&self, call: &Call, lent: &mut Lent) -> u32;
@@ -26,6 +26,7 @@ pub trait Subject {
 /// An input and what `plain` makes of it.
 pub enum Case {
     Replay {
+        layout: Layout,
         input: Vec<u8>,
         expected: Vec<u8>,
         calls: u64,
@@ -57,10 +58,11 @@ pub enum Case {
 }
 
 impl Case {
-    /// An input of the replay program that is refused whole, most often.
-    pub fn bad_input(input: Vec<u8>) -> Case {
+    /// An input of a replay program that is refused whole, most often.
+    pub fn bad_input(layout: Layout, input: Vec<u8>) -> Case {
         Case::Replay {
-            expected: replay(&input),
+            layout,
+            expected: replay(layout, &input),
             input,
             calls: 0,
         }
@@ -122,8 +124,11 @@ impl Case {
     pub fn holds(&self, subject: &impl Subject) -> bool {
         match self {
             Case::Replay {
-                input, expected, ..
-            } => subject.replay(input).as_ref() == Ok(expected),
+                layout,
+                input,
+                expected,
+                ..
+            } => subject.replay(*layout, input).as_ref() == Ok(expected),
             Case::Visit { input, expected } => subject.visitor(input).as_ref() == Ok(expected),
             Case::Call {
                 call,
@@ -158,13 +163,13 @@ impl Case {
 }
 
 /// How many calls a replay has made when it prints the byte at this place of its output.
-pub fn calls_until(input: &[u8], place: usize) -> u64 {
+pub fn calls_until(layout: Layout, input: &[u8], place: usize) -> u64 {
     let mut printed = 0;
-    let answers = replay::answers(input).into_iter();
+    let answers = replay::answers(layout, input).into_iter();
     let begun = answers.take_while(|(_, answer)| {
         let start = printed;
         printed += answer.len();
         start <= place
     });
-    begun.filter(|(line, _)| is_call(line)).count() as u64
+    begun.filter(|(line, _)| is_call(layout, line)).count() as u64
 }

@@ -5,14 +5,15 @@ use crate::make::bad_lines::bad_input;
 use crate::make::clients::clients;
 use crate::make::random::Random;
 use crate::make::script::Script;
-use crate::make::scripts::{closed, crowded, damaged, free, halfway, legal, Extent};
+use crate::make::scripts::{closed, crowded, damaged, free, halfway, legal, read_in_two, Extent};
 use crate::make::{exports, visits};
+use crate::replay::Layout::{self, Joined, Two};
 use crate::seen::Seen;
 
 /// Seeds that many apart make rounds of the same kind. Such a row of rounds is a cycle.
-const KINDS: u64 = 140;
-/// Rounds with small histories and few calls come before four large ones, which take the most time.
-const SMALL: u64 = 136;
+const KINDS: u64 = 210;
+/// Rounds with small histories and few calls, two of each kind, come before six large ones, which take the most time.
+const SMALL: u64 = 204;
 /// Of so many cycles the first four are of every kind, and the rest of calls by place, which take the least time.
 const CYCLES: u64 = 12;
 const OF_EVERY_KIND: u64 = 4;
@@ -38,23 +39,37 @@ impl Tally {
     fn of_every_kind(&mut self, random: &mut Random, seed: u64) -> Result<Vec<Case>, String> {
         // Small ones first: they show a difference in the fewest lines. They are mixed, so that each kind comes early.
         let kind = match seed % KINDS {
-            small @ 0..SMALL => small * 37 % 68,
-            large => large - SMALL + 68,
+            small @ 0..SMALL => small * 37 % 102,
+            large => large - SMALL + 102,
         };
         match kind {
-            0..16 => self.legal(random, Extent::Small),
-            16..24 => self.free(random, Extent::Small),
-            24..32 => Ok(self.crowded(random)),
+            0..16 => self.legal(random, Joined, Extent::Small),
+            16..24 => self.free(random, Joined, Extent::Small),
+            24..32 => Ok(self.crowded(random, Joined)),
             32..40 => Ok(exports::cases(random, &mut self.seen)),
-            40..48 => Ok(self.damaged(random)),
-            48..52 => Ok(self.bad_inputs(random)),
+            40..48 => Ok(self.damaged(random, Joined)),
+            48..52 => Ok(self.bad_inputs(random, Joined)),
             52..60 => Ok(visits::cases(random, &mut self.seen)),
             60..68 => self.clients(random, Extent::Small),
-            68 => self.legal(random, large(seed)),
-            69 => self.free(random, large(seed)),
-            70 => self.legal(random, Extent::Long),
-            _ if cycle_of_four(seed) == 1 => self.clients(random, Extent::Long),
-            _ => self.free(random, Extent::Long),
+            68..102 => self.on_two(random, kind - 68),
+            102 => self.legal(random, Joined, large(seed)),
+            103 => self.free(random, Joined, large(seed)),
+            104 => self.legal(random, Joined, Extent::Long),
+            105 if cycle_of_four(seed) == 1 => self.clients(random, Extent::Long),
+            105 => self.free(random, Joined, Extent::Long),
+            106 => self.legal(random, Two, Extent::Long),
+            _ => self.free(random, Two, large(seed)),
+        }
+    }
+
+    /// A small one on two sheets.
+    fn on_two(&mut self, random: &mut Random, kind: u64) -> Result<Vec<Case>, String> {
+        match kind {
+            0..8 => self.legal(random, Two, Extent::Small),
+            8..14 => self.free(random, Two, Extent::Small),
+            14..24 => Ok(self.crowded(random, Two)),
+            24..32 => Ok(self.damaged(random, Two)),
+            _ => Ok(self.bad_inputs(random, Two)),
         }
     }
 
@@ -79,57 +94,74 @@ impl Tally {
         (0..histories).map(|_| case()).collect()
     }
 
-    fn legal(&mut self, random: &mut Random, extent: Extent) -> Result<Vec<Case>, String> {
-        let script = legal(random, &mut self.seen, extent)?;
+    fn legal(
+        &mut self,
+        random: &mut Random,
+        layout: Layout,
+        extent: Extent,
+    ) -> Result<Vec<Case>, String> {
+        let script = legal(random, &mut self.seen, layout, extent)?;
         Ok(vec![self.replay(random, script)])
     }
 
-    fn free(&mut self, random: &mut Random, extent: Extent) -> Result<Vec<Case>, String> {
-        let script = free(random, &mut self.seen, extent);
+    fn free(
+        &mut self,
+        random: &mut Random,
+        layout: Layout,
+        extent: Extent,
+    ) -> Result<Vec<Case>, String> {
+        let script = free(random, &mut self.seen, layout, extent);
         Ok(vec![self.replay(random, script)])
     }
 
-    fn crowded(&mut self, random: &mut Random) -> Vec<Case> {
+    fn crowded(&mut self, random: &mut Random, layout: Layout) -> Vec<Case> {
         let mut case = || {
             let script = match random.below(7) {
-                0 => halfway(random, &mut self.seen),
-                1..=3 => closed(random, &mut self.seen),
-                _ => crowded(random, &mut self.seen),
+                0 | 3 | 4 if layout == Two => read_in_two(random, &mut self.seen),
+                0 => halfway(random, &mut self.seen, layout),
+                1..=3 => closed(random, &mut self.seen, layout),
+                _ => crowded(random, &mut self.seen, layout),
             };
             self.replay(random, script)
         };
         (0..28).map(|_| case()).collect()
     }
 
-    fn damaged(&mut self, random: &mut Random) -> Vec<Case> {
+    fn damaged(&mut self, random: &mut Random, layout: Layout) -> Vec<Case> {
         let mut case = || {
-            let script = damaged(random, &mut self.seen);
+            let script = damaged(random, &mut self.seen, layout);
             self.replay(random, script)
         };
-        (0..10).map(|_| case()).collect()
+        let scripts = match layout {
+            Joined => 10,
+            Two => 40,
+        };
+        (0..scripts).map(|_| case()).collect()
     }
 
     /// A script as an input, at times without the last LF.
     fn replay(&mut self, random: &mut Random, script: Script) -> Case {
         self.histories += 1;
+        let layout = script.layout();
         let expected = script.expected();
         let mut input = script.input;
         if random.once_in(4) && input.ends_with(b"\n") {
             input.pop();
         }
         Case::Replay {
+            layout,
             input,
             expected,
             calls: script.calls,
         }
     }
 
-    fn bad_inputs(&mut self, random: &mut Random) -> Vec<Case> {
+    fn bad_inputs(&mut self, random: &mut Random, layout: Layout) -> Vec<Case> {
         let mut case = || {
             self.bad_inputs += 1;
             // These calls count only where they are made, in a good input.
-            let script = damaged(random, &mut Seen::default());
-            Case::bad_input(bad_input(random, script.input))
+            let script = damaged(random, &mut Seen::default(), layout);
+            Case::bad_input(layout, bad_input(random, layout, script.input))
         };
         (0..25).map(|_| case()).collect()
     }

@@ -63,8 +63,13 @@ const BEYOND: [(usize, u32); 8] = [
 
 /// The key of a line, mostly; else one that may have no line, or with a field out of range.
 pub fn any_key(random: &mut Random, records: &[Record]) -> Key {
+    key_of(random, 16, records)
+}
+
+/// The same; once in so many times a key of each other kind.
+pub fn key_of(random: &mut Random, times: usize, records: &[Record]) -> Key {
     let mut numbers = random.pick(records).key.numbers();
-    match random.below(16) {
+    match random.below(times) {
         0 => numbers = close_key(random),
         1 => {
             let (field, beyond) = random.pick(&BEYOND);
@@ -83,6 +88,16 @@ pub fn columns(random: &mut Random, wrong: bool) -> [u32; 2] {
         _ => random.figure(0, 99_999_999),
     };
     [column(), column()]
+}
+
+/// Columns for the second call of a read: those of the line, now or before it was prepared, or any, often too large.
+pub fn first_columns(random: &mut Random, key: &Key, records: &[Record]) -> [u32; 2] {
+    let line = records.iter().find(|line| line.key == *key);
+    match (random.below(8), line) {
+        (0..=3, Some(line)) => line.image.columns(),
+        (4 | 5, Some(line)) => line.before.columns(),
+        _ => columns(random, true),
+    }
 }
 
 /// How many writes a close may make. Small limits come more often, since few orders have many writes.

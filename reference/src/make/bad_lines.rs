@@ -2,7 +2,7 @@
 
 use super::damage::TELLING;
 use super::random::Random;
-use crate::replay::{FIRST_LINE, MOST_BYTES};
+use crate::replay::{Layout, MOST_BYTES};
 
 /// Words that are no number of the range wanted, or only just one.
 const WORDS: [&str; 18] = [
@@ -67,17 +67,21 @@ fn other_word(random: &mut Random, good: &str) -> Vec<u8> {
 }
 
 /// An input whose first line or length is changed, or any byte.
-pub fn bad_input(random: &mut Random, mut input: Vec<u8>) -> Vec<u8> {
+pub fn bad_input(random: &mut Random, layout: Layout, mut input: Vec<u8>) -> Vec<u8> {
+    let first_line = match layout {
+        Layout::Joined => 9,
+        Layout::Two => 13,
+    };
     let place = match random.once_in(4) {
-        true => FIRST_LINE - 1,
-        false => random.below(FIRST_LINE),
+        true => first_line - 1,
+        false => random.below(first_line),
     };
     match random.below(9) {
         0 | 1 => input[place] = random.pick(TELLING),
         2 => input.insert(place, random.pick(TELLING)),
         3 => drop(input.remove(place)),
         4 => input.truncate(random.below(input.len())),
-        5 => input.truncate(random.below(FIRST_LINE + 1)),
+        5 => input.truncate(random.below(first_line + 1)),
         6 | 7 => too_long(random, &mut input),
         _ => {
             let place = random.below(input.len());

@@ -12,7 +12,6 @@ use super::sheets::{with_keys, Mix, Size};
 use super::Sheets;
 use crate::compare::clients::{ClientHistory, Expected, Turn, Written};
 use crate::exported::{by_plain, refusal_of, written_by_plain, Call, Lent};
-use crate::plain::record::Record;
 use crate::plain::request::{Answer, Request};
 use crate::plain::store::Store;
 use crate::plain::transaction::{Transaction, DONE};
@@ -112,7 +111,7 @@ impl Clients {
         let place = some_place(random, list.len());
         let named = list.get(place).copied().unwrap_or(unused());
         let records = &self.store.records;
-        let request = request(random, named, records);
+        let request = request(random, named, &self.store);
         let mut asked = asked(random, &request, records);
         if random.once_in(60) {
             asked = no_call(random, asked);
@@ -204,7 +203,7 @@ fn some_place(random: &mut Random, length: usize) -> usize {
 }
 
 /// The next request to the one named. One that is done or unused gives way to a new one, and at times another does.
-fn request(random: &mut Random, named: Transaction, records: &[Record]) -> Request {
+fn request(random: &mut Random, named: Transaction, store: &Store) -> Request {
     let is_over = named.number == 0 || named.phase == DONE;
     if is_over && !random.once_in(6) || random.once_in(80) {
         return begin(random);
@@ -213,6 +212,7 @@ fn request(random: &mut Random, named: Transaction, records: &[Record]) -> Reque
         transaction: named,
         appetite: APPETITES[named.number as usize % APPETITES.len()],
         thorough: named.number.is_multiple_of(2),
+        first: None,
     };
-    client.request(random, records)
+    client.request(random, store)
 }

@@ -25,7 +25,7 @@ fn close(random: &mut Random, transaction: Transaction, sheets: &Sheets) -> Requ
         now,
         limit,
     };
-    let writes = match sheets.clone().ask(close(u32::MAX)) {
+    let writes = match sheets.clone().ask_either_case(close(u32::MAX)) {
         Ok(Answer::Closed(_, writes)) => writes,
         _ => 0,
     };
@@ -66,7 +66,7 @@ pub fn advance(random: &mut Random, transaction: Transaction, records: &[Record]
 
 /// A visit of a PREPARED line at a reading at which its number has expired, which aborts an undecided order; any visit where
 /// there is none.
-fn visit_late(random: &mut Random, records: &[Record]) -> Request {
+pub fn visit_late(random: &mut Random, records: &[Record]) -> Request {
     let lines = prepared(records);
     if lines.is_empty() {
         return visit(random, records);
@@ -80,7 +80,7 @@ fn visit_late(random: &mut Random, records: &[Record]) -> Request {
 
 /// The transaction after the request, the same one where it was refused or is none of its calls.
 pub fn after(request: &Request, transaction: Transaction, sheets: &mut Sheets) -> Transaction {
-    let answer = sheets.ask(*request).ok();
+    let answer = sheets.ask_either_case(*request).ok();
     let returned = answer.and_then(|answer| answer.returned().copied());
     returned.unwrap_or(transaction)
 }

@@ -97,6 +97,17 @@ pub fn damage(random: &mut Random, sheets: &mut Sheets) {
     }
 }
 
+/// Damages the coordinator sheet, or names a number that it hasn't issued.
+pub fn damage_coordinator(random: &mut Random, sheets: &mut Sheets) {
+    match random.below(6) {
+        0 => any_byte(random, &mut sheets.coordinator),
+        1 => decision(random, &mut sheets.coordinator),
+        2 => above_the_count(random, &mut sheets.coordinator),
+        3 => head(random, &mut sheets.coordinator),
+        _ => tx_id(random, sheets),
+    }
+}
+
 /// The first byte of a random whole line.
 fn some_start(random: &mut Random, sheet: &[u8], line: usize) -> usize {
     random.below(sheet.len() / line) * line

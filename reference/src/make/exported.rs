@@ -58,7 +58,8 @@ fn on_crowded(random: &mut Random) -> (Request, Sheets) {
 }
 
 fn on_halfway(random: &mut Random) -> (Request, Sheets) {
-    let sheets = halfway::halfway(random);
+    let sheets = sheets::spread(random);
+    let sheets = halfway::halfway(random, sheets);
     (halfway::asking(random, &sheets), sheets)
 }
 

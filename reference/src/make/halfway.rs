@@ -6,16 +6,14 @@ use super::closes::{advance, after};
 use super::expiry::expired_reading;
 use super::orders::order;
 use super::random::Random;
-use super::requests::visit;
-use super::sheets::spread;
+use super::requests::{read, visit};
 use super::Sheets;
 use crate::plain::record::Record;
 use crate::plain::request::Request;
 use crate::plain::transaction::{Transaction, OPEN, PREPARE};
 
-/// Sheets with one or two such orders, or seldom none.
-pub fn halfway(random: &mut Random) -> Sheets {
-    let mut sheets = spread(random);
+/// These sheets with one or two such orders, or seldom none.
+pub fn halfway(random: &mut Random, mut sheets: Sheets) -> Sheets {
     for _ in 0..1 + random.below(2) {
         let mut order = order(random, &sheets.store());
         let lines = 2 + random.below(4);
@@ -42,11 +40,10 @@ pub fn asking(random: &mut Random, sheets: &Sheets) -> Request {
     let now = reading(random, line, records);
     match random.once_in(2) {
         true => Request::Visit { key, now },
-        false => Request::Read {
-            transaction: reader(random, store.coordinator.issued),
-            key,
-            now,
-        },
+        false => {
+            let reader = reader(random, store.coordinator.issued);
+            read(random, reader, key, now, &store)
+        }
     }
 }
 

@@ -7,7 +7,7 @@ use super::requests::{begin, stray, Client};
 use super::sheets::{with_keys, Mix, Size};
 use super::Sheets;
 use crate::plain::request::{Answer, Request};
-use crate::plain::transaction::{Transaction, DONE, OPEN};
+use crate::plain::transaction::{Reading, Transaction, DONE, OPEN};
 
 /// Which calls stand in a history.
 #[derive(Clone, Copy, PartialEq, Eq)]
@@ -31,7 +31,7 @@ impl Event {
         let before = sheets.clone();
         Event {
             request,
-            answer: sheets.ask(request),
+            answer: sheets.ask_either_case(request),
             before,
         }
     }
@@ -133,8 +133,13 @@ impl History {
         };
         self.old.push(*returned);
         if let Some(place) = request.taken().and_then(|taken| self.holder(taken)) {
-            let client = self.clients[place].as_mut();
-            client.expect("a holder").transaction = *returned;
+            let client = self.clients[place].as_mut().expect("a holder");
+            client.transaction = *returned;
+            if let (Request::Read { key, .. }, Answer::Read(_, Reading::First(columns))) =
+                (request, answer)
+            {
+                client.first = Some((*key, *columns));
+            }
         } else if let Some(idle) = self.clients.iter_mut().find(|c| c.is_none()) {
             *idle = Some(Client::new(random, *returned));
         }
@@ -142,7 +147,6 @@ impl History {
 
     fn request(&mut self, random: &mut Random) -> Request {
         let store = self.sheets.store();
-        let records = &store.records;
         let place = random.below(self.clients.len());
         // In a free history most calls come from nowhere: each tries a state that clients seldom reach.
         let strays = match self.rule {
@@ -155,7 +159,7 @@ impl History {
                     self.clients[place] = None;
                     return begin(random);
                 }
-                client.request(random, records)
+                client.request(random, &store)
             }
             None if random.once_in(2) => begin(random),
             _ => stray(random, &self.old, &store),

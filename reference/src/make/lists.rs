@@ -101,8 +101,8 @@ pub fn asked(random: &mut Random, request: &Request, records: &[Record]) -> Aske
             limit,
             ..any
         },
-        // A visit isn't by place.
-        Request::Abort { .. } | Request::Visit { .. } => any,
+        // A visit isn't by place, and lists have the joined sheet.
+        Request::Abort { .. } | Request::Visit { .. } | Request::Second { .. } => any,
     }
 }
 

@@ -21,12 +21,16 @@ pub mod script;
 pub mod scripts;
 pub mod sheets;
 pub mod transactions;
+pub mod two_damage;
+pub mod two_orders;
+pub mod two_sheets;
 pub mod visits;
 pub mod written;
 
 use crate::plain::request::{Answer, Request};
 use crate::plain::store::Store;
 use random::Random;
+pub use two_sheets::TwoSheets;
 
 /// What a check is called with.
 #[derive(Clone, Debug, PartialEq, Eq)]
@@ -62,9 +66,17 @@ impl Sheets {
         request.make(&mut self.records, &mut self.coordinator)
     }
 
-    /// The records of accepted sheets.
+    /// The same where two sheets may join to these, so that letters may be small.
+    pub fn ask_either_case(&mut self, request: Request) -> Result<Answer, u32> {
+        let mut store = Store::read_either_case(&self.records, &self.coordinator)?;
+        let answer = request.on(&mut store)?;
+        store.write(&mut self.records, &mut self.coordinator);
+        Ok(answer)
+    }
+
+    /// The records of accepted sheets, or of what two accepted sheets join to.
     pub fn store(&self) -> Store {
-        let store = Store::read(&self.records, &self.coordinator);
+        let store = Store::read_either_case(&self.records, &self.coordinator);
         store.unwrap_or_else(|refusal| panic!("refusal {refusal}\n{self}"))
     }
 }

@@ -1,7 +1,7 @@
 //! Orders for a close to bring far: their lines are as they were read, in as many groups as may be.
 
 use super::random::Random;
-use super::transactions::date_back;
+use super::transactions::{date_back, other_columns};
 use crate::plain::coordinator::Decision;
 use crate::plain::record::{Record, State, MOST_VERSION};
 use crate::plain::store::Store;
@@ -18,13 +18,13 @@ pub fn order(random: &mut Random, store: &Store) -> Transaction {
         entry.put_1 = random.figure(0, 99_999_999);
         entry.put_2 = random.figure(0, 99_999_999);
     }
-    only_read(random, &mut order.entries[..lines.len()]);
+    only_read(random, &mut order.entries[..lines.len()], store);
     order
 }
 
 /// At times the last entries are without a put. At times the very last is as if its line had been written since, so that
 /// there is much to undo, or nothing: it is checked last, or its group is the last or the first.
-fn only_read(random: &mut Random, entries: &mut [Entry]) {
+fn only_read(random: &mut Random, entries: &mut [Entry], store: &Store) {
     let count = random.pick(&[0, 0, 0, 1, 3]);
     let stale = random.once_in(if count > 0 { 2 } else { 4 });
     for (place, entry) in entries.iter_mut().rev().enumerate() {
@@ -32,13 +32,16 @@ fn only_read(random: &mut Random, entries: &mut [Entry]) {
             entry.wrote = 0;
         }
         if place == 0 && stale {
-            date_back(random, &mut entry.seen);
+            match store.coordinator.is_small(entry.key.storage) && random.once_in(2) {
+                true => other_columns(random, &mut entry.seen),
+                false => date_back(random, &mut entry.seen),
+            }
         }
     }
 }
 
 /// An issued number, undecided if there is such a one.
-fn number(random: &mut Random, store: &Store) -> u32 {
+pub fn number(random: &mut Random, store: &Store) -> u32 {
     let issued = 1..=store.coordinator.issued;
     let undecided = |number: &u32| store.decision(*number) == Decision::Undecided;
     let undecided: Vec<u32> = issued.filter(undecided).collect();

@@ -1,6 +1,6 @@
 //! What clients ask for: the next call of a transaction, or one that comes from nowhere.
 
-use super::arguments::{any_key, clock_for, columns, limit, prepared};
+use super::arguments::{any_key, clock_for, columns, first_columns, limit, prepared};
 use super::expiry::clock_for_step;
 use super::random::Random;
 use super::transactions::{forged, full};
@@ -19,6 +19,8 @@ pub struct Client {
     pub appetite: u32,
     /// Whether it puts to all of them first, so that it has several groups.
     pub thorough: bool,
+    /// The key of the last read that takes a second call, and the columns that its first was answered.
+    pub first: Option<(Key, [u32; 2])>,
 }
 
 impl Client {
@@ -31,7 +33,21 @@ impl Client {
                 false => random.pick(&[0, 1, 1, 2, 2, 3, 3, 4, 9]),
             },
             thorough,
+            first: None,
         }
+    }
+
+    /// The second call of a read whose first was answered, most often. Others may have come between.
+    fn second(&self, random: &mut Random, records: &[Record]) -> Option<Request> {
+        let (key, columns) = self.first?;
+        let transaction = self.transaction;
+        let is_new = transaction.phase == OPEN && transaction.place_of(&key).is_none();
+        (is_new && !random.once_in(4)).then(|| Request::Second {
+            transaction,
+            key,
+            now: clock_for(random, &key, records),
+            columns,
+        })
     }
 
     /// The keys that a thorough client still has to put before it advances. A checked transaction keeps one to be checked.
@@ -47,7 +63,11 @@ impl Client {
     }
 
     /// The next call of the transaction, at times one that does not go with its phase.
-    pub fn request(&self, random: &mut Random, records: &[Record]) -> Request {
+    pub fn request(&self, random: &mut Random, store: &Store) -> Request {
+        let records = &store.records;
+        if let Some(second) = self.second(random, records) {
+            return second;
+        }
         let transaction = self.transaction;
         let hungry = transaction.phase == OPEN && transaction.count < self.appetite;
         let held = transaction.held();
@@ -68,7 +88,7 @@ impl Client {
             Kind::Put if !held.is_empty() && !random.once_in(8) => random.pick(held).key,
             _ => any_key(random, records),
         };
-        kind.request(random, transaction, key, records)
+        kind.request(random, transaction, key, store)
     }
 }
 
@@ -91,7 +111,7 @@ pub fn stray(random: &mut Random, old: &[Transaction], store: &Store) -> Request
     };
     let transaction = match random.below(16) {
         0..=3 => old,
-        4 | 5 => return read_beyond(random, old, records),
+        4 | 5 => return read_beyond(random, old, store),
         _ => forged(random, old, store),
     };
     let kind = random.pick(&[
@@ -107,11 +127,35 @@ pub fn stray(random: &mut Random, old: &[Transaction], store: &Store) -> Request
         Kind::Put if !held.is_empty() && random.once_in(2) => random.pick(held).key,
         _ => any_key(random, records),
     };
-    kind.request(random, transaction, key, records)
+    kind.request(random, transaction, key, store)
+}
+
+/// A read; where letters may be small, either of its calls.
+pub fn read(
+    random: &mut Random,
+    transaction: Transaction,
+    key: Key,
+    now: u32,
+    store: &Store,
+) -> Request {
+    if !store.coordinator.has_small() || random.once_in(2) {
+        return Request::Read {
+            transaction,
+            key,
+            now,
+        };
+    }
+    Request::Second {
+        transaction,
+        key,
+        now,
+        columns: first_columns(random, &key, &store.records),
+    }
 }
 
 /// A read of another key by a transaction that may hold no more, of a PREPARED line if there is one.
-fn read_beyond(random: &mut Random, old: Transaction, records: &[Record]) -> Request {
+fn read_beyond(random: &mut Random, old: Transaction, store: &Store) -> Request {
+    let records = &store.records;
     let transaction = full(random, old, records);
     let others = records.iter();
     let others = others.filter(|line| transaction.place_of(&line.key).is_none());
@@ -121,11 +165,8 @@ fn read_beyond(random: &mut Random, old: Transaction, records: &[Record]) -> Req
         1.. if !random.once_in(3) => random.pick(&prepared).key,
         _ => any_key(random, if others.is_empty() { records } else { &others }),
     };
-    Request::Read {
-        transaction,
-        key,
-        now: clock_for(random, &key, records),
-    }
+    let now = clock_for(random, &key, records);
+    read(random, transaction, key, now, store)
 }
 
 /// A visit, of a prepared line more often.
@@ -157,14 +198,14 @@ impl Kind {
         random: &mut Random,
         transaction: Transaction,
         key: Key,
-        records: &[Record],
+        store: &Store,
     ) -> Request {
+        let records = &store.records;
         match self {
-            Kind::Read => Request::Read {
-                transaction,
-                key,
-                now: clock_for(random, &key, records),
-            },
+            Kind::Read => {
+                let now = clock_for(random, &key, records);
+                read(random, transaction, key, now, store)
+            }
             Kind::Put => Request::Put {
                 transaction,
                 key,

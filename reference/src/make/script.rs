@@ -1,11 +1,12 @@
 //! A history as the text of a replay, with the answers that are expected.
 
-use crate::make::Sheets;
+use crate::make::{Sheets, TwoSheets};
 use crate::plain::request::Request;
 use crate::plain::transaction::{Transaction, MOST_ENTRIES};
 use crate::plain::{coordinator, record};
+use crate::replay::laid_out::LaidOut;
 use crate::replay::line::{Line, SLOTS};
-use crate::replay::{self, state::ReplayState, MOST_BYTES};
+use crate::replay::{self, state::ReplayState, Layout, MOST_BYTES};
 use crate::seen::Seen;
 
 /// Slots from here on are for forged transactions, those below for begun ones.
@@ -22,14 +23,22 @@ pub struct Script {
 }
 
 impl Script {
+    /// A script on these sheets, or on the two that they join.
+    pub fn new(layout: Layout, sheets: &Sheets) -> Script {
+        Script::on(match layout {
+            Layout::Joined => LaidOut::Joined(sheets.clone()),
+            Layout::Two => LaidOut::Two(TwoSheets::of(sheets)),
+        })
+    }
+
     /// A script on these sheets, cut to whole lines.
-    pub fn new(sheets: &Sheets) -> Script {
-        let sheets = whole_lines(sheets.clone());
-        let records = sheets.records.len() / record::LINE;
-        let decisions = sheets.coordinator.len() / coordinator::LINE - 1;
-        let first = replay::first_line(records, decisions);
+    pub fn on(mut sheets: LaidOut) -> Script {
+        match &mut sheets {
+            LaidOut::Joined(sheets) => cut_to_lines(sheets),
+            LaidOut::Two(sheets) => sheets.cut_to_lines(),
+        }
         Script {
-            input: [first, sheets.coordinator.clone(), sheets.records.clone()].concat(),
+            input: sheets.input(),
             state: ReplayState::new(sheets),
             calls: 0,
             answers: Vec::new(),
@@ -40,8 +49,19 @@ impl Script {
 
     /// The whole output expected.
     pub fn expected(&self) -> Vec<u8> {
-        let sheets = replay::both_sheets(&self.state.sheets);
-        [self.answers.clone(), sheets].concat()
+        [self.answers.clone(), self.state.sheets.printed()].concat()
+    }
+
+    pub fn layout(&self) -> Layout {
+        self.state.sheets.layout()
+    }
+
+    /// The sheets as they stand, joined. Two must have the same keys.
+    pub fn joined(&self) -> Sheets {
+        match &self.state.sheets {
+            LaidOut::Joined(sheets) => sheets.clone(),
+            LaidOut::Two(sheets) => sheets.joined(),
+        }
     }
 
     /// Whether there is room for more calls, and for those that close the history.
@@ -51,12 +71,12 @@ impl Script {
 
     /// Adds a line of any form, without its LF.
     pub fn say(&mut self, seen: &mut Seen, text: &[u8]) {
-        let line = Line::parse(text);
+        let line = Line::parse(self.layout(), text);
+        let before = self.state.sheets.clone();
         let request = line.and_then(|line| self.state.request(&line));
         let taken = request.as_ref().and_then(|(_, request)| request.taken());
         let reply = replay::reply(&mut self.state, text);
-        let records = &self.state.sheets.records;
-        self.calls += u64::from(seen.note(line.as_ref(), taken, &reply, records));
+        self.calls += u64::from(seen.note(line.as_ref(), taken, &reply, &before));
         self.input.extend(text);
         self.input.push(b'\n');
         self.answers.extend(reply.printed());
@@ -78,6 +98,14 @@ impl Script {
                 serializable,
             },
             Request::Read { key, now, .. } => Line::Read { slot, key, now },
+            Request::Second {
+                key, now, columns, ..
+            } => Line::Second {
+                slot,
+                key,
+                now,
+                columns,
+            },
             Request::Put { key, columns, .. } => Line::Put { slot, key, columns },
             Request::Advance { now, .. } => Line::Advance { slot, now },
             Request::Abort { .. } => Line::Abort { slot },
@@ -138,16 +166,15 @@ impl Script {
     }
 }
 
-/// The sheets without the part of a line at their ends. There is always a head, good or not.
-fn whole_lines(mut sheets: Sheets) -> Sheets {
+/// Leaves the part of a line at each sheet's end away. There is always a head, good or not.
+fn cut_to_lines(sheets: &mut Sheets) {
     let Sheets {
         records,
         coordinator,
-    } = &mut sheets;
+    } = sheets;
     records.truncate(records.len() / record::LINE * record::LINE);
     coordinator.truncate(coordinator.len() / coordinator::LINE * coordinator::LINE);
     if coordinator.is_empty() {
         coordinator.resize(coordinator::LINE, b'\n');
     }
-    sheets
 }

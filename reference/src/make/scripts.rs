@@ -1,7 +1,7 @@
 //! Scripts of several kinds: demand 3's lists with the sequential model, lists of any calls, orders closed write by write,
 //! orders that stopped half-way, and calls on damaged sheets.
 
-use super::arguments::{any_key, clock, limit};
+use super::arguments::{any_key, clock, key_of, limit};
 use super::bad_lines::bad_line;
 use super::closes;
 use super::closing::close;
@@ -15,8 +15,14 @@ use super::random::Random;
 use super::requests::{begin, stray};
 use super::script::Script;
 use super::sheets::{self, accepted, of_size, Mix, Size};
+use super::two_damage::damaged_two;
+use super::two_orders;
+use super::two_sheets::letters;
+use super::Sheets;
 use crate::plain::record::Record;
+use crate::replay::laid_out::LaidOut;
 use crate::replay::line::{Line, SLOTS};
+use crate::replay::Layout;
 use crate::seen::Seen;
 use crate::sequential_model::SequentialModel;
 
@@ -66,19 +72,23 @@ fn sizes(random: &mut Random, records: usize, decisions: usize) -> Size {
 }
 
 /// A legal history, closed by visits, or how it departs from the sequential model.
-pub fn legal(random: &mut Random, seen: &mut Seen, extent: Extent) -> Result<Script, String> {
-    let (history, calls) = history(random, Rule::Legal, extent);
-    let mut list = LegalList::new(history);
+pub fn legal(
+    random: &mut Random,
+    seen: &mut Seen,
+    layout: Layout,
+    extent: Extent,
+) -> Result<Script, String> {
+    let (mut history, calls) = history(random, Rule::Legal, extent);
+    letters(random, layout, &mut history.sheets);
+    let mut list = LegalList::new(layout, history);
     list.steps(random, seen, calls);
     let inside = list.close(random, seen);
     let LegalList {
         mut script, model, ..
     } = list;
-    if inside && script.state.sheets.records != model.sheet() {
-        return Err(format!(
-            "not the sequential model's sheet\n{}",
-            script.state.sheets
-        ));
+    let joined = script.joined();
+    if inside && joined.records != model.sheet() {
+        return Err(format!("not the sequential model's sheet\n{joined}"));
     }
     script.show_all(seen, random.once_in(3));
     Ok(script)
@@ -92,10 +102,10 @@ struct LegalList {
 }
 
 impl LegalList {
-    fn new(history: History) -> LegalList {
+    fn new(layout: Layout, history: History) -> LegalList {
         let records = &history.sheets.records;
         LegalList {
-            script: Script::new(&history.sheets),
+            script: Script::new(layout, &history.sheets),
             model: SequentialModel::new(records).expect("the first sheet is accepted"),
             history,
         }
@@ -139,9 +149,10 @@ impl LegalList {
 }
 
 /// A history of any calls from any sheets.
-pub fn free(random: &mut Random, seen: &mut Seen, extent: Extent) -> Script {
+pub fn free(random: &mut Random, seen: &mut Seen, layout: Layout, extent: Extent) -> Script {
     let (mut history, calls) = history(random, Rule::Free, extent);
-    let mut script = Script::new(&history.sheets);
+    letters(random, layout, &mut history.sheets);
+    let mut script = Script::new(layout, &history.sheets);
     for _ in 0..calls {
         if !script.has_room() {
             break;
@@ -155,12 +166,14 @@ pub fn free(random: &mut Random, seen: &mut Seen, extent: Extent) -> Script {
 }
 
 /// A few calls from nowhere on small sheets with much in them.
-pub fn crowded(random: &mut Random, seen: &mut Seen) -> Script {
-    let mut script = Script::new(&sheets::crowded(random));
+pub fn crowded(random: &mut Random, seen: &mut Seen, layout: Layout) -> Script {
+    let mut sheets = sheets::crowded(random);
+    letters(random, layout, &mut sheets);
+    let mut script = Script::new(layout, &sheets);
     for _ in 0..16 {
-        let sheets = &script.state.sheets;
+        let sheets = script.joined();
         let request = match random.once_in(6) {
-            true => closes::of_forged(random, sheets),
+            true => closes::of_forged(random, &sheets),
             false => stray(random, &[], &sheets.store()),
         };
         script.ask(seen, &request);
@@ -174,10 +187,11 @@ pub fn crowded(random: &mut Random, seen: &mut Seen) -> Script {
 }
 
 /// Orders of many groups, each closed by some writes at a time, with other calls between. The first is under way already.
-pub fn closed(random: &mut Random, seen: &mut Seen) -> Script {
+pub fn closed(random: &mut Random, seen: &mut Seen, layout: Layout) -> Script {
     let mut sheets = sheets::spread(random);
+    letters(random, layout, &mut sheets);
     let mut order = closes::under_way(random, &mut sheets);
-    let mut script = Script::new(&sheets);
+    let mut script = Script::new(layout, &sheets);
     for _ in 0..2 {
         for _ in 0..random.pick(&[1, 2, 4]) {
             let request = closes::next(random, order, &sheets);
@@ -191,11 +205,27 @@ pub fn closed(random: &mut Random, seen: &mut Seen) -> Script {
 }
 
 /// Visits and reads of orders that stopped half-way.
-pub fn halfway(random: &mut Random, seen: &mut Seen) -> Script {
-    let mut script = Script::new(&halfway::halfway(random));
+pub fn halfway(random: &mut Random, seen: &mut Seen, layout: Layout) -> Script {
+    let mut sheets = sheets::spread(random);
+    letters(random, layout, &mut sheets);
+    let mut script = Script::new(layout, &halfway::halfway(random, sheets));
     for _ in 0..8 {
-        let request = halfway::asking(random, &script.state.sheets);
+        let request = halfway::asking(random, &script.joined());
         script.ask(seen, &request);
+    }
+    script.show_all(seen, false);
+    script
+}
+
+/// Orders on two sheets, read in two calls where that is needed.
+pub fn read_in_two(random: &mut Random, seen: &mut Seen) -> Script {
+    let mut sheets = sheets::of_several_storages(random);
+    letters(random, Layout::Two, &mut sheets);
+    let mut script = Script::new(Layout::Two, &sheets);
+    for _ in 0..3 {
+        for request in two_orders::calls(random, &mut sheets) {
+            script.ask(seen, &request);
+        }
     }
     script.show_all(seen, false);
     script
@@ -206,7 +236,7 @@ fn beside(random: &mut Random, seen: &mut Seen, script: &mut Script, history: &H
     let slot = random.below(SLOTS);
     let line = match random.below(40) {
         0 => Line::Check,
-        1..=3 => looked_up(random, &history.sheets.store().records),
+        1..=3 => looked_up(random, 16, script.layout(), &history.sheets.store().records),
         4..=12 => Line::Show { slot },
         13 => {
             let (now, limit) = (0, limit(random));
@@ -217,6 +247,10 @@ fn beside(random: &mut Random, seen: &mut Seen, script: &mut Script, history: &H
             return unfit(random, seen, script, &good);
         }
         14 => Line::Sheets,
+        15 => {
+            let line = foreign(random, script.layout(), &history.sheets.store().records);
+            return script.say(seen, line.to_string().as_bytes());
+        }
         _ => return,
     };
     if random.once_in(8) {
@@ -225,12 +259,35 @@ fn beside(random: &mut Random, seen: &mut Seen, script: &mut Script, history: &H
     script.add(seen, line);
 }
 
-/// The place of a key's line, or the line.
-fn looked_up(random: &mut Random, records: &[Record]) -> Line {
+/// The place of a key's line, or the line of a sheet, seldom of one that there isn't. Once in so many times the key has a
+/// field out of range.
+fn looked_up(random: &mut Random, times: usize, layout: Layout, records: &[Record]) -> Line {
+    let key = key_of(random, times, records);
+    if random.once_in(2) {
+        return Line::Lookup { key };
+    }
+    let sheet = match layout {
+        Layout::Joined => None,
+        Layout::Two => Some(random.pick(&[0, 0, 1, 1, 2, u32::MAX])),
+    };
+    Line::LineOf { sheet, key }
+}
+
+/// A line that only the other layout's replay knows.
+fn foreign(random: &mut Random, layout: Layout, records: &[Record]) -> Line {
     let key = any_key(random, records);
-    match random.once_in(2) {
-        true => Line::Lookup { key },
-        false => Line::LineOf { key },
+    match layout {
+        Layout::Joined if random.once_in(2) => Line::Second {
+            slot: random.below(SLOTS),
+            key,
+            now: clock(random, records),
+            columns: [0, 0],
+        },
+        Layout::Joined => Line::LineOf {
+            sheet: Some(0),
+            key,
+        },
+        Layout::Two => Line::LineOf { sheet: None, key },
     }
 }
 
@@ -238,29 +295,34 @@ fn looked_up(random: &mut Random, records: &[Record]) -> Line {
 fn unfit(random: &mut Random, seen: &mut Seen, script: &mut Script, good: &Line) {
     let line = bad_line(random, &good.to_string());
     let splits = line.contains(&b'\n');
-    if !splits && Line::parse(&line).is_none() {
+    if !splits && Line::parse(script.layout(), &line).is_none() {
         script.say(seen, &line);
     }
 }
 
-/// Calls of every kind on sheets that are damaged or forged, and lines of any form.
-pub fn damaged(random: &mut Random, seen: &mut Seen) -> Script {
+/// Calls of every kind on sheets that are damaged or forged, and lines of any form. On two sheets they are few, since there
+/// is more to be damaged.
+pub fn damaged(random: &mut Random, seen: &mut Seen, layout: Layout) -> Script {
     let mut sheets = accepted(random);
+    letters(random, layout, &mut sheets);
     let store = sheets.store();
     let records = &store.records;
-    match random.below(4) {
-        0 => forge(random, &mut sheets),
-        _ => damage(random, &mut sheets),
-    }
-    let mut script = Script::new(&sheets);
-    for _ in 0..12 {
+    let mut script = Script::on(match layout {
+        Layout::Joined => LaidOut::Joined(damaged_or_forged(random, sheets)),
+        Layout::Two => LaidOut::Two(damaged_two(random, &sheets)),
+    });
+    let calls = match layout {
+        Layout::Joined => 12,
+        Layout::Two => 4,
+    };
+    for _ in 0..calls {
         let slot = random.below(SLOTS);
         let key = any_key(random, records);
         let now = clock(random, records);
         let limit = limit(random);
         match random.below(12) {
             0 => script.add(seen, random.pick(&[Line::Check, Line::Sheets])),
-            1 => script.add(seen, looked_up(random, records)),
+            1 => script.add(seen, looked_up(random, 4, layout, records)),
             2 => script.add(seen, Line::Visit { key, now }),
             3 => script.ask(seen, &begin(random)),
             4 => any_line(random, seen, &mut script, &Line::Read { slot, key, now }),
@@ -270,8 +332,19 @@ pub fn damaged(random: &mut Random, seen: &mut Seen) -> Script {
             _ => script.ask(seen, &stray(random, &[], &store)),
         }
     }
-    script.show_all(seen, false);
+    match layout {
+        Layout::Joined => script.show_all(seen, false),
+        Layout::Two => script.add(seen, Line::Check),
+    }
     script
+}
+
+pub fn damaged_or_forged(random: &mut Random, mut sheets: Sheets) -> Sheets {
+    match random.below(4) {
+        0 => forge(random, &mut sheets),
+        _ => damage(random, &mut sheets),
+    }
+    sheets
 }
 
 /// A line changed in any way, good or bad.

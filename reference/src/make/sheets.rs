@@ -64,6 +64,18 @@ pub fn crowded(random: &mut Random) -> Sheets {
     with_keys(random, &keys, size, mix)
 }
 
+/// The same with lines in several storages, so that an order holds keys under different letters.
+pub fn of_several_storages(random: &mut Random) -> Sheets {
+    loop {
+        let sheets = crowded(random);
+        let lines = sheets.records.chunks(98);
+        let storages: BTreeSet<&[u8]> = lines.map(|line| &line[..2]).collect();
+        if storages.len() > 1 {
+            return sheets;
+        }
+    }
+}
+
 /// Small sheets without PREPARED lines, each line mostly a unit of its own: room for orders of many groups.
 pub fn spread(random: &mut Random) -> Sheets {
     // So many numbers that some are undecided, most often.

@@ -4,7 +4,9 @@ use super::arguments::{any_key, columns};
 use super::random::Random;
 use crate::plain::coordinator::Decision;
 use crate::plain::groups::groups;
+use crate::plain::key::Key;
 use crate::plain::record::{Image, Record, State, MOST_VERSION};
+use crate::plain::steps::to_validate;
 use crate::plain::store::Store;
 use crate::plain::transaction::*;
 
@@ -12,7 +14,7 @@ use crate::plain::transaction::*;
 pub fn forged(random: &mut Random, mut base: Transaction, store: &Store) -> Transaction {
     if random.below(6) < 4 {
         if !random.once_in(4) {
-            fill(random, &mut base, &store.records);
+            fill(random, &mut base, store);
         }
         base = unreached(random, base, store);
         if !random.once_in(4) {
@@ -49,30 +51,37 @@ fn unreached(random: &mut Random, base: Transaction, store: &Store) -> Transacti
         0 => base.number,
         _ => number_for(random, phase, store).unwrap_or(base.number),
     };
-    let places = places(&base, phase, store);
-    let place = match places {
-        0 => 0,
-        _ if random.once_in(8) => places,
-        _ => random.below(places),
+    // Under small letters those that aren't checked come to check too.
+    let seldom = match store.coordinator.has_small() {
+        true => 2,
+        false => 8,
     };
-    let serializable = phase == CHECK && !random.once_in(8) || random.once_in(2);
-    Transaction {
+    let serializable = phase == CHECK && !random.once_in(seldom) || random.once_in(2);
+    let mut unreached = Transaction {
         number,
         serializable: u32::from(serializable),
-        place: place as u32,
         ..base.entering(phase).with_verdict(verdict)
-    }
+    };
+    let places = places(random, &unreached, store);
+    unreached.place = match places {
+        0 => 0,
+        _ if random.once_in(8) => places as u32,
+        _ => random.below(places) as u32,
+    };
+    unreached
 }
 
-/// How many places the phase has, as far as the entries are as many as told and their storages have letters.
-fn places(base: &Transaction, phase: u32, store: &Store) -> usize {
-    let few = base.count as usize <= MOST_ENTRIES;
-    if !few || base.held().iter().any(|entry| !entry.key.in_range()) {
+/// How many places the phase has, as far as the entries are as many as told and their storages have letters. At times
+/// entries count that check doesn't go over.
+fn places(random: &mut Random, t: &Transaction, store: &Store) -> usize {
+    let few = t.count as usize <= MOST_ENTRIES;
+    if !few || t.held().iter().any(|entry| !entry.key.in_range()) {
         return 0;
     }
-    match phase {
-        PREPARE | FINISH | UNDO => groups(base, &store.coordinator.units).len(),
-        CHECK => base.only_read().count(),
+    match t.phase {
+        PREPARE | FINISH | UNDO => groups(t, &store.coordinator.units).len(),
+        CHECK if random.once_in(4) => t.only_read().count(),
+        CHECK => to_validate(t, &store.coordinator).len(),
         _ => 0,
     }
 }
@@ -110,8 +119,8 @@ pub fn full(random: &mut Random, base: Transaction, records: &[Record]) -> Trans
 }
 
 /// Entries for some lines of the sheet, as if they had just been read, that keep the rules.
-fn fill(random: &mut Random, transaction: &mut Transaction, records: &[Record]) {
-    let lines = some_lines(random, records);
+fn fill(random: &mut Random, transaction: &mut Transaction, store: &Store) {
+    let lines = some_lines(random, &store.records);
     // Where few are out of date, groups are met of which some conditions hold and some don't.
     let seldom = random.pick(&[2, 4, 8]);
     for (entry, line) in transaction.entries.iter_mut().zip(&lines) {
@@ -121,7 +130,7 @@ fn fill(random: &mut Random, transaction: &mut Transaction, records: &[Record]) 
             entry.seen.version = random.pick(&[99_998, 99_999]);
         } else if random.once_in(seldom) {
             date_back(random, &mut entry.seen);
-        } else if random.once_in(2) {
+        } else if random.once_in(often_other(&line.key, store)) {
             other_columns(random, &mut entry.seen);
         }
         if entry.seen.version < MOST_VERSION {
@@ -168,8 +177,16 @@ pub fn date_back(random: &mut Random, seen: &mut Image) {
     }
 }
 
-/// As if columns could differ where version and TxID agree. The condition holds all the same.
-fn other_columns(random: &mut Random, seen: &mut Image) {
+/// Once in how many times columns differ from the line's. Under a capital letter the condition holds all the same.
+fn often_other(key: &Key, store: &Store) -> usize {
+    match store.coordinator.is_small(key.storage) {
+        true => 6,
+        false => 2,
+    }
+}
+
+/// As if columns could differ where version and TxID agree.
+pub fn other_columns(random: &mut Random, seen: &mut Image) {
     if seen.version >= 1 {
         match random.below(2) {
             0 => seen.column_1 = random.figure(0, 99_999_999),

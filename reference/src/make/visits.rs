@@ -4,7 +4,7 @@ use super::arguments::clock;
 use super::damage::TELLING;
 use super::halfway::halfway;
 use super::random::Random;
-use super::sheets::{accepted, crowded, of_size, Mix, Size};
+use super::sheets::{accepted, crowded, of_size, spread, Mix, Size};
 use super::{any, Sheets};
 use crate::compare::Case;
 use crate::plain::{coordinator, record};
@@ -28,7 +28,10 @@ fn input(random: &mut Random) -> Vec<u8> {
         0..=2 | 8 => {
             let sheets = match random.below(6) {
                 0 | 1 => accepted(random),
-                2 => halfway(random),
+                2 => {
+                    let sheets = spread(random);
+                    halfway(random, sheets)
+                }
                 _ => crowded(random),
             };
             let clock = clock(random, &sheets.store().records);

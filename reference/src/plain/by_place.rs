@@ -108,5 +108,7 @@ fn number_of_reading(reading: &Reading) -> u32 {
         Reading::Absent => 0,
         Reading::Columns(_) => 1,
         Reading::Again => 2,
+        // On two sheets only.
+        Reading::First(_) => 3,
     }
 }

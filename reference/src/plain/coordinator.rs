@@ -29,6 +29,8 @@ pub struct Coordinator {
     pub issued: u32,
     /// One for each storage from 1 to 9.
     pub units: [Unit; 9],
+    /// Which storages have a small letter: they can't be read consistently. On two sheets only.
+    pub small: [bool; 9],
     /// The decision of number k at place k - 1.
     pub decisions: Vec<Decision>,
 }
@@ -60,6 +62,15 @@ impl Coordinator {
                 .skip(issued)
                 .all(|d| *d == Decision::Undecided)
     }
+
+    /// Whether the letter of a storage from 1 to 9 is a small one.
+    pub fn is_small(&self, storage: u32) -> bool {
+        self.small[storage as usize - 1]
+    }
+
+    pub fn has_small(&self) -> bool {
+        self.small.contains(&true)
+    }
 }
 
 fn read_unit(letter: u8) -> Option<Unit> {
@@ -67,8 +78,12 @@ fn read_unit(letter: u8) -> Option<Unit> {
     found.map(|pair| pair.0)
 }
 
-fn write_unit(unit: Unit) -> u8 {
-    LETTERS.iter().find(|pair| pair.0 == unit).unwrap().1
+fn write_unit(unit: Unit, small: bool) -> u8 {
+    let letter = LETTERS.iter().find(|pair| pair.0 == unit).unwrap().1;
+    match small {
+        true => letter.to_ascii_lowercase(),
+        false => letter,
+    }
 }
 
 fn read_decision(columns: &[u8]) -> Option<Decision> {
@@ -80,13 +95,28 @@ fn decision_word(decision: Decision) -> &'static str {
     WORDS.iter().find(|pair| pair.0 == decision).unwrap().1
 }
 
-fn read_head(line: &[u8]) -> Option<(u32, [Unit; 9])> {
+/// The nine letters, a small one as its capital.
+fn read_units(letters: &[u8]) -> Option<[Unit; 9]> {
+    let letters = letters.to_ascii_uppercase();
+    let units: Option<Vec<Unit>> = letters.iter().map(|b| read_unit(*b)).collect();
+    units?.try_into().ok()
+}
+
+fn are_small(letters: &[u8]) -> [bool; 9] {
+    std::array::from_fn(|i| letters[i].is_ascii_lowercase())
+}
+
+/// A coordinator without its decisions.
+fn read_head(line: &[u8]) -> Option<Coordinator> {
     if line[4] != b' ' || line[14] != b'\n' {
         return None;
     }
-    let issued = read_figure(&line[0..4])?;
-    let units: Option<Vec<Unit>> = line[5..14].iter().map(|b| read_unit(*b)).collect();
-    Some((issued, units?.try_into().unwrap()))
+    Some(Coordinator {
+        issued: read_figure(&line[0..4])?,
+        units: read_units(&line[5..14])?,
+        small: are_small(&line[5..14]),
+        decisions: Vec::new(),
+    })
 }
 
 /// The decision of a line that bears the number k.
@@ -97,19 +127,23 @@ fn read_line(line: &[u8], k: u32) -> Option<Decision> {
     read_decision(&line[4..14])
 }
 
-/// The coordinator of a sheet that keeps the rules; which TxIDs the records name is not looked at.
+/// The coordinator of a sheet that keeps the rules beside a joined sheet; which TxIDs the records name is not looked at.
 pub fn read_sheet(sheet: &[u8]) -> Option<Coordinator> {
+    read_either_case(sheet).filter(|coordinator| !coordinator.has_small())
+}
+
+/// The same beside two sheets, where letters may be small.
+pub fn read_either_case(sheet: &[u8]) -> Option<Coordinator> {
     if sheet.is_empty() || !sheet.len().is_multiple_of(LINE) {
         return None;
     }
     let (head, lines) = sheet.split_at(LINE);
-    let (issued, units) = read_head(head)?;
+    let head = read_head(head)?;
     let numbered = lines.chunks(LINE).zip(1..);
     let decisions: Option<Vec<Decision>> = numbered.map(|(line, k)| read_line(line, k)).collect();
     let coordinator = Coordinator {
-        issued,
-        units,
         decisions: decisions?,
+        ..head
     };
     coordinator.keeps_rules().then_some(coordinator)
 }
@@ -119,8 +153,9 @@ pub fn write_sheet(sheet: &mut [u8], coordinator: &Coordinator) {
     let (head, lines) = sheet.split_at_mut(LINE);
     write_figure(&mut head[0..4], coordinator.issued);
     head[4] = b' ';
-    for (letter, unit) in head[5..14].iter_mut().zip(coordinator.units) {
-        *letter = write_unit(unit);
+    let units = coordinator.units.into_iter().zip(coordinator.small);
+    for (letter, (unit, small)) in head[5..14].iter_mut().zip(units) {
+        *letter = write_unit(unit, small);
     }
     head[14] = b'\n';
     for (i, line) in lines.chunks_mut(LINE).enumerate() {

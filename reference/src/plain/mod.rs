@@ -13,6 +13,7 @@ pub mod request;
 pub mod steps;
 pub mod store;
 pub mod transaction;
+pub mod two_sheets;
 pub mod visitor;
 pub mod well_formed;
 pub mod writes;
@@ -48,6 +49,8 @@ pub const KEY_NOT_HELD: u32 = 10;
 pub const VERSION_SPENT: u32 = 11;
 /// The line's owner is undecided and has not expired.
 pub const BUSY: u32 = 12;
+/// The two sheets differ in number of lines or in a key.
+pub const SHEETS_DIFFER: u32 = 13;
 
 /// The version of the functions for C: 2.0.0.
 pub fn version() -> u32 {
@@ -74,6 +77,11 @@ pub fn line_of(records: &[u8], key: [u32; 5]) -> &[u8] {
         Ok(place) => &records[place * record::LINE..][..record::LINE],
         Err(_) => &[],
     }
+}
+
+/// The refusal unless what was asked for holds.
+fn require(holds: bool, refusal: u32) -> Result<(), u32> {
+    holds.then_some(()).ok_or(refusal)
 }
 
 /// The place of the key's line among these records, or the refusal.

@@ -122,6 +122,7 @@ fn coordinator_from(numbers: &[u32]) -> Option<Coordinator> {
     let coordinator = Coordinator {
         issued: head[0],
         units: units?.try_into().unwrap(),
+        small: [false; 9],
         decisions: decisions?,
     };
     coordinator.keeps_rules().then_some(coordinator)

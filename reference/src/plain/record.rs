@@ -97,13 +97,13 @@ pub fn state_word(state: State) -> &'static str {
 /// In the order of their numbers.
 pub const STATES: [State; 3] = [State::Absent, State::Committed, State::Prepared];
 
-fn read_state(columns: &[u8]) -> Option<State> {
+pub(super) fn read_state(columns: &[u8]) -> Option<State> {
     STATES
         .into_iter()
         .find(|s| is_word(columns, state_word(*s)))
 }
 
-fn read_key(columns: &[u8]) -> Option<Key> {
+pub(super) fn read_key(columns: &[u8]) -> Option<Key> {
     Some(Key {
         storage: read_figure(&columns[0..2])?,
         namespace: read_figure(&columns[2..5])?,
@@ -113,7 +113,7 @@ fn read_key(columns: &[u8]) -> Option<Key> {
     })
 }
 
-fn read_image(columns: &[u8]) -> Option<Image> {
+pub(super) fn read_image(columns: &[u8]) -> Option<Image> {
     Some(Image {
         version: read_figure(&columns[0..6])?,
         tx_id: read_figure(&columns[6..10])?,
@@ -152,7 +152,7 @@ pub fn read_sheet(sheet: &[u8]) -> Option<Vec<Record>> {
     records.filter(|r| keep_rules(r))
 }
 
-fn write_key(columns: &mut [u8], key: &Key) {
+pub(super) fn write_key(columns: &mut [u8], key: &Key) {
     write_figure(&mut columns[0..2], key.storage);
     write_figure(&mut columns[2..5], key.namespace);
     write_figure(&mut columns[5..8], key.table);
@@ -160,7 +160,7 @@ fn write_key(columns: &mut [u8], key: &Key) {
     write_figure(&mut columns[14..20], key.clustering);
 }
 
-fn write_image(columns: &mut [u8], image: &Image) {
+pub(super) fn write_image(columns: &mut [u8], image: &Image) {
     write_figure(&mut columns[0..6], image.version);
     write_figure(&mut columns[6..10], image.tx_id);
     write_figure(&mut columns[10..19], image.column_1);

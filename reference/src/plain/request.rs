@@ -2,7 +2,7 @@
 
 use super::calls;
 use super::key::Key;
-use super::store::Visit;
+use super::store::{Store, Visit};
 use super::transaction::{Reading, Transaction};
 
 #[derive(Clone, Copy, Debug, PartialEq, Eq)]
@@ -10,10 +10,18 @@ pub enum Request {
     Begin {
         serializable: bool,
     },
+    /// On two sheets the first call of a read.
     Read {
         transaction: Transaction,
         key: Key,
         now: u32,
+    },
+    /// The second call of a read, on two sheets only.
+    Second {
+        transaction: Transaction,
+        key: Key,
+        now: u32,
+        columns: [u32; 2],
     },
     Put {
         transaction: Transaction,
@@ -49,38 +57,63 @@ pub enum Answer {
 }
 
 impl Request {
-    /// Makes the call: its answer, or the refusal.
+    /// Makes the call on a record sheet: its answer, or the refusal. It writes only if it was accepted.
     pub fn make(&self, records: &mut [u8], coordinator: &mut [u8]) -> Result<Answer, u32> {
+        let mut store = Store::read(records, coordinator)?;
+        let answer = self.on(&mut store)?;
+        store.write(records, coordinator);
+        Ok(answer)
+    }
+
+    /// The same on a plain sheet and a bookkeeping sheet.
+    pub fn make_on_two(
+        &self,
+        plain: &mut [u8],
+        bookkeeping: &mut [u8],
+        coordinator: &mut [u8],
+    ) -> Result<Answer, u32> {
+        let mut store = Store::read_two(plain, bookkeeping, coordinator)?;
+        let answer = self.on(&mut store)?;
+        store.write_two(plain, bookkeeping, coordinator);
+        Ok(answer)
+    }
+
+    /// The call on the records of accepted sheets.
+    pub fn on(&self, store: &mut Store) -> Result<Answer, u32> {
+        let read = |(transaction, reading)| Answer::Read(transaction, reading);
         match *self {
             Request::Begin { serializable } => {
-                calls::begin(records, coordinator, serializable).map(Answer::Returned)
+                calls::begin(store, serializable).map(Answer::Returned)
             }
             Request::Read {
                 transaction,
                 key,
                 now,
-            } => calls::read(records, coordinator, transaction, key, now)
-                .map(|(transaction, reading)| Answer::Read(transaction, reading)),
+            } => calls::read(store, transaction, key, now).map(read),
+            Request::Second {
+                transaction,
+                key,
+                now,
+                columns,
+            } => calls::second(store, transaction, key, now, columns).map(read),
             Request::Put {
                 transaction,
                 key,
                 columns,
-            } => calls::put(records, coordinator, transaction, key, columns).map(Answer::Returned),
+            } => calls::put(store, transaction, key, columns).map(Answer::Returned),
             Request::Advance { transaction, now } => {
-                calls::advance(records, coordinator, transaction, now).map(Answer::Returned)
+                calls::advance(store, transaction, now).map(Answer::Returned)
             }
             Request::Abort { transaction } => {
-                calls::abort(records, coordinator, transaction).map(Answer::Returned)
+                calls::abort(store, transaction).map(Answer::Returned)
             }
             Request::Close {
                 transaction,
                 now,
                 limit,
-            } => calls::close(records, coordinator, transaction, now, limit)
+            } => calls::close(store, transaction, now, limit)
                 .map(|(transaction, writes)| Answer::Closed(transaction, writes)),
-            Request::Visit { key, now } => {
-                calls::visit(records, coordinator, key, now).map(Answer::Visited)
-            }
+            Request::Visit { key, now } => calls::visit(store, key, now).map(Answer::Visited),
         }
     }
 
@@ -88,6 +121,7 @@ impl Request {
     pub fn taken(&self) -> Option<&Transaction> {
         match self {
             Request::Read { transaction, .. }
+            | Request::Second { transaction, .. }
             | Request::Put { transaction, .. }
             | Request::Advance { transaction, .. }
             | Request::Abort { transaction }

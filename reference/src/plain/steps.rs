@@ -1,6 +1,6 @@
 //! The step table: what an advance does in each of the eight phases.
 
-use super::coordinator::Decision;
+use super::coordinator::{Coordinator, Decision};
 use super::groups::groups;
 use super::record::{Record, State};
 use super::store::Store;
@@ -21,12 +21,30 @@ pub fn advance(store: &mut Store, t: Transaction, now: u32) -> Result<Transactio
     }
 }
 
-/// Whether the entry's line is still as it was read.
+/// The entries that check goes over, in the order read: those without put that are checked, or whose columns may not be those
+/// of their version.
+pub fn to_validate(t: &Transaction, coordinator: &Coordinator) -> Vec<Entry> {
+    let unsure = |entry: &Entry| coordinator.is_small(entry.key.storage);
+    let only_read = t.only_read().copied();
+    only_read
+        .filter(|entry| t.serializable == 1 || unsure(entry))
+        .collect()
+}
+
+/// Whether the entry's line is still as it was read. Its columns tell more than its version where both were read apart.
 fn condition(store: &Store, entry: &Entry) -> bool {
     let record = store.record(&entry.key);
+    let read_apart = store.coordinator.is_small(entry.key.storage);
     record.state != State::Prepared
         && record.image.tx_id == entry.seen.tx_id
         && record.image.version == entry.seen.version
+        && (!read_apart || record.image.columns() == entry.seen.columns())
+}
+
+/// Whether the transaction may leave out the decision: it isn't checked, and no key that it holds was read in two calls.
+fn may_use_one_phase(t: &Transaction, coordinator: &Coordinator) -> bool {
+    let mut held = t.held().iter();
+    t.serializable == 0 && !held.any(|entry| coordinator.is_small(entry.key.storage))
 }
 
 /// Replaces all lines of a group if all its conditions hold, else none; answers which.
@@ -46,10 +64,11 @@ fn write_group(
 }
 
 fn leave_open(store: &mut Store, t: Transaction) -> Transaction {
+    let to_check = !to_validate(&t, &store.coordinator).is_empty();
     match groups(&t, &store.coordinator.units).as_slice() {
-        [] if t.has_to_check() => t.entering(CHECK),
+        [] if to_check => t.entering(CHECK),
         [] => t.entering(DONE).with_verdict(COMMITTED),
-        [group] if t.serializable == 0 => one_phase(store, t, group),
+        [group] if may_use_one_phase(&t, &store.coordinator) => one_phase(store, t, group),
         _ => t.entering(PREPARE),
     }
 }
@@ -69,13 +88,14 @@ fn prepare(store: &mut Store, t: Transaction, now: u32) -> Transaction {
     if !write_group(store, group, |line, put| line.prepared(t.number, put, now)) {
         return t.entering(WITHDRAW);
     }
-    let then = if t.has_to_check() { CHECK } else { DECIDE };
+    let to_check = !to_validate(&t, &store.coordinator).is_empty();
+    let then = if to_check { CHECK } else { DECIDE };
     t.next_of(groups.len(), t.entering(then))
 }
 
 fn check(store: &Store, t: Transaction) -> Transaction {
-    let entries: Vec<&Entry> = t.only_read().collect();
-    if !condition(store, entries[t.place as usize]) {
+    let entries = to_validate(&t, &store.coordinator);
+    if !condition(store, &entries[t.place as usize]) {
         return t.entering(WITHDRAW);
     }
     let after_last = match t.puts().next() {

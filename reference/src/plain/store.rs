@@ -1,9 +1,10 @@
-//! Both sheets as records: what the calls look at and change.
+//! The sheets as records, joined or two: what the calls look at and change.
 
 use super::coordinator::{self, Coordinator, Decision};
 use super::key::Key;
 use super::record::{self, Record, State};
-use super::{place_of, BAD_COORDINATOR, BAD_RECORDS, BUSY};
+use super::two_sheets;
+use super::{place_of, require, BAD_COORDINATOR, BAD_RECORDS, BUSY, SHEETS_DIFFER};
 
 #[derive(Clone, Debug, PartialEq, Eq)]
 pub struct Store {
@@ -25,15 +26,36 @@ pub enum Visit {
 impl Store {
     /// The records of two accepted sheets, or refusal 1 or 2.
     pub fn read(records: &[u8], coordinator: &[u8]) -> Result<Store, u32> {
+        let store = Store::read_either_case(records, coordinator)?;
+        require(!store.coordinator.has_small(), BAD_COORDINATOR)?;
+        Ok(store)
+    }
+
+    /// The same with small letters, as two sheets join to it.
+    pub fn read_either_case(records: &[u8], coordinator: &[u8]) -> Result<Store, u32> {
+        let records = record::read_sheet(records).ok_or(BAD_RECORDS)?;
+        Store::with(records, coordinator)
+    }
+
+    /// These records and the coordinator's of a sheet, or refusal 2.
+    fn with(records: Vec<Record>, coordinator: &[u8]) -> Result<Store, u32> {
+        let coordinator = coordinator::read_either_case(coordinator);
+        let coordinator = coordinator.ok_or(BAD_COORDINATOR)?;
         let store = Store {
-            records: record::read_sheet(records).ok_or(BAD_RECORDS)?,
-            coordinator: coordinator::read_sheet(coordinator).ok_or(BAD_COORDINATOR)?,
+            records,
+            coordinator,
         };
-        if store.names_issued_only() {
-            Ok(store)
-        } else {
-            Err(BAD_COORDINATOR)
-        }
+        require(store.names_issued_only(), BAD_COORDINATOR)?;
+        Ok(store)
+    }
+
+    /// The joined records of two accepted sheets and the coordinator's, or refusal 1, 2 or 13. Where the sheets don't join,
+    /// the numbers that the bookkeeping sheet names are asked for all the same.
+    pub fn read_two(plain: &[u8], bookkeeping: &[u8], coordinator: &[u8]) -> Result<Store, u32> {
+        let (records, join) = two_sheets::read(plain, bookkeeping).ok_or(BAD_RECORDS)?;
+        let store = Store::with(records, coordinator)?;
+        require(join, SHEETS_DIFFER)?;
+        Ok(store)
     }
 
     /// The before TxID counts too: rolling back would put it in the TxID's place.
@@ -46,6 +68,12 @@ impl Store {
     /// Writes both sheets whole. Accepted sheets have one text, so that nothing but the changes is changed.
     pub fn write(&self, records: &mut [u8], coordinator: &mut [u8]) {
         record::write_sheet(records, &self.records);
+        coordinator::write_sheet(coordinator, &self.coordinator);
+    }
+
+    /// The same with the records as two sheets.
+    pub fn write_two(&self, plain: &mut [u8], bookkeeping: &mut [u8], coordinator: &mut [u8]) {
+        two_sheets::write(plain, bookkeeping, &self.records);
         coordinator::write_sheet(coordinator, &self.coordinator);
     }
 

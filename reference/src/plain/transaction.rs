@@ -43,7 +43,7 @@ pub struct Transaction {
     /// 1 if what was only read is validated too, which the paper calls checked; else 0.
     pub serializable: u32,
     pub phase: u32,
-    /// A group, or in check an entry without put.
+    /// A group, or in check an entry to be validated.
     pub place: u32,
     pub verdict: u32,
     /// The entries that count; those past it mean nothing.
@@ -58,6 +58,8 @@ pub enum Reading {
     Columns([u32; 2]),
     /// The line's owner was aborted only now: the key is not held, and to be read again.
     Again,
+    /// On two sheets: what stood there at the first call of a read that takes two. The key is not held.
+    First([u32; 2]),
 }
 
 impl Entry {
@@ -179,11 +181,6 @@ impl Transaction {
     /// The entries without put, in the order read.
     pub fn only_read(&self) -> impl Iterator<Item = &Entry> {
         self.held().iter().filter(|entry| entry.wrote == 0)
-    }
-
-    /// Whether there are entries to be validated that no put validates.
-    pub fn has_to_check(&self) -> bool {
-        self.serializable == 1 && self.only_read().next().is_some()
     }
 
     /// A new phase starts at place 0.

@@ -2,6 +2,7 @@
 
 use super::groups::groups;
 use super::record::{columns_in_range, MOST_VERSION, NOTHING};
+use super::steps::to_validate;
 use super::store::Store;
 use super::transaction::*;
 use super::ILL_FORMED;
@@ -45,8 +46,7 @@ fn entry_fits(entry: &Entry, store: &Store) -> bool {
 fn phase_fits(transaction: &Transaction) -> bool {
     let verdict = transaction.verdict;
     match transaction.phase {
-        OPEN | PREPARE | WITHDRAW => verdict == NO_VERDICT,
-        CHECK => verdict == NO_VERDICT && transaction.serializable == 1,
+        OPEN | PREPARE | CHECK | WITHDRAW => verdict == NO_VERDICT,
         DECIDE => verdict == NO_VERDICT && transaction.puts().next().is_some(),
         FINISH => verdict == COMMITTED,
         UNDO => verdict == ABORTED,
@@ -59,7 +59,7 @@ fn place_fits(transaction: &Transaction, store: &Store) -> bool {
     let place = transaction.place as usize;
     match transaction.phase {
         PREPARE | FINISH | UNDO => place < groups(transaction, &store.coordinator.units).len(),
-        CHECK => place < transaction.only_read().count(),
+        CHECK => place < to_validate(transaction, &store.coordinator).len(),
         _ => place == 0,
     }
 }

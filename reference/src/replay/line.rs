@@ -1,5 +1,6 @@
 //! One call as a line of text: words and decimal numbers separated by single spaces.
 
+use super::Layout;
 use crate::plain::key::Key;
 use crate::plain::transaction::MOST_ENTRIES;
 use std::fmt;
@@ -18,6 +19,13 @@ pub enum Line {
         slot: usize,
         key: Key,
         now: u32,
+    },
+    /// The second call of a read, on two sheets only.
+    Second {
+        slot: usize,
+        key: Key,
+        now: u32,
+        columns: [u32; 2],
     },
     Put {
         slot: usize,
@@ -43,8 +51,9 @@ pub enum Line {
     Lookup {
         key: Key,
     },
-    /// The record line that the look-up hands back.
+    /// The line that the look-up hands back, on two sheets that of the sheet named.
     LineOf {
+        sheet: Option<u32>,
         key: Key,
     },
     Show {
@@ -61,17 +70,26 @@ pub enum Line {
         place: usize,
         numbers: [u32; 12],
     },
-    /// Both sheets as they stand.
+    /// All sheets as they stand.
     Sheets,
 }
 
 impl Line {
-    /// The call of a line without its LF, or nothing where it has another form.
-    pub fn parse(text: &[u8]) -> Option<Line> {
+    /// The call of a line without its LF, or nothing where it has another form than this layout's replay knows.
+    pub fn parse(layout: Layout, text: &[u8]) -> Option<Line> {
         let mut words = text.split(|byte| *byte == b' ');
         let call = words.next()?;
         let numbers: Option<Vec<u32>> = words.map(number).collect();
-        Line::of(call, &numbers?)
+        let line = Line::of(call, &numbers?)?;
+        line.is_for(layout).then_some(line)
+    }
+
+    fn is_for(&self, layout: Layout) -> bool {
+        match self {
+            Line::Second { .. } => layout == Layout::Two,
+            Line::LineOf { sheet, .. } => sheet.is_some() == (layout == Layout::Two),
+            _ => true,
+        }
     }
 
     fn of(call: &[u8], numbers: &[u32]) -> Option<Line> {
@@ -83,7 +101,14 @@ impl Line {
                 now: *now,
             },
             (b"lookup", key) => Line::Lookup { key: key_of(key)? },
-            (b"line", key) => Line::LineOf { key: key_of(key)? },
+            (b"line", [sheet, key @ ..]) if key.len() == 5 => Line::LineOf {
+                sheet: Some(*sheet),
+                key: key_of(key)?,
+            },
+            (b"line", key) => Line::LineOf {
+                sheet: None,
+                key: key_of(key)?,
+            },
             (_, [slot, rest @ ..]) => Line::on_slot(call, place_below(*slot, SLOTS)?, rest)?,
             _ => return None,
         })
@@ -95,16 +120,6 @@ impl Line {
             (b"begin", [checked @ (0 | 1)]) => Line::Begin {
                 slot,
                 serializable: *checked == 1,
-            },
-            (b"read", [key @ .., now]) => Line::Read {
-                slot,
-                key: key_of(key)?,
-                now: *now,
-            },
-            (b"put", [key @ .., one, other]) => Line::Put {
-                slot,
-                key: key_of(key)?,
-                columns: [*one, *other],
             },
             (b"advance", [now]) => Line::Advance { slot, now: *now },
             (b"abort", []) => Line::Abort { slot },
@@ -122,6 +137,29 @@ impl Line {
                 slot,
                 place: place_below(*place, MOST_ENTRIES)?,
                 numbers: numbers.try_into().ok()?,
+            },
+            _ => Line::on_key(call, slot, numbers)?,
+        })
+    }
+
+    /// A call that names a slot and a key.
+    fn on_key(call: &[u8], slot: usize, numbers: &[u32]) -> Option<Line> {
+        Some(match (call, numbers) {
+            (b"read", [key @ .., now]) => Line::Read {
+                slot,
+                key: key_of(key)?,
+                now: *now,
+            },
+            (b"second", [key @ .., now, one, other]) => Line::Second {
+                slot,
+                key: key_of(key)?,
+                now: *now,
+                columns: [*one, *other],
+            },
+            (b"put", [key @ .., one, other]) => Line::Put {
+                slot,
+                key: key_of(key)?,
+                columns: [*one, *other],
             },
             _ => return None,
         })
@@ -162,6 +200,12 @@ impl fmt::Display for Line {
                 write!(out, "begin {slot} {}", u32::from(*serializable))
             }
             Line::Read { slot, key: k, now } => write!(out, "read {slot} {} {now}", key(k)),
+            Line::Second {
+                slot,
+                key: k,
+                now,
+                columns,
+            } => write!(out, "second {slot} {} {now} {}", key(k), words(columns)),
             Line::Put {
                 slot,
                 key: k,
@@ -172,7 +216,10 @@ impl fmt::Display for Line {
             Line::Close { slot, now, limit } => write!(out, "close {slot} {now} {limit}"),
             Line::Visit { key: k, now } => write!(out, "visit {} {now}", key(k)),
             Line::Lookup { key: k } => write!(out, "lookup {}", key(k)),
-            Line::LineOf { key: k } => write!(out, "line {}", key(k)),
+            Line::LineOf { sheet, key: k } => match sheet {
+                Some(sheet) => write!(out, "line {sheet} {}", key(k)),
+                None => write!(out, "line {}", key(k)),
+            },
             Line::Show { slot } => write!(out, "show {slot}"),
             Line::Set { slot, fields } => write!(out, "set {slot} {}", words(fields)),
             Line::Entry {

@@ -1,28 +1,34 @@
-//! A history of calls as text: both sheets, then one call a line, answered line by line.
+//! A history of calls as text: the sheets, then one call a line, answered line by line.
 //!
-//! The input is a line with the numbers of record lines and of coordinator lines without head, 4 columns each, the
-//! coordinator sheet, the record sheet, both perhaps damaged, and the calls. The output has a line for each call, and the
-//! line `sheets` and both sheets in the same order where a line asks for them and at the end.
+//! The input is a line with the numbers of lines, 4 columns each, the sheets, which may be damaged, and the calls. A replay of
+//! joined sheets tells record lines and coordinator lines without head, and has the coordinator sheet and the record sheet.
+//! One of two sheets tells the lines of the plain sheet, of the bookkeeping sheet and of the coordinator's without head,
+//! and has the coordinator sheet, the plain sheet and the bookkeeping sheet. The output has a line for each call, and the
+//! line `sheets` and the sheets in the same order where a line asks for them and at the end.
 
+pub mod laid_out;
 pub mod line;
 pub mod reply;
 pub mod state;
 
-use crate::make::Sheets;
-use crate::plain::field::read_figure;
-use crate::plain::{coordinator, record};
+use laid_out::parts;
 use line::Line;
 use reply::Reply;
 use state::ReplayState;
 
 /// The most bytes that an input may have.
 pub const MOST_BYTES: usize = 500_000;
-/// Bytes of the first line, LF counted.
-pub const FIRST_LINE: usize = 9;
+
+/// Whether bookkeeping stands on the record sheet or on one of its own. Each has its replay program.
+#[derive(Clone, Copy, Debug, PartialEq, Eq)]
+pub enum Layout {
+    Joined,
+    Two,
+}
 
 /// The whole output for an input.
-pub fn replay(input: &[u8]) -> Vec<u8> {
-    let Some((sheets, calls)) = parts(input) else {
+pub fn replay(layout: Layout, input: &[u8]) -> Vec<u8> {
+    let Some((sheets, calls)) = parts(layout, input) else {
         return b"bad input\n".to_vec();
     };
     let mut state = ReplayState::new(sheets);
@@ -30,51 +36,21 @@ pub fn replay(input: &[u8]) -> Vec<u8> {
     for line in lines(calls) {
         output.extend(reply(&mut state, line).printed());
     }
-    output.extend(both_sheets(&state.sheets));
+    output.extend(state.sheets.printed());
     output
 }
 
 /// What one line of the calls is answered.
 pub fn reply(state: &mut ReplayState, line: &[u8]) -> Reply {
-    match Line::parse(line) {
+    match Line::parse(state.sheets.layout(), line) {
         Some(line) => state.make(&line),
         None => Reply::BadLine,
     }
 }
 
-/// Both sheets as they are printed, after the last answer too.
-pub fn both_sheets(sheets: &Sheets) -> Vec<u8> {
-    [b"sheets\n", &sheets.coordinator[..], &sheets.records].concat()
-}
-
-/// The first line for sheets of these numbers of lines, as far as four columns hold them.
-pub fn first_line(records: usize, decisions: usize) -> Vec<u8> {
-    format!("{records:>4}{decisions:>4}\n").into_bytes()
-}
-
-/// Both sheets, as long as the first line tells, and the calls.
-fn parts(input: &[u8]) -> Option<(Sheets, &[u8])> {
-    if input.len() > MOST_BYTES {
-        return None;
-    }
-    let (first, rest) = input.split_at_checked(FIRST_LINE)?;
-    let records = read_figure(&first[0..4])? as usize;
-    let decisions = read_figure(&first[4..8])? as usize;
-    if first[8] != b'\n' {
-        return None;
-    }
-    let (coordinator, rest) = rest.split_at_checked((decisions + 1) * coordinator::LINE)?;
-    let (records, calls) = rest.split_at_checked(records * record::LINE)?;
-    let sheets = Sheets {
-        records: records.to_vec(),
-        coordinator: coordinator.to_vec(),
-    };
-    Some((sheets, calls))
-}
-
 /// Each line of an input's calls with what is printed for it; none of a bad input.
-pub fn answers(input: &[u8]) -> Vec<(&[u8], Vec<u8>)> {
-    let Some((sheets, calls)) = parts(input) else {
+pub fn answers(layout: Layout, input: &[u8]) -> Vec<(&[u8], Vec<u8>)> {
+    let Some((sheets, calls)) = parts(layout, input) else {
         return Vec::new();
     };
     let mut state = ReplayState::new(sheets);

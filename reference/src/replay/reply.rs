@@ -1,9 +1,7 @@
 //! What a line is answered, and how the answer is written.
 
-use super::both_sheets;
+use super::laid_out::LaidOut;
 use super::line::words;
-use crate::make::Sheets;
-use crate::plain::record;
 use crate::plain::store::Visit;
 use crate::plain::transaction::{Reading, Transaction, MOST_ENTRIES};
 
@@ -21,16 +19,16 @@ pub enum Reply {
     Visited(Visit),
     /// The place of a line, from 0.
     Found(usize),
-    /// A record line without its LF.
-    Line([u8; record::LINE - 1]),
+    /// A line of a sheet without its LF.
+    Line(Vec<u8>),
     Shown(Transaction),
-    /// Both, as they stand.
-    Sheets(Sheets),
+    /// All, as they stand.
+    Sheets(LaidOut),
     BadLine,
 }
 
 impl Reply {
-    /// One line, LF last, or both sheets.
+    /// One line, LF last, or all sheets.
     pub fn printed(&self) -> Vec<u8> {
         let line = match self {
             Reply::Refused(number) => format!("refused {number}"),
@@ -45,7 +43,7 @@ impl Reply {
             Reply::Found(place) => format!("ok {place}"),
             Reply::Line(line) => format!("ok {}", String::from_utf8_lossy(line)),
             Reply::Shown(transaction) => format!("ok {}", words(&shown(transaction))),
-            Reply::Sheets(sheets) => return both_sheets(sheets),
+            Reply::Sheets(sheets) => return sheets.printed(),
             Reply::BadLine => "bad line".into(),
         };
         [line.as_bytes(), b"\n"].concat()
@@ -57,6 +55,7 @@ fn reading_text(reading: &Reading) -> String {
         Reading::Absent => "absent".into(),
         Reading::Again => "again".into(),
         Reading::Columns(columns) => format!("columns {}", words(columns)),
+        Reading::First(columns) => format!("first {}", words(columns)),
     }
 }
 

@@ -1,21 +1,21 @@
-//! Both sheets and the transactions in sixteen slots: what the lines of a replay work on.
+//! The sheets and the transactions in sixteen slots: what the lines of a replay work on.
 
+use super::laid_out::LaidOut;
 use super::line::{Line, SLOTS};
 use super::reply::Reply;
-use crate::make::Sheets;
 use crate::plain;
 use crate::plain::key::Key;
 use crate::plain::request::{Answer, Request};
 use crate::plain::transaction::{Entry, Transaction};
 
 pub struct ReplayState {
-    pub sheets: Sheets,
+    pub sheets: LaidOut,
     /// A slot that no call has used is all 0.
     pub slots: [Transaction; SLOTS],
 }
 
 impl ReplayState {
-    pub fn new(sheets: Sheets) -> ReplayState {
+    pub fn new(sheets: LaidOut) -> ReplayState {
         ReplayState {
             sheets,
             slots: [Transaction::begun(0, false); SLOTS],
@@ -27,7 +27,7 @@ impl ReplayState {
         match *line {
             Line::Check => self.check(),
             Line::Lookup { key } => self.lookup(key),
-            Line::LineOf { key } => self.line_of(key),
+            Line::LineOf { sheet, key } => self.line_of(sheet, key),
             Line::Show { slot } => Reply::Shown(self.slots[slot]),
             Line::Set { slot, fields } => {
                 self.slots[slot] = self.slots[slot].with_fields(fields);
@@ -47,29 +47,29 @@ impl ReplayState {
     }
 
     fn check(&self) -> Reply {
-        match plain::check(&self.sheets.records, &self.sheets.coordinator) {
+        match self.sheets.check() {
             plain::ACCEPTED => Reply::Done,
             refusal => Reply::Refused(refusal),
         }
     }
 
     fn lookup(&self, key: Key) -> Reply {
-        match plain::lookup(&self.sheets.records, key.numbers()) {
+        match self.sheets.lookup(key) {
             Ok(place) => Reply::Found(place),
             Err(refusal) => Reply::Refused(refusal),
         }
     }
 
     /// Nothing is told where no line is handed back.
-    fn line_of(&self, key: Key) -> Reply {
-        let line = plain::line_of(&self.sheets.records, key.numbers());
+    fn line_of(&self, sheet: Option<u32>, key: Key) -> Reply {
+        let line = self.sheets.line_of(sheet, key);
         match line.split_last() {
-            Some((_, line)) => Reply::Line(line.try_into().expect("a whole line")),
+            Some((_, line)) => Reply::Line(line.to_vec()),
             None => Reply::Done,
         }
     }
 
-    /// One of the seven calls on both sheets.
+    /// One of the calls that may write.
     fn call(&mut self, line: &Line) -> Reply {
         let Some((slot, request)) = self.request(line) else {
             return Reply::BadLine;
@@ -91,48 +91,50 @@ impl ReplayState {
         }
     }
 
-    /// The call of a line that makes one of the seven, and the slot that it takes and fills.
+    /// The call of a line that makes one of these, and the slot that it takes and fills.
     pub fn request(&self, line: &Line) -> Option<(Option<usize>, Request)> {
-        let taken = |slot: usize| self.slots[slot];
         Some(match *line {
             Line::Begin { slot, serializable } => (Some(slot), Request::Begin { serializable }),
-            Line::Read { slot, key, now } => {
-                let transaction = taken(slot);
-                let read = Request::Read {
-                    transaction,
-                    key,
-                    now,
-                };
-                (Some(slot), read)
-            }
-            Line::Put { slot, key, columns } => {
-                let transaction = taken(slot);
-                let put = Request::Put {
-                    transaction,
-                    key,
-                    columns,
-                };
-                (Some(slot), put)
-            }
-            Line::Advance { slot, now } => {
-                let transaction = taken(slot);
-                (Some(slot), Request::Advance { transaction, now })
-            }
-            Line::Abort { slot } => {
-                let transaction = taken(slot);
-                (Some(slot), Request::Abort { transaction })
-            }
-            Line::Close { slot, now, limit } => {
-                let transaction = taken(slot);
-                let close = Request::Close {
-                    transaction,
-                    now,
-                    limit,
-                };
-                (Some(slot), close)
-            }
             Line::Visit { key, now } => (None, Request::Visit { key, now }),
+            Line::Read { slot, .. }
+            | Line::Second { slot, .. }
+            | Line::Put { slot, .. }
+            | Line::Advance { slot, .. }
+            | Line::Abort { slot }
+            | Line::Close { slot, .. } => (Some(slot), request_of(self.slots[slot], line)?),
             _ => return None,
         })
     }
+}
+
+/// The call of a line that takes this transaction.
+fn request_of(transaction: Transaction, line: &Line) -> Option<Request> {
+    Some(match *line {
+        Line::Read { key, now, .. } => Request::Read {
+            transaction,
+            key,
+            now,
+        },
+        Line::Second {
+            key, now, columns, ..
+        } => Request::Second {
+            transaction,
+            key,
+            now,
+            columns,
+        },
+        Line::Put { key, columns, .. } => Request::Put {
+            transaction,
+            key,
+            columns,
+        },
+        Line::Advance { now, .. } => Request::Advance { transaction, now },
+        Line::Abort { .. } => Request::Abort { transaction },
+        Line::Close { now, limit, .. } => Request::Close {
+            transaction,
+            now,
+            limit,
+        },
+        _ => return None,
+    })
 }

@@ -8,14 +8,14 @@ pub type Row = (&'static str, &'static [usize]);
 pub struct Answers {
     rows: &'static [Row],
     /// Accepted calls at 0, refused ones at the number of the refusal.
-    counts: Vec<[u64; 13]>,
+    counts: Vec<[u64; 14]>,
 }
 
 impl Answers {
     pub fn new(rows: &'static [Row]) -> Answers {
         Answers {
             rows,
-            counts: vec![[0; 13]; rows.len()],
+            counts: vec![[0; 14]; rows.len()],
         }
     }
 
@@ -51,12 +51,14 @@ impl fmt::Display for Answers {
         let widest = self.rows.iter().map(|(call, _)| call.len()).max();
         let width = widest.unwrap_or(0).max(7) + 2;
         write!(out, "{:<width$}{:>9}", "refusal", "none")?;
-        for number in 1..13 {
+        let most = self.rows.iter().flat_map(|(_, refusals)| *refusals).max();
+        let most = most.copied().unwrap_or(0);
+        for number in 1..=most {
             write!(out, "{number:>8}")?;
         }
         for ((call, _), counts) in self.rows.iter().zip(&self.counts) {
             write!(out, "\n{call:<width$}{:>9}", count(counts[0]))?;
-            for number in &counts[1..] {
+            for number in &counts[1..=most] {
                 write!(out, "{:>8}", count(*number))?;
             }
         }

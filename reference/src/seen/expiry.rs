@@ -79,7 +79,7 @@ pub struct Expiry {
 }
 
 impl Expiry {
-    /// Notes a call and the record sheet after it, which is as it was before: *again* and 12 leave it.
+    /// Notes a call and the record sheet before it or after: *again* and 12 leave it.
     pub fn note(&mut self, found: Option<Found>, records: &[u8]) {
         let Some(Found {
             call,

@@ -7,14 +7,18 @@ mod closes;
 mod expiry;
 mod lists;
 mod steps;
+mod two_kinds;
+mod two_sheets;
 
 use crate::compare::Case;
 use crate::conversions::Conversion;
 use crate::exported::{refusal_of, Call, Lent};
 use crate::plain::by_place;
 use crate::plain::transaction::Transaction;
+use crate::replay::laid_out::LaidOut;
 use crate::replay::line::Line;
 use crate::replay::reply::Reply;
+use crate::replay::Layout;
 use answers::{count, Answers, Row};
 use clients::Clients;
 use closes::Closes;
@@ -22,6 +26,7 @@ use expiry::{Expiry, Found};
 use lists::Lists;
 use std::fmt;
 use steps::{Steps, ADVANCES};
+use two_sheets::OnTwoSheets;
 
 /// The calls of a replay.
 const LINES: &[Row] = &[
@@ -86,6 +91,7 @@ pub struct Seen {
     pub clients: Clients,
     pub lists: Lists,
     expiry: Expiry,
+    two_sheets: OnTwoSheets,
     /// Lines that show, forge or have another form.
     pub other_lines: u64,
 }
@@ -107,17 +113,21 @@ impl Default for Seen {
             clients: Clients::default(),
             lists: Lists::default(),
             expiry: Expiry::default(),
+            two_sheets: OnTwoSheets::default(),
             other_lines: 0,
         }
     }
 }
 
 /// Whether a line of a replay is a call.
-pub fn is_call(line: &[u8]) -> bool {
-    Line::parse(line).as_ref().and_then(call_of).is_some()
+pub fn is_call(layout: Layout, line: &[u8]) -> bool {
+    Line::parse(layout, line)
+        .as_ref()
+        .and_then(call_of)
+        .is_some()
 }
 
-/// The place of a line's call in its table.
+/// The place of a line's call in its table. Only the table of two sheets has the second call of a read.
 fn call_of(line: &Line) -> Option<usize> {
     Some(match line {
         Line::Check => 0,
@@ -130,6 +140,7 @@ fn call_of(line: &Line) -> Option<usize> {
         Line::Visit { .. } => 7,
         Line::Lookup { .. } => 8,
         Line::LineOf { .. } => 9,
+        Line::Second { .. } => 10,
         Line::Show { .. } | Line::Set { .. } | Line::Entry { .. } | Line::Sheets => return None,
     })
 }
@@ -144,14 +155,13 @@ fn conversion_of(conversion: Conversion) -> usize {
 }
 
 impl Seen {
-    /// Notes the reply to a line, the transaction that its call took and the record sheet afterwards; answers whether it is
-    /// a call.
+    /// Notes the reply to a line, the transaction that its call took and the sheets before it; answers whether it is a call.
     pub fn note(
         &mut self,
         line: Option<&Line>,
         taken: Option<&Transaction>,
         reply: &Reply,
-        records: &[u8],
+        before: &LaidOut,
     ) -> bool {
         let Some((line, call)) = line.and_then(|line| Some((line, call_of(line)?))) else {
             self.other_lines += 1;
@@ -161,8 +171,17 @@ impl Seen {
             Reply::Refused(number) => *number,
             _ => 0,
         };
+        let sheets = match before {
+            LaidOut::Joined(sheets) => sheets,
+            LaidOut::Two(_) => {
+                self.two_sheets.note(call, refusal);
+                self.two_sheets.note_kinds(line, taken, reply, before);
+                return true;
+            }
+        };
         self.lines.note(call, refusal);
-        self.expiry.note(Found::in_replay(line, reply), records);
+        let found = Found::in_replay(line, reply);
+        self.expiry.note(found, &sheets.records);
         match (line, taken, reply) {
             (_, Some(taken), Reply::Advanced(returned)) => self.steps.note(taken, returned),
             (Line::Close { limit, .. }, Some(taken), Reply::Closed(returned, writes)) => {
@@ -255,7 +274,14 @@ impl Seen {
 
     /// The calls noted, of every kind.
     pub fn calls(&self) -> u64 {
-        self.lines.total() + self.exported_calls() + self.visitor_inputs()
+        self.lines.total()
+            + self.calls_on_two_sheets()
+            + self.exported_calls()
+            + self.visitor_inputs()
+    }
+
+    pub fn calls_on_two_sheets(&self) -> u64 {
+        self.two_sheets.total()
     }
 
     pub fn exported_calls(&self) -> u64 {
@@ -282,6 +308,7 @@ impl Seen {
         amiss.extend(unseen("written", &CHANGES, &self.changes));
         amiss.extend(self.expiry.amiss());
         amiss.extend(self.lists.amiss());
+        amiss.extend(self.two_sheets.amiss());
         amiss
     }
 }
@@ -307,7 +334,7 @@ fn named(names: &[&str], counts: &[u64]) -> String {
 
 impl fmt::Display for Seen {
     /// The answers of each call in a replay, the steps from phase to phase and how closes ended, the same of the functions
-    /// for C, the answers of the visiting program, and where several lines of a number mattered.
+    /// for C, the answers of the visiting program, where several lines of a number mattered, and what was seen on two sheets.
     fn fmt(&self, out: &mut fmt::Formatter) -> fmt::Result {
         writeln!(out, "{}\n\n{}\n", self.lines, self.steps)?;
         writeln!(out, "{}\n", self.closes)?;
@@ -318,6 +345,7 @@ impl fmt::Display for Seen {
         writeln!(out, "read by place: {}", named(&READINGS, &self.readings))?;
         writeln!(out, "written: {}", named(&CHANGES, &self.changes))?;
         writeln!(out, "{}\n{}\n", self.clients, self.lists)?;
-        write!(out, "{}\n\n{}", self.visitor, self.expiry)
+        writeln!(out, "{}\n\n{}\n", self.visitor, self.expiry)?;
+        write!(out, "on two sheets\n{}", self.two_sheets)
     }
 }

@@ -4,16 +4,17 @@ use crate::programs::Engine;
 use reference::compare::clients::Difference;
 use reference::compare::{Case, Subject};
 use reference::plain::transaction::Transaction;
-use reference::replay::replay;
+use reference::replay::{replay, Layout};
 use std::fs;
 use std::path::PathBuf;
 
 /// Says how the engine departs from what a case expects.
 pub fn told(seed: u64, case: &Case) -> String {
     match case {
-        Case::Replay { input, .. } => {
-            let prefix = least_prefix(input);
-            of_program(seed, prefix, &Engine.replay(prefix), &replay(prefix))
+        Case::Replay { layout, input, .. } => {
+            let prefix = least_prefix(*layout, input);
+            let (output, expected) = (Engine.replay(*layout, prefix), replay(*layout, prefix));
+            of_program(seed, prefix, &output, &expected)
         }
         Case::Visit { input, expected } => {
             of_program(seed, input, &Engine.visitor(input), expected)
@@ -99,10 +100,13 @@ fn of_lists(plain: &[Transaction], engine: &[Transaction]) -> String {
     }
 }
 
-/// A prefix that shows a difference of the replay program and mostly wouldn't without its last line. It is found by halves,
+/// A prefix that shows a difference of a replay program and mostly wouldn't without its last line. It is found by halves,
 /// since answers stay in the output of a longer prefix.
-fn least_prefix(input: &[u8]) -> &[u8] {
-    let shows = |end: usize| Engine.replay(&input[..end]) != Ok(replay(&input[..end]));
+fn least_prefix(layout: Layout, input: &[u8]) -> &[u8] {
+    let shows = |end: usize| {
+        let prefix = &input[..end];
+        Engine.replay(layout, prefix) != Ok(replay(layout, prefix))
+    };
     let line_ends = (1..input.len()).filter(|end| input[end - 1] == b'\n');
     let ends: Vec<usize> = line_ends.chain([input.len()]).collect();
     let (mut low, mut high) = (0, ends.len() - 1);

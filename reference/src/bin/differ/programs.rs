@@ -7,6 +7,7 @@ use reference::compare::Subject;
 use reference::conversions::{self, Conversion};
 use reference::exported::{Call, Lent};
 use reference::make::Sheets;
+use reference::replay::Layout;
 use std::env;
 use std::io::Write;
 use std::path::{Path, PathBuf};
@@ -19,8 +20,12 @@ const FOLDER: &str = "RAPYHEO_PROGRAMS_DIR";
 pub struct Engine;
 
 impl Subject for Engine {
-    fn replay(&self, input: &[u8]) -> Result<Vec<u8>, String> {
-        run(&path("replay"), input)
+    fn replay(&self, layout: Layout, input: &[u8]) -> Result<Vec<u8>, String> {
+        let program = match layout {
+            Layout::Joined => "replay",
+            Layout::Two => "replay_two",
+        };
+        run(&path(program), input)
     }
 
     fn visitor(&self, input: &[u8]) -> Result<Vec<u8>, String> {

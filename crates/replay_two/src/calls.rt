@@ -1,0 +1,89 @@
+// The calls of a history on the plain, the bookkeeping and the coordinator sheet.
+ghost use mathlib.Core.Path.{_≡_};
+ghost use Prim.Native.Nat.{_≤_};
+ghost use lib.ListN.{getD};
+ghost use Rattle.model.specs.TwoSheets.{lookedUpTwo};
+ghost use Rattle.script_calls.specs.Parts.{keyFrom, partAsked};
+use script::reply;
+use script::reply::Form;
+use script::reply::Reply;
+use script::scan::Command;
+use script::scan::Kind;
+use script_calls::calls;
+use script_calls::calls::Asked;
+use script_calls::slots;
+use script_calls::slots::Turn;
+use types::Transaction;
+
+fn check(plain: &[u8], book: &[u8], coordinator: &[u8]) -> Reply
+    ensures { λ r. ⌜ r .count ≤ 102 ⌝ }
+{
+    reply::unless_refused(two_sheets::check(plain, book, coordinator), calls::ok())
+}
+
+fn lookup(n: [u32; 14], plain: &[u8], book: &[u8]) -> Reply
+    ensures { λ r. ⌜ r .count ≤ 102 ⌝ }
+{
+    let place = two_sheets::lookup::place_of(plain, book, calls::key_at(n, 0));
+    if place.refusal != 0 {
+        return reply::refused(place.refusal);
+    }
+    reply::answer(Form::Made, 1, place.index as u32, 0, 0)
+}
+
+// What is printed after the reply: the part of the named sheet that the look-up hands back, and an empty part for a call that asks for none.
+pub fn part<'a>(c: Command, plain: &'a [u8], book: &'a [u8]) -> &'a [u8]
+    ensures { λ r. ⌜ now r ≡ partAsked c (lookedUpTwo (now (plain .entry)) (now (book .entry)) (getD (c .numbers) 0 0) (keyFrom (c .numbers) 1)) ⌝ }
+{
+    let kind = c.kind;
+    let n = c.numbers;
+    if !calls::asks_line(kind) {
+        return &plain[..0];
+    }
+    two_sheets::lookup::lookup(plain, book, n[0], calls::key_at(n, 1))
+}
+
+// A line that asks for a call on a transaction or a visit, or for none.
+fn perform(
+    c: Command,
+    slots: [Transaction; 16],
+    plain: &mut [u8],
+    book: &mut [u8],
+    coordinator: &mut [u8],
+) -> Turn
+    ensures { λ r. ⌜ r .reply .count ≤ 102 ⌝ }
+{
+    match calls::request(c) {
+        Asked::Call(request) => {
+            let t = slots::taken(c, slots);
+            let performed = two_sheets::perform(request, t, plain, book, coordinator);
+            slots::performed(c, slots, performed)
+        }
+        Asked::Nothing => slots::replied(c, slots),
+    }
+}
+
+// What a line leaves, and its reply.
+pub fn run(
+    c: Command,
+    slots: [Transaction; 16],
+    plain: &mut [u8],
+    book: &mut [u8],
+    coordinator: &mut [u8],
+) -> Turn
+    ensures { λ r. ⌜ r .reply .count ≤ 102 ⌝ }
+{
+    let kind = c.kind;
+    let n = c.numbers;
+    match kind {
+        Kind::Check => Turn {
+            slots,
+            reply: check(plain, book, coordinator),
+        },
+        Kind::Lookup => Turn {
+            slots,
+            reply: lookup(n, plain, book),
+        },
+        _ => perform(c, slots, plain, book, coordinator),
+    }
+}

@@ -1,0 +1,200 @@
+// The calls on a plain sheet, a bookkeeping sheet and a coordinator sheet, for every input (document 02, note 4). Both sheets are joined in an area of this call's
+// own, where the call on accepted sheets runs, and an accepted call is split back; a lent area wouldn't do, since a refusal leaves every lent byte.
+ghost use mathlib.Core.Path.{_≡_};
+ghost use mathlib.Core.Bool.{false};
+ghost use Prim.Native.Nat.{ℕ};
+ghost use lib.ListN.{length};
+ghost use Rattle.model.specs.Layouts.{mostRecordBytes};
+ghost use Rattle.model.specs.Refusals.{refusalOf};
+ghost use Rattle.model.specs.TwoSheets.{twoConditions};
+ghost use Rattle.model.specs.Results as model;
+ghost use Rattle.model.specs.Calls.{newTransaction};
+ghost use Rattle.model.specs.Operations as operations;
+ghost use Rattle.model.specs.Operations.{once, coordinatorLeft};
+ghost use Rattle.model.specs.Requests.{operationOf};
+ghost use Rattle.model.specs.TwoCalls.{responseTwo, plainLeft, bookkeepingLeft};
+ghost use Rattle.cores.specs.Answers.{toPerformed};
+ghost use Rattle.two_sheets.specs.Areas.{two};
+ghost use Rattle.two_sheets.specs.Performing.{OnJoined, Gives, Performs};
+
+pub mod checking;
+pub mod lookup;
+
+use cores::Performed;
+use two_join::PLAIN_BYTES;
+use types::Columns;
+use types::Key;
+use types::RECORD_BYTES;
+use types::Request;
+use types::Transaction;
+
+// 0 where the sheets are accepted, else the refusal: 1, 2 or 13.
+pub fn check(plain: &[u8], book: &[u8], coordinator: &[u8]) -> u32
+    ensures { λ r. ⌜ r ≡ refusalOf (twoConditions (now (plain .entry)) (now (book .entry)) (now (coordinator .entry))) ⌝ }
+{
+    let mut area = checking::blank();
+    checking::join_checked(plain, book, coordinator, &mut area)
+}
+
+// What is asked, on both sheets joined in the area. An accepted call goes to both.
+fn on_joined(
+    request: Request,
+    t: Transaction,
+    plain: &mut [u8],
+    book: &mut [u8],
+    coordinator: &mut [u8],
+    area: &mut [u8],
+) -> Performed
+    requires { ⌜ OnJoined (now plain) (now book) (now coordinator) (now area) ⌝ }
+    ensures { λ r. ⌜ Performs request t (now (plain .entry)) (now (book .entry)) (now (coordinator .entry)) r (now (plain .exit)) (now (book .exit)) (now (coordinator .exit)) ⌝ }
+{
+    let performed = perform::perform(request, t, area, coordinator);
+    if performed.refusal == 0 {
+        two_join::split_plain(area, plain);
+        two_join::split_bookkeeping(area, book);
+    }
+    performed
+}
+
+// The same with the area to be filled.
+fn on_area(
+    request: Request,
+    t: Transaction,
+    plain: &mut [u8],
+    book: &mut [u8],
+    coordinator: &mut [u8],
+    area: &mut [u8],
+) -> Performed
+    requires { ⌜ length (now area) ≡ mostRecordBytes ⌝ }
+    ensures { λ r. ⌜ Performs request t (now (plain .entry)) (now (book .entry)) (now (coordinator .entry)) r (now (plain .exit)) (now (book .exit)) (now (coordinator .exit)) ⌝ }
+{
+    let refused = checking::join_checked(plain, book, coordinator, area);
+    if refused != 0 {
+        return cores::read::refusal(refused, t);
+    }
+    let n = plain.len() / PLAIN_BYTES * RECORD_BYTES;
+    on_joined(request, t, plain, book, coordinator, &mut area[..n])
+}
+
+// Every call by one function: what is asked, of a transaction.
+pub fn perform(
+    request: Request,
+    t: Transaction,
+    plain: &mut [u8],
+    book: &mut [u8],
+    coordinator: &mut [u8],
+) -> Performed
+    ensures answer { λ r. ⌜ r ≡ toPerformed t (responseTwo (operationOf request t) (two (now (plain .entry)) (now (book .entry)) (now (coordinator .entry)))) ⌝ }
+    ensures plain { λ r. ⌜ now (plain .exit) ≡ plainLeft (now (plain .entry)) (responseTwo (operationOf request t) (two (now (plain .entry)) (now (book .entry)) (now (coordinator .entry)))) ⌝ }
+    ensures bookkeeping { λ r. ⌜ now (book .exit) ≡ bookkeepingLeft (now (book .entry)) (responseTwo (operationOf request t) (two (now (plain .entry)) (now (book .entry)) (now (coordinator .entry)))) ⌝ }
+    ensures decisions { λ r. ⌜ now (coordinator .exit) ≡ coordinatorLeft (now (coordinator .entry)) (responseTwo (operationOf request t) (two (now (plain .entry)) (now (book .entry)) (now (coordinator .entry)))) ⌝ }
+{
+    let mut area = checking::blank();
+    on_area(request, t, plain, book, coordinator, &mut area)
+}
+
+// A refused begin gives a transaction of number 0.
+pub fn begin(
+    serializable: bool,
+    plain: &mut [u8],
+    book: &mut [u8],
+    coordinator: &mut [u8],
+) -> Performed
+    ensures { λ r. ⌜ Gives (once (model.begin serializable)) (newTransaction 0 false) (now (plain .entry)) (now (book .entry)) (now (coordinator .entry)) r (now (plain .exit)) (now (book .exit)) (now (coordinator .exit)) ⌝ }
+{
+    let none = transactions::new_transaction(0, false);
+    perform(Request::Begin(serializable), none, plain, book, coordinator)
+}
+
+// The read, or the first of its two calls, which answers the columns of the plain sheet.
+pub fn read(
+    t: Transaction,
+    key: Key,
+    clock: u32,
+    plain: &mut [u8],
+    book: &mut [u8],
+    coordinator: &mut [u8],
+) -> Performed
+    ensures { λ r. ⌜ Gives (once (model.read t key clock)) t (now (plain .entry)) (now (book .entry)) (now (coordinator .entry)) r (now (plain .exit)) (now (book .exit)) (now (coordinator .exit)) ⌝ }
+{
+    perform(Request::Read(key, clock), t, plain, book, coordinator)
+}
+
+// The second call of a read, with the columns that the first answered.
+pub fn second(
+    t: Transaction,
+    key: Key,
+    clock: u32,
+    columns: Columns,
+    plain: &mut [u8],
+    book: &mut [u8],
+    coordinator: &mut [u8],
+) -> Performed
+    ensures { λ r. ⌜ Gives (once (model.second t key clock columns)) t (now (plain .entry)) (now (book .entry)) (now (coordinator .entry)) r (now (plain .exit)) (now (book .exit)) (now (coordinator .exit)) ⌝ }
+{
+    perform(
+        Request::Second(key, clock, columns),
+        t,
+        plain,
+        book,
+        coordinator,
+    )
+}
+
+pub fn put(
+    t: Transaction,
+    key: Key,
+    columns: Columns,
+    plain: &mut [u8],
+    book: &mut [u8],
+    coordinator: &mut [u8],
+) -> Performed
+    ensures { λ r. ⌜ Gives (once (model.put t key columns)) t (now (plain .entry)) (now (book .entry)) (now (coordinator .entry)) r (now (plain .exit)) (now (book .exit)) (now (coordinator .exit)) ⌝ }
+{
+    perform(Request::Put(key, columns), t, plain, book, coordinator)
+}
+
+pub fn advance(
+    t: Transaction,
+    clock: u32,
+    plain: &mut [u8],
+    book: &mut [u8],
+    coordinator: &mut [u8],
+) -> Performed
+    ensures { λ r. ⌜ Gives (once (model.advance t clock)) t (now (plain .entry)) (now (book .entry)) (now (coordinator .entry)) r (now (plain .exit)) (now (book .exit)) (now (coordinator .exit)) ⌝ }
+{
+    perform(Request::Advance(clock), t, plain, book, coordinator)
+}
+
+pub fn close(
+    t: Transaction,
+    clock: u32,
+    limit: u32,
+    plain: &mut [u8],
+    book: &mut [u8],
+    coordinator: &mut [u8],
+) -> Performed
+    ensures { λ r. ⌜ Gives (operations.close t clock limit) t (now (plain .entry)) (now (book .entry)) (now (coordinator .entry)) r (now (plain .exit)) (now (book .exit)) (now (coordinator .exit)) ⌝ }
+{
+    perform(Request::Close(clock, limit), t, plain, book, coordinator)
+}
+
+pub fn abort(t: Transaction, plain: &mut [u8], book: &mut [u8], coordinator: &mut [u8]) -> Performed
+    ensures { λ r. ⌜ Gives (once (model.abort t)) t (now (plain .entry)) (now (book .entry)) (now (coordinator .entry)) r (now (plain .exit)) (now (book .exit)) (now (coordinator .exit)) ⌝ }
+{
+    perform(Request::Abort, t, plain, book, coordinator)
+}
+
+// A visit takes no transaction, and gives one of number 0.
+pub fn visit(
+    key: Key,
+    clock: u32,
+    plain: &mut [u8],
+    book: &mut [u8],
+    coordinator: &mut [u8],
+) -> Performed
+    ensures { λ r. ⌜ Gives (once (model.visit key clock)) (newTransaction 0 false) (now (plain .entry)) (now (book .entry)) (now (coordinator .entry)) r (now (plain .exit)) (now (book .exit)) (now (coordinator .exit)) ⌝ }
+{
+    let none = transactions::new_transaction(0, false);
+    perform(Request::Visit(key, clock), none, plain, book, coordinator)
+}

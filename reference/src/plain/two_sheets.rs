@@ -1,0 +1,156 @@
+//! Bookkeeping on a sheet of its own: the plain sheet has key, column 1 and column 2, the bookkeeping sheet key and the rest.
+//! Both have the same keys in the same order, so that they join to one record sheet.
+
+use super::field::{read_figure, write_figure, write_word};
+use super::key::Key;
+use super::record::{self, state_word, Image, Record, MOST_LINES};
+use super::store::Store;
+use super::{place_of, require, ACCEPTED, BAD_RECORDS, SHEETS_DIFFER};
+
+/// Bytes of a line of each sheet, LF counted.
+pub const PLAIN_LINE: usize = 39;
+pub const BOOKKEEPING_LINE: usize = 80;
+
+/// The sheets by the numbers that name them.
+pub const PLAIN: u32 = 0;
+pub const BOOKKEEPING: u32 = 1;
+
+/// A line of the plain sheet.
+pub struct PlainLine {
+    pub key: Key,
+    pub columns: [u32; 2],
+}
+
+fn read_plain_line(line: &[u8]) -> Option<PlainLine> {
+    let columns = [read_figure(&line[20..29])?, read_figure(&line[29..38])?];
+    let read = PlainLine {
+        key: record::read_key(&line[0..20])?,
+        columns,
+    };
+    (line[38] == b'\n').then_some(read)
+}
+
+/// A line of the bookkeeping sheet as a record whose columns are 0: a rule that doesn't speak of them holds of the line
+/// exactly if it holds of that record.
+fn read_bookkeeping_line(line: &[u8]) -> Option<Record> {
+    let image = Image {
+        version: read_figure(&line[30..36])?,
+        tx_id: read_figure(&line[36..40])?,
+        column_1: 0,
+        column_2: 0,
+    };
+    let read = Record {
+        key: record::read_key(&line[0..20])?,
+        state: record::read_state(&line[20..30])?,
+        image,
+        before: record::read_image(&line[40..68])?,
+        prepare_clock: read_figure(&line[68..79])?,
+    };
+    (line[79] == b'\n').then_some(read)
+}
+
+/// The lines of a plain sheet that refusal 1 lets pass alone.
+pub fn read_plain(sheet: &[u8]) -> Option<Vec<PlainLine>> {
+    if !sheet.len().is_multiple_of(PLAIN_LINE) {
+        return None;
+    }
+    let lines: Option<Vec<PlainLine>> = sheet.chunks(PLAIN_LINE).map(read_plain_line).collect();
+    let lines = lines?;
+    let in_range = |line: &PlainLine| line.key.in_range() && record::columns_in_range(line.columns);
+    let rising = lines.windows(2).all(|pair| pair[0].key < pair[1].key);
+    let count = (1..=MOST_LINES).contains(&lines.len());
+    (count && rising && lines.iter().all(in_range)).then_some(lines)
+}
+
+/// The lines of a bookkeeping sheet that refusal 1 lets pass alone.
+pub fn read_bookkeeping(sheet: &[u8]) -> Option<Vec<Record>> {
+    if !sheet.len().is_multiple_of(BOOKKEEPING_LINE) {
+        return None;
+    }
+    let lines = sheet.chunks(BOOKKEEPING_LINE);
+    let records: Option<Vec<Record>> = lines.map(read_bookkeeping_line).collect();
+    records.filter(|records| record::keep_rules(records))
+}
+
+/// Whether the sheets have as many lines and the same keys.
+fn have_same_keys(plain: &[PlainLine], bookkeeping: &[Record]) -> bool {
+    let pairs = plain.iter().zip(bookkeeping);
+    let mut same = pairs.map(|(line, record)| line.key == record.key);
+    plain.len() == bookkeeping.len() && same.all(|same| same)
+}
+
+fn with_columns(record: &Record, columns: [u32; 2]) -> Record {
+    let mut record = *record;
+    [record.image.column_1, record.image.column_2] = columns;
+    record
+}
+
+/// What refusal 1 lets pass: the joined records and true, or those of the bookkeeping sheet alone and false, where the
+/// sheets don't join.
+pub fn read(plain: &[u8], bookkeeping: &[u8]) -> Option<(Vec<Record>, bool)> {
+    let plain = read_plain(plain)?;
+    let bookkeeping = read_bookkeeping(bookkeeping)?;
+    if !have_same_keys(&plain, &bookkeeping) {
+        return Some((bookkeeping, false));
+    }
+    let pairs = bookkeeping.iter().zip(&plain);
+    let joined: Vec<Record> = pairs
+        .map(|(record, line)| with_columns(record, line.columns))
+        .collect();
+    record::keep_rules(&joined).then_some((joined, true))
+}
+
+fn write_plain_line(line: &mut [u8], record: &Record) {
+    record::write_key(&mut line[0..20], &record.key);
+    write_figure(&mut line[20..29], record.image.column_1);
+    write_figure(&mut line[29..38], record.image.column_2);
+    line[38] = b'\n';
+}
+
+fn write_bookkeeping_line(line: &mut [u8], record: &Record) {
+    record::write_key(&mut line[0..20], &record.key);
+    write_word(&mut line[20..30], state_word(record.state));
+    write_figure(&mut line[30..36], record.image.version);
+    write_figure(&mut line[36..40], record.image.tx_id);
+    record::write_image(&mut line[40..68], &record.before);
+    write_figure(&mut line[68..79], record.prepare_clock);
+    line[79] = b'\n';
+}
+
+/// Writes records that keep the rules to two sheets of just their lengths.
+pub fn write(plain: &mut [u8], bookkeeping: &mut [u8], records: &[Record]) {
+    for (line, record) in plain.chunks_mut(PLAIN_LINE).zip(records) {
+        write_plain_line(line, record);
+    }
+    for (line, record) in bookkeeping.chunks_mut(BOOKKEEPING_LINE).zip(records) {
+        write_bookkeeping_line(line, record);
+    }
+}
+
+/// 0 where the sheets are accepted, else the refusal.
+pub fn check(plain: &[u8], bookkeeping: &[u8], coordinator: &[u8]) -> u32 {
+    match Store::read_two(plain, bookkeeping, coordinator) {
+        Ok(_) => ACCEPTED,
+        Err(refusal) => refusal,
+    }
+}
+
+/// The place of the key's line in either sheet, from 0, or refusal 1, 13, 5 or 6.
+pub fn lookup(plain: &[u8], bookkeeping: &[u8], key: Key) -> Result<usize, u32> {
+    let (records, join) = read(plain, bookkeeping).ok_or(BAD_RECORDS)?;
+    require(join, SHEETS_DIFFER)?;
+    place_of(&records, &key)
+}
+
+/// The key's line as a part of the sheet that is named, LF counted; an empty part where the look-up is refused or no
+/// sheet has that number.
+pub fn line_of<'a>(plain: &'a [u8], bookkeeping: &'a [u8], sheet: u32, key: Key) -> &'a [u8] {
+    let Ok(place) = lookup(plain, bookkeeping, key) else {
+        return &[];
+    };
+    match sheet {
+        PLAIN => &plain[place * PLAIN_LINE..][..PLAIN_LINE],
+        BOOKKEEPING => &bookkeeping[place * BOOKKEEPING_LINE..][..BOOKKEEPING_LINE],
+        _ => &[],
+    }
+}

@@ -1,0 +1,143 @@
+//! The sheets of a replay, joined or two: how an input tells them and how they are printed, and the calls on them.
+
+use super::{Layout, MOST_BYTES};
+use crate::make::{Sheets, TwoSheets};
+use crate::plain::field::read_figure;
+use crate::plain::key::Key;
+use crate::plain::request::{Answer, Request};
+use crate::plain::store::Store;
+use crate::plain::two_sheets::{self, BOOKKEEPING_LINE, PLAIN_LINE};
+use crate::plain::{self, coordinator, record};
+
+#[derive(Clone, Debug, PartialEq, Eq)]
+pub enum LaidOut {
+    Joined(Sheets),
+    Two(TwoSheets),
+}
+
+/// The numbers of lines that a first line tells, and what follows it.
+fn counts(figures: usize, input: &[u8]) -> Option<(Vec<usize>, &[u8])> {
+    let (first, rest) = input.split_at_checked(figures * 4 + 1)?;
+    let (end, columns) = first.split_last()?;
+    if *end != b'\n' {
+        return None;
+    }
+    let counts: Option<Vec<u32>> = columns.chunks(4).map(read_figure).collect();
+    let counts = counts?.into_iter().map(|count| count as usize);
+    Some((counts.collect(), rest))
+}
+
+/// The sheets, as long as the first line tells, and the calls.
+pub fn parts(layout: Layout, input: &[u8]) -> Option<(LaidOut, &[u8])> {
+    if input.len() > MOST_BYTES {
+        return None;
+    }
+    match layout {
+        Layout::Joined => joined_parts(input),
+        Layout::Two => two_parts(input),
+    }
+}
+
+fn joined_parts(input: &[u8]) -> Option<(LaidOut, &[u8])> {
+    let (counts, rest) = counts(2, input)?;
+    let (coordinator, rest) = rest.split_at_checked((counts[1] + 1) * coordinator::LINE)?;
+    let (records, calls) = rest.split_at_checked(counts[0] * record::LINE)?;
+    let sheets = Sheets {
+        records: records.to_vec(),
+        coordinator: coordinator.to_vec(),
+    };
+    Some((LaidOut::Joined(sheets), calls))
+}
+
+fn two_parts(input: &[u8]) -> Option<(LaidOut, &[u8])> {
+    let (counts, rest) = counts(3, input)?;
+    let (coordinator, rest) = rest.split_at_checked((counts[2] + 1) * coordinator::LINE)?;
+    let (plain, rest) = rest.split_at_checked(counts[0] * PLAIN_LINE)?;
+    let (bookkeeping, calls) = rest.split_at_checked(counts[1] * BOOKKEEPING_LINE)?;
+    let sheets = TwoSheets {
+        plain: plain.to_vec(),
+        bookkeeping: bookkeeping.to_vec(),
+        coordinator: coordinator.to_vec(),
+    };
+    Some((LaidOut::Two(sheets), calls))
+}
+
+impl LaidOut {
+    pub fn layout(&self) -> Layout {
+        match self {
+            LaidOut::Joined(_) => Layout::Joined,
+            LaidOut::Two(_) => Layout::Two,
+        }
+    }
+
+    /// The sheets in the order of an input.
+    fn sheets(&self) -> Vec<u8> {
+        match self {
+            LaidOut::Joined(s) => [&s.coordinator[..], &s.records].concat(),
+            LaidOut::Two(s) => [&s.coordinator[..], &s.plain, &s.bookkeeping].concat(),
+        }
+    }
+
+    /// As they are printed, after the last answer too.
+    pub fn printed(&self) -> Vec<u8> {
+        [b"sheets\n", &self.sheets()[..]].concat()
+    }
+
+    /// An input without calls on sheets of whole lines, as far as four columns hold their numbers.
+    pub fn input(&self) -> Vec<u8> {
+        let decisions = |sheet: &[u8]| sheet.len() / coordinator::LINE - 1;
+        let counts = match self {
+            LaidOut::Joined(s) => vec![s.records.len() / record::LINE, decisions(&s.coordinator)],
+            LaidOut::Two(s) => vec![
+                s.plain.len() / PLAIN_LINE,
+                s.bookkeeping.len() / BOOKKEEPING_LINE,
+                decisions(&s.coordinator),
+            ],
+        };
+        let first = counts.iter().map(|count| format!("{count:>4}"));
+        let first: String = first.chain(["\n".into()]).collect();
+        [first.as_bytes(), &self.sheets()].concat()
+    }
+
+    pub fn ask(&mut self, request: Request) -> Result<Answer, u32> {
+        match self {
+            LaidOut::Joined(sheets) => sheets.ask(request),
+            LaidOut::Two(sheets) => sheets.ask(request),
+        }
+    }
+
+    /// 0 where the sheets are accepted, else the refusal.
+    pub fn check(&self) -> u32 {
+        match self {
+            LaidOut::Joined(s) => plain::check(&s.records, &s.coordinator),
+            LaidOut::Two(s) => two_sheets::check(&s.plain, &s.bookkeeping, &s.coordinator),
+        }
+    }
+
+    /// The records, if the sheets are accepted.
+    pub fn store(&self) -> Option<Store> {
+        let store = match self {
+            LaidOut::Joined(s) => Store::read(&s.records, &s.coordinator),
+            LaidOut::Two(s) => Store::read_two(&s.plain, &s.bookkeeping, &s.coordinator),
+        };
+        store.ok()
+    }
+
+    pub fn lookup(&self, key: Key) -> Result<usize, u32> {
+        match self {
+            LaidOut::Joined(s) => plain::lookup(&s.records, key.numbers()),
+            LaidOut::Two(s) => two_sheets::lookup(&s.plain, &s.bookkeeping, key),
+        }
+    }
+
+    /// The line of the key, on two sheets of the one named.
+    pub fn line_of(&self, sheet: Option<u32>, key: Key) -> &[u8] {
+        match (self, sheet) {
+            (LaidOut::Joined(s), _) => plain::line_of(&s.records, key.numbers()),
+            (LaidOut::Two(s), Some(sheet)) => {
+                two_sheets::line_of(&s.plain, &s.bookkeeping, sheet, key)
+            }
+            (LaidOut::Two(_), None) => &[],
+        }
+    }
+}
