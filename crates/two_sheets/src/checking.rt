@@ -137,7 +137,7 @@ pub fn join_checked(plain: &[u8], book: &[u8], coordinator: &[u8], area: &mut [u
 {
     let refused = lines_refusal(plain, book, area);
     if refused == 1 {
-        return 1;
+        return refused;
     }
     let n = book.len() / BOOKKEEPING_BYTES * RECORD_BYTES;
     if !fits(&area[..n], coordinator) {

@@ -1,5 +1,5 @@
 -- The lines first, then the coordinator sheet beside what stands in the area.
-use Rattle.lists.specs.Basics.{length-take, arith, not-true, not-false, needs}
+use Rattle.lists.specs.Basics.{_∙_, length-take, arith, not-true, not-false, needs}
 use Rattle.two_sheets.specs.Areas.{few, check-bad, check-unfit, check-fit}
 use Rattle.two_sheets.proofs.checking.join_checked.Statement.{statement}
 use Rattle.two_sheets.proofs.checking.join_checked.Tie as tie
@@ -7,7 +7,7 @@ use Rattle.two_sheets.proofs.checking.join_checked.Tie as tie
 returns : tie.Need-returns
 returns c =
     let a = c .before .before .before .before .before .before .before .before .before .args in
-    (check-bad (a .plain .now) (a .book .now) (a .coordinator .now) _ _ (c .before .before .before .lines-refusal .ensures) (c .if1 .taken), λ z. absurd (omega (arith, z)))
+    (c .if1 .taken ∙ check-bad (a .plain .now) (a .book .now) (a .coordinator .now) _ _ (c .before .before .before .lines-refusal .ensures) (c .if1 .taken), λ z. absurd (omega (arith, z, c .if1 .taken)))
 
 slice-reshare-prefix-fits : tie.Need-slice-reshare-prefix-fits
 slice-reshare-prefix-fits c =
