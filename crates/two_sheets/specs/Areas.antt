@@ -187,12 +187,12 @@ module _ (ps bs cs area : List ℕ) (r : ℕ) (h : Lines ps bs r area) where
   check-bad e = sym (keys-bad ps bs cs (sym (h .told) ∙ e))
 
   module _ (z : r ≡ 1 → ⊥) (f : Bool) (told : f ≡ (coordinatorReadable cs && allIssued (take (joinedSize bookkeepingBytes bs) area) cs)) where
-    fitting : f ≡ coordinatorFits bs cs
+    same-test : f ≡ coordinatorFits bs cs
     unfolding coordinatorFits allIssued
-    fitting = told ∙ ap (λ (x : Bool). coordinatorReadable cs && x) (h .names z .same (coordinatorOf cs .issued))
+    same-test = told ∙ ap (λ (x : Bool). coordinatorReadable cs && x) (h .names z .same (coordinatorOf cs .issued))
 
     past : refusalOf (twoConditions ps bs cs) ≡ cond f r 2
-    past = keys-past ps bs cs (λ e. z (h .told ∙ e)) ∙ ap₂ (λ (x : Bool) (n : ℕ). cond x n 2) (sym fitting) (sym (h .told))
+    past = keys-past ps bs cs (λ e. z (h .told ∙ e)) ∙ ap₂ (λ (x : Bool) (n : ℕ). cond x n 2) (sym same-test) (sym (h .told))
 
     pub check-unfit : f ≡ false → 2 ≡ refusalOf (twoConditions ps bs cs)
     check-unfit e = sym (past ∙ rw e)

@@ -14,6 +14,7 @@ use Rattle.two_sheets.specs.Areas.{joinedSize}
 pub record Placed (ps bs : List ℕ) (k : Key) (r : Place) : Type 0 where
   pub told : r .refusal ≡ refusalOf (lookupTwoConditions ps bs k)
   pub at : r .refusal ≡ 0 → found k (records (joinedSheet ps bs)) ≡ At (r .index)
+  pub nowhere : (r .refusal ≡ 0 → ⊥) → r .index ≡ 0
   pub fits : r .refusal ≡ 0 → (r .index * plainBytes + plainBytes ≤ length ps) × (r .index * bookkeepingBytes + bookkeepingBytes ≤ length bs)
 
 module _ (ps bs : List ℕ) (k : Key) where
@@ -22,7 +23,7 @@ module _ (ps bs : List ℕ) (k : Key) where
 
   -- refused with a number
   placed-not : (n : ℕ) → n ≡ refusalOf (lookupTwoConditions ps bs k) → (n ≡ 0 → ⊥) → Placed ps bs k (record { refusal = n; index = 0 })
-  placed-not n e z = record { told = e; at = λ h. absurd (z h); fits = λ h. absurd (z h) }
+  placed-not n e z = record { told = e; at = λ h. absurd (z h); nowhere = λ h. refl; fits = λ h. absurd (z h) }
 
   pub placed-refused : (n : ℕ) → n ≡ refusalOf (keyConditions ps bs) → (n ≡ 0 → ⊥) → Placed ps bs k (record { refusal = n; index = 0 })
   unfolding lookupTwoConditions
@@ -47,7 +48,7 @@ module _ (ps bs : List ℕ) (k : Key) where
       placed-at i e n c =
           let f : found k (records (joinedSheet ps bs)) ≡ At i = ap (λ (x : List ℕ). found k (records x)) (sym joined) ∙ e in
           let l = found-fits s k i e in
-          record { told = sym (past ∙ rw (ranged, f)); at = λ z. f; fits = λ z. (omega arith, omega arith) }
+          record { told = sym (past ∙ rw (ranged, f)); at = λ z. f; nowhere = λ z. absurd (z refl); fits = λ z. (omega arith, omega arith) }
 
 -- an index that was found is that of one of 500 lines
 pub index-below : (ps bs : List ℕ) (k : Key) (r : Place) → Placed ps bs k r → r .refusal ≡ 0 → r .index < 500
