@@ -30,8 +30,9 @@
  *   - slices of one call do not overlap, and nobody else reads or writes them until it returns;
  *   - one caller at a time for one pair of sheets, whoever has the list: there is no lock. Calls on different sheets and lists are independent,
  *     in any threads, since the library holds no data of its own;
- *   - a call finds RAPYHEO_STACK_BYTES of stack. `make stack` measures what each needs, its arguments among it: 5032 at most, to which some 2000
- *     come where the loader binds memcpy or memset in the middle of the first call (not so with -Wl,-z,now). A call allocates nothing.
+ *   - a call finds RAPYHEO_STACK_BYTES of stack, and one on two sheets RAPYHEO_TWO_STACK_BYTES, since it joins them in an area of its own.
+ *     `make stack` measures what each needs, its arguments among it: 2488 at most, and 101880 on two sheets, to which some 2000 come where
+ *     the loader binds memcpy or memset in the middle of the first call (not so with -Wl,-z,now). A call allocates nothing.
  *
  * Record sheet: 1 to 500 lines of 98 bytes, the last byte LF. Figures are decimal, right-justified, filled with spaces, without leading zeros.
  *
@@ -49,6 +50,24 @@
  * Coordinator sheet: lines of 15 bytes, the last byte LF. The head has the count of numbers issued (4 columns), a space and the unit letters
  * of storages 1 to 9: R, P, T, N or S. Then come 1 to 999 lines: k (4 columns) and COMMITTED, ABORTED or `-` (10 columns).
  *
+ * Two sheets instead of the record sheet, for a store whose own lines may not be widened: a plain sheet and a bookkeeping sheet with the same
+ * keys in the same order, figures and words set as above. The functions rapyheo_two_.. take both, and each gives the answer that the joined sheet
+ * would get; what was said of the record sheet holds of the two, an atomic write going to both within one unit.
+ *
+ *   plain, 39 bytes a line                    bookkeeping, 80 bytes a line
+ *          0-19  key, as bytes 0-19 above            0-39  key, state, version, TxID, as bytes 0-39 above
+ *         20-28  column 1                           40-45  before version
+ *         29-37  column 2                           46-49  before TxID
+ *            38  LF                                 50-58  before column 1
+ *                                                   59-67  before column 2
+ *                                                   68-78  prepare clock
+ *                                                      79  LF
+ *
+ * On two sheets only, a small unit letter (r, p, t, n or s) marks a storage that can't be read consistently: its columns may be from before a
+ * change and its bookkeeping from after it. There a read of a new key takes two calls. The first answers the columns of the plain sheet and
+ * changes nothing, not even the list; the second is handed these columns and holds them with the version that it finds then. Whether they belong
+ * together is checked before they are relied on. A client that stops between the two leaves nothing behind.
+ *
  * As numbers, a record is fifteen in the order of its columns, the state among them; a coordinator is its count, the nine units and one number
  * for each line, whose own number is its place. Words and letters have the numbers of RAPYHEO_STATE_.., RAPYHEO_UNIT_.. and RAPYHEO_DECISION_..
  */
@@ -64,7 +83,7 @@ extern "C" {
 
 /* Version of this header. rapyheo_version() is the library's: the same major and at least the same minor will do. */
 #define RAPYHEO_VERSION_MAJOR 2
-#define RAPYHEO_VERSION_MINOR 0
+#define RAPYHEO_VERSION_MINOR 1
 #define RAPYHEO_VERSION_PATCH 0
 #define RAPYHEO_VERSION (10000 * RAPYHEO_VERSION_MAJOR + 100 * RAPYHEO_VERSION_MINOR + RAPYHEO_VERSION_PATCH)
 
@@ -81,6 +100,8 @@ extern "C" {
 
 enum {
     RAPYHEO_RECORD_BYTES = 98,
+    RAPYHEO_PLAIN_BYTES = 39,
+    RAPYHEO_BOOKKEEPING_BYTES = 80,
     RAPYHEO_COORDINATOR_BYTES = 15,
     RAPYHEO_RECORD_NUMBERS = 15, /* numbers of one record */
     RAPYHEO_HEAD_NUMBERS = 10,   /* numbers of a coordinator before those of its lines */
@@ -88,10 +109,12 @@ enum {
     RAPYHEO_LIST = 16,           /* transactions in a list */
     RAPYHEO_CLOSE_WRITES = 17,   /* writes that a close makes at most */
     RAPYHEO_REFUSED = 1000,      /* an answer above this is 1000 + the refusal */
-    RAPYHEO_STACK_BYTES = 8192   /* enough stack for any call */
+    RAPYHEO_STACK_BYTES = 8192,  /* enough stack for any call on a record sheet */
+    RAPYHEO_TWO_STACK_BYTES = 131072 /* enough for any on two sheets */
 };
 
-/* Refusals. The lowest that applies is given, and a call gives only those that its comment names. */
+/* Refusals. The first that applies is given, in the order of the numbers but that 13 comes after 2, and a call gives only those that its comment
+ * names. */
 enum {
     RAPYHEO_BAD_RECORDS = 1,     /* the record sheet, or records in numbers, break a rule, or a target has another length than needed */
     RAPYHEO_BAD_COORDINATOR = 2, /* the coordinator sheet does, or its numbers do, or a record names a number that is not issued */
@@ -104,7 +127,8 @@ enum {
     RAPYHEO_ENTRIES_SPENT = 9,   /* a read of a new key where 8 are held */
     RAPYHEO_NOT_HELD = 10,       /* a put of a key that was not read */
     RAPYHEO_VERSIONS_SPENT = 11, /* a put over version 99999 */
-    RAPYHEO_BUSY = 12            /* the line is undecided, and not every line of its owner has expired */
+    RAPYHEO_BUSY = 12,           /* the line is undecided, and not every line of its owner has expired */
+    RAPYHEO_SHEETS_DIFFER = 13   /* the plain and the bookkeeping sheet differ in number of lines or in a key */
 };
 
 /* What is asked by place. */
@@ -115,7 +139,8 @@ enum {
     RAPYHEO_CALL_PUT = 3,
     RAPYHEO_CALL_ADVANCE = 4,
     RAPYHEO_CALL_ABORT = 5,
-    RAPYHEO_CALL_CLOSE = 6
+    RAPYHEO_CALL_CLOSE = 6,
+    RAPYHEO_CALL_SECOND = 7 /* on two sheets only */
 };
 
 /* What a read saw. */
@@ -354,6 +379,107 @@ static inline rapyheo_columns rapyheo_columns_held(const rapyheo_transaction *tr
     return columns;
 }
 
+/* The calls on a plain and a bookkeeping sheet. Each gives 1000 + 13 where these differ, after 2, besides the refusals of its like above; 1 is for
+ * either of them alone and for both joined. */
+
+/* 0 where all three sheets are accepted, else the refusal itself: 1, 2 or 13. */
+RAPYHEO_ANSWER uint32_t rapyheo_two_check(const uint8_t *plain, size_t plain_length, const uint8_t *bookkeeping, size_t bookkeeping_length,
+                                          const uint8_t *coordinator, size_t coordinator_length);
+
+/* As rapyheo_visit. */
+RAPYHEO_ANSWER uint32_t rapyheo_two_visit(uint8_t *plain, size_t plain_length, uint8_t *bookkeeping, size_t bookkeeping_length,
+                                          uint8_t *coordinator, size_t coordinator_length, uint32_t storage, uint32_t name_space, uint32_t table,
+                                          uint32_t partition, uint32_t clustering, uint32_t clock);
+
+/* The index of the key's line, from 0, the same on both sheets, or 1000 + 1, 13, 5 or 6. */
+RAPYHEO_ANSWER uint32_t rapyheo_two_lookup(const uint8_t *plain, size_t plain_length, const uint8_t *bookkeeping, size_t bookkeeping_length,
+                                           uint32_t storage, uint32_t name_space, uint32_t table, uint32_t partition, uint32_t clustering);
+
+/* As rapyheo_call_at, and RAPYHEO_CALL_SECOND besides. Where a read takes two calls, the first answers RAPYHEO_FIRST + 100000000 * column 1 +
+ * column 2, which rapyheo_first_columns takes apart; no other answer is so large. */
+RAPYHEO_ANSWER uint64_t rapyheo_two_call_at(rapyheo_transaction *list, size_t list_length, size_t place, uint8_t *plain, size_t plain_length,
+                                            uint8_t *bookkeeping, size_t bookkeeping_length, uint8_t *coordinator, size_t coordinator_length,
+                                            uint32_t call, uint32_t storage, uint32_t name_space, uint32_t table, uint32_t partition,
+                                            uint32_t clustering, uint32_t column1, uint32_t column2, uint32_t clock, uint32_t limit);
+
+enum { RAPYHEO_FIRST = 10000 };
+
+/* The answer is that of the first of a read's two calls, and the columns in it. */
+static inline int rapyheo_is_first(uint64_t answer) { return answer >= RAPYHEO_FIRST; }
+
+static inline rapyheo_columns rapyheo_first_columns(uint64_t answer) {
+    const uint64_t both = answer - RAPYHEO_FIRST;
+    const rapyheo_columns columns = {(uint32_t)(both / 100000000), (uint32_t)(both % 100000000)};
+    return columns;
+}
+
+/* The sheets that the functions below take. */
+typedef struct rapyheo_two_sheets {
+    uint8_t *plain;
+    size_t plain_length;
+    uint8_t *bookkeeping;
+    size_t bookkeeping_length;
+    uint8_t *coordinator;
+    size_t coordinator_length;
+} rapyheo_two_sheets;
+
+/* A call by place with the numbers in structs, for those with names of their own. */
+RAPYHEO_ANSWER static inline uint64_t rapyheo_two_ask(rapyheo_transaction *list, size_t list_length, size_t place, rapyheo_two_sheets sheets,
+                                                      uint32_t call, rapyheo_key key, rapyheo_columns columns, uint32_t clock,
+                                                      uint32_t limit) {
+    return rapyheo_two_call_at(list, list_length, place, sheets.plain, sheets.plain_length, sheets.bookkeeping, sheets.bookkeeping_length,
+                               sheets.coordinator, sheets.coordinator_length, call, key.storage, key.name_space, key.table, key.partition,
+                               key.clustering, columns.column1, columns.column2, clock, limit);
+}
+
+static const rapyheo_key rapyheo_no_key = {0, 0, 0, 0, 0};
+static const rapyheo_columns rapyheo_no_columns = {0, 0};
+
+/* As rapyheo_begin_at. */
+RAPYHEO_ANSWER static inline uint64_t rapyheo_two_begin_at(rapyheo_transaction *list, size_t list_length, size_t place, rapyheo_two_sheets sheets,
+                                                           uint32_t checked) {
+    return rapyheo_two_ask(list, list_length, place, sheets, checked ? RAPYHEO_CALL_BEGIN_CHECKED : RAPYHEO_CALL_BEGIN, rapyheo_no_key,
+                           rapyheo_no_columns, 0, 0);
+}
+
+/* As rapyheo_read_at; or the first of two calls, whose answer rapyheo_is_first tells and which is never refused with 12. */
+RAPYHEO_ANSWER static inline uint64_t rapyheo_two_read_at(rapyheo_transaction *list, size_t list_length, size_t place, rapyheo_two_sheets sheets,
+                                                          rapyheo_key key, uint32_t clock) {
+    return rapyheo_two_ask(list, list_length, place, sheets, RAPYHEO_CALL_READ, key, rapyheo_no_columns, clock, 0);
+}
+
+/* The second call of a read, with the columns that the first answered: it visits the line and holds them, 0 where the line is ABSENT. Answers and
+ * refusals are those of rapyheo_read_at, and 1000 + 7 where a column is over 99999999. Of a read that takes one call this is the whole one, and the
+ * columns are ignored. */
+RAPYHEO_ANSWER static inline uint64_t rapyheo_two_second_at(rapyheo_transaction *list, size_t list_length, size_t place, rapyheo_two_sheets sheets,
+                                                            rapyheo_key key, uint32_t clock, rapyheo_columns columns) {
+    return rapyheo_two_ask(list, list_length, place, sheets, RAPYHEO_CALL_SECOND, key, columns, clock, 0);
+}
+
+/* As rapyheo_put_at. */
+RAPYHEO_ANSWER static inline uint64_t rapyheo_two_put_at(rapyheo_transaction *list, size_t list_length, size_t place, rapyheo_two_sheets sheets,
+                                                         rapyheo_key key, rapyheo_columns columns) {
+    return rapyheo_two_ask(list, list_length, place, sheets, RAPYHEO_CALL_PUT, key, columns, 0, 0);
+}
+
+/* As rapyheo_advance_at. */
+RAPYHEO_ANSWER static inline uint64_t rapyheo_two_advance_at(rapyheo_transaction *list, size_t list_length, size_t place,
+                                                             rapyheo_two_sheets sheets, uint32_t clock) {
+    return rapyheo_two_ask(list, list_length, place, sheets, RAPYHEO_CALL_ADVANCE, rapyheo_no_key, rapyheo_no_columns, clock, 0);
+}
+
+/* As rapyheo_close_at. */
+RAPYHEO_ANSWER static inline uint64_t rapyheo_two_close_at(rapyheo_transaction *list, size_t list_length, size_t place, rapyheo_two_sheets sheets,
+                                                           uint32_t clock, uint32_t limit) {
+    return rapyheo_two_ask(list, list_length, place, sheets, RAPYHEO_CALL_CLOSE, rapyheo_no_key, rapyheo_no_columns, clock, limit);
+}
+
+/* As rapyheo_abort_at. */
+RAPYHEO_ANSWER static inline uint64_t rapyheo_two_abort_at(rapyheo_transaction *list, size_t list_length, size_t place,
+                                                           rapyheo_two_sheets sheets) {
+    return rapyheo_two_ask(list, list_length, place, sheets, RAPYHEO_CALL_ABORT, rapyheo_no_key, rapyheo_no_columns, 0, 0);
+}
+
 /* A refusal in words. It may be given as itself or as an answer, 1000 + the refusal. */
 static inline const char *rapyheo_refusal_text(uint32_t refusal) {
     static const char *const texts[] = {
@@ -370,10 +496,11 @@ static inline const char *rapyheo_refusal_text(uint32_t refusal) {
         "the key is not held: read it before the put",
         "the version read is 99999, and no put can follow it",
         "the line is undecided, and not every line of its owner has expired",
+        "the plain and the bookkeeping sheet differ in number of lines or in a key",
     };
     if (refusal > RAPYHEO_REFUSED)
         refusal -= RAPYHEO_REFUSED;
-    return texts[refusal <= RAPYHEO_BUSY ? refusal : 0];
+    return texts[refusal <= RAPYHEO_SHEETS_DIFFER ? refusal : 0];
 }
 
 #undef RAPYHEO_ANSWER

@@ -1,109 +1,130 @@
 #!/usr/bin/env python3
-"""The proof by hand of `rapyheo_call_at`, for another count of the numbers that a call by place takes.
+"""The proofs by hand of the calls by place for C, `rapyheo_call_at` and `rapyheo_two_call_at`, from one template.
 
-    tools/call_walk.py COUNT      writes the proof anew, for COUNT numbers from `call` on
+    tools/call_walk.py      writes both
 
-The proof walks through the function's locals: the answer, list, place, both sheets, the numbers (m2, m3, .. in the proof), and 17 that the compiler
-made. Two resources stand for each, the last local's first, behind those of the step itself. A number more thus moves all locals before the
-compiler's own. What does not depend on the count stays as it stands in the proof, and is changed there.
+Both functions take a list, a place, lent sheets and then numbers, and have the same body but for how many sheets there are and which functions it calls. The template,
+call_walk.txt beside this script, is the proof with
+
+    ⟨sheets:..⟩     what is written once for each sheet, % being its number; so for every other list of numbers that a Walk has
+    «..»            an expression over the names of a Walk
+
+What comes after the place is numbered through from 0: of two sheets, x0 and x1, and then numbers, the first number is m2. The proof walks through the function's locals:
+the answer, list, place, the sheets, the numbers, and those that the compiler made. Two resources stand for each, the last local's first, behind those of the step itself.
 """
 import pathlib
 import re
-import sys
 
-PROOF = pathlib.Path(__file__).resolve().parent.parent / "crates/c_api/proofs/rapyheo_call_at/Proof.antt"
-ANSWER, LIST, PLACE, RECORDS, COORDINATOR, CALL = range(6)
-MADE = 17
+TOOLS = pathlib.Path(__file__).resolve().parent
+PROOFS = TOOLS.parent / "crates/c_api/proofs"
+ANSWER, LIST, PLACE, SHEETS = range(4)
+NUMBERS = 10
+
+
+def dashed(name):
+    return name.replace("_", "-")
+
+
+def close(count):
+    return ")" * count
+
+
+def past(count):
+    """The path past so many parts of nested pairs."""
+    return " .1" * count
 
 
 class Walk:
-    """The texts of the proof that depend on the count, in the same order for every count."""
+    """What the template names of one function. A module's name is also the end of the names that are its own."""
 
-    def __init__(self, count):
-        self.numbers = range(2, count + 2)
-        self.made = CALL + count
-        self.locals = range(self.made + MADE)
-        self.texts = [*self.nests(), *self.rows(), *self.names(), *self.places(), *self.calls(), *self.returns()]
+    def __init__(self, name, module, answer, response, left, unlisted, laws):
+        self.name, self.answer, self.width = name, answer, answer.replace("u", "w")
+        self.response, self.left, self.unlisted, self.laws = response, left, unlisted, laws
+        self.path, self._two, self.Two = (f"{module}.", f"_{module}", module.capitalize()) if module else ("", "", "")
+        self.number_parameters(len(left))
+        self.number_locals()
 
-    def run(self, piece):
-        return "".join(piece(k) for k in self.numbers)
+    def number_parameters(self, lent):
+        self.lent, self.params = lent, 2 + lent + NUMBERS
+        self.sheets, self.numbers = range(lent), range(lent, lent + NUMBERS)
+        self.sheets_but_last, self.sheets_back, self.numbers_back = self.sheets[:-1], self.sheets[::-1], self.numbers[::-1]
+        self.call = self.numbers[0]
 
-    def nest(self, piece, end="tt"):
-        return self.run(piece) + end + ")" * len(self.numbers)
+    def number_locals(self):
+        """A sheet that is lent on takes two locals, a pointer and the slice of it. Neither way out writes what only the other needs."""
+        made = SHEETS + self.lent + NUMBERS
+        self.taken, self.out, self.named, self.length, self.given, self.scaled, self.element, self.copied = range(made, made + 8)
+        self.core_sheets = made + 8
+        self.put = self.core_sheets + 2 * self.lent
+        self.unlisted_sheets = self.put + 1
+        self.locals = range(self.unlisted_sheets + 2 * self.lent)
+        self.written_named = self.locals[: self.unlisted_sheets][::-1]
+        self.written_unlisted = [*self.locals[:made], self.named, self.length, self.given, *self.locals[self.unlisted_sheets :]][::-1]
+        self.owned = 2 * len(self.locals) + 1
 
     def at(self, local, before=0):
         """Where a local stands behind so many resources."""
         return before + 2 * (len(self.locals) - 1 - local)
 
-    def nests(self):
-        yield self.nest(lambda k: "(stay-none (λ _. u32) yes, ")
-        yield self.nest(lambda k: "(goes-none 𝓤 H A W 3 (λ _. u32) yes (λ κs x f. refl), ")
-        yield self.nest(lambda k: "(uint-vals w32, ")
-        yield self.nest(lambda k: "(uint-tells w32, ")
-        yield self.nest(lambda k: "(tt, ")
-        yield self.nest(lambda k: "(ℕ × ", "Unit {0}")
-        yield self.nest(lambda k: "(Unit {0} × ", "Unit {0}")
-        yield self.nest(lambda k: f"(m{k}, ")
-        yield self.nest(lambda k: f"(vint w32 m{k} ∷ [], ")
-        yield self.nest(lambda k: f"(fsep (u32 .own m{k} (vint w32 m{k} ∷ [])) ", "(ftrue)")
-        yield "(List Val × " * (self.made - 1) + "Unit {0}" + ")" * (self.made - 1)
+    def lent_to_core(self, sheet):
+        return self.core_sheets + 2 * sheet
 
-    def rows(self):
-        yield self.run(lambda k: f" m{k}")
-        yield self.run(lambda k: f" ∷ vint w32 m{k}")
-        yield self.run(lambda k: " ∷ u32")
-        yield self.run(lambda k: f"\n    (m{k} : ℕ) (fits{k} : m{k} < 2 ^ 32)")
-        yield self.run(lambda k: f"\n      (a{' .1' * (k + 2)} .0) (are{' .1' * (k + 2)} .0 .1)")
-        yield "".join(f"\n      owned ! u32 (Is u32) (uint-makes 𝓤 H A W w32) m{k} _ (refl, fits{k}) $ fjoin ! $" for k in reversed(self.numbers))
+    def lent_to_unlisted(self, sheet):
+        return self.unlisted_sheets + 2 * sheet
 
-    def names(self):
-        """The locals' addresses: one for each is bound and ends with the walk, and four of those that the compiler made are named."""
-        yield " ".join(f"alloc1 ! (λ a{local}." for local in self.locals)
-        yield "is-false (e .0) (e .1 .0) (e .1 .1" + ")" * len(self.locals)
-        for kind, made in ("O′.mir", 1), ("tyBool", 2), ("tyPtr", 6), ("tyPtr", 12):
-            yield f"(fat fullShare {kind} a{self.made + made} "
+    def of_sheets(self, name):
+        return f"⟨sheets:({name}%, ⟩tt«close(lent)»"
 
-    def places(self):
-        """Where the parameters are written and read, and where the tokens stand that come after all locals."""
-        yield f"init ! {self.at(LIST)} refl (tt, (tt, (record"
-        yield f"init ! {self.at(PLACE)} refl (tt, record"
-        yield f"init ! {self.at(RECORDS)} refl (tt, (tt, (record"
-        yield f"init ! {self.at(COORDINATOR)} refl (tt, (tt, (record"
-        yield self.run(lambda k: f"\n        pass1 ! (init ! {self.at(CALL + k - 2)} refl (tt, record {{ fits = fits{k} }})) $")
-        for local, before in (LIST, 0), (LIST, 13), (RECORDS, 0), (RECORDS, 9), (COORDINATOR, 0), (COORDINATOR, 9):
-            yield f"look-in ! {self.at(local, before)} (sub"
-        for before in 0, 13:
-            yield f"look ! {self.at(PLACE, before)} refl)) (lit"
-        for after in 1, 4:
-            yield f"move ! ({2 * len(self.locals) + after} ∷ [])"
+    def tokens(self):
+        return "⟨sheets:(‵ (flft κ% q%) ⊛ ⟩‵ ftrue«close(lent)»"
 
-    def calls(self):
-        """The parameters that are handed to `is_named` and `call_named`."""
-        yield f"(look ! {self.at(PLACE, 1)} refl)) (and-then ! (load ! (from ! (stop !)) (look ! {self.at(CALL, 1)} refl))"
-        yield self.nest(lambda k: f"(and-then ! (load ! (from ! (stop !)) (look ! {self.at(CALL + k - 2, 8)} refl)) ", "(no-more !)")
+    def fill(self, text):
+        """The text with its lists and then its expressions written out, and so what these give."""
+        text = re.sub(r"⟨(\w+):(.*?)⟩", lambda found: "".join(found[2].replace("%", str(k)) for k in getattr(self, found[1])), text, flags=re.S)
+        names = {name: getattr(self, name) for name in dir(self)}
+        return re.sub(r"«(.*?)»", lambda found: self.fill(str(eval(found[1], globals(), names))), text)
 
-    def returns(self):
-        """The answer is given, and every local let go: at the first return those of the other arm were never written, at the second those of this."""
-        yield self.let_go(11, [*range(self.made + 13)])
-        yield self.let_go(10, [*range(self.made), *(self.made + made for made in (2, 3, 4, 13, 14, 15, 16))])
-
-    def let_go(self, before, written):
-        answer = self.at(ANSWER, before)
-        forgets = "".join(f"forget ! {self.at(local, before)} refl $ " for local in reversed(written))
-        frees = "".join(f"move ! ({self.at(local, before)} ∷ {self.at(local, before) + 1} ∷ []) $ free1 ! $ " for local in self.locals)
-        return f"init ! {answer} refl wt-a) $\n        returns ! (look ! {answer} refl) $ {forgets[:-1]}\n        {frees}"
+    def write(self, template):
+        proof = PROOFS / self.path.replace(".", "/") / self.name / "Proof.antt"
+        proof.parent.mkdir(parents=True, exist_ok=True)
+        proof.write_text(self.fill(template), encoding="utf-8")
 
 
-def main():
-    proof = PROOF.read_text(encoding="utf-8")
-    old, new = Walk(proof.count("(fits")), Walk(int(sys.argv[1]))
-    written = dict(zip(old.texts, new.texts))
-    missing = [text for text in written if text not in proof]
-    if missing or len(written) < len(old.texts):
-        sys.exit(f"{PROOF}: not as this script knows it:\n" + "\n".join(missing))
-    longest_first = sorted(written, key=len, reverse=True)
-    PROOF.write_text(re.sub("|".join(map(re.escape, longest_first)), lambda found: written[found[0]], proof), encoding="utf-8")
+ON_RECORDS = Walk(
+    name="rapyheo_call_at",
+    module="",
+    answer="u32",
+    response="responseOn (operationOf (asks⟨numbers: m%⟩) t)⟨sheets: x%⟩",
+    left=["recordsLeft", "coordinatorLeft"],
+    unlisted="unlistedNumber⟨sheets: x%⟩",
+    laws="""\
+use Rattle.model.specs.Operations.{responseOn, recordsLeft, coordinatorLeft}
+use Rattle.model.specs.Requests.{operationOf}
+use Rattle.by_place.specs.Numbers.{unlistedNumber}
+use Rattle.by_place.specs.Asked.{calls, asks, naming}
+use Rattle.c_api.specs.ByPlace.{called, naming-within, CallsAt, calls-named, calls-unnamed}""",
+)
+
+ON_TWO_SHEETS = Walk(
+    name="rapyheo_two_call_at",
+    module="two",
+    answer="u64",
+    response="responseTwo (operationOf (asks⟨numbers: m%⟩) t) (two⟨sheets: x%⟩)",
+    left=["plainLeft", "bookkeepingLeft", "coordinatorLeft"],
+    unlisted="unlistedNumberTwo (two⟨sheets: x%⟩)",
+    laws="""\
+use Rattle.model.specs.Operations.{coordinatorLeft}
+use Rattle.model.specs.Requests.{operationOf}
+use Rattle.model.specs.TwoCalls.{responseTwo, plainLeft, bookkeepingLeft}
+use Rattle.two_sheets.specs.Areas.{two}
+use Rattle.by_place.specs.TwoNumbers.{unlistedNumberTwo}
+use Rattle.by_place.specs.Asked.{callsTwo, asks, naming}
+use Rattle.c_api.specs.ByPlace.{naming-within}
+use Rattle.c_api.specs.TwoByPlace.{calledTwo, CallsAtTwo, calls-named-two, calls-unnamed-two}""",
+)
 
 
 if __name__ == "__main__":
-    main()
+    template = (TOOLS / "call_walk.txt").read_text(encoding="utf-8")
+    ON_RECORDS.write(template)
+    ON_TWO_SHEETS.write(template)

@@ -134,13 +134,13 @@ static void header(void) {
     const char *none = rapyheo_refusal_text(0);
     expect("version", rapyheo_version(), RAPYHEO_VERSION);
     expect("no refusal", strcmp(none, "no such refusal") == 0, 1);
-    for (uint32_t n = 1; n <= RAPYHEO_BUSY; n++) {
+    for (uint32_t n = 1; n <= RAPYHEO_SHEETS_DIFFER; n++) {
         expect("a text", strcmp(rapyheo_refusal_text(n), none) != 0, 1);
         expect("of its own", strcmp(rapyheo_refusal_text(n), rapyheo_refusal_text(n - 1)) != 0, 1);
         expect("of the answer too", strcmp(rapyheo_refusal_text(RAPYHEO_REFUSED + n), rapyheo_refusal_text(n)) == 0, 1);
     }
     for (uint32_t i = 0; i < 4; i++) {
-        const uint32_t others[] = {13, 1000, 1013, 4294967295u};
+        const uint32_t others[] = {14, 1000, 1014, 4294967295u};
         expect("no other text", strcmp(rapyheo_refusal_text(others[i]), none) == 0, 1);
     }
 }

@@ -1,7 +1,7 @@
 #!/usr/bin/env bash
 # The C side. The header alone in C and C++, and that an answer which nobody looks at is warned of; the client of examples/ in C, as C++, under the address and undefined
 # behaviour sanitizers, under valgrind, with the shared library, and from installed copies found by pkg-config; the clients in Python and Rust; each output held to
-# examples/client.out. Then the edges that the clients don't meet, and the client that is killed.
+# examples/client.out. The saddler's client on two sheets, held to examples/saddler.out. Then the edges that the clients don't meet, and the client that is killed.
 set -euo pipefail
 cd "$(dirname "$0")/../.."
 
@@ -18,14 +18,15 @@ differences=0
 
 quietly() { "$@" > "$work/log" 2>&1 || { tail -n 40 "$work/log"; exit 1; }; }
 
-# what a command prints is examples/client.out
-compare() {
+# what a command prints is a stored output, examples/client.out unless it is named
+held_to() {
     outputs=$((outputs + 1))
-    if ! "$@" > "$work/out" || ! diff examples/client.out "$work/out"; then
+    if ! "${@:2}" > "$work/out" || ! diff "$1" "$work/out"; then
         differences=$((differences + 1))
-        echo "differs: $*"
+        echo "differs: ${*:2}"
     fi
 }
+compare() { held_to examples/client.out "$@"; }
 
 # a command that tells by its exit status and its last line how it went
 hold() {
@@ -89,10 +90,17 @@ compare python3 examples/client.py target/shared/librapyheo.so
 rustc --edition 2021 -D warnings -L target/staticlib -l static=c_api -o "$work/client_rs" examples/client.rs
 compare "$work/client_rs"
 
-"${c[@]}" -fsanitize=address,undefined -fno-sanitize-recover=all -Iinclude -o "$work/edges" tests/c_client/edges.c $archive
-hold "$work/edges"
-"${cpp[@]}" -Iinclude -o "$work/edges++" -x c++ tests/c_client/edges.c -x none $archive
-hold "$work/edges++"
+"${c[@]}" -fsanitize=address,undefined -fno-sanitize-recover=all -Iinclude -o "$work/saddler" examples/saddler.c $archive
+held_to examples/saddler.out "$work/saddler"
+"${cpp[@]}" -Iinclude -o "$work/saddler++" -x c++ examples/saddler.c -x none $archive
+held_to examples/saddler.out "$work/saddler++"
+
+for edges in edges two_edges; do
+    "${c[@]}" -fsanitize=address,undefined -fno-sanitize-recover=all -Iinclude -o "$work/edges" tests/c_client/$edges.c $archive
+    hold "$work/edges"
+    "${cpp[@]}" -Iinclude -o "$work/edges++" -x c++ tests/c_client/$edges.c -x none $archive
+    hold "$work/edges++"
+done
 
 "${c[@]}" -Iinclude -o "$work/killed" tests/c_client/killed.c $archive
 hold "$work/killed" "$work/sheets"

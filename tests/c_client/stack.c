@@ -1,6 +1,6 @@
 /* How much stack each exported function needs. It is called on a stack of its own that was painted before, and the bytes whose paint is gone are
- * counted, the caller's arguments among them. The sheets are the largest, and orders of eight entries go through every phase. Prints a line for
- * each function and the most of all, which must leave room for the loader in what the header says. */
+ * counted, the caller's arguments among them. The sheets are the largest, and orders of eight entries go through every phase, on the record sheet
+ * and on two sheets. Prints a line for each function and the most of either kind, which must leave room for the loader in what the header says. */
 #define _XOPEN_SOURCE 700
 #include <stdint.h>
 #include <stdio.h>
@@ -11,9 +11,11 @@
 
 enum { LINES = 500, NUMBERS = 999, PLACES = RAPYHEO_LIST, PLACE = PLACES - 1, PAINT = 0xA5, STACK = 1 << 20, BINDING = 2000 };
 enum { RECORDS = LINES * RAPYHEO_RECORD_BYTES, COORDINATOR = (1 + NUMBERS) * RAPYHEO_COORDINATOR_BYTES };
+enum { PLAIN = LINES * RAPYHEO_PLAIN_BYTES, BOOKKEEPING = LINES * RAPYHEO_BOOKKEEPING_BYTES };
 enum { ROWS = LINES * RAPYHEO_RECORD_NUMBERS, DECISIONS = RAPYHEO_HEAD_NUMBERS + NUMBERS };
 
 static uint8_t records[RECORDS], coordinator[COORDINATOR], records_before[RECORDS], coordinator_before[COORDINATOR];
+static uint8_t plain[PLAIN], bookkeeping[BOOKKEEPING];
 static uint32_t rows[ROWS], decisions[DECISIONS], lines[2], answer, column1 = 7, clock_now = 1000, asked;
 static rapyheo_transaction list[PLACES];
 static rapyheo_key key;
@@ -54,6 +56,18 @@ static void lookup(void) {
 static void written(void) {
     answer = rapyheo_written(records_before, RECORDS, records, RECORDS, coordinator_before, COORDINATOR, coordinator, COORDINATOR, lines, 2);
 }
+static void two_check(void) { answer = rapyheo_two_check(plain, PLAIN, bookkeeping, BOOKKEEPING, coordinator, COORDINATOR); }
+static void two_call_at(void) {
+    answer = (uint32_t)rapyheo_two_call_at(list, PLACES, PLACE, plain, PLAIN, bookkeeping, BOOKKEEPING, coordinator, COORDINATOR, asked, key.storage,
+                                           key.name_space, key.table, key.partition, key.clustering, column1, 7, clock_now, RAPYHEO_CLOSE_WRITES);
+}
+static void two_visit(void) {
+    answer = rapyheo_two_visit(plain, PLAIN, bookkeeping, BOOKKEEPING, coordinator, COORDINATOR, key.storage, key.name_space, key.table,
+                               key.partition, key.clustering, clock_now);
+}
+static void two_lookup(void) {
+    answer = rapyheo_two_lookup(plain, PLAIN, bookkeeping, BOOKKEEPING, key.storage, key.name_space, key.table, key.partition, key.clustering);
+}
 static void read_records(void) { answer = rapyheo_read_records(records, RECORDS, rows, ROWS); }
 static void write_records(void) { answer = rapyheo_write_records(rows, ROWS, records, RECORDS); }
 static void read_coordinator(void) { answer = rapyheo_read_coordinator(coordinator, COORDINATOR, decisions, DECISIONS); }
@@ -75,8 +89,15 @@ static struct measured {
     {"write_records", write_records, 0},
     {"read_coordinator", read_coordinator, 0},
     {"write_coordinator", write_coordinator, 0},
+    {"two_check", two_check, 0},
+    {"two_call_at", two_call_at, 0},
+    {"two_visit", two_visit, 0},
+    {"two_lookup", two_lookup, 0},
 };
-enum { FUNCTIONS = sizeof table / sizeof *table };
+enum { FUNCTIONS = sizeof table / sizeof *table, ON_TWO = 4, ON_ONE = FUNCTIONS - ON_TWO };
+
+/* What the orders below ask: on the record sheet, or on two. */
+static void (*call_by_place)(void) = call_at, (*visit_line)(void) = visit, (*look_up)(void) = lookup;
 
 static size_t unmeasured; /* what an empty function uses */
 
@@ -90,7 +111,7 @@ static uint32_t measure(void (*function)(void)) {
 
 static uint32_t ask(uint32_t call) {
     asked = call;
-    return measure(call_at);
+    return measure(call_by_place);
 }
 
 /* Lines of all storages, the first an ABSENT one, and every number but one of a kind that a begin can issue. */
@@ -104,6 +125,22 @@ static void lay_out(void) {
     measure(write_coordinator);
     measure(read_records);
     measure(read_coordinator);
+}
+
+/* The record sheet as two. */
+static void split(void) {
+    for (size_t i = 0; i < LINES; i++) {
+        const uint8_t *line = records + i * RAPYHEO_RECORD_BYTES;
+        uint8_t *columns = plain + i * RAPYHEO_PLAIN_BYTES, *rest = bookkeeping + i * RAPYHEO_BOOKKEEPING_BYTES;
+        memcpy(columns, line, 20);
+        memcpy(columns + 20, line + 40, 18);
+        columns[38] = '\n';
+        memcpy(rest, line, 40);
+        memcpy(rest + 40, line + 58, 40);
+    }
+    call_by_place = two_call_at;
+    visit_line = two_visit;
+    look_up = two_lookup;
 }
 
 static void key_of(uint32_t line) { memcpy(&key, rows + line * RAPYHEO_RECORD_NUMBERS, sizeof key); }
@@ -126,23 +163,16 @@ static void order(uint32_t call, uint32_t puts, int advances) {
     clock_now += 15000;
     for (uint32_t i = 0; i < 2 * RAPYHEO_ENTRIES; i++) {
         key_of(i / 2 * 60);
-        measure(visit);
+        measure(visit_line);
     }
-    measure(lookup);
+    measure(look_up);
     measure(written);
     memcpy(records_before, records, RECORDS);
     memcpy(coordinator_before, coordinator, COORDINATOR);
 }
 
-int main(void) {
-    size_t most = 0;
-    /* The loader binds memcpy where it is first called. What it needs for that is counted apart, as BINDING. */
-    memcpy(records, records_before, RECORDS);
-    unmeasured = used(none);
-    lay_out();
-    measure(version);
-    measure(check);
-    measure(begin);
+/* Orders through every phase, by advances, given up and closed. */
+static void orders(void) {
     for (int advances = 0; advances < 30; advances++) {
         order(RAPYHEO_CALL_BEGIN, RAPYHEO_ENTRIES, advances);
         order(RAPYHEO_CALL_BEGIN_CHECKED, RAPYHEO_ENTRIES / 2, advances);
@@ -160,10 +190,32 @@ int main(void) {
     ask(RAPYHEO_CALL_ADVANCE);
     ask(RAPYHEO_CALL_ABORT);
     ask(RAPYHEO_CALL_CLOSE);
-    for (size_t i = 0; i < FUNCTIONS; i++) {
-        printf("rapyheo_%-18s%6zu\n", table[i].name, table[i].most);
-        most = table[i].most > most ? table[i].most : most;
+}
+
+/* The most of some functions, each printed. */
+static size_t most_of(const struct measured *functions, size_t count) {
+    size_t most = 0;
+    for (size_t i = 0; i < count; i++) {
+        printf("rapyheo_%-18s%6zu\n", functions[i].name, functions[i].most);
+        most = functions[i].most > most ? functions[i].most : most;
     }
-    printf("most bytes of stack %7zu\n", most);
-    return most + BINDING > RAPYHEO_STACK_BYTES;
+    return most;
+}
+
+int main(void) {
+    /* The loader binds memcpy where it is first called. What it needs for that is counted apart, as BINDING. */
+    memcpy(records, records_before, RECORDS);
+    unmeasured = used(none);
+    lay_out();
+    measure(version);
+    measure(check);
+    measure(begin);
+    orders();
+    lay_out();
+    split();
+    measure(two_check);
+    orders();
+    const size_t on_one = most_of(table, ON_ONE), on_two = most_of(table + ON_ONE, ON_TWO);
+    printf("most bytes of stack %7zu, on two sheets %zu\n", on_one, on_two);
+    return on_one + BINDING > RAPYHEO_STACK_BYTES || on_two + BINDING > RAPYHEO_TWO_STACK_BYTES;
 }

@@ -22,7 +22,7 @@ abbrev pub beginNumber : Result Answer → ℕ
 beginNumber r = asNumber (λ (a : Answer). heldAfter (newTransaction 0 false) a .number) r
 
 -- visit: 0 stays, 1 forward, 2 back, 3 again
-abbrev pub visitNumber : Result Answer → ℕ
+abbrev pub visitNumber : {E : Type 0} → Response Answer E → ℕ
 visitNumber r = asNumber (λ (a : Answer). replyNumber (recoveryIn a)) r
 
 -- a call by place: what a read came to, 0 absent, 1 columns, 2 again; how many writes a close made; else 0

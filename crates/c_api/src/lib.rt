@@ -15,6 +15,7 @@ ghost use Rattle.c_api.specs.ByPlace.{called};
 
 pub mod conversions;
 pub mod telling;
+pub mod two;
 
 use types::Columns;
 use types::Key;

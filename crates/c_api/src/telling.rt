@@ -62,5 +62,5 @@ pub extern "C" fn rapyheo_lookup(
 pub extern "C" fn rapyheo_version() -> u32
     ensures { λ r. ⌜ r ≡ version ⌝ }
 {
-    20000
+    20100
 }

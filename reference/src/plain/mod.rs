@@ -54,7 +54,7 @@ pub const SHEETS_DIFFER: u32 = 13;
 
 /// The version of the functions for C: 2.0.0.
 pub fn version() -> u32 {
-    20_000
+    20_100
 }
 
 /// 0 where both sheets are accepted, else the refusal.
