@@ -1,4 +1,5 @@
-//! The calls that are exported for C: each answers with one number and may change the memory lent.
+//! The calls that are exported for C: each answers with one number and may change the memory lent. Which function it is goes
+//! by the sheets, joined or two; begin has one of its own on the joined sheet only.
 
 use crate::make::Sheets;
 use crate::plain::by_place::{self, Asked};
@@ -7,12 +8,13 @@ use crate::plain::request::{Answer, Request};
 use crate::plain::store::Visit;
 use crate::plain::transaction::Transaction;
 use crate::plain::written::written;
+use crate::replay::laid_out::LaidOut;
 use crate::{fast, plain};
 
 /// What a call is lent.
 #[derive(Clone, Debug, PartialEq, Eq)]
 pub struct Lent {
-    pub sheets: Sheets,
+    pub sheets: LaidOut,
     pub list: Vec<Transaction>,
 }
 
@@ -37,20 +39,21 @@ pub enum Call {
 }
 
 /// The refusal of an answer, 0 of an accepted call. The check answers with the refusal itself.
-pub fn refusal_of(call: &Call, answer: u32) -> u32 {
-    match call {
-        Call::Check => answer,
-        Call::Version => 0,
-        _ => answer.saturating_sub(1_000),
+pub fn refusal_of(call: &Call, answer: u64) -> u32 {
+    match (call, answer) {
+        (Call::Check, refusal) => refusal as u32,
+        (Call::Version, _) => 0,
+        (_, 1_000..by_place::FIRST) => answer as u32 - 1_000,
+        _ => 0,
     }
 }
 
 /// What an accepted call gives, or 1000 and the refusal.
-fn number(answer: Result<u32, u32>) -> u32 {
-    answer.unwrap_or_else(|refusal| 1_000 + refusal)
+fn number<T: From<u32>>(answer: Result<T, u32>) -> T {
+    answer.unwrap_or_else(|refusal| T::from(1_000 + refusal))
 }
 
-fn visit_number(visit: Visit) -> u32 {
+fn visit_number(visit: Visit) -> u64 {
     match visit {
         Visit::Stays => 0,
         Visit::Forward => 1,
@@ -60,42 +63,30 @@ fn visit_number(visit: Visit) -> u32 {
 }
 
 /// What a begin or a visit gives: the number issued, or what was done.
-fn answer_number(answer: Answer) -> u32 {
+fn answer_number(answer: Answer) -> u64 {
     match answer {
         Answer::Visited(visit) => visit_number(visit),
-        Answer::Returned(t) | Answer::Read(t, _) | Answer::Closed(t, _) => t.number,
+        Answer::Returned(t) | Answer::Read(t, _) | Answer::Closed(t, _) => t.number.into(),
     }
 }
 
-pub fn by_plain(call: &Call, lent: &mut Lent) -> u32 {
-    let Sheets {
-        records,
-        coordinator,
-    } = &mut lent.sheets;
-    match call {
-        Call::Check => plain::check(records, coordinator),
+pub fn by_plain(call: &Call, lent: &mut Lent) -> u64 {
+    let Lent { sheets, list } = lent;
+    match *call {
+        Call::Check => sheets.check().into(),
         Call::Begin => {
             let begin = Request::Begin {
                 serializable: false,
             };
-            number(begin.make(records, coordinator).map(answer_number))
+            number(sheets.ask(begin).map(answer_number))
         }
         Call::Visit { key, now } => {
-            let visit = Request::Visit {
-                key: *key,
-                now: *now,
-            };
-            number(visit.make(records, coordinator).map(answer_number))
+            let visit = Request::Visit { key, now };
+            number(sheets.ask(visit).map(answer_number))
         }
-        Call::At { place, asked } => {
-            let list = &mut lent.list;
-            number(by_place::call_at(records, coordinator, list, *place, asked))
-        }
-        Call::Lookup { key } => {
-            let found = plain::lookup(records, key.numbers());
-            number(found.map(|place| place as u32))
-        }
-        Call::Version => plain::version(),
+        Call::At { place, asked } => number(sheets.call_at(list, place, &asked)),
+        Call::Lookup { key } => number(sheets.lookup(key).map(|place| place as u64)),
+        Call::Version => plain::version().into(),
     }
 }
 
@@ -115,15 +106,18 @@ pub fn is_fast(call: &Call) -> bool {
     }
 }
 
-/// A call that `fast` has.
-pub fn by_fast(call: &Call, lent: &mut Lent) -> u32 {
+/// A call that `fast` has, on the joined sheet.
+pub fn by_fast(call: &Call, lent: &mut Lent) -> u64 {
+    let LaidOut::Joined(sheets) = &mut lent.sheets else {
+        panic!("fast has no calls on two sheets");
+    };
     let Sheets {
         records,
         coordinator,
-    } = &mut lent.sheets;
+    } = sheets;
     match *call {
-        Call::Check => fast::check(records, coordinator),
-        Call::Begin => number(fast::begin(records, coordinator)),
+        Call::Check => fast::check(records, coordinator).into(),
+        Call::Begin => number(fast::begin(records, coordinator).map(u64::from)),
         Call::Visit { key, now } => {
             number(fast::visit(records, coordinator, key, now).map(visit_number))
         }

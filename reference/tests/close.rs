@@ -10,6 +10,7 @@ use reference::plain::record::{State, NOTHING};
 use reference::plain::request::{Answer, Request};
 use reference::plain::transaction::*;
 use reference::plain::WRONG_PHASE;
+use reference::replay::Layout;
 
 const NOW: u32 = 5_000;
 
@@ -317,7 +318,7 @@ fn a_close_is_advances_one_after_another() {
     for seed in 0..3_000 {
         let random = &mut Random::new(seed);
         let (request, sheets) = match seed % 2 {
-            0 => closes::of_order(random),
+            0 => closes::of_order(random, Layout::Joined),
             _ => {
                 let sheets = crowded(random);
                 (closes::of_forged(random, &sheets), sheets)

@@ -1,16 +1,18 @@
 //! `fast` answers as `plain` does, and leaves every byte lent as `plain` does.
 
 use reference::exported::{by_fast, by_plain, is_fast, Call, Lent};
-use reference::make::exported::next;
+use reference::make::exported::{next, without_list};
 use reference::make::halfway::{asking, halfway};
 use reference::make::history::{History, Rule};
 use reference::make::random::Random;
 use reference::make::sheets::{crowded, of_size, spread, Mix, Size};
 use reference::plain::request::Request;
+use reference::replay::laid_out::LaidOut;
+use reference::replay::Layout;
 use std::collections::BTreeMap;
 
 /// The answer of both.
-fn agreed(call: &Call, lent: Lent) -> u32 {
+fn agreed(call: &Call, lent: Lent) -> u64 {
     let mut by_plain_lent = lent.clone();
     let mut by_fast_lent = lent;
     let answer = by_plain(call, &mut by_plain_lent);
@@ -32,7 +34,7 @@ fn name(call: &Call) -> &'static str {
 }
 
 /// What an answer shows: a number given is 0.
-fn shown(call: &Call, answer: u32) -> (&'static str, u32) {
+fn shown(call: &Call, answer: u64) -> (&'static str, u64) {
     match call {
         Call::Begin if answer < 1_000 => (name(call), 0),
         _ => (name(call), answer),
@@ -41,7 +43,7 @@ fn shown(call: &Call, answer: u32) -> (&'static str, u32) {
 
 /// The history's next call, or a check where `fast` hasn't it.
 fn next_fast(random: &mut Random, history: &mut History) -> (Call, Lent) {
-    let (call, lent) = next(random, history);
+    let (call, lent) = next(random, Layout::Joined, history);
     match is_fast(&call) {
         true => (call, lent),
         false => (Call::Check, lent),
@@ -60,7 +62,7 @@ fn on_histories() {
             *seen.entry(shown(&call, agreed(&call, lent))).or_insert(0) += 1;
         }
     }
-    let expected: &[(&str, &[u32])] = &[
+    let expected: &[(&str, &[u64])] = &[
         ("advance", &[0, 1_001, 1_002, 1_003, 1_004]),
         ("begin", &[0, 1_001, 1_002, 1_008]),
         ("check", &[0, 1, 2]),
@@ -68,7 +70,7 @@ fn on_histories() {
     ];
     let expected = expected.iter();
     let expected = expected.flat_map(|(name, answers)| answers.iter().map(|n| (*name, *n)));
-    let keys: Vec<(&str, u32)> = seen.keys().copied().collect();
+    let keys: Vec<(&str, u64)> = seen.keys().copied().collect();
     assert_eq!(keys, expected.collect::<Vec<_>>(), "{seen:?}");
 }
 
@@ -108,8 +110,8 @@ fn on_orders_half_way() {
         };
         let store = sheets.store();
         let line = store.place_of(&key).map(|place| store.records[place]);
-        let list = Vec::new();
-        let answer = agreed(&Call::Visit { key, now }, Lent { sheets, list });
+        let lent = without_list(LaidOut::Joined(sheets));
+        let answer = agreed(&Call::Visit { key, now }, lent);
         again += usize::from(answer == 3);
         busy += usize::from(answer == 1_012 && line.is_ok_and(|line| line.has_expired(now)));
     }

@@ -17,7 +17,7 @@ use std::process::ExitCode;
 /// A third of the calls that `make differ` makes.
 const CALLS: u64 = 66_000;
 /// At each of them rounds begin with small ones of every kind, as from 0 on.
-const SEEDS: [u64; 5] = [0, 252_000, 504_000, 756_000, 1_008_000];
+const SEEDS: [u64; 5] = [0, 285_600, 571_200, 856_800, 1_142_400];
 
 /// `plain` with this fault.
 struct Faulty(usize);
@@ -42,9 +42,9 @@ impl Subject for Faulty {
         self.program(|| visitor::output(input))
     }
 
-    fn call(&self, call: &Call, lent: &mut Lent) -> u32 {
+    fn call(&self, call: &Call, lent: &mut Lent) -> u64 {
         let answer = self.make(|| exported::by_plain(call, lent));
-        answer.unwrap_or(u32::MAX)
+        answer.unwrap_or(u64::MAX)
     }
 
     fn convert(&self, conversion: Conversion, lent: &mut conversions::Lent) -> u32 {

@@ -5,11 +5,12 @@ use crate::exported::{Call, Lent};
 use crate::make::lists::unused;
 use crate::make::Sheets;
 use crate::plain::transaction::Transaction;
+use crate::replay::laid_out::LaidOut;
 use std::mem::take;
 use std::sync::Arc;
 
 pub struct ClientHistory {
-    pub sheets: Sheets,
+    pub sheets: LaidOut,
     /// How long each client's list is. All are unused at first.
     pub lengths: Vec<usize>,
     pub turns: Vec<Turn>,
@@ -27,15 +28,15 @@ pub enum Turn {
 pub struct Expected {
     pub client: usize,
     pub call: Call,
-    pub answer: u32,
+    pub answer: u64,
     /// The client's list afterwards.
     pub list: Vec<Transaction>,
     /// The sheets afterwards, the same as before where nothing is written.
-    pub sheets: Arc<Sheets>,
-    pub written: Written,
+    pub sheets: Arc<LaidOut>,
+    pub written: Option<Written>,
 }
 
-/// What is told of the sheets before and after a call: the answer, and which lines.
+/// What is told of joined sheets before and after a call: the answer, and which lines.
 #[derive(Clone, Copy, Debug, PartialEq, Eq)]
 pub struct Written {
     pub answer: u32,
@@ -43,19 +44,26 @@ pub struct Written {
 }
 
 impl Written {
-    /// As `tell` answers. The lines are to be overwritten.
-    pub fn told(tell: impl FnOnce(&mut [u32]) -> u32) -> Written {
+    /// As `tell` answers; nothing of two sheets. The lines are to be overwritten.
+    pub fn told(
+        before: &LaidOut,
+        after: &LaidOut,
+        tell: impl FnOnce(&Sheets, &Sheets, &mut [u32]) -> u32,
+    ) -> Option<Written> {
+        let (LaidOut::Joined(before), LaidOut::Joined(after)) = (before, after) else {
+            return None;
+        };
         let mut lines = [u32::MAX; 2];
-        let answer = tell(&mut lines);
-        Written { answer, lines }
+        let answer = tell(before, after, &mut lines);
+        Some(Written { answer, lines })
     }
 }
 
 /// What the subject made of a call.
 pub struct Made {
-    pub answer: u32,
+    pub answer: u64,
     pub lent: Lent,
-    pub written: Written,
+    pub written: Option<Written>,
 }
 
 /// The first call that departs from what is expected, counted from 1.
@@ -69,7 +77,9 @@ impl Expected {
     fn make(&self, subject: &impl Subject, mut lent: Lent) -> Made {
         let before = lent.sheets.clone();
         let answer = subject.call(&self.call, &mut lent);
-        let written = Written::told(|lines| subject.written(&before, &lent.sheets, lines));
+        let written = Written::told(&before, &lent.sheets, |before, after, lines| {
+            subject.written(before, after, lines)
+        });
         Made {
             answer,
             lent,

@@ -17,7 +17,7 @@ pub trait Subject {
     fn replay(&self, layout: Layout, input: &[u8]) -> Result<Vec<u8>, String>;
     /// The same of the visiting program.
     fn visitor(&self, input: &[u8]) -> Result<Vec<u8>, String>;
-    fn call(&self, call: &Call, lent: &mut Lent) -> u32;
+    fn call(&self, call: &Call, lent: &mut Lent) -> u64;
     fn convert(&self, conversion: Conversion, lent: &mut conversions::Lent) -> u32;
     /// What differs between the sheets, with the lines told.
     fn written(&self, before: &Sheets, after: &Sheets, lines: &mut [u32]) -> u32;
@@ -38,7 +38,7 @@ pub enum Case {
     Call {
         call: Call,
         lent: Lent,
-        answer: u32,
+        answer: u64,
         after: Lent,
     },
     Convert {

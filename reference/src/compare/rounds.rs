@@ -11,9 +11,9 @@ use crate::replay::Layout::{self, Joined, Two};
 use crate::seen::Seen;
 
 /// Seeds that many apart make rounds of the same kind. Such a row of rounds is a cycle.
-const KINDS: u64 = 210;
+const KINDS: u64 = 238;
 /// Rounds with small histories and few calls, two of each kind, come before six large ones, which take the most time.
-const SMALL: u64 = 204;
+const SMALL: u64 = 232;
 /// Of so many cycles the first four are of every kind, and the rest of calls by place, which take the least time.
 const CYCLES: u64 = 12;
 const OF_EVERY_KIND: u64 = 4;
@@ -39,25 +39,25 @@ impl Tally {
     fn of_every_kind(&mut self, random: &mut Random, seed: u64) -> Result<Vec<Case>, String> {
         // Small ones first: they show a difference in the fewest lines. They are mixed, so that each kind comes early.
         let kind = match seed % KINDS {
-            small @ 0..SMALL => small * 37 % 102,
-            large => large - SMALL + 102,
+            small @ 0..SMALL => small * 37 % 116,
+            large => large - SMALL + 116,
         };
         match kind {
             0..16 => self.legal(random, Joined, Extent::Small),
             16..24 => self.free(random, Joined, Extent::Small),
             24..32 => Ok(self.crowded(random, Joined)),
-            32..40 => Ok(exports::cases(random, &mut self.seen)),
+            32..40 => Ok(exports::cases(random, &mut self.seen, Joined)),
             40..48 => Ok(self.damaged(random, Joined)),
             48..52 => Ok(self.bad_inputs(random, Joined)),
             52..60 => Ok(visits::cases(random, &mut self.seen)),
-            60..68 => self.clients(random, Extent::Small),
-            68..102 => self.on_two(random, kind - 68),
-            102 => self.legal(random, Joined, large(seed)),
-            103 => self.free(random, Joined, large(seed)),
-            104 => self.legal(random, Joined, Extent::Long),
-            105 if cycle_of_four(seed) == 1 => self.clients(random, Extent::Long),
-            105 => self.free(random, Joined, Extent::Long),
-            106 => self.legal(random, Two, Extent::Long),
+            60..68 => self.clients(random, Joined, Extent::Small),
+            68..116 => self.on_two(random, kind - 68),
+            116 => self.legal(random, Joined, large(seed)),
+            117 => self.free(random, Joined, large(seed)),
+            118 => self.legal(random, Joined, Extent::Long),
+            119 if cycle_of_four(seed) == 1 => self.clients(random, Joined, Extent::Long),
+            119 => self.free(random, Joined, Extent::Long),
+            120 => self.legal(random, Two, Extent::Long),
             _ => self.free(random, Two, large(seed)),
         }
     }
@@ -69,28 +69,36 @@ impl Tally {
             8..14 => self.free(random, Two, Extent::Small),
             14..24 => Ok(self.crowded(random, Two)),
             24..32 => Ok(self.damaged(random, Two)),
-            _ => Ok(self.bad_inputs(random, Two)),
+            32..34 => Ok(self.bad_inputs(random, Two)),
+            34..42 => Ok(exports::cases(random, &mut self.seen, Two)),
+            _ => self.clients(random, Two, Extent::Small),
         }
     }
 
     fn by_place(&mut self, random: &mut Random, seed: u64) -> Result<Vec<Case>, String> {
+        let layout = random.pick(&[Joined, Two]);
         match seed % KINDS {
             small @ 0..SMALL if small % 2 == 0 => {
-                Ok(exports::cases_by_place(random, &mut self.seen))
+                Ok(exports::cases_by_place(random, &mut self.seen, layout))
             }
-            0..SMALL => self.clients(random, Extent::Small),
-            SMALL => self.clients(random, Extent::Wide),
-            _ => self.clients(random, Extent::Long),
+            0..SMALL => self.clients(random, layout, Extent::Small),
+            SMALL => self.clients(random, layout, Extent::Wide),
+            _ => self.clients(random, layout, Extent::Long),
         }
     }
 
     /// A large one, or some small ones.
-    fn clients(&mut self, random: &mut Random, extent: Extent) -> Result<Vec<Case>, String> {
+    fn clients(
+        &mut self,
+        random: &mut Random,
+        layout: Layout,
+        extent: Extent,
+    ) -> Result<Vec<Case>, String> {
         let histories = match extent {
             Extent::Small => 3,
             Extent::Long | Extent::Wide => 1,
         };
-        let mut case = || clients(random, &mut self.seen, extent).map(Case::Clients);
+        let mut case = || clients(random, &mut self.seen, layout, extent).map(Case::Clients);
         (0..histories).map(|_| case()).collect()
     }
 

@@ -1,4 +1,5 @@
-//! Histories of clients that keep lists of transactions: calls by place, crashes that lose a list, and closing visits.
+//! Histories of clients that keep lists of transactions: calls by place, crashes that lose a list, and closing visits. On two
+//! sheets a client keeps beside its list what the first call of a read was answered.
 
 use super::arguments::close_keys;
 use super::closing::{close, own_close};
@@ -9,22 +10,33 @@ use super::random::Random;
 use super::requests::{begin, Client};
 use super::scripts::{history, Extent};
 use super::sheets::{with_keys, Mix, Size};
+use super::two_sheets::letters;
 use super::Sheets;
 use crate::compare::clients::{ClientHistory, Expected, Turn, Written};
 use crate::exported::{by_plain, refusal_of, written_by_plain, Call, Lent};
+use crate::plain::by_place::{Asked, COLUMN_1, FIRST};
+use crate::plain::key::Key;
 use crate::plain::request::{Answer, Request};
 use crate::plain::store::Store;
 use crate::plain::transaction::{Transaction, DONE};
+use crate::replay::laid_out::LaidOut;
+use crate::replay::Layout;
 use crate::seen::Seen;
 use crate::sequential_model::SequentialModel;
+use std::collections::BTreeMap;
 use std::sync::Arc;
 
 /// How many keys a transaction reads before it advances, by its number.
 const APPETITES: [u32; 9] = [0, 1, 1, 2, 2, 3, 3, 4, 9];
 
+/// The key of a read that takes a second call, and the columns that its first was answered.
+type First = (Key, [u32; 2]);
+
 struct Clients {
     lists: Vec<Vec<Transaction>>,
-    sheets: Arc<Sheets>,
+    /// What a first call was answered, by client and place.
+    firsts: BTreeMap<(usize, usize), First>,
+    sheets: Arc<LaidOut>,
     /// What the sheets say.
     store: Store,
     model: SequentialModel,
@@ -35,20 +47,22 @@ struct Clients {
 pub fn clients(
     random: &mut Random,
     seen: &mut Seen,
+    layout: Layout,
     extent: Extent,
 ) -> Result<ClientHistory, String> {
-    let (sheets, calls) = first(random, extent);
-    let mut clients = Clients::new(random, &sheets);
+    let (mut sheets, calls) = first(random, extent);
+    letters(random, layout, &mut sheets);
+    let mut clients = Clients::new(random, layout, &sheets);
     let lengths = clients.lists.iter().map(Vec::len).collect();
     clients.turns(random, seen, calls);
     let inside = clients.close(random, seen);
-    seen.clients.note(&clients.model);
-    if inside && clients.sheets.records != clients.model.sheet() {
+    seen.clients.note(layout, &clients.model);
+    if inside && clients.sheets.joined().records != clients.model.sheet() {
         let sheets = &clients.sheets;
         return Err(format!("not the sequential model's sheet\n{sheets}"));
     }
     Ok(ClientHistory {
-        sheets,
+        sheets: LaidOut::of(layout, sheets),
         lengths,
         turns: clients.turns,
     })
@@ -76,12 +90,13 @@ fn first(random: &mut Random, extent: Extent) -> (Sheets, usize) {
 }
 
 impl Clients {
-    fn new(random: &mut Random, sheets: &Sheets) -> Clients {
+    fn new(random: &mut Random, layout: Layout, sheets: &Sheets) -> Clients {
         let list = |_| vec![unused(); random.pick(&[1, 2, 2, 3, 5, 16])];
         let lists: Vec<Vec<Transaction>> = (0..4).map(list).collect();
         Clients {
             lists,
-            sheets: Arc::new(sheets.clone()),
+            firsts: BTreeMap::new(),
+            sheets: Arc::new(LaidOut::of(layout, sheets.clone())),
             store: sheets.store(),
             model: SequentialModel::new(&sheets.records).expect("the first sheet is accepted"),
             turns: Vec::new(),
@@ -105,16 +120,17 @@ impl Clients {
         if random.once_in(40) {
             seen.clients.crashes += 1;
             self.lists[client].fill(unused());
+            self.firsts.retain(|(other, _), _| *other != client);
             return self.turns.push(Turn::Crash { client });
         }
         let list = &self.lists[client];
         let place = some_place(random, list.len());
         let named = list.get(place).copied().unwrap_or(unused());
-        let records = &self.store.records;
-        let request = request(random, named, &self.store);
-        let mut asked = asked(random, &request, records);
+        let first = self.firsts.get(&(client, place)).copied();
+        let request = request(random, named, first, &self.store);
+        let mut asked = asked(random, &request, &self.store.records);
         if random.once_in(60) {
-            asked = no_call(random, asked);
+            asked = no_call(random, self.sheets.layout(), asked);
         }
         self.make(seen, client, Call::At { place, asked });
     }
@@ -140,7 +156,7 @@ impl Clients {
         }
         let outside = without_reading(&self.store);
         seen.lists.note(&left, &outside);
-        for event in close(random, &mut self.sheets.as_ref().clone()) {
+        for event in close(random, &mut self.sheets.joined()) {
             if let Request::Visit { key, now } = event.request {
                 self.make(seen, 0, Call::Visit { key, now });
             }
@@ -158,10 +174,13 @@ impl Clients {
         let answer = by_plain(&call, &mut lent);
         seen.note_call(&call, &before, answer, &lent);
         let Lent { sheets, list } = lent;
-        let written = Written::told(|lines| written_by_plain(&self.sheets, &sheets, lines));
-        seen.note_written_beside(written.answer);
-        if refusal_of(&call, answer) == 0 {
-            self.note(&call, &before, &list);
+        let written = Written::told(&self.sheets, &sheets, written_by_plain);
+        if let Some(written) = written {
+            seen.note_written_beside(written.answer);
+        }
+        if let (Call::At { place, asked }, 0) = (call, refusal_of(&call, answer)) {
+            self.note(&asked, &before[place], &list[place]);
+            self.keep_first((client, place), &asked, answer);
         }
         self.keep(sheets);
         self.lists[client].clone_from(&list);
@@ -176,19 +195,31 @@ impl Clients {
     }
 
     /// Goes on with these sheets, or with the same ones where nothing was written.
-    fn keep(&mut self, sheets: Sheets) {
+    fn keep(&mut self, sheets: LaidOut) {
         if *self.sheets != sheets {
-            self.store = sheets.store();
+            self.store = sheets.store().expect("a call leaves accepted sheets");
             self.sheets = Arc::new(sheets);
         }
     }
 
     /// Tells the model of an accepted call by place. Of a visit it needn't know.
-    fn note(&mut self, call: &Call, before: &[Transaction], after: &[Transaction]) {
-        if let Call::At { place, asked } = call {
-            let request = asked.request(before[*place]).expect("it was accepted");
-            let answer = Answer::Returned(after[*place]);
-            self.model.note(&request, &Ok(answer));
+    fn note(&mut self, asked: &Asked, taken: &Transaction, returned: &Transaction) {
+        let request = asked.request(self.sheets.layout(), *taken);
+        let request = request.expect("it was accepted");
+        self.model.note(&request, &Ok(Answer::Returned(*returned)));
+    }
+
+    /// Keeps what a first call was answered until another call there is accepted.
+    fn keep_first(&mut self, place: (usize, usize), asked: &Asked, answer: u64) {
+        match answer.checked_sub(FIRST) {
+            Some(columns) => {
+                let columns = [columns / COLUMN_1, columns % COLUMN_1];
+                let columns = columns.map(|column| column as u32);
+                self.firsts.insert(place, (asked.key, columns));
+            }
+            None => {
+                self.firsts.remove(&place);
+            }
         }
     }
 }
@@ -203,7 +234,12 @@ fn some_place(random: &mut Random, length: usize) -> usize {
 }
 
 /// The next request to the one named. One that is done or unused gives way to a new one, and at times another does.
-fn request(random: &mut Random, named: Transaction, store: &Store) -> Request {
+fn request(
+    random: &mut Random,
+    named: Transaction,
+    first: Option<First>,
+    store: &Store,
+) -> Request {
     let is_over = named.number == 0 || named.phase == DONE;
     if is_over && !random.once_in(6) || random.once_in(80) {
         return begin(random);
@@ -212,7 +248,7 @@ fn request(random: &mut Random, named: Transaction, store: &Store) -> Request {
         transaction: named,
         appetite: APPETITES[named.number as usize % APPETITES.len()],
         thorough: named.number.is_multiple_of(2),
-        first: None,
+        first,
     };
     client.request(random, store)
 }

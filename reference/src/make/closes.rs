@@ -7,10 +7,12 @@ use super::random::Random;
 use super::requests::visit;
 use super::sheets::spread;
 use super::transactions::forged_begun;
+use super::two_sheets::letters;
 use super::Sheets;
 use crate::plain::record::Record;
 use crate::plain::request::{Answer, Request};
 use crate::plain::transaction::*;
+use crate::replay::Layout;
 
 /// Phases for an order that is under way, those more often of which there is more to see.
 const WANTED: [u32; 10] = [
@@ -106,8 +108,9 @@ pub fn under_way(random: &mut Random, sheets: &mut Sheets) -> Transaction {
 }
 
 /// A close of an order on sheets of its own.
-pub fn of_order(random: &mut Random) -> (Request, Sheets) {
+pub fn of_order(random: &mut Random, layout: Layout) -> (Request, Sheets) {
     let mut sheets = spread(random);
+    letters(random, layout, &mut sheets);
     let order = under_way(random, &mut sheets);
     let request = close(random, order, &sheets);
     (request, sheets)

@@ -1,46 +1,55 @@
 //! Exported calls out of random histories or from nowhere, at times on damaged or forged sheets.
 
-use super::arguments::any_key;
+use super::arguments::{any_key, key_of};
 use super::closes;
-use super::damage::damage;
 use super::expiry::clock_for_step;
-use super::forge::forge;
 use super::halfway;
 use super::history::{Event, History};
-use super::lists::{asked, list_of, no_call, other};
+use super::lists::{asked, list_of, no_call, other, unused};
 use super::random::Random;
 use super::requests::{begin, stray};
+use super::scripts::damaged_sheets;
 use super::transactions::forged_begun;
+use super::two_orders::crossed;
+use super::two_sheets::letters;
 use super::{any, sheets, Sheets};
 use crate::exported::{Call, Lent};
 use crate::plain::request::Request;
 use crate::plain::store::Store;
-use crate::plain::transaction::Transaction;
+use crate::plain::transaction::{Transaction, MOST_LISTED};
+use crate::replay::laid_out::LaidOut;
+use crate::replay::Layout;
 
 /// The history's next call, by place unless it is a visit, and what it is lent.
-pub fn next(random: &mut Random, history: &mut History) -> (Call, Lent) {
+pub fn next(random: &mut Random, layout: Layout, history: &mut History) -> (Call, Lent) {
     let Event {
         request, before, ..
     } = history.step(random);
-    let call = exported(random, &request, history.states(), before);
+    let call = exported(random, layout, &request, history.states(), before);
     spoilt(random, 6, call)
 }
 
 /// A call with a transaction that was forged for sheets of its own, a close of an order there, among others such, or a call
 /// that comes upon an order half-way.
-pub fn from_nowhere(random: &mut Random) -> (Call, Lent) {
+pub fn from_nowhere(random: &mut Random, layout: Layout) -> (Call, Lent) {
     let (request, sheets) = match random.below(10) {
-        0 | 1 => closes::of_order(random),
-        2 => on_halfway(random),
-        _ => on_crowded(random),
+        0 | 1 => closes::of_order(random, layout),
+        2 => on_halfway(random, layout),
+        _ => on_crowded(random, layout),
     };
-    let call = exported(random, &request, &[], sheets);
-    spoilt(random, 24, call)
+    let call = exported(random, layout, &request, &[], sheets);
+    // There is more to be damaged of two sheets.
+    let seldom = match layout {
+        Layout::Joined => 24,
+        Layout::Two => 6,
+    };
+    spoilt(random, seldom, call)
 }
 
 /// A call on sheets with much in them.
-fn on_crowded(random: &mut Random) -> (Request, Sheets) {
-    let sheets = sheets::crowded(random);
+fn on_crowded(random: &mut Random, layout: Layout) -> (Request, Sheets) {
+    let mut sheets = sheets::crowded(random);
+    letters(random, layout, &mut sheets);
     let store = sheets.store();
     let request = match random.below(14) {
         0 => begin(random),
@@ -52,33 +61,66 @@ fn on_crowded(random: &mut Random) -> (Request, Sheets) {
             }
         }
         6 | 7 => closes::of_forged(random, &sheets),
+        8 if layout == Layout::Two => crossed(random, &store),
         _ => stray(random, &[], &store),
     };
     (request, sheets)
 }
 
-fn on_halfway(random: &mut Random) -> (Request, Sheets) {
-    let sheets = sheets::spread(random);
+fn on_halfway(random: &mut Random, layout: Layout) -> (Request, Sheets) {
+    let mut sheets = sheets::spread(random);
+    letters(random, layout, &mut sheets);
     let sheets = halfway::halfway(random, sheets);
     (halfway::asking(random, &sheets), sheets)
 }
 
-/// A look-up in sheets of every kind.
-pub fn lookup(random: &mut Random) -> (Call, Lent) {
-    let records = sheets::accepted(random);
-    let key = any_key(random, &records.store().records);
-    let sheets = match random.once_in(3) {
-        true => any(random),
-        false => records,
-    };
-    let list = Vec::new();
-    let lent = Lent { sheets, list };
-    (Call::Lookup { key }, lent)
+/// A check of sheets of every kind.
+pub fn check(random: &mut Random, layout: Layout) -> (Call, Lent) {
+    let sheets = any_sheets(random, layout);
+    (Call::Check, without_list(sheets))
 }
 
-/// The request as a function for C takes it. Begin has one beside that by place.
+/// A look-up in sheets of every kind.
+pub fn lookup(random: &mut Random, layout: Layout) -> (Call, Lent) {
+    let sheets = accepted(random, layout);
+    let records = sheets.store().records;
+    let (key, sheets) = match random.once_in(3) {
+        true => {
+            let key = key_of(random, 4, &records);
+            (key, damaged_sheets(random, layout, sheets))
+        }
+        false => (any_key(random, &records), LaidOut::of(layout, sheets)),
+    };
+    (Call::Lookup { key }, without_list(sheets))
+}
+
+pub fn without_list(sheets: LaidOut) -> Lent {
+    let list = Vec::new();
+    Lent { sheets, list }
+}
+
+fn accepted(random: &mut Random, layout: Layout) -> Sheets {
+    let mut sheets = sheets::accepted(random);
+    letters(random, layout, &mut sheets);
+    sheets
+}
+
+/// Accepted sheets, and more often damaged or forged ones.
+fn any_sheets(random: &mut Random, layout: Layout) -> LaidOut {
+    if layout == Layout::Joined {
+        return LaidOut::Joined(any(random));
+    }
+    let sheets = accepted(random, layout);
+    match random.once_in(4) {
+        true => LaidOut::of(layout, sheets),
+        false => damaged_sheets(random, layout, sheets),
+    }
+}
+
+/// The request as a function for C takes it. On the joined sheet begin has one beside that by place.
 fn exported(
     random: &mut Random,
+    layout: Layout,
     request: &Request,
     others: &[Transaction],
     sheets: Sheets,
@@ -90,12 +132,13 @@ fn exported(
             key: *key,
             now: *now,
         },
-        Request::Begin { .. } if random.once_in(3) => Call::Begin,
+        Request::Begin { .. } if layout == Layout::Joined && random.once_in(3) => Call::Begin,
         _ => {
             let asked = asked(random, request, &store.records);
             Call::At { place, asked }
         }
     };
+    let sheets = LaidOut::of(layout, sheets);
     (call, Lent { sheets, list })
 }
 
@@ -113,20 +156,20 @@ fn list_for(
     list_of(random, taken, others, store)
 }
 
-/// The same call, but seldom there is none of its number, and once in so many times the sheets are damaged or forged.
-fn spoilt(random: &mut Random, times: usize, (call, mut lent): (Call, Lent)) -> (Call, Lent) {
-    if random.once_in(times) {
-        match random.once_in(4) {
-            true => forge(random, &mut lent.sheets),
-            false => damage(random, &mut lent.sheets),
+/// The same call, but once in so many times the sheets are damaged or forged, and seldom there is none of its number. Where
+/// the sheets go before that it comes more often, and the list is too long at times.
+fn spoilt(random: &mut Random, times: usize, (mut call, mut lent): (Call, Lent)) -> (Call, Lent) {
+    let layout = lent.sheets.layout();
+    let damaged = random.once_in(times);
+    if damaged {
+        lent.sheets = damaged_sheets(random, layout, lent.sheets.joined());
+    }
+    if let Call::At { asked, .. } = &mut call {
+        match random.below(if damaged { 6 } else { 30 }) {
+            0 => *asked = no_call(random, layout, *asked),
+            1 if damaged => lent.list.resize(MOST_LISTED + 1, unused()),
+            _ => {}
         }
     }
-    let call = match call {
-        Call::At { place, asked } if random.once_in(30) => Call::At {
-            place,
-            asked: no_call(random, asked),
-        },
-        _ => call,
-    };
     (call, lent)
 }

@@ -2,13 +2,16 @@
 
 use super::any;
 use super::conversions::conversion;
-use super::exported::{from_nowhere, lookup, next};
+use super::exported::{check, from_nowhere, lookup, next, without_list};
 use super::history::{History, Rule};
 use super::random::Random;
 use super::sheets::{of_size, Mix, Size};
+use super::two_sheets::letters;
 use super::written::unlike;
 use crate::compare::Case;
 use crate::exported::{Call, Lent};
+use crate::replay::laid_out::LaidOut;
+use crate::replay::Layout;
 use crate::seen::Seen;
 
 const FULL: Size = Size {
@@ -17,52 +20,68 @@ const FULL: Size = Size {
     issued: 950,
 };
 
-/// The calls of a history, calls from nowhere, checks of sheets of every kind, and sheets to numbers and back.
-pub fn cases(random: &mut Random, seen: &mut Seen) -> Vec<Case> {
-    let mut cases = by_place(random, 150, 250);
-    cases.extend((0..300).map(|_| on_any(random, Call::Check)));
-    cases.extend((0..250).map(|_| {
-        let (conversion, lent) = conversion(random);
-        Case::convert(conversion, lent)
-    }));
-    cases.extend(told(random, 25, 50));
+/// Calls from nowhere, the calls of a history, checks of sheets of every kind and look-ups, and what has a function for the
+/// joined sheet only: sheets to numbers and back, what was written, and the version.
+pub fn cases(random: &mut Random, seen: &mut Seen, layout: Layout) -> Vec<Case> {
+    let mut cases = by_place(random, layout, 250, 150);
+    cases.extend((0..300).map(|_| case(check(random, layout))));
+    cases.extend((0..25).map(|_| case(lookup(random, layout))));
+    if layout == Layout::Joined {
+        cases.extend((0..250).map(|_| {
+            let (conversion, lent) = conversion(random);
+            Case::convert(conversion, lent)
+        }));
+        cases.extend(told(random));
+    }
     noted(cases, seen)
 }
 
 /// Calls by place, for the most part.
-pub fn cases_by_place(random: &mut Random, seen: &mut Seen) -> Vec<Case> {
-    let mut cases = by_place(random, 200, 900);
-    cases.extend(told(random, 25, 50));
+pub fn cases_by_place(random: &mut Random, seen: &mut Seen, layout: Layout) -> Vec<Case> {
+    let mut cases = by_place(random, layout, 900, 200);
+    cases.extend((0..25).map(|_| case(lookup(random, layout))));
+    if layout == Layout::Joined {
+        cases.extend(told(random));
+    }
     noted(cases, seen)
 }
 
-/// So many look-ups, so many sheets before and after, and the version.
-fn told(random: &mut Random, look_ups: usize, unlikes: usize) -> Vec<Case> {
-    let mut cases = vec![on_any(random, Call::Version)];
-    cases.extend((0..look_ups).map(|_| {
-        let (call, lent) = lookup(random);
-        Case::call(call, lent)
-    }));
-    cases.extend((0..unlikes).map(|_| {
+/// Sheets before and after, and the version.
+fn told(random: &mut Random) -> Vec<Case> {
+    let sheets = LaidOut::Joined(any(random));
+    let mut cases = vec![Case::call(Call::Version, without_list(sheets))];
+    cases.extend((0..50).map(|_| {
         let (before, after, lines) = unlike(random);
         Case::written(before, after, lines)
     }));
     cases
 }
 
-/// So many calls of a history and so many from nowhere. All but visits and some begins are by place.
-fn by_place(random: &mut Random, in_history: usize, from_elsewhere: usize) -> Vec<Case> {
-    let mut history = history(random);
-    let calls = (0..in_history).map(|_| {
-        let (call, lent) = next(random, &mut history);
-        Case::call(call, lent)
-    });
+/// So many calls from nowhere, and a history of so many calls, or seldom of a few on sheets of full size, which take the most
+/// time. All but visits and some begins are by place.
+fn by_place(
+    random: &mut Random,
+    layout: Layout,
+    from_elsewhere: usize,
+    in_history: usize,
+) -> Vec<Case> {
+    let calls = (0..from_elsewhere).map(|_| case(from_nowhere(random, layout)));
     let mut cases: Vec<Case> = calls.collect();
-    cases.extend((0..from_elsewhere).map(|_| {
-        let (call, lent) = from_nowhere(random);
-        Case::call(call, lent)
-    }));
+    let rule = random.pick(&[Rule::Legal, Rule::Free]);
+    let (mut history, calls) = match random.once_in(8) {
+        true => {
+            let sheets = of_size(random, FULL, Mix::Settled);
+            (History::on(random, rule, sheets), 40)
+        }
+        false => (History::new(random, rule), in_history),
+    };
+    letters(random, layout, &mut history.sheets);
+    cases.extend((0..calls).map(|_| case(next(random, layout, &mut history))));
     cases
+}
+
+fn case((call, lent): (Call, Lent)) -> Case {
+    Case::call(call, lent)
 }
 
 fn noted(cases: Vec<Case>, seen: &mut Seen) -> Vec<Case> {
@@ -70,25 +89,4 @@ fn noted(cases: Vec<Case>, seen: &mut Seen) -> Vec<Case> {
         seen.note_exported(case);
     }
     cases
-}
-
-/// A small one, or seldom one on sheets of full size.
-fn history(random: &mut Random) -> History {
-    let rule = random.pick(&[Rule::Legal, Rule::Free]);
-    match random.once_in(8) {
-        true => {
-            let sheets = of_size(random, FULL, Mix::Settled);
-            History::on(random, rule, sheets)
-        }
-        false => History::new(random, rule),
-    }
-}
-
-/// A call that is lent sheets of any kind and no list.
-fn on_any(random: &mut Random, call: Call) -> Case {
-    let lent = Lent {
-        sheets: any(random),
-        list: Vec::new(),
-    };
-    Case::call(call, lent)
 }

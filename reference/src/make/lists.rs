@@ -8,11 +8,12 @@ use crate::plain::record::Record;
 use crate::plain::request::Request;
 use crate::plain::store::Store;
 use crate::plain::transaction::{Transaction, MOST_LISTED};
+use crate::replay::Layout;
 
-/// Numbers of no call, some of which would be one if their higher bits were lost.
+/// Numbers of no call, some of which would be one if their higher bits were lost. The first is one on two sheets.
 const NO_CALL: [u32; 8] = [
+    by_place::SECOND,
     by_place::CALLS,
-    8,
     9,
     256,
     65_538,
@@ -66,57 +67,50 @@ pub fn other(
 
 /// What a request asks of the one at a place, as numbers; those that its call doesn't take are any.
 pub fn asked(random: &mut Random, request: &Request, records: &[Record]) -> Asked {
-    let any = Asked {
-        call: by_place::ABORT,
+    let mut asked = Asked {
+        call: number_of(request),
         key: any_key(random, records),
         columns: columns(random, true),
         now: clock(random, records),
         limit: limit(random),
     };
     match *request {
-        Request::Begin { serializable } => Asked {
-            call: begin(serializable),
-            ..any
-        },
-        Request::Read { key, now, .. } => Asked {
-            call: by_place::READ,
-            key,
-            now,
-            ..any
-        },
-        Request::Put { key, columns, .. } => Asked {
-            call: by_place::PUT,
-            key,
-            columns,
-            ..any
-        },
-        Request::Advance { now, .. } => Asked {
-            call: by_place::ADVANCE,
-            now,
-            ..any
-        },
-        Request::Close { now, limit, .. } => Asked {
-            call: by_place::CLOSE,
-            now,
-            limit,
-            ..any
-        },
-        // A visit isn't by place, and lists have the joined sheet.
-        Request::Abort { .. } | Request::Visit { .. } | Request::Second { .. } => any,
+        Request::Read { key, now, .. } => (asked.key, asked.now) = (key, now),
+        Request::Second {
+            key, now, columns, ..
+        } => (asked.key, asked.now, asked.columns) = (key, now, columns),
+        Request::Put { key, columns, .. } => (asked.key, asked.columns) = (key, columns),
+        Request::Advance { now, .. } => asked.now = now,
+        Request::Close { now, limit, .. } => (asked.now, asked.limit) = (now, limit),
+        Request::Begin { .. } | Request::Abort { .. } | Request::Visit { .. } => {}
     }
+    asked
 }
 
-fn begin(serializable: bool) -> u32 {
-    match serializable {
-        false => by_place::BEGIN,
-        true => by_place::BEGIN_CHECKED,
+/// The number of a request's call; any of a visit, which isn't by place.
+fn number_of(request: &Request) -> u32 {
+    match request {
+        Request::Begin {
+            serializable: false,
+        } => by_place::BEGIN,
+        Request::Begin { serializable: true } => by_place::BEGIN_CHECKED,
+        Request::Read { .. } => by_place::READ,
+        Request::Put { .. } => by_place::PUT,
+        Request::Advance { .. } => by_place::ADVANCE,
+        Request::Abort { .. } | Request::Visit { .. } => by_place::ABORT,
+        Request::Close { .. } => by_place::CLOSE,
+        Request::Second { .. } => by_place::SECOND,
     }
 }
 
 /// The same under a number of no call.
-pub fn no_call(random: &mut Random, asked: Asked) -> Asked {
+pub fn no_call(random: &mut Random, layout: Layout, asked: Asked) -> Asked {
+    let numbers = match layout {
+        Layout::Joined => &NO_CALL[..],
+        Layout::Two => &NO_CALL[1..],
+    };
     Asked {
-        call: random.pick(&NO_CALL),
+        call: random.pick(numbers),
         ..asked
     }
 }

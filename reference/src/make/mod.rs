@@ -30,6 +30,7 @@ pub mod written;
 use crate::plain::request::{Answer, Request};
 use crate::plain::store::Store;
 use random::Random;
+use std::fmt;
 pub use two_sheets::TwoSheets;
 
 /// What a check is called with.
@@ -81,18 +82,18 @@ impl Sheets {
     }
 }
 
-impl std::fmt::Display for Sheets {
-    /// Both sheets whole, with every byte visible.
-    fn fmt(&self, out: &mut std::fmt::Formatter) -> std::fmt::Result {
-        for (name, sheet) in [
-            ("record sheet", &self.records),
-            ("coordinator sheet", &self.coordinator),
-        ] {
-            writeln!(out, "{name}, {} bytes:", sheet.len())?;
-            for line in sheet.split_inclusive(|b| *b == b'\n') {
-                writeln!(out, "{}", line.escape_ascii())?;
-            }
-        }
-        Ok(())
+impl fmt::Display for Sheets {
+    fn fmt(&self, out: &mut fmt::Formatter) -> fmt::Result {
+        write_visibly(out, "record sheet", &self.records)?;
+        write_visibly(out, "coordinator sheet", &self.coordinator)
     }
+}
+
+/// A sheet whole, with every byte visible.
+fn write_visibly(out: &mut fmt::Formatter, name: &str, sheet: &[u8]) -> fmt::Result {
+    writeln!(out, "{name}, {} bytes:", sheet.len())?;
+    for line in sheet.split_inclusive(|b| *b == b'\n') {
+        writeln!(out, "{}", line.escape_ascii())?;
+    }
+    Ok(())
 }

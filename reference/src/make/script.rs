@@ -1,6 +1,6 @@
 //! A history as the text of a replay, with the answers that are expected.
 
-use crate::make::{Sheets, TwoSheets};
+use crate::make::Sheets;
 use crate::plain::request::Request;
 use crate::plain::transaction::{Transaction, MOST_ENTRIES};
 use crate::plain::{coordinator, record};
@@ -25,10 +25,7 @@ pub struct Script {
 impl Script {
     /// A script on these sheets, or on the two that they join.
     pub fn new(layout: Layout, sheets: &Sheets) -> Script {
-        Script::on(match layout {
-            Layout::Joined => LaidOut::Joined(sheets.clone()),
-            Layout::Two => LaidOut::Two(TwoSheets::of(sheets)),
-        })
+        Script::on(LaidOut::of(layout, sheets.clone()))
     }
 
     /// A script on these sheets, cut to whole lines.
@@ -56,12 +53,9 @@ impl Script {
         self.state.sheets.layout()
     }
 
-    /// The sheets as they stand, joined. Two must have the same keys.
+    /// The sheets as they stand, joined.
     pub fn joined(&self) -> Sheets {
-        match &self.state.sheets {
-            LaidOut::Joined(sheets) => sheets.clone(),
-            LaidOut::Two(sheets) => sheets.joined(),
-        }
+        self.state.sheets.joined()
     }
 
     /// Whether there is room for more calls, and for those that close the history.

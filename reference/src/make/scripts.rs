@@ -307,10 +307,7 @@ pub fn damaged(random: &mut Random, seen: &mut Seen, layout: Layout) -> Script {
     letters(random, layout, &mut sheets);
     let store = sheets.store();
     let records = &store.records;
-    let mut script = Script::on(match layout {
-        Layout::Joined => LaidOut::Joined(damaged_or_forged(random, sheets)),
-        Layout::Two => LaidOut::Two(damaged_two(random, &sheets)),
-    });
+    let mut script = Script::on(damaged_sheets(random, layout, sheets));
     let calls = match layout {
         Layout::Joined => 12,
         Layout::Two => 4,
@@ -337,6 +334,14 @@ pub fn damaged(random: &mut Random, seen: &mut Seen, layout: Layout) -> Script {
         Layout::Two => script.add(seen, Line::Check),
     }
     script
+}
+
+/// Accepted sheets with something wrong.
+pub fn damaged_sheets(random: &mut Random, layout: Layout, sheets: Sheets) -> LaidOut {
+    match layout {
+        Layout::Joined => LaidOut::Joined(damaged_or_forged(random, sheets)),
+        Layout::Two => LaidOut::Two(damaged_two(random, &sheets)),
+    }
 }
 
 pub fn damaged_or_forged(random: &mut Random, mut sheets: Sheets) -> Sheets {

@@ -57,12 +57,13 @@ pub fn damaged_two(random: &mut Random, sheets: &Sheets) -> TwoSheets {
 /// Something wrong with one of the sheets alone.
 fn spoil_one(random: &mut Random, sheets: &Sheets, two: &mut TwoSheets) {
     let part = Part::any(random);
-    match random.below(8) {
+    match random.below(9) {
         0 => twice(random, part, two),
         1 => other_size(random, part, two),
         2 => key_beyond(random, part, two),
         3 => line_end(random, part, two),
         4 => columns_beyond(random, two),
+        5 => part_of_line(random, part, two),
         _ => {
             let mut damaged = TwoSheets::of(&damaged_or_forged(random, sheets.clone()));
             *part.of(two).0 = part.of(&mut damaged).0.clone();
@@ -104,6 +105,17 @@ fn other_size(random: &mut Random, part: Part, two: &mut TwoSheets) {
         };
         let mut large = TwoSheets::of(&of_size(random, size, Mix::Committed));
         *sheet = part.of(&mut large).0.clone();
+    }
+}
+
+/// A few bytes too many or too few, so that the last line isn't whole. In a replay that part is cut off.
+fn part_of_line(random: &mut Random, part: Part, two: &mut TwoSheets) {
+    let (sheet, line) = part.of(two);
+    let most = random.pick(&[1, line - 1]);
+    let bytes = 1 + random.below(most);
+    match random.once_in(2) {
+        true => sheet.truncate(sheet.len() - bytes),
+        false => sheet.extend_from_within(..bytes),
     }
 }
 

@@ -148,10 +148,11 @@ impl Run<'_> {
     }
 }
 
-/// A second call of a PREPARED line that has just not expired, with a column too large or by one that may hold no more: of
-/// several refusals one goes first.
-fn crossed(random: &mut Random, store: &Store) -> Request {
-    let lines = prepared(&store.records);
+/// A second call of a PREPARED line under a small letter that has just not expired, with a column too large or by one that may
+/// hold no more: of several refusals one goes first.
+pub fn crossed(random: &mut Random, store: &Store) -> Request {
+    let mut lines = prepared(&store.records);
+    lines.retain(|line| store.coordinator.is_small(line.key.storage));
     if lines.is_empty() {
         return stray(random, &[], store);
     }

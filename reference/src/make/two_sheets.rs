@@ -2,9 +2,10 @@
 
 use super::damage::{COORDINATOR_LINE, RECORD_LINE};
 use super::random::Random;
-use super::Sheets;
+use super::{write_visibly, Sheets};
 use crate::plain::request::{Answer, Request};
 use crate::replay::Layout;
+use std::fmt;
 
 /// Bytes of a line of each sheet, LF counted.
 pub const PLAIN_LINE: usize = 39;
@@ -63,6 +64,14 @@ impl TwoSheets {
         if self.coordinator.is_empty() {
             self.coordinator.resize(COORDINATOR_LINE, b'\n');
         }
+    }
+}
+
+impl fmt::Display for TwoSheets {
+    fn fmt(&self, out: &mut fmt::Formatter) -> fmt::Result {
+        write_visibly(out, "plain sheet", &self.plain)?;
+        write_visibly(out, "bookkeeping sheet", &self.bookkeeping)?;
+        write_visibly(out, "coordinator sheet", &self.coordinator)
     }
 }
 

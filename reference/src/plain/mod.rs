@@ -23,6 +23,13 @@ use key::Key;
 use record::Record;
 use store::Store;
 
+/// Whether bookkeeping stands on the record sheet or on one of its own.
+#[derive(Clone, Copy, Debug, PartialEq, Eq)]
+pub enum Layout {
+    Joined,
+    Two,
+}
+
 /// What every call answers where no refusal applies.
 pub const ACCEPTED: u32 = 0;
 /// The record sheet or records to be written break a rule, or a target has another length than needed.
@@ -52,7 +59,7 @@ pub const BUSY: u32 = 12;
 /// The two sheets differ in number of lines or in a key.
 pub const SHEETS_DIFFER: u32 = 13;
 
-/// The version of the functions for C: 2.0.0.
+/// The version of the functions for C: 2.1.0.
 pub fn version() -> u32 {
     20_100
 }

@@ -1,13 +1,16 @@
-//! The sheets of a replay, joined or two: how an input tells them and how they are printed, and the calls on them.
+//! Sheets, joined or two: the calls on them, how an input of a replay tells them and how they are printed.
 
 use super::{Layout, MOST_BYTES};
 use crate::make::{Sheets, TwoSheets};
+use crate::plain::by_place::{self, Asked};
 use crate::plain::field::read_figure;
 use crate::plain::key::Key;
 use crate::plain::request::{Answer, Request};
 use crate::plain::store::Store;
+use crate::plain::transaction::Transaction;
 use crate::plain::two_sheets::{self, BOOKKEEPING_LINE, PLAIN_LINE};
 use crate::plain::{self, coordinator, record};
+use std::fmt;
 
 #[derive(Clone, Debug, PartialEq, Eq)]
 pub enum LaidOut {
@@ -63,6 +66,22 @@ fn two_parts(input: &[u8]) -> Option<(LaidOut, &[u8])> {
 }
 
 impl LaidOut {
+    /// These sheets, or the two that they join.
+    pub fn of(layout: Layout, sheets: Sheets) -> LaidOut {
+        match layout {
+            Layout::Joined => LaidOut::Joined(sheets),
+            Layout::Two => LaidOut::Two(TwoSheets::of(&sheets)),
+        }
+    }
+
+    /// The sheets joined. Two must have the same keys.
+    pub fn joined(&self) -> Sheets {
+        match self {
+            LaidOut::Joined(sheets) => sheets.clone(),
+            LaidOut::Two(sheets) => sheets.joined(),
+        }
+    }
+
     pub fn layout(&self) -> Layout {
         match self {
             LaidOut::Joined(_) => Layout::Joined,
@@ -106,6 +125,24 @@ impl LaidOut {
         }
     }
 
+    /// The call of the one at this place of a list.
+    pub fn call_at(
+        &mut self,
+        list: &mut [Transaction],
+        place: usize,
+        asked: &Asked,
+    ) -> Result<u64, u32> {
+        match self {
+            LaidOut::Joined(s) => {
+                by_place::call_at(&mut s.records, &mut s.coordinator, list, place, asked)
+            }
+            LaidOut::Two(s) => {
+                let (plain, bookkeeping) = (&mut s.plain, &mut s.bookkeeping);
+                by_place::call_at_two(plain, bookkeeping, &mut s.coordinator, list, place, asked)
+            }
+        }
+    }
+
     /// 0 where the sheets are accepted, else the refusal.
     pub fn check(&self) -> u32 {
         match self {
@@ -138,6 +175,15 @@ impl LaidOut {
                 two_sheets::line_of(&s.plain, &s.bookkeeping, sheet, key)
             }
             (LaidOut::Two(_), None) => &[],
+        }
+    }
+}
+
+impl fmt::Display for LaidOut {
+    fn fmt(&self, out: &mut fmt::Formatter) -> fmt::Result {
+        match self {
+            LaidOut::Joined(sheets) => sheets.fmt(out),
+            LaidOut::Two(sheets) => sheets.fmt(out),
         }
     }
 }

@@ -1,4 +1,4 @@
-//! A history of calls as text: the sheets, then one call a line, answered line by line.
+//! A history of calls as text: the sheets, then one call a line, answered line by line. Each layout has its replay program.
 //!
 //! The input is a line with the numbers of lines, 4 columns each, the sheets, which may be damaged, and the calls. A replay of
 //! joined sheets tells record lines and coordinator lines without head, and has the coordinator sheet and the record sheet.
@@ -11,6 +11,8 @@ pub mod line;
 pub mod reply;
 pub mod state;
 
+pub use crate::plain::Layout;
+
 use laid_out::parts;
 use line::Line;
 use reply::Reply;
@@ -18,13 +20,6 @@ use state::ReplayState;
 
 /// The most bytes that an input may have.
 pub const MOST_BYTES: usize = 500_000;
-
-/// Whether bookkeeping stands on the record sheet or on one of its own. Each has its replay program.
-#[derive(Clone, Copy, Debug, PartialEq, Eq)]
-pub enum Layout {
-    Joined,
-    Two,
-}
 
 /// The whole output for an input.
 pub fn replay(layout: Layout, input: &[u8]) -> Vec<u8> {

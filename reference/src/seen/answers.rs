@@ -23,6 +23,10 @@ impl Answers {
         self.counts[row][refusal as usize] += 1;
     }
 
+    pub fn last_row(&self) -> usize {
+        self.rows.len() - 1
+    }
+
     pub fn total(&self) -> u64 {
         self.counts.iter().flatten().sum()
     }

@@ -54,7 +54,7 @@ impl Found<'_> {
     }
 
     /// The call of a function for C, if it is such a one by its answer.
-    pub fn for_c(exported: &Call, answer: u32) -> Option<Found<'_>> {
+    pub fn for_c(exported: &Call, answer: u64) -> Option<Found<'_>> {
         let (call, key, now, said_again) = match exported {
             Call::Visit { key, now } => (2, key, *now, 3),
             Call::At { asked, .. } if asked.call == by_place::READ => (3, &asked.key, asked.now, 2),

@@ -2,6 +2,7 @@
 //! where it mattered that a number has several lines, counted.
 
 mod answers;
+mod by_place;
 mod clients;
 mod closes;
 mod expiry;
@@ -13,13 +14,13 @@ mod two_sheets;
 use crate::compare::Case;
 use crate::conversions::Conversion;
 use crate::exported::{refusal_of, Call, Lent};
-use crate::plain::by_place;
 use crate::plain::transaction::Transaction;
 use crate::replay::laid_out::LaidOut;
 use crate::replay::line::Line;
 use crate::replay::reply::Reply;
 use crate::replay::Layout;
 use answers::{count, Answers, Row};
+use by_place::ByPlace;
 use clients::Clients;
 use closes::Closes;
 use expiry::{Expiry, Found};
@@ -42,12 +43,12 @@ const LINES: &[Row] = &[
     ("line", &[0]),
 ];
 
-/// The functions for C but the one by place.
+/// The functions for C but those by place.
 const EXPORTED: &[Row] = &[
     ("check", &[0, 1, 2]),
-    ("begin", &[0, 1, 2, 8]),
     ("visit", &[0, 1, 2, 5, 6, 12]),
     ("lookup", &[0, 1, 5, 6]),
+    ("begin", &[0, 1, 2, 8]),
     ("version", &[0]),
     ("read_records", &[0, 1]),
     ("write_records", &[0, 1]),
@@ -57,34 +58,27 @@ const EXPORTED: &[Row] = &[
 ];
 const WRITTEN: usize = 9;
 
-/// The calls by place, by their numbers.
-const BY_PLACE: &[Row] = &[
-    ("begin", &[0, 1, 2, 3, 8]),
-    ("begin checked", &[0, 1, 2, 3, 8]),
-    ("read", &[0, 1, 2, 3, 4, 5, 6, 9, 12]),
-    ("put", &[0, 1, 2, 3, 4, 5, 6, 7, 10, 11]),
-    ("advance", &[0, 1, 2, 3, 4]),
-    ("abort", &[0, 1, 2, 3, 4]),
-    ("close", &[0, 1, 2, 3, 4]),
-    ("no such call", &[1, 2, 3]),
+/// The same on two sheets, as far as they have them.
+const EXPORTED_ON_TWO: &[Row] = &[
+    ("check", &[0, 1, 2, 13]),
+    ("visit", &[0, 1, 2, 13, 5, 6, 12]),
+    ("lookup", &[0, 1, 13, 5, 6]),
 ];
 
 const VISITOR: &[Row] = &[("visiting program", &[0, 1, 2])];
 
-/// What a read by place answers, and what is told of the sheets before and after a call.
-const READINGS: [&str; 3] = ["absent", "columns", "again"];
+/// What is told of the sheets before and after a call.
 const CHANGES: [&str; 4] = ["nothing", "coordinator", "records", "both"];
 
 pub struct Seen {
     lines: Answers,
     exported: Answers,
-    by_place: Answers,
+    exported_on_two: Answers,
+    by_place: ByPlace,
+    by_place_on_two: ByPlace,
     visitor: Answers,
     steps: Steps,
-    steps_by_place: Steps,
     closes: Closes,
-    closes_by_place: Closes,
-    readings: [u64; 3],
     changes: [u64; 4],
     /// How often it was told beside a call what it has written. It isn't counted as a call.
     pub told_beside: u64,
@@ -101,13 +95,12 @@ impl Default for Seen {
         Seen {
             lines: Answers::new(LINES),
             exported: Answers::new(EXPORTED),
-            by_place: Answers::new(BY_PLACE),
+            exported_on_two: Answers::new(EXPORTED_ON_TWO),
+            by_place: ByPlace::new(Layout::Joined),
+            by_place_on_two: ByPlace::new(Layout::Two),
             visitor: Answers::new(VISITOR),
             steps: Steps::new("step to", &ADVANCES),
-            steps_by_place: Steps::new("step to", &ADVANCES),
             closes: Closes::default(),
-            closes_by_place: Closes::default(),
-            readings: [0; 3],
             changes: [0; 4],
             told_beside: 0,
             clients: Clients::default(),
@@ -213,36 +206,30 @@ impl Seen {
     }
 
     /// Notes a call of a function for C, the list before it, and what it was lent afterwards.
-    pub fn note_call(&mut self, call: &Call, before: &[Transaction], answer: u32, lent: &Lent) {
-        let refusal = refusal_of(call, answer);
-        let after = &lent.list;
-        let found = Found::for_c(call, answer);
-        self.expiry.note(found, &lent.sheets.records);
-        let row = match call {
-            Call::Check => 0,
-            Call::Begin => 1,
-            Call::Visit { .. } => 2,
-            Call::Lookup { .. } => 3,
-            Call::Version => 4,
-            Call::At { place, asked } => {
-                let call = asked.call.min(by_place::CALLS);
-                self.by_place.note(call as usize, refusal);
-                match call {
-                    by_place::READ if refusal == 0 => self.readings[answer as usize] += 1,
-                    by_place::ADVANCE if refusal == 0 => {
-                        self.steps_by_place.note(&before[*place], &after[*place]);
-                    }
-                    by_place::CLOSE if refusal == 0 => {
-                        let (taken, returned) = (&before[*place], &after[*place]);
-                        let closes = &mut self.closes_by_place;
-                        closes.note(asked.limit, answer, taken, returned);
-                    }
-                    _ => {}
-                }
-                return;
+    pub fn note_call(&mut self, call: &Call, before: &[Transaction], answer: u64, lent: &Lent) {
+        let (exported, by_place) = match &lent.sheets {
+            LaidOut::Joined(sheets) => {
+                let found = Found::for_c(call, answer);
+                self.expiry.note(found, &sheets.records);
+                (&mut self.exported, &mut self.by_place)
             }
+            LaidOut::Two(_) => (&mut self.exported_on_two, &mut self.by_place_on_two),
         };
-        self.exported.note(row, refusal);
+        let refusal = refusal_of(call, answer);
+        match call {
+            Call::Check => exported.note(0, refusal),
+            Call::Visit { .. } => exported.note(1, refusal),
+            Call::Lookup { .. } => exported.note(2, refusal),
+            Call::Begin => exported.note(3, refusal),
+            Call::Version => exported.note(4, refusal),
+            Call::At { place, asked } => {
+                by_place.note(asked, refusal);
+                if refusal == 0 {
+                    let (taken, returned) = (&before[*place], &lent.list[*place]);
+                    by_place.note_accepted(asked, answer, taken, returned);
+                }
+            }
+        }
     }
 
     /// Notes what was told beside a call.
@@ -274,22 +261,23 @@ impl Seen {
 
     /// The calls noted, of every kind.
     pub fn calls(&self) -> u64 {
-        self.lines.total()
-            + self.calls_on_two_sheets()
-            + self.exported_calls()
-            + self.visitor_inputs()
+        self.lines.total() + self.two_sheets.total() + self.exported_calls() + self.visitor_inputs()
     }
 
     pub fn calls_on_two_sheets(&self) -> u64 {
-        self.two_sheets.total()
+        self.two_sheets.total() + self.exported_calls_on_two_sheets()
     }
 
     pub fn exported_calls(&self) -> u64 {
-        self.exported.total() + self.calls_by_place()
+        self.exported.total() + self.by_place.total() + self.exported_calls_on_two_sheets()
+    }
+
+    pub fn exported_calls_on_two_sheets(&self) -> u64 {
+        self.exported_on_two.total() + self.by_place_on_two.total()
     }
 
     pub fn calls_by_place(&self) -> u64 {
-        self.by_place.total()
+        self.by_place.total() + self.by_place_on_two.total()
     }
 
     pub fn visitor_inputs(&self) -> u64 {
@@ -298,19 +286,24 @@ impl Seen {
 
     /// What should have been seen and wasn't, or was seen and shouldn't have been.
     pub fn amiss(&self) -> Vec<String> {
-        let answers = [&self.lines, &self.exported, &self.by_place, &self.visitor];
+        let answers = [&self.lines, &self.exported, &self.visitor];
         let mut amiss: Vec<String> = answers.into_iter().flat_map(Answers::amiss).collect();
         amiss.extend(self.steps.amiss("advance"));
-        amiss.extend(self.steps_by_place.amiss("advance by place"));
         amiss.extend(self.closes.amiss("close"));
-        amiss.extend(self.closes_by_place.amiss("close by place"));
-        amiss.extend(unseen("read by place", &READINGS, &self.readings));
+        amiss.extend(self.by_place.amiss());
         amiss.extend(unseen("written", &CHANGES, &self.changes));
         amiss.extend(self.expiry.amiss());
         amiss.extend(self.lists.amiss());
-        amiss.extend(self.two_sheets.amiss());
+        amiss.extend(on_two(self.two_sheets.amiss()));
+        amiss.extend(on_two(self.exported_on_two.amiss()));
+        amiss.extend(on_two(self.by_place_on_two.amiss()));
         amiss
     }
+}
+
+fn on_two(amiss: Vec<String>) -> impl Iterator<Item = String> {
+    let on_two = amiss.into_iter();
+    on_two.map(|what| format!("two sheets, {what}"))
 }
 
 /// The names of what was never counted.
@@ -334,18 +327,18 @@ fn named(names: &[&str], counts: &[u64]) -> String {
 
 impl fmt::Display for Seen {
     /// The answers of each call in a replay, the steps from phase to phase and how closes ended, the same of the functions
-    /// for C, the answers of the visiting program, where several lines of a number mattered, and what was seen on two sheets.
+    /// for C, the answers of the visiting program, where several lines of a number mattered, and the same on two sheets.
     fn fmt(&self, out: &mut fmt::Formatter) -> fmt::Result {
         writeln!(out, "{}\n\n{}\n", self.lines, self.steps)?;
         writeln!(out, "{}\n", self.closes)?;
         writeln!(out, "for C\n{}\n", self.exported)?;
-        writeln!(out, "for C, by place\n{}\n", self.by_place)?;
-        writeln!(out, "{}\n", self.steps_by_place)?;
-        writeln!(out, "{}\n", self.closes_by_place)?;
-        writeln!(out, "read by place: {}", named(&READINGS, &self.readings))?;
+        writeln!(out, "for C, by place\n{}", self.by_place)?;
         writeln!(out, "written: {}", named(&CHANGES, &self.changes))?;
         writeln!(out, "{}\n{}\n", self.clients, self.lists)?;
         writeln!(out, "{}\n\n{}\n", self.visitor, self.expiry)?;
-        write!(out, "on two sheets\n{}", self.two_sheets)
+        writeln!(out, "on two sheets\n{}\n", self.two_sheets)?;
+        writeln!(out, "on two sheets for C\n{}\n", self.exported_on_two)?;
+        let by_place = &self.by_place_on_two;
+        write!(out, "on two sheets for C, by place\n{by_place}")
     }
 }

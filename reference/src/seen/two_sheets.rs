@@ -1,4 +1,4 @@
-//! What calls on two sheets have met: every refusal of every call, every step, and what small letters change.
+//! What a replay's calls on two sheets have met: every refusal of every call, every step, and what small letters change.
 
 use super::answers::{Answers, Row};
 use super::steps::{Steps, ADVANCES};
@@ -90,8 +90,7 @@ impl OnTwoSheets {
         let mut amiss = self.calls.amiss();
         amiss.extend(self.steps.amiss("advance"));
         amiss.extend(unseen("kind", &KINDS, &self.kinds));
-        let on_two = amiss.into_iter();
-        on_two.map(|what| format!("two sheets, {what}")).collect()
+        amiss
     }
 }
 

@@ -9,6 +9,7 @@ use reference::plain::key::Key;
 use reference::plain::record::{Image, Record, State, NOTHING};
 use reference::plain::store::Store;
 use reference::plain::transaction::*;
+use reference::replay::laid_out::LaidOut;
 
 /// The numbers of record lines at which each call is timed.
 pub const LINES: [usize; 7] = [10, 50, 100, 200, 300, 400, 500];
@@ -16,7 +17,7 @@ pub const LINES: [usize; 7] = [10, 50, 100, 200, 300, 400, 500];
 const NOW: u32 = 20_000;
 
 /// How one side makes a call.
-pub type Make = fn(&Call, &mut Lent) -> u32;
+pub type Make = fn(&Call, &mut Lent) -> u64;
 
 #[derive(Clone, Copy, PartialEq, Eq)]
 pub enum Case {
@@ -25,6 +26,7 @@ pub enum Case {
     CheckCommitted,
     CheckPrepared,
     Begin,
+    BeginByPlace,
     VisitStays,
     VisitBack,
     /// The owner has a second line, so that all lines are looked through.
@@ -33,6 +35,8 @@ pub enum Case {
     Prepare,
     /// From begin to done, with 8 puts in 8 groups: 19 calls.
     Transaction,
+    /// The same, begun by place.
+    TransactionByPlace,
     /// The same in two calls, begin and close.
     Close,
 }
@@ -50,19 +54,40 @@ pub const CASES: [(Case, &str); 9] = [
     (Case::CheckPrepared, "check, all PREPARED"),
 ];
 
+/// Those that are held on two sheets beside the joined sheet.
+pub const ON_TWO: [(Case, &str); 6] = [
+    (Case::Check, "two sheets, check"),
+    (Case::BeginByPlace, "two sheets, begin by place"),
+    (Case::VisitStays, "two sheets, visit, line stays"),
+    (Case::VisitBack, "two sheets, visit, rolls back"),
+    (Case::Prepare, "two sheets, advance, 8 puts"),
+    (Case::TransactionByPlace, "two sheets, whole transaction"),
+];
+
 impl Case {
-    /// Makes the call or calls, and answers as the last one did.
-    pub fn run(self, make: Make, lent: &mut Lent) -> u32 {
+    /// Makes the call or calls, and answers as the last one did, or with the number given.
+    pub fn run(self, make: Make, lent: &mut Lent) -> u64 {
         let key = middle_key(lent);
         match self {
             Case::Check | Case::CheckCommitted | Case::CheckPrepared => make(&Call::Check, lent),
             Case::Begin => make(&Call::Begin, lent),
+            Case::BeginByPlace => make(&BEGIN, lent),
             Case::VisitStays | Case::VisitBack | Case::VisitAgain => {
                 make(&Call::Visit { key, now: NOW }, lent)
             }
             Case::Prepare => make(&ADVANCE, lent),
-            Case::Transaction => transaction(make, lent),
-            Case::Close => closed(make, lent),
+            Case::Transaction => {
+                begun(make, lent);
+                advanced(make, lent)
+            }
+            Case::TransactionByPlace => {
+                begun_by_place(make, lent);
+                advanced(make, lent)
+            }
+            Case::Close => {
+                begun(make, lent);
+                closed(make, lent)
+            }
         }
     }
 
@@ -74,9 +99,8 @@ impl Case {
         }
     }
 
-    /// Whether the case is drawn too.
-    pub fn is_drawn(self) -> bool {
-        matches!(self.mix(), Mix::Thirds) && self != Case::Close
+    pub fn has_every_state(self) -> bool {
+        matches!(self.mix(), Mix::Thirds)
     }
 
     /// Sheets of so many record lines and a list for the call. A third of the lines each is ABSENT, COMMITTED and
@@ -101,12 +125,15 @@ impl Case {
             _ => {}
         }
         store.write(&mut sheets.records, &mut sheets.coordinator);
-        let list = vec![in_prepare(&store, size.issued as u32)];
-        Lent { sheets, list }
+        Lent {
+            sheets: LaidOut::Joined(sheets),
+            list: vec![in_prepare(&store, size.issued as u32)],
+        }
     }
 }
 
-/// An advance at place 0, which takes none of the numbers but the clock, and a close, which has the limit besides.
+/// Calls at place 0. An advance takes none of the numbers but the clock, and a close has the limit besides.
+const BEGIN: Call = at_place_0(by_place::BEGIN);
 const ADVANCE: Call = at_place_0(by_place::ADVANCE);
 const CLOSE: Call = at_place_0(by_place::CLOSE);
 
@@ -189,27 +216,33 @@ fn in_prepare(store: &Store, number: u32) -> Transaction {
 }
 
 /// Begins, and fills the new transaction with the entries.
-fn begun(make: Make, lent: &mut Lent) -> u32 {
-    let number = make(&Call::Begin, lent);
+fn begun(make: Make, lent: &mut Lent) {
+    let number = make(&Call::Begin, lent) as u32;
     let transaction = &mut lent.list[0];
     transaction.number = number;
     transaction.phase = OPEN;
-    number
 }
 
-/// Advances a new transaction until it is done.
-fn transaction(make: Make, lent: &mut Lent) -> u32 {
-    let number = begun(make, lent);
+/// The same by place, where the new transaction has no entries at first.
+fn begun_by_place(make: Make, lent: &mut Lent) {
+    let entries = lent.list[0].entries;
+    assert_eq!(make(&BEGIN, lent), 0, "a number is left");
+    let transaction = &mut lent.list[0];
+    transaction.entries = entries;
+    transaction.count = MOST_ENTRIES as u32;
+}
+
+/// Advances the transaction until it is done.
+fn advanced(make: Make, lent: &mut Lent) -> u64 {
     while lent.list[0].phase != DONE {
         let answer = make(&ADVANCE, lent);
         assert_eq!(answer, 0, "the transaction goes through");
     }
-    number
+    lent.list[0].number.into()
 }
 
-/// Closes a new transaction in one call, which makes as many writes as any can.
-fn closed(make: Make, lent: &mut Lent) -> u32 {
-    let number = begun(make, lent);
+/// Closes the transaction in one call, which makes as many writes as any can.
+fn closed(make: Make, lent: &mut Lent) -> u64 {
     assert_eq!(make(&CLOSE, lent), 17, "the transaction goes through");
-    number
+    lent.list[0].number.into()
 }

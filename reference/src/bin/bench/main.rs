@@ -1,4 +1,5 @@
-//! Times the engine beside `fast`, on the same sheets in one run, and how each call grows with the sheets.
+//! Times the engine beside `fast`, on the same sheets in one run, and how each call grows with the sheets; beside itself in
+//! other calls for the same order, and on two sheets beside the joined one.
 //!
 //! `bench [file]` prints nanoseconds and ratios and draws them to the file if one is named. Times aren't judged.
 
@@ -8,10 +9,11 @@ mod engine;
 mod plot;
 mod timing;
 
-use cases::{Case, Make, CASES, LINES};
+use cases::{Case, Make, CASES, LINES, ON_TWO};
 use engine::calls::by_engine;
 use reference::exported::by_fast;
 use reference::make::random::Random;
+use reference::replay::Layout;
 use std::process::ExitCode;
 use timing::{Cell, Side, Times};
 
@@ -19,47 +21,52 @@ const ENGINE: Make = by_engine;
 const BASELINE: Make = by_fast;
 const RUNS: usize = 101;
 
+/// The name of what the baseline took.
+const BESIDE_BASELINE: &str = "baseline";
+
 /// A case by the engine, and what is held beside it.
 struct Row {
-    case: Case,
     name: &'static str,
+    engine: Side,
     beside: &'static str,
     other: Side,
 }
 
-/// Each case beside the baseline; the close beside the engine's own calls for the same order.
+/// Each case beside the baseline; the close beside the engine's own calls for the same order; and calls on two sheets beside
+/// the same on the joined sheet.
 fn rows() -> Vec<Row> {
+    let side = |case, make, layout| Side { case, make, layout };
     let beside_baseline = |(case, name): &(Case, &'static str)| Row {
-        case: *case,
         name,
-        beside: "baseline",
-        other: Side {
-            case: *case,
-            make: BASELINE,
-        },
+        engine: side(*case, ENGINE, Layout::Joined),
+        beside: BESIDE_BASELINE,
+        other: side(*case, BASELINE, Layout::Joined),
     };
     let close = Row {
-        case: Case::Close,
         name: "whole transaction, begin, close",
+        engine: side(Case::Close, ENGINE, Layout::Joined),
         beside: "19 calls",
-        other: Side {
-            case: Case::Transaction,
-            make: ENGINE,
-        },
+        other: side(Case::Transaction, ENGINE, Layout::Joined),
     };
-    CASES.iter().map(beside_baseline).chain([close]).collect()
+    let on_two = |(case, name): &(Case, &'static str)| Row {
+        name,
+        engine: side(*case, ENGINE, Layout::Two),
+        beside: "joined",
+        other: side(*case, ENGINE, Layout::Joined),
+    };
+    let rows = CASES.iter().map(beside_baseline).chain([close]);
+    rows.chain(ON_TWO.iter().map(on_two)).collect()
 }
 
 impl Row {
     /// The row at each number of lines.
     fn cells(&self) -> Vec<Cell> {
         let mut random = Random::new(1);
-        let engine = Side {
-            case: self.case,
-            make: ENGINE,
+        let sides = [self.engine, self.other];
+        let cell = |lines: &usize| {
+            let lent = self.engine.case.lent(&mut random, *lines);
+            Cell::new(sides, &lent)
         };
-        let sides = [engine, self.other];
-        let cell = |lines: &usize| Cell::new(sides, self.case.lent(&mut random, *lines));
         LINES.iter().map(cell).collect()
     }
 }
@@ -72,6 +79,13 @@ pub struct Measured {
     times: Vec<Times>,
 }
 
+impl Measured {
+    /// Whether the row is drawn too.
+    fn is_drawn(&self) -> bool {
+        self.beside == BESIDE_BASELINE && self.case.has_every_state()
+    }
+}
+
 fn measure() -> Vec<Measured> {
     let rows = rows();
     let mut cells: Vec<Vec<Cell>> = rows.iter().map(Row::cells).collect();
@@ -81,7 +95,7 @@ fn measure() -> Vec<Measured> {
         }
     }
     let measured = |(row, cells): (Row, Vec<Cell>)| Measured {
-        case: row.case,
+        case: row.engine.case,
         name: row.name,
         beside: row.beside,
         times: cells.iter().map(Cell::times).collect(),

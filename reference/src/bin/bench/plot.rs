@@ -20,7 +20,7 @@ const BASELINE: &str = "stroke=\"#c2571a\" stroke-width=\"2\" stroke-dasharray=\
 
 /// The picture of all calls.
 pub fn picture(measured: &[Measured]) -> String {
-    let drawn: Vec<&Measured> = measured.iter().filter(|row| row.case.is_drawn()).collect();
+    let drawn: Vec<&Measured> = measured.iter().filter(|row| row.is_drawn()).collect();
     let rows = drawn.len().div_ceil(COLUMNS) as f64;
     let (width, height) = (PANEL.0 * COLUMNS as f64, HEAD + PANEL.1 * rows);
     let mut svg = format!(

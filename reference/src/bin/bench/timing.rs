@@ -2,67 +2,47 @@
 
 use crate::cases::{Case, Make};
 use reference::exported::Lent;
+use reference::make::Sheets;
+use reference::plain::transaction::Transaction;
+use reference::replay::laid_out::LaidOut;
+use reference::replay::Layout;
 use std::hint::black_box;
 use std::time::Instant;
 
-/// Bytes of all copies together, so that they stay in the processor's cache.
+/// Bytes of all copies together as joined sheets, so that they stay in the processor's cache.
 const COPIED: usize = 400_000;
 const MOST_COPIES: usize = 64;
 
-/// A case as one of the two sides makes it.
+/// A case as one of the two sides makes it, on sheets laid out like this.
 #[derive(Clone, Copy)]
 pub struct Side {
     pub case: Case,
     pub make: Make,
+    pub layout: Layout,
 }
 
 impl Side {
-    fn run(self, lent: &mut Lent) -> u32 {
+    fn run(self, lent: &mut Lent) -> u64 {
         self.case.run(self.make, lent)
     }
 }
 
-/// Two sides on sheets of one size, with the nanoseconds of one call in each run so far.
-pub struct Cell {
-    sides: [Side; 2],
+/// What a side is lent, and copies of it.
+struct Fresh {
     first: Lent,
     copies: Vec<Lent>,
-    times: [Vec<f64>; 2],
 }
 
-/// Nanoseconds of one call by the engine and by what is held beside it, and the middle of their ratios. A tenth of the
-/// runs were faster than the time told: the rest shows what else the machine did.
-#[derive(Clone, Copy)]
-pub struct Times {
-    pub engine: f64,
-    pub other: f64,
-    pub ratio: f64,
-}
-
-impl Cell {
-    /// Both sides must do the same work.
-    pub fn new(sides: [Side; 2], first: Lent) -> Cell {
-        let (mut one, mut other) = (first.clone(), first.clone());
-        let answer = sides[0].run(&mut one);
-        let expected = sides[1].run(&mut other);
-        assert!(answer < 1_000, "refused: {answer}");
-        assert!(answer == expected && one == other, "the sides differ");
-        let bytes = first.sheets.records.len() + first.sheets.coordinator.len();
+impl Fresh {
+    fn new(layout: Layout, lent: &Lent) -> Fresh {
+        let joined = lent.sheets.joined();
+        let bytes = joined.records.len() + joined.coordinator.len();
+        let first = Lent {
+            sheets: LaidOut::of(layout, joined),
+            list: lent.list.clone(),
+        };
         let copies = vec![first.clone(); (COPIED / bytes).clamp(1, MOST_COPIES)];
-        Cell {
-            sides,
-            first,
-            copies,
-            times: [Vec::new(), Vec::new()],
-        }
-    }
-
-    /// Times both sides once.
-    pub fn turn(&mut self) {
-        for i in 0..2 {
-            let time = self.run(self.sides[i]);
-            self.times[i].push(time);
-        }
+        Fresh { first, copies }
     }
 
     /// Nanoseconds of one call, after one that isn't timed.
@@ -78,6 +58,62 @@ impl Cell {
         }
         start.elapsed().as_secs_f64() * 1e9 / self.copies.len() as f64
     }
+}
+
+/// Two sides on sheets of one size, with the nanoseconds of one call in each run so far.
+pub struct Cell {
+    sides: [Side; 2],
+    /// One for each side, or for both where they have the same layout.
+    fresh: Vec<Fresh>,
+    times: [Vec<f64>; 2],
+}
+
+/// Nanoseconds of one call by the engine and by what is held beside it, and the middle of their ratios. A tenth of the
+/// runs were faster than the time told: the rest shows what else the machine did.
+#[derive(Clone, Copy)]
+pub struct Times {
+    pub engine: f64,
+    pub other: f64,
+    pub ratio: f64,
+}
+
+impl Cell {
+    /// Both sides must do the same work, on these sheets or on the two that they join.
+    pub fn new(sides: [Side; 2], lent: &Lent) -> Cell {
+        let mut layouts = sides.map(|side| side.layout).to_vec();
+        layouts.dedup();
+        let fresh = layouts.iter().map(|layout| Fresh::new(*layout, lent));
+        let mut cell = Cell {
+            sides,
+            fresh: fresh.collect(),
+            times: [Vec::new(), Vec::new()],
+        };
+        let [one, other] = [0, 1].map(|side| cell.left(side));
+        assert!(one.0 < 1_000, "refused: {}", one.0);
+        assert!(one == other, "the sides differ");
+        cell
+    }
+
+    fn fresh(&mut self, side: usize) -> &mut Fresh {
+        let last = self.fresh.len() - 1;
+        &mut self.fresh[side.min(last)]
+    }
+
+    /// What a side answers, and what it leaves, joined.
+    fn left(&mut self, side: usize) -> (u64, Sheets, Vec<Transaction>) {
+        let mut lent = self.fresh(side).first.clone();
+        let answer = self.sides[side].run(&mut lent);
+        (answer, lent.sheets.joined(), lent.list)
+    }
+
+    /// Times both sides once.
+    pub fn turn(&mut self) {
+        for i in 0..2 {
+            let side = self.sides[i];
+            let time = self.fresh(i).run(side);
+            self.times[i].push(time);
+        }
+    }
 
     pub fn times(&self) -> Times {
         let [engine, other] = &self.times;
@@ -90,10 +126,20 @@ impl Cell {
     }
 }
 
+/// Copies into the memory that is there.
 fn restore(copy: &mut Lent, first: &Lent) {
-    let (sheets, as_first) = (&mut copy.sheets, &first.sheets);
-    sheets.records.copy_from_slice(&as_first.records);
-    sheets.coordinator.copy_from_slice(&as_first.coordinator);
+    match (&mut copy.sheets, &first.sheets) {
+        (LaidOut::Joined(copy), LaidOut::Joined(first)) => {
+            copy.records.copy_from_slice(&first.records);
+            copy.coordinator.copy_from_slice(&first.coordinator);
+        }
+        (LaidOut::Two(copy), LaidOut::Two(first)) => {
+            copy.plain.copy_from_slice(&first.plain);
+            copy.bookkeeping.copy_from_slice(&first.bookkeeping);
+            copy.coordinator.copy_from_slice(&first.coordinator);
+        }
+        _ => panic!("a copy has the layout of the first"),
+    }
     copy.list.copy_from_slice(&first.list);
 }
 

@@ -4,7 +4,7 @@
 //! for C. Whatever they answer and leave must be what `plain` does, byte for byte. Rounds have rising seeds and go on until
 //! so many calls were made or so many seconds have passed; `differ 1 seed` repeats one. Every refusal of every
 //! call and every step of the step table must have been seen, unless the run asked for less than a hundred thousand calls.
-//! From 0 on rounds are of every kind at first, from other seeds on perhaps after 1,350,000 calls that are mostly by place.
+//! From 0 on rounds are of every kind at first, from other seeds on perhaps after 1,650,000 calls that are mostly by place.
 
 mod difference;
 #[path = "../engine/mod.rs"]
@@ -86,10 +86,11 @@ fn report(tally: &Tally, first: u64, end: u64) {
     let seen = &tally.seen;
     println!("{seen}\n");
     println!(
-        "seeds {first} to {}: {} calls, of these {} on two sheets, {} for C ({} by place) and {} of the visiting program; what was written told beside {}; {} histories, {} bad inputs, {} other lines; 0 differences",
+        "seeds {first} to {}: {} calls, of these {} on two sheets ({} for C), {} for C ({} by place) and {} of the visiting program; what was written told beside {}; {} histories, {} bad inputs, {} other lines; 0 differences",
         end - 1,
         seen.calls(),
         seen.calls_on_two_sheets(),
+        seen.exported_calls_on_two_sheets(),
         seen.exported_calls(),
         seen.calls_by_place(),
         seen.visitor_inputs(),

@@ -32,7 +32,7 @@ impl Subject for Engine {
         run(&path("visitor"), input)
     }
 
-    fn call(&self, call: &Call, lent: &mut Lent) -> u32 {
+    fn call(&self, call: &Call, lent: &mut Lent) -> u64 {
         calls::by_engine(call, lent)
     }
 
