@@ -1,8 +1,9 @@
 -- What the loop that compares keys keeps.
 use Rattle.lists.specs.Basics.{ℕ, and-true, suc, _+_, _-_, _*_, _/_, _≤_, _<_, _≡_, refl, sym, ap, ap₂, _∙_, Bool, true, false, _&&_, true≢false, List, [], _∷_}
 use Rattle.lists.specs.Basics.{arith, length, take, drop, getD, length-take, length-drop, drop-of-length-le, drop-drop, take-take, drop-cons}
-use Rattle.lists.specs.Basics.{getD-take, getD-drop, eqb, eqb-true, eq-eqb, ne-eqb, and-fst, and-snd, eqList, pieces}
+use Rattle.lists.specs.Basics.{take-add, getD-take, getD-drop, eqb, eqb-true, eq-eqb, ne-eqb, and-fst, and-snd, eqList, pieces}
 use native.Mathlib.Nat.{zero-mul}
+use Rattle.lists.specs.Bytes.{eqList-append}
 use Rattle.lists.specs.Pieces.{length-pieces}
 use Rattle.model.specs.Lines.{linesOf}
 use Rattle.two_laws.specs.Deciding.{keysAgree, linesAgree, whole}
@@ -20,15 +21,29 @@ end-byte p i h =
     let g : getD l 38 0 ≡ getD p (i * plainBytes + 38) 0 = getD-take plainBytes (drop (i * plainBytes) p) 38 0 (omega arith) ∙ getD-drop (i * plainBytes) p 38 0 in
     ap (λ (t : List ℕ). eqList t (10 ∷ [])) (e ∙ ap₂ _∷_ g f) ∙ and-true (eqb (getD p (i * plainBytes + 38) 0) 10)
 
-pub line-agrees : (p b : List ℕ) (i : ℕ) (r : Bool) → i * plainBytes + plainBytes ≤ length p → r ≡ eqList (take (i * plainBytes + 20 - i * plainBytes) (drop (i * plainBytes) p)) (take (i * bookkeepingBytes + 20 - i * bookkeepingBytes) (drop (i * bookkeepingBytes) b)) → (r && eqb (getD p (i * plainBytes + 38) 0) 10) ≡ keysAgree (take plainBytes (drop (i * plainBytes) p)) (take bookkeepingBytes (drop (i * bookkeepingBytes) b))
-unfolding keysAgree
-line-agrees p b i r h e =
-    let x : i * plainBytes + 20 - i * plainBytes ≡ 20 = omega arith in
-    let y : i * bookkeepingBytes + 20 - i * bookkeepingBytes ≡ 20 = omega arith in
-    let f : r ≡ eqList (take 20 (drop (i * plainBytes) p)) (take 20 (drop (i * bookkeepingBytes) b)) = rw (x, y) at e in
-    ap₂ _&&_
-    (f ∙ ap₂ eqList (sym (take-take 20 plainBytes (drop (i * plainBytes) p) (omega arith))) (sym (take-take 20 bookkeepingBytes (drop (i * bookkeepingBytes) b) (omega arith))))
-    (sym (end-byte p i h))
+-- twenty bytes are equal if ten and ten more are
+tens-equal : (s t : List ℕ) → 20 ≤ length s → 20 ≤ length t → (eqList (take 10 s) (take 10 t) && eqList (take 10 (drop 10 s)) (take 10 (drop 10 t))) ≡ eqList (take 20 s) (take 20 t)
+tens-equal s t l m =
+    let n : length (take 10 s) ≡ length (take 10 t) = simp length-take (omega arith) in
+    sym (ap₂ eqList (take-add 10 10 s) (take-add 10 10 t) ∙ eqList-append (take 10 s) (take 10 t) (take 10 (drop 10 s)) (take 10 (drop 10 t)) n)
+
+module _ (p b : List ℕ) (i : ℕ) where
+  abbrev ten : ℕ → ℕ → Bool
+  ten a d = eqList (take 10 (drop a p)) (take 10 (drop d b))
+
+  pub line-agrees : i * plainBytes + plainBytes ≤ length p → i * bookkeepingBytes + bookkeepingBytes ≤ length b
+      → (ten (i * plainBytes) (i * bookkeepingBytes) && ten (i * plainBytes + 10) (i * bookkeepingBytes + 10) && eqb (getD p (i * plainBytes + 38) 0) 10) ≡ keysAgree (take plainBytes (drop (i * plainBytes) p)) (take bookkeepingBytes (drop (i * bookkeepingBytes) b))
+  unfolding keysAgree
+  line-agrees h g =
+      let x : 20 ≤ length (drop (i * plainBytes) p) = simp length-drop (omega arith) in
+      let y : 20 ≤ length (drop (i * bookkeepingBytes) b) = simp length-drop (omega arith) in
+      let e : ten (i * plainBytes + 10) (i * bookkeepingBytes + 10) ≡ eqList (take 10 (drop 10 (drop (i * plainBytes) p))) (take 10 (drop 10 (drop (i * bookkeepingBytes) b))) =
+      ap₂ (λ (u v : List ℕ). eqList (take 10 u) (take 10 v)) (sym (drop-drop 10 (i * plainBytes) p)) (sym (drop-drop 10 (i * bookkeepingBytes) b)) in
+      ap₂ _&&_
+      (ap (λ (z : Bool). ten (i * plainBytes) (i * bookkeepingBytes) && z) e
+      ∙ (tens-equal (drop (i * plainBytes) p) (drop (i * bookkeepingBytes) b) x y
+      ∙ ap₂ eqList (sym (take-take 20 plainBytes (drop (i * plainBytes) p) (omega arith))) (sym (take-take 20 bookkeepingBytes (drop (i * bookkeepingBytes) b) (omega arith)))))
+      (sym (end-byte p i h))
 
 -- the lines from i on agree
 abbrev pub agreeFrom : List ℕ → List ℕ → ℕ → ℕ → Bool

@@ -1,11 +1,11 @@
 -- What the loops keep that write a sheet line by line from another: the first i lines have been made of it and written. The law is one for all, by how a line is made.
 use Rattle.lists.specs.Basics.{ℕ, suc, _+_, _-_, _*_, _/_, _≤_, _<_, _≡_, sym, ap, ap₂, _∙_, List, [], _∷_, _++_, append-assoc, append-nil, map, arith}
 use Rattle.lists.specs.Basics.{length, take, drop, set, length-take, length-drop, length-append, take-at, drop-drop, take-take, take-all, joined, pieces}
-use lib.Seq.{set-split}
 use Rattle.lists.specs.Pieces.{over, over-next, length-over, pieces-add, take-drop-take}
 use Rattle.model.specs.Layouts.{recordBytes}
 use Rattle.model.specs.Lines.{linesOf}
 use Rattle.model.specs.TwoSheets.{plainBytes, bookkeepingBytes, plainLine, bookkeepingLine}
+use Rattle.two_join.specs.Joins.{set-over}
 
 -- line i of a sheet whose lines have w bytes, and of a joined sheet
 abbrev pub lineIn : ℕ → List ℕ → ℕ → List ℕ
@@ -63,10 +63,6 @@ module _ (w : ℕ) (f : List ℕ → List ℕ) (a : List ℕ) where
   all-cut s i b m e h = sym (take-all b s m) ∙ (h ∙ ap (λ (n : ℕ). joined (map f (pieces w n a))) e)
 
 -- The parts of line i, as bytes of the joined sheet.
-
-set-over : (s : List ℕ) (k v : ℕ) → k < length s → set s k v ≡ over s k (v ∷ [])
-unfolding over
-set-over s k v l = let e : suc k ≡ k + length (v ∷ []) = omega arith in set-split s k v l ∙ ap (λ (n : ℕ). take k s ++ (v ∷ drop n s)) e
 
 module _ (a : List ℕ) (i : ℕ) (whole : i * recordBytes + recordBytes ≤ length a) where
   abbrev rest : List ℕ

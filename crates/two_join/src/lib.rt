@@ -30,8 +30,32 @@ pub const REST_BYTES: usize = BOOKKEEPING_BYTES - COLUMN1_AT;
 
 pub const PLAIN_END: usize = PLAIN_BYTES - 1;
 
-// n bytes of a sheet from `start` on, over the target from `at` on.
-pub fn copy_part(target: &mut [u8], at: usize, from: &[u8], start: usize, n: usize)
+// Eight bytes, all of them read before the first is written: so they compile to one step, whether or not both lie in one place.
+fn copy_eight(target: &mut [u8], at: usize, from: &[u8], start: usize)
+    requires { ⌜ at + 8 ≤ length (now target) ⌝ }
+    requires { ⌜ start + 8 ≤ length (now from) ⌝ }
+    ensures { λ u. ⌜ now (target .exit) ≡ over (now (target .entry)) at (take 8 (drop start (now (from .entry)))) ⌝ }
+{
+    let b0 = from[start];
+    let b1 = from[start + 1];
+    let b2 = from[start + 2];
+    let b3 = from[start + 3];
+    let b4 = from[start + 4];
+    let b5 = from[start + 5];
+    let b6 = from[start + 6];
+    let b7 = from[start + 7];
+    target[at] = b0;
+    target[at + 1] = b1;
+    target[at + 2] = b2;
+    target[at + 3] = b3;
+    target[at + 4] = b4;
+    target[at + 5] = b5;
+    target[at + 6] = b6;
+    target[at + 7] = b7;
+}
+
+// So many bytes, one by one.
+fn copy_rest(target: &mut [u8], at: usize, from: &[u8], start: usize, n: usize)
     requires { ⌜ at + n ≤ length (now target) ⌝ }
     requires { ⌜ start + n ≤ length (now from) ⌝ }
     ensures { λ u. ⌜ now (target .exit) ≡ over (now (target .entry)) at (take n (drop start (now (from .entry)))) ⌝ }
@@ -39,6 +63,20 @@ pub fn copy_part(target: &mut [u8], at: usize, from: &[u8], start: usize, n: usi
     let end = at + n;
     let stop = start + n;
     decimal::put(&mut target[at..end], &from[start..stop]);
+}
+
+// n bytes of a sheet from `start` on, over the target from `at` on: eight at a time, and the rest.
+pub fn copy_part(target: &mut [u8], at: usize, from: &[u8], start: usize, n: usize)
+    requires { ⌜ at + n ≤ length (now target) ⌝ }
+    requires { ⌜ start + n ≤ length (now from) ⌝ }
+    ensures { λ u. ⌜ now (target .exit) ≡ over (now (target .entry)) at (take n (drop start (now (from .entry)))) ⌝ }
+{
+    let eights = n / 8;
+    for k in 0..eights {
+        copy_eight(target, at + k * 8, from, start + k * 8);
+    }
+    let done = eights * 8;
+    copy_rest(target, at + done, from, start + done, n - done);
 }
 
 // Line i of both sheets joined, over line i of the target.
@@ -76,10 +114,10 @@ fn agree_at(plain: &[u8], book: &[u8], i: usize) -> bool
     ensures { λ r. ⌜ r ≡ keysAgree (take plainBytes (drop (i * plainBytes) (now (plain .entry)))) (take bookkeepingBytes (drop (i * bookkeepingBytes) (now (book .entry)))) ⌝ }
 {
     let p = i * PLAIN_BYTES;
-    let k = p + STATE_AT;
     let b = i * BOOKKEEPING_BYTES;
-    let d = b + STATE_AT;
-    decimal::same(&plain[p..k], &book[b..d]) && plain[p + PLAIN_END] == b'\n'
+    line_bytes::ten_equal(plain, p, book, b)
+        & line_bytes::ten_equal(plain, p + 10, book, b + 10)
+        & (plain[p + PLAIN_END] == b'\n')
 }
 
 // Both have whole lines, as many, and their keys agree.

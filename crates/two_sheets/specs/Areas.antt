@@ -1,6 +1,6 @@
 -- What stands in the area of a call on two sheets, by what was told of them: filled lines where the keys don't agree, else the joined sheet.
 use Rattle.lists.specs.Basics.{_≡_, refl, sym, ap, ap₂, _∙_, ℕ, _*_, _/_, _≤_, _<_, Bool, true, false, not, _&&_, cond, true≢false, List, [], _∷_, _++_, map, length}
-use Rattle.lists.specs.Basics.{take, drop, take-at, length-take, arith, eqb-true, eq-eqb, ne-eqb, all, and-fst, and-snd}
+use Rattle.lists.specs.Basics.{take, drop, take-at, length-take, arith, leb, leb-true, eqb-true, eq-eqb, ne-eqb, all, and-fst, and-snd}
 use Rattle.model.specs.Layouts.{recordBytes}
 use Rattle.model.specs.Lines.{linesOf}
 use Rattle.model.specs.Records.{records, recordsAccepted}
@@ -22,6 +22,20 @@ two ps bs cs = record { plain = ps; bookkeeping = bs; coordinator = cs }
 -- the bytes that the lines of a sheet have when joined
 abbrev pub joinedSize : ℕ → List ℕ → ℕ
 joinedSize width s = length s / width * recordBytes
+
+-- n bytes have room for the lines of a sheet, unless these are too many
+abbrev pub Room : ℕ → List ℕ → ℕ → Type 0
+Room width s n = length s / width ≤ 500 → joinedSize width s ≤ n
+
+-- and for those of either sheet
+abbrev pub Rooms : List ℕ → List ℕ → ℕ → Type 0
+Rooms ps bs n = Room plainBytes ps n × Room bookkeepingBytes bs n
+
+pub rooms-short : (ps bs : List ℕ) → (leb (length ps) (100 * plainBytes) && leb (length bs) (100 * bookkeepingBytes)) ≡ true → Rooms ps bs 9800
+rooms-short ps bs t =
+    let p = leb-true (length ps) (100 * plainBytes) (and-fst _ (leb (length bs) (100 * bookkeepingBytes)) t) in
+    let b = leb-true (length bs) (100 * bookkeepingBytes) (and-snd (leb (length ps) (100 * plainBytes)) _ t) in
+    (λ l. omega arith, λ l. omega arith)
 
 -- the front of an area that was lent and came back as t
 pub front-is : (n : ℕ) (t area : List ℕ) → length t ≡ length (take n area) → n ≤ length area → take n (t ++ drop n area) ≡ t

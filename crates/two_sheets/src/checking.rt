@@ -3,14 +3,14 @@ ghost use mathlib.Core.Path.{_≡_};
 ghost use mathlib.Core.Bool.{_&&_, true};
 ghost use lib.ListN.{length, replicate};
 ghost use Prim.Native.Nat.{_*_, _/_};
-ghost use Rattle.model.specs.Layouts.{recordBytes, mostRecordBytes};
+ghost use Rattle.model.specs.Layouts.{recordBytes};
 ghost use Rattle.model.specs.Records.{recordsAccepted};
 ghost use Rattle.model.specs.Refusals.{refusalOf};
 ghost use Rattle.model.specs.Coordinator.{coordinatorReadable};
 ghost use Rattle.model.specs.SheetCalls.{allIssued};
 ghost use Rattle.model.specs.TwoSheets.{plainBytes, bookkeepingBytes, joinedSheet, twoConditions};
 ghost use Rattle.two_laws.specs.Deciding.{whole, filledPlain, filledBookkeeping};
-ghost use Rattle.two_sheets.specs.Areas.{BookkeepingIn, Apart, Lines, JoinedIn};
+ghost use Rattle.two_sheets.specs.Areas.{Room, Rooms, BookkeepingIn, Apart, Lines, JoinedIn};
 use two_join::BOOKKEEPING_BYTES;
 use two_join::PLAIN_BYTES;
 use types::RECORD_BYTES;
@@ -20,6 +20,20 @@ pub fn blank() -> [u8; 49000]
     ensures { λ r. ⌜ r ≡ replicate 49000 0 ⌝ }
 {
     [0u8; 49000]
+}
+
+// One for 100 lines, since setting the other to zero takes longer than a call on a few lines.
+pub fn blank_short() -> [u8; 9800]
+    ensures { λ r. ⌜ r ≡ replicate 9800 0 ⌝ }
+{
+    [0u8; 9800]
+}
+
+// Whether both sheets have at most 100 lines.
+pub fn short(plain: &[u8], book: &[u8]) -> bool
+    ensures { λ r. ⌜ (r ≡ true → Rooms (now (plain .entry)) (now (book .entry)) 9800) ⌝ }
+{
+    (plain.len() <= 100 * PLAIN_BYTES) & (book.len() <= 100 * BOOKKEEPING_BYTES)
 }
 
 // Whether the plain sheet, filled with fixed text over the target, is a good record sheet.
@@ -55,7 +69,7 @@ fn both_join(plain: &[u8], book: &[u8], target: &mut [u8]) -> bool
 
 // Whether the plain sheet is good alone, by the check of a record sheet on its lines filled with fixed text.
 fn plain_alone(plain: &[u8], area: &mut [u8]) -> bool
-    requires { ⌜ length (now area) ≡ mostRecordBytes ⌝ }
+    requires { ⌜ Room plainBytes (now plain) (length (now area)) ⌝ }
     ensures { λ r. ⌜ r ≡ (whole plainBytes (now (plain .entry)) && recordsAccepted (filledPlain (now (plain .entry)))) ⌝ }
 {
     let lines = plain.len() / PLAIN_BYTES;
@@ -71,7 +85,7 @@ fn plain_alone(plain: &[u8], area: &mut [u8]) -> bool
 
 // The same of the bookkeeping sheet, which then stands filled in the area.
 fn bookkeeping_alone(book: &[u8], area: &mut [u8]) -> bool
-    requires { ⌜ length (now area) ≡ mostRecordBytes ⌝ }
+    requires { ⌜ Room bookkeepingBytes (now book) (length (now area)) ⌝ }
     ensures { λ r. ⌜ BookkeepingIn (now (book .entry)) r (now (area .exit)) ⌝ }
 {
     let lines = book.len() / BOOKKEEPING_BYTES;
@@ -87,7 +101,7 @@ fn bookkeeping_alone(book: &[u8], area: &mut [u8]) -> bool
 
 // 1 where either sheet isn't good alone, else 13: the keys don't agree.
 fn apart(plain: &[u8], book: &[u8], area: &mut [u8]) -> u32
-    requires { ⌜ length (now area) ≡ mostRecordBytes ⌝ }
+    requires { ⌜ Rooms (now plain) (now book) (length (now area)) ⌝ }
     ensures { λ r. ⌜ Apart (now (plain .entry)) (now (book .entry)) r (now (area .exit)) ⌝ }
 {
     if !plain_alone(plain, area) {
@@ -101,7 +115,7 @@ fn apart(plain: &[u8], book: &[u8], area: &mut [u8]) -> u32
 
 // 0 where the sheets join to a good one, which then stands in the area, else 1 or 13. Without 1 the area has lines that name the numbers which the bookkeeping sheet names.
 pub fn lines_refusal(plain: &[u8], book: &[u8], area: &mut [u8]) -> u32
-    requires { ⌜ length (now area) ≡ mostRecordBytes ⌝ }
+    requires { ⌜ Rooms (now plain) (now book) (length (now area)) ⌝ }
     ensures { λ r. ⌜ Lines (now (plain .entry)) (now (book .entry)) r (now (area .exit)) ⌝ }
 {
     if !two_join::agree(plain, book) {
@@ -131,7 +145,7 @@ fn fits(records: &[u8], coordinator: &[u8]) -> bool
 
 // 0 where the sheets are accepted, and then both stand joined in the area; else the refusal: 1, 2 or 13.
 pub fn join_checked(plain: &[u8], book: &[u8], coordinator: &[u8], area: &mut [u8]) -> u32
-    requires { ⌜ length (now area) ≡ mostRecordBytes ⌝ }
+    requires { ⌜ Rooms (now plain) (now book) (length (now area)) ⌝ }
     ensures answer { λ r. ⌜ r ≡ refusalOf (twoConditions (now (plain .entry)) (now (book .entry)) (now (coordinator .entry))) ⌝ }
     ensures joined { λ r. ⌜ (r ≡ 0 → JoinedIn (now (plain .entry)) (now (book .entry)) (now (area .exit))) ⌝ }
 {

@@ -4,7 +4,6 @@ ghost use mathlib.Core.Path.{_≡_};
 ghost use mathlib.Core.Bool.{false};
 ghost use Prim.Native.Nat.{ℕ};
 ghost use lib.ListN.{length};
-ghost use Rattle.model.specs.Layouts.{mostRecordBytes};
 ghost use Rattle.model.specs.Refusals.{refusalOf};
 ghost use Rattle.model.specs.TwoSheets.{twoConditions};
 ghost use Rattle.model.specs.Results as model;
@@ -14,7 +13,7 @@ ghost use Rattle.model.specs.Operations.{once, coordinatorLeft};
 ghost use Rattle.model.specs.Requests.{operationOf};
 ghost use Rattle.model.specs.TwoCalls.{responseTwo, plainLeft, bookkeepingLeft};
 ghost use Rattle.cores.specs.Answers.{toPerformed};
-ghost use Rattle.two_sheets.specs.Areas.{two};
+ghost use Rattle.two_sheets.specs.Areas.{two, Rooms};
 ghost use Rattle.two_sheets.specs.Performing.{OnJoined, Gives, Performs};
 
 pub mod checking;
@@ -32,6 +31,10 @@ use types::Transaction;
 pub fn check(plain: &[u8], book: &[u8], coordinator: &[u8]) -> u32
     ensures { λ r. ⌜ r ≡ refusalOf (twoConditions (now (plain .entry)) (now (book .entry)) (now (coordinator .entry))) ⌝ }
 {
+    if checking::short(plain, book) {
+        let mut area = checking::blank_short();
+        return checking::join_checked(plain, book, coordinator, &mut area);
+    }
     let mut area = checking::blank();
     checking::join_checked(plain, book, coordinator, &mut area)
 }
@@ -65,7 +68,7 @@ fn on_area(
     coordinator: &mut [u8],
     area: &mut [u8],
 ) -> Performed
-    requires { ⌜ length (now area) ≡ mostRecordBytes ⌝ }
+    requires { ⌜ Rooms (now plain) (now book) (length (now area)) ⌝ }
     ensures { λ r. ⌜ Performs request t (now (plain .entry)) (now (book .entry)) (now (coordinator .entry)) r (now (plain .exit)) (now (book .exit)) (now (coordinator .exit)) ⌝ }
 {
     let refused = checking::join_checked(plain, book, coordinator, area);
@@ -89,6 +92,10 @@ pub fn perform(
     ensures bookkeeping { λ r. ⌜ now (book .exit) ≡ bookkeepingLeft (now (book .entry)) (responseTwo (operationOf request t) (two (now (plain .entry)) (now (book .entry)) (now (coordinator .entry)))) ⌝ }
     ensures decisions { λ r. ⌜ now (coordinator .exit) ≡ coordinatorLeft (now (coordinator .entry)) (responseTwo (operationOf request t) (two (now (plain .entry)) (now (book .entry)) (now (coordinator .entry)))) ⌝ }
 {
+    if checking::short(plain, book) {
+        let mut area = checking::blank_short();
+        return on_area(request, t, plain, book, coordinator, &mut area);
+    }
     let mut area = checking::blank();
     on_area(request, t, plain, book, coordinator, &mut area)
 }

@@ -1,9 +1,9 @@
 // The line of a key on the sheet that is named.
 ghost use mathlib.Core.Path.{_≡_};
 ghost use lib.ListN.{length};
-ghost use Rattle.model.specs.Layouts.{mostRecordBytes};
 ghost use Rattle.model.specs.Refusals.{refusalOf};
 ghost use Rattle.model.specs.TwoSheets.{lookupTwoConditions, lookedUpTwo};
+ghost use Rattle.two_sheets.specs.Areas.{Rooms};
 ghost use Rattle.two_sheets.specs.Lookups.{Placed};
 use crate::checking;
 use two_join::BOOKKEEPING_BYTES;
@@ -29,7 +29,7 @@ fn nowhere(n: u32) -> Place
 
 // Where a key stands, looked up on the joined sheet.
 fn place_in(plain: &[u8], book: &[u8], key: Key, area: &mut [u8]) -> Place
-    requires { ⌜ length (now area) ≡ mostRecordBytes ⌝ }
+    requires { ⌜ Rooms (now plain) (now book) (length (now area)) ⌝ }
     ensures { λ r. ⌜ Placed (now (plain .entry)) (now (book .entry)) key r ⌝ }
 {
     let refused = checking::lines_refusal(plain, book, area);
@@ -52,6 +52,10 @@ fn place_in(plain: &[u8], book: &[u8], key: Key, area: &mut [u8]) -> Place
 pub fn place_of(plain: &[u8], book: &[u8], key: Key) -> Place
     ensures { λ r. ⌜ Placed (now (plain .entry)) (now (book .entry)) key r ⌝ }
 {
+    if checking::short(plain, book) {
+        let mut area = checking::blank_short();
+        return place_in(plain, book, key, &mut area);
+    }
     let mut area = checking::blank();
     place_in(plain, book, key, &mut area)
 }

@@ -11,15 +11,15 @@ returns c =
 
 mul-n : tie.Need-mul-n
 mul-n c =
-    omega (arith, c .before .before .before .join-checked .ensures .1 (c .if1 .left) .fits, c .before .before .before .before .before .before .before .before .before .before .before .before .pre, c .before .before .before .join-checked .kept .1 .1 .1 .0)
+    omega (arith, c .before .before .before .join-checked .ensures .1 (c .if1 .left) .fits, c .before .before .before .join-checked .kept .1 .1 .1 .0)
 
 slice-relend-prefix-on-joined : tie.Need-slice-relend-prefix-on-joined
 slice-relend-prefix-on-joined c =
-    omega (arith, c .before .before .before .before .before .before .join-checked .ensures .1 (c .before .before .before .if1 .left) .fits, c .before .before .before .before .before .before .before .before .before .before .before .before .before .before .before .pre, c .before .before .before .before .before .before .join-checked .kept .1 .1 .1 .0)
+    omega (arith, c .before .before .before .before .before .before .join-checked .ensures .1 (c .before .before .before .if1 .left) .fits, c .before .before .before .before .before .before .join-checked .kept .1 .1 .1 .0)
 
 slice-aggregate-on-joined : tie.Need-slice-aggregate-on-joined
 slice-aggregate-on-joined c =
-    simp length-take (omega (arith, c .before .before .before .before .before .before .before .join-checked .ensures .1 (c .before .before .before .before .if1 .left) .fits, c .before .before .before .before .before .before .before .before .before .before .before .before .before .before .before .before .pre, c .before .before .before .before .before .before .before .join-checked .kept .1 .1 .1 .0))
+    simp length-take (omega (arith, c .before .before .before .before .before .before .before .join-checked .ensures .1 (c .before .before .before .before .if1 .left) .fits, c .before .before .before .before .before .before .before .join-checked .kept .1 .1 .1 .0))
 
 on-joined-requires : tie.Need-on-joined-requires
 on-joined-requires c κs =

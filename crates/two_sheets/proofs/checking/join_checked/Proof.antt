@@ -12,12 +12,12 @@ returns c =
 slice-reshare-prefix-fits : tie.Need-slice-reshare-prefix-fits
 slice-reshare-prefix-fits c =
     let a = c .before .before .before .before .before .before .before .before .before .args in
-    omega (arith, few (a .plain .now) (a .book .now) (a .coordinator .now) _ _ (c .before .before .before .lines-refusal .ensures) (c .if1 .left), c .before .before .before .before .before .before .before .before .before .pre, c .before .before .before .lines-refusal .kept .1 .1 .0)
+    omega (arith, c .before .before .before .before .before .before .before .before .before .pre .1 (few (a .plain .now) (a .book .now) (a .coordinator .now) _ _ (c .before .before .before .lines-refusal .ensures) (c .if1 .left)), c .before .before .before .lines-refusal .kept .1 .1 .0)
 
 slice-aggregate-fits : tie.Need-slice-aggregate-fits
 slice-aggregate-fits c =
     let a = c .before .before .before .before .before .before .before .before .before .before .args in
-    simp length-take (omega (arith, few (a .plain .now) (a .book .now) (a .coordinator .now) _ _ (c .before .before .before .before .lines-refusal .ensures) (c .before .if1 .left), c .before .before .before .before .before .before .before .before .before .before .pre, c .before .before .before .before .lines-refusal .kept .1 .1 .0))
+    simp length-take (omega (arith, c .before .before .before .before .before .before .before .before .before .before .pre .1 (few (a .plain .now) (a .book .now) (a .coordinator .now) _ _ (c .before .before .before .before .lines-refusal .ensures) (c .before .if1 .left)), c .before .before .before .before .lines-refusal .kept .1 .1 .0))
 
 fits-requires : tie.Need-fits-requires
 fits-requires c κs = c .before .before .before .before .lines-refusal .ensures .names (c .before .if1 .left) .accepted

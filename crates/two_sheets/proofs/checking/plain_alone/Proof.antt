@@ -14,11 +14,14 @@ returns-2 c =
     let a = c .before .before .before .before .args in
     plain-many (a .plain .now) (c .if2 .taken)
 
+slice-relend-prefix-plain-fills : tie.Need-slice-relend-prefix-plain-fills
+slice-relend-prefix-plain-fills c = omega (arith, c .before .before .before .before .pre (omega (arith, c .if2 .left)))
+
 slice-aggregate-plain-fills : tie.Need-slice-aggregate-plain-fills
-slice-aggregate-plain-fills c = simp length-take (omega (arith, c .before .before .before .before .before .pre, c .before .if2 .left))
+slice-aggregate-plain-fills c = simp length-take (omega (arith, c .before .before .before .before .before .pre (omega (arith, c .before .if2 .left))))
 
 plain-fills-requires : tie.Need-plain-fills-requires
-plain-fills-requires c κs = simp length-take (omega (arith, c .before .before .before .before .before .pre, c .before .if2 .left))
+plain-fills-requires c κs = simp length-take (omega (arith, c .before .before .before .before .before .pre (omega (arith, c .before .if2 .left))))
 
 returns-3 : tie.Need-returns-3
 returns-3 c =
@@ -28,5 +31,5 @@ returns-3 c =
 pub plain-alone-spec : {M : Type 1} → statement M
 plain-alone-spec =
     tie.close
-    (tie.spec (λ c. search needs) returns returns-2 (λ c. search needs) (λ c. search needs) slice-aggregate-plain-fills plain-fills-requires
+    (tie.spec (λ c. search needs) returns returns-2 (λ c. search needs) slice-relend-prefix-plain-fills slice-aggregate-plain-fills plain-fills-requires
     (λ c. search needs) returns-3)

@@ -18,15 +18,15 @@ returns-2 c =
 
 mul-n : tie.Need-mul-n
 mul-n c =
-    omega (arith, c .before .before .before .before .before .lines-refusal .ensures .joined (c .before .before .if1 .left) .fits, c .before .before .before .before .before .before .before .before .before .before .pre, c .before .before .before .before .before .lines-refusal .kept .1 .1 .0)
+    omega (arith, c .before .before .before .before .before .lines-refusal .ensures .joined (c .before .before .if1 .left) .fits, c .before .before .before .before .before .lines-refusal .kept .1 .1 .0)
 
 slice-reshare-prefix-find : tie.Need-slice-reshare-prefix-find
 slice-reshare-prefix-find c =
-    omega (arith, c .before .before .before .before .before .lines-refusal .ensures .joined (c .before .before .if1 .left) .fits, c .before .before .before .before .before .before .before .before .before .before .pre, c .before .before .before .before .before .lines-refusal .kept .1 .1 .0)
+    omega (arith, c .before .before .before .before .before .lines-refusal .ensures .joined (c .before .before .if1 .left) .fits, c .before .before .before .before .before .lines-refusal .kept .1 .1 .0)
 
 slice-aggregate-find : tie.Need-slice-aggregate-find
 slice-aggregate-find c =
-    simp length-take (omega (arith, c .before .before .before .before .before .before .lines-refusal .ensures .joined (c .before .before .before .if1 .left) .fits, c .before .before .before .before .before .before .before .before .before .before .before .pre, c .before .before .before .before .before .before .lines-refusal .kept .1 .1 .0))
+    simp length-take (omega (arith, c .before .before .before .before .before .before .lines-refusal .ensures .joined (c .before .before .before .if1 .left) .fits, c .before .before .before .before .before .before .lines-refusal .kept .1 .1 .0))
 
 find-requires : tie.Need-find-requires
 find-requires c κs =
@@ -36,7 +36,7 @@ find-requires c κs =
 returns-3 : tie.Need-returns-3
 returns-3 c =
     let a = c .before .before .before .before .before .before .before .before .before .before .before .before .before .before .before .args in
-    placed-at (a .plain .now) (a .book .now) (a .key) (sym (c .before .before .before .before .before .before .before .if1 .left) ∙ c .before .before .before .before .before .before .before .before .before .before .lines-refusal .ensures .told) _ (c .before .before .before .before .before .before .before .before .before .before .lines-refusal .ensures .joined (c .before .before .before .before .before .before .before .if1 .left) .joined) (sym (c .before .before .before .before .before .before .key-in-range .ensures) ∙ not-false _ (c .before .before .before .before .before .if2 .left)) _ (sym (c .before .before .before .find .ensures) ∙ c .before .i .given .1) (simp length-take (omega (arith, c .before .before .before .before .before .before .before .before .before .before .lines-refusal .ensures .joined (c .before .before .before .before .before .before .before .if1 .left) .fits, c .before .before .before .before .before .before .before .before .before .before .before .before .before .before .before .pre, c .before .before .before .before .before .before .before .before .before .before .lines-refusal .kept .1 .1 .0))) (c .before .before .before .before .before .before .before .before .before .before .lines-refusal .ensures .joined (c .before .before .before .before .before .before .before .if1 .left) .same)
+    placed-at (a .plain .now) (a .book .now) (a .key) (sym (c .before .before .before .before .before .before .before .if1 .left) ∙ c .before .before .before .before .before .before .before .before .before .before .lines-refusal .ensures .told) _ (c .before .before .before .before .before .before .before .before .before .before .lines-refusal .ensures .joined (c .before .before .before .before .before .before .before .if1 .left) .joined) (sym (c .before .before .before .before .before .before .key-in-range .ensures) ∙ not-false _ (c .before .before .before .before .before .if2 .left)) _ (sym (c .before .before .before .find .ensures) ∙ c .before .i .given .1) (simp length-take (omega (arith, c .before .before .before .before .before .before .before .before .before .before .lines-refusal .ensures .joined (c .before .before .before .before .before .before .before .if1 .left) .fits, c .before .before .before .before .before .before .before .before .before .before .lines-refusal .kept .1 .1 .0))) (c .before .before .before .before .before .before .before .before .before .before .lines-refusal .ensures .joined (c .before .before .before .before .before .before .before .if1 .left) .same)
 
 returns-4 : tie.Need-returns-4
 returns-4 c =
