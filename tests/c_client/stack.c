@@ -17,6 +17,7 @@ enum { ROWS = LINES * RAPYHEO_RECORD_NUMBERS, DECISIONS = RAPYHEO_HEAD_NUMBERS +
 static uint8_t records[RECORDS], coordinator[COORDINATOR], records_before[RECORDS], coordinator_before[COORDINATOR];
 static uint8_t plain[PLAIN], bookkeeping[BOOKKEEPING];
 static uint32_t rows[ROWS], decisions[DECISIONS], lines[2], answer, column1 = 7, clock_now = 1000, asked;
+static size_t place = PLACE;
 static rapyheo_transaction list[PLACES];
 static rapyheo_key key;
 
@@ -43,7 +44,7 @@ static void version(void) { answer = rapyheo_version(); }
 static void check(void) { answer = rapyheo_check(records, RECORDS, coordinator, COORDINATOR); }
 static void begin(void) { answer = rapyheo_begin(records, RECORDS, coordinator, COORDINATOR); }
 static void call_at(void) {
-    answer = rapyheo_call_at(list, PLACES, PLACE, records, RECORDS, coordinator, COORDINATOR, asked, key.storage, key.name_space, key.table,
+    answer = rapyheo_call_at(list, PLACES, place, records, RECORDS, coordinator, COORDINATOR, asked, key.storage, key.name_space, key.table,
                              key.partition, key.clustering, column1, 7, clock_now, RAPYHEO_CLOSE_WRITES);
 }
 static void visit(void) {
@@ -58,7 +59,7 @@ static void written(void) {
 }
 static void two_check(void) { answer = rapyheo_two_check(plain, PLAIN, bookkeeping, BOOKKEEPING, coordinator, COORDINATOR); }
 static void two_call_at(void) {
-    answer = (uint32_t)rapyheo_two_call_at(list, PLACES, PLACE, plain, PLAIN, bookkeeping, BOOKKEEPING, coordinator, COORDINATOR, asked, key.storage,
+    answer = (uint32_t)rapyheo_two_call_at(list, PLACES, place, plain, PLAIN, bookkeeping, BOOKKEEPING, coordinator, COORDINATOR, asked, key.storage,
                                            key.name_space, key.table, key.partition, key.clustering, column1, 7, clock_now, RAPYHEO_CLOSE_WRITES);
 }
 static void two_visit(void) {
@@ -190,6 +191,9 @@ static void orders(void) {
     ask(RAPYHEO_CALL_ADVANCE);
     ask(RAPYHEO_CALL_ABORT);
     ask(RAPYHEO_CALL_CLOSE);
+    place = PLACES; /* the list has no such place: the sheets are looked at all the same */
+    ask(RAPYHEO_CALL_ADVANCE);
+    place = PLACE;
 }
 
 /* The most of some functions, each printed. */
