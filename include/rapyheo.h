@@ -83,7 +83,7 @@ extern "C" {
 
 /* Version of this header. rapyheo_version() is the library's: the same major and at least the same minor will do. */
 #define RAPYHEO_VERSION_MAJOR 2
-#define RAPYHEO_VERSION_MINOR 1
+#define RAPYHEO_VERSION_MINOR 2
 #define RAPYHEO_VERSION_PATCH 0
 #define RAPYHEO_VERSION (10000 * RAPYHEO_VERSION_MAJOR + 100 * RAPYHEO_VERSION_MINOR + RAPYHEO_VERSION_PATCH)
 
@@ -289,6 +289,11 @@ RAPYHEO_ANSWER uint32_t rapyheo_begin(const uint8_t *records, size_t records_len
 RAPYHEO_ANSWER uint32_t rapyheo_lookup(const uint8_t *records, size_t records_length, uint32_t storage, uint32_t name_space, uint32_t table,
                                        uint32_t partition, uint32_t clustering);
 
+/* Where a key stands on the sheet, or would stand: rank[0] is how many lines have smaller keys, and rank[1] is 1 if the key has a line itself, whose
+ * index rank[0] then is, else 0; two keys without lines may share a place. Answers 0, or 1000 + 1 (also for a rank_length other than 2) or 5. */
+RAPYHEO_ANSWER uint32_t rapyheo_rank(const uint8_t *records, size_t records_length, uint32_t storage, uint32_t name_space, uint32_t table,
+                                     uint32_t partition, uint32_t clustering, uint32_t *rank, size_t rank_length);
+
 /* What a call wrote, of copies of both sheets from before it and the sheets after it: RAPYHEO_WROTE_NOTHING to RAPYHEO_WROTE_BOTH. lines[0] is
  * the index of the first record line that differs and lines[1] how many there are from it to the last that does, both 0 where none does. Or
  * 1000 + 1 (record sheets of different lengths, not of whole lines or of 2^32 lines or more, or a lines_length other than 2), or 1000 + 2
@@ -394,6 +399,11 @@ RAPYHEO_ANSWER uint32_t rapyheo_two_visit(uint8_t *plain, size_t plain_length, u
 /* The index of the key's line, from 0, the same on both sheets, or 1000 + 1, 13, 5 or 6. */
 RAPYHEO_ANSWER uint32_t rapyheo_two_lookup(const uint8_t *plain, size_t plain_length, const uint8_t *bookkeeping, size_t bookkeeping_length,
                                            uint32_t storage, uint32_t name_space, uint32_t table, uint32_t partition, uint32_t clustering);
+
+/* As rapyheo_rank, on both sheets: 0 or 1000 + 1, 13 or 5. */
+RAPYHEO_ANSWER uint32_t rapyheo_two_rank(const uint8_t *plain, size_t plain_length, const uint8_t *bookkeeping, size_t bookkeeping_length,
+                                         uint32_t storage, uint32_t name_space, uint32_t table, uint32_t partition, uint32_t clustering,
+                                         uint32_t *rank, size_t rank_length);
 
 /* As rapyheo_call_at, and RAPYHEO_CALL_SECOND besides. Where a read takes two calls, the first answers RAPYHEO_FIRST + 100000000 * column 1 +
  * column 2, which rapyheo_first_columns takes apart; no other answer is so large. */

@@ -4,6 +4,7 @@
 use crate::make::Sheets;
 use crate::plain::by_place::{self, Asked};
 use crate::plain::key::Key;
+use crate::plain::rank::tell;
 use crate::plain::request::{Answer, Request};
 use crate::plain::store::Visit;
 use crate::plain::transaction::Transaction;
@@ -32,6 +33,7 @@ pub enum Call {
         place: usize,
         asked: Asked,
     },
+    /// The place of the key's line.
     Lookup {
         key: Key,
     },
@@ -95,6 +97,11 @@ pub fn written_by_plain(before: &Sheets, after: &Sheets, lines: &mut [u32]) -> u
     let records = [&before.records[..], &after.records[..]];
     let coordinator = [&before.coordinator[..], &after.coordinator[..]];
     number(written(records, coordinator, lines))
+}
+
+/// Where the key stands, told in the target.
+pub fn rank_by_plain(sheets: &LaidOut, key: Key, target: &mut [u32]) -> u32 {
+    number(tell(sheets.rank(key), target).map(|()| 0))
 }
 
 /// Whether `fast` has the call: of those by place it has the advance.

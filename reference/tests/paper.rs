@@ -268,26 +268,3 @@ fn keys_rise_strictly() {
         assert_eq!(sheet(high, low), u32::from(high >= low), "{high}");
     }
 }
-
-#[test]
-fn looking_up() {
-    let sheet = record_lines(8);
-    let lookup = |key| plain::lookup(sheet.as_bytes(), key);
-    assert_eq!(lookup([1, 1, 1, 1, 0]), Ok(0));
-    assert_eq!(lookup([1, 1, 1, 1, 7]), Ok(7));
-    assert_eq!(lookup([1, 1, 1, 1, 8]), Err(6));
-    assert_eq!(lookup([2, 1, 1, 1, 7]), Err(6));
-    for key in [
-        [0, 1, 1, 1, 7],
-        [10, 1, 1, 1, 7],
-        [1, 0, 1, 1, 7],
-        [1, 100, 1, 1, 7],
-        [1, 1, 0, 1, 7],
-        [1, 1, 100, 1, 7],
-        [1, 1, 1, 100_000, 7],
-        [1, 1, 1, 1, u32::MAX],
-    ] {
-        assert_eq!(lookup(key), Err(5), "{key:?}");
-        assert_eq!(plain::lookup(&sheet.as_bytes()[1..], key), Err(1));
-    }
-}

@@ -32,7 +32,7 @@ fn a_transaction_is_answered_line_by_line() {
                  advance 3 9\nadvance 3 9\nabort 3\nvisit 1 1 1 1 1 0\nlookup 1 1 1 1 1\nlookup 1 1 1 1 2\n";
     let answers =
         "ok\nok 1\nok absent\nok\nok columns 500 250\nok 1 0 0 0 0 1 1 1 1 1 1 0 0 0 0 1 500 250\n\
-                   ok 7 0 1\nrefused 4\nrefused 4\nok stays\nok 0\nrefused 6\n";
+                   ok 7 0 1\nrefused 4\nrefused 4\nok stays\nok 0 1\nok 1 0\n";
     let sheets = format!("{}{COMMITTED}", COORDINATOR.replacen('0', "1", 1));
     assert_eq!(replayed(calls), (answers.into(), sheets));
 }
@@ -162,7 +162,7 @@ fn two_sheets_are_read_in_two_calls() {
     let bookkeeping =
         " 1  1  1     1     1 COMMITTED     4   0     0   0        0        0          0\n";
     let calls = "begin 3 0\nread 3 1 1 1 1 1 7\nsecond 3 1 1 1 1 1 7 40 4\nread 3 1 1 1 1 1 7\nshow 3\nadvance 3 0\nadvance 3 0\n\
-                 lookup 1 1 1 1 1\nline 1 1 1 1 1\nsheets\n\
+                 lookup 1 1 1 1 1\nlookup 1 1 1 1 0\nlookup 1 1 1 1 100000\nline 1 1 1 1 1\nsheets\n\
                  line 0 1 1 1 1 1\nline 1 1 1 1 1 1\nline 2 1 1 1 1 1\nline 0 1 1 1 1 2\n";
     let input = format!("   1   1   2\n{coordinator}{plain}{bookkeeping}{calls}");
     let output = replay::replay(Layout::Two, input.as_bytes());
@@ -170,7 +170,7 @@ fn two_sheets_are_read_in_two_calls() {
     let sheets = format!("sheets\n{coordinator}{plain}{bookkeeping}");
     let answers = format!(
         "ok 1\nok first 40 3\nok columns 40 4\nok columns 40 4\nok 1 0 0 0 0 1 1 1 1 1 1 4 0 40 4 0 0 0\nok 2 0 0\nok 4 0 0\n\
-         ok 0\nbad line\n{sheets}ok {plain}ok {bookkeeping}ok\nok\n{sheets}"
+         ok 0 1\nok 0 0\nrefused 5\nbad line\n{sheets}ok {plain}ok {bookkeeping}ok\nok\n{sheets}"
     );
     assert_eq!(String::from_utf8(output).unwrap(), answers);
     // Each sheet is as long as the first line tells.

@@ -5,7 +5,9 @@ use reference::compare::{Case, Subject};
 use reference::conversions::{self, Conversion};
 use reference::exported::{self, Call, Lent};
 use reference::make::Sheets;
+use reference::plain::key::Key;
 use reference::plain::visitor;
+use reference::replay::laid_out::LaidOut;
 use reference::replay::{replay, Layout};
 
 struct Plain;
@@ -29,6 +31,10 @@ impl Subject for Plain {
 
     fn written(&self, before: &Sheets, after: &Sheets, lines: &mut [u32]) -> u32 {
         exported::written_by_plain(before, after, lines)
+    }
+
+    fn rank(&self, sheets: &LaidOut, key: Key, target: &mut [u32]) -> u32 {
+        exported::rank_by_plain(sheets, key, target)
     }
 }
 

@@ -107,7 +107,7 @@ fn under_capitals_as_on_the_joined_sheet() {
     }
 }
 
-/// The look-up and the lines that it hands back.
+/// The rank, and the lines that a look-up hands back.
 fn look_up_as_joined(random: &mut Random, two: &TwoSheets, joined: &Sheets) {
     let numbers = [
         1,
@@ -117,8 +117,8 @@ fn look_up_as_joined(random: &mut Random, two: &TwoSheets, joined: &Sheets) {
         random.pick(&[0, 1, 99_999]),
     ];
     let key = Key::from_numbers(numbers);
-    let place = plain::lookup(&joined.records, numbers);
-    assert_eq!(two_sheets::lookup(&two.plain, &two.bookkeeping, key), place);
+    let rank = plain::rank(&joined.records, numbers);
+    assert_eq!(two_sheets::rank(&two.plain, &two.bookkeeping, key), rank);
     let line = |sheet| two_sheets::line_of(&two.plain, &two.bookkeeping, sheet, key);
     let part = plain::line_of(&joined.records, numbers);
     match part.is_empty() {

@@ -91,7 +91,12 @@ static void closes(void) {
     expect("and with no write", close_order(0), RAPYHEO_REFUSED + RAPYHEO_WRONG_PHASE);
 }
 
-static uint32_t lines[2] = {9, 9};
+static uint32_t lines[2] = {9, 9}, place[2];
+
+/* Where a key of the first partition of a storage stands, or would stand, told in a target of this length. */
+static uint32_t stands(uint32_t storage, uint32_t clustering, size_t length) {
+    return rapyheo_rank(records, RECORDS, storage, 1, 1, 1, clustering, place, length);
+}
 
 /* What other sheets differ in from those here, as rapyheo_written has it. */
 static uint32_t wrote(const uint8_t *other_records, size_t records_length, const uint8_t *other_coordinator, size_t coordinator_length) {
@@ -108,6 +113,15 @@ static void sheets(void) {
     expect("not found", rapyheo_lookup(records, RECORDS, 2, 1, 1, 1, 2), RAPYHEO_REFUSED + RAPYHEO_NO_SUCH_KEY);
     expect("no key", rapyheo_lookup(records, RECORDS, 2, 100, 1, 1, 2), RAPYHEO_REFUSED + RAPYHEO_BAD_KEY);
     expect("no sheet", rapyheo_lookup(records, 0, 2, 1, 1, 1, 2), RAPYHEO_REFUSED + RAPYHEO_BAD_RECORDS);
+    expect("a line", stands(2, 1, 2), 0);
+    expect("stands second", 10 * place[0] + place[1], 11);
+    expect("a key without one", stands(1, 7, 2), 0);
+    expect("would stand there too", 10 * place[0] + place[1], 10);
+    expect("and another", stands(2, 0, 2), 0);
+    expect("at the same place", 10 * place[0] + place[1], 10);
+    expect("no key to stand", stands(0, 1, 2), RAPYHEO_REFUSED + RAPYHEO_BAD_KEY);
+    expect("a target too short", stands(2, 7, 1), RAPYHEO_REFUSED + RAPYHEO_BAD_RECORDS);
+    expect("is left", 10 * place[0] + place[1], 10);
     expect("nothing written", wrote(same_records, RECORDS, same_coordinator, COORDINATOR), RAPYHEO_WROTE_NOTHING);
     expect("no first line", lines[0] + lines[1], 0);
     other_records[RECORDS - 2] ^= 1;

@@ -54,6 +54,9 @@ static void visit(void) {
 static void lookup(void) {
     answer = rapyheo_lookup(records, RECORDS, key.storage, key.name_space, key.table, key.partition, key.clustering);
 }
+static void rank(void) {
+    answer = rapyheo_rank(records, RECORDS, key.storage, key.name_space, key.table, key.partition, key.clustering, lines, 2);
+}
 static void written(void) {
     answer = rapyheo_written(records_before, RECORDS, records, RECORDS, coordinator_before, COORDINATOR, coordinator, COORDINATOR, lines, 2);
 }
@@ -68,6 +71,9 @@ static void two_visit(void) {
 }
 static void two_lookup(void) {
     answer = rapyheo_two_lookup(plain, PLAIN, bookkeeping, BOOKKEEPING, key.storage, key.name_space, key.table, key.partition, key.clustering);
+}
+static void two_rank(void) {
+    answer = rapyheo_two_rank(plain, PLAIN, bookkeeping, BOOKKEEPING, key.storage, key.name_space, key.table, key.partition, key.clustering, lines, 2);
 }
 static void read_records(void) { answer = rapyheo_read_records(records, RECORDS, rows, ROWS); }
 static void write_records(void) { answer = rapyheo_write_records(rows, ROWS, records, RECORDS); }
@@ -85,6 +91,7 @@ static struct measured {
     {"call_at", call_at, 0},
     {"visit", visit, 0},
     {"lookup", lookup, 0},
+    {"rank", rank, 0},
     {"written", written, 0},
     {"read_records", read_records, 0},
     {"write_records", write_records, 0},
@@ -94,11 +101,12 @@ static struct measured {
     {"two_call_at", two_call_at, 0},
     {"two_visit", two_visit, 0},
     {"two_lookup", two_lookup, 0},
+    {"two_rank", two_rank, 0},
 };
-enum { FUNCTIONS = sizeof table / sizeof *table, ON_TWO = 4, ON_ONE = FUNCTIONS - ON_TWO };
+enum { FUNCTIONS = sizeof table / sizeof *table, ON_TWO = 5, ON_ONE = FUNCTIONS - ON_TWO };
 
 /* What the orders below ask: on the record sheet, or on two. */
-static void (*call_by_place)(void) = call_at, (*visit_line)(void) = visit, (*look_up)(void) = lookup;
+static void (*call_by_place)(void) = call_at, (*visit_line)(void) = visit, (*look_up)(void) = lookup, (*tell_rank)(void) = rank;
 
 static size_t unmeasured; /* what an empty function uses */
 
@@ -142,6 +150,7 @@ static void split(void) {
     call_by_place = two_call_at;
     visit_line = two_visit;
     look_up = two_lookup;
+    tell_rank = two_rank;
 }
 
 static void key_of(uint32_t line) { memcpy(&key, rows + line * RAPYHEO_RECORD_NUMBERS, sizeof key); }
@@ -167,6 +176,7 @@ static void order(uint32_t call, uint32_t puts, int advances) {
         measure(visit_line);
     }
     measure(look_up);
+    measure(tell_rank);
     measure(written);
     memcpy(records_before, records, RECORDS);
     memcpy(coordinator_before, coordinator, COORDINATOR);

@@ -42,6 +42,13 @@ static uint32_t lookup(rapyheo_key key) {
     return rapyheo_two_lookup(plain, PLAIN, bookkeeping, BOOKKEEPING, key.storage, key.name_space, key.table, key.partition, key.clustering);
 }
 
+static uint32_t place[2];
+
+static uint32_t stands(rapyheo_key key, size_t bookkeeping_length) {
+    return rapyheo_two_rank(plain, PLAIN, bookkeeping, bookkeeping_length, key.storage, key.name_space, key.table, key.partition, key.clustering,
+                            place, 2);
+}
+
 static uint32_t visit(rapyheo_key key) {
     return rapyheo_two_visit(plain, PLAIN, bookkeeping, BOOKKEEPING, coordinator, COORDINATOR, key.storage, key.name_space, key.table, key.partition,
                              key.clustering, 1000);
@@ -106,6 +113,12 @@ static void keys(void) {
     expect("found", lookup(capital), 1);
     expect("not found", lookup(missing), RAPYHEO_REFUSED + RAPYHEO_NO_SUCH_KEY);
     expect("no key", lookup(outside), RAPYHEO_REFUSED + RAPYHEO_BAD_KEY);
+    expect("where it would stand", stands(missing, BOOKKEEPING), 0);
+    expect("behind both, and it has none", 10 * place[0] + place[1], 20);
+    expect("where a line stands", stands(capital, BOOKKEEPING), 0);
+    expect("second", 10 * place[0] + place[1], 11);
+    expect("sheets that differ", stands(capital, RAPYHEO_BOOKKEEPING_BYTES), RAPYHEO_REFUSED + RAPYHEO_SHEETS_DIFFER);
+    expect("no key to stand", stands(outside, BOOKKEEPING), RAPYHEO_REFUSED + RAPYHEO_BAD_KEY);
     expect("stays", visit(small), RAPYHEO_STAYS);
     expect("no line to visit", visit(missing), RAPYHEO_REFUSED + RAPYHEO_NO_SUCH_KEY);
     expect("no key to visit", visit(outside), RAPYHEO_REFUSED + RAPYHEO_BAD_KEY);

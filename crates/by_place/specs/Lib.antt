@@ -2,3 +2,4 @@
 pub mod Numbers
 pub mod Asked
 pub mod TwoNumbers
+pub mod Ranks

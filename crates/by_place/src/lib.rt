@@ -7,11 +7,13 @@ ghost use lib.Dec.{eqb};
 ghost use Rattle.model.specs.Refusals.{lastRefusal};
 ghost use Rattle.model.specs.CallByPlace.{listed};
 ghost use Rattle.by_place.specs.Numbers.{unlistedNumber};
+ghost use Rattle.by_place.specs.Ranks.{oneIf, lineNumber, rankNumber, rankTarget};
 ghost use Rattle.by_place.specs.Asked.{requestOf, calls, callsTwo, naming};
 ghost use Rattle.by_place.specs.TwoNumbers.{numberOf, unlistedNumberTwo};
 ghost use Rattle.two_sheets.specs.Areas.{two};
 use types::Columns;
 use types::Key;
+use types::Ranked;
 use types::Request;
 
 // How many calls there are by place, and on two sheets, where a read may take two. Each has its number in `request`.
@@ -50,6 +52,46 @@ pub fn number_two(call: u32, refusal: u32, reply: u32, columns: Columns) -> u64
         return 10000 + (columns.column1 as u64 * 100000000 + columns.column2 as u64);
     }
     reply as u64
+}
+
+// The index of the line of a key as one number, or 1000 + the refusal, 6 where none has it.
+pub fn line_number(told: Ranked) -> u32
+    requires { ⌜ (told .refusal ≤ lastRefusal) × (told .rank .below ≤ 500) ⌝ }
+    ensures { λ r. ⌜ r ≡ lineNumber told ⌝ }
+{
+    if told.refusal != 0 {
+        return 1000 + told.refusal;
+    }
+    if told.rank.present {
+        return told.rank.below as u32;
+    }
+    1006
+}
+
+// Where a key stands, in a lent target of two numbers.
+pub fn tell_rank(told: Ranked, target: &mut [u32]) -> u32
+    requires { ⌜ (told .refusal ≤ lastRefusal) × (told .rank .below ≤ 500) ⌝ }
+    ensures answer { λ r. ⌜ r ≡ rankNumber (now (target .entry)) told ⌝ }
+    ensures target { λ r. ⌜ now (target .exit) ≡ rankTarget (now (target .entry)) told ⌝ }
+{
+    if target.len() != 2 {
+        return 1001;
+    }
+    if told.refusal != 0 {
+        return 1000 + told.refusal;
+    }
+    target[0] = told.rank.below as u32;
+    target[1] = one_if(told.rank.present);
+    0
+}
+
+fn one_if(present: bool) -> u32
+    ensures { λ r. ⌜ r ≡ oneIf present ⌝ }
+{
+    if present {
+        return 1;
+    }
+    0
 }
 
 // Whether a list of this length is not over 16 and has the place.

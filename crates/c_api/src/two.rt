@@ -5,13 +5,13 @@ ghost use Rattle.model.specs.Results.{visit};
 ghost use Rattle.model.specs.Operations.{once, coordinatorLeft};
 ghost use Rattle.model.specs.Requests.{operationOf};
 ghost use Rattle.model.specs.CallByPlace.{listAfter};
-ghost use Rattle.model.specs.TwoSheets.{twoConditions};
+ghost use Rattle.model.specs.TwoSheets.{twoConditions, rankTwo};
 ghost use Rattle.model.specs.TwoCalls.{responseTwo, plainLeft, bookkeepingLeft};
 ghost use Rattle.two_sheets.specs.Areas.{two};
 ghost use Rattle.by_place.specs.Numbers.{visitNumber};
 ghost use Rattle.by_place.specs.TwoNumbers.{callNumberTwo};
 ghost use Rattle.by_place.specs.Asked.{asks, calledAtTwo};
-ghost use Rattle.c_api.specs.Telling.{lookupNumberTwo};
+ghost use Rattle.by_place.specs.Ranks.{lineNumber, rankNumber, rankTarget};
 ghost use Rattle.c_api.specs.TwoByPlace.{calledTwo};
 use types::Columns;
 use types::Key;
@@ -65,7 +65,7 @@ pub extern "C" fn rapyheo_two_lookup(
     partition: u32,
     clustering: u32,
 ) -> u32
-    ensures { λ r. ⌜ r ≡ lookupNumberTwo (now (plain .entry)) (now (book .entry)) (record { storage = storage; namespace = namespace; table = table; partition = partition; clustering = clustering }) ⌝ }
+    ensures { λ r. ⌜ r ≡ lineNumber (rankTwo (now (plain .entry)) (now (book .entry)) (record { storage = storage; namespace = namespace; table = table; partition = partition; clustering = clustering })) ⌝ }
 {
     let key = Key {
         storage,
@@ -74,8 +74,32 @@ pub extern "C" fn rapyheo_two_lookup(
         partition,
         clustering,
     };
-    let place = two_sheets::lookup::place_of(plain, book, key);
-    by_place::number(place.refusal, place.index as u32)
+    by_place::line_number(two_sheets::lookup::rank_of(plain, book, key))
+}
+
+// Where the key stands, or would stand, on both sheets: as `rapyheo_rank`.
+#[no_mangle]
+pub extern "C" fn rapyheo_two_rank(
+    plain: &[u8],
+    book: &[u8],
+    storage: u32,
+    namespace: u32,
+    table: u32,
+    partition: u32,
+    clustering: u32,
+    rank: &mut [u32],
+) -> u32
+    ensures answer { λ r. ⌜ r ≡ rankNumber (now (rank .entry)) (rankTwo (now (plain .entry)) (now (book .entry)) (record { storage = storage; namespace = namespace; table = table; partition = partition; clustering = clustering })) ⌝ }
+    ensures target { λ r. ⌜ now (rank .exit) ≡ rankTarget (now (rank .entry)) (rankTwo (now (plain .entry)) (now (book .entry)) (record { storage = storage; namespace = namespace; table = table; partition = partition; clustering = clustering })) ⌝ }
+{
+    let key = Key {
+        storage,
+        namespace,
+        table,
+        partition,
+        clustering,
+    };
+    by_place::tell_rank(two_sheets::lookup::rank_of(plain, book, key), rank)
 }
 
 // What a call by place answers, and the transaction that stands at the place afterwards.

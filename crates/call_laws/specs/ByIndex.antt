@@ -14,8 +14,7 @@ use Rattle.sheet_laws.specs.Search.{first-at}
 use Rattle.sheet_laws.specs.Coordinator.{decisionText, coordinator-written-read, bounds}
 use Rattle.sheet_laws.specs.Decisions.{numberHasLine, Readable, readable-parts, readable-length, length-decisions, coordinator-over, readable-decided}
 use Rattle.sheet_laws.specs.Decisions.{coordinator-counted, readable-raised}
-use Rattle.call_laws.specs.Keys.{same-key, same-key-refl}
-use Rattle.call_laws.specs.Lines.{listsKey, key-later, apart}
+use Rattle.sheet_laws.specs.KeyOrder.{same-key, same-key-refl, listsKey, key-later, apart}
 
 -- The index of the line of a key.
 pub record FoundAt (k : Key) (rs : List Record) (i : ℕ) : Type 0 where

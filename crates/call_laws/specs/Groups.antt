@@ -9,7 +9,8 @@ use Rattle.types.specs.declared.AtomicityUnit.the-variants.{Record as RecordUni
 use Rattle.model.specs.Records.{keyNumbers, keyLess, sameKey}
 use Rattle.model.specs.Coordinator.{Letter}
 use Rattle.model.specs.Groups.{unitFields, letterFor, scope, addScope, scopes, groupCount, groupPlace, group}
-use Rattle.call_laws.specs.Keys.{same-key, hasKey, chosen-key}
+use Rattle.sheet_laws.specs.KeyOrder.{same-key}
+use Rattle.call_laws.specs.Keys.{hasKey, chosen-key}
 
 -- every unit compares the storage
 first-field : (u : AtomicityUnit) (k : Key) → getD (take (unitFields u) (keyNumbers k)) 0 0 ≡ k .storage

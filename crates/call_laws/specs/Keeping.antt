@@ -16,7 +16,8 @@ use Rattle.sheet_laws.specs.Search.{some-found}
 use Rattle.call_laws.specs.Choices.{not-first}
 use Rattle.call_laws.specs.Keys.{hasKey}
 use Rattle.call_laws.specs.Ranges.{GoodParts, fine, fine-parts}
-use Rattle.call_laws.specs.Lines.{has-line, has-line-after, line-passes}
+use Rattle.sheet_laws.specs.KeyOrder.{has-line}
+use Rattle.call_laws.specs.Lines.{has-line-after, line-passes}
 use Rattle.call_laws.specs.Sheets.{GoodSheets, Fit, fit-nothing, decided-issued, decided-units}
 use Rattle.call_laws.specs.Transactions.{Body, Stage, well-formed-parts, parts-well-formed, place-at, verdict-at, stage-open}
 

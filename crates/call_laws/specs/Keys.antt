@@ -1,26 +1,11 @@
--- Keys compared as numbers are equal as keys, and entries are found by their keys.
+-- Entries are found by their keys.
 use Rattle.lists.specs.Basics.{_≡_, refl, sym, ap, _∙_, Bool, true, false, _&&_, _||_, cond, true≢false, List, [], _∷_, none, some, Option·none-ne-some}
-use Rattle.lists.specs.Basics.{Option·some-injective, all, any, filter, eqList-true, eqList-refl, and-fst, and-snd, or-else}
+use Rattle.lists.specs.Basics.{Option·some-injective, all, any, filter, and-fst, and-snd, or-else}
 use Rattle.lists.specs.Chosen.{any-filter, any-weaken}
 use Rattle.model.specs.Types.{Key, Entry}
-use Rattle.model.specs.Records.{keyNumbers, keyOf, sameKey}
+use Rattle.model.specs.Records.{sameKey}
 use Rattle.model.specs.Writes.{entryFor}
-
-pub same-key : (a b : Key) → sameKey a b ≡ true → a ≡ b
-unfolding sameKey keyNumbers keyOf
-same-key a b h = ap keyOf (eqList-true (keyNumbers a) (keyNumbers b) h)
-
-pub same-key-refl : (k : Key) → sameKey k k ≡ true
-unfolding sameKey
-same-key-refl k = eqList-refl (keyNumbers k)
-
-pub other-key : (a b : Key) → (a ≡ b → ⊥) → sameKey a b ≡ false
-unfolding sameKey
-other-key a b d = go (sameKey a b) refl
-  where
-    go : (x : Bool) → sameKey a b ≡ x → x ≡ false
-    go true e = absurd (d (same-key a b e))
-    go false e = refl
+use Rattle.sheet_laws.specs.KeyOrder.{same-key, same-key-refl, other-key}
 
 pub same-key-flip : (a b : Key) → sameKey a b ≡ false → sameKey b a ≡ false
 same-key-flip a b h = other-key b a (λ e. true≢false (sym (same-key-refl b) ∙ (ap (λ (k : Key). sameKey k b) e ∙ h)))

@@ -1,26 +1,12 @@
 -- Lines by their keys: a write keeps keys, so that order and look-up stay; on a sheet in order the line of a record's key is that record.
 use Rattle.lists.specs.Basics.{_≡_, refl, sym, ap, ap₂, _∙_, ℕ, Bool, true, false, _&&_, _||_, cond, true≢false, List, [], _∷_, map, Option, none, some, all}
-use Rattle.lists.specs.Basics.{any, and-fst, and-snd, and-both, choose-by, or-else, or-left, or-right, or-fst, or-snd}
+use Rattle.lists.specs.Basics.{any, and-fst, and-snd, and-both, choose-by, or-left, or-right, or-fst, or-snd}
 use Rattle.lists.specs.All.{map-unmoved}
-use Rattle.lists.specs.Order.{less-irrefl, less-trans}
 use Rattle.model.specs.Types.{Key, Record, Decision, Entry}
-use Rattle.model.specs.Records.{keyNumbers, keyLess, inOrder, rising, sameKey, found, hasLine, absentAt, lineOf}
+use Rattle.model.specs.Records.{keyLess, inOrder, rising, sameKey, hasLine, absentAt, lineOf}
 use Rattle.model.specs.Images.{preparedBy, prepared, committed, rolledForward, rolledBack, changeOf}
 use Rattle.model.specs.Writes.{Write, nothing, issue, decide, commit, prepare, forward, back, entryFor, byEntry, isOf, lineAfter, linesAfter}
-use Rattle.sheet_laws.specs.Search.{some-found}
-use Rattle.call_laws.specs.Keys.{same-key, same-key-refl, other-key}
-
--- some line has the key
-abbrev pub listsKey : Key → List Record → Bool
-listsKey k rs = any (λ (r : Record). sameKey (r .key) k) rs
-
-pub has-line : (k : Key) (rs : List Record) → hasLine k rs ≡ listsKey k rs
-unfolding found
-has-line k rs = some-found (λ (r : Record). sameKey (r .key) k) 0 rs
-
-key-trans : (a b c : Key) → keyLess a b ≡ true → keyLess b c ≡ true → keyLess a c ≡ true
-unfolding keyLess
-key-trans a b c f g = less-trans (keyNumbers a) (keyNumbers b) (keyNumbers c) f g
+use Rattle.sheet_laws.specs.KeyOrder.{same-key, same-key-refl, listsKey, has-line, apart}
 
 -- Keys are kept.
 
@@ -146,23 +132,6 @@ pub line-of-key : (k : Key) (rs : List Record) → lineOf k rs .key ≡ k
 unfolding lineOf
 line-of-key k [] = refl
 line-of-key k (r ∷ rs) = choose-by (λ (x : Record). x .key ≡ k) (sameKey (r .key) k) (λ e. same-key (r .key) k e) (λ e. line-of-key k rs)
-
--- a key after the first of a sheet in order is higher, and so another
-pub key-later : (r : Record) (rs : List Record) (k : Key) → rising (r ∷ rs) ≡ true → listsKey k rs ≡ true → keyLess (r .key) k ≡ true
-unfolding rising inOrder any
-key-later r [] k h g = absurd (true≢false (sym g))
-key-later r (x ∷ rs) k h g =
-    let a : keyLess (r .key) (x .key) ≡ true = and-fst (keyLess (r .key) (x .key)) (rising (x ∷ rs)) h in
-    let b : rising (x ∷ rs) ≡ true = and-snd (keyLess (r .key) (x .key)) (rising (x ∷ rs)) h in
-    or-else (sameKey (x .key) k) (listsKey k rs) g
-    (λ e. ap (keyLess (r .key)) (sym (same-key (x .key) k e)) ∙ a)
-    (λ e n. key-trans (r .key) (x .key) k a (key-later x rs k b n))
-
-pub apart : (r : Record) (rs : List Record) (k : Key) → rising (r ∷ rs) ≡ true → listsKey k rs ≡ true → sameKey (r .key) k ≡ false
-unfolding keyLess
-apart r rs k h g =
-    other-key (r .key) k
-    (λ e. true≢false (sym (key-later r rs k h g) ∙ (ap (keyLess (r .key)) (sym e) ∙ less-irrefl (keyNumbers (r .key)))))
 
 -- A fact about a sheet in order, built line by line from a fact about each record that is the line of its key.
 each-line : (Q : Record → Type 0) (P : List Record → Type 0) (rs : List Record) → rising rs ≡ true → P [] → ((r : Record) (ls : List Record) → Q r → P ls → P (r ∷ ls)) → ((r : Record) → listsKey (r .key) rs ≡ true → lineOf (r .key) rs ≡ r → Q r) → P rs

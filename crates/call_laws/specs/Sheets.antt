@@ -12,7 +12,8 @@ use Rattle.model.specs.Writes.{linesAfter, decisionsAfter, apply}
 use Rattle.sheet_laws.specs.Decisions.{good-decided, good-raised}
 use Rattle.call_laws.specs.Ranges.{GoodParts, fine, fine-parts, parts-fine}
 use Rattle.call_laws.specs.Images.{MayPut, committed-fine, prepared-fine, forward-fine, back-fine}
-use Rattle.call_laws.specs.Lines.{listsKey, lines-mapped, rising-after, Still, all-lines, line-passes}
+use Rattle.sheet_laws.specs.KeyOrder.{listsKey}
+use Rattle.call_laws.specs.Lines.{lines-mapped, rising-after, Still, all-lines, line-passes}
 
 -- Good sheets, in parts.
 pub record GoodSheets (s : Sheets) : Type 0 where

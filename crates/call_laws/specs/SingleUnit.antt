@@ -18,7 +18,8 @@ use Rattle.model.specs.Conditions.{takesTwo}
 use Rattle.model.specs.Calls.{wholeRead, outcome}
 use Rattle.model.specs.Histories.{written}
 use Rattle.call_laws.specs.Choices.{by-phase, by-decision, by-written, by-whole}
-use Rattle.call_laws.specs.Keys.{other-key, same-key-refl, hasKey, no-entry}
+use Rattle.sheet_laws.specs.KeyOrder.{same-key-refl, other-key}
+use Rattle.call_laws.specs.Keys.{hasKey, no-entry}
 use Rattle.call_laws.specs.Groups.{InGroup, in-group, one-scope}
 
 -- a write to lines of one scope, or to the coordinator sheet

@@ -18,7 +18,7 @@ use Rattle.model.specs.Steps.{nextGroup, prepareStep, nextEntry, validateStep, 
 use Rattle.sheet_laws.specs.Coordinator.{bounds}
 use Rattle.call_laws.specs.Choices.{by-phase-of, by-decision}
 use Rattle.call_laws.specs.Keys.{entry-has-key, entry-passes}
-use Rattle.call_laws.specs.Lines.{listsKey, has-line}
+use Rattle.sheet_laws.specs.KeyOrder.{listsKey, has-line}
 use Rattle.call_laws.specs.Images.{MayPut}
 use Rattle.call_laws.specs.Sheets.{GoodSheets, MayPutAll, Fit, fit-nothing, fit-decide, fit-commit, fit-prepare, fit-forward, fit-back}
 use Rattle.call_laws.specs.Transactions.{Body, Stage, body-moved, place-at, verdict-at, groups-none, to-withdraw, to-prepare, to-validate, to-decide}

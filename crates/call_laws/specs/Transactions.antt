@@ -9,7 +9,8 @@ use Rattle.model.specs.Transactions.{abortedVerdict, isEmpty, held, puts, toVal
 use Rattle.model.specs.Groups.{scopes, groupCount, groupPlace}
 use Rattle.model.specs.Writes.{Sheets}
 use Rattle.model.specs.WellFormed.{entryFormed, distinctKeys, placeFormed, verdictFormed, formed, linesHeld, wellFormed}
-use Rattle.call_laws.specs.Keys.{hasKey, same-key-refl}
+use Rattle.sheet_laws.specs.KeyOrder.{same-key-refl}
+use Rattle.call_laws.specs.Keys.{hasKey}
 use Rattle.call_laws.specs.Groups.{place-below}
 
 -- what no step changes

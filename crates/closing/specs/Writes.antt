@@ -15,8 +15,8 @@ use Rattle.model.specs.Steps.{decideStep, withdrawStep, finishStep, undoStep, n
 use Rattle.model.specs.Closing.{changes}
 use Rattle.model.specs.ByteCalls.{sheetsOf}
 use Rattle.call_laws.specs.Choices.{by-decision-of}
-use Rattle.call_laws.specs.Keys.{same-key, same-key-refl, same-key-flip}
-use Rattle.call_laws.specs.Lines.{listsKey, apart}
+use Rattle.sheet_laws.specs.KeyOrder.{same-key, same-key-refl, listsKey, apart}
+use Rattle.call_laws.specs.Keys.{same-key-flip}
 use Rattle.call_laws.specs.ByIndex.{found-at}
 use Rattle.call_laws.specs.Sheets.{good-parts}
 use Rattle.call_laws.specs.Lifting.{readable-good}

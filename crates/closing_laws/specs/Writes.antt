@@ -15,9 +15,9 @@ use Rattle.model.specs.Steps.{withdrawStep, finishStep, undoStep, step}
 use Rattle.model.specs.ByteHistories.{saying}
 use Rattle.model.specs.Closing.{changes}
 use Rattle.call_laws.specs.Choices.{by-phase, by-decision-of}
-use Rattle.call_laws.specs.Keys.{same-key-refl}
+use Rattle.sheet_laws.specs.KeyOrder.{same-key-refl, has-line}
 use Rattle.call_laws.specs.Images.{forward-plain, back-plain}
-use Rattle.call_laws.specs.Lines.{has-line, line-key, line-mapped, lines-unmoved, line-of-key}
+use Rattle.call_laws.specs.Lines.{line-key, line-mapped, lines-unmoved, line-of-key}
 use Rattle.call_laws.specs.Sheets.{GoodSheets, good-parts, parts-good, write-closed}
 use Rattle.call_laws.specs.Transactions.{Body, well-formed-parts}
 use Rattle.call_laws.specs.Steps.{holds-parts, Closed, step-closed}

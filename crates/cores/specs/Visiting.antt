@@ -9,7 +9,7 @@ use Rattle.model.specs.Writes.{Sheets}
 use Rattle.model.specs.Conditions.{conditions}
 use Rattle.model.specs.Calls.{outcome, result}
 use Rattle.model.specs.ByteCalls.{sheetsOf}
-use Rattle.call_laws.specs.Lines.{has-line}
+use Rattle.sheet_laws.specs.KeyOrder.{has-line}
 use Rattle.call_laws.specs.ByIndex.{found-at}
 use Rattle.call_laws.specs.Accepted.{Outcome}
 use Rattle.recover.specs.Recovering.{lineAt, Standing, Recovered, line-parts, unlessBusy, outcome-met}

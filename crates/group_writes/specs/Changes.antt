@@ -1,19 +1,21 @@
 -- A group written entry by entry: each change is of the line of one key, and since no two entries have a key in common, one after another they make the map
 -- that the model applies. The new line is written over the old one at its index.
 use Rattle.lists.specs.Basics.{_≡_, refl, sym, ap, ap₂, _∙_, ℕ, _*_, _/_, _<_, ltb, Bool, true, false, _&&_, _||_, cond, List, [], _∷_, map, length, take, drop}
-use Rattle.lists.specs.Basics.{getD, set, Option, none, some, arith, ltb-true, lt-ltb, all, any, choose-by, tests, or-fst, or-snd}
+use Rattle.lists.specs.Basics.{getD, set, Option, none, some, arith, ltb-true, lt-ltb, all, any, choose-by, or-fst, or-snd}
 use Rattle.lists.specs.All.{map-map, map-equal, all-always}
 use Rattle.lists.specs.Pieces.{over, over-same}
 use Rattle.model.specs.Types.{Key, Record, At, Entry}
 use Rattle.model.specs.Layouts.{recordBytes}
-use Rattle.model.specs.Records.{noRecord, recordText, records, recordsGood, recordsAccepted, goodAlone, rising, sameKey, found, lineOf}
+use Rattle.model.specs.Records.{noRecord, recordText, records, recordsAccepted, goodAlone, sameKey, found, lineOf}
 use Rattle.model.specs.Images.{Change, changeOf, preparedBy, prepared, committed, rolledForward, rolledBack}
 use Rattle.model.specs.Writes.{Write, commit, prepare, forward, back, entryFor, byEntry, isOf, lineAfter, linesAfter}
 use Rattle.model.specs.Steps.{keysOf}
 use Rattle.sheet_laws.specs.Records.{good-ranged, record-written-read}
 use Rattle.sheet_laws.specs.ByIndex.{whole-lines, length-records, record-at, line-set, records-over}
 use Rattle.call_laws.specs.Lines.{lines-unmoved}
-use Rattle.call_laws.specs.Keys.{same-key, same-key-refl, same-key-flip, hasKey, no-entry}
+use Rattle.sheet_laws.specs.Ranks.{accepted-order}
+use Rattle.sheet_laws.specs.KeyOrder.{same-key, same-key-refl}
+use Rattle.call_laws.specs.Keys.{same-key-flip, hasKey, no-entry}
 use Rattle.call_laws.specs.ByIndex.{FoundAt, found-at, atKey, set-at-key, line-replaced}
 use Rattle.group_writes.specs.declared.changes.Effect.{Effect}
 use Rattle.group_writes.specs.declared.changes.Effect.the-variants.{Commit, Prepare, Forward, Back}
@@ -140,10 +142,6 @@ pub record Due (c : Effect) (n : ℕ) (e : Entry) (i : ℕ) (rs : List ℕ) : Ty
 pub record Wrote (c : Effect) (n : ℕ) (e : Entry) (rs rs′ : List ℕ) : Type 0 where
   pub accepted : recordsAccepted rs′ ≡ true
   pub lines : records rs′ ≡ map (atKey (e .key) (changed c n (changeOf e))) (records rs)
-
-accepted-order : (s : List ℕ) → recordsAccepted s ≡ true → rising (records s) ≡ true
-unfolding recordsAccepted recordsGood
-accepted-order s a = search tests
 
 module _ (c : Effect) (n : ℕ) (e : Entry) (i : ℕ) (rs : List ℕ) (due : Due c n e i rs) where
   -- the record at the index is the line of the key

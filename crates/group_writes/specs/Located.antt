@@ -18,7 +18,8 @@ use Rattle.model.specs.WellFormed.{linesHeld, placeFormed}
 use Rattle.sheet_laws.specs.Search.{some-found, first-at, first-map}
 use Rattle.call_laws.specs.Choices.{by-phase-of}
 use Rattle.call_laws.specs.Entries.{getD-first}
-use Rattle.call_laws.specs.Keys.{same-key, hasKey}
+use Rattle.sheet_laws.specs.KeyOrder.{same-key}
+use Rattle.call_laws.specs.Keys.{hasKey}
 use Rattle.call_laws.specs.ByIndex.{found-at}
 use Rattle.transactions.specs.Held.{PassedTo, entryAt, after, held-below, has-room, pass-next, tallied-few, tallied-kept}
 use Rattle.put_groups.specs.Groups.{inGroup}

@@ -8,7 +8,8 @@ use Rattle.model.specs.Writes.{Sheets}
 use Rattle.model.specs.Steps.{unitsOf, holds}
 use Rattle.sheet_laws.specs.Records.{good-ranged}
 use Rattle.sheet_laws.specs.Keys.{key-ranged}
-use Rattle.call_laws.specs.Lines.{listsKey, line-of-key, line-passes}
+use Rattle.sheet_laws.specs.KeyOrder.{listsKey}
+use Rattle.call_laws.specs.Lines.{line-of-key, line-passes}
 use Rattle.call_laws.specs.ByIndex.{found-at}
 
 -- every line of an accepted sheet is good alone

@@ -1,5 +1,5 @@
 -- Laws of `any`, `filter` and `count`: each by induction on the list, with the first element's test at hand.
-use Rattle.lists.specs.Kit.{_≡_, refl, sym, ap, _∙_, ℕ, zero, suc, _≤_, _<_, Bool, true, false, _&&_, _||_, cond, true≢false, List, [], _∷_, map, length}
+use Rattle.lists.specs.Kit.{_≡_, refl, sym, ap, ap₂, _∙_, ℕ, zero, suc, _≤_, _<_, Bool, true, false, _&&_, _||_, cond, true≢false, List, [], _∷_, map, length}
 use Rattle.lists.specs.Kit.{arith}
 use Rattle.lists.specs.Bytes.{eqList, eqList-true}
 use Rattle.lists.specs.Tests.{and-fst, and-snd, and-both}
@@ -87,6 +87,20 @@ module _ {ℓ} {A : Type ℓ} where
       go true f false g l = absurd (true≢false (sym (e x f) ∙ g))
       go false f true g l = omega arith
       go false f false g l = l
+
+  pub count-none : (p : A → Bool) (xs : List A) → any p xs ≡ false → count p xs ≡ 0
+  unfolding count any
+  count-none p [] h = refl
+  count-none p (x ∷ xs) h =
+      let e : p x ≡ false = or-fst (p x) (any p xs) h in
+      rw e (count-none p xs (or-snd (p x) (any p xs) h))
+
+  -- elements are counted where what they are mapped to is
+  pub count-map : {B : Type ℓ} (p : A → Bool) (f : B → A) (g q : B → Bool) → ((x : B) → g x ≡ true → p (f x) ≡ q x) → (xs : List B) → all g xs ≡ true → count p (map f xs) ≡ count q xs
+  unfolding count all
+  count-map p f g q e [] h = refl
+  count-map p f g q e (x ∷ xs) h =
+      ap₂ (λ (b : Bool) (n : ℕ). cond b (suc n) n) (e x (and-fst (g x) (all g xs) h)) (count-map p f g q e xs (and-snd (g x) (all g xs) h))
 
   pub count-all : (xs : List A) → count (λ (x : A). true) xs ≡ length xs
   unfolding count

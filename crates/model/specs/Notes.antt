@@ -1,6 +1,8 @@
 -- Cases of document 02's requests as one table, and one theorem: each follows from the definitions by computation.
-use Rattle.lists.specs.Basics.{_≡_, refl, ℕ, List, [], _∷_, _++_, map, take, bytes}
+use Rattle.lists.specs.Basics.{_≡_, refl, ℕ, Bool, true, false, List, [], _∷_, _++_, map, take, bytes}
+use Rattle.model.specs.Types.{Ranked}
 use Rattle.model.specs.Lines.{text}
+use Rattle.model.specs.SheetCalls.{rankOn}
 use Rattle.model.specs.Transactions.{openPhase, undoPhase}
 use Rattle.model.specs.Coordinator.{Letter, coordinatorOf}
 use Rattle.model.specs.Groups.{unitFields}
@@ -99,3 +101,22 @@ note-cases = refl
 pub five-letters : map (λ (l : Letter). unitFields (l .unit)) (take 5 (coordinatorOf (text (bytes "   0 RPTNSRRRR" ∷ bytes "   1         -" ∷ [])) .units)) ≡ 5 ∷ 4 ∷ 3 ∷ 2 ∷ 1 ∷ []
 unfolding cases
 five-letters = refl
+
+-- NOTE 5: "Two keys without lines may share a place." Of a sheet with lines of clustering 1 and 4 the keys of clustering 0 to 5: 2 and 3 share a place.
+
+abbrev pub twoLines : List ℕ
+twoLines =
+    text
+    (bytes " 1  1  1     1     1 COMMITTED     1   0      500      250     0   0        0        0          0"
+    ∷ bytes " 1  1  1     1     4 COMMITTED     1   0      600      300     0   0        0        0          0"
+    ∷ [])
+
+abbrev pub rankAt : ℕ → Ranked
+rankAt clustering = rankOn twoLines (record { storage = 1; namespace = 1; table = 1; partition = 1; clustering = clustering })
+
+abbrev pub standing : ℕ → Bool → Ranked
+standing below present = record { refusal = 0; rank = record { below = below; present = present } }
+
+pub shared-place : map rankAt (0 ∷ 1 ∷ 2 ∷ 3 ∷ 4 ∷ 5 ∷ []) ≡ standing 0 false ∷ standing 0 true ∷ standing 1 false ∷ standing 1 false ∷ standing 1 true ∷ standing 2 false ∷ []
+unfolding cases SheetCalls.rankConditions SheetCalls.rankOn Records.rank Each.count
+shared-place = refl

@@ -1,7 +1,7 @@
 -- The record sheet: a line as a record, and the rules that records keep. Document 01, "Record sheet".
 use Rattle.lists.specs.Basics.{ℕ, zero, suc, _+_, _*_, _/_, eqb, leb, Bool, true, false, not, _&&_, _||_, cond, List, [], _∷_, _++_, map, length, getD, all}
-use Rattle.lists.specs.Basics.{joined, pieces, less, eqList}
-use Rattle.model.specs.Types.{Key, Image, Record, State, Found, At, Nothing}
+use Rattle.lists.specs.Basics.{count, joined, pieces, less, eqList}
+use Rattle.model.specs.Types.{Key, Image, Record, State, Rank, Found, At, Nothing}
 use Rattle.types.specs.declared.State.the-variants.{Absent, Committed, Prepared}
 use Rattle.model.specs.Layouts.{recordLayout, keyLayout, stateField, imageField, beforeField, clockField, recordBytes, recordFields}
 use Rattle.model.specs.Lines.{rowOf, lineText, rowGood, linesOf, linesSet}
@@ -178,6 +178,14 @@ isMissing Nothing = true
 -- some line has the key
 abbrev pub hasLine : Key → List Record → Bool
 hasLine k rs = not (isMissing (found k rs))
+
+-- "how many lines have smaller keys"
+unfoldable pub rank : Key → List Record → ℕ
+rank k rs = count (λ (r : Record). keyLess (r .key) k) rs
+
+-- "and whether the key has a line itself"
+abbrev pub ranked : Key → List Record → Rank
+ranked k rs = record { below = rank k rs; present = hasLine k rs }
 
 -- a key without a line counts as an ABSENT line of version 0
 abbrev pub absentAt : Key → Record

@@ -1,9 +1,9 @@
 -- The calls that take no transaction and no clock: the check, sheets to numbers and back, the look-up.
 -- For each, its conditions of refusal in order, and what it answers or leaves in the lent target.
-use Rattle.lists.specs.Basics.{ℕ, _+_, _*_, _/_, eqb, Bool, not, _&&_, cond, List, [], _∷_, map, length, take, drop, all}
-use Rattle.model.specs.Types.{Key, Found, At, Nothing}
+use Rattle.lists.specs.Basics.{ℕ, _+_, _*_, _/_, eqb, Bool, false, not, _&&_, cond, List, [], _∷_, _++_, map, length, take, drop, all}
+use Rattle.model.specs.Types.{Key, Rank, Ranked, Found, At, Nothing}
 use Rattle.model.specs.Layouts.{recordBytes, coordinatorBytes, recordFields, headFields}
-use Rattle.model.specs.Records.{records, recordsAccepted, recordsText, recordOf, rows, rowsAccepted, allNumbers, keyInRange, found, isMissing}
+use Rattle.model.specs.Records.{records, recordsAccepted, recordsText, recordOf, rows, rowsAccepted, allNumbers, keyInRange, found, isMissing, ranked}
 use Rattle.model.specs.Coordinator.{coordinatorOf, coordinatorReadable, coordinatorAccepted, coordinatorText, coordinatorFrom, coordinatorNumbers, numbersAccepted}
 use Rattle.model.specs.Coordinator.{namesIssued}
 use Rattle.model.specs.Refusals.{Condition, refuse, refusalOf}
@@ -60,10 +60,23 @@ writeCoordinatorConditions v target =
 unfoldable pub coordinatorWritten : List ℕ → List ℕ → List ℕ
 coordinatorWritten v target = unlessRefused (writeCoordinatorConditions v target) (coordinatorText (coordinatorFrom v)) target
 
--- The look-up of a key.
+-- The look-up of a key, and its companion. Document 02, note 5: "The look-up's companion call now answers how many lines have smaller keys, and whether the key has
+-- a line itself; it no longer gives 6."
 
+unfoldable pub rankConditions : List ℕ → Key → List Condition
+rankConditions s k = refuse 1 (not (recordsAccepted s)) ∷ refuse 5 (not (keyInRange k)) ∷ []
+
+-- beside a refusal nothing is told
+abbrev pub toldRank : List Condition → Rank → Ranked
+toldRank cs r =
+    cond (eqb (refusalOf cs) 0) (record { refusal = 0; rank = r }) (record { refusal = refusalOf cs; rank = record { below = 0; present = false } })
+
+unfoldable pub rankOn : List ℕ → Key → Ranked
+rankOn s k = toldRank (rankConditions s k) (ranked k (records s))
+
+-- an empty part where the companion is refused, or tells that the key has no line
 unfoldable pub lookupConditions : List ℕ → Key → List Condition
-lookupConditions s k = refuse 1 (not (recordsAccepted s)) ∷ refuse 5 (not (keyInRange k)) ∷ refuse 6 (isMissing (found k (records s))) ∷ []
+lookupConditions s k = rankConditions s k ++ (refuse 6 (isMissing (found k (records s))) ∷ [])
 
 -- the bytes of the line at an index, none where nothing was found
 unfoldable pub lineAt : List ℕ → Found → List ℕ

@@ -2,13 +2,13 @@
 -- column 1 and column 2, and a bookkeeping sheet with key and the remaining fields, as in source document 000's decoupling."
 use Rattle.lists.specs.Basics.{ℕ, _+_, _*_, eqb, Bool, true, false, _&&_, not, cond, List, [], _∷_, _++_, map, take, drop, getD, all, joined}
 use Rattle.types.specs.declared.State.the-variants.{Committed}
-use Rattle.model.specs.Types.{Key, Column, Record, Found, At, Nothing}
+use Rattle.model.specs.Types.{Key, Column, Record, Ranked, Found, At, Nothing}
 use Rattle.model.specs.Layouts.{recordLayout, imageField, beforeField, keyLayout, columnsLayout, keyBytes, recordBytes}
 use Rattle.model.specs.Lines.{rowOf, linesOf, linesSet}
-use Rattle.model.specs.Records.{stateOf, keyOf, imageFrom, noImage, recordsGood, records, recordsAccepted, sameKey, keyInRange, found, isMissing}
+use Rattle.model.specs.Records.{stateOf, keyOf, imageFrom, noImage, recordsGood, records, recordsAccepted, sameKey, keyInRange, found, isMissing, ranked}
 use Rattle.model.specs.Coordinator.{coordinatorOf, coordinatorReadable, namesIssued}
 use Rattle.model.specs.Refusals.{Condition, refuse}
-use Rattle.model.specs.SheetCalls.{unlessRefused}
+use Rattle.model.specs.SheetCalls.{unlessRefused, toldRank}
 
 -- Layouts: "a plain sheet with key, column 1 and column 2, and a bookkeeping sheet with key and the remaining fields .. with widths and field order as in document 01".
 
@@ -141,11 +141,18 @@ coordinatorFits bs cs = coordinatorReadable cs && all (namesIssued (coordinatorO
 unfoldable pub twoConditions : List ℕ → List ℕ → List ℕ → List Condition
 twoConditions ps bs cs = linesConditions ps bs ++ (refuse 2 (not (coordinatorFits bs cs)) ∷ refuse 13 (not (sameKeys ps bs)) ∷ [])
 
+-- The look-up's companion, which answers of the joined sheet (note 5).
+
+unfoldable pub rankTwoConditions : List ℕ → List ℕ → Key → List Condition
+rankTwoConditions ps bs k = keyConditions ps bs ++ (refuse 5 (not (keyInRange k)) ∷ [])
+
+unfoldable pub rankTwo : List ℕ → List ℕ → Key → Ranked
+rankTwo ps bs k = toldRank (rankTwoConditions ps bs k) (ranked k (records (joinedSheet ps bs)))
+
 -- The look-up "hands back the line of whichever sheet is named, an empty part under 13 too".
 
 unfoldable pub lookupTwoConditions : List ℕ → List ℕ → Key → List Condition
-lookupTwoConditions ps bs k =
-    keyConditions ps bs ++ (refuse 5 (not (keyInRange k)) ∷ refuse 6 (isMissing (found k (records (joinedSheet ps bs)))) ∷ [])
+lookupTwoConditions ps bs k = rankTwoConditions ps bs k ++ (refuse 6 (isMissing (found k (records (joinedSheet ps bs)))) ∷ [])
 
 -- the sheets by the numbers that name them
 abbrev pub plainNamed : ℕ

@@ -12,6 +12,8 @@ pub use Rattle.types.specs.declared.Layout.the-variants.{RecordLine, KeyLine, C
 pub use Rattle.types.specs.declared.Column.{Column}
 pub use Rattle.types.specs.declared.Kind.{Kind}
 pub use Rattle.types.specs.declared.Kind.the-variants.{Figure, StateWord, DecisionWord, UnitLetter}
+pub use Rattle.types.specs.declared.Rank.{Rank}
+pub use Rattle.types.specs.declared.Ranked.{Ranked}
 pub use Rattle.types.specs.declared.Found.{Found}
 pub use Rattle.types.specs.declared.Found.the-variants.{At, Nothing}
 pub use Rattle.types.specs.declared.Columns.{Columns}

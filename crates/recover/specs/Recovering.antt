@@ -17,10 +17,11 @@ use Rattle.sheet_laws.specs.Coordinator.{decisionText}
 use Rattle.sheet_laws.specs.ByIndex.{length-records}
 use Rattle.sheet_laws.specs.Decisions.{numberHasLine}
 use Rattle.call_laws.specs.Choices.{by-meeting}
-use Rattle.call_laws.specs.Keys.{same-key-refl, same-key-flip}
+use Rattle.sheet_laws.specs.KeyOrder.{same-key-refl, has-line}
+use Rattle.call_laws.specs.Keys.{same-key-flip}
 use Rattle.call_laws.specs.Ranges.{GoodParts, parts-fine}
 use Rattle.call_laws.specs.Images.{when-prepared, forward-fine, back-fine}
-use Rattle.call_laws.specs.Lines.{has-line, line-key, lines-mapped}
+use Rattle.call_laws.specs.Lines.{line-key, lines-mapped}
 use Rattle.call_laws.specs.Sheets.{Fit, write-closed, parts-good}
 use Rattle.call_laws.specs.Keeping.{line-good}
 use Rattle.call_laws.specs.Closure.{visit-fits}

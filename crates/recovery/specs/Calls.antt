@@ -20,7 +20,7 @@ use Rattle.model.specs.Histories.{Event, given, takenBy, Available}
 use Rattle.model.specs.SequentialModel.{Model, modelBegin, modelPut, modelCommit, modelCall, modelStep}
 use Rattle.sheet_laws.specs.Search.{FirstAt, first-by}
 use Rattle.call_laws.specs.Choices.{by-phase-of, unless-by, testOf, accepted, by-meeting, entryRead, by-whole}
-use Rattle.call_laws.specs.Keys.{same-key}
+use Rattle.sheet_laws.specs.KeyOrder.{same-key}
 use Rattle.call_laws.specs.Lines.{still-issue}
 use Rattle.call_laws.specs.Sheets.{GoodSheets}
 use Rattle.call_laws.specs.Transactions.{well-formed-parts}

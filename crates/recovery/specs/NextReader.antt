@@ -16,7 +16,8 @@ use Rattle.model.specs.Histories.{answer, written, after}
 use Rattle.model.specs.ByteHistories.{Bytes, saying, Passing, answerOn, afterOn}
 use Rattle.model.specs.RecoveryPass.{lineUndecided}
 use Rattle.call_laws.specs.Choices.{unless-of, by-whole}
-use Rattle.call_laws.specs.Lines.{listsKey, has-line, still-forward}
+use Rattle.sheet_laws.specs.KeyOrder.{listsKey, has-line}
+use Rattle.call_laws.specs.Lines.{still-forward}
 use Rattle.call_laws.specs.Sheets.{GoodSheets, good-parts}
 use Rattle.call_laws.specs.Lifting.{capitals-lower, passing-readable, passing-good, same-answer, bytes-stay-passing}
 use Rattle.recovery.specs.View.{line-after}

@@ -17,9 +17,9 @@ use Rattle.model.specs.RecoveryPass.{Visit, visitCall, lineUndecided, timesVisi
 use Rattle.model.specs.SequentialModel.{Model}
 use Rattle.call_laws.specs.Choices.{by-meeting, by-visit}
 use Rattle.sheet_laws.specs.Coordinator.{bounds}
-use Rattle.call_laws.specs.Keys.{same-key, same-key-refl}
+use Rattle.sheet_laws.specs.KeyOrder.{same-key, same-key-refl, listsKey, has-line}
 use Rattle.call_laws.specs.Images.{forward-plain, back-plain, when-prepared}
-use Rattle.call_laws.specs.Lines.{listsKey, has-line, lists-after, line-of-key, Still, still-nothing, still-decide, still-forward, still-back}
+use Rattle.call_laws.specs.Lines.{lists-after, line-of-key, Still, still-nothing, still-decide, still-forward, still-back}
 use Rattle.call_laws.specs.Sheets.{GoodSheets, good-parts, parts-good, decided-own}
 use Rattle.call_laws.specs.Closure.{sheets-stay-good}
 use Rattle.recovery.specs.Settling.{settle, settled-plain, gentle-nothing, undecided-aborted}

@@ -10,7 +10,8 @@ use Rattle.model.specs.Writes.{Sheets, Write, lineAfter, apply}
 use Rattle.model.specs.Visits.{ownerDecision, numberExpired, ownerExpired}
 use Rattle.model.specs.Histories.{written, after}
 use Rattle.model.specs.RecoveryPass.{Visit, visitCall, lineUndecided, timesVisited, Expiring, Closing, Readings}
-use Rattle.call_laws.specs.Lines.{listsKey, has-line, unlisted, lines-mapped}
+use Rattle.sheet_laws.specs.KeyOrder.{listsKey, has-line}
+use Rattle.call_laws.specs.Lines.{unlisted, lines-mapped}
 use Rattle.recovery.specs.View.{line-after}
 use Rattle.recovery.specs.Theorem.{keysIn}
 use Rattle.recovery.specs.Pass.{Visiting, undecided-before, visit-visiting, visiting-still, prepared-before, call-lists}

@@ -12,8 +12,8 @@ use Rattle.model.specs.Results.{visit}
 use Rattle.model.specs.Histories.{written, after}
 use Rattle.model.specs.RecoveryPass.{Visit, visitCall, lineUndecided, timesVisited, Expiring, Closing, expirable, leavesReadings}
 use Rattle.call_laws.specs.Choices.{by-meeting, by-visit}
-use Rattle.call_laws.specs.Keys.{same-key}
-use Rattle.call_laws.specs.Lines.{listsKey, has-line, all-lines, lines-mapped}
+use Rattle.sheet_laws.specs.KeyOrder.{same-key, listsKey, has-line}
+use Rattle.call_laws.specs.Lines.{all-lines, lines-mapped}
 use Rattle.call_laws.specs.Sheets.{GoodSheets}
 use Rattle.recovery.specs.Settling.{decided-other, own-line, undecided-committed, undecided-aborted}
 use Rattle.recovery.specs.View.{line-after}

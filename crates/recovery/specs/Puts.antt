@@ -10,7 +10,8 @@ use Rattle.model.specs.Transactions.{isPut, isEmpty}
 use Rattle.model.specs.Groups.{groupPlace, group}
 use Rattle.model.specs.Writes.{entryFor}
 use Rattle.model.specs.WellFormed.{distinctKeys}
-use Rattle.call_laws.specs.Keys.{same-key, same-key-refl, other-key, hasKey}
+use Rattle.sheet_laws.specs.KeyOrder.{same-key, same-key-refl, other-key}
+use Rattle.call_laws.specs.Keys.{hasKey}
 use Rattle.recovery.specs.Memory.{putIn}
 
 abbrev pub putOf : Option Entry → Option Change

@@ -8,7 +8,8 @@ use Rattle.model.specs.Images.{isPrepared, preparedBy, elapsed, lineExpired}
 use Rattle.model.specs.Writes.{Sheets}
 use Rattle.model.specs.Visits.{numberExpired}
 use Rattle.model.specs.RecoveryPass.{lineUndecided, Readings, readingAfter, expiresAll, expirable, leavesReadings, readingIn, readingsOf}
-use Rattle.call_laws.specs.Lines.{listsKey, unlisted, all-lines, line-passes}
+use Rattle.sheet_laws.specs.KeyOrder.{listsKey}
+use Rattle.call_laws.specs.Lines.{unlisted, all-lines, line-passes}
 use Rattle.call_laws.specs.Sheets.{GoodSheets}
 use Rattle.recovery.specs.View.{listed-good}
 

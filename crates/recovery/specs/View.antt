@@ -6,7 +6,8 @@ use Rattle.model.specs.Records.{isZero, absentRule, stateRule, absentAt, lineOf
 use Rattle.model.specs.Writes.{Sheets, Write, lineAfter, decisionsAfter, apply}
 use Rattle.model.specs.SequentialModel.{Model}
 use Rattle.call_laws.specs.Ranges.{GoodParts, fine, fine-parts}
-use Rattle.call_laws.specs.Lines.{listsKey, unlisted, Still, line-written, line-of-key, line-passes}
+use Rattle.sheet_laws.specs.KeyOrder.{listsKey}
+use Rattle.call_laws.specs.Lines.{unlisted, Still, line-written, line-of-key, line-passes}
 use Rattle.call_laws.specs.Sheets.{GoodSheets}
 use Rattle.recovery.specs.Settling.{settle, Gentle, gentle-settled, gentle-still}
 

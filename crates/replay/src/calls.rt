@@ -4,7 +4,6 @@ ghost use Prim.Native.Nat.{_≤_};
 ghost use Rattle.model.specs.SheetCalls.{lookedUp};
 ghost use Rattle.script_calls.specs.Parts.{keyFrom, partAsked};
 use script::reply;
-use script::reply::Form;
 use script::reply::Reply;
 use script::scan::Command;
 use script::scan::Kind;
@@ -12,7 +11,6 @@ use script_calls::calls;
 use script_calls::calls::Asked;
 use script_calls::slots;
 use script_calls::slots::Turn;
-use types::Found;
 use types::Transaction;
 
 fn check(records: &[u8], coordinator: &[u8]) -> Reply
@@ -24,15 +22,7 @@ fn check(records: &[u8], coordinator: &[u8]) -> Reply
 fn lookup(n: [u32; 14], records: &[u8]) -> Reply
     ensures { λ r. ⌜ r .count ≤ 102 ⌝ }
 {
-    let key = calls::key_at(n, 0);
-    let refused = sheets::lookup::lookup_refusal(records, key);
-    if refused != 0 {
-        return reply::refused(refused);
-    }
-    match sheets::lookup::find(records, key) {
-        Found::At(i) => reply::answer(Form::Made, 1, i as u32, 0, 0),
-        Found::Nothing => reply::refused(6),
-    }
+    calls::rank(sheets::lookup::rank_of(records, calls::key_at(n, 0)))
 }
 
 // What is printed after the reply: the part of the record sheet that the look-up hands back, and an empty part for a call that asks for none.

@@ -5,7 +5,6 @@ ghost use lib.ListN.{getD};
 ghost use Rattle.model.specs.TwoSheets.{lookedUpTwo};
 ghost use Rattle.script_calls.specs.Parts.{keyFrom, partAsked};
 use script::reply;
-use script::reply::Form;
 use script::reply::Reply;
 use script::scan::Command;
 use script::scan::Kind;
@@ -24,11 +23,7 @@ fn check(plain: &[u8], book: &[u8], coordinator: &[u8]) -> Reply
 fn lookup(n: [u32; 14], plain: &[u8], book: &[u8]) -> Reply
     ensures { λ r. ⌜ r .count ≤ 102 ⌝ }
 {
-    let place = two_sheets::lookup::place_of(plain, book, calls::key_at(n, 0));
-    if place.refusal != 0 {
-        return reply::refused(place.refusal);
-    }
-    reply::answer(Form::Made, 1, place.index as u32, 0, 0)
+    calls::rank(two_sheets::lookup::rank_of(plain, book, calls::key_at(n, 0)))
 }
 
 // What is printed after the reply: the part of the named sheet that the look-up hands back, and an empty part for a call that asks for none.

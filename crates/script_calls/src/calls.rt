@@ -11,6 +11,7 @@ use script::scan::Command;
 use script::scan::Kind;
 use types::Columns;
 use types::Key;
+use types::Ranked;
 use types::Request;
 
 // The call that a line asks for, if it asks for one.
@@ -42,6 +43,21 @@ fn columns_at(n: [u32; 14], at: usize) -> Columns
         column1: n[at],
         column2: n[at + 1],
     }
+}
+
+// What the look-up's companion tells: how many lines have smaller keys, and 1 if the key has a line itself, else 0.
+pub fn rank(told: Ranked) -> Reply
+    requires { ⌜ told .rank .below ≤ 500 ⌝ }
+    ensures { λ r. ⌜ r .count ≤ 102 ⌝ }
+{
+    if told.refusal != 0 {
+        return reply::refused(told.refusal);
+    }
+    let below = told.rank.below as u32;
+    if told.rank.present {
+        return reply::answer(Form::Made, 2, below, 1, 0);
+    }
+    reply::answer(Form::Made, 2, below, 0, 0)
 }
 
 // Whether a part of a sheet is printed after the reply: the line that a look-up hands back.

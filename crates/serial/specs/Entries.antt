@@ -10,7 +10,8 @@ use Rattle.model.specs.Records.{sameKey}
 use Rattle.model.specs.Coordinator.{Letter}
 use Rattle.model.specs.Transactions.{held, isPut, mustValidate, toValidate, isEmpty, isSerializable}
 use Rattle.model.specs.WellFormed.{distinctKeys}
-use Rattle.call_laws.specs.Keys.{same-key, same-key-refl, hasKey}
+use Rattle.sheet_laws.specs.KeyOrder.{same-key, same-key-refl}
+use Rattle.call_laws.specs.Keys.{hasKey}
 use Rattle.recovery.specs.Memory.{putIn}
 
 -- nothing is in an empty list

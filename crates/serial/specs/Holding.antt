@@ -15,7 +15,8 @@ use Rattle.model.specs.Steps.{step}
 use Rattle.model.specs.Calls.{holding}
 use Rattle.sheet_laws.specs.Search.{first-by, some-found}
 use Rattle.call_laws.specs.Entries.{getD-first}
-use Rattle.call_laws.specs.Keys.{same-key, hasKey}
+use Rattle.sheet_laws.specs.KeyOrder.{same-key}
+use Rattle.call_laws.specs.Keys.{hasKey}
 use Rattle.call_laws.specs.Keeping.{not-held}
 use Rattle.call_laws.specs.Moved.{step-leaves}
 use Rattle.recovery.specs.Puts.{take-set}

@@ -7,6 +7,8 @@ pub mod ByIndex
 pub mod Search
 pub mod Numbers
 pub mod Keys
+pub mod KeyOrder
+pub mod Ranks
 pub mod Changed
 pub mod Coordinator
 pub mod CoordinatorNumbers

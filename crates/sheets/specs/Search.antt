@@ -1,17 +1,20 @@
 -- The search of a key, line by line and field by field: the first line whose twenty bytes are those of the key's line.
 use Rattle.lists.specs.Basics.{_≡_, refl, sym, ap, ap₂, _∙_, ℕ, zero, suc, _+_, _-_, _*_, _/_, _≤_, _<_, Bool, true, false, cond, true≢false, List, [], _∷_}
-use Rattle.lists.specs.Basics.{_++_, map, length, take, drop, getD, drop-drop, take-add, arith, add-one, all, eqList, eqList-true, eqList-refl, tests}
+use Rattle.lists.specs.Basics.{_++_, map, length, take, drop, getD, drop-drop, take-add, arith, add-one, all, count, less, eqList, eqList-true, eqList-refl, tests}
 use native.Mathlib.Nat.{zero-add}
 use Rattle.lists.specs.Bytes.{ne-eqList}
 use Rattle.lists.specs.Pieces.{take-drop-take, getD-pieces, length-pieces}
+use Rattle.lists.specs.Chosen.{count-map}
 use Rattle.lists.specs.Walks.{LeftFrom, left-here, left-last}
 use Rattle.model.specs.Types.{Key, Record, Found, At, Nothing}
-use Rattle.model.specs.Layouts.{recordLayout, recordBytes, keyBytes, offset, recordOffset}
-use Rattle.model.specs.Lines.{lineSet, linesOf, linesSet}
+use Rattle.model.specs.Layouts.{recordLayout, keyLayout, recordBytes, keyBytes, offset, recordOffset}
+use Rattle.model.specs.Lines.{lineSet, linesOf, linesSet, inRange, rowGood}
 use Rattle.model.specs.Search.{firstFrom}
-use Rattle.model.specs.Records.{records, recordIn, recordsAccepted, keyInRange, sameKey, found}
+use Rattle.model.specs.Records.{stateNumber, keyNumbers, imageNumbers, recordNumbers, absentAt, recordText, records, recordIn, recordsAccepted, keyInRange, keyLess, sameKey, found, rank}
 use Rattle.sheet_laws.specs.Search.{first-map}
-use Rattle.sheet_laws.specs.Keys.{keyLine, key-line-text, key-same}
+use Rattle.sheet_laws.specs.Records.{ranged, record-read-written, record-text-set}
+use Rattle.sheet_laws.specs.Keys.{keyLine, keyText, key-line-text, line-key-text, key-same}
+use Rattle.record_check.specs.Keys.{key-order}
 
 -- where key field f begins
 unfoldable pub edge : ℕ → ℕ
@@ -132,6 +135,65 @@ module _ (s text : List ℕ) (i : ℕ) (here : i < length s / recordBytes) (p : 
 pub pass-last : (s text : List ℕ) (i : ℕ) → length s / recordBytes ≤ i → Passed s text i → Nothing ≡ foundLine 0 text (linesOf recordBytes s)
 unfolding firstFrom
 pass-last s text i l p = left-last (linesOf recordBytes s) (foundLine i text) (foundLine 0 text (linesOf recordBytes s)) i (omega (arith, length-lines s)) p
+
+-- how many lines come before the text in their first twenty bytes
+abbrev pub linesBelow : List ℕ → List (List ℕ) → ℕ
+linesBelow text ls = count (λ (l : List ℕ). less (take keyBytes l) (take keyBytes text)) ls
+
+-- How many of the lines before i do, so that those from i on are left to be counted.
+abbrev pub Counted : (s text : List ℕ) (i below : ℕ) → Type 0
+Counted s text i below =
+    (below ≤ i) × LeftFrom (linesOf recordBytes s) (λ (ls : List (List ℕ)). below + linesBelow text ls) (linesBelow text (linesOf recordBytes s)) i
+
+pub count-first : (s text : List ℕ) → Counted s text 0 0
+count-first s text = (omega arith, record { reached = omega arith; rest = omega arith })
+
+module _ (s text : List ℕ) (i below : ℕ) (c : Counted s text i below) where
+  pub count-last : length s / recordBytes ≤ i → below ≡ linesBelow text (linesOf recordBytes s)
+  unfolding count
+  count-last l =
+      let e = left-last (linesOf recordBytes s) (λ (ls : List (List ℕ)). below + linesBelow text ls) (linesBelow text (linesOf recordBytes s)) i (omega (arith, length-lines s)) (c .1) in
+      omega (arith, e)
+
+  -- the text as it is lent
+  pub count-next : i < length s / recordBytes → (one : ℕ) → one ≡ cond (less (take keyBytes (drop (i * recordBytes) s)) (take keyBytes (drop 0 text))) 1 0 → Counted s text (i + 1) (below + one)
+  unfolding count linesOf
+  count-next here one o =
+      let k : take keyBytes (lineBytesAt s i) ≡ take keyBytes (drop (i * recordBytes) s) = take-drop-take keyBytes 0 recordBytes (drop (i * recordBytes) s) (omega arith) in
+      let e : lineBytesAt s i ≡ getD (linesOf recordBytes s) i [] = sym (getD-pieces recordBytes i (length s / recordBytes) s here) in
+      let f = left-here (linesOf recordBytes s) (λ (ls : List (List ℕ)). below + linesBelow text ls) [] (lineBytesAt s i) (linesBelow text (linesOf recordBytes s)) i (omega (arith, length-lines s)) e (c .1) in
+      go (less (take keyBytes (lineBytesAt s i)) (take keyBytes text)) (o ∙ ap (λ (t : List ℕ). cond (less t (take keyBytes text)) 1 0) (sym k)) f
+    where
+      m : ℕ
+      m = linesBelow text (drop (i + 1) (linesOf recordBytes s))
+
+      go : (b : Bool) → one ≡ cond b 1 0 → below + cond b (suc m) m ≡ linesBelow text (linesOf recordBytes s) → Counted s text (i + 1) (below + one)
+      go true x f = (omega arith, record { reached = omega (arith, length-lines s); rest = omega (arith, x, f) })
+      go false x f = (omega arith, record { reached = omega (arith, length-lines s); rest = omega (arith, x, f) })
+
+-- a key in range is that of a record in range
+absent-ranged : (k : Key) → ranged (absentAt k) ≡ keyInRange k
+unfolding keyInRange inRange rowGood recordNumbers imageNumbers keyNumbers stateNumber keyLayout recordLayout
+absent-ranged k = refl
+
+-- a line that can be read comes before a key line as its key comes before the key
+below-key : (k : Key) → keyInRange k ≡ true → (l : List ℕ) → lineSet recordLayout l ≡ true → keyLess (recordIn l .key) k ≡ less (take keyBytes l) (take keyBytes (keyLine k))
+below-key k g l o =
+    let good : ranged (absentAt k) ≡ true = absent-ranged k ∙ g in
+    let same : recordIn (recordText (absentAt k)) ≡ absentAt k = record-read-written (absentAt k) good in
+    let set = record-text-set (absentAt k) good in
+    let text : take keyBytes (recordText (absentAt k)) ≡ take keyBytes (keyLine k) =
+    line-key-text (recordText (absentAt k)) set ∙ (ap (λ (r : Record). keyText (r .key)) same ∙ sym (key-line-text k)) in
+    sym
+    (ap (less (take keyBytes l)) (sym text)
+    ∙ (key-order l (recordText (absentAt k)) o set ∙ ap (λ (r : Record). keyLess (recordIn l .key) (r .key)) same))
+
+-- the lines that come before a key line are those that have smaller keys
+pub count-is : (s : List ℕ) (k : Key) → recordsAccepted s ≡ true → keyInRange k ≡ true → linesBelow (keyLine k) (linesOf recordBytes s) ≡ rank k (records s)
+unfolding recordsAccepted linesSet records rank
+count-is s k a g =
+    let w : all (lineSet recordLayout) (linesOf recordBytes s) ≡ true = search tests in
+    sym (count-map (λ (r : Record). keyLess (r .key) k) recordIn (lineSet recordLayout) _ (below-key k g) (linesOf recordBytes s) w)
 
 -- the line that begins as a key line does is the one that has the key
 pub search-is : (s : List ℕ) (k : Key) → recordsAccepted s ≡ true → keyInRange k ≡ true → foundLine 0 (keyLine k) (linesOf recordBytes s) ≡ found k (records s)

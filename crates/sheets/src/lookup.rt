@@ -1,17 +1,16 @@
 // The line that has a key.
 ghost use mathlib.Core.Path.{_≡_};
-ghost use mathlib.Core.Bool.{true};
+ghost use mathlib.Core.Bool.{true, false};
 ghost use Prim.Native.Nat.{_+_, _<_, _≤_};
 ghost use lib.ListN.{length};
 ghost use Rattle.lists.specs.Bytes.{eqList};
 ghost use Rattle.model.specs.Layouts.{recordBytes};
-ghost use Rattle.model.specs.Records.{recordsAccepted, keyInRange, found, keyNumbers};
+ghost use Rattle.model.specs.Records.{recordsAccepted, keyInRange, ranked, keyNumbers};
 ghost use Rattle.model.specs.Records as model;
 ghost use Rattle.sheet_laws.specs.Keys.{keyLine};
 ghost use Rattle.model.specs.Lines.{linesOf};
-ghost use Rattle.model.specs.Refusals.{refusalOf};
-ghost use Rattle.model.specs.SheetCalls.{lookedUp, lookupConditions};
-ghost use Rattle.sheets.specs.Search.{keyField, foundLine};
+ghost use Rattle.model.specs.SheetCalls.{lookedUp, rankOn};
+ghost use Rattle.sheets.specs.Search.{keyField, foundLine, linesBelow};
 use codec::fields::in_range;
 use codec::layouts::NAMESPACE;
 use codec::layouts::PARTITION;
@@ -20,6 +19,8 @@ use types::Found;
 use types::Key;
 use types::Layout;
 use types::RECORD_BYTES;
+use types::Rank;
+use types::Ranked;
 
 // Where each key field begins, and the end of the last.
 const EDGES: [usize; 6] = [0, 2, 5, 8, 14, 20];
@@ -85,14 +86,37 @@ fn find_line(records: &[u8], text: &[u8]) -> Found
     Found::Nothing
 }
 
-// The index of the line that has the key, in an accepted sheet.
-pub fn find(records: &[u8], key: Key) -> Found
+// How many lines come before a key line, as their bytes do.
+fn count_below(records: &[u8], text: &[u8]) -> usize
+    requires { ⌜ 21 ≤ length (now text) ⌝ }
+    ensures { λ r. ⌜ r ≡ linesBelow (now (text .entry)) (linesOf recordBytes (now (records .entry))) ⌝ }
+{
+    let n = records.len() / RECORD_BYTES;
+    let mut below = 0;
+    for i in 0..n {
+        let smaller = line_bytes::key_less(records, i * RECORD_BYTES, text, 0);
+        below += line_bytes::bit(smaller) as usize;
+    }
+    below
+}
+
+// Where the key stands on an accepted sheet, or would stand. Lines are counted only where none has the key: else the index of its line is the rank.
+pub fn rank(records: &[u8], key: Key) -> Rank
     requires { ⌜ recordsAccepted (now records) ≡ true ⌝ }
     requires { ⌜ keyInRange key ≡ true ⌝ }
-    ensures { λ r. ⌜ r ≡ found key (model.records (now (records .entry))) ⌝ }
+    ensures { λ r. ⌜ r ≡ ranked key (model.records (now (records .entry))) ⌝ }
 {
     let text = key_line(key);
-    find_line(records, &text)
+    match find_line(records, &text) {
+        Found::At(i) => Rank {
+            below: i,
+            present: true,
+        },
+        Found::Nothing => Rank {
+            below: count_below(records, &text),
+            present: false,
+        },
+    }
 }
 
 // Every field of the key is in its range.
@@ -116,28 +140,41 @@ pub fn lookup(records: &[u8], key: Key) -> &[u8]
     if !key_in_range(key) {
         return &records[..0];
     }
-    match find(records, key) {
-        Found::At(i) => {
-            let at = i * RECORD_BYTES;
-            let end = at + RECORD_BYTES;
-            &records[at..end]
-        }
-        Found::Nothing => &records[..0],
+    let found = rank(records, key);
+    if !found.present {
+        return &records[..0];
+    }
+    let at = found.below * RECORD_BYTES;
+    let end = at + RECORD_BYTES;
+    &records[at..end]
+}
+
+// Where nothing is told: the refusal alone.
+pub fn no_rank(refusal: u32) -> Ranked
+    ensures { λ r. ⌜ r ≡ record { refusal = refusal; rank = record { below = 0; present = false } } ⌝ }
+{
+    Ranked {
+        refusal,
+        rank: Rank {
+            below: 0,
+            present: false,
+        },
     }
 }
 
-// The number that belongs to the look-up: 0, or the refusal.
-pub fn lookup_refusal(records: &[u8], key: Key) -> u32
-    ensures { λ r. ⌜ r ≡ refusalOf (lookupConditions (now (records .entry)) key) ⌝ }
+// The look-up's companion: how many lines have smaller keys, and whether the key has a line itself.
+pub fn rank_of(records: &[u8], key: Key) -> Ranked
+    ensures told { λ r. ⌜ r ≡ rankOn (now (records .entry)) key ⌝ }
+    ensures few { λ r. ⌜ r .rank .below ≤ 500 ⌝ }
 {
     if !record_check::records_ok(records) {
-        return 1;
+        return no_rank(1);
     }
     if !key_in_range(key) {
-        return 5;
+        return no_rank(5);
     }
-    match find(records, key) {
-        Found::At(_) => 0,
-        Found::Nothing => 6,
+    Ranked {
+        refusal: 0,
+        rank: rank(records, key),
     }
 }

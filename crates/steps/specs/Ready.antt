@@ -8,7 +8,8 @@ use Rattle.model.specs.Transactions.{toValidate, mustValidate, held, puts, move
 use Rattle.model.specs.Groups.{groupCount}
 use Rattle.model.specs.WellFormed.{wellFormed, placeFormed}
 use Rattle.model.specs.ByteCalls.{sheetsOf}
-use Rattle.call_laws.specs.Keys.{hasKey, kept-key, same-key-refl}
+use Rattle.sheet_laws.specs.KeyOrder.{same-key-refl}
+use Rattle.call_laws.specs.Keys.{hasKey, kept-key}
 use Rattle.call_laws.specs.Transactions.{Body, Stage, well-formed-parts, place-at}
 use Rattle.model.specs.ByteHistories.{Readable}
 use Rattle.call_laws.specs.Lifting.{readable-both}

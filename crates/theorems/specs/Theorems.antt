@@ -1,11 +1,11 @@
 -- What is proved of the engine: every headline statement, in the words of the definitions of `model`, each by citing the law that proves it. Document 02, note 4, is in TwoTheorems.
 -- The engine's contracts cite the same definitions, so that what holds of `answerOn`, `afterOn`, `responseOn` and `responseAtOn` holds of the functions that run.
-use Rattle.lists.specs.Basics.{_≡_, ap, _∙_, ℕ, _+_, _*_, _%_, _^_, _≤_, _<_, true, List, [], _∷_, map, length, take, some, all, bytes}
-use Rattle.model.specs.Types.{Key, Record, Committed, Transaction, Forward, Request}
+use Rattle.lists.specs.Basics.{_≡_, ap, _∙_, ℕ, _+_, _*_, _%_, _^_, _≤_, _<_, true, false, cond, List, [], _∷_, map, length, take, drop, some, all, any, bytes}
+use Rattle.model.specs.Types.{Key, Record, Committed, At, Nothing, Transaction, Forward, Request}
 use Rattle.model.specs.Layouts.{recordBytes}
 use Rattle.model.specs.Lines.{text}
 use Rattle.model.specs.Groups.{unitFields}
-use Rattle.model.specs.Records.{records, recordsText, recordsGood, recordsAccepted, lineOf, hasLine}
+use Rattle.model.specs.Records.{keyLess, records, recordsText, recordsGood, recordsAccepted, found, lineOf, hasLine, rank}
 use Rattle.model.specs.Coordinator.{Letter, Coordinator, coordinatorOf, coordinatorText, coordinatorGood, coordinatorReadable, allCapitals, coordinatorAccepted}
 use Rattle.model.specs.Refusals.{Condition, firstAsked}
 use Rattle.model.specs.Images.{isPrepared, rolledForward}
@@ -29,10 +29,11 @@ use Rattle.model.specs.Clients.{Act, World, Unused, turnsOf, clockFits}
 use Rattle.model.specs.Recovered.{Recovered, modelOn, bytesRecovered}
 use Rattle.model.specs.SerialOrder.{callsOn, begunChecked, serialOrder, serialLine, Serializable}
 use Rattle.model.specs.Cases.{Case, cases, twelve-cases}
-use Rattle.model.specs.Notes.{noteCases, note-cases, five-letters}
+use Rattle.model.specs.Notes.{noteCases, note-cases, five-letters, rankAt, standing, shared-place}
 use Rattle.sheet_laws.specs.Records as RecordLaws
 use Rattle.sheet_laws.specs.Coordinator as CoordinatorLaws
 use Rattle.sheet_laws.specs.Decisions as DecisionLaws
+use Rattle.sheet_laws.specs.Ranks as Ranks
 use Rattle.call_laws.specs.Exactness as Exactness
 use Rattle.call_laws.specs.Sheets.{good-parts}
 use Rattle.call_laws.specs.Lifting.{passing-good}
@@ -149,6 +150,20 @@ note-cases-hold = note-cases
 -- DOCUMENT 02, NOTE 3: the letters R, P, T, N and S, RECORD to STORAGE, compare 5, 4, 3, 2 and 1 fields of a key
 pub unit-letters : map (λ (l : Letter). unitFields (l .unit)) (take 5 (coordinatorOf (text (bytes "   0 RPTNSRRRR" ∷ bytes "   1         -" ∷ [])) .units)) ≡ 5 ∷ 4 ∷ 3 ∷ 2 ∷ 1 ∷ []
 unit-letters = five-letters
+
+-- DOCUMENT 02, NOTE 5, of every accepted record sheet: the place of a key's line is the number of lines with smaller keys, those lines stand above it, and no later
+-- line has a smaller key; "two keys without lines may share a place", as the third and the fourth of these do
+pub rank-is-place : (k : Key) (s : List ℕ) → recordsAccepted s ≡ true → found k (records s) ≡ cond (hasLine k (records s)) (At (rank k (records s))) Nothing
+rank-is-place k s a = Ranks.found-by-rank k (records s) (Ranks.accepted-order s a)
+
+pub smaller-above : (k : Key) (s : List ℕ) → recordsAccepted s ≡ true → all (λ (r : Record). keyLess (r .key) k) (take (rank k (records s)) (records s)) ≡ true
+smaller-above k s a = Ranks.rank-above k (records s) (Ranks.accepted-order s a)
+
+pub none-smaller-behind : (k : Key) (s : List ℕ) → recordsAccepted s ≡ true → any (λ (r : Record). keyLess (r .key) k) (drop (rank k (records s)) (records s)) ≡ false
+none-smaller-behind k s a = Ranks.rank-behind k (records s) (Ranks.accepted-order s a)
+
+pub places-shared : map rankAt (0 ∷ 1 ∷ 2 ∷ 3 ∷ 4 ∷ 5 ∷ []) ≡ standing 0 false ∷ standing 0 true ∷ standing 1 false ∷ standing 1 false ∷ standing 1 true ∷ standing 2 false ∷ []
+places-shared = shared-place
 
 -- DOCUMENT 02, NOTE 1, for every input at a clock reading below 2^32, as every u32 is.
 

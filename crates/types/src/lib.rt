@@ -151,6 +151,18 @@ pub enum Found {
     Nothing,
 }
 
+// Where a key stands on a sheet or would stand: how many lines have smaller keys, and whether the key has a line itself.
+pub struct Rank {
+    pub below: usize,
+    pub present: bool,
+}
+
+// The same of any sheet and key: a refusal, or 0 and where the key stands. Beside a refusal the rank is 0, and the key not present.
+pub struct Ranked {
+    pub refusal: u32,
+    pub rank: Rank,
+}
+
 // The columns that a put brings, or a read answers.
 #[repr(C)]
 pub struct Columns {

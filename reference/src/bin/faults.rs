@@ -9,7 +9,9 @@ use reference::conversions::{self, Conversion};
 use reference::exported::{self, Call, Lent};
 use reference::faults::{self, TITLES};
 use reference::make::Sheets;
+use reference::plain::key::Key;
 use reference::plain::visitor;
+use reference::replay::laid_out::LaidOut;
 use reference::replay::{replay, Layout};
 use std::panic::{catch_unwind, set_hook, AssertUnwindSafe};
 use std::process::ExitCode;
@@ -54,6 +56,11 @@ impl Subject for Faulty {
 
     fn written(&self, before: &Sheets, after: &Sheets, lines: &mut [u32]) -> u32 {
         let answer = self.make(|| exported::written_by_plain(before, after, lines));
+        answer.unwrap_or(u32::MAX)
+    }
+
+    fn rank(&self, sheets: &LaidOut, key: Key, target: &mut [u32]) -> u32 {
+        let answer = self.make(|| exported::rank_by_plain(sheets, key, target));
         answer.unwrap_or(u32::MAX)
     }
 }

@@ -1,15 +1,19 @@
 //! The comparison: cases made from seeds, each with what is expected of it, and an implementation held against them.
 
 pub mod clients;
+pub mod ranked;
 pub mod rounds;
 
 use crate::conversions::{self, Conversion};
 use crate::exported::{self, Call, Lent};
 use crate::make::Sheets;
+use crate::plain::key::Key;
 use crate::plain::visitor;
+use crate::replay::laid_out::LaidOut;
 use crate::replay::{self, replay, Layout};
 use crate::seen::is_call;
 use clients::ClientHistory;
+use ranked::Ranked;
 
 /// What is held against `plain`: three programs, and the functions for C.
 pub trait Subject {
@@ -21,6 +25,8 @@ pub trait Subject {
     fn convert(&self, conversion: Conversion, lent: &mut conversions::Lent) -> u32;
     /// What differs between the sheets, with the lines told.
     fn written(&self, before: &Sheets, after: &Sheets, lines: &mut [u32]) -> u32;
+    /// Where the key stands, told in the target.
+    fn rank(&self, sheets: &LaidOut, key: Key, target: &mut [u32]) -> u32;
 }
 
 /// An input and what `plain` makes of it.
@@ -54,6 +60,7 @@ pub enum Case {
         answer: u32,
         told: Vec<u32>,
     },
+    Rank(Ranked),
     Clients(ClientHistory),
 }
 
@@ -116,7 +123,8 @@ impl Case {
             Case::Visit { .. }
             | Case::Call { .. }
             | Case::Convert { .. }
-            | Case::Written { .. } => 1,
+            | Case::Written { .. }
+            | Case::Rank(_) => 1,
         }
     }
 
@@ -135,31 +143,34 @@ impl Case {
                 lent,
                 answer,
                 after,
-            } => {
-                let mut lent = lent.clone();
-                subject.call(call, &mut lent) == *answer && lent == *after
-            }
+            } => leaves(lent, |l| subject.call(call, l), answer, after),
             Case::Convert {
                 conversion,
                 lent,
                 answer,
                 after,
-            } => {
-                let mut lent = lent.clone();
-                subject.convert(*conversion, &mut lent) == *answer && lent == *after
-            }
+            } => leaves(lent, |l| subject.convert(*conversion, l), answer, after),
             Case::Written {
                 sheets: [before, after],
                 lines,
                 answer,
                 told,
-            } => {
-                let mut lines = lines.clone();
-                subject.written(before, after, &mut lines) == *answer && lines == *told
-            }
+            } => leaves(lines, |l| subject.written(before, after, l), answer, told),
+            Case::Rank(ranked) => ranked.holds(subject),
             Case::Clients(history) => history.difference(subject).is_none(),
         }
     }
+}
+
+/// Whether the call answers this and leaves what it is lent like this.
+fn leaves<L: Clone + PartialEq, A: PartialEq>(
+    lent: &L,
+    call: impl FnOnce(&mut L) -> A,
+    answer: &A,
+    after: &L,
+) -> bool {
+    let mut lent = lent.clone();
+    call(&mut lent) == *answer && lent == *after
 }
 
 /// How many calls a replay has made when it prints the byte at this place of its output.

@@ -80,6 +80,34 @@ pub fn key_of(random: &mut Random, times: usize, records: &[Record]) -> Key {
     Key::from_numbers(numbers)
 }
 
+/// A key to be looked up: most often as above, else one beside a line's.
+pub fn sought_key(random: &mut Random, times: usize, records: &[Record]) -> Key {
+    match random.once_in(3) {
+        true => key_beside(random, records),
+        false => key_of(random, times, records),
+    }
+}
+
+/// A line's key with a field one more or less, or with the last fields of another's; seldom the least or the greatest key.
+fn key_beside(random: &mut Random, records: &[Record]) -> Key {
+    let mut numbers = random.pick(records).key.numbers();
+    let other = random.pick(records).key.numbers();
+    let field = random.below(5);
+    match random.below(8) {
+        0 => numbers = random.pick(&[[1, 1, 1, 0, 0], [9, 99, 99, 99_999, 99_999]]),
+        1 | 2 => numbers[field..].copy_from_slice(&other[field..]),
+        3..=5 => numbers[field] += 1,
+        _ => numbers[field] = numbers[field].saturating_sub(1),
+    }
+    Key::from_numbers(numbers)
+}
+
+/// A target for two numbers, whose length is seldom another.
+pub fn target(random: &mut Random) -> Vec<u32> {
+    let length = random.pick(&[0, 1, 2, 2, 2, 2, 2, 2, 2, 2, 2, 2, 2, 2, 3, 4]);
+    (0..length).map(|_| random.draw() as u32).collect()
+}
+
 /// Two put columns, seldom too large, more often where something else is wrong too.
 pub fn columns(random: &mut Random, wrong: bool) -> [u32; 2] {
     let seldom = if wrong { 4 } else { 24 };

@@ -1,6 +1,6 @@
 //! Exported calls out of random histories or from nowhere, at times on damaged or forged sheets.
 
-use super::arguments::{any_key, key_of};
+use super::arguments::{sought_key, target};
 use super::closes;
 use super::expiry::clock_for_step;
 use super::halfway;
@@ -9,16 +9,25 @@ use super::lists::{asked, list_of, no_call, other, unused};
 use super::random::Random;
 use super::requests::{begin, stray};
 use super::scripts::damaged_sheets;
+use super::sheets::{Mix, Size};
 use super::transactions::forged_begun;
 use super::two_orders::crossed;
 use super::two_sheets::letters;
 use super::{any, sheets, Sheets};
+use crate::compare::ranked::Ranked;
 use crate::exported::{Call, Lent};
+use crate::plain::key::Key;
 use crate::plain::request::Request;
 use crate::plain::store::Store;
 use crate::plain::transaction::{Transaction, MOST_LISTED};
 use crate::replay::laid_out::LaidOut;
 use crate::replay::Layout;
+
+const MANY_LINES: Size = Size {
+    records: 500,
+    decisions: 1,
+    issued: 0,
+};
 
 /// The history's next call, by place unless it is a visit, and what it is lent.
 pub fn next(random: &mut Random, layout: Layout, history: &mut History) -> (Call, Lent) {
@@ -80,18 +89,34 @@ pub fn check(random: &mut Random, layout: Layout) -> (Call, Lent) {
     (Call::Check, without_list(sheets))
 }
 
-/// A look-up in sheets of every kind.
+/// The look-up of a line's place.
 pub fn lookup(random: &mut Random, layout: Layout) -> (Call, Lent) {
-    let sheets = accepted(random, layout);
+    let (key, sheets) = sought(random, layout);
+    (Call::Lookup { key }, without_list(sheets))
+}
+
+pub fn rank(random: &mut Random, layout: Layout) -> Ranked {
+    let (key, sheets) = sought(random, layout);
+    Ranked::new(sheets, key, target(random))
+}
+
+/// A key, and sheets of every kind to look it up in. Some have so many lines that a rank takes more than a byte.
+fn sought(random: &mut Random, layout: Layout) -> (Key, LaidOut) {
+    let sheets = match random.once_in(12) {
+        true => sheets::of_size(random, MANY_LINES, Mix::Settled),
+        false => accepted(random, layout),
+    };
     let records = sheets.store().records;
-    let (key, sheets) = match random.once_in(3) {
+    match random.once_in(3) {
         true => {
-            let key = key_of(random, 4, &records);
+            let key = sought_key(random, 4, &records);
             (key, damaged_sheets(random, layout, sheets))
         }
-        false => (any_key(random, &records), LaidOut::of(layout, sheets)),
-    };
-    (Call::Lookup { key }, without_list(sheets))
+        false => {
+            let key = sought_key(random, 16, &records);
+            (key, LaidOut::of(layout, sheets))
+        }
+    }
 }
 
 pub fn without_list(sheets: LaidOut) -> Lent {

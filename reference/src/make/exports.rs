@@ -2,7 +2,7 @@
 
 use super::any;
 use super::conversions::conversion;
-use super::exported::{check, from_nowhere, lookup, next, without_list};
+use super::exported::{check, from_nowhere, lookup, next, rank, without_list};
 use super::history::{History, Rule};
 use super::random::Random;
 use super::sheets::{of_size, Mix, Size};
@@ -25,7 +25,7 @@ const FULL: Size = Size {
 pub fn cases(random: &mut Random, seen: &mut Seen, layout: Layout) -> Vec<Case> {
     let mut cases = by_place(random, layout, 250, 150);
     cases.extend((0..300).map(|_| case(check(random, layout))));
-    cases.extend((0..25).map(|_| case(lookup(random, layout))));
+    cases.extend(looked_up(random, layout));
     if layout == Layout::Joined {
         cases.extend((0..250).map(|_| {
             let (conversion, lent) = conversion(random);
@@ -39,11 +39,19 @@ pub fn cases(random: &mut Random, seen: &mut Seen, layout: Layout) -> Vec<Case> 
 /// Calls by place, for the most part.
 pub fn cases_by_place(random: &mut Random, seen: &mut Seen, layout: Layout) -> Vec<Case> {
     let mut cases = by_place(random, layout, 900, 200);
-    cases.extend((0..25).map(|_| case(lookup(random, layout))));
+    cases.extend(looked_up(random, layout));
     if layout == Layout::Joined {
         cases.extend(told(random));
     }
     noted(cases, seen)
+}
+
+/// Look-ups of places and of ranks.
+fn looked_up(random: &mut Random, layout: Layout) -> Vec<Case> {
+    let places = (0..25).map(|_| case(lookup(random, layout)));
+    let mut cases: Vec<Case> = places.collect();
+    cases.extend((0..25).map(|_| Case::Rank(rank(random, layout))));
+    cases
 }
 
 /// Sheets before and after, and the version.

@@ -1,7 +1,7 @@
 //! Scripts of several kinds: demand 3's lists with the sequential model, lists of any calls, orders closed write by write,
 //! orders that stopped half-way, and calls on damaged sheets.
 
-use super::arguments::{any_key, clock, key_of, limit};
+use super::arguments::{any_key, clock, limit, sought_key};
 use super::bad_lines::bad_line;
 use super::closes;
 use super::closing::close;
@@ -259,10 +259,9 @@ fn beside(random: &mut Random, seen: &mut Seen, script: &mut Script, history: &H
     script.add(seen, line);
 }
 
-/// The place of a key's line, or the line of a sheet, seldom of one that there isn't. Once in so many times the key has a
-/// field out of range.
+/// Where a key stands, or its line on a sheet, seldom on one that there isn't.
 fn looked_up(random: &mut Random, times: usize, layout: Layout, records: &[Record]) -> Line {
-    let key = key_of(random, times, records);
+    let key = sought_key(random, times, records);
     if random.once_in(2) {
         return Line::Lookup { key };
     }

@@ -1,10 +1,11 @@
 //! Sheets before and after, whose differences are to be told: unlike in some lines, or such as no call leaves.
 
+use super::arguments::target;
 use super::damage::{damage, COORDINATOR_LINE, RECORD_LINE};
 use super::random::Random;
 use super::{any, sheets, Sheets};
 
-/// Two pairs of sheets and the target for what is told of them, whose length is seldom another than 2.
+/// Two pairs of sheets and the target for what is told of them.
 pub fn unlike(random: &mut Random) -> (Sheets, Sheets, Vec<u32>) {
     let before = match random.once_in(6) {
         true => any(random),
@@ -24,9 +25,7 @@ pub fn unlike(random: &mut Random) -> (Sheets, Sheets, Vec<u32>) {
         _ => bytes(random, &mut after),
     }
     let (before, after) = alike_in_length(random, before, after);
-    let length = random.pick(&[0, 1, 2, 2, 2, 2, 2, 2, 2, 2, 2, 2, 2, 2, 3, 4]);
-    let lines = (0..length).map(|_| random.draw() as u32).collect();
-    (before, after, lines)
+    (before, after, target(random))
 }
 
 /// Seldom both have the same part of a line at their ends, or nothing at all.

@@ -8,6 +8,7 @@ pub mod field;
 pub mod groups;
 pub mod key;
 pub mod numbers;
+pub mod rank;
 pub mod record;
 pub mod request;
 pub mod steps;
@@ -20,7 +21,7 @@ pub mod writes;
 pub mod written;
 
 use key::Key;
-use record::Record;
+use rank::Rank;
 use store::Store;
 
 /// Whether bookkeeping stands on the record sheet or on one of its own.
@@ -59,9 +60,9 @@ pub const BUSY: u32 = 12;
 /// The two sheets differ in number of lines or in a key.
 pub const SHEETS_DIFFER: u32 = 13;
 
-/// The version of the functions for C: 2.1.0.
+/// The version of the functions for C: 2.2.0.
 pub fn version() -> u32 {
-    20_100
+    20_200
 }
 
 /// 0 where both sheets are accepted, else the refusal.
@@ -72,15 +73,15 @@ pub fn check(records: &[u8], coordinator: &[u8]) -> u32 {
     }
 }
 
-/// The place of the key's line in the sheet, from 0, or the refusal.
-pub fn lookup(records: &[u8], key: [u32; 5]) -> Result<usize, u32> {
+/// Where the key stands in the sheet, or refusal 1 or 5.
+pub fn rank(records: &[u8], key: [u32; 5]) -> Result<Rank, u32> {
     let records = record::read_sheet(records).ok_or(BAD_RECORDS)?;
-    place_of(&records, &Key::from_numbers(key))
+    Rank::among(&records, &Key::from_numbers(key))
 }
 
-/// The key's line as a part of the sheet, LF counted; an empty part where it is refused.
+/// The key's line as a part of the sheet, LF counted; an empty part where the rank is refused or the key has no line.
 pub fn line_of(records: &[u8], key: [u32; 5]) -> &[u8] {
-    match lookup(records, key) {
+    match rank(records, key).and_then(|rank| rank.place()) {
         Ok(place) => &records[place * record::LINE..][..record::LINE],
         Err(_) => &[],
     }
@@ -89,13 +90,4 @@ pub fn line_of(records: &[u8], key: [u32; 5]) -> &[u8] {
 /// The refusal unless what was asked for holds.
 fn require(holds: bool, refusal: u32) -> Result<(), u32> {
     holds.then_some(()).ok_or(refusal)
-}
-
-/// The place of the key's line among these records, or the refusal.
-fn place_of(records: &[Record], key: &Key) -> Result<usize, u32> {
-    if !key.in_range() {
-        return Err(KEY_OUT_OF_RANGE);
-    }
-    let place = records.iter().position(|r| r.key == *key);
-    place.ok_or(NO_LINE)
 }

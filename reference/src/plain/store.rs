@@ -2,9 +2,10 @@
 
 use super::coordinator::{self, Coordinator, Decision};
 use super::key::Key;
+use super::rank::Rank;
 use super::record::{self, Record, State};
 use super::two_sheets;
-use super::{place_of, require, BAD_COORDINATOR, BAD_RECORDS, BUSY, SHEETS_DIFFER};
+use super::{require, BAD_COORDINATOR, BAD_RECORDS, BUSY, SHEETS_DIFFER};
 
 #[derive(Clone, Debug, PartialEq, Eq)]
 pub struct Store {
@@ -79,7 +80,7 @@ impl Store {
 
     /// The place of the key's line, or refusal 5 or 6.
     pub fn place_of(&self, key: &Key) -> Result<usize, u32> {
-        place_of(&self.records, key)
+        Rank::among(&self.records, key)?.place()
     }
 
     /// The line of a key that has one.

@@ -3,9 +3,10 @@
 
 use super::field::{read_figure, write_figure, write_word};
 use super::key::Key;
+use super::rank::Rank;
 use super::record::{self, state_word, Image, Record, MOST_LINES};
 use super::store::Store;
-use super::{place_of, require, ACCEPTED, BAD_RECORDS, SHEETS_DIFFER};
+use super::{require, ACCEPTED, BAD_RECORDS, SHEETS_DIFFER};
 
 /// Bytes of a line of each sheet, LF counted.
 pub const PLAIN_LINE: usize = 39;
@@ -135,17 +136,18 @@ pub fn check(plain: &[u8], bookkeeping: &[u8], coordinator: &[u8]) -> u32 {
     }
 }
 
-/// The place of the key's line in either sheet, from 0, or refusal 1, 13, 5 or 6.
-pub fn lookup(plain: &[u8], bookkeeping: &[u8], key: Key) -> Result<usize, u32> {
+/// Where the key stands in either sheet, or refusal 1, 13 or 5.
+pub fn rank(plain: &[u8], bookkeeping: &[u8], key: Key) -> Result<Rank, u32> {
     let (records, join) = read(plain, bookkeeping).ok_or(BAD_RECORDS)?;
     require(join, SHEETS_DIFFER)?;
-    place_of(&records, &key)
+    Rank::among(&records, &key)
 }
 
-/// The key's line as a part of the sheet that is named, LF counted; an empty part where the look-up is refused or no
-/// sheet has that number.
+/// The key's line as a part of the sheet that is named, LF counted; an empty part where the rank is refused, the key has no
+/// line or no sheet has that number.
 pub fn line_of<'a>(plain: &'a [u8], bookkeeping: &'a [u8], sheet: u32, key: Key) -> &'a [u8] {
-    let Ok(place) = lookup(plain, bookkeeping, key) else {
+    let place = rank(plain, bookkeeping, key).and_then(|rank| rank.place());
+    let Ok(place) = place else {
         return &[];
     };
     match sheet {

@@ -5,6 +5,7 @@ use crate::make::{Sheets, TwoSheets};
 use crate::plain::by_place::{self, Asked};
 use crate::plain::field::read_figure;
 use crate::plain::key::Key;
+use crate::plain::rank::Rank;
 use crate::plain::request::{Answer, Request};
 use crate::plain::store::Store;
 use crate::plain::transaction::Transaction;
@@ -89,6 +90,14 @@ impl LaidOut {
         }
     }
 
+    /// How many lines the record sheet or the plain sheet has.
+    pub fn lines(&self) -> usize {
+        match self {
+            LaidOut::Joined(s) => s.records.len() / record::LINE,
+            LaidOut::Two(s) => s.plain.len() / PLAIN_LINE,
+        }
+    }
+
     /// The sheets in the order of an input.
     fn sheets(&self) -> Vec<u8> {
         match self {
@@ -106,9 +115,9 @@ impl LaidOut {
     pub fn input(&self) -> Vec<u8> {
         let decisions = |sheet: &[u8]| sheet.len() / coordinator::LINE - 1;
         let counts = match self {
-            LaidOut::Joined(s) => vec![s.records.len() / record::LINE, decisions(&s.coordinator)],
+            LaidOut::Joined(s) => vec![self.lines(), decisions(&s.coordinator)],
             LaidOut::Two(s) => vec![
-                s.plain.len() / PLAIN_LINE,
+                self.lines(),
                 s.bookkeeping.len() / BOOKKEEPING_LINE,
                 decisions(&s.coordinator),
             ],
@@ -160,11 +169,17 @@ impl LaidOut {
         store.ok()
     }
 
-    pub fn lookup(&self, key: Key) -> Result<usize, u32> {
+    /// Where the key stands among the lines.
+    pub fn rank(&self, key: Key) -> Result<Rank, u32> {
         match self {
-            LaidOut::Joined(s) => plain::lookup(&s.records, key.numbers()),
-            LaidOut::Two(s) => two_sheets::lookup(&s.plain, &s.bookkeeping, key),
+            LaidOut::Joined(s) => plain::rank(&s.records, key.numbers()),
+            LaidOut::Two(s) => two_sheets::rank(&s.plain, &s.bookkeeping, key),
         }
+    }
+
+    /// The place of the key's line.
+    pub fn lookup(&self, key: Key) -> Result<usize, u32> {
+        self.rank(key)?.place()
     }
 
     /// The line of the key, on two sheets of the one named.

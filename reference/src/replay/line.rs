@@ -48,6 +48,7 @@ pub enum Line {
         key: Key,
         now: u32,
     },
+    /// Where a key stands.
     Lookup {
         key: Key,
     },

@@ -2,6 +2,7 @@
 
 use super::laid_out::LaidOut;
 use super::line::words;
+use crate::plain::rank::Rank;
 use crate::plain::store::Visit;
 use crate::plain::transaction::{Reading, Transaction, MOST_ENTRIES};
 
@@ -17,8 +18,7 @@ pub enum Reply {
     /// The transaction as it was left, and how many writes were made.
     Closed(Transaction, u32),
     Visited(Visit),
-    /// The place of a line, from 0.
-    Found(usize),
+    Ranked(Rank),
     /// A line of a sheet without its LF.
     Line(Vec<u8>),
     Shown(Transaction),
@@ -40,7 +40,7 @@ impl Reply {
                 format!("ok {}", words(&[*writes, t.phase, t.place, t.verdict]))
             }
             Reply::Visited(visit) => format!("ok {}", visit_text(*visit)),
-            Reply::Found(place) => format!("ok {place}"),
+            Reply::Ranked(rank) => format!("ok {}", words(&rank.numbers())),
             Reply::Line(line) => format!("ok {}", String::from_utf8_lossy(line)),
             Reply::Shown(transaction) => format!("ok {}", words(&shown(transaction))),
             Reply::Sheets(sheets) => return sheets.printed(),

@@ -26,7 +26,7 @@ impl ReplayState {
     pub fn make(&mut self, line: &Line) -> Reply {
         match *line {
             Line::Check => self.check(),
-            Line::Lookup { key } => self.lookup(key),
+            Line::Lookup { key } => self.rank(key),
             Line::LineOf { sheet, key } => self.line_of(sheet, key),
             Line::Show { slot } => Reply::Shown(self.slots[slot]),
             Line::Set { slot, fields } => {
@@ -53,9 +53,9 @@ impl ReplayState {
         }
     }
 
-    fn lookup(&self, key: Key) -> Reply {
-        match self.sheets.lookup(key) {
-            Ok(place) => Reply::Found(place),
+    fn rank(&self, key: Key) -> Reply {
+        match self.sheets.rank(key) {
+            Ok(rank) => Reply::Ranked(rank),
             Err(refusal) => Reply::Refused(refusal),
         }
     }

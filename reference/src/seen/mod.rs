@@ -1,5 +1,5 @@
-//! What a comparison has seen: every refusal of every call, every step from phase to phase, every report of a close, and
-//! where it mattered that a number has several lines, counted.
+//! What a comparison has seen: every refusal of every call, every step from phase to phase, every report of a close, where
+//! keys stood, and where it mattered that a number has several lines, counted.
 
 mod answers;
 mod by_place;
@@ -7,10 +7,12 @@ mod clients;
 mod closes;
 mod expiry;
 mod lists;
+mod ranks;
 mod steps;
 mod two_kinds;
 mod two_sheets;
 
+use crate::compare::ranked::Ranked;
 use crate::compare::Case;
 use crate::conversions::Conversion;
 use crate::exported::{refusal_of, Call, Lent};
@@ -25,6 +27,7 @@ use clients::Clients;
 use closes::Closes;
 use expiry::{Expiry, Found};
 use lists::Lists;
+use ranks::Ranks;
 use std::fmt;
 use steps::{Steps, ADVANCES};
 use two_sheets::OnTwoSheets;
@@ -39,7 +42,7 @@ const LINES: &[Row] = &[
     ("abort", &[0, 1, 2, 3, 4]),
     ("close", &[0, 1, 2, 3, 4]),
     ("visit", &[0, 1, 2, 5, 6, 12]),
-    ("lookup", &[0, 1, 5, 6]),
+    ("lookup", &[0, 1, 5]),
     ("line", &[0]),
 ];
 
@@ -48,6 +51,7 @@ const EXPORTED: &[Row] = &[
     ("check", &[0, 1, 2]),
     ("visit", &[0, 1, 2, 5, 6, 12]),
     ("lookup", &[0, 1, 5, 6]),
+    ("rank", &[0, 1, 5]),
     ("begin", &[0, 1, 2, 8]),
     ("version", &[0]),
     ("read_records", &[0, 1]),
@@ -56,13 +60,15 @@ const EXPORTED: &[Row] = &[
     ("write_coordinator", &[0, 1, 2]),
     ("written", &[0, 1, 2]),
 ];
-const WRITTEN: usize = 9;
+const RANK: usize = 3;
+const WRITTEN: usize = 10;
 
 /// The same on two sheets, as far as they have them.
 const EXPORTED_ON_TWO: &[Row] = &[
     ("check", &[0, 1, 2, 13]),
     ("visit", &[0, 1, 2, 13, 5, 6, 12]),
     ("lookup", &[0, 1, 13, 5, 6]),
+    ("rank", &[0, 1, 13, 5]),
 ];
 
 const VISITOR: &[Row] = &[("visiting program", &[0, 1, 2])];
@@ -79,6 +85,7 @@ pub struct Seen {
     visitor: Answers,
     steps: Steps,
     closes: Closes,
+    ranks: Ranks,
     changes: [u64; 4],
     /// How often it was told beside a call what it has written. It isn't counted as a call.
     pub told_beside: u64,
@@ -101,6 +108,7 @@ impl Default for Seen {
             visitor: Answers::new(VISITOR),
             steps: Steps::new("step to", &ADVANCES),
             closes: Closes::default(),
+            ranks: Ranks::default(),
             changes: [0; 4],
             told_beside: 0,
             clients: Clients::default(),
@@ -140,10 +148,10 @@ fn call_of(line: &Line) -> Option<usize> {
 
 fn conversion_of(conversion: Conversion) -> usize {
     match conversion {
-        Conversion::ReadRecords => 5,
-        Conversion::WriteRecords => 6,
-        Conversion::ReadCoordinator => 7,
-        Conversion::WriteCoordinator => 8,
+        Conversion::ReadRecords => 6,
+        Conversion::WriteRecords => 7,
+        Conversion::ReadCoordinator => 8,
+        Conversion::WriteCoordinator => 9,
     }
 }
 
@@ -164,6 +172,7 @@ impl Seen {
             Reply::Refused(number) => *number,
             _ => 0,
         };
+        self.ranks.note(reply, before);
         let sheets = match before {
             LaidOut::Joined(sheets) => sheets,
             LaidOut::Two(_) => {
@@ -201,8 +210,18 @@ impl Seen {
                 self.exported.note(WRITTEN, answer.saturating_sub(1_000));
                 self.note_change(*answer);
             }
+            Case::Rank(ranked) => self.note_rank(ranked),
             _ => {}
         }
+    }
+
+    fn note_rank(&mut self, ranked: &Ranked) {
+        self.ranks.note_for_c(ranked);
+        let exported = match ranked.sheets.layout() {
+            Layout::Joined => &mut self.exported,
+            Layout::Two => &mut self.exported_on_two,
+        };
+        exported.note(RANK, ranked.answer.saturating_sub(1_000));
     }
 
     /// Notes a call of a function for C, the list before it, and what it was lent afterwards.
@@ -220,8 +239,8 @@ impl Seen {
             Call::Check => exported.note(0, refusal),
             Call::Visit { .. } => exported.note(1, refusal),
             Call::Lookup { .. } => exported.note(2, refusal),
-            Call::Begin => exported.note(3, refusal),
-            Call::Version => exported.note(4, refusal),
+            Call::Begin => exported.note(4, refusal),
+            Call::Version => exported.note(5, refusal),
             Call::At { place, asked } => {
                 by_place.note(asked, refusal);
                 if refusal == 0 {
@@ -290,6 +309,7 @@ impl Seen {
         let mut amiss: Vec<String> = answers.into_iter().flat_map(Answers::amiss).collect();
         amiss.extend(self.steps.amiss("advance"));
         amiss.extend(self.closes.amiss("close"));
+        amiss.extend(self.ranks.amiss());
         amiss.extend(self.by_place.amiss());
         amiss.extend(unseen("written", &CHANGES, &self.changes));
         amiss.extend(self.expiry.amiss());
@@ -326,11 +346,12 @@ fn named(names: &[&str], counts: &[u64]) -> String {
 }
 
 impl fmt::Display for Seen {
-    /// The answers of each call in a replay, the steps from phase to phase and how closes ended, the same of the functions
-    /// for C, the answers of the visiting program, where several lines of a number mattered, and the same on two sheets.
+    /// The answers of each call in a replay, the steps from phase to phase, how closes ended and where keys stood, the same of
+    /// the functions for C, the answers of the visiting program, where several lines of a number mattered, and the same on
+    /// two sheets.
     fn fmt(&self, out: &mut fmt::Formatter) -> fmt::Result {
         writeln!(out, "{}\n\n{}\n", self.lines, self.steps)?;
-        writeln!(out, "{}\n", self.closes)?;
+        writeln!(out, "{}\n\n{}\n", self.closes, self.ranks)?;
         writeln!(out, "for C\n{}\n", self.exported)?;
         writeln!(out, "for C, by place\n{}", self.by_place)?;
         writeln!(out, "written: {}", named(&CHANGES, &self.changes))?;

@@ -2,7 +2,11 @@
 
 use crate::programs::Engine;
 use reference::compare::clients::Difference;
+use reference::compare::ranked::Ranked;
 use reference::compare::{Case, Subject};
+use reference::conversions::{self, Conversion};
+use reference::exported::{Call, Lent};
+use reference::make::Sheets;
 use reference::plain::transaction::Transaction;
 use reference::replay::{replay, Layout};
 use std::fs;
@@ -24,47 +28,74 @@ pub fn told(seed: u64, case: &Case) -> String {
             lent,
             answer,
             after,
-        } => {
-            let mut left = lent.clone();
-            let answered = Engine.call(call, &mut left);
-            let lists = of_lists(&after.list, &left.list);
-            let (plain, engine) = (&after.sheets, left.sheets);
-            format!(
-                "{call:?}\nplain answers {answer}, the engine {answered}; {lists}\n\
-                 plain leaves\n{plain}\nthe engine leaves\n{engine}"
-            )
-        }
+        } => of_call(call, lent, *answer, after),
+        Case::Rank(ranked) => of_rank(ranked),
         Case::Clients(history) => match history.difference(&Engine) {
             Some(difference) => of_clients(&difference),
             None => "clients with lists: no difference when made again".into(),
         },
         Case::Written {
-            sheets: [before, after],
+            sheets,
             lines,
             answer,
             told,
-        } => {
-            let mut left = lines.clone();
-            let answered = Engine.written(before, after, &mut left);
-            format!(
-                "written, with the lines {lines:?}\nplain answers {answer} and {told:?}, the engine {answered} and {left:?}\n\
-                 before\n{before}\nafter\n{after}"
-            )
-        }
+        } => of_written(sheets, lines, *answer, told),
         Case::Convert {
             conversion,
             lent,
             answer,
             after,
-        } => {
-            let mut left = lent.clone();
-            let answered = Engine.convert(*conversion, &mut left);
-            format!(
-                "{conversion:?} of {lent:?}\nplain answers {answer}, the engine {answered}\n\
-                 plain leaves\n{after:?}\nthe engine leaves\n{left:?}"
-            )
-        }
+        } => of_conversion(*conversion, lent, *answer, after),
     }
+}
+
+fn of_call(call: &Call, lent: &Lent, answer: u64, after: &Lent) -> String {
+    let mut left = lent.clone();
+    let answered = Engine.call(call, &mut left);
+    let lists = of_lists(&after.list, &left.list);
+    let (plain, engine) = (&after.sheets, left.sheets);
+    format!(
+        "{call:?}\nplain answers {answer}, the engine {answered}; {lists}\n\
+         plain leaves\n{plain}\nthe engine leaves\n{engine}"
+    )
+}
+
+fn of_written(sheets: &[Sheets; 2], lines: &[u32], answer: u32, told: &[u32]) -> String {
+    let [before, after] = sheets;
+    let mut left = lines.to_vec();
+    let answered = Engine.written(before, after, &mut left);
+    format!(
+        "written, with the lines {lines:?}\nplain answers {answer} and {told:?}, the engine {answered} and {left:?}\n\
+         before\n{before}\nafter\n{after}"
+    )
+}
+
+fn of_conversion(
+    conversion: Conversion,
+    lent: &conversions::Lent,
+    answer: u32,
+    after: &conversions::Lent,
+) -> String {
+    let mut left = lent.clone();
+    let answered = Engine.convert(conversion, &mut left);
+    format!(
+        "{conversion:?} of {lent:?}\nplain answers {answer}, the engine {answered}\n\
+         plain leaves\n{after:?}\nthe engine leaves\n{left:?}"
+    )
+}
+
+fn of_rank(ranked: &Ranked) -> String {
+    let Ranked {
+        sheets,
+        key,
+        target,
+        answer,
+        told,
+    } = ranked;
+    let (answered, left) = ranked.made(&Engine);
+    format!(
+        "rank of {key:?}, with the target {target:?}\nplain answers {answer} and {told:?}, the engine {answered} and {left:?}\n{sheets}"
+    )
 }
 
 /// The first call of clients with lists that departs.

@@ -4,13 +4,15 @@
 //! for C. Whatever they answer and leave must be what `plain` does, byte for byte. Rounds have rising seeds and go on until
 //! so many calls were made or so many seconds have passed; `differ 1 seed` repeats one. Every refusal of every
 //! call and every step of the step table must have been seen, unless the run asked for less than a hundred thousand calls.
-//! From 0 on rounds are of every kind at first, from other seeds on perhaps after 1,650,000 calls that are mostly by place.
+//! From 0 on rounds are of every kind at first, from other seeds on perhaps after 1,680,000 calls that are mostly by place.
 
 mod difference;
 #[path = "../engine/mod.rs"]
 mod engine;
 #[path = "../engine/conversions.rs"]
 mod engine_conversions;
+#[path = "../engine/rank.rs"]
+mod engine_rank;
 #[path = "../engine/written.rs"]
 mod engine_written;
 mod programs;

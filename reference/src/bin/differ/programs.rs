@@ -2,11 +2,14 @@
 
 use crate::engine::calls;
 use crate::engine_conversions;
+use crate::engine_rank;
 use crate::engine_written;
 use reference::compare::Subject;
 use reference::conversions::{self, Conversion};
 use reference::exported::{Call, Lent};
 use reference::make::Sheets;
+use reference::plain::key::Key;
+use reference::replay::laid_out::LaidOut;
 use reference::replay::Layout;
 use std::env;
 use std::io::Write;
@@ -42,6 +45,10 @@ impl Subject for Engine {
 
     fn written(&self, before: &Sheets, after: &Sheets, lines: &mut [u32]) -> u32 {
         engine_written::by_engine(before, after, lines)
+    }
+
+    fn rank(&self, sheets: &LaidOut, key: Key, target: &mut [u32]) -> u32 {
+        engine_rank::by_engine(sheets, key, target)
     }
 }
 

@@ -1,5 +1,5 @@
-//! The engine's functions for C, from its static archive. Beside `two`, `conversions` and `written` the only calls in this
-//! folder that the compiler can't vouch for.
+//! The engine's functions for C, from its static archive. Beside `two`, `conversions`, `rank` and `written` the only calls in
+//! this folder that the compiler can't vouch for.
 //!
 //! A slice is lent as its first element and its length. Answers are 0 or the refusal from the check, and from the
 //! others what an accepted call gives or 1000 and the refusal.

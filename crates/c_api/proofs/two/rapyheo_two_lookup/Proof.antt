@@ -1,24 +1,19 @@
--- The search as one number, whose index is that of one of 500 lines.
-use Rattle.lists.specs.Basics.{_∙_, arith}
-use Rattle.c_api.specs.Telling.{place-small, place-below, place-told}
+-- What the companion tells, as one number.
+use Rattle.lists.specs.Basics.{sym, ap, subst, _∙_, _≤_}
+use Rattle.model.specs.Types.{Ranked}
+use Rattle.model.specs.Refusals.{lastRefusal}
+use Rattle.by_place.specs.Ranks.{lineNumber, rank-two-small}
 use borrow.Author.Needs.{needs}
 use Rattle.c_api.proofs.two.rapyheo_two_lookup.Statement.{statement}
 use Rattle.c_api.proofs.two.rapyheo_two_lookup.Tie as tie
 
-cast-number : tie.Need-cast-number
-cast-number c =
-    let a = c .before .before .before .before .args in
-    let l = place-below (a .plain .now) (a .book .now) (record { storage = a .storage; namespace = a .namespace; table = a .table; partition = a .partition; clustering = a .clustering }) _ (c .before .place-of .ensures) in omega (arith, l)
-
-number-requires : tie.Need-number-requires
-number-requires c κs =
-    let a = c .before .before .before .before .args in
-    place-small (a .plain .now) (a .book .now) (record { storage = a .storage; namespace = a .namespace; table = a .table; partition = a .partition; clustering = a .clustering }) _ (c .before .place-of .ensures)
+line-number-requires : tie.Need-line-number-requires
+line-number-requires c κs =
+    let a = c .before .before .before .args in
+    (subst (λ (r : Ranked). r .refusal ≤ lastRefusal) (sym (c .rank-of .ensures .0)) (rank-two-small (a .plain .now) (a .book .now) (record { storage = a .storage; namespace = a .namespace; table = a .table; partition = a .partition; clustering = a .clustering })), c .rank-of .ensures .1)
 
 returns : tie.Need-returns
-returns c =
-    let a = c .before .before .before .before .before .args in
-    c .number .ensures ∙ place-told (a .plain .now) (a .book .now) (record { storage = a .storage; namespace = a .namespace; table = a .table; partition = a .partition; clustering = a .clustering }) _ (c .before .before .place-of .ensures)
+returns c = c .line-number .ensures ∙ ap lineNumber (c .before .rank-of .ensures .0)
 
 pub rapyheo-two-lookup-spec : {M : Type 1} → statement M
-rapyheo-two-lookup-spec = tie.close (tie.spec (λ c κs. search needs) cast-number number-requires returns)
+rapyheo-two-lookup-spec = tie.close (tie.spec (λ c κs. search needs) line-number-requires returns)

@@ -1,0 +1,46 @@
+-- Case by case in the order of the refusals; the search is on the joined sheet.
+use Rattle.lists.specs.Basics.{sym, ap, subst, _∙_, length-take, arith, not-true, not-false}
+use Rattle.model.specs.Records.{recordsAccepted}
+use Rattle.two_laws.specs.Decision.{joined-accepted}
+use Rattle.two_sheets.specs.Lookups.{Ranks, ranks-refused, ranks-out, ranks-told}
+use borrow.Author.Needs.{needs}
+use Rattle.two_sheets.proofs.lookup.rank_in.Statement.{statement}
+use Rattle.two_sheets.proofs.lookup.rank_in.Tie as tie
+
+returns : tie.Need-returns
+returns c =
+    let a = c .before .before .before .before .before .before .before .before .before .args in
+    subst (Ranks (a .plain .now) (a .book .now) (a .key)) (sym (c .no-rank .ensures)) (ranks-refused (a .plain .now) (a .book .now) (a .key) _ (c .before .before .before .before .lines-refusal .ensures .told) (c .before .if1 .taken))
+
+returns-2 : tie.Need-returns-2
+returns-2 c =
+    let a = c .before .before .before .before .before .before .before .before .before .before .before .args in
+    subst (Ranks (a .plain .now) (a .book .now) (a .key)) (sym (c .no-rank2 .ensures)) (ranks-out (a .plain .now) (a .book .now) (a .key) (sym (c .before .before .before .if1 .left) ∙ c .before .before .before .before .before .before .lines-refusal .ensures .told) (sym (c .before .before .key-in-range .ensures) ∙ not-true _ (c .before .if2 .taken)))
+
+mul-n : tie.Need-mul-n
+mul-n c =
+    omega (arith, c .before .before .before .before .before .lines-refusal .ensures .joined (c .before .before .if1 .left) .fits, c .before .before .before .before .before .lines-refusal .kept .1 .1 .0)
+
+slice-reshare-prefix-rank : tie.Need-slice-reshare-prefix-rank
+slice-reshare-prefix-rank c =
+    omega (arith, c .before .before .before .before .before .lines-refusal .ensures .joined (c .before .before .if1 .left) .fits, c .before .before .before .before .before .lines-refusal .kept .1 .1 .0)
+
+slice-aggregate-rank : tie.Need-slice-aggregate-rank
+slice-aggregate-rank c =
+    simp length-take (omega (arith, c .before .before .before .before .before .before .lines-refusal .ensures .joined (c .before .before .before .if1 .left) .fits, c .before .before .before .before .before .before .lines-refusal .kept .1 .1 .0))
+
+rank-requires : tie.Need-rank-requires
+rank-requires c κs =
+    let a = c .before .before .before .before .before .before .before .before .before .before .before .args in
+    (ap recordsAccepted (c .before .before .before .before .before .before .lines-refusal .ensures .joined (c .before .before .before .if1 .left) .joined) ∙ joined-accepted (a .plain .now) (a .book .now) (sym (c .before .before .before .if1 .left) ∙ c .before .before .before .before .before .before .lines-refusal .ensures .told), (sym (c .before .before .key-in-range .ensures) ∙ not-false _ (c .before .if2 .left)))
+
+returns-3 : tie.Need-returns-3
+returns-3 c =
+    let a = c .before .before .before .before .before .before .before .before .before .before .before .before .args in
+    ranks-told (a .plain .now) (a .book .now) (a .key) (sym (c .before .before .before .before .if1 .left) ∙ c .before .before .before .before .before .before .before .lines-refusal .ensures .told) (sym (c .before .before .before .key-in-range .ensures) ∙ not-false _ (c .before .before .if2 .left)) _ (c .before .before .before .before .before .before .before .lines-refusal .ensures .joined (c .before .before .before .before .if1 .left) .joined) _ (c .rank .ensures) (simp length-take (omega (arith, c .before .before .before .before .before .before .before .lines-refusal .ensures .joined (c .before .before .before .before .if1 .left) .fits, c .before .before .before .before .before .before .before .lines-refusal .kept .1 .1 .0))) (c .before .before .before .before .before .before .before .lines-refusal .ensures .joined (c .before .before .before .before .if1 .left) .same)
+
+pub rank-in-spec : {M : Type 1} → statement M
+rank-in-spec =
+    tie.close
+    (tie.spec (λ c κs. search needs) (λ c κs. search needs) (λ c. search needs) returns (λ c κs. search needs) (λ c κs. search needs)
+    (λ c. search needs) returns-2 mul-n slice-reshare-prefix-rank slice-aggregate-rank rank-requires (λ c. search needs) returns-3)
