@@ -5,7 +5,7 @@ ghost use Prim.Native.Nat.{_+_, _<_, _≤_};
 ghost use lib.ListN.{length};
 ghost use Rattle.lists.specs.Bytes.{eqList};
 ghost use Rattle.model.specs.Layouts.{recordBytes};
-ghost use Rattle.model.specs.Records.{recordsAccepted, keyInRange, ranked, keyNumbers};
+ghost use Rattle.model.specs.Records.{recordsAccepted, keyInRange, found, ranked, keyNumbers};
 ghost use Rattle.model.specs.Records as model;
 ghost use Rattle.sheet_laws.specs.Keys.{keyLine};
 ghost use Rattle.model.specs.Lines.{linesOf};
@@ -100,20 +100,39 @@ fn count_below(records: &[u8], text: &[u8]) -> usize
     below
 }
 
+// The index of the line that has the key, in an accepted sheet.
+fn find(records: &[u8], key: Key) -> Found
+    requires { ⌜ recordsAccepted (now records) ≡ true ⌝ }
+    requires { ⌜ keyInRange key ≡ true ⌝ }
+    ensures { λ r. ⌜ r ≡ found key (model.records (now (records .entry))) ⌝ }
+{
+    let text = key_line(key);
+    find_line(records, &text)
+}
+
+// How many lines of an accepted sheet have smaller keys. It lays out the key's line anew, so that the search above keeps none of it.
+fn below(records: &[u8], key: Key) -> usize
+    requires { ⌜ recordsAccepted (now records) ≡ true ⌝ }
+    requires { ⌜ keyInRange key ≡ true ⌝ }
+    ensures { λ r. ⌜ r ≡ model.rank key (model.records (now (records .entry))) ⌝ }
+{
+    let text = key_line(key);
+    count_below(records, &text)
+}
+
 // Where the key stands on an accepted sheet, or would stand. Lines are counted only where none has the key: else the index of its line is the rank.
 pub fn rank(records: &[u8], key: Key) -> Rank
     requires { ⌜ recordsAccepted (now records) ≡ true ⌝ }
     requires { ⌜ keyInRange key ≡ true ⌝ }
     ensures { λ r. ⌜ r ≡ ranked key (model.records (now (records .entry))) ⌝ }
 {
-    let text = key_line(key);
-    match find_line(records, &text) {
+    match find(records, key) {
         Found::At(i) => Rank {
             below: i,
             present: true,
         },
         Found::Nothing => Rank {
-            below: count_below(records, &text),
+            below: below(records, key),
             present: false,
         },
     }

@@ -1,0 +1,17 @@
+-- The line that begins as the key line does is the one that has the key.
+use Rattle.lists.specs.Basics.{ap, _∙_, ℕ, List, needs}
+use Rattle.model.specs.Layouts.{recordBytes}
+use Rattle.model.specs.Lines.{linesOf}
+use Rattle.sheets.specs.Search.{foundLine, search-is}
+use Rattle.sheets.proofs.lookup.find.Statement.{statement}
+use Rattle.sheets.proofs.lookup.find.Tie as tie
+
+returns : tie.Need-returns
+returns c =
+    let a = c .before .before .before .before .args in
+    c .find-line .ensures
+    ∙ (ap (λ (t : List ℕ). foundLine 0 t (linesOf recordBytes (a .records .now))) (c .before .before .key-line .ensures)
+    ∙ search-is (a .records .now) (a .key) (c .before .before .before .before .pre .0) (c .before .before .before .before .pre .1))
+
+pub find-spec : {M : Type 1} → statement M
+find-spec = tie.close (tie.spec (λ c κs. search needs) (λ c. search needs) (λ c κs. search needs) returns)
