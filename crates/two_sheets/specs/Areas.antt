@@ -31,10 +31,15 @@ Room width s n = length s / width ≤ 500 → joinedSize width s ≤ n
 abbrev pub Rooms : List ℕ → List ℕ → ℕ → Type 0
 Rooms ps bs n = Room plainBytes ps n × Room bookkeepingBytes bs n
 
-pub rooms-short : (ps bs : List ℕ) → (leb (length ps) (100 * plainBytes) && leb (length bs) (100 * bookkeepingBytes)) ≡ true → Rooms ps bs 9800
-rooms-short ps bs t =
-    let p = leb-true (length ps) (100 * plainBytes) (and-fst _ (leb (length bs) (100 * bookkeepingBytes)) t) in
-    let b = leb-true (length bs) (100 * bookkeepingBytes) (and-snd (leb (length ps) (100 * plainBytes)) _ t) in
+-- neither sheet has more bytes than n lines
+abbrev pub bothWithin : ℕ → List ℕ → List ℕ → Bool
+bothWithin n ps bs = leb (length ps) (n * plainBytes) && leb (length bs) (n * bookkeepingBytes)
+
+pub rooms-within : (n size : ℕ) (ps bs : List ℕ) (r : Bool) → r ≡ bothWithin n ps bs → r ≡ true → n * recordBytes ≤ size → Rooms ps bs size
+rooms-within n size ps bs r e t fits =
+    let w : bothWithin n ps bs ≡ true = sym e ∙ t in
+    let p = leb-true (length ps) (n * plainBytes) (and-fst _ (leb (length bs) (n * bookkeepingBytes)) w) in
+    let b = leb-true (length bs) (n * bookkeepingBytes) (and-snd (leb (length ps) (n * plainBytes)) _ w) in
     (λ l. omega arith, λ l. omega arith)
 
 -- the front of an area that was lent and came back as t

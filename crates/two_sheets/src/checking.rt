@@ -2,7 +2,7 @@
 ghost use mathlib.Core.Path.{_≡_};
 ghost use mathlib.Core.Bool.{_&&_, true};
 ghost use lib.ListN.{length, replicate};
-ghost use Prim.Native.Nat.{_*_, _/_};
+ghost use Prim.Native.Nat.{_*_, _/_, _≤_};
 ghost use Rattle.model.specs.Layouts.{recordBytes};
 ghost use Rattle.model.specs.Records.{recordsAccepted};
 ghost use Rattle.model.specs.Refusals.{refusalOf};
@@ -10,30 +10,37 @@ ghost use Rattle.model.specs.Coordinator.{coordinatorReadable};
 ghost use Rattle.model.specs.SheetCalls.{allIssued};
 ghost use Rattle.model.specs.TwoSheets.{plainBytes, bookkeepingBytes, joinedSheet, twoConditions};
 ghost use Rattle.two_laws.specs.Deciding.{whole, filledPlain, filledBookkeeping};
-ghost use Rattle.two_sheets.specs.Areas.{Room, Rooms, BookkeepingIn, Apart, Lines, JoinedIn};
+ghost use Rattle.two_sheets.specs.Areas.{bothWithin, Room, Rooms, BookkeepingIn, Apart, Lines, JoinedIn};
 use two_join::BOOKKEEPING_BYTES;
 use two_join::PLAIN_BYTES;
 use types::RECORD_BYTES;
 
-// An area for 500 lines. A call makes it, since the check would count the bytes of a local array one by one.
-pub fn blank() -> [u8; 49000]
+// Areas for so many lines. A call makes each, since the check would count the bytes of a local array one by one; there are several, since to set the largest to zero
+// takes longer than a call on a few lines.
+pub fn blank_40() -> [u8; 3920]
+    ensures { λ r. ⌜ r ≡ replicate 3920 0 ⌝ }
+{
+    [0u8; 3920]
+}
+
+pub fn blank_250() -> [u8; 24500]
+    ensures { λ r. ⌜ r ≡ replicate 24500 0 ⌝ }
+{
+    [0u8; 24500]
+}
+
+pub fn blank_500() -> [u8; 49000]
     ensures { λ r. ⌜ r ≡ replicate 49000 0 ⌝ }
 {
     [0u8; 49000]
 }
 
-// One for 100 lines, since setting the other to zero takes longer than a call on a few lines.
-pub fn blank_short() -> [u8; 9800]
-    ensures { λ r. ⌜ r ≡ replicate 9800 0 ⌝ }
+// Whether neither sheet has more bytes than so many lines.
+pub fn within(lines: usize, plain: &[u8], book: &[u8]) -> bool
+    requires { ⌜ lines ≤ 500 ⌝ }
+    ensures { λ r. ⌜ r ≡ bothWithin lines (now (plain .entry)) (now (book .entry)) ⌝ }
 {
-    [0u8; 9800]
-}
-
-// Whether both sheets have at most 100 lines.
-pub fn short(plain: &[u8], book: &[u8]) -> bool
-    ensures { λ r. ⌜ (r ≡ true → Rooms (now (plain .entry)) (now (book .entry)) 9800) ⌝ }
-{
-    (plain.len() <= 100 * PLAIN_BYTES) & (book.len() <= 100 * BOOKKEEPING_BYTES)
+    (plain.len() <= lines * PLAIN_BYTES) & (book.len() <= lines * BOOKKEEPING_BYTES)
 }
 
 // Whether the plain sheet, filled with fixed text over the target, is a good record sheet.

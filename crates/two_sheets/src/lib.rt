@@ -31,11 +31,15 @@ use types::Transaction;
 pub fn check(plain: &[u8], book: &[u8], coordinator: &[u8]) -> u32
     ensures { λ r. ⌜ r ≡ refusalOf (twoConditions (now (plain .entry)) (now (book .entry)) (now (coordinator .entry))) ⌝ }
 {
-    if checking::short(plain, book) {
-        let mut area = checking::blank_short();
+    if checking::within(40, plain, book) {
+        let mut area = checking::blank_40();
         return checking::join_checked(plain, book, coordinator, &mut area);
     }
-    let mut area = checking::blank();
+    if checking::within(250, plain, book) {
+        let mut area = checking::blank_250();
+        return checking::join_checked(plain, book, coordinator, &mut area);
+    }
+    let mut area = checking::blank_500();
     checking::join_checked(plain, book, coordinator, &mut area)
 }
 
@@ -92,11 +96,15 @@ pub fn perform(
     ensures bookkeeping { λ r. ⌜ now (book .exit) ≡ bookkeepingLeft (now (book .entry)) (responseTwo (operationOf request t) (two (now (plain .entry)) (now (book .entry)) (now (coordinator .entry)))) ⌝ }
     ensures decisions { λ r. ⌜ now (coordinator .exit) ≡ coordinatorLeft (now (coordinator .entry)) (responseTwo (operationOf request t) (two (now (plain .entry)) (now (book .entry)) (now (coordinator .entry)))) ⌝ }
 {
-    if checking::short(plain, book) {
-        let mut area = checking::blank_short();
+    if checking::within(40, plain, book) {
+        let mut area = checking::blank_40();
         return on_area(request, t, plain, book, coordinator, &mut area);
     }
-    let mut area = checking::blank();
+    if checking::within(250, plain, book) {
+        let mut area = checking::blank_250();
+        return on_area(request, t, plain, book, coordinator, &mut area);
+    }
+    let mut area = checking::blank_500();
     on_area(request, t, plain, book, coordinator, &mut area)
 }
 

@@ -32,14 +32,19 @@ fn rank_in(plain: &[u8], book: &[u8], key: Key, area: &mut [u8]) -> Ranked
     }
 }
 
+// The same in an area of its own.
 fn search(plain: &[u8], book: &[u8], key: Key) -> Ranked
     ensures { λ r. ⌜ Ranks (now (plain .entry)) (now (book .entry)) key r ⌝ }
 {
-    if checking::short(plain, book) {
-        let mut area = checking::blank_short();
+    if checking::within(40, plain, book) {
+        let mut area = checking::blank_40();
         return rank_in(plain, book, key, &mut area);
     }
-    let mut area = checking::blank();
+    if checking::within(250, plain, book) {
+        let mut area = checking::blank_250();
+        return rank_in(plain, book, key, &mut area);
+    }
+    let mut area = checking::blank_500();
     rank_in(plain, book, key, &mut area)
 }
 

@@ -11,8 +11,9 @@ use reference::plain::store::Store;
 use reference::plain::transaction::*;
 use reference::replay::laid_out::LaidOut;
 
-/// The numbers of record lines at which each call is timed.
-pub const LINES: [usize; 7] = [10, 50, 100, 200, 300, 400, 500];
+/// The numbers of record lines at which each call is timed. At 41 and 251 the calls on two sheets take the next larger
+/// area.
+pub const LINES: [usize; 9] = [10, 41, 50, 100, 200, 251, 300, 400, 500];
 
 const NOW: u32 = 20_000;
 
@@ -31,6 +32,9 @@ pub enum Case {
     VisitBack,
     /// The owner has a second line, so that all lines are looked through.
     VisitAgain,
+    /// No line has the key, so that where it would stand is found too.
+    VisitMissing,
+    Lookup,
     /// One step in prepare, with 8 puts in 8 groups.
     Prepare,
     /// From begin to done, with 8 puts in 8 groups: 19 calls.
@@ -42,12 +46,13 @@ pub enum Case {
 }
 
 /// In the order printed.
-pub const CASES: [(Case, &str); 9] = [
+pub const CASES: [(Case, &str); 10] = [
     (Case::Check, "check"),
     (Case::Begin, "begin"),
     (Case::VisitStays, "visit, line stays"),
     (Case::VisitBack, "visit, rolls back"),
     (Case::VisitAgain, "visit, writes ABORTED"),
+    (Case::VisitMissing, "visit, refused with 6"),
     (Case::Prepare, "advance, 8 puts in 8 groups"),
     (Case::Transaction, "whole transaction, 8 puts, 19 calls"),
     (Case::CheckCommitted, "check, all COMMITTED"),
@@ -55,11 +60,12 @@ pub const CASES: [(Case, &str); 9] = [
 ];
 
 /// Those that are held on two sheets beside the joined sheet.
-pub const ON_TWO: [(Case, &str); 6] = [
+pub const ON_TWO: [(Case, &str); 7] = [
     (Case::Check, "two sheets, check"),
     (Case::BeginByPlace, "two sheets, begin by place"),
     (Case::VisitStays, "two sheets, visit, line stays"),
     (Case::VisitBack, "two sheets, visit, rolls back"),
+    (Case::Lookup, "two sheets, look-up"),
     (Case::Prepare, "two sheets, advance, 8 puts"),
     (Case::TransactionByPlace, "two sheets, whole transaction"),
 ];
@@ -75,6 +81,8 @@ impl Case {
             Case::VisitStays | Case::VisitBack | Case::VisitAgain => {
                 make(&Call::Visit { key, now: NOW }, lent)
             }
+            Case::VisitMissing => make(&missing(key), lent),
+            Case::Lookup => make(&Call::Lookup { key }, lent),
             Case::Prepare => make(&ADVANCE, lent),
             Case::Transaction => {
                 begun(make, lent);
@@ -97,6 +105,11 @@ impl Case {
             Case::CheckPrepared => Mix::Prepared,
             _ => Mix::Thirds,
         }
+    }
+
+    /// What the call answers with that is refused.
+    pub fn refusal(self) -> Option<u64> {
+        (self == Case::VisitMissing).then_some(1_006)
     }
 
     pub fn has_every_state(self) -> bool {
@@ -157,6 +170,16 @@ const NO_KEY: Key = Key {
     partition: 0,
     clustering: 0,
 };
+
+/// A visit to a key beside this one, which no line has.
+fn missing(key: Key) -> Call {
+    let clustering = match key.clustering {
+        0 => 1,
+        other => other - 1,
+    };
+    let key = Key { clustering, ..key };
+    Call::Visit { key, now: NOW }
+}
 
 /// Eight lines spread over the sheet, the middle one among them.
 fn places(lines: usize) -> impl Iterator<Item = usize> {

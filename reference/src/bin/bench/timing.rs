@@ -89,7 +89,10 @@ impl Cell {
             times: [Vec::new(), Vec::new()],
         };
         let [one, other] = [0, 1].map(|side| cell.left(side));
-        assert!(one.0 < 1_000, "refused: {}", one.0);
+        match sides[0].case.refusal() {
+            Some(refusal) => assert_eq!(one.0, refusal, "refused otherwise"),
+            None => assert!(one.0 < 1_000, "refused: {}", one.0),
+        }
         assert!(one == other, "the sides differ");
         cell
     }
