@@ -1,6 +1,7 @@
 // The bytes of both sheets, read and written by index, so that calls above can speak of records, decisions and counts.
 pub mod coordinator;
 pub mod fields;
+pub mod keys;
 pub mod layouts;
 pub mod lines;
 mod parts;

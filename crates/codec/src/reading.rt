@@ -14,14 +14,22 @@ use crate::records;
 use types::BEFORE_AT;
 use types::CLOCK_AT;
 use types::CLOCK_BYTES;
+use types::CLUSTERING_AT;
 use types::COLUMN_BYTES;
 use types::COLUMN1_AT;
 use types::COLUMN2_AT;
 use types::Columns;
+use types::Key;
 use types::Kind;
+use types::NAMESPACE_AT;
+use types::PARTITION_AT;
+use types::PARTITION_BYTES;
 use types::RECORD_BYTES;
 use types::STATE_AT;
+use types::STORAGE_BYTES;
 use types::State;
+use types::TABLE_AT;
+use types::TABLE_BYTES;
 use types::TXID_AT;
 use types::TXID_BYTES;
 use types::VERSION_AT;
@@ -53,6 +61,20 @@ fn figure(records: &[u8], i: usize, from: usize, n: usize) -> u64
         return line_bytes::figure(records, i * RECORD_BYTES + from, n);
     }
     0
+}
+
+// The key of line i.
+pub fn key(records: &[u8], i: usize) -> Key
+    requires { ⌜ recordsAccepted (now records) ≡ true ⌝ }
+    ensures { λ r. ⌜ r ≡ getD (model.records (now (records .entry))) i noRecord .key ⌝ }
+{
+    Key {
+        storage: figure(records, i, 0, STORAGE_BYTES) as u32,
+        namespace: figure(records, i, NAMESPACE_AT, TABLE_BYTES) as u32,
+        table: figure(records, i, TABLE_AT, TABLE_BYTES) as u32,
+        partition: figure(records, i, PARTITION_AT, PARTITION_BYTES) as u32,
+        clustering: figure(records, i, CLUSTERING_AT, PARTITION_BYTES) as u32,
+    }
 }
 
 // The version of line i.

@@ -196,16 +196,16 @@ pub fn twelve_less(s: &[u8], a: usize, t: &[u8], b: usize) -> bool
     half(s, a + 8) < half(t, b + 8)
 }
 
-// Whether the 20 bytes at `a` of `s` come before the 20 bytes at `b` of `t`: eight of them as a number, and twelve more where those are equal.
-pub fn key_less(s: &[u8], a: usize, t: &[u8], b: usize) -> bool
+// Whether the 20 bytes at `a` come before the 20 bytes at `b`: eight of them as a number, and twelve more where those are equal.
+pub fn key_less(s: &[u8], a: usize, b: usize) -> bool
     requires { ⌜ a + 20 ≤ length (now s) ⌝ }
-    requires { ⌜ b + 20 ≤ length (now t) ⌝ }
-    ensures { λ r. ⌜ r ≡ less (take 20 (drop a (now (s .entry)))) (take 20 (drop b (now (t .entry)))) ⌝ }
+    requires { ⌜ b + 20 ≤ length (now s) ⌝ }
+    ensures { λ r. ⌜ r ≡ less (take 20 (drop a (now (s .entry)))) (take 20 (drop b (now (s .entry)))) ⌝ }
 {
-    let s0 = word(s, a);
-    let t0 = word(t, b);
-    if s0 != t0 {
-        return s0 < t0;
+    let a0 = word(s, a);
+    let b0 = word(s, b);
+    if a0 != b0 {
+        return a0 < b0;
     }
-    twelve_less(s, a + 8, t, b + 8)
+    twelve_less(s, a + 8, s, b + 8)
 }

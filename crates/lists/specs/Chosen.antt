@@ -1,5 +1,5 @@
 -- Laws of `any`, `filter` and `count`: each by induction on the list, with the first element's test at hand.
-use Rattle.lists.specs.Kit.{_≡_, refl, sym, ap, ap₂, _∙_, ℕ, zero, suc, _≤_, _<_, Bool, true, false, _&&_, _||_, cond, true≢false, List, [], _∷_, map, length}
+use Rattle.lists.specs.Kit.{_≡_, refl, sym, ap, ap₂, _∙_, ℕ, zero, suc, _≤_, _<_, Bool, true, false, _&&_, _||_, cond, true≢false, List, [], _∷_, map, length, getD}
 use Rattle.lists.specs.Kit.{arith}
 use Rattle.lists.specs.Bytes.{eqList, eqList-true}
 use Rattle.lists.specs.Tests.{and-fst, and-snd, and-both}
@@ -48,6 +48,13 @@ module _ {ℓ} {A : Type ℓ} where
   unfolding any
   any-map f p [] = refl
   any-map f p (x ∷ xs) = ap (λ (b : Bool). p (f x) || b) (any-map f p xs)
+
+  -- what none passes, no element does
+  pub none-at : (p : A → Bool) (xs : List A) (d : A) (i : ℕ) → any p xs ≡ false → i < length xs → p (getD xs i d) ≡ false
+  unfolding any
+  none-at p [] d i h l = absurd (omega arith)
+  none-at p (x ∷ xs) d zero h l = or-fst (p x) (any p xs) h
+  none-at p (x ∷ xs) d (suc i) h l = none-at p xs d i (or-snd (p x) (any p xs) h) (omega arith)
 
   -- what all pass, an element among them passes
   pub all-any : (p q : A → Bool) (xs : List A) → all p xs ≡ true → any q xs ≡ true → any (λ (x : A). p x && q x) xs ≡ true

@@ -35,7 +35,7 @@ fn rises(numbers: &[u32], i: usize) -> bool
     let end = mid + RECORD_FIELDS;
     let a = codec::records::record_of(&numbers[at..mid]);
     let b = codec::records::record_of(&numbers[mid..end]);
-    rules::key_less(a.key, b.key)
+    codec::keys::less(a.key, b.key)
 }
 
 // Every row is good by itself and before the next.

@@ -1,8 +1,7 @@
 // The rules of records, by value.
 ghost use mathlib.Core.Path.{_≡_};
-ghost use Rattle.model.specs.Records.{isZero, absentRule, committedRule, preparedRule, stateRule, keyLess};
+ghost use Rattle.model.specs.Records.{isZero, absentRule, committedRule, preparedRule, stateRule};
 use types::Image;
-use types::Key;
 use types::Record;
 use types::State;
 
@@ -43,18 +42,4 @@ pub fn state_rule(r: Record) -> bool
         State::Committed => committed_rule(r),
         State::Prepared => prepared_rule(r),
     }
-}
-
-// The key a comes before the key b, compared field by field from storage.
-pub fn key_less(a: Key, b: Key) -> bool
-    ensures { λ r. ⌜ r ≡ keyLess a b ⌝ }
-{
-    (a.storage < b.storage)
-        | (a.storage == b.storage)
-            & ((a.namespace < b.namespace)
-                | (a.namespace == b.namespace)
-                    & ((a.table < b.table)
-                        | (a.table == b.table)
-                            & ((a.partition < b.partition)
-                                | (a.partition == b.partition) & (a.clustering < b.clustering))))
 }

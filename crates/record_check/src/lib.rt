@@ -184,7 +184,7 @@ fn key_rises(s: &[u8], i: usize, n: usize) -> bool
     }
     let at = i * RECORD_BYTES;
     let next = at + RECORD_BYTES;
-    line_bytes::key_less(s, at, s, next)
+    line_bytes::key_less(s, at, next)
 }
 
 // Whether each of the n lines is good, and keys rise.

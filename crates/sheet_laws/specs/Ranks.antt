@@ -1,7 +1,8 @@
 -- Where a key stands: on a sheet in order the index of its line is the number of smaller keys, since those stand above it and no others do. Document 02, note 5.
-use Rattle.lists.specs.Basics.{_≡_, refl, sym, ap, _∙_, ℕ, suc, _+_, _≤_, Bool, true, false, _||_, cond, true≢false, List, [], _∷_, length, take, drop}
-use Rattle.lists.specs.Basics.{arith, all, any, count, and-fst, and-snd, and-both, tests}
-use Rattle.lists.specs.Chosen.{count-none, count-le, count-all}
+use Rattle.lists.specs.Basics.{_≡_, refl, sym, ap, _∙_, ℕ, suc, _+_, _-_, _≤_, _<_, ltb, Bool, true, false, _||_, cond, true≢false, List, [], _∷_, length, take, drop, getD}
+use Rattle.lists.specs.Basics.{length-take, length-drop, getD-take, getD-drop, arith, ltb-true, ltb-false, all, any, count, and-fst, and-snd, and-both, tests}
+use Rattle.lists.specs.All.{all-at}
+use Rattle.lists.specs.Chosen.{none-at, count-none, count-le, count-all}
 use Rattle.lists.specs.Order.{less-irrefl}
 use Rattle.model.specs.Types.{Key, Record, Rank, At, Nothing}
 use Rattle.model.specs.Search.{firstFrom}
@@ -123,3 +124,17 @@ rank-behind k (r ∷ rs) h = go (keyLess (r .key) k) refl (rank-behind k rs (ris
         → any (λ (x : Record). keyLess (x .key) k) (drop (rank k (r ∷ rs)) (r ∷ rs)) ≡ false
     go true e f = rw e f
     go false e f = rw (no-rank k r rs h e) (none-below k r rs h e)
+
+-- so that a line has a smaller key exactly if its index is below the rank
+pub rank-side : (k : Key) (rs : List Record) (d : Record) → rising rs ≡ true → (i : ℕ) → i < length rs → keyLess (getD rs i d .key) k ≡ ltb i (rank k rs)
+rank-side k rs d h i l = go (ltb i (rank k rs)) refl
+  where
+    go : (b : Bool) → ltb i (rank k rs) ≡ b → keyLess (getD rs i d .key) k ≡ b
+    go true e =
+        let m = ltb-true i (rank k rs) e in
+        let n : i < length (take (rank k rs) rs) = simp length-take (omega arith) in
+        rw (getD-take (rank k rs) rs i d m) at (all-at (λ (r : Record). keyLess (r .key) k) (take (rank k rs) rs) d i (rank-above k rs h) n)
+    go false e =
+        let m = ltb-false i (rank k rs) e in
+        let j : rank k rs + (i - rank k rs) ≡ i = omega arith in
+        rw (getD-drop, j) at (none-at (λ (r : Record). keyLess (r .key) k) (drop (rank k rs) rs) d (i - rank k rs) (rank-behind k rs h) (simp length-drop (omega arith)))

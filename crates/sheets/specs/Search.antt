@@ -1,20 +1,19 @@
--- The search of a key, line by line and field by field: the first line whose twenty bytes are those of the key's line.
+-- The search of a key, line by line and field by field: the first line whose twenty bytes are those of the key's line; and of its rank, by halves.
 use Rattle.lists.specs.Basics.{_≡_, refl, sym, ap, ap₂, _∙_, ℕ, zero, suc, _+_, _-_, _*_, _/_, _≤_, _<_, Bool, true, false, cond, true≢false, List, [], _∷_}
-use Rattle.lists.specs.Basics.{_++_, map, length, take, drop, getD, drop-drop, take-add, arith, add-one, all, count, less, eqList, eqList-true, eqList-refl, tests}
+use Rattle.lists.specs.Basics.{_++_, map, length, take, drop, getD, drop-drop, take-add, arith, add-one, ltb, ltb-true, ltb-false, all, eqList, eqList-true, eqList-refl, tests}
 use native.Mathlib.Nat.{zero-add}
 use Rattle.lists.specs.Bytes.{ne-eqList}
 use Rattle.lists.specs.Pieces.{take-drop-take, getD-pieces, length-pieces}
-use Rattle.lists.specs.Chosen.{count-map}
 use Rattle.lists.specs.Walks.{LeftFrom, left-here, left-last}
 use Rattle.model.specs.Types.{Key, Record, Found, At, Nothing}
-use Rattle.model.specs.Layouts.{recordLayout, keyLayout, recordBytes, keyBytes, offset, recordOffset}
-use Rattle.model.specs.Lines.{lineSet, linesOf, linesSet, inRange, rowGood}
+use Rattle.model.specs.Layouts.{recordLayout, recordBytes, keyBytes, offset, recordOffset}
+use Rattle.model.specs.Lines.{lineSet, linesOf, linesSet}
 use Rattle.model.specs.Search.{firstFrom}
-use Rattle.model.specs.Records.{stateNumber, keyNumbers, imageNumbers, recordNumbers, absentAt, recordText, records, recordIn, recordsAccepted, keyInRange, keyLess, sameKey, found, rank}
+use Rattle.model.specs.Records.{records, recordIn, noRecord, recordsAccepted, keyInRange, keyLess, sameKey, found, rank}
 use Rattle.sheet_laws.specs.Search.{first-map}
-use Rattle.sheet_laws.specs.Records.{ranged, record-read-written, record-text-set}
-use Rattle.sheet_laws.specs.Keys.{keyLine, keyText, key-line-text, line-key-text, key-same}
-use Rattle.record_check.specs.Keys.{key-order}
+use Rattle.sheet_laws.specs.ByIndex.{length-records}
+use Rattle.sheet_laws.specs.Ranks.{accepted-order, rank-within, rank-side}
+use Rattle.sheet_laws.specs.Keys.{keyLine, key-line-text, key-same}
 
 -- where key field f begins
 unfoldable pub edge : ℕ → ℕ
@@ -136,65 +135,6 @@ pub pass-last : (s text : List ℕ) (i : ℕ) → length s / recordBytes ≤ i �
 unfolding firstFrom
 pass-last s text i l p = left-last (linesOf recordBytes s) (foundLine i text) (foundLine 0 text (linesOf recordBytes s)) i (omega (arith, length-lines s)) p
 
--- how many lines come before the text in their first twenty bytes
-abbrev pub linesBelow : List ℕ → List (List ℕ) → ℕ
-linesBelow text ls = count (λ (l : List ℕ). less (take keyBytes l) (take keyBytes text)) ls
-
--- How many of the lines before i do, so that those from i on are left to be counted.
-abbrev pub Counted : (s text : List ℕ) (i below : ℕ) → Type 0
-Counted s text i below =
-    (below ≤ i) × LeftFrom (linesOf recordBytes s) (λ (ls : List (List ℕ)). below + linesBelow text ls) (linesBelow text (linesOf recordBytes s)) i
-
-pub count-first : (s text : List ℕ) → Counted s text 0 0
-count-first s text = (omega arith, record { reached = omega arith; rest = omega arith })
-
-module _ (s text : List ℕ) (i below : ℕ) (c : Counted s text i below) where
-  pub count-last : length s / recordBytes ≤ i → below ≡ linesBelow text (linesOf recordBytes s)
-  unfolding count
-  count-last l =
-      let e = left-last (linesOf recordBytes s) (λ (ls : List (List ℕ)). below + linesBelow text ls) (linesBelow text (linesOf recordBytes s)) i (omega (arith, length-lines s)) (c .1) in
-      omega (arith, e)
-
-  -- the text as it is lent
-  pub count-next : i < length s / recordBytes → (one : ℕ) → one ≡ cond (less (take keyBytes (drop (i * recordBytes) s)) (take keyBytes (drop 0 text))) 1 0 → Counted s text (i + 1) (below + one)
-  unfolding count linesOf
-  count-next here one o =
-      let k : take keyBytes (lineBytesAt s i) ≡ take keyBytes (drop (i * recordBytes) s) = take-drop-take keyBytes 0 recordBytes (drop (i * recordBytes) s) (omega arith) in
-      let e : lineBytesAt s i ≡ getD (linesOf recordBytes s) i [] = sym (getD-pieces recordBytes i (length s / recordBytes) s here) in
-      let f = left-here (linesOf recordBytes s) (λ (ls : List (List ℕ)). below + linesBelow text ls) [] (lineBytesAt s i) (linesBelow text (linesOf recordBytes s)) i (omega (arith, length-lines s)) e (c .1) in
-      go (less (take keyBytes (lineBytesAt s i)) (take keyBytes text)) (o ∙ ap (λ (t : List ℕ). cond (less t (take keyBytes text)) 1 0) (sym k)) f
-    where
-      m : ℕ
-      m = linesBelow text (drop (i + 1) (linesOf recordBytes s))
-
-      go : (b : Bool) → one ≡ cond b 1 0 → below + cond b (suc m) m ≡ linesBelow text (linesOf recordBytes s) → Counted s text (i + 1) (below + one)
-      go true x f = (omega arith, record { reached = omega (arith, length-lines s); rest = omega (arith, x, f) })
-      go false x f = (omega arith, record { reached = omega (arith, length-lines s); rest = omega (arith, x, f) })
-
--- a key in range is that of a record in range
-absent-ranged : (k : Key) → ranged (absentAt k) ≡ keyInRange k
-unfolding keyInRange inRange rowGood recordNumbers imageNumbers keyNumbers stateNumber keyLayout recordLayout
-absent-ranged k = refl
-
--- a line that can be read comes before a key line as its key comes before the key
-below-key : (k : Key) → keyInRange k ≡ true → (l : List ℕ) → lineSet recordLayout l ≡ true → keyLess (recordIn l .key) k ≡ less (take keyBytes l) (take keyBytes (keyLine k))
-below-key k g l o =
-    let good : ranged (absentAt k) ≡ true = absent-ranged k ∙ g in
-    let same : recordIn (recordText (absentAt k)) ≡ absentAt k = record-read-written (absentAt k) good in
-    let set = record-text-set (absentAt k) good in
-    let text : take keyBytes (recordText (absentAt k)) ≡ take keyBytes (keyLine k) =
-    line-key-text (recordText (absentAt k)) set ∙ (ap (λ (r : Record). keyText (r .key)) same ∙ sym (key-line-text k)) in
-    sym
-    (ap (less (take keyBytes l)) (sym text)
-    ∙ (key-order l (recordText (absentAt k)) o set ∙ ap (λ (r : Record). keyLess (recordIn l .key) (r .key)) same))
-
--- the lines that come before a key line are those that have smaller keys
-pub count-is : (s : List ℕ) (k : Key) → recordsAccepted s ≡ true → keyInRange k ≡ true → linesBelow (keyLine k) (linesOf recordBytes s) ≡ rank k (records s)
-unfolding recordsAccepted linesSet records rank
-count-is s k a g =
-    let w : all (lineSet recordLayout) (linesOf recordBytes s) ≡ true = search tests in
-    sym (count-map (λ (r : Record). keyLess (r .key) k) recordIn (lineSet recordLayout) _ (below-key k g) (linesOf recordBytes s) w)
-
 -- the line that begins as a key line does is the one that has the key
 pub search-is : (s : List ℕ) (k : Key) → recordsAccepted s ≡ true → keyInRange k ≡ true → foundLine 0 (keyLine k) (linesOf recordBytes s) ≡ found k (records s)
 unfolding recordsAccepted linesSet records found
@@ -203,3 +143,29 @@ search-is s k a g =
     sym
     (first-map (λ (r : Record). sameKey (r .key) k) recordIn (lineSet recordLayout) _
     (λ l o. sym (ap (eqList (take keyBytes l)) (key-line-text k) ∙ key-same l o k g)) 0 (linesOf recordBytes s) w)
+
+-- The rank of a key stands from low to high, of the lines of an accepted sheet.
+pub record Between (s : List ℕ) (k : Key) (low high : ℕ) : Type 0 where
+  pub above : low ≤ rank k (records s)
+  pub within : rank k (records s) ≤ high
+  pub inside : high ≤ length s / recordBytes
+
+module _ (s : List ℕ) (k : Key) where
+  pub between-first : Between s k 0 (length s / recordBytes)
+  between-first = record { above = omega arith; within = omega (arith, rank-within k (records s), length-records s); inside = omega arith }
+
+  pub between-last : (low high : ℕ) → Between s k low high → high ≤ low → low ≡ rank k (records s)
+  between-last low high b l = omega (arith, b .above, b .within)
+
+  -- the line in the middle tells on which side of it
+  module _ (accepted : recordsAccepted s ≡ true) (low high m : ℕ) (b : Between s k low high) (here : m < high) where
+    side : (r : Bool) → r ≡ keyLess (getD (records s) m noRecord .key) k → ltb m (rank k (records s)) ≡ r
+    side r e = sym (e ∙ rank-side k (records s) noRecord (accepted-order s accepted) m (omega (arith, length-records s, b .inside)))
+
+    pub between-behind : (r : Bool) → r ≡ keyLess (getD (records s) m noRecord .key) k → r ≡ true → Between s k (m + 1) high
+    between-behind r e t =
+        record { above = omega (arith, ltb-true m (rank k (records s)) (side r e ∙ t)); within = b .within; inside = b .inside }
+
+    pub between-before : (r : Bool) → r ≡ keyLess (getD (records s) m noRecord .key) k → r ≡ false → Between s k low m
+    between-before r e f =
+        record { above = b .above; within = ltb-false m (rank k (records s)) (side r e ∙ f); inside = omega (arith, b .inside) }

@@ -10,20 +10,32 @@ ghost use Rattle.model.specs.Records as model;
 ghost use Rattle.sheet_laws.specs.Keys.{keyLine};
 ghost use Rattle.model.specs.Lines.{linesOf};
 ghost use Rattle.model.specs.SheetCalls.{lookedUp, rankOn};
-ghost use Rattle.sheets.specs.Search.{keyField, foundLine, linesBelow};
+ghost use Rattle.sheets.specs.Search.{keyField, foundLine};
 use codec::fields::in_range;
 use codec::layouts::NAMESPACE;
 use codec::layouts::PARTITION;
 use codec::layouts::STORAGE;
+use types::CLUSTERING_AT;
 use types::Found;
 use types::Key;
 use types::Layout;
+use types::NAMESPACE_AT;
+use types::PARTITION_AT;
 use types::RECORD_BYTES;
 use types::Rank;
 use types::Ranked;
+use types::STATE_AT;
+use types::TABLE_AT;
 
 // Where each key field begins, and the end of the last.
-const EDGES: [usize; 6] = [0, 2, 5, 8, 14, 20];
+const EDGES: [usize; 6] = [
+    0,
+    NAMESPACE_AT,
+    TABLE_AT,
+    PARTITION_AT,
+    CLUSTERING_AT,
+    STATE_AT,
+];
 
 // The numbers of a key.
 fn numbers_of(key: Key) -> [u32; 5]
@@ -86,20 +98,6 @@ fn find_line(records: &[u8], text: &[u8]) -> Found
     Found::Nothing
 }
 
-// How many lines come before a key line, as their bytes do.
-fn count_below(records: &[u8], text: &[u8]) -> usize
-    requires { ⌜ 21 ≤ length (now text) ⌝ }
-    ensures { λ r. ⌜ r ≡ linesBelow (now (text .entry)) (linesOf recordBytes (now (records .entry))) ⌝ }
-{
-    let n = records.len() / RECORD_BYTES;
-    let mut below = 0;
-    for i in 0..n {
-        let smaller = line_bytes::key_less(records, i * RECORD_BYTES, text, 0);
-        below += line_bytes::bit(smaller) as usize;
-    }
-    below
-}
-
 // The index of the line that has the key, in an accepted sheet.
 fn find(records: &[u8], key: Key) -> Found
     requires { ⌜ recordsAccepted (now records) ≡ true ⌝ }
@@ -110,14 +108,22 @@ fn find(records: &[u8], key: Key) -> Found
     find_line(records, &text)
 }
 
-// How many lines of an accepted sheet have smaller keys. It lays out the key's line anew, so that the search above keeps none of it.
+// How many lines of an accepted sheet have smaller keys: those above it, whose keys rise, so that halves are left out.
 fn below(records: &[u8], key: Key) -> usize
     requires { ⌜ recordsAccepted (now records) ≡ true ⌝ }
-    requires { ⌜ keyInRange key ≡ true ⌝ }
     ensures { λ r. ⌜ r ≡ model.rank key (model.records (now (records .entry))) ⌝ }
 {
-    let text = key_line(key);
-    count_below(records, &text)
+    let mut low = 0;
+    let mut high = records.len() / RECORD_BYTES;
+    while low < high {
+        let middle = low + (high - low) / 2;
+        if codec::keys::less(codec::reading::key(records, middle), key) {
+            low = middle + 1;
+        } else {
+            high = middle;
+        }
+    }
+    low
 }
 
 // Where the key stands on an accepted sheet, or would stand. Lines are counted only where none has the key: else the index of its line is the rank.

@@ -101,6 +101,13 @@ pub const RECORD_FIELDS: usize = 15;
 
 pub const HEAD_FIELDS: usize = 10;
 
+// Columns of a key's storage, of its namespace or table, and of its partition or clustering.
+pub const STORAGE_BYTES: usize = 2;
+
+pub const TABLE_BYTES: usize = 3;
+
+pub const PARTITION_BYTES: usize = 6;
+
 // Columns of a state or decision word, of the number of a coordinator line, and of a record's version, TxID, column and clock.
 pub const WORD_BYTES: usize = 10;
 
@@ -117,8 +124,16 @@ pub const CLOCK_BYTES: usize = 11;
 // Bytes of an image: version, TxID and both columns.
 pub const IMAGE_BYTES: usize = VERSION_BYTES + TXID_BYTES + COLUMN_BYTES + COLUMN_BYTES;
 
-// Where the fields of a record line begin: behind the key its state word, the image, the image before it, the clock.
-pub const STATE_AT: usize = 20;
+// Where the fields of a record line begin: the key's, its state word, the image, the image before it, the clock.
+pub const NAMESPACE_AT: usize = STORAGE_BYTES;
+
+pub const TABLE_AT: usize = NAMESPACE_AT + TABLE_BYTES;
+
+pub const PARTITION_AT: usize = TABLE_AT + TABLE_BYTES;
+
+pub const CLUSTERING_AT: usize = PARTITION_AT + PARTITION_BYTES;
+
+pub const STATE_AT: usize = CLUSTERING_AT + PARTITION_BYTES;
 
 pub const VERSION_AT: usize = STATE_AT + WORD_BYTES;
 

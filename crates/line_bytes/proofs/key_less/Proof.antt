@@ -6,24 +6,20 @@ use Rattle.line_bytes.proofs.key_less.Tie as tie
 
 returns : tie.Need-returns
 returns c =
-    let a = c .before .before .before .before .before .args in
+    let a = c .before .before .before .before .args in
     let s = a .s .now in
-    let t = a .t .now in
     let w = c .before .word2 .ensures in
     let v = c .before .before .word .ensures in
-    let of-s : (i : ℕ) → getD s i 0 < 256 = λ i. c .before .before .before .before .shared-slice-known .given i .fits in
-    let of-t : (i : ℕ) → getD t i 0 < 256 = λ i. c .before .before .before .shared-slice-known2 .given i .fits in
-    let split = part-split s t of-s of-t 8 12 (a .a) (a .b) (omega arith) (omega arith) in
+    let of-s : (i : ℕ) → getD s i 0 < 256 = λ i. c .before .before .before .shared-slice-known .given i .fits in
+    let split = part-split s s of-s of-s 8 12 (a .a) (a .b) (omega arith) (omega arith) in
     rw (v, w) (sym (rw (ne-eqb _ _ (rw (v, w) at (c .if1 .taken))) at split))
 
 returns-2 : tie.Need-returns-2
 returns-2 c =
-    let a = c .before .before .before .before .before .before .args in
+    let a = c .before .before .before .before .before .args in
     let s = a .s .now in
-    let t = a .t .now in
-    let of-s : (i : ℕ) → getD s i 0 < 256 = λ i. c .before .before .before .before .before .shared-slice-known .given i .fits in
-    let of-t : (i : ℕ) → getD t i 0 < 256 = λ i. c .before .before .before .before .shared-slice-known2 .given i .fits in
-    let split = part-split s t of-s of-t 8 12 (a .a) (a .b) (omega arith) (omega arith) in
+    let of-s : (i : ℕ) → getD s i 0 < 256 = λ i. c .before .before .before .before .shared-slice-known .given i .fits in
+    let split = part-split s s of-s of-s 8 12 (a .a) (a .b) (omega arith) (omega arith) in
     let same = sym (c .before .before .before .word .ensures) ∙ (c .before .if1 .left ∙ c .before .before .word2 .ensures) in
     c .twelve-less .ensures ∙ sym (rw (eq-eqb _ _ same) at split)
 

@@ -16,7 +16,7 @@ returns-2 c =
     let a1 = c .before .before .before .before .before .before .before .args in
     let v = a1 .numbers .now in
     let i = a1 .i in
-    c .key-less .ensures
+    c .less .ensures
     ∙ (ap₂ (λ (a b : Record). keyLess (a .key) (b .key)) (c .before .before .before .record-of .ensures ∙ ap recordOf (row-part v i)) (c .before .record-of2 .ensures ∙ ap recordOf (row-part-next v i))
     ∙ before-next v i (c .before .before .before .before .before .if1 .left))
 
