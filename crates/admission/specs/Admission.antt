@@ -20,8 +20,8 @@ use Rattle.call_laws.specs.Transactions.{well-formed-parts}
 use Rattle.call_laws.specs.Accepted.{Accepted}
 use Rattle.well_formed.specs.Formed.{headFormed, head-few, formed-not}
 use Rattle.transactions.specs.Units.{unitsIn, units-said}
-use Rattle.group_writes.specs.declared.lines.Located.{Located}
-use Rattle.group_writes.specs.Located.{locatedIn, Indexed, Grouped, indexed-all, grouped-in, place-few}
+use Rattle.held_lines.specs.declared.Located.{Located}
+use Rattle.held_lines.specs.Located.{locatedIn, Indexed, Grouped, indexed-all, grouped-in, place-few}
 use Rattle.admission.specs.declared.Admitted.{Admitted}
 
 -- Well-formedness, in the order in which the code asks.

@@ -10,8 +10,7 @@ ghost use Rattle.model.specs.Conditions.{notOpen};
 ghost use Rattle.model.specs.ByteCalls.{sheetsOf};
 ghost use Rattle.call_laws.specs.Accepted.{Accepted};
 ghost use Rattle.admission.specs.Admission.{nowhere, admitted, admittingOpen};
-use group_writes::lines;
-use group_writes::lines::Located;
+use held_lines::Located;
 use types::Key;
 use types::Transaction;
 
@@ -50,7 +49,7 @@ pub fn admit(t: Transaction, records: &[u8], coordinator: &[u8]) -> Admitted
     if !well_formed::formed(letters, found.count, issued, t) {
         return ill_formed();
     }
-    let lines = lines::lines_of(records, t);
+    let lines = held_lines::lines_of(records, t);
     if !lines.all {
         return ill_formed();
     }

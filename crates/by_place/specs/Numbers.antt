@@ -10,7 +10,7 @@ use Rattle.model.specs.ByteCalls.{resultOn}
 use Rattle.model.specs.Operations.{Operation, responseOn}
 use Rattle.call_laws.specs.Exactness.{small, Sound, sound-refused, sound-made, result-sound}
 use Rattle.call_laws.specs.Operations.{response-sound-on}
-use Rattle.cores.specs.Answers.{toIssued, toVisited, toPerformed, recoveryIn, replyNumber, replyIn}
+use Rattle.answers.specs.Answers.{toIssued, toVisited, toPerformed, recoveryIn, replyNumber, replyIn}
 
 -- a response as one number, by what is made of an accepted answer; its effect isn't looked at
 abbrev pub asNumber : {E : Type 0} → (Answer → ℕ) → Response Answer E → ℕ

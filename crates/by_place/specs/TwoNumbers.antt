@@ -20,7 +20,7 @@ use Rattle.model.specs.TwoCalls.{TwoBytes, sayingTwo, conditionsOf, responseTwo
 use Rattle.call_laws.specs.Choices.{unless-by}
 use Rattle.call_laws.specs.Exactness.{small, Sound, sound-refused, sound-made, sound-unless}
 use Rattle.call_laws.specs.Operations.{response-sound}
-use Rattle.cores.specs.Answers.{toPerformed, recoveryIn, replyNumber, replyIn, columnsIn}
+use Rattle.answers.specs.Answers.{toPerformed, recoveryIn, replyNumber, replyIn, columnsIn}
 use Rattle.by_place.specs.Asked.{requestOf}
 use Rattle.by_place.specs.Numbers.{asNumber, visitNumber, Numbered}
 

@@ -10,7 +10,7 @@ ghost use Rattle.by_place.specs.Numbers.{unlistedNumber};
 ghost use Rattle.by_place.specs.Ranks.{oneIf, lineNumber, rankNumber, rankTarget};
 ghost use Rattle.by_place.specs.Asked.{requestOf, calls, callsTwo, naming};
 ghost use Rattle.by_place.specs.TwoNumbers.{numberOf, unlistedNumberTwo};
-ghost use Rattle.two_sheets.specs.Areas.{two};
+ghost use Rattle.two_check.specs.Areas.{two};
 use types::Columns;
 use types::Key;
 use types::Ranked;

@@ -10,7 +10,7 @@ use Rattle.model.specs.Operations.{responseOn, recordsLeft, coordinatorLeft}
 use Rattle.model.specs.Requests.{operationOf}
 use Rattle.model.specs.CallByPlace.{listed, named, operationAt, listAfter}
 use Rattle.call_laws.specs.ByPlace.{leftWith, listed-within, named-response-on, unlisted-refused, refusal-leaves}
-use Rattle.cores.specs.Answers.{toPerformed}
+use Rattle.answers.specs.Answers.{toPerformed}
 use Rattle.c_api.specs.declared.Called.{Called}
 use Rattle.by_place.specs.Numbers.{callNumber, unlistedNumber}
 use Rattle.by_place.specs.Asked.{calls, isCall, asks, naming, orNoCall, calledAtOn}

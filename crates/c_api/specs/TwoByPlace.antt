@@ -10,7 +10,7 @@ use Rattle.model.specs.CallByPlace.{listed, named, operationAt, listAfter}
 use Rattle.model.specs.TwoCalls.{TwoBytes, sayingTwo, conditionsOf, responseTwo, responseAtTwo, plainLeft, bookkeepingLeft}
 use Rattle.call_laws.specs.ByPlace.{leftWith, named-response, unlisted-response}
 use Rattle.c_api.specs.declared.two.CalledTwo.{CalledTwo}
-use Rattle.two_sheets.specs.Areas.{two}
+use Rattle.two_check.specs.Areas.{two}
 use Rattle.by_place.specs.TwoNumbers.{callNumberTwo, unlistedNumberTwo}
 use Rattle.by_place.specs.Asked.{callsTwo, asks, naming, calledAtTwo}
 use Rattle.c_api.specs.ByPlace.{called-named, called-unnamed, put-back}

@@ -7,7 +7,7 @@ ghost use Rattle.model.specs.Requests.{operationOf};
 ghost use Rattle.model.specs.CallByPlace.{listAfter};
 ghost use Rattle.model.specs.TwoSheets.{twoConditions, rankTwo};
 ghost use Rattle.model.specs.TwoCalls.{responseTwo, plainLeft, bookkeepingLeft};
-ghost use Rattle.two_sheets.specs.Areas.{two};
+ghost use Rattle.two_check.specs.Areas.{two};
 ghost use Rattle.by_place.specs.Numbers.{visitNumber};
 ghost use Rattle.by_place.specs.TwoNumbers.{callNumberTwo};
 ghost use Rattle.by_place.specs.Asked.{asks, calledAtTwo};

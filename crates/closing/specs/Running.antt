@@ -29,8 +29,8 @@ use Rattle.call_laws.specs.Lifting.{readable-both, readable-good, encoded, enco
 use Rattle.transactions.specs.Held.{entryAt, has-room}
 use Rattle.put_groups.specs.Groups.{inGroup}
 use Rattle.put_groups.specs.GroupsIn.{in-group-at}
-use Rattle.group_writes.specs.declared.lines.Located.{Located}
-use Rattle.group_writes.specs.Located.{locatedIn, indexed-all, indexed-kept, place-few}
+use Rattle.held_lines.specs.declared.Located.{Located}
+use Rattle.held_lines.specs.Located.{locatedIn, indexed-all, indexed-kept, place-few}
 use Rattle.steps.specs.Ready.{Ready}
 use Rattle.steps.specs.Stepped.{Stepped}
 use Rattle.closing.specs.declared.Ran.{Ran}

@@ -21,7 +21,7 @@ use Rattle.call_laws.specs.ByIndex.{found-at}
 use Rattle.call_laws.specs.Sheets.{good-parts}
 use Rattle.call_laws.specs.Lifting.{readable-good}
 use Rattle.transactions.specs.Held.{entryAt, some-kept}
-use Rattle.group_writes.specs.declared.lines.Located.{Located}
+use Rattle.held_lines.specs.declared.Located.{Located}
 use Rattle.group_writes.specs.Groups.{ofGroup, group-in}
 use Rattle.group_writes.specs.Ready.{Ready}
 use Rattle.steps.specs.Ready.{Ready as MayStep}

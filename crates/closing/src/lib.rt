@@ -3,7 +3,7 @@ ghost use Rattle.closing.specs.Running.{Sure, Turned, Closed};
 
 pub mod writes;
 
-use group_writes::lines::Located;
+use held_lines::Located;
 use transactions::stages;
 use types::Transaction;
 

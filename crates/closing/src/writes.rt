@@ -14,7 +14,7 @@ ghost use Rattle.steps.specs.Ready.{Ready};
 ghost use Rattle.closing.specs.Writes.{putsGroup, rollsGroup};
 use group_writes::changes;
 use group_writes::groups;
-use group_writes::lines::Located;
+use held_lines::Located;
 use types::Decision;
 use types::Transaction;
 
@@ -50,7 +50,7 @@ fn rolls_group(t: Transaction, located: Located, records: &[u8], coordinator: &[
     for i in 0..n {
         let own = located.of[i] == t.place;
         let index = located.indices[i];
-        if own & changes::prepared_by(t.number, records, index) {
+        if own & held_lines::prepared_by(t.number, records, index) {
             return true;
         }
     }

@@ -12,7 +12,7 @@ use Rattle.model.specs.ByteCalls.{sheetsOf}
 use Rattle.call_laws.specs.Accepted.{Outcome, outcome-made}
 use Rattle.well_formed.specs.Barred.{forbids}
 use Rattle.steps.specs.Stepped.{Stepped}
-use Rattle.cores.specs.Answers.{toReturned, returned-made}
+use Rattle.answers.specs.Answers.{toReturned, returned-made}
 
 module _ (t : Transaction) (clock : ℕ) (rs cs : List ℕ) where
   pub advance-ill : wellFormed (sheetsOf rs cs) t ≡ false → result (advance t clock) (sheetsOf rs cs) ≡ refused 3

@@ -15,8 +15,8 @@ use Rattle.sheet_laws.specs.Decisions.{length-decisions, readable-length, reada
 use Rattle.call_laws.specs.Keeping.{strictly}
 use Rattle.call_laws.specs.ByIndex.{count-raised}
 use Rattle.call_laws.specs.Accepted.{Written, Outcome, outcome-refused, outcome-made, Accepted, lines-kept}
-use Rattle.cores.specs.declared.begin.Issued.{Issued}
-use Rattle.cores.specs.Answers.{toIssued}
+use Rattle.answers.specs.declared.Issued.{Issued}
+use Rattle.answers.specs.Answers.{toIssued}
 
 -- which number begin gives and what it leaves, checked or not and whatever accepted record sheet lies beside the coordinator sheet
 pub record Issues (cs : List ℕ) (r : Issued) (cs′ : List ℕ) : Type 0 where

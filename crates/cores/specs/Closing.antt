@@ -11,8 +11,8 @@ use Rattle.model.specs.Operations.{close, closeRun, ended, response, recordsLef
 use Rattle.call_laws.specs.Accepted.{unless-held, unless-free}
 use Rattle.closing.specs.declared.Ran.{Ran}
 use Rattle.closing.specs.Running.{Closed as Ended}
-use Rattle.cores.specs.declared.Closed.{Closed}
-use Rattle.cores.specs.Answers.{toClosed}
+use Rattle.answers.specs.declared.Closed.{Closed}
+use Rattle.answers.specs.Answers.{toClosed}
 
 -- Its refusal, by what is asked.
 module _ (t : Transaction) (s : Sheets) where

@@ -1,9 +1,6 @@
 -- What the calls on accepted sheets answer and leave.
-pub mod Answers
 pub mod Begins
 pub mod Putting
 pub mod Aborting
 pub mod Advancing
 pub mod Closing
-pub mod Fetching
-pub mod Visiting

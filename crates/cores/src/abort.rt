@@ -5,9 +5,9 @@ ghost use Rattle.model.specs.Conditions.{cannotAbort};
 ghost use Rattle.model.specs.Calls.{result};
 ghost use Rattle.model.specs.ByteCalls.{sheetsOf};
 ghost use Rattle.call_laws.specs.Accepted.{Accepted};
-ghost use Rattle.cores.specs.Answers.{toReturned};
-use crate::Returned;
-use crate::refusal;
+ghost use Rattle.answers.specs.Answers.{toReturned};
+use answers::Returned;
+use answers::refusal;
 use types::Transaction;
 
 // Refusal 4: a transaction that is withdrawn or decided can't be given up.

@@ -3,9 +3,9 @@ ghost use Rattle.model.specs.Results.{advance};
 ghost use Rattle.model.specs.Calls.{result};
 ghost use Rattle.model.specs.ByteCalls.{sheetsOf};
 ghost use Rattle.call_laws.specs.Accepted.{Accepted, Outcome};
-ghost use Rattle.cores.specs.Answers.{toReturned};
-use crate::Returned;
-use crate::refusal;
+ghost use Rattle.answers.specs.Answers.{toReturned};
+use answers::Returned;
+use answers::refusal;
 use types::Transaction;
 use well_formed::barred;
 

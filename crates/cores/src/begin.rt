@@ -2,16 +2,10 @@
 ghost use mathlib.Core.Path.{_≡_};
 ghost use mathlib.Core.Bool.{true};
 ghost use Rattle.model.specs.Coordinator.{coordinatorReadable};
-ghost use Rattle.cores.specs.Answers.{ofIssued};
+ghost use Rattle.answers.specs.Answers.{ofIssued};
 ghost use Rattle.cores.specs.Begins.{Issues};
-use crate::Returned;
-
-// What issuing a number comes to: a refusal or 0, and the number, 0 where it is refused.
-#[repr(C)]
-pub struct Issued {
-    pub refusal: u32,
-    pub number: u32,
-}
+use answers::Issued;
+use answers::Returned;
 
 // Whatever accepted record sheet lies beside: begin looks at none of its lines.
 pub fn issue(coordinator: &mut [u8]) -> Issued

@@ -5,8 +5,8 @@ ghost use Rattle.model.specs.ByteCalls.{sheetsOf};
 ghost use Rattle.model.specs.Operations.{response, recordsLeft, coordinatorLeft};
 ghost use Rattle.model.specs.Operations as model;
 ghost use Rattle.call_laws.specs.Accepted.{Accepted};
-ghost use Rattle.cores.specs.Answers.{toClosed};
-use crate::Closed;
+ghost use Rattle.answers.specs.Answers.{toClosed};
+use answers::Closed;
 use types::Transaction;
 use well_formed::barred;
 

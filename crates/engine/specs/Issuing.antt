@@ -8,8 +8,8 @@ use Rattle.model.specs.Calls.{outcome, result}
 use Rattle.model.specs.ByteCalls.{sheetsOf, resultOn, coordinatorAfter}
 use Rattle.call_laws.specs.Choices.{unless-of}
 use Rattle.call_laws.specs.Accepted.{Outcome}
-use Rattle.cores.specs.declared.begin.Issued.{Issued}
-use Rattle.cores.specs.Answers.{toBegun, toIssued, ofIssued}
+use Rattle.answers.specs.declared.Issued.{Issued}
+use Rattle.answers.specs.Answers.{toBegun, toIssued, ofIssued}
 
 -- which number is issued and what that leaves, checked or not
 pub record IssuesOn (rs cs : List ℕ) (r : Issued) (cs′ : List ℕ) : Type 0 where

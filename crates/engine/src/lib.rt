@@ -7,12 +7,12 @@ ghost use Rattle.model.specs.Operations.{responseOn, recordsLeft, coordinatorLe
 ghost use Rattle.model.specs.Operations as operations;
 ghost use Rattle.model.specs.Requests.{operationOf};
 ghost use Rattle.engine.specs.Issuing.{IssuesOn};
-ghost use Rattle.cores.specs.Answers.{toBegun, toReturned, toPerformed, toClosed, toVisited};
-use cores::Closed;
-use cores::Performed;
-use cores::Returned;
-use cores::Visited;
-use cores::begin::Issued;
+ghost use Rattle.answers.specs.Answers.{toBegun, toReturned, toPerformed, toClosed, toVisited};
+use answers::Closed;
+use answers::Issued;
+use answers::Performed;
+use answers::Returned;
+use answers::Visited;
 use sheets::check;
 use types::Columns;
 use types::Key;
@@ -53,9 +53,9 @@ pub fn read(
 {
     let checked = check::check(records, coordinator);
     if checked != 0 {
-        return cores::read::refusal(checked, t);
+        return reads::refusal(checked, t);
     }
-    cores::read::read(t, key, clock, records, coordinator)
+    reads::read(t, key, clock, records, coordinator)
 }
 
 pub fn put(
@@ -69,7 +69,7 @@ pub fn put(
 {
     let checked = check::check(records, coordinator);
     if checked != 0 {
-        return cores::refusal(checked, t);
+        return answers::refusal(checked, t);
     }
     cores::put::put(t, key, columns, records, coordinator)
 }
@@ -81,7 +81,7 @@ pub fn advance(t: Transaction, clock: u32, records: &mut [u8], coordinator: &mut
 {
     let checked = check::check(records, coordinator);
     if checked != 0 {
-        return cores::refusal(checked, t);
+        return answers::refusal(checked, t);
     }
     cores::advance::advance(t, clock, records, coordinator)
 }
@@ -110,7 +110,7 @@ pub fn abort(t: Transaction, records: &[u8], coordinator: &[u8]) -> Returned
 {
     let checked = check::check(records, coordinator);
     if checked != 0 {
-        return cores::refusal(checked, t);
+        return answers::refusal(checked, t);
     }
     cores::abort::abort(t, records, coordinator)
 }
@@ -122,9 +122,9 @@ pub fn visit(key: Key, clock: u32, records: &mut [u8], coordinator: &mut [u8]) -
 {
     let checked = check::check(records, coordinator);
     if checked != 0 {
-        return cores::visit::refusal(checked);
+        return visits::refusal(checked);
     }
-    cores::visit::visit(key, clock, records, coordinator)
+    visits::visit(key, clock, records, coordinator)
 }
 
 // Every call by one function: what is asked, of a transaction.
@@ -140,7 +140,7 @@ pub fn perform(
 {
     let checked = check::check(records, coordinator);
     if checked != 0 {
-        return cores::read::refusal(checked, t);
+        return reads::refusal(checked, t);
     }
     perform::perform(request, t, records, coordinator)
 }

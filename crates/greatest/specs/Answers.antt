@@ -11,7 +11,7 @@ use Rattle.model.specs.Calls.{newTransaction}
 use Rattle.model.specs.Greatest.{greatestLines, greatestCoordinator, greatestTransaction, greatestConditions, greatestGiven, greatestRecordsAfter}
 use Rattle.model.specs.Greatest.{greatestCoordinatorAfter}
 use Rattle.call_laws.specs.Choices.{not-first}
-use Rattle.cores.specs.declared.Returned.{Returned}
+use Rattle.answers.specs.declared.Returned.{Returned}
 use Rattle.decimal.specs.Field as Field
 use Rattle.model.specs.Layouts as Layouts
 use Rattle.model.specs.Lines as Lines

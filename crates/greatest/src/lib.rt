@@ -8,7 +8,7 @@ ghost use Rattle.model.specs.Refusals.{refusalOf};
 ghost use Rattle.model.specs.Greatest.{greatestLines, greatestEntry, greatestTransaction, greatestConditions};
 ghost use Rattle.model.specs.Greatest.{greatestRecordsAfter, greatestCoordinatorAfter};
 ghost use Rattle.greatest.specs.Answers.{greatestAnswer};
-use cores::Returned;
+use answers::Returned;
 use types::Columns;
 use types::Entry;
 use types::Key;
@@ -97,7 +97,7 @@ pub fn greatest(count: u32, records: &mut [u8], coordinator: &mut [u8]) -> Retur
 {
     let refused = refusal(count, records, coordinator);
     if refused != 0 {
-        return cores::refusal(refused, transactions::new_transaction(0, false));
+        return answers::refusal(refused, transactions::new_transaction(0, false));
     }
     fill_lines(count, records);
     let text = COORDINATOR;

@@ -1,6 +1,4 @@
 -- What a turn of a loop does to the definition that the loop computes, for loops over a transaction's entries and a record sheet.
-pub mod Lookup
-pub mod Located
 pub mod Groups
 pub mod Changes
 pub mod Turns

@@ -26,8 +26,8 @@ use Rattle.group_writes.specs.declared.changes.Effect.{Effect}
 use Rattle.group_writes.specs.declared.changes.Effect.the-variants.{Commit, Prepare, Forward, Back}
 use Rattle.group_writes.specs.Groups.{ofGroup, group-in}
 use Rattle.group_writes.specs.Changes.{changed, fits}
-use Rattle.group_writes.specs.declared.lines.Located.{Located}
-use Rattle.group_writes.specs.Located.{Indexed, Grouped}
+use Rattle.held_lines.specs.declared.Located.{Located}
+use Rattle.held_lines.specs.Located.{Indexed, Grouped}
 use Rattle.group_writes.specs.Turns.{MayChange}
 
 -- accepted bytes, and a transaction whose body is well formed and whose lines and groups are these

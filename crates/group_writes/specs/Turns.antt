@@ -24,8 +24,8 @@ use Rattle.transactions.specs.Held.{PassedTo, entryAt, after, pass-first, pass-
 use Rattle.group_writes.specs.declared.changes.Effect.{Effect}
 use Rattle.group_writes.specs.Groups.{ofGroup, groupIn, group-in}
 use Rattle.group_writes.specs.Changes.{changed, changed-key, written, lines-none, lines-first, at-key-kept, fits, fits-elsewhere, wrote-line}
-use Rattle.group_writes.specs.declared.lines.Located.{Located}
-use Rattle.group_writes.specs.Located.{Indexed, Grouped, indexed-kept}
+use Rattle.held_lines.specs.declared.Located.{Located}
+use Rattle.held_lines.specs.Located.{Indexed, Grouped, indexed-kept}
 
 -- what a change of a whole group asks for
 pub record MayChange (c : Effect) (rs cs : List ℕ) (t : Transaction) (l : Located) : Type 0 where

@@ -9,17 +9,15 @@ ghost use Rattle.lists.specs.Pieces.{over};
 ghost use Rattle.model.specs.Layouts.{recordBytes};
 ghost use Rattle.model.specs.Records.{recordsAccepted, recordText, recordsText, noRecord};
 ghost use Rattle.model.specs.Records as sheet;
-ghost use Rattle.model.specs.Images.{preparedBy};
 ghost use Rattle.model.specs.Writes.{linesAfter, prepare, commit, forward, back};
 ghost use Rattle.model.specs.Steps.{holds, groupAt, keysOf};
 ghost use Rattle.model.specs.ByteCalls.{sheetsOf};
 ghost use Rattle.group_writes.specs.Changes.{changed, written};
 ghost use Rattle.group_writes.specs.Turns.{MayChange, Turn, Turned};
 ghost use Rattle.group_writes.specs.Ready.{Ready};
-use crate::lines::Located;
-use codec::reading;
 use codec::settling;
 use codec::writing;
+use held_lines::Located;
 use types::Columns;
 use types::Entry;
 use types::Transaction;
@@ -32,14 +30,6 @@ enum Effect {
     Back,
 }
 
-// Line i is pending by the transaction of this number.
-pub fn prepared_by(n: u32, records: &[u8], i: usize) -> bool
-    requires { ⌜ recordsAccepted (now records) ≡ true ⌝ }
-    ensures { λ r. ⌜ r ≡ preparedBy n (getD (sheet.records (now (records .entry))) i noRecord) ⌝ }
-{
-    reading::is_prepared(records, i) & (reading::txid(records, i) == n)
-}
-
 // Line i changed under a number; only what the number has prepared is rolled.
 fn change_line(c: Effect, n: u32, put: Columns, i: usize, records: &mut [u8])
     requires { ⌜ recordsAccepted (now records) ≡ true ⌝ }
@@ -49,12 +39,12 @@ fn change_line(c: Effect, n: u32, put: Columns, i: usize, records: &mut [u8])
         Effect::Commit => writing::commit(records, i, n, put),
         Effect::Prepare(clock) => writing::prepare(records, i, n, put, clock),
         Effect::Forward => {
-            if prepared_by(n, records, i) {
+            if held_lines::prepared_by(n, records, i) {
                 settling::roll_forward(records, i);
             }
         }
         Effect::Back => {
-            if prepared_by(n, records, i) {
+            if held_lines::prepared_by(n, records, i) {
                 settling::roll_back(records, i);
             }
         }

@@ -12,8 +12,7 @@ ghost use Rattle.model.specs.Steps.{holds, groupAt};
 ghost use Rattle.model.specs.ByteCalls.{sheetsOf};
 ghost use Rattle.sheet_laws.specs.Letters.{unitsIn};
 ghost use Rattle.group_writes.specs.Ready.{Ready};
-use crate::lines;
-use crate::lines::Located;
+use held_lines::Located;
 use types::Entry;
 use types::Transaction;
 
@@ -25,7 +24,7 @@ fn entry_holds(records: &[u8], letters: &[u8], own: bool, e: Entry, index: usize
     if !own {
         return true;
     }
-    lines::holds(records, letters, e, index)
+    held_lines::holds(records, letters, e, index)
 }
 
 // The conditions of all the group's entries hold. The coordinator sheet is lent for its letters, by which the groups were found.

@@ -1,6 +1,6 @@
 -- What a call answers, put as the one function for every call answers it. A result is refused or what the call comes to, and each call comes to one
 -- kind of answer.
-use Rattle.lists.specs.Basics.{_≡_, refl, sym, ap, subst, _∙_, ℕ, eqb, Bool, cond, and-true, and-false, List, ne-eqb}
+use Rattle.lists.specs.Basics.{_≡_, refl, sym, ap, subst, _∙_, ℕ, Bool, and-true, and-false, List, ne-eqb}
 use Rattle.model.specs.Types.{Key, Columns, Transaction, Request}
 use Rattle.types.specs.declared.Request.the-variants as asked
 use Rattle.model.specs.Writes.{Sheets, nothing}
@@ -14,28 +14,14 @@ use Rattle.model.specs.Requests.{operationOf}
 use Rattle.call_laws.specs.Choices.{unless-of, unless-by}
 use Rattle.call_laws.specs.Accepted.{Outcome, Accepted, written-nothing}
 use Rattle.call_laws.specs.Operations.{settled-records, settled-coordinator}
-use Rattle.cores.specs.declared.Closed.{Closed}
-use Rattle.cores.specs.declared.Returned.{Returned}
-use Rattle.cores.specs.declared.Visited.{Visited}
-use Rattle.cores.specs.declared.Performed.{Performed}
-use Rattle.cores.specs.declared.begin.Issued.{Issued}
+use Rattle.answers.specs.declared.Closed.{Closed}
+use Rattle.answers.specs.declared.Returned.{Returned}
+use Rattle.answers.specs.declared.Visited.{Visited}
+use Rattle.answers.specs.declared.Performed.{Performed}
+use Rattle.answers.specs.declared.Issued.{Issued}
 use Rattle.cores.specs.Begins.{Issues}
 use Rattle.cores.specs.Closing.{Closes}
-use Rattle.cores.specs.Answers.{toBegun, toIssued, ofIssued, toReturned, toVisited, toPerformed, toClosed, noColumns}
-
-abbrev pub ofReturned : Returned → Performed
-ofReturned r = record { refusal = r .refusal; reply = 0; columns = noColumns; transaction = r .transaction }
-
--- a refused begin leaves the transaction that there was
-abbrev pub ofBegun : Transaction → Returned → Performed
-ofBegun t r = record { refusal = r .refusal; reply = 0; columns = noColumns; transaction = cond (eqb (r .refusal) 0) (r .transaction) t }
-
-abbrev pub ofVisited : Transaction → Visited → Performed
-ofVisited t r = record { refusal = r .refusal; reply = r .reply; columns = noColumns; transaction = t }
-
--- the writes made are what a close replies
-abbrev pub ofClosed : Closed → Performed
-ofClosed r = record { refusal = r .refusal; reply = r .writes; columns = noColumns; transaction = r .transaction }
+use Rattle.answers.specs.Answers.{toBegun, toIssued, ofIssued, toReturned, toVisited, toPerformed, toClosed, ofReturned, ofBegun, ofVisited, ofClosed}
 
 module _ (s : Sheets) where
   -- what holds of a refusal, and of what the call comes to, holds of its result

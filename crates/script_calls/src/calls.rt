@@ -3,7 +3,7 @@ ghost use mathlib.Core.Path.{_≡_};
 ghost use Prim.Native.Nat.{_≤_};
 ghost use Rattle.script_calls.specs.Parts.{keyFrom, columnsFrom, asksLine};
 ghost use Rattle.script_calls.specs.Asking.{begun, onSlot, askedFor};
-use cores::Performed;
+use answers::Performed;
 use script::reply;
 use script::reply::Form;
 use script::reply::Reply;

@@ -8,7 +8,7 @@ ghost use Rattle.model.specs.Calls.{newTransaction};
 ghost use Rattle.script_calls.specs.Asking.{takenBy};
 use crate::by_hand;
 use crate::calls;
-use cores::Performed;
+use answers::Performed;
 use script::reply;
 use script::reply::Reply;
 use script::scan::Command;

@@ -14,8 +14,8 @@ use Rattle.call_laws.specs.Transactions.{Body, Stage, well-formed-parts, place-
 use Rattle.model.specs.ByteHistories.{Readable}
 use Rattle.call_laws.specs.Lifting.{readable-both}
 use Rattle.transactions.specs.Units.{unitsIn, units-said}
-use Rattle.group_writes.specs.declared.lines.Located.{Located}
-use Rattle.group_writes.specs.Located.{Indexed, Grouped}
+use Rattle.held_lines.specs.declared.Located.{Located}
+use Rattle.held_lines.specs.Located.{Indexed, Grouped}
 use Rattle.group_writes.specs.Ready.{Ready as MayWrite}
 
 -- what refusals 1 to 3 let pass, and what was found of the entries

@@ -6,7 +6,7 @@ ghost use Rattle.steps.specs.Stepped.{Stepped};
 
 pub mod phases;
 
-use group_writes::lines::Located;
+use held_lines::Located;
 use types::Transaction;
 
 // The step of the transaction's phase: the transaction that comes back, and both sheets after it. What was found once of its entries goes with it.

@@ -10,8 +10,7 @@ ghost use Rattle.steps.specs.Ready.{Ready, Known};
 ghost use Rattle.steps.specs.Stepped.{Stepped, ByCoordinator};
 use group_writes::changes;
 use group_writes::groups;
-use group_writes::lines;
-use group_writes::lines::Located;
+use held_lines::Located;
 use transactions::stages;
 use types::Decision;
 use types::Transaction;
@@ -102,8 +101,8 @@ pub fn validate(t: Transaction, located: Located, records: &[u8], coordinator: &
     let letters = &coordinator[5..14];
     let e = transactions::to_validate(letters, t, t.place);
     let indices = located.indices;
-    let index = lines::index_of(e.key, t, indices);
-    if !lines::holds(records, letters, e, index) {
+    let index = held_lines::index_of(e.key, t, indices);
+    if !held_lines::holds(records, letters, e, index) {
         return stages::to_phase(stages::WITHDRAW, t);
     }
     stages::next_entry(letters, t)

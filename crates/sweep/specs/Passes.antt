@@ -18,8 +18,8 @@ use Rattle.call_laws.specs.ByIndex.{found-own}
 use Rattle.call_laws.specs.Lifting.{bytes-stay-passing}
 use Rattle.call_laws.specs.Accepted.{Outcome, accepted, let-pass}
 use Rattle.recover.specs.Recovering.{Standing}
-use Rattle.cores.specs.declared.Visited.{Visited}
-use Rattle.cores.specs.Answers.{toVisited}
+use Rattle.answers.specs.declared.Visited.{Visited}
+use Rattle.answers.specs.Answers.{toVisited}
 
 abbrev pub both : List ℕ → List ℕ → Bytes
 both rs cs = record { records = rs; coordinator = cs }

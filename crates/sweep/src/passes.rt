@@ -13,7 +13,7 @@ fn visit_line(i: usize, clock: u32, records: &mut [u8], coordinator: &mut [u8])
     requires { ⌜ Passing (both (now records) (now coordinator)) × (i < length (now records) / recordBytes) ⌝ }
     ensures { λ u. ⌜ both (now (records .exit)) (now (coordinator .exit)) ≡ afterOn (visit (keyAt (now (records .entry)) i) clock) (both (now (records .entry)) (now (coordinator .entry))) ⌝ }
 {
-    cores::visit::visit_line(i, clock, records, coordinator);
+    visits::visit_line(i, clock, records, coordinator);
 }
 
 // Every line in order. A visit keeps the keys, so that the key of line i is the first sheet's.

@@ -57,7 +57,7 @@ use Rattle.theorems.specs.ClientSample as ClientSample
 use Rattle.theorems.specs.SerialSample as SerialSample
 
 -- DEMAND 1: "a result or the one refusal that our table names for that input, and after a refusal it finds both sheets and its transaction unchanged".
--- A call by value returns its transaction as it came where it is refused: `cores` Answers.
+-- A call by value returns its transaction as it came where it is refused: `answers` Answers.
 
 -- the refusal given is the first of the call's conditions that hold in the order of asking, 0 where none does
 pub refusal-exact : (c : Call) (b : Bytes) → firstAsked (refusalIn (answerOn c b)) (allConditions c (b .records) (b .coordinator)) ≡ true

@@ -1,4 +1,3 @@
 -- What stands in the area of a call on two sheets, what a call there comes to, and the look-up.
-pub mod Areas
 pub mod Performing
 pub mod Lookups

@@ -11,7 +11,7 @@ use Rattle.sheet_laws.specs.Ranks.{rank-few}
 use Rattle.sheets.specs.Answers.{found-fits, at-rank, no-line}
 use Rattle.call_laws.specs.Accepted.{refusal-front, refusal-past}
 use Rattle.two_laws.specs.Decision.{joined-accepted}
-use Rattle.two_sheets.specs.Areas.{joinedSize}
+use Rattle.two_check.specs.Areas.{joinedSize}
 
 -- where a key stands: what is told, and where a line has it, that it is within both sheets
 pub record Ranks (ps bs : List ℕ) (k : Key) (r : Ranked) : Type 0 where

@@ -16,9 +16,9 @@ use Rattle.call_laws.specs.Exactness.{Sound, sound-refused}
 use Rattle.call_laws.specs.Operations.{response-sound}
 use Rattle.two_laws.specs.Encoding.{Joined, passing-joined, on-passing-two}
 use Rattle.two_join.specs.Agrees.{same-counts}
-use Rattle.cores.specs.declared.Performed.{Performed}
-use Rattle.cores.specs.Answers.{toPerformed, performedNot}
-use Rattle.two_sheets.specs.Areas.{two, joinedSize, JoinedIn}
+use Rattle.answers.specs.declared.Performed.{Performed}
+use Rattle.answers.specs.Answers.{toPerformed, performedNot}
+use Rattle.two_check.specs.Areas.{two, joinedSize, JoinedIn}
 
 -- sheets that pass, and beside them the joined one
 pub record OnJoined (ps bs cs area : List ℕ) : Type 0 where

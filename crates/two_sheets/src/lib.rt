@@ -12,14 +12,13 @@ ghost use Rattle.model.specs.Operations as operations;
 ghost use Rattle.model.specs.Operations.{once, coordinatorLeft};
 ghost use Rattle.model.specs.Requests.{operationOf};
 ghost use Rattle.model.specs.TwoCalls.{responseTwo, plainLeft, bookkeepingLeft};
-ghost use Rattle.cores.specs.Answers.{toPerformed};
-ghost use Rattle.two_sheets.specs.Areas.{two, Rooms};
+ghost use Rattle.answers.specs.Answers.{toPerformed};
+ghost use Rattle.two_check.specs.Areas.{two, Rooms};
 ghost use Rattle.two_sheets.specs.Performing.{OnJoined, Gives, Performs};
 
-pub mod checking;
 pub mod lookup;
 
-use cores::Performed;
+use answers::Performed;
 use two_join::PLAIN_BYTES;
 use types::Columns;
 use types::Key;
@@ -31,16 +30,16 @@ use types::Transaction;
 pub fn check(plain: &[u8], book: &[u8], coordinator: &[u8]) -> u32
     ensures { λ r. ⌜ r ≡ refusalOf (twoConditions (now (plain .entry)) (now (book .entry)) (now (coordinator .entry))) ⌝ }
 {
-    if checking::within(40, plain, book) {
-        let mut area = checking::blank_40();
-        return checking::join_checked(plain, book, coordinator, &mut area);
+    if two_check::within(40, plain, book) {
+        let mut area = two_check::blank_40();
+        return two_check::join_checked(plain, book, coordinator, &mut area);
     }
-    if checking::within(250, plain, book) {
-        let mut area = checking::blank_250();
-        return checking::join_checked(plain, book, coordinator, &mut area);
+    if two_check::within(250, plain, book) {
+        let mut area = two_check::blank_250();
+        return two_check::join_checked(plain, book, coordinator, &mut area);
     }
-    let mut area = checking::blank_500();
-    checking::join_checked(plain, book, coordinator, &mut area)
+    let mut area = two_check::blank_500();
+    two_check::join_checked(plain, book, coordinator, &mut area)
 }
 
 // What is asked, on both sheets joined in the area. An accepted call goes to both.
@@ -75,9 +74,9 @@ fn on_area(
     requires { ⌜ Rooms (now plain) (now book) (length (now area)) ⌝ }
     ensures { λ r. ⌜ Performs request t (now (plain .entry)) (now (book .entry)) (now (coordinator .entry)) r (now (plain .exit)) (now (book .exit)) (now (coordinator .exit)) ⌝ }
 {
-    let refused = checking::join_checked(plain, book, coordinator, area);
+    let refused = two_check::join_checked(plain, book, coordinator, area);
     if refused != 0 {
-        return cores::read::refusal(refused, t);
+        return reads::refusal(refused, t);
     }
     let n = plain.len() / PLAIN_BYTES * RECORD_BYTES;
     on_joined(request, t, plain, book, coordinator, &mut area[..n])
@@ -96,15 +95,15 @@ pub fn perform(
     ensures bookkeeping { λ r. ⌜ now (book .exit) ≡ bookkeepingLeft (now (book .entry)) (responseTwo (operationOf request t) (two (now (plain .entry)) (now (book .entry)) (now (coordinator .entry)))) ⌝ }
     ensures decisions { λ r. ⌜ now (coordinator .exit) ≡ coordinatorLeft (now (coordinator .entry)) (responseTwo (operationOf request t) (two (now (plain .entry)) (now (book .entry)) (now (coordinator .entry)))) ⌝ }
 {
-    if checking::within(40, plain, book) {
-        let mut area = checking::blank_40();
+    if two_check::within(40, plain, book) {
+        let mut area = two_check::blank_40();
         return on_area(request, t, plain, book, coordinator, &mut area);
     }
-    if checking::within(250, plain, book) {
-        let mut area = checking::blank_250();
+    if two_check::within(250, plain, book) {
+        let mut area = two_check::blank_250();
         return on_area(request, t, plain, book, coordinator, &mut area);
     }
-    let mut area = checking::blank_500();
+    let mut area = two_check::blank_500();
     on_area(request, t, plain, book, coordinator, &mut area)
 }
 

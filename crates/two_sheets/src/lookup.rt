@@ -3,9 +3,8 @@ ghost use mathlib.Core.Path.{_≡_};
 ghost use Prim.Native.Nat.{_≤_};
 ghost use lib.ListN.{length};
 ghost use Rattle.model.specs.TwoSheets.{rankTwo, lookedUpTwo};
-ghost use Rattle.two_sheets.specs.Areas.{Rooms};
+ghost use Rattle.two_check.specs.Areas.{Rooms};
 ghost use Rattle.two_sheets.specs.Lookups.{Ranks};
-use crate::checking;
 use sheets::lookup::no_rank;
 use two_join::BOOKKEEPING_BYTES;
 use two_join::PLAIN_BYTES;
@@ -18,7 +17,7 @@ fn rank_in(plain: &[u8], book: &[u8], key: Key, area: &mut [u8]) -> Ranked
     requires { ⌜ Rooms (now plain) (now book) (length (now area)) ⌝ }
     ensures { λ r. ⌜ Ranks (now (plain .entry)) (now (book .entry)) key r ⌝ }
 {
-    let refused = checking::lines_refusal(plain, book, area);
+    let refused = two_check::lines_refusal(plain, book, area);
     if refused != 0 {
         return no_rank(refused);
     }
@@ -36,15 +35,15 @@ fn rank_in(plain: &[u8], book: &[u8], key: Key, area: &mut [u8]) -> Ranked
 fn search(plain: &[u8], book: &[u8], key: Key) -> Ranked
     ensures { λ r. ⌜ Ranks (now (plain .entry)) (now (book .entry)) key r ⌝ }
 {
-    if checking::within(40, plain, book) {
-        let mut area = checking::blank_40();
+    if two_check::within(40, plain, book) {
+        let mut area = two_check::blank_40();
         return rank_in(plain, book, key, &mut area);
     }
-    if checking::within(250, plain, book) {
-        let mut area = checking::blank_250();
+    if two_check::within(250, plain, book) {
+        let mut area = two_check::blank_250();
         return rank_in(plain, book, key, &mut area);
     }
-    let mut area = checking::blank_500();
+    let mut area = two_check::blank_500();
     rank_in(plain, book, key, &mut area)
 }
 

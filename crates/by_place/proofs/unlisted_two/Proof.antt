@@ -1,7 +1,7 @@
 -- The check's refusal as one number, or 1003 where it has none.
 use Rattle.lists.specs.Basics.{refl, sym, ap, subst, _∙_, ℕ, _+_, _≤_, eqb, cond}
 use Rattle.model.specs.Refusals.{lastRefusal}
-use Rattle.two_sheets.specs.Areas.{two}
+use Rattle.two_check.specs.Areas.{two}
 use Rattle.by_place.specs.TwoNumbers.{check-numbered-two}
 use borrow.Author.Needs.{needs}
 use Rattle.by_place.proofs.unlisted_two.Statement.{statement}

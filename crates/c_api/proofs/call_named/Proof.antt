@@ -4,7 +4,7 @@ use Rattle.model.specs.Types.{Transaction}
 use Rattle.model.specs.Refusals.{lastRefusal}
 use Rattle.model.specs.Operations.{responseOn}
 use Rattle.model.specs.Requests.{operationOf}
-use Rattle.cores.specs.declared.Performed.{Performed}
+use Rattle.answers.specs.declared.Performed.{Performed}
 use Rattle.c_api.specs.declared.Called.{Called}
 use Rattle.by_place.specs.Numbers.{call-numbered}
 use Rattle.c_api.specs.ByPlace.{performed-left}

@@ -1,7 +1,7 @@
 -- The engine's answer is that of the definition, and its number is the definition's.
 use Rattle.lists.specs.Basics.{sym, ap, subst, _∙_, _+_, _≤_, eqb, false, cond, needs}
 use Rattle.model.specs.Refusals.{lastRefusal}
-use Rattle.cores.specs.declared.begin.Issued.{Issued}
+use Rattle.answers.specs.declared.Issued.{Issued}
 use Rattle.by_place.specs.Numbers.{begin-numbered}
 use Rattle.c_api.proofs.rapyheo_begin.Statement.{statement}
 use Rattle.c_api.proofs.rapyheo_begin.Tie as tie

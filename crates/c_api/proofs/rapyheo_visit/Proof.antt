@@ -1,7 +1,7 @@
 -- The engine's answer is that of the definition, and its number is the definition's.
 use Rattle.lists.specs.Basics.{sym, ap, subst, _∙_, _+_, _≤_, eqb, cond, needs}
 use Rattle.model.specs.Refusals.{lastRefusal}
-use Rattle.cores.specs.declared.Visited.{Visited}
+use Rattle.answers.specs.declared.Visited.{Visited}
 use Rattle.by_place.specs.Numbers.{visit-numbered}
 use Rattle.c_api.proofs.rapyheo_visit.Statement.{statement}
 use Rattle.c_api.proofs.rapyheo_visit.Tie as tie

@@ -2,7 +2,7 @@
 use Rattle.lists.specs.Basics.{sym, _∙_, needs}
 use Rattle.model.specs.Results as model
 use Rattle.call_laws.specs.Accepted.{accepted, turned-away, passed-answer}
-use Rattle.cores.specs.Answers.{toReturned}
+use Rattle.answers.specs.Answers.{toReturned}
 use Rattle.engine.proofs.abort.Statement.{statement}
 use Rattle.engine.proofs.abort.Tie as tie
 

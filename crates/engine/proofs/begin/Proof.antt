@@ -1,6 +1,6 @@
 -- The transaction of the number issued is that of the begin.
 use Rattle.lists.specs.Basics.{ap, _∙_, needs}
-use Rattle.cores.specs.Answers.{ofIssued}
+use Rattle.answers.specs.Answers.{ofIssued}
 use Rattle.engine.specs.Issuing.{issued-begun}
 use Rattle.engine.proofs.begin.Statement.{statement}
 use Rattle.engine.proofs.begin.Tie as tie

@@ -2,7 +2,7 @@
 use Rattle.lists.specs.Basics.{sym, _∙_, needs}
 use Rattle.model.specs.Operations as operations
 use Rattle.call_laws.specs.Accepted.{accepted}
-use Rattle.cores.specs.Answers.{toClosed}
+use Rattle.answers.specs.Answers.{toClosed}
 use Rattle.engine.specs.Responses.{turned-away-as, let-pass-as}
 use Rattle.engine.proofs.close.Statement.{statement}
 use Rattle.engine.proofs.close.Tie as tie

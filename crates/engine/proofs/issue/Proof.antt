@@ -4,7 +4,7 @@ use Rattle.model.specs.Refusals.{refusalOf}
 use Rattle.model.specs.SheetCalls.{checkConditions}
 use Rattle.model.specs.Results.{begin}
 use Rattle.call_laws.specs.Accepted.{accepted, turned-away, let-pass}
-use Rattle.cores.specs.Answers.{toIssued}
+use Rattle.answers.specs.Answers.{toIssued}
 use Rattle.engine.specs.Issuing.{issues-on}
 use Rattle.engine.proofs.issue.Statement.{statement}
 use Rattle.engine.proofs.issue.Tie as tie

@@ -2,7 +2,7 @@
 use Rattle.lists.specs.Basics.{sym, _∙_}
 use Rattle.model.specs.Requests.{operationOf}
 use Rattle.call_laws.specs.Accepted.{accepted}
-use Rattle.cores.specs.Answers.{toPerformed}
+use Rattle.answers.specs.Answers.{toPerformed}
 use Rattle.engine.specs.Responses.{turned-away-as, let-pass-as}
 use borrow.Author.Needs.{needs}
 use Rattle.engine.proofs.perform.Statement.{statement}

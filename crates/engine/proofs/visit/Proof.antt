@@ -2,7 +2,7 @@
 use Rattle.lists.specs.Basics.{sym, _∙_, needs}
 use Rattle.model.specs.Results as model
 use Rattle.call_laws.specs.Accepted.{accepted, turned-away, let-pass}
-use Rattle.cores.specs.Answers.{toVisited}
+use Rattle.answers.specs.Answers.{toVisited}
 use Rattle.engine.proofs.visit.Statement.{statement}
 use Rattle.engine.proofs.visit.Tie as tie
 

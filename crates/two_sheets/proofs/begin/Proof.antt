@@ -5,8 +5,8 @@ use Rattle.model.specs.Results as model
 use Rattle.model.specs.Operations.{once}
 use Rattle.model.specs.Requests.{operationOf}
 use Rattle.model.specs.TwoCalls.{responseTwo}
-use Rattle.cores.specs.Answers.{toPerformed}
-use Rattle.two_sheets.specs.Areas.{two}
+use Rattle.answers.specs.Answers.{toPerformed}
+use Rattle.two_check.specs.Areas.{two}
 use Rattle.two_sheets.proofs.begin.Statement.{statement}
 use Rattle.two_sheets.proofs.begin.Tie as tie
 

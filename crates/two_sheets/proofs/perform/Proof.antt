@@ -1,6 +1,6 @@
 -- Sheets within so many lines have room in an area for so many, any sheets in the last.
 use Rattle.lists.specs.Basics.{arith, needs}
-use Rattle.two_sheets.specs.Areas.{rooms-within}
+use Rattle.two_check.specs.Areas.{rooms-within}
 use Rattle.two_sheets.proofs.perform.Statement.{statement}
 use Rattle.two_sheets.proofs.perform.Tie as tie
 

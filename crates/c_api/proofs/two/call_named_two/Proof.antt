@@ -4,8 +4,8 @@ use Rattle.model.specs.Types.{Transaction}
 use Rattle.model.specs.Refusals.{lastRefusal}
 use Rattle.model.specs.Requests.{operationOf}
 use Rattle.model.specs.TwoCalls.{responseTwo}
-use Rattle.cores.specs.declared.Performed.{Performed}
-use Rattle.two_sheets.specs.Areas.{two}
+use Rattle.answers.specs.declared.Performed.{Performed}
+use Rattle.two_check.specs.Areas.{two}
 use Rattle.c_api.specs.declared.two.CalledTwo.{CalledTwo}
 use Rattle.by_place.specs.TwoNumbers.{numberOf, call-numbered-two}
 use Rattle.c_api.specs.ByPlace.{performed-left}

@@ -52,7 +52,7 @@ use Rattle.model.specs.Calls.{newTransaction}
 use Rattle.model.specs.Operations.{coordinatorLeft}
 use Rattle.model.specs.Requests.{operationOf}
 use Rattle.model.specs.TwoCalls.{responseTwo, plainLeft, bookkeepingLeft}
-use Rattle.two_sheets.specs.Areas.{two}
+use Rattle.two_check.specs.Areas.{two}
 use Rattle.by_place.specs.TwoNumbers.{unlistedNumberTwo}
 use Rattle.by_place.specs.Asked.{callsTwo, asks, naming}
 use Rattle.c_api.specs.ByPlace.{naming-within}

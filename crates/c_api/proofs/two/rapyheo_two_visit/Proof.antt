@@ -2,8 +2,8 @@
 use Rattle.lists.specs.Basics.{sym, ap, subst, _∙_, _+_, _≤_, eqb, false, cond}
 use Rattle.model.specs.Refusals.{lastRefusal}
 use Rattle.model.specs.Calls.{newTransaction}
-use Rattle.cores.specs.declared.Performed.{Performed}
-use Rattle.two_sheets.specs.Areas.{two}
+use Rattle.answers.specs.declared.Performed.{Performed}
+use Rattle.two_check.specs.Areas.{two}
 use Rattle.by_place.specs.TwoNumbers.{visit-numbered-two}
 use borrow.Author.Needs.{needs}
 use Rattle.c_api.proofs.two.rapyheo_two_visit.Statement.{statement}

@@ -3,7 +3,7 @@ use Rattle.lists.specs.Basics.{sym, ap, _∙_, true, false, not-true, not-false
 use Rattle.model.specs.Writes.{nothing}
 use Rattle.model.specs.ByteCalls.{sheetsOf}
 use Rattle.admission.specs.Admission.{formed-by}
-use Rattle.cores.specs.Answers.{toReturned, returned-made}
+use Rattle.answers.specs.Answers.{toReturned, returned-made}
 use Rattle.cores.specs.Aborting.{abort-ill, abort-late, abort-made}
 use Rattle.cores.proofs.abort.abort.Statement.{statement}
 use Rattle.cores.proofs.abort.abort.Tie as tie

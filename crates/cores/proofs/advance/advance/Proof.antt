@@ -4,7 +4,7 @@ use Rattle.model.specs.Types.{Decision}
 use Rattle.model.specs.ByteCalls.{sheetsOf}
 use Rattle.call_laws.specs.Accepted.{outcome-refused}
 use Rattle.admission.specs.Admission.{formed-by, located-by, admitted-ready}
-use Rattle.cores.specs.Answers.{toReturned}
+use Rattle.answers.specs.Answers.{toReturned}
 use Rattle.well_formed.specs.Barred.{forbids}
 use Rattle.cores.specs.Advancing.{advance-ill, advance-forbidden, step-outcome}
 use Rattle.cores.proofs.advance.advance.Statement.{statement}

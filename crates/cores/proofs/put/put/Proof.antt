@@ -3,7 +3,7 @@ use Rattle.lists.specs.Basics.{sym, ap, _∙_, not-true, not-false}
 use Rattle.model.specs.ByteCalls.{sheetsOf}
 use Rattle.sheets.specs.Answers.{at-rank, no-line}
 use Rattle.admission.specs.Admission.{opened}
-use Rattle.cores.specs.Answers.{toReturned}
+use Rattle.answers.specs.Answers.{toReturned}
 use Rattle.cores.specs.Putting.{put-away, put-none, put-found}
 use borrow.Author.Needs.{needs}
 use Rattle.cores.proofs.put.put.Statement.{statement}

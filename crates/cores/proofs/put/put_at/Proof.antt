@@ -1,7 +1,7 @@
 -- By the version that was read.
 use Rattle.lists.specs.Basics.{sym, ap, _∙_, needs}
 use Rattle.model.specs.Writes.{nothing}
-use Rattle.cores.specs.Answers.{toReturned, returned-made}
+use Rattle.answers.specs.Answers.{toReturned, returned-made}
 use Rattle.cores.specs.Putting.{put-late, put-made}
 use Rattle.cores.proofs.put.put_at.Statement.{statement}
 use Rattle.cores.proofs.put.put_at.Tie as tie

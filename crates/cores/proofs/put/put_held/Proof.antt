@@ -1,7 +1,7 @@
 -- Case by case in the order of the refusals.
 use Rattle.lists.specs.Basics.{sym, ap, _∙_, arith, not-true, not-false, needs}
 use Rattle.transactions.specs.Held.{held-below}
-use Rattle.cores.specs.Answers.{toReturned}
+use Rattle.answers.specs.Answers.{toReturned}
 use Rattle.cores.specs.Putting.{put-large, put-new, put-over}
 use Rattle.cores.proofs.put.put_held.Statement.{statement}
 use Rattle.cores.proofs.put.put_held.Tie as tie

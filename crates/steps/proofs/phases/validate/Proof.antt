@@ -2,7 +2,7 @@
 use Rattle.lists.specs.Basics.{sym, ap, _∙_, arith, not-true, not-false, needs}
 use Rattle.model.specs.Types.{At}
 use Rattle.sheet_laws.specs.Decisions.{readable-length}
-use Rattle.group_writes.specs.Located.{indexed-in}
+use Rattle.held_lines.specs.Located.{indexed-in}
 use Rattle.steps.specs.Ready.{records-accepted, coordinator-readable, few, units, place-validate, validate-held}
 use Rattle.steps.specs.Stepped.{wrote-nothing}
 use Rattle.steps.specs.Cases.{stepped-as, validate-fails, validate-passes}

@@ -1,0 +1,191 @@
+-- What a call finds once about the entries of a transaction: the indices of their lines, and their groups. No write moves a key, so that indices hold after every
+-- write too.
+use Rattle.lists.specs.Basics.{_≡_, refl, sym, ap, ap₂, subst, _∙_, ℕ, zero, suc, _+_, _≤_, _<_, eqb, ltb, Bool, true, false, not, _&&_, true≢false, and-assoc}
+use Rattle.lists.specs.Basics.{List, [], _∷_, map, length, take, getD, set, length-take, length-set, getD-take, arith, add-one, eqb-true, eqb-false, lt-ltb}
+use Rattle.lists.specs.Basics.{le-ltb, ltb-true, all}
+use lib.Seq.{getD-set-same, getD-set-other}
+use mir.Val.{Val}
+use denote.Laws.{Is}
+use denote.Struct.Declared.{row}
+use Rattle.lists.specs.All.{all-always, all-at}
+use Rattle.types.proofs.Transaction.{the-type}
+use Rattle.model.specs.Types.{Key, Record, Found, At, Nothing, Entry, Transaction}
+use Rattle.model.specs.Records.{sameKey, found, isMissing, byFound, hasLine}
+use Rattle.model.specs.Coordinator.{Letter}
+use Rattle.model.specs.Transactions.{held, puts, heldAt, noEntry, mustValidate, toValidate}
+use Rattle.model.specs.Groups.{groupCount}
+use Rattle.model.specs.WellFormed.{linesHeld, placeFormed}
+use Rattle.sheet_laws.specs.Search.{some-found, first-at, first-map}
+use Rattle.call_laws.specs.Choices.{by-phase-of}
+use Rattle.call_laws.specs.Entries.{getD-first}
+use Rattle.sheet_laws.specs.KeyOrder.{same-key}
+use Rattle.call_laws.specs.Keys.{hasKey}
+use Rattle.call_laws.specs.ByIndex.{found-at}
+use Rattle.transactions.specs.Held.{PassedTo, entryAt, after, held-below, has-room, pass-next, tallied-few, tallied-kept}
+use Rattle.put_groups.specs.Groups.{inGroup}
+use Rattle.put_groups.specs.GroupsIn.{groupsIn, groups-few, in-group-at}
+use Rattle.held_lines.specs.declared.Located.{Located}
+
+-- eight indices that say nothing
+abbrev pub noIndices : List ℕ
+noIndices = 0 ∷ 0 ∷ 0 ∷ 0 ∷ 0 ∷ 0 ∷ 0 ∷ 0 ∷ []
+
+-- the index of the key's line, the number of lines without one
+abbrev pub lineIndex : Key → List Record → ℕ
+lineIndex k rs = byFound (found k rs) (length rs) (λ (i : ℕ). i)
+
+-- where the lines of the first n entries are, 0 behind them
+unfoldable pub indicesOf : List Record → Transaction → ℕ → List ℕ
+indicesOf rs t zero = noIndices
+indicesOf rs t (suc n) = set (indicesOf rs t n) n (lineIndex (entryAt t n .key) rs)
+
+-- what is found of a transaction's entries, by the lines and the units
+abbrev pub locatedIn : List Record → List Letter → Transaction → Located
+locatedIn rs us t = record { indices = indicesOf rs t (t .count); groups = groupCount us (puts t); of = groupsIn us t }
+
+-- of these indices the one of a key, 0 if the transaction does not hold it
+abbrev pub indexIn : Key → Transaction → List ℕ → ℕ
+indexIn k t is = byFound (heldAt k t) 0 (λ (i : ℕ). getD is i 0)
+
+-- the lines of the first n entries are at these indices
+pub record Indexed (rs : List Record) (t : Transaction) (is : List ℕ) (n : ℕ) : Type 0 where
+  pub at : (i : ℕ) → i < n → found (entryAt t i .key) rs ≡ At (getD is i 0)
+
+-- the groups are those of the units, and each entry's own is told by its place
+pub record Grouped (us : List Letter) (t : Transaction) (l : Located) : Type 0 where
+  pub count : l .groups ≡ groupCount us (puts t)
+  pub own : (i : ℕ) → i < t .count → eqb (getD (l .of) i 0) (t .place) ≡ inGroup us t (t .place) (entryAt t i)
+
+-- The indices found are those of the lines.
+
+line-index : (k : Key) (rs : List Record) (p : ℕ) → found k rs ≡ At p → lineIndex k rs ≡ p
+line-index k rs p e = ap (λ (f : Found). byFound f (length rs) (λ (i : ℕ). i)) e
+
+pub index-found : (k : Key) (rs : List Record) (i : ℕ) → found k rs ≡ At i → i ≡ lineIndex k rs
+index-found k rs i e = sym (line-index k rs i e)
+
+pub index-none : (k : Key) (rs : List Record) → found k rs ≡ Nothing → length rs ≡ lineIndex k rs
+index-none k rs e = sym (ap (λ (f : Found). byFound f (length rs) (λ (i : ℕ). i)) e)
+
+found-line : (k : Key) (rs : List Record) → hasLine k rs ≡ true → found k rs ≡ At (lineIndex k rs)
+unfolding isMissing
+found-line k rs h = go (found k rs) refl h
+  where
+    go : (f : Found) → found k rs ≡ f → not (isMissing f) ≡ true → found k rs ≡ At (lineIndex k rs)
+    go (At i) e g = e ∙ ap At (sym (line-index k rs i e))
+    go Nothing e g = absurd (true≢false (sym g))
+
+-- a key has a line exactly if its index is that of one
+pub has-index : (k : Key) (rs : List Record) → ltb (lineIndex k rs) (length rs) ≡ hasLine k rs
+unfolding isMissing
+has-index k rs = go (found k rs) refl
+  where
+    go : (f : Found) → found k rs ≡ f → ltb (byFound f (length rs) (λ (i : ℕ). i)) (length rs) ≡ not (isMissing f)
+    go (At i) e = lt-ltb i (length rs) (found-at k rs i e .within)
+    go Nothing e = le-ltb (length rs) (length rs) (omega arith)
+
+-- one more entry that is asked for its line, b of those before having theirs
+pub lines-next : (rs : List Record) (t : Transaction) (b : Bool) (w : Bool) (i p : ℕ) → i < t .count → PassedTo t (λ (es : List Entry). b && all (λ (e : Entry). hasLine (e .key) rs) es) w i → p ≡ lineIndex (entryAt t i .key) rs → PassedTo t (λ (es : List Entry). (b && ltb p (length rs)) && all (λ (e : Entry). hasLine (e .key) rs) es) w (i + 1)
+unfolding all
+lines-next rs t b w i p l h e =
+    let q : ltb p (length rs) ≡ hasLine (entryAt t i .key) rs = ap (λ (x : ℕ). ltb x (length rs)) e ∙ has-index (entryAt t i .key) rs in
+    pass-next t (λ (es : List Entry). b && all (λ (x : Entry). hasLine (x .key) rs) es) (λ (es : List Entry). (b && ltb p (length rs)) && all (λ (x : Entry). hasLine (x .key) rs) es) w i l h
+    (sym (and-assoc b (hasLine (entryAt t i .key) rs) (all (λ (x : Entry). hasLine (x .key) rs) (after t i))) ∙ ap (λ (x : Bool). (b && x) && all (λ (y : Entry). hasLine (y .key) rs) (after t i)) (sym q))
+
+module _ (rs : List Record) (t : Transaction) where
+  pub length-indices : (n : ℕ) → length (indicesOf rs t n) ≡ 8
+  unfolding indicesOf
+  length-indices zero = refl
+  length-indices (suc n) = length-set (indicesOf rs t n) n _ ∙ length-indices n
+
+  pub indices-next : (is : List ℕ) (n p : ℕ) → is ≡ indicesOf rs t n → p ≡ lineIndex (entryAt t n .key) rs → set is n p ≡ indicesOf rs t (n + 1)
+  unfolding indicesOf
+  indices-next is n p e f = ap₂ (λ (x : List ℕ) (y : ℕ). set x n y) e f ∙ ap (indicesOf rs t) (sym (add-one n))
+
+  index-here : (n i : ℕ) → suc n ≤ 8 → (b : Bool) → eqb i n ≡ b → i < suc n → (i < n → getD (indicesOf rs t n) i 0 ≡ lineIndex (entryAt t i .key) rs) → getD (set (indicesOf rs t n) n (lineIndex (entryAt t n .key) rs)) i 0 ≡ lineIndex (entryAt t i .key) rs
+  index-here n i m true q l h =
+      let j : n ≡ i = sym (eqb-true i n q) in
+      let k : n < length (indicesOf rs t n) = omega (arith, length-indices n, m) in
+      subst (λ (x : ℕ). getD (set (indicesOf rs t n) n (lineIndex (entryAt t n .key) rs)) x 0 ≡ lineIndex (entryAt t x .key) rs) j
+      (getD-set-same (indicesOf rs t n) n (lineIndex (entryAt t n .key) rs) 0 k)
+  index-here n i m false q l h =
+      let d = eqb-false i n q in
+      getD-set-other (indicesOf rs t n) n i (lineIndex (entryAt t n .key) rs) 0 (λ z. d z) ∙ h (omega (arith, d, l))
+
+  -- what was written for an entry stays
+  index-stays : (n i : ℕ) → i < n → n ≤ 8 → getD (indicesOf rs t n) i 0 ≡ lineIndex (entryAt t i .key) rs
+  unfolding indicesOf
+  index-stays zero i l m = absurd (omega arith)
+  index-stays (suc n) i l m = index-here n i m (eqb i n) refl l (λ k. index-stays n i k (omega arith))
+
+  module _ {vs : List Val} (p : Is (row the-type) t vs) (few : t .count ≤ 8) (h : linesHeld rs t ≡ true) where
+    has-line : (n : ℕ) → n < t .count → hasLine (entryAt t n .key) rs ≡ true
+    unfolding held linesHeld
+    has-line n l =
+        let m : t .count ≤ length (t .entries) = has-room t p few in
+        let k : n < length (take (t .count) (t .entries)) = simp length-take (omega arith) in
+        ap (λ (e : Entry). hasLine (e .key) rs) (sym (getD-take (t .count) (t .entries) n noEntry l))
+        ∙ all-at (λ (e : Entry). hasLine (e .key) rs) (held t) noEntry n h k
+
+    pub indexed-all : Indexed rs t (indicesOf rs t (t .count)) (t .count)
+    indexed-all =
+        record { at = λ i l. found-line (entryAt t i .key) rs (has-line i l) ∙ ap At (sym (index-stays (t .count) i l few)) }
+
+-- The groups found are those of the units.
+pub grouped-in : (rs : List Record) (us : List Letter) (t : Transaction) {vs : List Val} → Is (row the-type) t vs → t .count ≤ 8 → t .place < 8 → Grouped us t (locatedIn rs us t)
+grouped-in rs us t p few l = record { count = refl; own = λ i m. in-group-at us t (has-room t p few) i 0 (t .place) m l }
+
+-- a place is below eight
+pub place-few : (us : List Letter) (t : Transaction) → t .count ≤ 8 → placeFormed us t ≡ true → t .place < 8
+unfolding placeFormed toValidate held
+place-few us t few =
+    by-phase-of (λ (x : Bool). x ≡ true → t .place < 8) (t .phase) (λ e. zeroth) (λ e. in-groups) (λ e. in-entries) (λ e. zeroth) (λ e. zeroth)
+    (λ e. in-groups) (λ e. in-groups) (λ e. zeroth) (λ q. absurd (true≢false (sym q)))
+  where
+    zeroth : eqb (t .place) 0 ≡ true → t .place < 8
+    zeroth q = omega (arith, eqb-true (t .place) 0 q)
+
+    in-groups : ltb (t .place) (groupCount us (puts t)) ≡ true → t .place < 8
+    in-groups q = omega (arith, ltb-true (t .place) (groupCount us (puts t)) q, groups-few us t, few)
+
+    in-entries : ltb (t .place) (length (toValidate us t)) ≡ true → t .place < 8
+    in-entries q =
+        omega (
+          arith,
+          ltb-true (t .place) (length (toValidate us t)) q,
+          sym (tallied-kept (mustValidate us t) (held t)),
+          tallied-few t (λ (e : Entry) (r : List Entry). mustValidate us t e) (held t),
+          length-take (t .count) (t .entries),
+          few,
+        )
+
+-- Lines whose keys stay are found where they were.
+module _ (f : Record → Record) (kept : (r : Record) → f r .key ≡ r .key) where
+  pub indexed-kept : (rs : List Record) (t : Transaction) (is : List ℕ) (n : ℕ) → Indexed rs t is n → Indexed (map f rs) t is n
+  unfolding found
+  indexed-kept rs t is n h =
+      let same : (k : Key) → found k (map f rs) ≡ found k rs = λ k. first-map (λ (r : Record). sameKey (r .key) k) f (λ (r : Record). true) _ (λ r e. ap (λ (j : Key). sameKey j k) (kept r)) 0 rs (all-always rs) in
+      record { at = λ i l. same (entryAt t i .key) ∙ h .at i l }
+
+-- the index of a key that the transaction holds
+module _ (k : Key) (t : Transaction) where
+  held-key : (i : ℕ) → heldAt k t ≡ At i → entryAt t i .key ≡ k
+  unfolding heldAt held
+  held-key i e =
+      let x = first-at (λ (y : Entry). sameKey (y .key) k) (held t) noEntry i e in
+      ap (λ (y : Entry). y .key) (sym (getD-first (t .count) (t .entries) i noEntry (x .within))) ∙ same-key _ k (x .passes)
+
+  indexed-held : (rs : List Record) (is : List ℕ) (i : ℕ) → heldAt k t ≡ At i → Indexed rs t is (t .count) → found k rs ≡ At (getD is i 0)
+  indexed-held rs is i e h = ap (λ (j : Key). found j rs) (sym (held-key i e)) ∙ h .at i (held-below t k i e)
+
+  held-somewhere : heldAt k t ≡ Nothing → hasKey k (held t) ≡ true → ⊥
+  unfolding heldAt isMissing
+  held-somewhere e h =
+      true≢false (sym h ∙ (sym (some-found (λ (y : Entry). sameKey (y .key) k) 0 (held t)) ∙ ap (λ (f : Found). not (isMissing f)) e))
+
+  pub indexed-in : (rs : List Record) (is : List ℕ) → Indexed rs t is (t .count) → hasKey k (held t) ≡ true → found k rs ≡ At (indexIn k t is)
+  indexed-in rs is h g = go (heldAt k t) refl
+    where
+      go : (f : Found) → heldAt k t ≡ f → found k rs ≡ At (byFound f 0 (λ (i : ℕ). getD is i 0))
+      go (At i) e = indexed-held rs is i e h
+      go Nothing e = absurd (held-somewhere e g)

@@ -1,0 +1,2 @@
+-- Read, either call, case by case.
+pub mod Fetching

@@ -1,0 +1,2 @@
+-- What stands in the area of a call on two sheets.
+pub mod Areas

@@ -1,7 +1,0 @@
--- Both tests as they are said.
-use Rattle.lists.specs.Basics.{refl, needs}
-use Rattle.two_sheets.proofs.checking.within.Statement.{statement}
-use Rattle.two_sheets.proofs.checking.within.Tie as tie
-
-pub within-spec : {M : Type 1} → statement M
-within-spec = tie.close (tie.spec (λ c. search needs) (λ c. search needs) (λ c. refl))

@@ -1,0 +1,2 @@
+-- The visit of a key, case by case.
+pub mod Visiting
