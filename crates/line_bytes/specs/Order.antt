@@ -2,7 +2,7 @@
 -- both numbers times 256 and adds less than that: what was less stays less, and what was equal is decided by the byte.
 use Rattle.lists.specs.Basics.{_≡_, refl, sym, _∙_, ℕ, zero, suc, _+_, _*_, _^_, _≤_, _<_, eqb, ltb, Bool, true, false, _&&_, _||_, cond, and-assoc, and-true}
 use Rattle.lists.specs.Basics.{and-false, or-false, List, [], _∷_, length, take, drop, getD, length-take, length-drop, drop-drop, take-add, getD-drop, arith}
-use Rattle.lists.specs.Basics.{add-one, eqb-true, eqb-false, ltb-true, ltb-false, eq-eqb, lt-ltb, le-ltb, less, eqList, and-both, same-test, tests}
+use Rattle.lists.specs.Basics.{add-one, eqb-true, eqb-false, ltb-true, ltb-false, eq-eqb, ne-eqb, lt-ltb, le-ltb, less, eqList, and-both, same-test, tests}
 use native.Mathlib.Nat.{pow-suc, pow-le-pow-right}
 use lib.Pow.{areBytes}
 use Rattle.lists.specs.Order.{decided, regroup, less-append}
@@ -112,3 +112,13 @@ module _ (s t : List ℕ) (of-s : (i : ℕ) → getD s i 0 < 256) (of-t : (i : �
       (less-append (bytesAt s n a) (bytesAt t n b) (bytesAt s m (a + n)) (bytesAt t m (b + n)) l
       ∙ (rw (part-less n a b (omega arith) (omega arith), e)
       (decided (numberOf (bytesAt s n a)) (numberOf (bytesAt t n b)) (less (bytesAt s m (a + n)) (bytesAt t m (b + n))))))
+
+  -- so that a test of the first parts tells which numbers decide
+  module _ (n m a b : ℕ) (f : a + (n + m) ≤ length s) (g : b + (n + m) ≤ length t) where
+    pub first-decides : (numberOf (bytesAt s n a) ≡ numberOf (bytesAt t n b) → ⊥)
+        → ltb (numberOf (bytesAt s n a)) (numberOf (bytesAt t n b)) ≡ less (bytesAt s (n + m) a) (bytesAt t (n + m) b)
+    first-decides d = sym (rw (ne-eqb _ _ d) at (part-split n m a b f g))
+
+    pub rest-decides : numberOf (bytesAt s n a) ≡ numberOf (bytesAt t n b)
+        → less (bytesAt s m (a + n)) (bytesAt t m (b + n)) ≡ less (bytesAt s (n + m) a) (bytesAt t (n + m) b)
+    rest-decides e = sym (rw (eq-eqb _ _ e) at (part-split n m a b f g))
