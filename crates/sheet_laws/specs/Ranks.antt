@@ -24,7 +24,7 @@ none-below k r (x ∷ rs) h g = rw g (none-below k x rs (rising-tail r (x ∷ rs
     go false e = refl
 
 -- its rank is 0
-no-rank : (k : Key) (r : Record) (rs : List Record) → rising (r ∷ rs) ≡ true → keyLess (r .key) k ≡ false → rank k (r ∷ rs) ≡ 0
+pub no-rank : (k : Key) (r : Record) (rs : List Record) → rising (r ∷ rs) ≡ true → keyLess (r .key) k ≡ false → rank k (r ∷ rs) ≡ 0
 unfolding rank
 no-rank k r rs h g = count-none (λ (x : Record). keyLess (x .key) k) (r ∷ rs) (none-below k r rs h g)
 

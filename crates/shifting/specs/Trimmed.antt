@@ -1,0 +1,136 @@
+-- A list without the elements at its end that pass a test: what the check of a sheet with spares counts.
+use Rattle.lists.specs.Basics.{ℕ, zero, suc, _+_, _-_, _*_, _/_, _≤_, _<_, _≡_, refl, sym, ap, ap₂, _∙_, Bool, true, false, _&&_, not, cond, List, [], _∷_}
+use Rattle.lists.specs.Basics.{_++_, map, arith, length, take, drop, replicate, take-all, eqb, eqb-true, ne-eqb, and-fst, and-snd, and-both, choose-by, eqList}
+use Rattle.lists.specs.Basics.{all, pieces}
+use lib.Seq.{take-suc, length-take-le}
+use Rattle.lists.specs.Pieces.{length-pieces, getD-pieces}
+use Rattle.model.specs.Layouts.{recordBytes}
+use Rattle.model.specs.Lines.{linesOf}
+use Rattle.shifting.specs.Shifted.{spareText}
+
+abbrev pub isSpareText : List ℕ → Bool
+isSpareText l = eqList l spareText
+
+-- the index behind the last element that fails the test
+unfoldable pub trimmed {ℓ} : {A : Type ℓ} → (A → Bool) → List A → ℕ
+trimmed p [] = 0
+trimmed p (x ∷ xs) = cond (eqb (trimmed p xs) 0 && p x) 0 (suc (trimmed p xs))
+
+some-left : (m : ℕ) (b : Bool) → cond (eqb (suc m) 0 && b) 0 (suc (suc m)) ≡ suc (suc m)
+some-left m b =
+    ap (λ (x : Bool). cond (x && b) 0 (suc (suc m))) (ne-eqb (suc m) 0 (λ e. omega arith))
+
+module _ {ℓ} {A : Type ℓ} (p : A → Bool) where
+  -- one that passes at the end makes no difference
+  pub trimmed-pass : (x : A) (xs : List A) → p x ≡ true → trimmed p (xs ++ (x ∷ [])) ≡ trimmed p xs
+  unfolding trimmed
+  trimmed-pass x [] h = ap (λ (b : Bool). cond b 0 1) h
+  trimmed-pass x (y ∷ xs) h = ap (λ (n : ℕ). cond (eqb n 0 && p y) 0 (suc n)) (trimmed-pass x xs h)
+
+  pub trimmed-fail : (x : A) (xs : List A) → p x ≡ false → trimmed p (xs ++ (x ∷ [])) ≡ suc (length xs)
+  unfolding trimmed
+  trimmed-fail x [] h = ap (λ (b : Bool). cond b 0 1) h
+  trimmed-fail x (y ∷ xs) h = ap (λ (n : ℕ). cond (eqb n 0 && p y) 0 (suc n)) (trimmed-fail x xs h) ∙ some-left (length xs) (p y)
+
+  pub trimmed-le : (xs : List A) → trimmed p xs ≤ length xs
+  unfolding trimmed
+  trimmed-le [] = omega arith
+  trimmed-le (x ∷ xs) =
+      let h : trimmed p xs ≤ length xs = trimmed-le xs in
+      choose-by (λ (n : ℕ). n ≤ suc (length xs)) (eqb (trimmed p xs) 0 && p x) (λ e. omega arith) (λ e. omega arith)
+
+  -- from there on all pass
+  pub trimmed-rest : (xs : List A) → all p (drop (trimmed p xs) xs) ≡ true
+  unfolding trimmed all
+  trimmed-rest [] = refl
+  trimmed-rest (x ∷ xs) =
+      choose-by (λ (n : ℕ). all p (drop n (x ∷ xs)) ≡ true) (eqb (trimmed p xs) 0 && p x)
+      (λ e.
+      let z : trimmed p xs ≡ 0 = eqb-true (trimmed p xs) 0 (and-fst (eqb (trimmed p xs) 0) (p x) e) in
+      and-both (and-snd (eqb (trimmed p xs) 0) (p x) e) (ap (λ (n : ℕ). all p (drop n xs)) (sym z) ∙ trimmed-rest xs))
+      (λ e. trimmed-rest xs)
+
+  all-trimmed : (d : A) (n : ℕ) → p d ≡ true → trimmed p (replicate n d) ≡ 0
+  unfolding trimmed
+  all-trimmed d zero h = refl
+  all-trimmed d (suc n) h =
+      ap (λ (m : ℕ). cond (eqb m 0 && p d) 0 (suc m)) (all-trimmed d n h) ∙ ap (λ (b : Bool). cond b 0 1) h
+
+  -- elements that fail, and as many as you like behind them that pass
+  pub trimmed-behind : (d : A) (n : ℕ) (xs : List A) → p d ≡ true → all (λ (x : A). not (p x)) xs ≡ true → trimmed p (xs ++ replicate n d) ≡ length xs
+  unfolding trimmed all
+  trimmed-behind d n [] h g = all-trimmed d n h
+  trimmed-behind d n (x ∷ xs) h g =
+      let e : p x ≡ false = fails (p x) (and-fst (not (p x)) (all (λ (y : A). not (p y)) xs) g) in
+      ap₂ (λ (m : ℕ) (b : Bool). cond (eqb m 0 && b) 0 (suc m)) (trimmed-behind d n xs h (and-snd (not (p x)) (all (λ (y : A). not (p y)) xs) g)) e
+      ∙ none (length xs)
+    where
+      fails : (b : Bool) → not b ≡ true → b ≡ false
+      fails true q = sym q
+      fails false q = refl
+
+      none : (m : ℕ) → cond (eqb m 0 && false) 0 (suc m) ≡ suc m
+      none zero = refl
+      none (suc m) = some-left m false
+
+-- the same of what elements are mapped to
+pub trimmed-map {ℓ κ} : {A : Type ℓ} {B : Type κ} (p : B → Bool) (q g : A → Bool) (f : A → B) → ((x : A) → g x ≡ true → p (f x) ≡ q x) → (xs : List A) → all g xs ≡ true → trimmed p (map f xs) ≡ trimmed q xs
+unfolding trimmed all
+trimmed-map p q g f e [] h = refl
+trimmed-map p q g f e (x ∷ xs) h =
+    ap₂ (λ (n : ℕ) (b : Bool). cond (eqb n 0 && b) 0 (suc n)) (trimmed-map p q g f e xs (and-snd (g x) (all g xs) h)) (e x (and-fst (g x) (all g xs) h))
+
+-- The loop: the lines behind the first n are spares.
+
+module _ (s : List ℕ) where
+  pub trim-first : trimmed isSpareText (take (length s / recordBytes) (linesOf recordBytes s)) ≡ trimmed isSpareText (linesOf recordBytes s)
+  unfolding linesOf
+  trim-first =
+      let k : length (pieces recordBytes (length s / recordBytes) s) ≡ length s / recordBytes = length-pieces recordBytes (length s / recordBytes) s in
+      ap (trimmed isSpareText) (take-all (length s / recordBytes) (pieces recordBytes (length s / recordBytes) s) (omega arith))
+
+  last-line : (m : ℕ) → m < length s / recordBytes → take (suc m) (linesOf recordBytes s) ≡ take m (linesOf recordBytes s) ++ (take recordBytes (drop (m * recordBytes) s) ∷ [])
+  unfolding linesOf
+  last-line m l =
+      let ls = pieces recordBytes (length s / recordBytes) s in
+      let k : length ls ≡ length s / recordBytes = length-pieces recordBytes (length s / recordBytes) s in
+      take-suc ls m [] (omega arith)
+      ∙ ap (λ (x : List ℕ). take m ls ++ (x ∷ [])) (getD-pieces recordBytes m (length s / recordBytes) s l)
+
+  pub trim-next : (m : ℕ) → m < length s / recordBytes → isSpareText (take recordBytes (drop (m * recordBytes) s)) ≡ true → trimmed isSpareText (take (suc m) (linesOf recordBytes s)) ≡ trimmed isSpareText (take m (linesOf recordBytes s))
+  trim-next m l h =
+      ap (trimmed isSpareText) (last-line m l) ∙ trimmed-pass isSpareText (take recordBytes (drop (m * recordBytes) s)) (take m (linesOf recordBytes s)) h
+
+  pub trim-last : (m : ℕ) → m < length s / recordBytes → isSpareText (take recordBytes (drop (m * recordBytes) s)) ≡ false → trimmed isSpareText (take (suc m) (linesOf recordBytes s)) ≡ suc m
+  unfolding linesOf
+  trim-last m l h =
+      let ls = pieces recordBytes (length s / recordBytes) s in
+      let k : length ls ≡ length s / recordBytes = length-pieces recordBytes (length s / recordBytes) s in
+      let j : length (take m ls) ≡ m = length-take-le m ls (omega arith) in
+      ap (trimmed isSpareText) (last-line m l)
+      ∙ (trimmed-fail isSpareText (take recordBytes (drop (m * recordBytes) s)) (take m ls) h ∙ ap suc j)
+
+  -- a turn of the loop, which compares line n - 1
+  module _ (line : List ℕ) (n : ℕ) (some : 0 < n) (within : n ≤ length s / recordBytes) (spare : line ≡ spareText) (kept : trimmed isSpareText (take n (linesOf recordBytes s)) ≡ trimmed isSpareText (linesOf recordBytes s)) where
+    compared : eqList (take ((n - 1) * recordBytes + recordBytes - (n - 1) * recordBytes) (drop ((n - 1) * recordBytes) s)) line ≡ isSpareText (take recordBytes (drop ((n - 1) * recordBytes) s))
+    compared =
+        let w : (n - 1) * recordBytes + recordBytes - (n - 1) * recordBytes ≡ recordBytes = omega arith in
+        ap₂ (λ (k : ℕ) (l : List ℕ). eqList (take k (drop ((n - 1) * recordBytes) s)) l) w spare
+
+    pred : suc (n - 1) ≡ n
+    pred = omega arith
+
+    pub trim-stop : eqList (take ((n - 1) * recordBytes + recordBytes - (n - 1) * recordBytes) (drop ((n - 1) * recordBytes) s)) line ≡ false → n ≡ trimmed isSpareText (linesOf recordBytes s)
+    trim-stop h =
+        sym pred
+        ∙ (sym (trim-last (n - 1) (omega arith) (sym compared ∙ h))
+        ∙ (ap (λ (k : ℕ). trimmed isSpareText (take k (linesOf recordBytes s))) pred ∙ kept))
+
+    pub trim-more : eqList (take ((n - 1) * recordBytes + recordBytes - (n - 1) * recordBytes) (drop ((n - 1) * recordBytes) s)) line ≡ true → trimmed isSpareText (take (n - 1) (linesOf recordBytes s)) ≡ trimmed isSpareText (linesOf recordBytes s)
+    trim-more h =
+        sym (trim-next (n - 1) (omega arith) (sym compared ∙ h))
+        ∙ (ap (λ (k : ℕ). trimmed isSpareText (take k (linesOf recordBytes s))) pred ∙ kept)
+
+  pub trim-none : (n : ℕ) → n ≡ 0 → trimmed isSpareText (take n (linesOf recordBytes s)) ≡ trimmed isSpareText (linesOf recordBytes s) → n ≡ trimmed isSpareText (linesOf recordBytes s)
+  unfolding trimmed
+  trim-none n z kept = z ∙ (ap (λ (k : ℕ). trimmed isSpareText (take k (linesOf recordBytes s))) (sym z) ∙ kept)
