@@ -108,7 +108,7 @@ fn find(records: &[u8], key: Key) -> Found
     find_line(records, &text)
 }
 
-// How many lines of an accepted sheet have smaller keys: those above it, whose keys rise, so that halves are left out.
+// How many lines of an accepted sheet have smaller keys. Keys rise, so that a line tells of all lines on one side of it.
 fn below(records: &[u8], key: Key) -> usize
     requires { ⌜ recordsAccepted (now records) ≡ true ⌝ }
     ensures { λ r. ⌜ r ≡ model.rank key (model.records (now (records .entry))) ⌝ }
@@ -126,7 +126,7 @@ fn below(records: &[u8], key: Key) -> usize
     low
 }
 
-// Where the key stands on an accepted sheet, or would stand. Lines are counted only where none has the key: else the index of its line is the rank.
+// Where the key stands on an accepted sheet, or would stand. Smaller keys are looked for only where no line has the key: else the index of its line is the rank.
 pub fn rank(records: &[u8], key: Key) -> Rank
     requires { ⌜ recordsAccepted (now records) ≡ true ⌝ }
     requires { ⌜ keyInRange key ≡ true ⌝ }
