@@ -18,6 +18,10 @@ pub whole-lines : (s : List ℕ) → recordsAccepted s ≡ true → length s ≡
 unfolding recordsAccepted linesSet
 whole-lines s a = search tests
 
+pub length-lines : (s : List ℕ) → length (linesOf recordBytes s) ≡ length s / recordBytes
+unfolding linesOf
+length-lines s = length-pieces recordBytes (length s / recordBytes) s
+
 pub length-records : (s : List ℕ) → length (records s) ≡ length s / recordBytes
 unfolding records linesOf
 length-records s = length-map (pieces recordBytes (length s / recordBytes) s) recordIn ∙ length-pieces recordBytes (length s / recordBytes) s

@@ -3,7 +3,7 @@ use Rattle.lists.specs.Basics.{_≡_, refl, sym, ap, ap₂, _∙_, ℕ, zero, s
 use Rattle.lists.specs.Basics.{_++_, map, length, take, drop, getD, drop-drop, take-add, arith, add-one, ltb, ltb-true, ltb-false, all, eqList, eqList-true, eqList-refl, tests}
 use native.Mathlib.Nat.{zero-add}
 use Rattle.lists.specs.Bytes.{ne-eqList}
-use Rattle.lists.specs.Pieces.{take-drop-take, getD-pieces, length-pieces}
+use Rattle.lists.specs.Pieces.{take-drop-take, getD-pieces}
 use Rattle.lists.specs.Walks.{LeftFrom, left-here, left-last}
 use Rattle.model.specs.Types.{Key, Record, Found, At, Nothing}
 use Rattle.model.specs.Layouts.{recordLayout, recordBytes, keyBytes, offset, recordOffset}
@@ -11,7 +11,7 @@ use Rattle.model.specs.Lines.{lineSet, linesOf, linesSet}
 use Rattle.model.specs.Search.{firstFrom}
 use Rattle.model.specs.Records.{records, recordIn, noRecord, recordsAccepted, keyInRange, keyLess, sameKey, found, rank}
 use Rattle.sheet_laws.specs.Search.{first-map}
-use Rattle.sheet_laws.specs.ByIndex.{length-records}
+use Rattle.sheet_laws.specs.ByIndex.{length-lines, length-records}
 use Rattle.sheet_laws.specs.Ranks.{accepted-order, rank-within, rank-side}
 use Rattle.sheet_laws.specs.Keys.{keyLine, key-line-text, key-same}
 
@@ -85,10 +85,6 @@ foundLine i text ls = firstFrom (λ (l : List ℕ). eqList (take keyBytes l) (ta
 -- How far the lines have been passed: none before i begins so.
 abbrev pub Passed : (s text : List ℕ) (i : ℕ) → Type 0
 Passed s text i = LeftFrom (linesOf recordBytes s) (foundLine i text) (foundLine 0 text (linesOf recordBytes s)) i
-
-length-lines : (s : List ℕ) → length (linesOf recordBytes s) ≡ length s / recordBytes
-unfolding linesOf
-length-lines s = length-pieces recordBytes (length s / recordBytes) s
 
 -- How far line i agrees with the key's line: from field f on.
 pub record Agreed (s text : List ℕ) (i f : ℕ) : Type 0 where

@@ -1,11 +1,12 @@
 -- Laws of `inserted` and `without`: order, lines by key, lengths, one undoes the other, indices.
-use Rattle.lists.specs.Basics.{ℕ, suc, _<_, _≡_, refl, sym, ap, _∙_, Bool, true, false, _||_, cond, true≢false, List, [], _∷_, _++_, arith, length, take, drop}
+use Rattle.lists.specs.Basics.{ℕ, suc, _<_, _≡_, refl, sym, ap, _∙_, Bool, true, false, _||_, cond, true≢false, List, [], _∷_, _++_, length, take, drop}
 use Rattle.lists.specs.Basics.{all, any, count, and-fst, and-snd, and-both, choose-by, or-fst, or-snd}
 use Rattle.lists.specs.Order.{less-irrefl, less-total}
-use Rattle.model.specs.Types.{Key, Record}
-use Rattle.model.specs.Records.{keyNumbers, keyOf, keyLess, inOrder, rising, sameKey, absentAt, lineOf, rank}
-use Rattle.sheet_laws.specs.KeyOrder.{same-key, same-key-refl, other-key, listsKey, apart, key-trans, key-later}
-use Rattle.sheet_laws.specs.Ranks.{no-rank}
+use Rattle.model.specs.Types.{Key, Record, At}
+use Rattle.model.specs.Records.{keyNumbers, keyOf, keyLess, inOrder, rising, sameKey, absentAt, lineOf, noRecord, found, rank}
+use Rattle.sheet_laws.specs.KeyOrder.{same-key, same-key-refl, other-key, listsKey, has-line, apart, key-trans, key-later}
+use Rattle.sheet_laws.specs.Search.{first-at}
+use Rattle.sheet_laws.specs.Ranks.{no-rank, found-by-rank}
 use Rattle.shifting.specs.Keyed.{inserted, without}
 
 -- The order of keys.
@@ -262,17 +263,11 @@ module _ (k : Key) where
           ap (λ (xs : List Record). r ∷ xs) (f m) ∙ ap (λ (i : ℕ). take i (r ∷ rs) ++ drop (suc i) (r ∷ rs)) (sym q)
 
   -- the rank of a key that has a line is the index of a line
-  pub rank-found : (rs : List Record) → rising rs ≡ true → listsKey k rs ≡ true → rank k rs < length rs
-  unfolding rising any rank count
-  rank-found [] h n = absurd (true≢false (sym n))
-  rank-found (r ∷ rs) h n = go (sameKey (r .key) k) refl n (rank-found rs (and-snd (inOrder r rs) (rising rs) h))
-    where
-      go : (b : Bool) → sameKey (r .key) k ≡ b → (b || listsKey k rs) ≡ true → (listsKey k rs ≡ true → rank k rs < length rs) → rank k (r ∷ rs) < suc (length rs)
-      go true e m f = let z : rank k (r ∷ rs) ≡ 0 = rank-first r rs h e in omega arith
-      go false e m f =
-          let q : rank k (r ∷ rs) ≡ suc (rank k rs) = ap (λ (b : Bool). cond b (suc (rank k rs)) (rank k rs)) (key-later r rs k h m) in
-          let l : rank k rs < length rs = f m in
-          omega arith
+  pub rank-inside : (rs : List Record) → rising rs ≡ true → listsKey k rs ≡ true → rank k rs < length rs
+  unfolding found
+  rank-inside rs h n =
+      let e : found k rs ≡ At (rank k rs) = found-by-rank k rs h ∙ rw (has-line k rs ∙ n) in
+      first-at (λ (r : Record). sameKey (r .key) k) rs noRecord (rank k rs) e .within
 
   -- before all others, a new line comes first
   inserted-first : {r : Record} (rs : List Record) → absentAt k ≡ r → inOrder (absentAt k) rs ≡ true → inserted k rs ≡ r ∷ rs

@@ -7,18 +7,19 @@ use lib.ListN.{length-replicate, replicate-append-replicate}
 use mathlib.Core.List.{map-append}
 use lib.Seq.{take-append-le, drop-append-le, take-append-add, length-take-le}
 use Rattle.lists.specs.All.{all-append, all-drop}
-use Rattle.lists.specs.Pieces.{AllOf, pieces-joined, length-joined, length-pieces}
+use Rattle.lists.specs.Pieces.{AllOf, pieces-joined, length-joined}
 use Rattle.decimal.specs.Field.{number, figure, scanned, stepped, within}
 use Rattle.model.specs.Types.{Key, Record}
 use Rattle.model.specs.Layouts.{recordBytes, recordLayout, words}
 use Rattle.model.specs.Lines.{fieldValue, wordFrom, rowOf, linesOf}
 use Rattle.model.specs.Records.{noRecord, recordOf, keyOf, imageFrom, stateOf, recordIn, recordText, records, absentAt, rising, rank}
 use Rattle.sheet_laws.specs.Records.{ranged, record-read-written, length-recordText}
+use Rattle.sheet_laws.specs.ByIndex.{length-lines}
 use Rattle.sheet_laws.specs.KeyOrder.{listsKey}
 use Rattle.sheet_laws.specs.Ranks.{rank-within}
 use Rattle.shifting.specs.Shifted.{insertAt, removeAt, spareText, length-spare}
 use Rattle.shifting.specs.Keyed.{inserted, without}
-use Rattle.shifting.specs.KeyLaws.{inserted-at, without-at, rank-found}
+use Rattle.shifting.specs.KeyLaws.{inserted-at, without-at, rank-inside}
 
 -- Lists with an element put in or taken out.
 
@@ -135,34 +136,30 @@ module _ (s : List ℕ) (i : ℕ) (whole : length s ≡ length s / recordBytes *
       all-join recordBytes (take i ls) _ (all-first recordBytes i ls a)
       (all-join recordBytes (drop (i + 1) ls) (t ∷ []) (all-rest recordBytes (i + 1) ls a) (w, tt))
 
-  line-count : length (linesOf recordBytes s) ≡ length s / recordBytes
-  unfolding linesOf
-  line-count = length-pieces recordBytes (length s / recordBytes) s
-
   -- as many lines as before, of their width: as many bytes, and these lines again
   joined-same : (xs : List (List ℕ)) → AllOf recordBytes xs → length xs ≡ length (linesOf recordBytes s) → length (joined xs) ≡ length s
-  joined-same xs a e = length-joined recordBytes xs a ∙ (ap (λ (n : ℕ). n * recordBytes) (e ∙ line-count) ∙ sym whole)
+  joined-same xs a e = length-joined recordBytes xs a ∙ (ap (λ (n : ℕ). n * recordBytes) (e ∙ length-lines s) ∙ sym whole)
 
   joined-lines : (xs : List (List ℕ)) → AllOf recordBytes xs → length xs ≡ length (linesOf recordBytes s) → linesOf recordBytes (joined xs) ≡ xs
   joined-lines xs a e =
-      lines-joined recordBytes xs a (ap (λ (n : ℕ). n / recordBytes) (joined-same xs a e) ∙ sym (e ∙ line-count))
+      lines-joined recordBytes xs a (ap (λ (n : ℕ). n / recordBytes) (joined-same xs a e) ∙ sym (e ∙ length-lines s))
 
   pub bytes-inserted : (t : List ℕ) → length t ≡ recordBytes → length (joined (insertAt i t (linesOf recordBytes s))) ≡ length s
   bytes-inserted t w =
-      joined-same _ (inserted-wide t w) (length-insert i t (linesOf recordBytes s) (omega (arith, line-count)))
+      joined-same _ (inserted-wide t w) (length-insert i t (linesOf recordBytes s) (omega (arith, length-lines s)))
 
   pub bytes-removed : (t : List ℕ) → length t ≡ recordBytes → length (joined (removeAt i t (linesOf recordBytes s))) ≡ length s
   bytes-removed t w =
-      joined-same _ (removed-wide t w) (length-remove i t (linesOf recordBytes s) (omega (arith, line-count)))
+      joined-same _ (removed-wide t w) (length-remove i t (linesOf recordBytes s) (omega (arith, length-lines s)))
 
   -- the sheet's lines afterwards
   pub lines-inserted : (t : List ℕ) → length t ≡ recordBytes → linesOf recordBytes (joined (insertAt i t (linesOf recordBytes s))) ≡ insertAt i t (linesOf recordBytes s)
   lines-inserted t w =
-      joined-lines _ (inserted-wide t w) (length-insert i t (linesOf recordBytes s) (omega (arith, line-count)))
+      joined-lines _ (inserted-wide t w) (length-insert i t (linesOf recordBytes s) (omega (arith, length-lines s)))
 
   pub lines-removed : (t : List ℕ) → length t ≡ recordBytes → linesOf recordBytes (joined (removeAt i t (linesOf recordBytes s))) ≡ removeAt i t (linesOf recordBytes s)
   lines-removed t w =
-      joined-lines _ (removed-wide t w) (length-remove i t (linesOf recordBytes s) (omega (arith, line-count)))
+      joined-lines _ (removed-wide t w) (length-remove i t (linesOf recordBytes s) (omega (arith, length-lines s)))
 
   -- the records of a sheet into which the text of a record was put
   pub records-inserted : (r : Record) → ranged r ≡ true → records (joined (insertAt i (recordText r) (linesOf recordBytes s))) ≡ insertAt i r (records s)
@@ -222,5 +219,5 @@ added-lines k n rs h m =
 
 pub removed-lines : (k : Key) (n : ℕ) (rs : List Record) → rising rs ≡ true → listsKey k rs ≡ true → removeAt (rank k rs) noRecord (rs ++ replicate n noRecord) ≡ without k rs ++ replicate (suc n) noRecord
 removed-lines k n rs h m =
-    remove-spares noRecord (rank k rs) n rs (rank-found k rs h m)
+    remove-spares noRecord (rank k rs) n rs (rank-inside k rs h m)
     ∙ ap (λ (q : List Record). q ++ replicate (suc n) noRecord) (sym (without-at k rs h m))
