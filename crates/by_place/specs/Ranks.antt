@@ -3,16 +3,16 @@ use Rattle.lists.specs.Basics.{refl, ℕ, _+_, _≤_, eqb, Bool, cond, List, []
 use Rattle.lists.specs.Basics.{all, choose-by}
 use Rattle.model.specs.Types.{Key, Rank, Ranked}
 use Rattle.model.specs.Refusals.{Condition, refusalOf, lastRefusal}
-use Rattle.model.specs.SheetCalls.{rankConditions, toldRank, rankOn}
-use Rattle.model.specs.TwoSheets.{linesConditions, keyConditions, rankTwoConditions, rankTwo}
+use Rattle.model.specs.SheetCalls.{rankConditions, lookupConditions, toldRank, rankOn, lineOn}
+use Rattle.model.specs.TwoSheets.{linesConditions, keyConditions, rankTwoConditions, rankTwo, lookupTwoConditions, lineTwo}
 use Rattle.call_laws.specs.Exactness.{small}
 
 abbrev pub oneIf : Bool → ℕ
 oneIf b = cond b 1 0
 
--- the index of the key's line, or 1000 and the refusal, 6 where no line has the key
+-- the index of the key's line, or 1000 and the refusal
 unfoldable pub lineNumber : Ranked → ℕ
-lineNumber r = cond (eqb (r .refusal) 0) (cond (r .rank .present) (r .rank .below) 1006) (1000 + r .refusal)
+lineNumber r = cond (eqb (r .refusal) 0) (r .rank .below) (1000 + r .refusal)
 
 -- where the key stands is told in a target of two numbers; of another length it is refused with 1, before the companion is asked
 unfoldable pub rankNumber : List ℕ → Ranked → ℕ
@@ -31,6 +31,14 @@ pub rank-small : (s : List ℕ) (k : Key) → rankOn s k .refusal ≤ lastRefusa
 unfolding rankOn rankConditions all
 rank-small s k = told-small (rankConditions s k) _ (small (rankConditions s k) refl)
 
+pub line-small : (s : List ℕ) (k : Key) → lineOn s k .refusal ≤ lastRefusal
+unfolding lineOn lookupConditions rankConditions all
+line-small s k = told-small (lookupConditions s k) _ (small (lookupConditions s k) refl)
+
 pub rank-two-small : (ps bs : List ℕ) (k : Key) → rankTwo ps bs k .refusal ≤ lastRefusal
 unfolding rankTwo rankTwoConditions keyConditions linesConditions all
 rank-two-small ps bs k = told-small (rankTwoConditions ps bs k) _ (small (rankTwoConditions ps bs k) refl)
+
+pub line-two-small : (ps bs : List ℕ) (k : Key) → lineTwo ps bs k .refusal ≤ lastRefusal
+unfolding lineTwo lookupTwoConditions rankTwoConditions keyConditions linesConditions all
+line-two-small ps bs k = told-small (lookupTwoConditions ps bs k) _ (small (lookupTwoConditions ps bs k) refl)

@@ -54,7 +54,7 @@ pub fn number_two(call: u32, refusal: u32, reply: u32, columns: Columns) -> u64
     reply as u64
 }
 
-// The index of the line of a key as one number, or 1000 + the refusal, 6 where none has it.
+// The index of the line of a key as one number, or 1000 + the refusal.
 pub fn line_number(told: Ranked) -> u32
     requires { ⌜ (told .refusal ≤ lastRefusal) × (told .rank .below ≤ 500) ⌝ }
     ensures { λ r. ⌜ r ≡ lineNumber told ⌝ }
@@ -62,10 +62,7 @@ pub fn line_number(told: Ranked) -> u32
     if told.refusal != 0 {
         return 1000 + told.refusal;
     }
-    if told.rank.present {
-        return told.rank.below as u32;
-    }
-    1006
+    told.rank.below as u32
 }
 
 // Where a key stands, in a lent target of two numbers.

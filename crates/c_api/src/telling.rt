@@ -1,7 +1,7 @@
 // What a client asks besides the calls: what a call wrote, where the line of a key stands, and which version this is.
 ghost use mathlib.Core.Path.{_≡_};
 ghost use Rattle.model.specs.Changes.{writtenNumber, writtenLines};
-ghost use Rattle.model.specs.SheetCalls.{rankOn};
+ghost use Rattle.model.specs.SheetCalls.{rankOn, lineOn};
 ghost use Rattle.by_place.specs.Ranks.{lineNumber, rankNumber, rankTarget};
 ghost use Rattle.c_api.specs.Telling.{version};
 use types::Key;
@@ -39,7 +39,7 @@ pub extern "C" fn rapyheo_lookup(
     partition: u32,
     clustering: u32,
 ) -> u32
-    ensures { λ r. ⌜ r ≡ lineNumber (rankOn (now (records .entry)) (record { storage = storage; namespace = namespace; table = table; partition = partition; clustering = clustering })) ⌝ }
+    ensures { λ r. ⌜ r ≡ lineNumber (lineOn (now (records .entry)) (record { storage = storage; namespace = namespace; table = table; partition = partition; clustering = clustering })) ⌝ }
 {
     let key = Key {
         storage,
@@ -48,7 +48,7 @@ pub extern "C" fn rapyheo_lookup(
         partition,
         clustering,
     };
-    by_place::line_number(sheets::lookup::rank_of(records, key))
+    by_place::line_number(sheets::lookup::line_of(records, key))
 }
 
 // Where the key stands, or would stand: the target gets how many lines have smaller keys, and 1 if the key has a line itself, else 0. Answers 0, or 1000 + the

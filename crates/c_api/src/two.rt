@@ -5,7 +5,7 @@ ghost use Rattle.model.specs.Results.{visit};
 ghost use Rattle.model.specs.Operations.{once, coordinatorLeft};
 ghost use Rattle.model.specs.Requests.{operationOf};
 ghost use Rattle.model.specs.CallByPlace.{listAfter};
-ghost use Rattle.model.specs.TwoSheets.{twoConditions, rankTwo};
+ghost use Rattle.model.specs.TwoSheets.{twoConditions, rankTwo, lineTwo};
 ghost use Rattle.model.specs.TwoCalls.{responseTwo, plainLeft, bookkeepingLeft};
 ghost use Rattle.two_check.specs.Areas.{two};
 ghost use Rattle.by_place.specs.Numbers.{visitNumber};
@@ -65,7 +65,7 @@ pub extern "C" fn rapyheo_two_lookup(
     partition: u32,
     clustering: u32,
 ) -> u32
-    ensures { λ r. ⌜ r ≡ lineNumber (rankTwo (now (plain .entry)) (now (book .entry)) (record { storage = storage; namespace = namespace; table = table; partition = partition; clustering = clustering })) ⌝ }
+    ensures { λ r. ⌜ r ≡ lineNumber (lineTwo (now (plain .entry)) (now (book .entry)) (record { storage = storage; namespace = namespace; table = table; partition = partition; clustering = clustering })) ⌝ }
 {
     let key = Key {
         storage,
@@ -74,7 +74,7 @@ pub extern "C" fn rapyheo_two_lookup(
         partition,
         clustering,
     };
-    by_place::line_number(two_sheets::lookup::rank_of(plain, book, key))
+    by_place::line_number(two_sheets::lookup::line_of(plain, book, key))
 }
 
 // Where the key stands, or would stand, on both sheets: as `rapyheo_rank`.

@@ -67,8 +67,8 @@ pub fn put(
     if refused != 0 {
         return refusal(refused, t);
     }
-    if !sheets::lookup::rank(records, key).present {
-        return refusal(6, t);
+    match sheets::lookup::find(records, key) {
+        Found::At(_) => put_held(t, key, columns),
+        Found::Nothing => refusal(6, t),
     }
-    put_held(t, key, columns)
 }

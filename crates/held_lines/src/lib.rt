@@ -38,11 +38,10 @@ fn line_index(records: &[u8], key: Key) -> usize
     if !lookup::key_in_range(key) {
         return codec::records::count(records);
     }
-    let rank = lookup::rank(records, key);
-    if !rank.present {
-        return codec::records::count(records);
+    match lookup::find(records, key) {
+        Found::At(i) => i,
+        Found::Nothing => codec::records::count(records),
     }
-    rank.below
 }
 
 // Whether each entry of a transaction has a line, and the indices of these.

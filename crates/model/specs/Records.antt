@@ -187,6 +187,10 @@ rank k rs = count (λ (r : Record). keyLess (r .key) k) rs
 abbrev pub ranked : Key → List Record → Rank
 ranked k rs = record { below = rank k rs; present = hasLine k rs }
 
+-- the part of that answer by which operations go: the index of the key's line, if it has one
+abbrev pub placed : Rank → Found
+placed r = cond (r .present) (At (r .below)) Nothing
+
 -- a key without a line counts as an ABSENT line of version 0
 abbrev pub absentAt : Key → Record
 absentAt k = record { key = k; state = Absent; image = noImage; before = noImage; clock = 0 }

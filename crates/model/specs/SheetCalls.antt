@@ -1,7 +1,7 @@
 -- The calls that take no transaction and no clock: the check, sheets to numbers and back, the look-up.
 -- For each, its conditions of refusal in order, and what it answers or leaves in the lent target.
 use Rattle.lists.specs.Basics.{ℕ, _+_, _*_, _/_, eqb, Bool, false, not, _&&_, cond, List, [], _∷_, _++_, map, length, take, drop, all}
-use Rattle.model.specs.Types.{Key, Rank, Ranked, Found, At, Nothing}
+use Rattle.model.specs.Types.{Key, Record, Rank, Ranked, Found, At, Nothing}
 use Rattle.model.specs.Layouts.{recordBytes, coordinatorBytes, recordFields, headFields}
 use Rattle.model.specs.Records.{records, recordsAccepted, recordsText, recordOf, rows, rowsAccepted, allNumbers, keyInRange, found, isMissing, ranked}
 use Rattle.model.specs.Coordinator.{coordinatorOf, coordinatorReadable, coordinatorAccepted, coordinatorText, coordinatorFrom, coordinatorNumbers, numbersAccepted}
@@ -77,6 +77,14 @@ rankOn s k = toldRank (rankConditions s k) (ranked k (records s))
 -- an empty part where the companion is refused, or tells that the key has no line
 unfoldable pub lookupConditions : List ℕ → Key → List Condition
 lookupConditions s k = rankConditions s k ++ (refuse 6 (isMissing (found k (records s))) ∷ [])
+
+-- which line has the key
+unfoldable pub lineOn : List ℕ → Key → Ranked
+lineOn s k = toldRank (lookupConditions s k) (ranked k (records s))
+
+-- the same of a key in range, among lines in order
+abbrev pub lineAmong : List Record → Key → Ranked
+lineAmong rs k = toldRank (refuse 6 (isMissing (found k rs)) ∷ []) (ranked k rs)
 
 -- the bytes of the line at an index, none where nothing was found
 unfoldable pub lineAt : List ℕ → Found → List ℕ

@@ -154,6 +154,9 @@ rankTwo ps bs k = toldRank (rankTwoConditions ps bs k) (ranked k (records (joine
 unfoldable pub lookupTwoConditions : List ℕ → List ℕ → Key → List Condition
 lookupTwoConditions ps bs k = rankTwoConditions ps bs k ++ (refuse 6 (isMissing (found k (records (joinedSheet ps bs)))) ∷ [])
 
+unfoldable pub lineTwo : List ℕ → List ℕ → Key → Ranked
+lineTwo ps bs k = toldRank (lookupTwoConditions ps bs k) (ranked k (records (joinedSheet ps bs)))
+
 -- the sheets by the numbers that name them
 abbrev pub plainNamed : ℕ
 plainNamed = 0

@@ -206,11 +206,10 @@ fn fetch(
     if refused != 0 {
         return refusal(refused, t);
     }
-    let rank = sheets::lookup::rank(records, key);
-    if !rank.present {
-        return refusal(6, t);
+    match sheets::lookup::find(records, key) {
+        Found::At(i) => fetch_found(asked, t, key, i, clock, records, coordinator),
+        Found::Nothing => refusal(6, t),
     }
-    fetch_found(asked, t, key, rank.below, clock, records, coordinator)
 }
 
 // The read, or the first of its two calls.

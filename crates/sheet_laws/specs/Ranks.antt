@@ -1,12 +1,12 @@
 -- Where a key stands: on a sheet in order the index of its line is the number of smaller keys, since those stand above it and no others do. Document 02, note 5.
-use Rattle.lists.specs.Basics.{_≡_, refl, sym, ap, _∙_, ℕ, suc, _+_, _-_, _≤_, _<_, ltb, Bool, true, false, _||_, cond, true≢false, List, [], _∷_, length, take, drop, getD}
+use Rattle.lists.specs.Basics.{_≡_, refl, sym, ap, subst, _∙_, ℕ, suc, _+_, _-_, _≤_, _<_, ltb, Bool, true, false, _||_, cond, true≢false, List, [], _∷_, length, take, drop, getD}
 use Rattle.lists.specs.Basics.{length-take, length-drop, getD-take, getD-drop, arith, ltb-true, ltb-false, all, any, count, and-fst, and-snd, and-both, tests}
 use Rattle.lists.specs.All.{all-at}
 use Rattle.lists.specs.Chosen.{none-at, count-none, count-le, count-all}
 use Rattle.lists.specs.Order.{less-irrefl}
 use Rattle.model.specs.Types.{Key, Record, Rank, At, Nothing}
 use Rattle.model.specs.Search.{firstFrom}
-use Rattle.model.specs.Records.{keyNumbers, keyLess, inOrder, rising, sameKey, found, isMissing, hasLine, rank, ranked, records, recordsGood, recordsAccepted}
+use Rattle.model.specs.Records.{keyNumbers, keyLess, inOrder, rising, sameKey, found, isMissing, hasLine, rank, ranked, placed, records, recordsGood, recordsAccepted}
 use Rattle.sheet_laws.specs.KeyOrder.{same-key, listsKey, has-line, key-trans, key-later}
 
 rising-tail : (r : Record) (rs : List Record) → rising (r ∷ rs) ≡ true → rising rs ≡ true
@@ -51,13 +51,13 @@ found-from k i (r ∷ rs) h = go (sameKey (r .key) k) refl (found-from k (suc i)
 
 module _ (k : Key) (rs : List Record) (h : rising rs ≡ true) where
   -- "the place of a key's line is its rank"
-  pub found-by-rank : found k rs ≡ cond (hasLine k rs) (At (rank k rs)) Nothing
+  pub found-by-rank : found k rs ≡ placed (ranked k rs)
   unfolding found
   found-by-rank =
       let q : 0 + rank k rs ≡ rank k rs = omega arith in
       found-from k 0 rs h ∙ rw (q, has-line k rs)
 
-  -- so that what a search finds tells the rank, and the rank where the line is
+  -- so that what a search finds tells the rank
 
   pub found-ranked : (i : ℕ) → found k rs ≡ At i → record { below = i; present = true } ≡ ranked k rs
   unfolding isMissing
@@ -72,17 +72,6 @@ module _ (k : Key) (rs : List Record) (h : rising rs ≡ true) where
   missing-ranked n q f =
       let b : hasLine k rs ≡ false = rw f in
       rw (q, b)
-
-  pub rank-found : (r : Rank) → r ≡ ranked k rs → r .present ≡ true → found k rs ≡ At (r .below)
-  rank-found r e p =
-      let b : hasLine k rs ≡ true = sym (ap (λ (x : Rank). x .present) e) ∙ p in
-      let f : found k rs ≡ At (rank k rs) = found-by-rank ∙ rw b in
-      f ∙ ap (λ (x : Rank). At (x .below)) (sym e)
-
-  pub rank-missing : (r : Rank) → r ≡ ranked k rs → r .present ≡ false → found k rs ≡ Nothing
-  rank-missing r e p =
-      let b : hasLine k rs ≡ false = sym (ap (λ (x : Rank). x .present) e) ∙ p in
-      found-by-rank ∙ rw b
 
 -- no more lines than there are
 pub rank-within : (k : Key) (rs : List Record) → rank k rs ≤ length rs
@@ -102,6 +91,10 @@ unfolding recordsAccepted recordsGood
 rank-few k s a =
     let l : length (records s) ≤ 500 = search tests in
     omega (arith, l, rank-within k (records s))
+
+-- an index that is found is a rank
+pub found-few : (k : Key) (s : List ℕ) → recordsAccepted s ≡ true → (i : ℕ) → found k (records s) ≡ At i → i ≤ 500
+found-few k s a i f = subst (λ (r : Rank). r .below ≤ 500) (sym (found-ranked k (records s) (accepted-order s a) i f)) (rank-few k s a)
 
 -- the first lines, as many as the rank, have smaller keys
 pub rank-above : (k : Key) (rs : List Record) → rising rs ≡ true → all (λ (r : Record). keyLess (r .key) k) (take (rank k rs) rs) ≡ true

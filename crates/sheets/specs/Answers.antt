@@ -1,15 +1,15 @@
 -- What each call answers, case by case in the order of its conditions.
-use Rattle.lists.specs.Basics.{_≡_, refl, _∙_, ℕ, _+_, _*_, _≤_, Bool, true, false, not, _&&_, and-assoc, and-true, List, [], _∷_, length, take, drop, getD, arith}
-use Rattle.model.specs.Types.{Key, Record, Rank, Ranked, At, Nothing}
+use Rattle.lists.specs.Basics.{_≡_, refl, sym, ap, _∙_, ℕ, _+_, _*_, _≤_, Bool, true, false, not, _&&_, and-assoc, and-true, List, [], _∷_, length, take, drop, getD, arith}
+use Rattle.model.specs.Types.{Key, Record, Rank, Ranked, Found, At, Nothing}
 use Rattle.model.specs.Layouts.{recordLayout, keyLayout, noColumn, recordBytes}
 use Rattle.model.specs.Lines.{inRange, rowGood}
-use Rattle.model.specs.Records.{noRecord, keyNumbers, records, recordsAccepted, keyInRange, sameKey, found, isMissing, ranked}
+use Rattle.model.specs.Records.{noRecord, keyNumbers, records, recordsAccepted, keyInRange, sameKey, found, isMissing, ranked, placed}
 use Rattle.model.specs.Refusals.{refuse, refusalOf}
 use Rattle.model.specs.Coordinator.{coordinatorAccepted}
-use Rattle.model.specs.SheetCalls.{allIssued, checkConditions, lookupConditions, lineAt, lookedUp, rankConditions, rankOn}
+use Rattle.model.specs.SheetCalls.{allIssued, checkConditions, lookupConditions, lineAt, lookedUp, rankConditions, rankOn, lineOn, lineAmong}
 use Rattle.sheet_laws.specs.ByIndex.{length-records}
 use Rattle.sheet_laws.specs.Search.{first-at}
-use Rattle.sheet_laws.specs.Ranks.{rank-found, rank-missing, accepted-order}
+use Rattle.sheet_laws.specs.Ranks.{found-by-rank, found-ranked, accepted-order}
 
 -- a key is in range if each of its numbers is in its column's
 pub key-tests : (k : Key) (a b c d e : Bool)
@@ -24,29 +24,45 @@ key-tests k a b c d e p q r s t =
     let n : (a && b && c && d && e) ≡ (a && (b && (c && (d && (e && true))))) = simp (and-assoc, and-true) in
     n ∙ rw (p, q, r, s, t)
 
--- where a key stands on an accepted sheet, as the companion tells it: the index of its line, or none
-module _ (s : List ℕ) (k : Key) (e : recordsAccepted s ≡ true) (r : Rank) (told : r ≡ ranked k (records s)) where
-  pub at-rank : r .present ≡ true → found k (records s) ≡ At (r .below)
-  at-rank = rank-found k (records s) (accepted-order s e) r told
+-- what operations go by is the line of the key
+pub is-found : (s : List ℕ) (k : Key) → recordsAccepted s ≡ true → {f : Found} → f ≡ placed (ranked k (records s)) → found k (records s) ≡ f
+is-found s k e told = found-by-rank k (records s) (accepted-order s e) ∙ sym told
 
-  pub no-line : r .present ≡ false → found k (records s) ≡ Nothing
-  no-line = rank-missing k (records s) (accepted-order s e) r told
+-- which line has a key, by what is found
+module _ (s : List ℕ) (k : Key) (e : recordsAccepted s ≡ true) where
+  pub line-none : found k (records s) ≡ Nothing → record { refusal = 6; rank = record { below = 0; present = false } } ≡ lineAmong (records s) k
+  unfolding refusalOf isMissing
+  line-none f = rw f
 
--- The look-up: the part handed back, and what its companion tells.
+  pub line-met : (i : ℕ) → found k (records s) ≡ At i → record { refusal = 0; rank = record { below = i; present = true } } ≡ lineAmong (records s) k
+  unfolding refusalOf isMissing
+  line-met i f = ap (λ (r : Rank). record { refusal = 0; rank = r }) (found-ranked k (records s) (accepted-order s e) i f) ∙ rw f
+
+  -- told without refusal, it is the line found
+  pub line-at : (r : Ranked) → r ≡ lineAmong (records s) k → r .refusal ≡ 0 → found k (records s) ≡ At (r .rank .below)
+  line-at r t z = go (found k (records s)) refl
+    where
+      go : (f : Found) → found k (records s) ≡ f → found k (records s) ≡ At (r .rank .below)
+      go (At i) h = h ∙ ap (λ (x : Ranked). At (x .rank .below)) (line-met i h ∙ sym t)
+      go Nothing h = let n : r .refusal ≡ 6 = ap (λ (x : Ranked). x .refusal) (t ∙ sym (line-none h)) in absurd (omega (arith, n, z))
+
+-- The look-up: the part handed back, what its companion tells, and which line it is.
 module _ (s : List ℕ) (k : Key) where
-  abbrev pub LookedUp : List ℕ → Ranked → Type 0
-  LookedUp part r = (part ≡ lookedUp s k) × (r ≡ rankOn s k)
+  pub record LookedUp (handed : List ℕ) (r : Ranked) : Type 0 where
+    pub part : handed ≡ lookedUp s k
+    pub rank : r ≡ rankOn s k
+    pub line : r ≡ lineOn s k
 
   abbrev none : ℕ → Ranked
   none n = record { refusal = n; rank = record { below = 0; present = false } }
 
   pub lookup-bad : recordsAccepted s ≡ false → LookedUp [] (none 1)
-  unfolding lookedUp lookupConditions rankOn rankConditions refusalOf
-  lookup-bad e = rw e (refl, refl)
+  unfolding lookedUp lookupConditions rankOn lineOn rankConditions refusalOf
+  lookup-bad e = record { part = rw e; rank = rw e; line = rw e }
 
   pub lookup-out : recordsAccepted s ≡ true → keyInRange k ≡ false → LookedUp [] (none 5)
-  unfolding lookedUp lookupConditions rankOn rankConditions refusalOf
-  lookup-out e g = rw (e, g) (refl, refl)
+  unfolding lookedUp lookupConditions rankOn lineOn rankConditions refusalOf
+  lookup-out e g = record { part = rw (e, g); rank = rw (e, g); line = rw (e, g) }
 
   module _ (e : recordsAccepted s ≡ true) (g : keyInRange k ≡ true) where
     -- the companion answers of every key in range
@@ -57,6 +73,10 @@ module _ (s : List ℕ) (k : Key) where
     pub lookup-none : found k (records s) ≡ Nothing → [] ≡ lookedUp s k
     unfolding lookedUp lookupConditions rankConditions refusalOf isMissing
     lookup-none f = rw (e, g, f)
+
+    pub line-told : lineAmong (records s) k ≡ lineOn s k
+    unfolding lineOn lookupConditions rankConditions refusalOf
+    line-told = rw (e, g)
 
     pub lookup-met : (i : ℕ) → found k (records s) ≡ At i → take recordBytes (drop (i * recordBytes) s) ≡ lookedUp s k
     unfolding lookedUp lookupConditions rankConditions refusalOf isMissing lineAt

@@ -5,11 +5,11 @@ ghost use Prim.Native.Nat.{_+_, _<_, _≤_};
 ghost use lib.ListN.{length};
 ghost use Rattle.lists.specs.Bytes.{eqList};
 ghost use Rattle.model.specs.Layouts.{recordBytes};
-ghost use Rattle.model.specs.Records.{recordsAccepted, keyInRange, found, ranked, keyNumbers};
+ghost use Rattle.model.specs.Records.{recordsAccepted, keyInRange, ranked, placed, keyNumbers};
 ghost use Rattle.model.specs.Records as model;
 ghost use Rattle.sheet_laws.specs.Keys.{keyLine};
 ghost use Rattle.model.specs.Lines.{linesOf};
-ghost use Rattle.model.specs.SheetCalls.{lookedUp, rankOn};
+ghost use Rattle.model.specs.SheetCalls.{lookedUp, rankOn, lineOn, lineAmong};
 ghost use Rattle.sheets.specs.Search.{keyField, foundLine};
 use codec::fields::in_range;
 use codec::layouts::NAMESPACE;
@@ -98,11 +98,11 @@ fn find_line(records: &[u8], text: &[u8]) -> Found
     Found::Nothing
 }
 
-// The index of the line that has the key, in an accepted sheet.
-fn find(records: &[u8], key: Key) -> Found
+// The line that has the key, in an accepted sheet: that part of `rank`'s answer by which operations go. None of them needs to know where a missing key would stand.
+pub fn find(records: &[u8], key: Key) -> Found
     requires { ⌜ recordsAccepted (now records) ≡ true ⌝ }
     requires { ⌜ keyInRange key ≡ true ⌝ }
-    ensures { λ r. ⌜ r ≡ found key (model.records (now (records .entry))) ⌝ }
+    ensures { λ r. ⌜ r ≡ placed (ranked key (model.records (now (records .entry)))) ⌝ }
 {
     let text = key_line(key);
     find_line(records, &text)
@@ -144,6 +144,25 @@ pub fn rank(records: &[u8], key: Key) -> Rank
     }
 }
 
+// Which line of an accepted sheet has the key: its index, or 6.
+pub fn line(records: &[u8], key: Key) -> Ranked
+    requires { ⌜ recordsAccepted (now records) ≡ true ⌝ }
+    requires { ⌜ keyInRange key ≡ true ⌝ }
+    ensures told { λ r. ⌜ r ≡ lineAmong (model.records (now (records .entry))) key ⌝ }
+    ensures few { λ r. ⌜ r .rank .below ≤ 500 ⌝ }
+{
+    match find(records, key) {
+        Found::At(i) => Ranked {
+            refusal: 0,
+            rank: Rank {
+                below: i,
+                present: true,
+            },
+        },
+        Found::Nothing => no_rank(6),
+    }
+}
+
 // Every field of the key is in its range.
 pub fn key_in_range(key: Key) -> bool
     ensures { λ r. ⌜ r ≡ keyInRange key ⌝ }
@@ -165,13 +184,14 @@ pub fn lookup(records: &[u8], key: Key) -> &[u8]
     if !key_in_range(key) {
         return &records[..0];
     }
-    let found = rank(records, key);
-    if !found.present {
-        return &records[..0];
+    match find(records, key) {
+        Found::At(i) => {
+            let at = i * RECORD_BYTES;
+            let end = at + RECORD_BYTES;
+            &records[at..end]
+        }
+        Found::Nothing => &records[..0],
     }
-    let at = found.below * RECORD_BYTES;
-    let end = at + RECORD_BYTES;
-    &records[at..end]
 }
 
 // Where nothing is told: the refusal alone.
@@ -202,4 +222,18 @@ pub fn rank_of(records: &[u8], key: Key) -> Ranked
         refusal: 0,
         rank: rank(records, key),
     }
+}
+
+// Which line has the key: its index, or the look-up's refusal, 6 where no line has it.
+pub fn line_of(records: &[u8], key: Key) -> Ranked
+    ensures told { λ r. ⌜ r ≡ lineOn (now (records .entry)) key ⌝ }
+    ensures few { λ r. ⌜ r .rank .below ≤ 500 ⌝ }
+{
+    if !record_check::records_ok(records) {
+        return no_rank(1);
+    }
+    if !key_in_range(key) {
+        return no_rank(5);
+    }
+    line(records, key)
 }

@@ -17,10 +17,16 @@ use types::RECORD_BYTES;
 
 // Areas for so many lines. A call makes each, since the check would count the bytes of a local array one by one; there are several, since to set the largest to zero
 // takes longer than a call on a few lines.
-pub fn blank_40() -> [u8; 3920]
-    ensures { λ r. ⌜ r ≡ replicate 3920 0 ⌝ }
+pub fn blank_50() -> [u8; 4900]
+    ensures { λ r. ⌜ r ≡ replicate 4900 0 ⌝ }
 {
-    [0u8; 3920]
+    [0u8; 4900]
+}
+
+pub fn blank_100() -> [u8; 9800]
+    ensures { λ r. ⌜ r ≡ replicate 9800 0 ⌝ }
+{
+    [0u8; 9800]
 }
 
 pub fn blank_250() -> [u8; 24500]

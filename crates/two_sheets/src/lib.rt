@@ -30,8 +30,12 @@ use types::Transaction;
 pub fn check(plain: &[u8], book: &[u8], coordinator: &[u8]) -> u32
     ensures { λ r. ⌜ r ≡ refusalOf (twoConditions (now (plain .entry)) (now (book .entry)) (now (coordinator .entry))) ⌝ }
 {
-    if two_check::within(40, plain, book) {
-        let mut area = two_check::blank_40();
+    if two_check::within(50, plain, book) {
+        let mut area = two_check::blank_50();
+        return two_check::join_checked(plain, book, coordinator, &mut area);
+    }
+    if two_check::within(100, plain, book) {
+        let mut area = two_check::blank_100();
         return two_check::join_checked(plain, book, coordinator, &mut area);
     }
     if two_check::within(250, plain, book) {
@@ -95,8 +99,12 @@ pub fn perform(
     ensures bookkeeping { λ r. ⌜ now (book .exit) ≡ bookkeepingLeft (now (book .entry)) (responseTwo (operationOf request t) (two (now (plain .entry)) (now (book .entry)) (now (coordinator .entry)))) ⌝ }
     ensures decisions { λ r. ⌜ now (coordinator .exit) ≡ coordinatorLeft (now (coordinator .entry)) (responseTwo (operationOf request t) (two (now (plain .entry)) (now (book .entry)) (now (coordinator .entry)))) ⌝ }
 {
-    if two_check::within(40, plain, book) {
-        let mut area = two_check::blank_40();
+    if two_check::within(50, plain, book) {
+        let mut area = two_check::blank_50();
+        return on_area(request, t, plain, book, coordinator, &mut area);
+    }
+    if two_check::within(100, plain, book) {
+        let mut area = two_check::blank_100();
         return on_area(request, t, plain, book, coordinator, &mut area);
     }
     if two_check::within(250, plain, book) {

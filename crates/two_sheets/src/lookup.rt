@@ -2,7 +2,7 @@
 ghost use mathlib.Core.Path.{_≡_};
 ghost use Prim.Native.Nat.{_≤_};
 ghost use lib.ListN.{length};
-ghost use Rattle.model.specs.TwoSheets.{rankTwo, lookedUpTwo};
+ghost use Rattle.model.specs.TwoSheets.{rankTwo, lineTwo, lookedUpTwo};
 ghost use Rattle.two_check.specs.Areas.{Rooms};
 ghost use Rattle.two_sheets.specs.Lookups.{Ranks};
 use sheets::lookup::no_rank;
@@ -12,10 +12,10 @@ use types::Key;
 use types::RECORD_BYTES;
 use types::Ranked;
 
-// Where the key stands on the joined sheet.
-fn rank_in(plain: &[u8], book: &[u8], key: Key, area: &mut [u8]) -> Ranked
+// Where the key stands on the joined sheet, or, if its line is asked for, which it is, 6 where it has none.
+fn search_in(line: bool, plain: &[u8], book: &[u8], key: Key, area: &mut [u8]) -> Ranked
     requires { ⌜ Rooms (now plain) (now book) (length (now area)) ⌝ }
-    ensures { λ r. ⌜ Ranks (now (plain .entry)) (now (book .entry)) key r ⌝ }
+    ensures { λ r. ⌜ Ranks line (now (plain .entry)) (now (book .entry)) key r ⌝ }
 {
     let refused = two_check::lines_refusal(plain, book, area);
     if refused != 0 {
@@ -25,6 +25,9 @@ fn rank_in(plain: &[u8], book: &[u8], key: Key, area: &mut [u8]) -> Ranked
         return no_rank(5);
     }
     let n = plain.len() / PLAIN_BYTES * RECORD_BYTES;
+    if line {
+        return sheets::lookup::line(&area[..n], key);
+    }
     Ranked {
         refusal: 0,
         rank: sheets::lookup::rank(&area[..n], key),
@@ -32,19 +35,23 @@ fn rank_in(plain: &[u8], book: &[u8], key: Key, area: &mut [u8]) -> Ranked
 }
 
 // The same in an area of its own.
-fn search(plain: &[u8], book: &[u8], key: Key) -> Ranked
-    ensures { λ r. ⌜ Ranks (now (plain .entry)) (now (book .entry)) key r ⌝ }
+fn search(line: bool, plain: &[u8], book: &[u8], key: Key) -> Ranked
+    ensures { λ r. ⌜ Ranks line (now (plain .entry)) (now (book .entry)) key r ⌝ }
 {
-    if two_check::within(40, plain, book) {
-        let mut area = two_check::blank_40();
-        return rank_in(plain, book, key, &mut area);
+    if two_check::within(50, plain, book) {
+        let mut area = two_check::blank_50();
+        return search_in(line, plain, book, key, &mut area);
+    }
+    if two_check::within(100, plain, book) {
+        let mut area = two_check::blank_100();
+        return search_in(line, plain, book, key, &mut area);
     }
     if two_check::within(250, plain, book) {
         let mut area = two_check::blank_250();
-        return rank_in(plain, book, key, &mut area);
+        return search_in(line, plain, book, key, &mut area);
     }
     let mut area = two_check::blank_500();
-    rank_in(plain, book, key, &mut area)
+    search_in(line, plain, book, key, &mut area)
 }
 
 // The look-up's companion: how many lines have smaller keys, the same on both sheets, and whether the key has a line itself.
@@ -52,7 +59,15 @@ pub fn rank_of(plain: &[u8], book: &[u8], key: Key) -> Ranked
     ensures told { λ r. ⌜ r ≡ rankTwo (now (plain .entry)) (now (book .entry)) key ⌝ }
     ensures few { λ r. ⌜ r .rank .below ≤ 500 ⌝ }
 {
-    search(plain, book, key)
+    search(false, plain, book, key)
+}
+
+// Which line has the key, the same on both sheets: its index, or the look-up's refusal, 6 where no line has it.
+pub fn line_of(plain: &[u8], book: &[u8], key: Key) -> Ranked
+    ensures told { λ r. ⌜ r ≡ lineTwo (now (plain .entry)) (now (book .entry)) key ⌝ }
+    ensures few { λ r. ⌜ r .rank .below ≤ 500 ⌝ }
+{
+    search(true, plain, book, key)
 }
 
 // The line that has the key, as a part of the sheet that is named, 0 the plain sheet and 1 the bookkeeping sheet; an empty part where 1, 13, 5 or 6 applies, or no sheet has
@@ -60,17 +75,17 @@ pub fn rank_of(plain: &[u8], book: &[u8], key: Key) -> Ranked
 pub fn lookup<'a>(plain: &'a [u8], book: &'a [u8], named: u32, key: Key) -> &'a [u8]
     ensures { λ r. ⌜ now r ≡ lookedUpTwo (now (plain .entry)) (now (book .entry)) named key ⌝ }
 {
-    let found = search(plain, book, key).rank;
-    if !found.present {
+    let told = search(true, plain, book, key);
+    if told.refusal != 0 {
         return &plain[..0];
     }
     if named == 0 {
-        let at = found.below * PLAIN_BYTES;
+        let at = told.rank.below * PLAIN_BYTES;
         let end = at + PLAIN_BYTES;
         return &plain[at..end];
     }
     if named == 1 {
-        let at = found.below * BOOKKEEPING_BYTES;
+        let at = told.rank.below * BOOKKEEPING_BYTES;
         let end = at + BOOKKEEPING_BYTES;
         return &book[at..end];
     }

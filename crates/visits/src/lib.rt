@@ -7,6 +7,7 @@ ghost use Rattle.call_laws.specs.Accepted.{Accepted, Outcome};
 ghost use Rattle.recover.specs.Recovering.{lineAt, Standing};
 ghost use Rattle.answers.specs.Answers.{toVisited, visitedBy};
 use answers::Visited;
+use types::Found;
 use types::Key;
 use types::Recovery;
 
@@ -57,9 +58,8 @@ pub fn visit(key: Key, clock: u32, records: &mut [u8], coordinator: &mut [u8]) -
     if !sheets::lookup::key_in_range(key) {
         return refusal(5);
     }
-    let rank = sheets::lookup::rank(records, key);
-    if !rank.present {
-        return refusal(6);
+    match sheets::lookup::find(records, key) {
+        Found::At(i) => visit_line(i, clock, records, coordinator),
+        Found::Nothing => refusal(6),
     }
-    visit_line(rank.below, clock, records, coordinator)
 }

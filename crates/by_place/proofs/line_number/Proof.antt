@@ -1,4 +1,4 @@
--- The tests decide the choices.
+-- The test decides the choice.
 use Rattle.lists.specs.Basics.{_≡_, eqb, true, false, eq-eqb, ne-eqb}
 use Rattle.by_place.specs.Ranks.{lineNumber}
 use borrow.Author.Needs.{needs}
@@ -14,14 +14,8 @@ returns c =
 returns-2 : tie.Need-returns-2
 unfolding lineNumber
 returns-2 c =
-    let a = c .before .before .before .before .args in
-    let e : eqb (a .told .refusal) 0 ≡ true = eq-eqb (a .told .refusal) 0 (c .before .before .if1 .left) in rw (e, c .before .if2 .taken)
-
-returns-3 : tie.Need-returns-3
-unfolding lineNumber
-returns-3 c =
     let a = c .before .before .before .args in
-    let e : eqb (a .told .refusal) 0 ≡ true = eq-eqb (a .told .refusal) 0 (c .before .if1 .left) in rw (e, c .if2 .left)
+    let e : eqb (a .told .refusal) 0 ≡ true = eq-eqb (a .told .refusal) 0 (c .before .if1 .left) in rw e
 
 pub line-number-spec : {M : Type 1} → statement M
-line-number-spec = tie.close (tie.spec (λ c. search needs) returns (λ c. search needs) returns-2 returns-3)
+line-number-spec = tie.close (tie.spec (λ c. search needs) returns (λ c. search needs) returns-2)

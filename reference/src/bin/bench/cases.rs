@@ -11,9 +11,9 @@ use reference::plain::store::Store;
 use reference::plain::transaction::*;
 use reference::replay::laid_out::LaidOut;
 
-/// The numbers of record lines at which each call is timed. At 41 and 251 the calls on two sheets take the next larger
+/// The numbers of record lines at which each call is timed. At 51 and 251 the calls on two sheets take the next larger
 /// area.
-pub const LINES: [usize; 9] = [10, 41, 50, 100, 200, 251, 300, 400, 500];
+pub const LINES: [usize; 9] = [10, 50, 51, 100, 200, 251, 300, 400, 500];
 
 const NOW: u32 = 20_000;
 
@@ -32,9 +32,10 @@ pub enum Case {
     VisitBack,
     /// The owner has a second line, so that all lines are looked through.
     VisitAgain,
-    /// No line has the key, so that where it would stand is found too.
+    /// No line has the key.
     VisitMissing,
     Lookup,
+    LookupMissing,
     /// One step in prepare, with 8 puts in 8 groups.
     Prepare,
     /// From begin to done, with 8 puts in 8 groups: 19 calls.
@@ -60,12 +61,13 @@ pub const CASES: [(Case, &str); 10] = [
 ];
 
 /// Those that are held on two sheets beside the joined sheet.
-pub const ON_TWO: [(Case, &str); 7] = [
+pub const ON_TWO: [(Case, &str); 8] = [
     (Case::Check, "two sheets, check"),
     (Case::BeginByPlace, "two sheets, begin by place"),
     (Case::VisitStays, "two sheets, visit, line stays"),
     (Case::VisitBack, "two sheets, visit, rolls back"),
     (Case::Lookup, "two sheets, look-up"),
+    (Case::LookupMissing, "two sheets, look-up with 6"),
     (Case::Prepare, "two sheets, advance, 8 puts"),
     (Case::TransactionByPlace, "two sheets, whole transaction"),
 ];
@@ -81,8 +83,12 @@ impl Case {
             Case::VisitStays | Case::VisitBack | Case::VisitAgain => {
                 make(&Call::Visit { key, now: NOW }, lent)
             }
-            Case::VisitMissing => make(&missing(key), lent),
+            Case::VisitMissing => {
+                let key = beside(key);
+                make(&Call::Visit { key, now: NOW }, lent)
+            }
             Case::Lookup => make(&Call::Lookup { key }, lent),
+            Case::LookupMissing => make(&Call::Lookup { key: beside(key) }, lent),
             Case::Prepare => make(&ADVANCE, lent),
             Case::Transaction => {
                 begun(make, lent);
@@ -109,7 +115,7 @@ impl Case {
 
     /// What the call answers with that is refused.
     pub fn refusal(self) -> Option<u64> {
-        (self == Case::VisitMissing).then_some(1_006)
+        matches!(self, Case::VisitMissing | Case::LookupMissing).then_some(1_006)
     }
 
     pub fn has_every_state(self) -> bool {
@@ -171,14 +177,13 @@ const NO_KEY: Key = Key {
     clustering: 0,
 };
 
-/// A visit to a key beside this one, which no line has.
-fn missing(key: Key) -> Call {
+/// A key beside this one, which no line has.
+fn beside(key: Key) -> Key {
     let clustering = match key.clustering {
         0 => 1,
         other => other - 1,
     };
-    let key = Key { clustering, ..key };
-    Call::Visit { key, now: NOW }
+    Key { clustering, ..key }
 }
 
 /// Eight lines spread over the sheet, the middle one among them.

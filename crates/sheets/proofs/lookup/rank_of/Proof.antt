@@ -16,12 +16,12 @@ few r = r .rank .below ≤ 500
 returns : tie.Need-returns
 returns c =
     let a = c .before .before .before .before .args in
-    (c .no-rank .ensures ∙ lookup-bad (a .records .now) (a .key) (sym (c .before .before .records-ok .ensures) ∙ not-true _ (c .before .if1 .taken)) .1, subst few (sym (c .no-rank .ensures)) (omega arith))
+    (c .no-rank .ensures ∙ lookup-bad (a .records .now) (a .key) (sym (c .before .before .records-ok .ensures) ∙ not-true _ (c .before .if1 .taken)) .rank, subst few (sym (c .no-rank .ensures)) (omega arith))
 
 returns-2 : tie.Need-returns-2
 returns-2 c =
     let a = c .before .before .before .before .before .before .args in
-    (c .no-rank2 .ensures ∙ lookup-out (a .records .now) (a .key) (sym (c .before .before .before .before .records-ok .ensures) ∙ not-false _ (c .before .before .before .if1 .left)) (sym (c .before .before .key-in-range .ensures) ∙ not-true _ (c .before .if2 .taken)) .1, subst few (sym (c .no-rank2 .ensures)) (omega arith))
+    (c .no-rank2 .ensures ∙ lookup-out (a .records .now) (a .key) (sym (c .before .before .before .before .records-ok .ensures) ∙ not-false _ (c .before .before .before .if1 .left)) (sym (c .before .before .key-in-range .ensures) ∙ not-true _ (c .before .if2 .taken)) .rank, subst few (sym (c .no-rank2 .ensures)) (omega arith))
 
 rank-requires : tie.Need-rank-requires
 rank-requires c κs =

@@ -1,5 +1,5 @@
 -- By whether a line has the key, and the sheet's name.
-use Rattle.lists.specs.Basics.{_≡_, ap, _∙_, ℕ, _+_, _-_, _*_, take, drop, arith, not-true, not-false}
+use Rattle.lists.specs.Basics.{_≡_, refl, ap, _∙_, ℕ, _+_, _-_, _*_, take, drop, arith}
 use Rattle.model.specs.TwoSheets.{plainBytes, bookkeepingBytes}
 use Rattle.two_sheets.specs.Lookups.{looked-missing, looked-plain, looked-bookkeeping, looked-none}
 use borrow.Author.Needs.{needs}
@@ -8,51 +8,51 @@ use Rattle.two_sheets.proofs.lookup.lookup.Tie as tie
 
 returns : tie.Need-returns
 returns c =
-    let a = c .before .before .before .before .before .before .before .args in
-    looked-missing (a .plain .now) (a .book .now) (a .key) _ (c .before .before .before .before .search .ensures) (a .named) (not-true _ (c .before .if1 .taken))
+    let a = c .before .before .before .before .before .before .args in
+    looked-missing (a .plain .now) (a .book .now) (a .key) _ (c .before .before .before .search .ensures) (a .named) (c .before .if1 .taken)
 
 mul-at : tie.Need-mul-at
 mul-at c =
-    let l = c .before .before .before .before .before .search .ensures .fits (not-false _ (c .before .before .if1 .left)) in omega (arith, l .0)
+    let l = c .before .before .before .before .search .ensures .fits refl (c .before .before .if1 .left) in omega (arith, l .0)
 
 add-end : tie.Need-add-end
 add-end c =
-    let l = c .before .before .before .before .before .search .ensures .fits (not-false _ (c .before .before .if1 .left)) in omega (arith, l .0)
+    let l = c .before .before .before .before .search .ensures .fits refl (c .before .before .if1 .left) in omega (arith, l .0)
 
 part-result-end : tie.Need-part-result-end
 part-result-end c =
-    let l = c .before .before .before .before .before .search .ensures .fits (not-false _ (c .before .before .if1 .left)) in omega (arith, l .0)
+    let l = c .before .before .before .before .search .ensures .fits refl (c .before .before .if1 .left) in omega (arith, l .0)
 
 returns-2 : tie.Need-returns-2
 returns-2 c =
-    let a = c .before .before .before .before .before .before .before .before .before .args in
-    let i = c .before .before .before .before .before .before .search .result .rank .below in
+    let a = c .before .before .before .before .before .before .before .before .args in
+    let i = c .before .before .before .before .before .search .result .rank .below in
     let w : i * plainBytes + plainBytes - i * plainBytes ≡ plainBytes = omega arith in
-    ap (λ (n : ℕ). take n (drop (i * plainBytes) (a .plain .now))) w ∙ looked-plain (a .plain .now) (a .book .now) (a .key) _ (c .before .before .before .before .before .before .search .ensures) (a .named) (not-false _ (c .before .before .before .if1 .left)) (c .before .before .if2 .taken)
+    ap (λ (n : ℕ). take n (drop (i * plainBytes) (a .plain .now))) w ∙ looked-plain (a .plain .now) (a .book .now) (a .key) _ (c .before .before .before .before .before .search .ensures) (a .named) (c .before .before .before .if1 .left) (c .before .before .if2 .taken)
 
 mul-at-2 : tie.Need-mul-at-2
 mul-at-2 c =
-    let l = c .before .before .before .before .before .before .search .ensures .fits (not-false _ (c .before .before .before .if1 .left)) in omega (arith, l .1)
+    let l = c .before .before .before .before .before .search .ensures .fits refl (c .before .before .before .if1 .left) in omega (arith, l .1)
 
 add-end-2 : tie.Need-add-end-2
 add-end-2 c =
-    let l = c .before .before .before .before .before .before .search .ensures .fits (not-false _ (c .before .before .before .if1 .left)) in omega (arith, l .1)
+    let l = c .before .before .before .before .before .search .ensures .fits refl (c .before .before .before .if1 .left) in omega (arith, l .1)
 
 part-result-end-2 : tie.Need-part-result-end-2
 part-result-end-2 c =
-    let l = c .before .before .before .before .before .before .search .ensures .fits (not-false _ (c .before .before .before .if1 .left)) in omega (arith, l .1)
+    let l = c .before .before .before .before .before .search .ensures .fits refl (c .before .before .before .if1 .left) in omega (arith, l .1)
 
 returns-3 : tie.Need-returns-3
 returns-3 c =
-    let a = c .before .before .before .before .before .before .before .before .before .before .args in
-    let i = c .before .before .before .before .before .before .before .search .result .rank .below in
+    let a = c .before .before .before .before .before .before .before .before .before .args in
+    let i = c .before .before .before .before .before .before .search .result .rank .below in
     let w : i * bookkeepingBytes + bookkeepingBytes - i * bookkeepingBytes ≡ bookkeepingBytes = omega arith in
-    ap (λ (n : ℕ). take n (drop (i * bookkeepingBytes) (a .book .now))) w ∙ looked-bookkeeping (a .plain .now) (a .book .now) (a .key) _ (c .before .before .before .before .before .before .before .search .ensures) (a .named) (not-false _ (c .before .before .before .before .if1 .left)) (c .before .before .before .if2 .left) (c .before .before .if3 .taken)
+    ap (λ (n : ℕ). take n (drop (i * bookkeepingBytes) (a .book .now))) w ∙ looked-bookkeeping (a .plain .now) (a .book .now) (a .key) _ (c .before .before .before .before .before .before .search .ensures) (a .named) (c .before .before .before .before .if1 .left) (c .before .before .before .if2 .left) (c .before .before .if3 .taken)
 
 returns-4 : tie.Need-returns-4
 returns-4 c =
-    let a = c .before .before .before .before .before .before .before .before .before .args in
-    looked-none (a .plain .now) (a .book .now) (a .key) _ (c .before .before .before .before .before .before .search .ensures) (a .named) (not-false _ (c .before .before .before .if1 .left)) (c .before .before .if2 .left) (c .before .if3 .left)
+    let a = c .before .before .before .before .before .before .before .before .args in
+    looked-none (a .plain .now) (a .book .now) (a .key) _ (c .before .before .before .before .before .search .ensures) (a .named) (c .before .before .before .if1 .left) (c .before .before .if2 .left) (c .before .if3 .left)
 
 pub lookup-spec : {M : Type 1} → statement M
 lookup-spec =

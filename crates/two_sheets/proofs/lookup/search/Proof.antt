@@ -1,22 +1,28 @@
 -- Sheets within so many lines have room in an area for so many, any sheets in the last.
-use Rattle.lists.specs.Basics.{arith, needs}
+use Rattle.lists.specs.Basics.{arith}
 use Rattle.two_check.specs.Areas.{rooms-within}
+use borrow.Author.Needs.{needs}
 use Rattle.two_sheets.proofs.lookup.search.Statement.{statement}
 use Rattle.two_sheets.proofs.lookup.search.Tie as tie
 
-rank-in-requires : tie.Need-rank-in-requires
-rank-in-requires c κs =
+search-in-requires : tie.Need-search-in-requires
+search-in-requires c κs =
     let a = c .before .before .before .before .before .before .args in
-    rooms-within 40 _ (a .plain .now) (a .book .now) _ (c .before .before .before .within .ensures) (c .before .before .if1 .taken) (omega arith)
+    rooms-within 50 _ (a .plain .now) (a .book .now) _ (c .before .before .before .within .ensures) (c .before .before .if1 .taken) (omega arith)
 
-rank-in-requires-2 : tie.Need-rank-in-requires-2
-rank-in-requires-2 c κs =
+search-in-requires-2 : tie.Need-search-in-requires-2
+search-in-requires-2 c κs =
     let a = c .before .before .before .before .before .before .before .before .args in
-    rooms-within 250 _ (a .plain .now) (a .book .now) _ (c .before .before .before .within2 .ensures) (c .before .before .if2 .taken) (omega arith)
+    rooms-within 100 _ (a .plain .now) (a .book .now) _ (c .before .before .before .within2 .ensures) (c .before .before .if2 .taken) (omega arith)
+
+search-in-requires-3 : tie.Need-search-in-requires-3
+search-in-requires-3 c κs =
+    let a = c .before .before .before .before .before .before .before .before .before .before .args in
+    rooms-within 250 _ (a .plain .now) (a .book .now) _ (c .before .before .before .within3 .ensures) (c .before .before .if3 .taken) (omega arith)
 
 pub search-spec : {M : Type 1} → statement M
 search-spec =
     tie.close
-    (tie.spec (λ c κs. search needs) (λ c κs. search needs) (λ c. search needs) rank-in-requires (λ c. search needs) (λ c κs. search needs)
-    (λ c κs. search needs) (λ c. search needs) rank-in-requires-2 (λ c. search needs) (λ c κs. search needs) (λ c. search needs)
-    (λ c κs. search needs) (λ c. search needs))
+    (tie.spec (λ c κs. search needs) (λ c κs. search needs) (λ c. search needs) search-in-requires (λ c. search needs) (λ c κs. search needs)
+    (λ c κs. search needs) (λ c. search needs) search-in-requires-2 (λ c. search needs) (λ c κs. search needs) (λ c κs. search needs)
+    (λ c. search needs) search-in-requires-3 (λ c. search needs) (λ c κs. search needs) (λ c. search needs) (λ c κs. search needs) (λ c. search needs))
