@@ -43,9 +43,13 @@ recoveryIn (reported n t) = Stays
 abbrev pub replyNumber : Recovery → ℕ
 replyNumber v = byRecovery v 0 1 2 3 0
 
+-- what a visit answers, whatever its effect is
+abbrev pub visitedIn : {E : Type 0} → Response Answer E → Visited
+visitedIn (refused n) = record { refusal = n; reply = 0 }
+visitedIn (made a e) = record { refusal = 0; reply = replyNumber (recoveryIn a) }
+
 abbrev pub toVisited : Result Answer → Visited
-toVisited (refused n) = record { refusal = n; reply = 0 }
-toVisited (made a w) = record { refusal = 0; reply = replyNumber (recoveryIn a) }
+toVisited r = visitedIn r
 
 -- by what the visit of a line comes to: 12 if it is busy
 abbrev pub visitedBy : Recovery → Visited

@@ -20,9 +20,9 @@ use Rattle.model.specs.TwoCalls.{TwoBytes, sayingTwo, conditionsOf, responseTwo
 use Rattle.call_laws.specs.Choices.{unless-by}
 use Rattle.call_laws.specs.Exactness.{small, Sound, sound-refused, sound-made, sound-unless}
 use Rattle.call_laws.specs.Operations.{response-sound}
-use Rattle.answers.specs.Answers.{toPerformed, recoveryIn, replyNumber, replyIn, columnsIn}
+use Rattle.answers.specs.Answers.{toPerformed, visitedIn, recoveryIn, replyNumber, replyIn, columnsIn}
 use Rattle.by_place.specs.Asked.{requestOf}
-use Rattle.by_place.specs.Numbers.{asNumber, visitNumber, Numbered}
+use Rattle.by_place.specs.Numbers.{asNumber, visitNumber, Numbered, numbered}
 
 -- the columns that a first call answers, each up to 99999999; every other answer is under 10000
 abbrev pub firstNumber : Columns → ℕ
@@ -129,21 +129,14 @@ call-numbered-two call k c now limit q e t b =
     go r (sound-made a x e) g = (omega arith, g)
 
 -- the same of a visit, whose answer is what it did
-abbrev SaysVisit : {E : Type 0} → Response Answer E → Type 0
-SaysVisit (refused n) = Unit {0}
-SaysVisit (made a e) = replyIn a ≡ replyNumber (recoveryIn a)
-
-pub visit-numbered-two : (k : Key) (now : ℕ) (t : Transaction) (b : TwoBytes)
-    → let r = responseTwo (once (visit k now)) b in Numbered (toPerformed t r .refusal) (toPerformed t r .reply) visitNumber r
-unfolding responseTwo response result outcome twoConditions linesConditions all
-visit-numbered-two k now t b =
+pub visit-numbered-two : (k : Key) (now : ℕ) (b : TwoBytes)
+    → let r = responseTwo (once (visit k now)) b in Numbered (visitedIn r .refusal) (visitedIn r .reply) visitNumber r
+unfolding responseTwo twoConditions linesConditions all
+visit-numbered-two k now b =
     let s = sayingTwo b in
-    go _ (sound-unless (conditionsOf b) (response (once (visit k now)) s) refl (response-sound (once (visit k now)) s))
-    (unless-by SaysVisit (conditionsOf b) tt (λ z. unless-by (λ (r : Result Answer). SaysVisit (settled s r)) (conditions (visit k now) s) tt (λ y. refl)))
-  where
-    go : (r : Response Answer Sheets) → Sound r → SaysVisit r → Numbered (toPerformed t r .refusal) (toPerformed t r .reply) visitNumber r
-    go r (sound-refused n l m) g = let e : eqb n 0 ≡ false = ne-eqb n 0 (λ q. omega (arith, l, q)) in rw e (m, refl)
-    go r (sound-made a x e) g = (omega arith, g)
+    numbered (λ (r : Response Answer Sheets). visitedIn r .refusal) (λ (r : Response Answer Sheets). visitedIn r .reply) (λ (a : Answer). replyNumber (recoveryIn a))
+    (λ n. refl) (λ a x. refl) (λ a x. refl) (responseTwo (once (visit k now)) b)
+    (sound-unless (conditionsOf b) (response (once (visit k now)) s) refl (response-sound (once (visit k now)) s))
 
 -- and the check's refusal, where nothing is named
 pub check-numbered-two : (b : TwoBytes) → (refusalOf (conditionsOf b) ≤ lastRefusal) × (cond (eqb (refusalOf (conditionsOf b)) 0) 1003 (1000 + refusalOf (conditionsOf b)) ≡ unlistedNumberTwo b)

@@ -1,23 +1,25 @@
 -- What a call on two sheets comes to: refused by what is asked of the sheets, or the call on what they say when joined, split where it is accepted.
 use Rattle.lists.specs.Basics.{_≡_, refl, sym, ap, subst, _∙_, ℕ, _*_, _/_, List, length, take, length-take, arith, eqb-true}
-use Rattle.model.specs.Types.{Transaction, Request}
+use Rattle.model.specs.Types.{Key, Transaction, Request}
 use Rattle.model.specs.Layouts.{recordBytes}
 use Rattle.model.specs.Refusals.{refusalOf}
 use Rattle.model.specs.Writes.{Sheets}
-use Rattle.model.specs.Results.{Answer, Response, refused, made}
+use Rattle.model.specs.Results.{Answer, Response, Result, refused, made, visit}
+use Rattle.model.specs.Calls.{result}
 use Rattle.model.specs.ByteCalls.{sheetsOf}
 use Rattle.model.specs.ByteHistories.{Readable}
-use Rattle.model.specs.Operations.{Operation, response, recordsLeft, coordinatorLeft}
+use Rattle.model.specs.Operations.{Operation, once, settled, response, recordsLeft, coordinatorLeft}
 use Rattle.model.specs.Requests.{operationOf}
 use Rattle.model.specs.TwoSheets.{plainBytes, bookkeepingBytes, joinedSheet, plainPart, bookkeepingPart, twoConditions}
 use Rattle.model.specs.TwoCalls.{PassingTwo, sayingTwo, responseTwo, plainLeft, bookkeepingLeft}
-use Rattle.call_laws.specs.Accepted.{Accepted, accepted-readable, unless-held}
+use Rattle.call_laws.specs.Accepted.{Accepted, Outcome, accepted-readable, unless-held}
 use Rattle.call_laws.specs.Exactness.{Sound, sound-refused}
-use Rattle.call_laws.specs.Operations.{response-sound}
+use Rattle.call_laws.specs.Operations.{response-sound, settled-records, settled-coordinator}
 use Rattle.two_laws.specs.Encoding.{Joined, passing-joined, on-passing-two}
 use Rattle.two_join.specs.Agrees.{same-counts}
 use Rattle.answers.specs.declared.Performed.{Performed}
-use Rattle.answers.specs.Answers.{toPerformed, performedNot}
+use Rattle.answers.specs.declared.Visited.{Visited}
+use Rattle.answers.specs.Answers.{toPerformed, visitedIn, toVisited}
 use Rattle.two_check.specs.Areas.{two, joinedSize, JoinedIn}
 
 -- sheets that pass, and beside them the joined one
@@ -30,70 +32,102 @@ pub on-joined : (ps bs cs area : List ℕ) → refusalOf (twoConditions ps bs cs
 on-joined ps bs cs area p j =
     let l = j .fits in record { passes = p; joined = j .joined; size = simp length-take (omega arith) }
 
--- the answer and the bytes of all three sheets are those of an operation, of a transaction
-abbrev pub Gives : Operation → Transaction → List ℕ → List ℕ → List ℕ → Performed → List ℕ → List ℕ → List ℕ → Type 0
-Gives o t ps bs cs r ps′ bs′ cs′ =
-    (r ≡ toPerformed t (responseTwo o (two ps bs cs)))
+-- the answer, made so of a response, and the bytes of all three sheets are those of an operation
+abbrev pub GivesAs : {A : Type 0} → (Response Answer Sheets → A) → Operation → List ℕ → List ℕ → List ℕ → A → List ℕ → List ℕ → List ℕ → Type 0
+GivesAs to o ps bs cs r ps′ bs′ cs′ =
+    (r ≡ to (responseTwo o (two ps bs cs)))
     × ((ps′ ≡ plainLeft ps (responseTwo o (two ps bs cs)))
     × ((bs′ ≡ bookkeepingLeft bs (responseTwo o (two ps bs cs))) × (cs′ ≡ coordinatorLeft cs (responseTwo o (two ps bs cs)))))
 
-module _ (q : Request) (t : Transaction) (ps bs cs : List ℕ) where
+-- those of an operation, of a transaction
+abbrev pub Gives : Operation → Transaction → List ℕ → List ℕ → List ℕ → Performed → List ℕ → List ℕ → List ℕ → Type 0
+Gives o t ps bs cs r ps′ bs′ cs′ = GivesAs (toPerformed t) o ps bs cs r ps′ bs′ cs′
+
+-- those of what is asked
+abbrev pub Performs : Request → Transaction → List ℕ → List ℕ → List ℕ → Performed → List ℕ → List ℕ → List ℕ → Type 0
+Performs q t ps bs cs r ps′ bs′ cs′ = Gives (operationOf q t) t ps bs cs r ps′ bs′ cs′
+
+-- an answer that has its refusal, or 0
+pub record Telling {A : Type 0} (to : Response Answer Sheets → A) (refusal : A → ℕ) : Type 0 where
+  pub no : (n : ℕ) → refusal (to (refused n)) ≡ n
+  pub yes : (a : Answer) (s : Sheets) → refusal (to (made a s)) ≡ 0
+
+pub performed-tells : (t : Transaction) → Telling (toPerformed t) (λ (x : Performed). x .refusal)
+performed-tells t = record { no = λ n. refl; yes = λ a s. refl }
+
+pub visited-tells : Telling visitedIn (λ (x : Visited). x .refusal)
+visited-tells = record { no = λ n. refl; yes = λ a s. refl }
+
+module _ (ps bs cs area : List ℕ) (a : OnJoined ps bs cs area) where
+  joins : Joined (two ps bs cs)
+  joins = passing-joined (two ps bs cs) (a .passes)
+
+  pub accepted-area : Accepted area cs
+  accepted-area = accepted-readable area cs (subst (λ (x : List ℕ). Readable (record { records = x; coordinator = cs })) (sym (a .joined)) (joins .readable))
+
+  pub plain-size : length ps ≡ length area / recordBytes * plainBytes
+  plain-size = let n = a .size in let w = eqb-true (length ps) (length ps / plainBytes * plainBytes) (joins .lines .plain) in omega arith
+
+  pub bookkeeping-size : length bs ≡ length area / recordBytes * bookkeepingBytes
+  bookkeeping-size =
+      let n = a .size in
+      let w = eqb-true (length bs) (length bs / bookkeepingBytes * bookkeepingBytes) (joins .lines .bookkeeping) in
+      let c = same-counts ps bs (joins .lines .agree) in
+      omega arith
+
+module _ {A : Type 0} (to : Response Answer Sheets → A) (o : Operation) (ps bs cs : List ℕ) where
   abbrev given : Response Answer Sheets
-  given = responseTwo (operationOf q t) (two ps bs cs)
+  given = responseTwo o (two ps bs cs)
 
-  -- of what is asked
-  abbrev pub Performs : Performed → List ℕ → List ℕ → List ℕ → Type 0
-  Performs r ps′ bs′ cs′ = Gives (operationOf q t) t ps bs cs r ps′ bs′ cs′
-
-  pub sheets-refused : {r : Performed} (n : ℕ) → n ≡ refusalOf (twoConditions ps bs cs) → (n ≡ 0 → ⊥) → r ≡ performedNot n t → Performs r ps bs cs
+  pub sheets-refused : {r : A} (n : ℕ) → n ≡ refusalOf (twoConditions ps bs cs) → (n ≡ 0 → ⊥) → r ≡ to (refused n) → GivesAs to o ps bs cs r ps bs cs
   unfolding responseTwo plainLeft bookkeepingLeft coordinatorLeft
   sheets-refused n e z h =
-      let x : given ≡ refused n = unless-held (twoConditions ps bs cs) (response (operationOf q t) (sayingTwo (two ps bs cs))) n (sym e) z in
-      (h ∙ ap (toPerformed t) (sym x), (ap (plainLeft ps) (sym x), (ap (bookkeepingLeft bs) (sym x), ap (coordinatorLeft cs) (sym x))))
+      let x : given ≡ refused n = unless-held (twoConditions ps bs cs) (response o (sayingTwo (two ps bs cs))) n (sym e) z in
+      (h ∙ ap to (sym x), (ap (plainLeft ps) (sym x), (ap (bookkeepingLeft bs) (sym x), ap (coordinatorLeft cs) (sym x))))
 
   module _ (area : List ℕ) (a : OnJoined ps bs cs area) where
-    joins : Joined (two ps bs cs)
-    joins = passing-joined (two ps bs cs) (a .passes)
-
-    pub accepted-area : Accepted area cs
-    accepted-area = accepted-readable area cs (subst (λ (x : List ℕ). Readable (record { records = x; coordinator = cs })) (sym (a .joined)) (joins .readable))
-
-    pub plain-size : length ps ≡ length area / recordBytes * plainBytes
-    plain-size = let n = a .size in let w = eqb-true (length ps) (length ps / plainBytes * plainBytes) (joins .lines .plain) in omega arith
-
-    pub bookkeeping-size : length bs ≡ length area / recordBytes * bookkeepingBytes
-    bookkeeping-size =
-        let n = a .size in
-        let w = eqb-true (length bs) (length bs / bookkeepingBytes * bookkeepingBytes) (joins .lines .bookkeeping) in
-        let c = same-counts ps bs (joins .lines .agree) in
-        omega arith
-
-    same : given ≡ response (operationOf q t) (sheetsOf area cs)
+    same : given ≡ response o (sheetsOf area cs)
     unfolding responseTwo
-    same =
-        on-passing-two (two ps bs cs) (response (operationOf q t)) (a .passes)
-        ∙ ap (λ (x : List ℕ). response (operationOf q t) (sheetsOf x cs)) (sym (a .joined))
+    same = on-passing-two (two ps bs cs) (response o) (a .passes) ∙ ap (λ (x : List ℕ). response o (sheetsOf x cs)) (sym (a .joined))
 
     -- what the call on the joined sheet left
-    module _ (r : Performed) (area′ cs′ : List ℕ) (said : r ≡ toPerformed t (response (operationOf q t) (sheetsOf area cs)))
-        (lines : area′ ≡ recordsLeft area (response (operationOf q t) (sheetsOf area cs))) (decisions : cs′ ≡ coordinatorLeft cs (response (operationOf q t) (sheetsOf area cs))) where
-      pub nothing-split : (r .refusal ≡ 0 → ⊥) → Performs r ps bs cs′
-      nothing-split z = subst Told (sym same) (go (response (operationOf q t) (sheetsOf area cs)) said decisions)
+    module _ (refusal : A → ℕ) (tells : Telling to refusal) (r : A) (area′ cs′ : List ℕ) (said : r ≡ to (response o (sheetsOf area cs)))
+        (lines : area′ ≡ recordsLeft area (response o (sheetsOf area cs))) (decisions : cs′ ≡ coordinatorLeft cs (response o (sheetsOf area cs))) where
+      pub nothing-split : (refusal r ≡ 0 → ⊥) → GivesAs to o ps bs cs r ps bs cs′
+      nothing-split z = subst Told (sym same) (go (response o (sheetsOf area cs)) said decisions)
         where
           Told : Response Answer Sheets → Type 0
-          Told x = (r ≡ toPerformed t x) × ((ps ≡ plainLeft ps x) × ((bs ≡ bookkeepingLeft bs x) × (cs′ ≡ coordinatorLeft cs x)))
+          Told x = (r ≡ to x) × ((ps ≡ plainLeft ps x) × ((bs ≡ bookkeepingLeft bs x) × (cs′ ≡ coordinatorLeft cs x)))
 
-          go : (x : Response Answer Sheets) → r ≡ toPerformed t x → cs′ ≡ coordinatorLeft cs x → Told x
+          go : (x : Response Answer Sheets) → r ≡ to x → cs′ ≡ coordinatorLeft cs x → Told x
           go (refused n) e d = (e, (unfold plainLeft in refl, (unfold bookkeepingLeft in refl, d)))
-          go (made b s) e d = absurd (z (ap (λ (y : Performed). y .refusal) e))
+          go (made b s) e d = absurd (z (ap refusal e ∙ tells .yes b s))
 
-      pub both-split : r .refusal ≡ 0 → {ps′ bs′ : List ℕ} → ps′ ≡ plainPart area′ → bs′ ≡ bookkeepingPart area′ → Performs r ps′ bs′ cs′
-      both-split z {ps′} {bs′} p b = subst Told (sym same) (go (response (operationOf q t) (sheetsOf area cs)) (response-sound (operationOf q t) (sheetsOf area cs)) said lines decisions)
+      pub both-split : refusal r ≡ 0 → {ps′ bs′ : List ℕ} → ps′ ≡ plainPart area′ → bs′ ≡ bookkeepingPart area′ → GivesAs to o ps bs cs r ps′ bs′ cs′
+      both-split z {ps′} {bs′} p b = subst Told (sym same) (go (response o (sheetsOf area cs)) (response-sound o (sheetsOf area cs)) said lines decisions)
         where
           Told : Response Answer Sheets → Type 0
-          Told x = (r ≡ toPerformed t x) × ((ps′ ≡ plainLeft ps x) × ((bs′ ≡ bookkeepingLeft bs x) × (cs′ ≡ coordinatorLeft cs x)))
+          Told x = (r ≡ to x) × ((ps′ ≡ plainLeft ps x) × ((bs′ ≡ bookkeepingLeft bs x) × (cs′ ≡ coordinatorLeft cs x)))
 
-          go : (x : Response Answer Sheets) → Sound x → r ≡ toPerformed t x → area′ ≡ recordsLeft area x → cs′ ≡ coordinatorLeft cs x → Told x
-          go (refused n) (sound-refused m l k) e f d = absurd (omega (arith, sym (ap (λ (y : Performed). y .refusal) e) ∙ z, l))
+          go : (x : Response Answer Sheets) → Sound x → r ≡ to x → area′ ≡ recordsLeft area x → cs′ ≡ coordinatorLeft cs x → Told x
+          go (refused n) (sound-refused m l k) e f d = absurd (omega (arith, sym (ap refusal e ∙ tells .no n) ∙ z, l))
           go (made c s) k e f d =
               (e, (p ∙ unfold plainLeft recordsLeft in ap plainPart f, (b ∙ unfold bookkeepingLeft recordsLeft in ap bookkeepingPart f, d)))
+
+-- A visit on the joined sheet, as the visit of the definitions leaves it.
+module _ (k : Key) (now : ℕ) (rs cs : List ℕ) {r : Visited} {rs′ cs′ : List ℕ} (h : Outcome toVisited (result (visit k now) (sheetsOf rs cs)) rs cs r rs′ cs′) where
+  answered : (x : Result Answer) → visitedIn (settled (sheetsOf rs cs) x) ≡ toVisited x
+  answered (refused n) = refl
+  answered (made a w) = refl
+
+  pub visit-said : r ≡ visitedIn (response (once (visit k now)) (sheetsOf rs cs))
+  unfolding response
+  visit-said = h .said ∙ sym (answered (result (visit k now) (sheetsOf rs cs)))
+
+  pub visit-lines : rs′ ≡ recordsLeft rs (response (once (visit k now)) (sheetsOf rs cs))
+  unfolding response
+  visit-lines = h .lines ∙ sym (settled-records rs cs (result (visit k now) (sheetsOf rs cs)))
+
+  pub visit-decisions : cs′ ≡ coordinatorLeft cs (response (once (visit k now)) (sheetsOf rs cs))
+  unfolding response
+  visit-decisions = h .decisions ∙ sym (settled-coordinator rs cs (result (visit k now) (sheetsOf rs cs)))

@@ -34,8 +34,8 @@ fn search_in(line: bool, plain: &[u8], book: &[u8], key: Key, area: &mut [u8]) -
     }
 }
 
-// The same in an area of its own.
-fn search(line: bool, plain: &[u8], book: &[u8], key: Key) -> Ranked
+// The same in the smallest area that has room.
+fn search_in_area(line: bool, plain: &[u8], book: &[u8], key: Key) -> Ranked
     ensures { λ r. ⌜ Ranks line (now (plain .entry)) (now (book .entry)) key r ⌝ }
 {
     if two_check::within(50, plain, book) {
@@ -52,6 +52,12 @@ fn search(line: bool, plain: &[u8], book: &[u8], key: Key) -> Ranked
     }
     let mut area = two_check::blank_500();
     search_in(line, plain, book, key, &mut area)
+}
+
+fn search(line: bool, plain: &[u8], book: &[u8], key: Key) -> Ranked
+    ensures { λ r. ⌜ Ranks line (now (plain .entry)) (now (book .entry)) key r ⌝ }
+{
+    search_in_area(line, plain, book, key)
 }
 
 // The look-up's companion: how many lines have smaller keys, the same on both sheets, and whether the key has a line itself.

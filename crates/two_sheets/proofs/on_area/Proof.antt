@@ -1,5 +1,7 @@
 -- Refused by what is asked of the sheets, or the call on both joined.
 use Rattle.lists.specs.Basics.{sym, _∙_, length-take, arith, needs}
+use Rattle.model.specs.Requests.{operationOf}
+use Rattle.answers.specs.Answers.{toPerformed}
 use Rattle.two_sheets.specs.Performing.{on-joined, sheets-refused}
 use Rattle.two_sheets.proofs.on_area.Statement.{statement}
 use Rattle.two_sheets.proofs.on_area.Tie as tie
@@ -7,7 +9,7 @@ use Rattle.two_sheets.proofs.on_area.Tie as tie
 returns : tie.Need-returns
 returns c =
     let a = c .before .before .before .before .before .before .before .before .before .before .before .before .before .args in
-    sheets-refused (a .request) (a .t) (a .plain .now) (a .book .now) (a .coordinator .now) _ (c .before .before .before .before .join-checked .ensures .0) (c .before .if1 .taken) (c .refusal .ensures)
+    sheets-refused (toPerformed (a .t)) (operationOf (a .request) (a .t)) (a .plain .now) (a .book .now) (a .coordinator .now) _ (c .before .before .before .before .join-checked .ensures .0) (c .before .if1 .taken) (c .refusal .ensures)
 
 mul-n : tie.Need-mul-n
 mul-n c =

@@ -1,20 +1,30 @@
--- What is asked is the call of this name, of a new transaction.
-use Rattle.lists.specs.Basics.{ap, _∙_, needs}
-use Rattle.model.specs.Types.{Transaction}
-use Rattle.model.specs.Results as model
-use Rattle.model.specs.Operations.{once}
-use Rattle.model.specs.Requests.{operationOf}
-use Rattle.model.specs.TwoCalls.{responseTwo}
-use Rattle.answers.specs.Answers.{toPerformed}
-use Rattle.two_check.specs.Areas.{two}
+-- Sheets within so many lines have room in an area for so many, any sheets in the last.
+use Rattle.lists.specs.Basics.{arith}
+use Rattle.two_check.specs.Areas.{rooms-within}
+use borrow.Author.Needs.{needs}
 use Rattle.two_sheets.proofs.visit.Statement.{statement}
 use Rattle.two_sheets.proofs.visit.Tie as tie
 
-returns : tie.Need-returns
-unfolding operationOf
-returns c =
-    let a = c .before .before .before .before .before .before .before .before .before .before .before .before .before .before .args in
-    (c .before .before .before .before .before .before .perform .ensures .0 ∙ ap (λ (u : Transaction). toPerformed u (responseTwo (once (model.visit (a .key) (a .clock))) (two (a .plain .now) (a .book .now) (a .coordinator .now)))) (c .before .before .before .before .before .before .before .before .before .before .new-transaction .ensures), c .before .before .before .before .before .before .perform .ensures .1)
+visit-area-requires : tie.Need-visit-area-requires
+visit-area-requires c κs =
+    let a = c .before .before .before .before .before .before .before .before .before .before .before .before .args in
+    rooms-within 50 _ (a .plain .now) (a .book .now) _ (c .before .before .before .before .before .before .within .ensures) (c .before .before .before .before .before .if1 .taken) (omega arith)
+
+visit-area-requires-2 : tie.Need-visit-area-requires-2
+visit-area-requires-2 c κs =
+    let a = c .before .before .before .before .before .before .before .before .before .before .before .before .before .before .before .before .args in
+    rooms-within 100 _ (a .plain .now) (a .book .now) _ (c .before .before .before .before .before .before .within2 .ensures) (c .before .before .before .before .before .if2 .taken) (omega arith)
+
+visit-area-requires-3 : tie.Need-visit-area-requires-3
+visit-area-requires-3 c κs =
+    let a = c .before .before .before .before .before .before .before .before .before .before .before .before .before .before .before .before .before .before .before .before .args in
+    rooms-within 250 _ (a .plain .now) (a .book .now) _ (c .before .before .before .before .before .before .within3 .ensures) (c .before .before .before .before .before .if3 .taken) (omega arith)
 
 pub visit-spec : {M : Type 1} → statement M
-visit-spec = tie.close (tie.spec (λ c κs. search needs) (λ c κs. search needs) (λ c. search needs) (λ c. search needs) (λ c. search needs) returns)
+visit-spec =
+    tie.close
+    (tie.spec (λ c κs. search needs) (λ c κs. search needs) (λ c. search needs) visit-area-requires (λ c. search needs) (λ c. search needs)
+    (λ c. search needs) (λ c. search needs) (λ c κs. search needs) (λ c κs. search needs) (λ c. search needs) visit-area-requires-2
+    (λ c. search needs) (λ c. search needs) (λ c. search needs) (λ c. search needs) (λ c κs. search needs) (λ c κs. search needs) (λ c. search needs)
+    visit-area-requires-3 (λ c. search needs) (λ c. search needs) (λ c. search needs) (λ c. search needs) (λ c κs. search needs) (λ c. search needs)
+    (λ c κs. search needs) (λ c. search needs) (λ c. search needs) (λ c. search needs) (λ c. search needs))

@@ -2,8 +2,8 @@
 use Rattle.lists.specs.Basics.{arith}
 use Rattle.two_check.specs.Areas.{rooms-within}
 use borrow.Author.Needs.{needs}
-use Rattle.two_sheets.proofs.lookup.search.Statement.{statement}
-use Rattle.two_sheets.proofs.lookup.search.Tie as tie
+use Rattle.two_sheets.proofs.lookup.search_in_area.Statement.{statement}
+use Rattle.two_sheets.proofs.lookup.search_in_area.Tie as tie
 
 search-in-requires : tie.Need-search-in-requires
 search-in-requires c κs =
@@ -20,8 +20,8 @@ search-in-requires-3 c κs =
     let a = c .before .before .before .before .before .before .before .before .before .before .args in
     rooms-within 250 _ (a .plain .now) (a .book .now) _ (c .before .before .before .within3 .ensures) (c .before .before .if3 .taken) (omega arith)
 
-pub search-spec : {M : Type 1} → statement M
-search-spec =
+pub search-in-area-spec : {M : Type 1} → statement M
+search-in-area-spec =
     tie.close
     (tie.spec (λ c κs. search needs) (λ c κs. search needs) (λ c. search needs) search-in-requires (λ c. search needs) (λ c κs. search needs)
     (λ c κs. search needs) (λ c. search needs) search-in-requires-2 (λ c. search needs) (λ c κs. search needs) (λ c κs. search needs)
