@@ -107,8 +107,7 @@ fn as_the_text_of_a_sheet_orders() {
 }
 
 /// The calls that name a key, the last on two sheets only.
-fn naming(key: Key) -> [Request; 4] {
-    let transaction = Transaction::begun(1, false);
+fn naming(transaction: Transaction, key: Key) -> [Request; 4] {
     let (now, columns) = (0, [0, 0]);
     [
         Request::Visit { key, now },
@@ -135,17 +134,16 @@ fn naming(key: Key) -> [Request; 4] {
 fn all_other_calls_refuse_a_missing_key() {
     for (key, _) in MISSING {
         let key = Key::from_numbers(key);
-        let [mut joined, mut two] = laid_out();
-        let requests = naming(key);
-        for request in &requests[..3] {
-            assert_eq!(joined.ask(*request), Err(6), "{request:?}");
-        }
-        for request in requests {
-            assert_eq!(two.ask(request), Err(6), "{request:?}");
-        }
-        for mut sheets in [joined, two] {
-            let transaction = holding(key);
-            assert_eq!(sheets.ask(Request::Abort { transaction }), Err(3));
+        // Held or not.
+        for transaction in [Transaction::begun(1, false), holding(key)] {
+            let [mut joined, mut two] = laid_out();
+            let requests = naming(transaction, key);
+            for request in &requests[..3] {
+                assert_eq!(joined.ask(*request), Err(6), "{request:?}");
+            }
+            for request in requests {
+                assert_eq!(two.ask(request), Err(6), "{request:?}");
+            }
         }
     }
 }

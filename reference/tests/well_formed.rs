@@ -46,7 +46,7 @@ type Change = fn(&mut Transaction);
 
 #[test]
 fn what_is_let_pass() {
-    let changes: [Change; 16] = [
+    let changes: [Change; 18] = [
         |_| {},
         |t| t.number = 1,
         |t| t.serializable = 0,
@@ -56,6 +56,9 @@ fn what_is_let_pass() {
         |t| t.entries[0].seen.tx_id = 0,
         |t| t.entries[0].seen.tx_id = 3,
         |t| t.entries[0].put_2 = 99_999_999,
+        // A key need not have a line, but be in range.
+        |t| t.entries[1].key = key(4),
+        |t| t.entries[0].key.storage = 9,
         // What means nothing isn't judged.
         |t| t.entries[1].put_1 = u32::MAX,
         |t| t.entries[2].key.storage = 77,
@@ -74,7 +77,7 @@ fn what_is_let_pass() {
 
 #[test]
 fn what_is_turned_away() {
-    let changes: [Change; 37] = [
+    let changes: [Change; 36] = [
         |t| t.number = 0,
         |t| t.number = 4,
         |t| t.serializable = 2,
@@ -85,7 +88,6 @@ fn what_is_turned_away() {
         |t| t.place = 1,
         |t| t.verdict = COMMITTED,
         |t| t.entries[1].key = key(1),
-        |t| t.entries[1].key = key(4),
         |t| t.entries[1].key = key(100_000),
         |t| t.entries[1].key.storage = 0,
         |t| t.entries[1].seen.version = 100_000,
@@ -150,4 +152,32 @@ fn a_condition_asks_for_three_things() {
     // Prepared, even with the version and TxID read.
     assert_eq!(checked(3, 3, 2), WITHDRAW);
     assert_eq!(checked(3, 2, 1), WITHDRAW);
+}
+
+#[test]
+fn a_condition_fails_without_a_line() {
+    assert_eq!(checked(4, 7, 0), WITHDRAW);
+}
+
+#[test]
+fn finish_and_undo_skip_a_key_without_a_line() {
+    for (number, phase, verdict) in [(1, FINISH, COMMITTED), (3, UNDO, ABORTED)] {
+        let mut transaction = good().entering(phase).with_verdict(verdict);
+        transaction.number = number;
+        transaction.entries[0].key = key(4);
+        let mut sheets = sheets();
+        if phase == UNDO {
+            sheets.coordinator = COORDINATOR
+                .replace("   3         -", "   3   ABORTED")
+                .into();
+        }
+        let before = sheets.clone();
+        let now = 0;
+        match sheets.ask(Request::Advance { transaction, now }) {
+            Ok(Answer::Returned(returned)) => assert_eq!(returned.phase, DONE),
+            other => panic!("{other:?}"),
+        }
+        assert_eq!(sheets.records, before.records);
+        assert_eq!(sheets.coordinator, before.coordinator);
+    }
 }

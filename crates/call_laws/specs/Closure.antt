@@ -6,13 +6,13 @@ use Rattle.lists.specs.All.{all-at}
 use Rattle.model.specs.Types.{Key, Image, Record, Found, Columns, Entry, Transaction, Recovery, Stays, Forward, Back, Again, Busy}
 use Rattle.model.specs.Layouts.{recordLayout, imageLayout, columnsLayout}
 use Rattle.model.specs.Lines.{inRange, rowGood}
-use Rattle.model.specs.Records.{imageNumbers, isZero, sameKey, hasLine, lineOf, byFound}
+use Rattle.model.specs.Records.{imageNumbers, isZero, keyInRange, sameKey, hasLine, lineOf, byFound}
 use Rattle.model.specs.Coordinator.{Letter, withIssued}
 use Rattle.model.specs.Groups.{isLower}
 use Rattle.model.specs.Transactions.{withdrawPhase, noVerdict, held, noEntry, heldAt, entryAs, withPut, moved, withEntry}
 use Rattle.model.specs.Images.{isAbsent, isPrepared, rolledForward}
 use Rattle.model.specs.Writes.{Sheets, sheetsGood, nothing, issue, decisionsAfter, apply}
-use Rattle.model.specs.WellFormed.{columnsInRange, imageInRange, putFits, entryFormed, distinctKeys, placeFormed, verdictFormed, linesHeld, wellFormed}
+use Rattle.model.specs.WellFormed.{columnsInRange, imageInRange, putFits, entryFormed, distinctKeys, placeFormed, verdictFormed, wellFormed}
 use Rattle.model.specs.Visits.{meeting, isAgain, isBusy, recovered, recoveryWrite}
 use Rattle.model.specs.Refusals.{refusalOf}
 use Rattle.model.specs.Results.{Call, begin, read, second, put, advance, abort, visit, returned, returns}
@@ -38,7 +38,7 @@ module _ (s : Sheets) (good : GoodSheets s) where
   -- Begin.
 
   begin-body : (b : Bool) → Body (apply issue s) (newTransaction (s .coordinator .issued + 1) b)
-  unfolding apply decisionsAfter withIssued held all distinctKeys linesHeld
+  unfolding apply decisionsAfter withIssued held all distinctKeys
   begin-body b =
       record {
         number = omega arith;
@@ -47,7 +47,6 @@ module _ (s : Sheets) (good : GoodSheets s) where
         few = omega arith;
         entries = refl;
         distinct = refl;
-        lines = refl;
       }
 
   begin-stage : (us : List Letter) (n : ℕ) (b : Bool) → Stage us (newTransaction n b)
@@ -143,27 +142,29 @@ module _ (s : Sheets) (good : GoodSheets s) where
       and-both (and-fst v _ h) (and-both (and-fst n _ rest) g)
 
   -- the entry of a good line that isn't prepared is well formed
-  entry-of-line : (k : Key) (r : Record) → GoodParts (s .coordinator .issued) r → isPrepared r ≡ false → entryFormed (s .coordinator .issued) (entryAs k (r .image)) ≡ true
+  entry-of-line : (k : Key) (r : Record) → keyInRange k ≡ true → GoodParts (s .coordinator .issued) r → isPrepared r ≡ false → entryFormed (s .coordinator .issued) (entryAs k (r .image)) ≡ true
   unfolding entryFormed putFits
-  entry-of-line k r g p =
-      and-both (and-both (and-both (and-both refl (g .image)) (le-leb (r .image .txid) (s .coordinator .issued) (g .txid))) (when-settled r p (g .rule))) refl
+  entry-of-line k r i g p =
+      and-both
+      (and-both (and-both (and-both (and-both refl (g .image)) (le-leb (r .image .txid) (s .coordinator .issued) (g .txid))) (when-settled r p (g .rule))) refl) i
 
   -- and so is that of a second call, whose columns are in range where they count
-  entry-of-second : (lower : Bool) (c : Columns) (k : Key) (r : Record) → (lower ≡ true → columnsInRange c ≡ true) → GoodParts (s .coordinator .issued) r → isPrepared r ≡ false → entryFormed (s .coordinator .issued) (entryAs k (seenSecond lower c r)) ≡ true
+  entry-of-second : (lower : Bool) (c : Columns) (k : Key) (r : Record) → keyInRange k ≡ true → (lower ≡ true → columnsInRange c ≡ true) → GoodParts (s .coordinator .issued) r → isPrepared r ≡ false → entryFormed (s .coordinator .issued) (entryAs k (seenSecond lower c r)) ≡ true
   unfolding entryFormed putFits seenSecond
-  entry-of-second lower c k r h g p =
+  entry-of-second lower c k r i h g p =
       choose-by (λ (m : Image). entryFormed (s .coordinator .issued) (entryAs k m) ≡ true) (lower && not (isAbsent r))
       (λ e. let v : leb 1 (r .image .version) ≡ true = version-some r p (not-true (isAbsent r) (and-snd lower (not (isAbsent r)) e)) (g .rule) in
       and-both
+      (and-both
       (and-both (and-both (and-both refl (columns-ranged (r .image) c (g .image) (h (and-fst lower (not (isAbsent r)) e)))) (le-leb (r .image .txid) (s .coordinator .issued) (g .txid)))
-      (rw v)) refl)
-      (λ e. entry-of-line k r g p)
+      (rw v)) refl) i)
+      (λ e. entry-of-line k r i g p)
 
   module _ (t : Transaction) (b : Body s t) where
     -- one more entry, of a key that isn't held
-    holding-body : (e : Entry) → t .count < 8 → hasKey (e .key) (held t) ≡ false → entryFormed (s .coordinator .issued) e ≡ true → hasLine (e .key) (s .lines) ≡ true → Body s (holding e t)
-    unfolding held linesHeld
-    holding-body e l n f h =
+    holding-body : (e : Entry) → t .count < 8 → hasKey (e .key) (held t) ≡ false → entryFormed (s .coordinator .issued) e ≡ true → Body s (holding e t)
+    unfolding held
+    holding-body e l n f =
         let more : take (t .count + 1) (set (t .entries) (t .count) e) ≡ take (suc (t .count)) (set (t .entries) (t .count) e) =
         ap (λ (m : ℕ). take m (set (t .entries) (t .count) e)) (add-one (t .count)) in
         record {
@@ -175,9 +176,6 @@ module _ (s : Sheets) (good : GoodSheets s) where
               ap (all (entryFormed (s .coordinator .issued))) more
               ∙ all-more (entryFormed (s .coordinator .issued)) e (t .count) (t .entries) (b .entries) f;
           distinct = ap distinctKeys more ∙ distinct-more e (t .count) (t .entries) (b .distinct) n;
-          lines =
-              ap (all (λ (x : Entry). hasLine (x .key) (s .lines))) more
-              ∙ all-more (λ (x : Entry). hasLine (x .key) (s .lines)) e (t .count) (t .entries) (b .lines) h;
         }
 
   -- the whole read, by what it sees of the line
@@ -201,7 +199,7 @@ module _ (s : Sheets) (good : GoodSheets s) where
         let kk : line .key ≡ k = line-of-key k (s .lines) in
         let body : Body s (holding e t) =
         holding-body t (p .0) e (less-than-eight (t .count) l) (ap (λ (x : Key). hasKey x (held t)) kk ∙ not-held k t n)
-        (formed (recovered met line) n (u .0) (u .1)) (ap (λ (x : Key). hasLine x (s .lines)) kk ∙ h) in
+        (formed (recovered met line) n (u .0) (u .1)) in
         keeps-made s _ (recoveryWrite met line) (holding e t) refl (visit-fits k now h)
         (formed-after s (recoveryWrite met line) (holding e t) body (open-again (unitsOf s) t (p .1) ph (t .count + 1) (t .count) e)))
         (λ n. keeps-made s _ nothing t refl fit-nothing (formed-after s nothing t (p .0) (p .1)))
@@ -211,6 +209,7 @@ module _ (s : Sheets) (good : GoodSheets s) where
   read-keeps t k now z =
       let p = taken-parts s t _ z in
       let c4 : not (eqb (t .phase) 0) ≡ false = accepted 4 (read t k now) s z in
+      let c5 : not (keyInRange k) ≡ false = accepted 5 (read t k now) s z in
       let c6 : not (hasLine k (s .lines)) ≡ false = accepted 6 (read t k now) s z in
       let c9 : (isNew k t && leb 8 (t .count)) ≡ false = accepted 9 (read t k now) s z in
       let c12 : (isNew k t && not (isLower (unitsOf s) k) && busy k now s) ≡ false = accepted 12 (read t k now) s z in
@@ -219,7 +218,7 @@ module _ (s : Sheets) (good : GoodSheets s) where
       (λ e. whole-keeps (λ (r : Record). r .image) t k now p (eqb-true (t .phase) 0 (not-false (eqb (t .phase) 0) c4)) (not-false (hasLine k (s .lines)) c6) c9
       (λ n. let f : isLower (unitsOf s) k ≡ false = ap (λ (x : Bool). x && isLower (unitsOf s) k) (sym n) ∙ e in
       ap₂ (λ (x y : Bool). x && not y && busy k now s) (sym n) (sym f) ∙ c12)
-      (λ r n g q. entry-of-line _ r g q))
+      (λ r n g q. entry-of-line _ r (ap keyInRange (line-of-key k (s .lines)) ∙ not-false (keyInRange k) c5) g q))
 
   second-keeps : (t : Transaction) (k : Key) (now : ℕ) (c : Columns) → refusalOf (conditions (second t k now c) s) ≡ 0 → Keeps s (outcome (second t k now c) s)
   unfolding outcome conditions returns testOf
@@ -227,13 +226,14 @@ module _ (s : Sheets) (good : GoodSheets s) where
       let call = second t k now c in
       let lower = isLower (unitsOf s) k in
       let c4 : not (eqb (t .phase) 0) ≡ false = accepted 4 call s z in
+      let c5 : not (keyInRange k) ≡ false = accepted 5 call s z in
       let c6 : not (hasLine k (s .lines)) ≡ false = accepted 6 call s z in
       let c7 : (isNew k t && lower && not (columnsInRange c)) ≡ false = accepted 7 call s z in
       let c9 : (isNew k t && leb 8 (t .count)) ≡ false = accepted 9 call s z in
       let c12 : (isNew k t && busy k now s) ≡ false = accepted 12 call s z in
       whole-keeps (seenSecond lower c) t k now (taken-parts s t _ z) (eqb-true (t .phase) 0 (not-false (eqb (t .phase) 0) c4)) (not-false (hasLine k (s .lines)) c6) c9
       (λ n. ap (λ (x : Bool). x && busy k now s) (sym n) ∙ c12)
-      (λ r n g q. entry-of-second lower c _ r
+      (λ r n g q. entry-of-second lower c _ r (ap keyInRange (line-of-key k (s .lines)) ∙ not-false (keyInRange k) c5)
       (λ e. not-false (columnsInRange c) (ap₂ (λ (x y : Bool). x && y && not (columnsInRange c)) (sym n) (sym e) ∙ c7)) g q)
 
   -- Put.
@@ -246,19 +246,18 @@ module _ (s : Sheets) (good : GoodSheets s) where
       let b : imageInRange (y .seen) ≡ true = search (tests, f) in
       let d : leb (y .seen .txid) (s .coordinator .issued) ≡ true = search (tests, f) in
       let e : (leb 1 (y .seen .version) || isZero (y .seen)) ≡ true = search (tests, f) in
-      and-both (and-both (and-both (and-both refl b) d) e) (and-both a r)
+      let i : keyInRange (y .key) ≡ true = search (tests, f) in
+      and-both (and-both (and-both (and-both (and-both refl b) d) e) (and-both a r)) i
 
   module _ (t : Transaction) (b : Body s t) (c : Columns) where
     -- the entry at an index replaced by one with a put
     put-body : (m : ℕ) → m < length (held t) → columnsInRange c ≡ true → leb 99999 (getD (t .entries) m noEntry .seen .version) ≡ false → Body s (withEntry (t .count) m (withPut c (getD (t .entries) m noEntry)) t)
-    unfolding held linesHeld
+    unfolding held
     put-body m l r v =
         let y = getD (t .entries) m noEntry in
         let same : getD (held t) m noEntry ≡ y = getD-first (t .count) (t .entries) m noEntry l in
         let f : entryFormed (s .coordinator .issued) y ≡ true =
         ap (entryFormed (s .coordinator .issued)) (sym same) ∙ all-at (entryFormed (s .coordinator .issued)) (held t) noEntry m (b .entries) l in
-        let h : hasLine (y .key) (s .lines) ≡ true =
-        ap (λ (e : Entry). hasLine (e .key) (s .lines)) (sym same) ∙ all-at (λ (e : Entry). hasLine (e .key) (s .lines)) (held t) noEntry m (b .lines) l in
         record {
           number = b .number;
           known = b .known;
@@ -266,7 +265,6 @@ module _ (s : Sheets) (good : GoodSheets s) where
           few = b .few;
           entries = all-replaced (entryFormed (s .coordinator .issued)) (withPut c y) (t .count) m (t .entries) (b .entries) (put-entry c y f r v);
           distinct = distinct-replaced (withPut c y) noEntry (t .count) m (t .entries) refl ∙ b .distinct;
-          lines = all-replaced (λ (e : Entry). hasLine (e .key) (s .lines)) (withPut c y) (t .count) m (t .entries) (b .lines) h;
         }
 
     -- what a put leaves is well formed

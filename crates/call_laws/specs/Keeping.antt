@@ -7,8 +7,8 @@ use Rattle.model.specs.Records.{sameKey, hasLine, lineOf}
 use Rattle.model.specs.Coordinator.{Letter, Coordinator, withIssued}
 use Rattle.model.specs.Refusals.{Condition, refuse, refusalOf}
 use Rattle.model.specs.Transactions.{held, heldAt, withEntry}
-use Rattle.model.specs.Writes.{Sheets, Write, nothing, issue, decide, commit, prepare, forward, back, linesAfter, decisionsAfter, apply}
-use Rattle.model.specs.WellFormed.{entryFormed, placeFormed, verdictFormed, linesHeld, wellFormed}
+use Rattle.model.specs.Writes.{Sheets, Write, nothing, issue, decide, commit, prepare, forward, back, decisionsAfter, apply}
+use Rattle.model.specs.WellFormed.{entryFormed, placeFormed, verdictFormed, wellFormed}
 use Rattle.model.specs.Results.{Result, refused, made, writeOf, Answer, returns, answerOf}
 use Rattle.model.specs.Conditions.{isNew}
 use Rattle.model.specs.Steps.{unitsOf}
@@ -17,7 +17,7 @@ use Rattle.call_laws.specs.Choices.{not-first}
 use Rattle.call_laws.specs.Keys.{hasKey}
 use Rattle.call_laws.specs.Ranges.{GoodParts, fine, fine-parts}
 use Rattle.sheet_laws.specs.KeyOrder.{has-line}
-use Rattle.call_laws.specs.Lines.{has-line-after, line-passes}
+use Rattle.call_laws.specs.Lines.{line-passes}
 use Rattle.call_laws.specs.Sheets.{GoodSheets, Fit, fit-nothing, decided-issued, decided-units}
 use Rattle.call_laws.specs.Transactions.{Body, Stage, well-formed-parts, parts-well-formed, place-at, verdict-at, stage-open}
 
@@ -53,7 +53,7 @@ entry-later i j l e h =
     rw c (rw a at h)
 
 body-after : (s : Sheets) (w : Write) (t : Transaction) → Body s t → Body (apply w s) t
-unfolding apply linesHeld
+unfolding apply
 body-after s w t b =
     let g : s .coordinator .issued ≤ decisionsAfter w (s .coordinator) .issued = issued-grows w (s .coordinator) in
     let k : t .number ≤ s .coordinator .issued = b .known in
@@ -66,9 +66,6 @@ body-after s w t b =
           all-weaken (entryFormed (s .coordinator .issued)) (entryFormed (decisionsAfter w (s .coordinator) .issued))
           (entry-later (s .coordinator .issued) (decisionsAfter w (s .coordinator) .issued) g) (held t) (b .entries);
       distinct = b .distinct;
-      lines =
-          all-weaken (λ (e : Entry). hasLine (e .key) (s .lines)) (λ (e : Entry). hasLine (e .key) (linesAfter w (s .lines)))
-          (λ e h. has-line-after w (e .key) (s .lines) ∙ h) (held t) (b .lines);
     }
 
 pub formed-after : (s : Sheets) (w : Write) (t : Transaction) → Body s t → Stage (unitsOf s) t → wellFormed (apply w s) t ≡ true

@@ -1,11 +1,11 @@
 -- A record's ranges in parts: key, image, before image and clock. The layout is those of its parts one after another.
 use Rattle.lists.specs.Basics.{_≡_, refl, sym, ap, _∙_, ℕ, _≤_, leb, Bool, true, _&&_, and-assoc, List, [], _∷_, _++_, length, arith, le-leb, and-fst, and-snd}
 use Rattle.lists.specs.Basics.{and-both, tests}
-use Rattle.model.specs.Types.{Image, Record, State, Column, StateWord}
+use Rattle.model.specs.Types.{Key, Image, Record, State, Column, StateWord}
 use Rattle.types.specs.declared.State.the-variants.{Absent, Committed, Prepared}
 use Rattle.model.specs.Layouts.{figures, word, recordLayout, keyLayout, imageLayout, columnsLayout, wordBytes}
 use Rattle.model.specs.Lines.{inRange, rowGood}
-use Rattle.model.specs.Records.{stateNumber, keyNumbers, imageNumbers, recordNumbers, keyInRange, stateRule, goodAlone, noImage}
+use Rattle.model.specs.Records.{stateNumber, keyNumbers, imageNumbers, recordNumbers, keyInRange, stateRule, absentRule, isZero, goodAlone, noImage, absentAt}
 use Rattle.model.specs.Coordinator.{namesIssued}
 use Rattle.model.specs.WellFormed.{imageInRange, columnsInRange}
 
@@ -105,3 +105,9 @@ image-ranged m v n c = and-both (from-zero (m .version) 99999 v) (and-both (from
 pub zeros-ranged : imageInRange noImage ≡ true
 unfolding imageInRange imageNumbers imageLayout recordLayout rowGood inRange
 zeros-ranged = refl
+
+-- a key without a line counts as an ABSENT line of version 0, which keeps the rules
+pub absent-good : (issued : ℕ) (k : Key) → keyInRange k ≡ true → GoodParts issued (absentAt k)
+unfolding absentRule isZero
+absent-good issued k h =
+    record { key = h; image = zeros-ranged; before = zeros-ranged; clock = omega arith; rule = refl; txid = omega arith; before-txid = omega arith }

@@ -2,13 +2,13 @@
 use Rattle.lists.specs.Basics.{_≡_, refl, sym, ap, _∙_, ℕ, _+_, _≤_, _<_, eqb, leb, ltb, Bool, true, false, not, _&&_, _||_, true≢false, List, [], _∷_}
 use Rattle.lists.specs.Basics.{length, arith, eq-eqb, le-leb, lt-ltb, not-true, all, any, and-fst, and-snd, and-both, tests, or-left}
 use Rattle.model.specs.Types.{Entry, Transaction}
-use Rattle.model.specs.Records.{sameKey}
+use Rattle.model.specs.Records.{keyInRange, sameKey}
 use Rattle.model.specs.Coordinator.{Letter}
 use Rattle.model.specs.Transactions.{preparePhase, validatePhase, decidePhase, withdrawPhase, finishPhase, undoPhase, donePhase, noVerdict, committedVerdict}
 use Rattle.model.specs.Transactions.{abortedVerdict, isEmpty, held, puts, toValidate, moved}
 use Rattle.model.specs.Groups.{scopes, groupCount, groupPlace}
 use Rattle.model.specs.Writes.{Sheets}
-use Rattle.model.specs.WellFormed.{entryFormed, distinctKeys, placeFormed, verdictFormed, formed, linesHeld, wellFormed}
+use Rattle.model.specs.WellFormed.{entryFormed, distinctKeys, placeFormed, verdictFormed, formed, wellFormed}
 use Rattle.sheet_laws.specs.KeyOrder.{same-key-refl}
 use Rattle.call_laws.specs.Keys.{hasKey}
 use Rattle.call_laws.specs.Groups.{place-below}
@@ -21,7 +21,6 @@ pub record Body (s : Sheets) (t : Transaction) : Type 0 where
   pub few : t .count ≤ 8
   pub entries : all (entryFormed (s .coordinator .issued)) (held t) ≡ true
   pub distinct : distinctKeys (held t) ≡ true
-  pub lines : linesHeld (s .lines) t ≡ true
 
 -- phase, place and verdict
 pub record Stage (us : List Letter) (t : Transaction) : Type 0 where
@@ -32,14 +31,13 @@ pub record Stage (us : List Letter) (t : Transaction) : Type 0 where
 pub well-formed-parts : (s : Sheets) (t : Transaction) → wellFormed s t ≡ true → Body s t × Stage (s .coordinator .units) t
 unfolding wellFormed formed
 well-formed-parts s t h =
-    let f : formed (s .coordinator .units) (s .coordinator .issued) t ≡ true = and-fst _ (linesHeld (s .lines) t) h in
     let us = s .coordinator .units in
     let p0 = leb 1 (t .number) && leb (t .number) (s .coordinator .issued) && leb (t .serializable) 1 && leb (t .count) 8 in
     let p1 = p0 && all (entryFormed (s .coordinator .issued)) (held t) in
     let p2 = p1 && distinctKeys (held t) in
     let p3 = p2 && (not (eqb (t .phase) decidePhase) || not (isEmpty (puts t))) in
     let p4 = p3 && placeFormed us t in
-    let h4 : p4 ≡ true = and-fst p4 (verdictFormed t) f in
+    let h4 : p4 ≡ true = and-fst p4 (verdictFormed t) h in
     let h3 : p3 ≡ true = and-fst p3 (placeFormed us t) h4 in
     let h2 : p2 ≡ true = and-fst p2 (not (eqb (t .phase) decidePhase) || not (isEmpty (puts t))) h3 in
     let h1 : p1 ≡ true = and-fst p1 (distinctKeys (held t)) h2 in
@@ -51,12 +49,11 @@ well-formed-parts s t h =
         few = search (tests, h0);
         entries = and-snd p0 (all (entryFormed (s .coordinator .issued)) (held t)) h1;
         distinct = and-snd p1 (distinctKeys (held t)) h2;
-        lines = and-snd (formed us (s .coordinator .issued) t) (linesHeld (s .lines) t) h;
       },
       record {
         decides = and-snd p2 (not (eqb (t .phase) decidePhase) || not (isEmpty (puts t))) h3;
         place = and-snd p3 (placeFormed us t) h4;
-        verdict = and-snd p4 (verdictFormed t) f;
+        verdict = and-snd p4 (verdictFormed t) h;
       },
     )
 
@@ -70,7 +67,6 @@ parts-well-formed s t b g =
     (and-both
     (and-both
     (and-both
-    (and-both
     (and-both (le-leb 1 (t .number) (b .number)) (le-leb (t .number) (s .coordinator .issued) (b .known)))
     (le-leb (t .serializable) 1 (b .flag)))
     (le-leb (t .count) 8 (b .few)))
@@ -78,14 +74,18 @@ parts-well-formed s t b g =
     (b .distinct))
     (g .decides))
     (g .place))
-    (g .verdict))
-    (b .lines)
+    (g .verdict)
+
+-- the key of a well-formed entry is in range
+pub key-formed : (issued : ℕ) (e : Entry) → entryFormed issued e ≡ true → keyInRange (e .key) ≡ true
+unfolding entryFormed
+key-formed issued e h = search tests
 
 -- A step keeps the body.
 pub body-moved : (s : Sheets) (t : Transaction) (phase place verdict : ℕ) → Body s t → Body s (moved phase place verdict t)
-unfolding held linesHeld
+unfolding held
 body-moved s t phase place verdict b =
-    record { number = b .number; known = b .known; flag = b .flag; few = b .few; entries = b .entries; distinct = b .distinct; lines = b .lines }
+    record { number = b .number; known = b .known; flag = b .flag; few = b .few; entries = b .entries; distinct = b .distinct }
 
 -- What the stage says in a phase.
 

@@ -6,8 +6,8 @@ use mir.Val.{Val}
 use denote.Laws.{Is}
 use denote.Struct.Declared.{row}
 use Rattle.types.proofs.Transaction.{the-type}
-use Rattle.model.specs.Types.{At, Transaction}
-use Rattle.model.specs.Records.{records, recordsText, found}
+use Rattle.model.specs.Types.{Transaction}
+use Rattle.model.specs.Records.{records, recordsText}
 use Rattle.model.specs.Coordinator.{Letter, coordinatorOf, coordinatorText}
 use Rattle.model.specs.Refusals.{refusalOf}
 use Rattle.model.specs.Transactions.{donePhase, held, puts, moved}
@@ -30,14 +30,14 @@ use Rattle.transactions.specs.Held.{entryAt, has-room}
 use Rattle.put_groups.specs.Groups.{inGroup}
 use Rattle.put_groups.specs.GroupsIn.{in-group-at}
 use Rattle.held_lines.specs.declared.Located.{Located}
-use Rattle.held_lines.specs.Located.{locatedIn, indexed-all, indexed-kept, place-few}
+use Rattle.held_lines.specs.Located.{lineIndex, locatedIn, indexed-all, indexed-kept, place-few}
 use Rattle.steps.specs.Ready.{Ready}
 use Rattle.steps.specs.Stepped.{Stepped}
 use Rattle.closing.specs.declared.Ran.{Ran}
 
 -- What was found of a transaction's entries: their lines, how many groups there are, and which is each one's, whatever place the transaction has come to.
 pub record Placed (s : Sheets) (t : Transaction) (l : Located) : Type 0 where
-  pub at : (i : ℕ) → i < t .count → found (entryAt t i .key) (s .lines) ≡ At (getD (l .indices) i 0)
+  pub at : (i : ℕ) → i < t .count → getD (l .indices) i 0 ≡ lineIndex (entryAt t i .key) (s .lines)
   pub groups : l .groups ≡ groupCount (unitsOf s) (puts t)
   pub own : (p : ℕ) → p < 8 → (i : ℕ) → i < t .count → eqb (getD (l .of) i 0) p ≡ inGroup (unitsOf s) t p (entryAt t i)
 
@@ -89,7 +89,7 @@ starts-sure t rs cs p l e h z limit m =
       placed =
           subst (λ (x : Located). Placed s t x) (sym e)
           (record {
-            at = indexed-all (records rs) t p (q .0 .few) (q .0 .lines) .at;
+            at = indexed-all (records rs) t (q .0 .few) .at;
             groups = refl;
             own = λ place n i k. in-group-at (unitsOf s) t (has-room t p (q .0 .few)) i 0 place k n;
           });

@@ -17,7 +17,7 @@ use Rattle.model.specs.ByteCalls.{sheetsOf}
 use Rattle.call_laws.specs.Choices.{by-decision-of}
 use Rattle.sheet_laws.specs.KeyOrder.{same-key, same-key-refl, listsKey, apart}
 use Rattle.call_laws.specs.Keys.{same-key-flip}
-use Rattle.call_laws.specs.ByIndex.{found-at}
+use Rattle.held_lines.specs.Located.{prepared-at}
 use Rattle.call_laws.specs.Sheets.{good-parts}
 use Rattle.call_laws.specs.Lifting.{readable-good}
 use Rattle.transactions.specs.Held.{entryAt, some-kept}
@@ -126,7 +126,7 @@ module _ (rs cs : List ℕ) (t : Transaction) where
       → (eqb (getD (l .of) i 0) (t .place) && preparedBy (t .number) (getD (records rs) (getD (l .indices) i 0) noRecord)) ≡ rolledInGroup (entryAt t i)
   rolled-here l i ready m =
       ap₂ _&&_ (ready .grouped .own i m)
-      (ap (preparedBy (t .number)) (found-at (entryAt t i .key) (records rs) (getD (l .indices) i 0) (ready .indexed .at i m) .line))
+      (prepared-at (t .number) (entryAt t i .key) (records rs) (getD (l .indices) i 0) (ready .indexed .at i m))
 
 -- the lines of accepted bytes are in order
 pub in-order : (rs cs : List ℕ) (t : Transaction) (l : Located) → MayStep rs cs t l → rising (records rs) ≡ true

@@ -32,8 +32,7 @@ pub fn abort(t: Transaction, records: &[u8], coordinator: &[u8]) -> Returned
     requires { ⌜ Accepted (now records) (now coordinator) ⌝ }
     ensures { λ r. ⌜ r ≡ toReturned t (result (abort t) (sheetsOf (now (records .entry)) (now (coordinator .entry)))) ⌝ }
 {
-    let admitted = admission::admit(t, records, coordinator);
-    if !admitted.formed {
+    if !admission::judge(t, coordinator).formed {
         return refusal(3, t);
     }
     if cannot_abort(t) {

@@ -63,7 +63,7 @@ pub fn put(
     requires { ⌜ Accepted (now records) (now coordinator) ⌝ }
     ensures { λ r. ⌜ r ≡ toReturned t (result (put t key columns) (sheetsOf (now (records .entry)) (now (coordinator .entry)))) ⌝ }
 {
-    let refused = admission::open_refusal(t, key, records, coordinator);
+    let refused = admission::open_refusal(t, key, coordinator);
     if refused != 0 {
         return refusal(refused, t);
     }

@@ -1,10 +1,10 @@
 -- A group written entry by entry: each change is of the line of one key, and since no two entries have a key in common, one after another they make the map
 -- that the model applies. The new line is written over the old one at its index.
-use Rattle.lists.specs.Basics.{_≡_, refl, sym, ap, ap₂, _∙_, ℕ, _*_, _/_, _<_, ltb, Bool, true, false, _&&_, _||_, cond, List, [], _∷_, map, length, take, drop}
-use Rattle.lists.specs.Basics.{getD, set, Option, none, some, arith, ltb-true, lt-ltb, all, any, choose-by, or-fst, or-snd}
+use Rattle.lists.specs.Basics.{_≡_, refl, sym, ap, ap₂, _∙_, ℕ, _*_, _/_, _≤_, _<_, ltb, Bool, true, false, _&&_, _||_, cond, List, [], _∷_, map, length, take, drop}
+use Rattle.lists.specs.Basics.{getD, set, Option, none, some, arith, ltb-true, lt-ltb, le-ltb, all, any, choose-by, or-fst, or-snd}
 use Rattle.lists.specs.All.{map-map, map-equal, all-always}
 use Rattle.lists.specs.Pieces.{over, over-same}
-use Rattle.model.specs.Types.{Key, Record, At, Entry}
+use Rattle.model.specs.Types.{Key, Record, At, Nothing, Entry}
 use Rattle.model.specs.Layouts.{recordBytes}
 use Rattle.model.specs.Records.{noRecord, recordText, records, recordsAccepted, goodAlone, sameKey, found, lineOf}
 use Rattle.model.specs.Images.{Change, changeOf, preparedBy, prepared, committed, rolledForward, rolledBack}
@@ -16,7 +16,8 @@ use Rattle.call_laws.specs.Lines.{lines-unmoved}
 use Rattle.sheet_laws.specs.Ranks.{accepted-order}
 use Rattle.sheet_laws.specs.KeyOrder.{same-key, same-key-refl}
 use Rattle.call_laws.specs.Keys.{same-key-flip, hasKey, no-entry}
-use Rattle.call_laws.specs.ByIndex.{FoundAt, found-at, atKey, set-at-key, line-replaced}
+use Rattle.call_laws.specs.ByIndex.{FoundAt, found-at, atKey, map-elsewhere, set-at-key, line-replaced}
+use Rattle.held_lines.specs.Located.{lineIndex, by-line, none-listed}
 use Rattle.group_writes.specs.declared.changes.Effect.{Effect}
 use Rattle.group_writes.specs.declared.changes.Effect.the-variants.{Commit, Prepare, Forward, Back}
 
@@ -132,10 +133,10 @@ fits-elsewhere c n e rs (x ∷ es) h =
 
 -- One line.
 
--- the sheet is accepted, and the new line of the entry's key, at its index, keeps the rules
+-- the sheet is accepted, and the new line of the entry's key, at its index if it has one, keeps the rules
 pub record Due (c : Effect) (n : ℕ) (e : Entry) (i : ℕ) (rs : List ℕ) : Type 0 where
   pub accepted : recordsAccepted rs ≡ true
-  pub there : found (e .key) (records rs) ≡ At i
+  pub there : i ≡ lineIndex (e .key) (records rs)
   pub fit : fits c n (records rs) e ≡ true
 
 -- the sheet after a change of the line of the entry's key
@@ -144,17 +145,16 @@ pub record Wrote (c : Effect) (n : ℕ) (e : Entry) (rs rs′ : List ℕ) : Type
   pub lines : records rs′ ≡ map (atKey (e .key) (changed c n (changeOf e))) (records rs)
 
 module _ (c : Effect) (n : ℕ) (e : Entry) (i : ℕ) (rs : List ℕ) (due : Due c n e i rs) where
-  -- the record at the index is the line of the key
-  due-at : goodAlone (changed c n (changeOf e) (getD (records rs) i noRecord)) ≡ true
-  due-at = ap (λ (r : Record). goodAlone (changed c n (changeOf e) r)) (found-at (e .key) (records rs) i (due .there) .line) ∙ due .fit
+  abbrev overLine : List ℕ
+  overLine = cond (ltb i (length rs / recordBytes)) (over rs (i * recordBytes) (recordText (changed c n (changeOf e) (getD (records rs) i noRecord)))) rs
 
-  pub wrote-line : (rs′ : List ℕ) → rs′ ≡ cond (ltb i (length rs / recordBytes)) (over rs (i * recordBytes) (recordText (changed c n (changeOf e) (getD (records rs) i noRecord)))) rs → Wrote c n e rs rs′
-  wrote-line rs′ w =
+  wrote-there : found (e .key) (records rs) ≡ At i → (rs′ : List ℕ) → rs′ ≡ overLine → Wrote c n e rs rs′
+  wrote-there there rs′ w =
       let r = changed c n (changeOf e) (getD (records rs) i noRecord) in
-      let x : FoundAt (e .key) (records rs) i = found-at (e .key) (records rs) i (due .there) in
+      let x : FoundAt (e .key) (records rs) i = found-at (e .key) (records rs) i there in
       let l : i < length (records rs) = x .within in
       let m : i < length rs / recordBytes = omega (arith, length-records rs) in
-      let g : goodAlone r ≡ true = due-at in
+      let g : goodAlone r ≡ true = ap (λ (y : Record). goodAlone (changed c n (changeOf e) y)) (x .line) ∙ due .fit in
       let k : r .key ≡ getD (records rs) i noRecord .key = changed-key c n (changeOf e) (getD (records rs) i noRecord) in
       let o : rs′ ≡ over rs (i * recordBytes) (recordText r) = w ∙ ap (λ (b : Bool). cond b (over rs (i * recordBytes) (recordText r)) rs) (lt-ltb i (length rs / recordBytes) m) in
       let p : r ≡ changed c n (changeOf e) (lineOf (e .key) (records rs)) = ap (changed c n (changeOf e)) (x .line) in
@@ -165,6 +165,22 @@ module _ (c : Effect) (n : ℕ) (e : Entry) (i : ℕ) (rs : List ℕ) (due : Due
             ∙ (records-over rs i r m (good-ranged r g) (whole-lines rs (due .accepted))
             ∙ (ap (set (records rs) i) p ∙ set-at-key (e .key) (changed c n (changeOf e)) (records rs) i (accepted-order rs (due .accepted)) l (x .key)));
       }
+
+  -- a key without a line: nothing is written
+  wrote-none : found (e .key) (records rs) ≡ Nothing → i ≡ length (records rs) → (rs′ : List ℕ) → rs′ ≡ overLine → Wrote c n e rs rs′
+  wrote-none missing q rs′ w =
+      let r = changed c n (changeOf e) (getD (records rs) i noRecord) in
+      let l : length rs / recordBytes ≤ i = omega (arith, length-records rs, q) in
+      let o : rs′ ≡ rs = w ∙ ap (λ (b : Bool). cond b (over rs (i * recordBytes) (recordText r)) rs) (le-ltb i (length rs / recordBytes) l) in
+      record {
+        accepted = ap recordsAccepted o ∙ due .accepted;
+        lines = ap records o ∙ sym (map-elsewhere (e .key) (changed c n (changeOf e)) (records rs) (none-listed (e .key) (records rs) missing));
+      }
+
+  pub wrote-line : (rs′ : List ℕ) → rs′ ≡ overLine → Wrote c n e rs rs′
+  wrote-line rs′ w =
+      by-line (e .key) (records rs) (λ (j : ℕ). i ≡ j → Wrote c n e rs rs′) (λ j f q. wrote-there (f ∙ ap At (sym q)) rs′ w)
+      (λ f q. wrote-none f q rs′ w) (due .there)
 
 -- a line that stays is its own text
 pub line-stays : (rs : List ℕ) (i : ℕ) → recordsAccepted rs ≡ true → rs ≡ cond (ltb i (length rs / recordBytes)) (over rs (i * recordBytes) (recordText (getD (records rs) i noRecord))) rs

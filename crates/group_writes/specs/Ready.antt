@@ -1,30 +1,28 @@
 -- What the writes of a step ask for follows from accepted bytes and a well-formed transaction: puts whose conditions hold may be written over their lines, and
 -- what a number has prepared may be rolled.
-use Rattle.lists.specs.Basics.{_≡_, sym, ap, _∙_, ℕ, _≤_, Bool, true, _&&_, List, length, take, drop, arith, all, and-fst, and-snd, choose-by, tests}
+use Rattle.lists.specs.Basics.{_≡_, refl, sym, subst, _∙_, ℕ, _≤_, Bool, true, false, _&&_, List, length, take, drop, arith, all, and-fst, and-snd, choose-by, tests}
 use Rattle.lists.specs.All.{all-and, all-weaken}
-use Rattle.lists.specs.Chosen.{all-filter}
 use Rattle.model.specs.Types.{Record, Entry, Transaction}
-use Rattle.model.specs.Records.{records, recordsAccepted, goodAlone, hasLine, lineOf}
+use Rattle.model.specs.Records.{records, recordsAccepted, goodAlone, keyInRange, hasLine, lineOf}
 use Rattle.model.specs.Coordinator.{coordinatorOf, namesIssued}
 use Rattle.model.specs.Transactions.{isPut, held}
 use Rattle.model.specs.Images.{changeOf, isPrepared, preparedBy}
-use Rattle.model.specs.WellFormed.{entryFormed, linesHeld}
+use Rattle.model.specs.WellFormed.{entryFormed}
 use Rattle.model.specs.Steps.{holds, groupAt}
 use Rattle.model.specs.ByteCalls.{sheetsOf}
 use Rattle.sheet_laws.specs.Letters.{unitsIn, units-said}
 use Rattle.sheet_laws.specs.Decisions.{readable-length}
-use Rattle.call_laws.specs.Ranges.{GoodParts, fine, fine-parts, parts-fine}
+use Rattle.call_laws.specs.Ranges.{GoodParts, fine, fine-parts, parts-fine, absent-good}
 use Rattle.call_laws.specs.Images.{MayPut, committed-fine, prepared-fine, forward-fine, back-fine}
 use Rattle.sheet_laws.specs.KeyOrder.{has-line}
-use Rattle.call_laws.specs.Lines.{line-passes}
+use Rattle.call_laws.specs.Lines.{line-passes, unlisted}
 use Rattle.call_laws.specs.Sheets.{GoodSheets, good-parts}
-use Rattle.call_laws.specs.Transactions.{Body}
+use Rattle.call_laws.specs.Transactions.{Body, key-formed}
 use Rattle.call_laws.specs.Steps.{holds-parts, group-formed, may-put-over}
 use Rattle.model.specs.ByteHistories.{Readable}
 use Rattle.call_laws.specs.Lifting.{readable-both, readable-good}
 use Rattle.group_writes.specs.declared.changes.Effect.{Effect}
 use Rattle.group_writes.specs.declared.changes.Effect.the-variants.{Commit, Prepare, Forward, Back}
-use Rattle.group_writes.specs.Groups.{ofGroup, group-in}
 use Rattle.group_writes.specs.Changes.{changed, fits}
 use Rattle.held_lines.specs.declared.Located.{Located}
 use Rattle.held_lines.specs.Located.{Indexed, Grouped}
@@ -107,19 +105,21 @@ module _ (rs cs : List ℕ) (t : Transaction) (l : Located) (ready : Ready rs cs
 
   -- Prepared lines rolled.
 
-  group-lines : all (λ (e : Entry). hasLine (e .key) (records rs)) (groupAt t (sheetsOf rs cs)) ≡ true
-  unfolding linesHeld
-  group-lines =
-      ap (all (λ (e : Entry). hasLine (e .key) (records rs))) (group-in rs cs t)
-      ∙ all-filter (ofGroup cs t) (λ (e : Entry). hasLine (e .key) (records rs)) (held t) (ready .body .lines)
+  -- the line of a key in range keeps the rules, with or without a line
+  any-good : (e : Entry) → keyInRange (e .key) ≡ true → GoodParts issued (lineOf (e .key) (records rs))
+  any-good e h = go (hasLine (e .key) (records rs)) refl
+    where
+      go : (b : Bool) → hasLine (e .key) (records rs) ≡ b → GoodParts issued (lineOf (e .key) (records rs))
+      go true l = line-good e l
+      go false l = subst (GoodParts issued) (sym (unlisted (e .key) (records rs) (sym (has-line (e .key) (records rs)) ∙ l))) (absent-good issued (e .key) h)
 
   -- the lines of the group, where a rolled line keeps the rules
   may-roll : (c : Effect) → ((e : Entry) (r : Record) → GoodParts issued r → GoodParts issued (changed c (t .number) (changeOf e) r)) → MayChange c rs cs t l
   may-roll c keeps =
       may-change c
-      (all-weaken (λ (e : Entry). hasLine (e .key) (records rs)) (fits c (t .number) (records rs))
-      (λ e h. let r = lineOf (e .key) (records rs) in fine-good (changed c (t .number) (changeOf e) r) (keeps e r (line-good e h)))
-      (groupAt t (sheetsOf rs cs)) group-lines)
+      (all-weaken (λ (e : Entry). entryFormed issued e && isPut e) (fits c (t .number) (records rs))
+      (λ e h. let r = lineOf (e .key) (records rs) in fine-good (changed c (t .number) (changeOf e) r) (keeps e r (any-good e (key-formed issued e (and-fst (entryFormed issued e) (isPut e) h)))))
+      (groupAt t (sheetsOf rs cs)) (group-formed (sheetsOf rs cs) good t (ready .body)))
 
   pending : (r : Record) → preparedBy (t .number) r ≡ true → isPrepared r ≡ true
   unfolding preparedBy

@@ -7,8 +7,8 @@ use denote.Laws.{Is}
 use denote.Struct.Declared.{row}
 use Rattle.lists.specs.Pieces.{over}
 use Rattle.types.proofs.Transaction.{the-type}
-use Rattle.model.specs.Types.{Key, Record, At, Entry, Transaction}
-use Rattle.model.specs.Records.{noRecord, records, recordText, recordsText, recordsAccepted, found}
+use Rattle.model.specs.Types.{Key, Record, Entry, Transaction}
+use Rattle.model.specs.Records.{noRecord, records, recordText, recordsText, recordsAccepted}
 use Rattle.model.specs.Layouts.{recordBytes}
 use Rattle.model.specs.Coordinator.{coordinatorOf}
 use Rattle.model.specs.Images.{changeOf}
@@ -25,7 +25,7 @@ use Rattle.group_writes.specs.declared.changes.Effect.{Effect}
 use Rattle.group_writes.specs.Groups.{ofGroup, groupIn, group-in}
 use Rattle.group_writes.specs.Changes.{changed, changed-key, written, lines-none, lines-first, at-key-kept, fits, fits-elsewhere, wrote-line}
 use Rattle.held_lines.specs.declared.Located.{Located}
-use Rattle.held_lines.specs.Located.{Indexed, Grouped, indexed-kept}
+use Rattle.held_lines.specs.Located.{lineIndex, Indexed, Grouped, indexed-kept}
 
 -- what a change of a whole group asks for
 pub record MayChange (c : Effect) (rs cs : List ℕ) (t : Transaction) (l : Located) : Type 0 where
@@ -40,7 +40,7 @@ pub record MayChange (c : Effect) (rs cs : List ℕ) (t : Transaction) (l : Loca
 pub record Turn (c : Effect) (n : ℕ) (own : Bool) (e : Entry) (i : ℕ) (rs : List ℕ) : Type 0 where
   pub accepted : recordsAccepted rs ≡ true
   pub fit : own ≡ true → fits c n (records rs) e ≡ true
-  pub there : found (e .key) (records rs) ≡ At i
+  pub there : i ≡ lineIndex (e .key) (records rs)
 
 -- the sheet after a turn: the line of the entry's key changed, if the entry is of the group
 pub record Turned (c : Effect) (n : ℕ) (own : Bool) (e : Entry) (rs rs′ : List ℕ) : Type 0 where

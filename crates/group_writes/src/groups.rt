@@ -4,13 +4,13 @@ ghost use mathlib.Core.Bool.{true, _||_, not};
 ghost use mathlib.Core.List.{List};
 ghost use Prim.Native.Nat.{ℕ};
 ghost use Rattle.lists.specs.Each.{all};
-ghost use Rattle.types.specs.declared.Found.the-variants.{At};
-ghost use Rattle.model.specs.Records.{recordsAccepted, found};
+ghost use Rattle.model.specs.Records.{recordsAccepted};
 ghost use Rattle.model.specs.Records as sheet;
 ghost use Rattle.model.specs.Coordinator.{coordinatorOf};
 ghost use Rattle.model.specs.Steps.{holds, groupAt};
 ghost use Rattle.model.specs.ByteCalls.{sheetsOf};
 ghost use Rattle.sheet_laws.specs.Letters.{unitsIn};
+ghost use Rattle.held_lines.specs.Located.{lineIndex};
 ghost use Rattle.group_writes.specs.Ready.{Ready};
 use held_lines::Located;
 use types::Entry;
@@ -18,7 +18,7 @@ use types::Transaction;
 
 // The condition of an entry holds, unless it is of another group.
 fn entry_holds(records: &[u8], letters: &[u8], own: bool, e: Entry, index: usize) -> bool
-    requires { ⌜ (recordsAccepted (now records) ≡ true) × (found (e .key) (sheet.records (now records)) ≡ At index) ⌝ }
+    requires { ⌜ (recordsAccepted (now records) ≡ true) × (index ≡ lineIndex (e .key) (sheet.records (now records))) ⌝ }
     ensures { λ r. ⌜ ((cs : List ℕ) → unitsIn (now (letters .entry)) ≡ coordinatorOf cs .units → r ≡ (not own || holds (sheetsOf (now (records .entry)) cs) e)) ⌝ }
 {
     if !own {

@@ -4,16 +4,14 @@ ghost use mathlib.Core.Bool.{true};
 ghost use mathlib.Core.List.{List};
 ghost use Prim.Native.Nat.{ℕ, _≤_};
 ghost use lib.ListN.{getD};
-ghost use Rattle.model.specs.Records.{noRecord, recordsAccepted, found};
+ghost use Rattle.model.specs.Records.{noRecord, recordsAccepted, keyInRange};
 ghost use Rattle.model.specs.Records as sheet;
 ghost use Rattle.model.specs.Coordinator.{coordinatorOf};
 ghost use Rattle.model.specs.Images.{unchanged, sameColumns, preparedBy};
-ghost use Rattle.model.specs.WellFormed.{linesHeld};
 ghost use Rattle.model.specs.Steps as model;
 ghost use Rattle.model.specs.ByteCalls.{sheetsOf};
-ghost use Rattle.types.specs.declared.Found.the-variants.{At};
 ghost use Rattle.sheet_laws.specs.Letters.{unitsIn};
-ghost use Rattle.held_lines.specs.Located.{lineIndex, indicesOf, indexIn};
+ghost use Rattle.held_lines.specs.Located.{lineIndex, keysRanged, indicesOf, indexIn};
 use codec::reading;
 use sheets::lookup;
 use types::Entry;
@@ -30,43 +28,29 @@ pub struct Located {
 
 pub const NO_INDICES: [usize; 8] = [0, 0, 0, 0, 0, 0, 0, 0];
 
-// The index of the line of any key, the number of lines where it has none: one out of range is on no accepted sheet.
+// The index of the line of a key, the number of lines where it has none.
 fn line_index(records: &[u8], key: Key) -> usize
-    requires { ⌜ recordsAccepted (now records) ≡ true ⌝ }
+    requires { ⌜ (recordsAccepted (now records) ≡ true) × (keyInRange key ≡ true) ⌝ }
     ensures { λ r. ⌜ r ≡ lineIndex key (sheet.records (now (records .entry))) ⌝ }
 {
-    if !lookup::key_in_range(key) {
-        return codec::records::count(records);
-    }
     match lookup::find(records, key) {
         Found::At(i) => i,
         Found::Nothing => codec::records::count(records),
     }
 }
 
-// Whether each entry of a transaction has a line, and the indices of these.
-pub struct Lines {
-    pub all: bool,
-    pub indices: [usize; 8],
-}
-
 // Where the lines of a transaction's entries are. The only searches of a call for its entries.
-pub fn lines_of(records: &[u8], t: Transaction) -> Lines
-    requires { ⌜ (recordsAccepted (now records) ≡ true) × (t .count ≤ 8) ⌝ }
-    ensures all { λ r. ⌜ r .all ≡ linesHeld (sheet.records (now (records .entry))) t ⌝ }
-    ensures indices { λ r. ⌜ r .indices ≡ indicesOf (sheet.records (now (records .entry))) t (t .count) ⌝ }
+pub fn lines_of(records: &[u8], t: Transaction) -> [usize; 8]
+    requires { ⌜ (recordsAccepted (now records) ≡ true) × ((t .count ≤ 8) × (keysRanged t ≡ true)) ⌝ }
+    ensures { λ r. ⌜ r ≡ indicesOf (sheet.records (now (records .entry))) t (t .count) ⌝ }
 {
     let n = t.count as usize;
-    let count = codec::records::count(records);
-    let mut all = true;
     let mut indices = NO_INDICES;
     for i in 0..n {
         let e = t.entries[i];
-        let index = line_index(records, e.key);
-        all = all & (index < count);
-        indices[i] = index;
+        indices[i] = line_index(records, e.key);
     }
-    Lines { all, indices }
+    indices
 }
 
 // The line of an entry isn't pending and has the TxID and version read.
@@ -88,12 +72,15 @@ fn same_columns(records: &[u8], e: Entry, index: usize) -> bool
     (columns.column1 == e.seen.column1) & (columns.column2 == e.seen.column2)
 }
 
-// The condition of an entry by the index of its line, beside any coordinator sheet with these letters: the line is as it was read, and so are its columns where
-// they may have been read at another time than the rest.
+// The condition of an entry by the index of its line, beside any coordinator sheet with these letters: there is a line, it is as it was read, and so are its columns
+// where they may have been read at another time than the rest.
 pub fn holds(records: &[u8], letters: &[u8], e: Entry, index: usize) -> bool
-    requires { ⌜ (recordsAccepted (now records) ≡ true) × (found (e .key) (sheet.records (now records)) ≡ At index) ⌝ }
+    requires { ⌜ (recordsAccepted (now records) ≡ true) × (index ≡ lineIndex (e .key) (sheet.records (now records))) ⌝ }
     ensures { λ r. ⌜ ((cs : List ℕ) → unitsIn (now (letters .entry)) ≡ coordinatorOf cs .units → r ≡ model.holds (sheetsOf (now (records .entry)) cs) e) ⌝ }
 {
+    if codec::records::count(records) <= index {
+        return false;
+    }
     if !transactions::is_lower(letters, e.key.storage) {
         return is_unchanged(records, e, index);
     }

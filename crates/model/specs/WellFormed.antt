@@ -1,9 +1,9 @@
 -- Well-formed transactions (refusal 3): a line for each clause of document 01, "Transaction". Where it leaves room, docs/DECISIONS.md says what was decided.
 use Rattle.lists.specs.Basics.{ℕ, eqb, leb, ltb, Bool, true, false, not, _&&_, _||_, List, [], _∷_, length, all, any}
-use Rattle.model.specs.Types.{Image, Record, Columns, Entry, Transaction}
+use Rattle.model.specs.Types.{Image, Columns, Entry, Transaction}
 use Rattle.model.specs.Layouts.{imageLayout, columnsLayout}
 use Rattle.model.specs.Lines.{rowGood}
-use Rattle.model.specs.Records.{imageNumbers, isZero, sameKey, hasLine}
+use Rattle.model.specs.Records.{imageNumbers, isZero, keyInRange, sameKey}
 use Rattle.model.specs.Transactions.{byPhase, decidePhase, noVerdict, committedVerdict, abortedVerdict, isPut, isEmpty}
 use Rattle.model.specs.Transactions.{held, puts, toValidate}
 use Rattle.model.specs.Coordinator.{Letter}
@@ -30,6 +30,7 @@ entryFormed issued e =
     && leb (e .seen .txid) issued  -- "TxIDs read are at most the issued count"
     && (leb 1 (e .seen .version) || isZero (e .seen))  -- "version 0 has TxID and columns 0"
     && putFits e
+    && keyInRange (e .key)  -- document 02, note 6: "a held key without a line is now well formed"
 
 -- "entries with distinct keys"
 unfoldable pub distinctKeys : List Entry → Bool
@@ -64,9 +65,5 @@ formed us issued t =
     && placeFormed us t
     && verdictFormed t
 
--- "each key has a line"
-unfoldable pub linesHeld : List Record → Transaction → Bool
-linesHeld rs t = all (λ (e : Entry). hasLine (e .key) rs) (held t)
-
 unfoldable pub wellFormed : Sheets → Transaction → Bool
-wellFormed s t = formed (s .coordinator .units) (s .coordinator .issued) t && linesHeld (s .lines) t
+wellFormed s t = formed (s .coordinator .units) (s .coordinator .issued) t

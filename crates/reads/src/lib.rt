@@ -202,7 +202,7 @@ fn fetch(
     requires { ⌜ Accepted (now records) (now coordinator) ⌝ }
     ensures { λ r. ⌜ Outcome (toPerformed t) (result (callOf asked t key clock) (sheetsOf (now (records .entry)) (now (coordinator .entry)))) (now (records .entry)) (now (coordinator .entry)) r (now (records .exit)) (now (coordinator .exit)) ⌝ }
 {
-    let refused = admission::open_refusal(t, key, records, coordinator);
+    let refused = admission::open_refusal(t, key, coordinator);
     if refused != 0 {
         return refusal(refused, t);
     }

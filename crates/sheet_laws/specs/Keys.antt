@@ -1,9 +1,9 @@
 -- A key as text: the first twenty bytes of its line. Two keys in range are the same where their texts are, since a key line
 -- reads as its key.
-use Rattle.lists.specs.Basics.{_≡_, refl, sym, ap, _∙_, ℕ, true, List, [], _∷_, _++_, append-nil, length, take, drop, getD, take-at, arith, all, eqList}
+use Rattle.lists.specs.Basics.{_≡_, refl, sym, ap, _∙_, ℕ, Bool, true, _&&_, and-assoc, and-true, List, [], _∷_, _++_, append-nil, length, take, drop, getD, take-at, arith, all, eqList}
 use Rattle.lists.specs.Basics.{eqList-true, eqList-refl, and-fst, and-snd, and-both, same-test}
 use Rattle.model.specs.Types.{Key, Record, Column}
-use Rattle.model.specs.Layouts.{recordLayout, keyLayout, stateField, offset, keyBytes}
+use Rattle.model.specs.Layouts.{recordLayout, keyLayout, noColumn, stateField, offset, keyBytes}
 use Rattle.model.specs.Lines.{inRange, lineText, lineSet, rowOf, rowGood}
 use Rattle.model.specs.Records.{keyNumbers, imageNumbers, recordNumbers, recordIn, recordText, keyInRange, sameKey}
 use Rattle.sheet_laws.specs.Fields.{columnOk}
@@ -53,6 +53,19 @@ key-of-text a b g h e =
     let l : keyLine a ≡ keyLine b = key-line a ∙ (ap (λ (t : List ℕ). t ++ (10 ∷ [])) e ∙ sym (key-line b)) in
     sym (row-read-written keyLayout (keyNumbers a) key-layout-ok g (key-count a))
     ∙ (ap (rowOf keyLayout) l ∙ row-read-written keyLayout (keyNumbers b) key-layout-ok h (key-count b))
+
+-- a key is in range if each of its numbers is in its column's
+pub key-tests : (k : Key) (a b c d e : Bool)
+    → a ≡ inRange (getD keyLayout 0 noColumn) (k .storage)
+    → b ≡ inRange (getD keyLayout 1 noColumn) (k .namespace)
+    → c ≡ inRange (getD keyLayout 2 noColumn) (k .table)
+    → d ≡ inRange (getD keyLayout 3 noColumn) (k .partition)
+    → e ≡ inRange (getD keyLayout 4 noColumn) (k .clustering)
+    → (a && b && c && d && e) ≡ keyInRange k
+unfolding keyInRange rowGood keyLayout recordLayout keyNumbers
+key-tests k a b c d e p q r s t =
+    let n : (a && b && c && d && e) ≡ (a && (b && (c && (d && (e && true))))) = simp (and-assoc, and-true) in
+    n ∙ rw (p, q, r, s, t)
 
 -- the key of a record in range is in range
 pub key-ranged : (r : Record) → ranged r ≡ true → keyInRange (r .key) ≡ true

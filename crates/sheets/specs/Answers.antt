@@ -1,28 +1,14 @@
 -- What each call answers, case by case in the order of its conditions.
-use Rattle.lists.specs.Basics.{_≡_, refl, sym, ap, _∙_, ℕ, _+_, _*_, _≤_, Bool, true, false, not, _&&_, and-assoc, and-true, List, [], _∷_, length, take, drop, getD, arith}
+use Rattle.lists.specs.Basics.{_≡_, refl, sym, ap, _∙_, ℕ, _+_, _*_, _≤_, Bool, true, false, not, List, [], _∷_, length, take, drop, arith}
 use Rattle.model.specs.Types.{Key, Record, Rank, Ranked, Found, At, Nothing}
-use Rattle.model.specs.Layouts.{recordLayout, keyLayout, noColumn, recordBytes}
-use Rattle.model.specs.Lines.{inRange, rowGood}
-use Rattle.model.specs.Records.{noRecord, keyNumbers, records, recordsAccepted, keyInRange, sameKey, found, isMissing, ranked, placed}
+use Rattle.model.specs.Layouts.{recordBytes}
+use Rattle.model.specs.Records.{noRecord, records, recordsAccepted, keyInRange, sameKey, found, isMissing, ranked, placed}
 use Rattle.model.specs.Refusals.{refuse, refusalOf}
 use Rattle.model.specs.Coordinator.{coordinatorAccepted}
 use Rattle.model.specs.SheetCalls.{allIssued, checkConditions, lookupConditions, lineAt, lookedUp, rankConditions, rankOn, lineOn, lineAmong}
 use Rattle.sheet_laws.specs.ByIndex.{length-records}
 use Rattle.sheet_laws.specs.Search.{first-at}
 use Rattle.sheet_laws.specs.Ranks.{found-by-rank, found-ranked, accepted-order}
-
--- a key is in range if each of its numbers is in its column's
-pub key-tests : (k : Key) (a b c d e : Bool)
-    → a ≡ inRange (getD keyLayout 0 noColumn) (k .storage)
-    → b ≡ inRange (getD keyLayout 1 noColumn) (k .namespace)
-    → c ≡ inRange (getD keyLayout 2 noColumn) (k .table)
-    → d ≡ inRange (getD keyLayout 3 noColumn) (k .partition)
-    → e ≡ inRange (getD keyLayout 4 noColumn) (k .clustering)
-    → (a && b && c && d && e) ≡ keyInRange k
-unfolding keyInRange rowGood keyLayout recordLayout keyNumbers
-key-tests k a b c d e p q r s t =
-    let n : (a && b && c && d && e) ≡ (a && (b && (c && (d && (e && true))))) = simp (and-assoc, and-true) in
-    n ∙ rw (p, q, r, s, t)
 
 -- what operations go by is the line of the key
 pub is-found : (s : List ℕ) (k : Key) → recordsAccepted s ≡ true → {f : Found} → f ≡ placed (ranked k (records s)) → found k (records s) ≡ f

@@ -11,10 +11,7 @@ ghost use Rattle.sheet_laws.specs.Keys.{keyLine};
 ghost use Rattle.model.specs.Lines.{linesOf};
 ghost use Rattle.model.specs.SheetCalls.{lookedUp, rankOn, lineOn, lineAmong};
 ghost use Rattle.sheets.specs.Search.{keyField, foundLine};
-use codec::fields::in_range;
-use codec::layouts::NAMESPACE;
-use codec::layouts::PARTITION;
-use codec::layouts::STORAGE;
+use codec::keys::key_in_range;
 use types::CLUSTERING_AT;
 use types::Found;
 use types::Key;
@@ -161,17 +158,6 @@ pub fn line(records: &[u8], key: Key) -> Ranked
         },
         Found::Nothing => no_rank(6),
     }
-}
-
-// Every field of the key is in its range.
-pub fn key_in_range(key: Key) -> bool
-    ensures { λ r. ⌜ r ≡ keyInRange key ⌝ }
-{
-    in_range(STORAGE, key.storage)
-        & in_range(NAMESPACE, key.namespace)
-        & in_range(NAMESPACE, key.table)
-        & in_range(PARTITION, key.partition)
-        & in_range(PARTITION, key.clustering)
 }
 
 // The line that has the key, as a part of the caller's sheet; an empty part where 1, 5 or 6 applies.

@@ -21,7 +21,7 @@ fn search_in(line: bool, plain: &[u8], book: &[u8], key: Key, area: &mut [u8]) -
     if refused != 0 {
         return no_rank(refused);
     }
-    if !sheets::lookup::key_in_range(key) {
+    if !codec::keys::key_in_range(key) {
         return no_rank(5);
     }
     let n = plain.len() / PLAIN_BYTES * RECORD_BYTES;

@@ -55,7 +55,7 @@ pub fn visit(key: Key, clock: u32, records: &mut [u8], coordinator: &mut [u8]) -
     requires { ⌜ Accepted (now records) (now coordinator) ⌝ }
     ensures { λ r. ⌜ Outcome toVisited (result (visit key clock) (sheetsOf (now (records .entry)) (now (coordinator .entry)))) (now (records .entry)) (now (coordinator .entry)) r (now (records .exit)) (now (coordinator .exit)) ⌝ }
 {
-    if !sheets::lookup::key_in_range(key) {
+    if !codec::keys::key_in_range(key) {
         return refusal(5);
     }
     match sheets::lookup::find(records, key) {

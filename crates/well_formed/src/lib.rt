@@ -57,6 +57,7 @@ fn entry_formed(issued: u32, e: Entry) -> bool
         & (e.seen.txid <= issued)
         & version_formed(e.seen)
         & put_fits(e)
+        & codec::keys::key_in_range(e.key)
 }
 
 fn entries_formed(issued: u32, t: Transaction) -> bool

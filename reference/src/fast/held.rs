@@ -5,11 +5,14 @@ use super::search::find;
 use super::tables::LINE;
 use crate::plain::record::{columns_in_range, MOST_VERSION, NOTHING};
 use crate::plain::transaction::*;
-use crate::plain::ILL_FORMED;
+use crate::plain::{ILL_FORMED, NO_LINE};
+
+/// Stands for the line of a key that has none: no sheet has a line there.
+const NOWHERE: usize = usize::MAX;
 
 /// What the steps need to know of a well-formed transaction.
 pub struct Held {
-    /// The line of each entry that counts.
+    /// The line of each entry that counts, or `NOWHERE`.
     pub lines: [usize; MOST_ENTRIES],
     /// The entries with a put, in rising key order.
     order: [usize; MOST_ENTRIES],
@@ -35,8 +38,8 @@ impl Held {
             starts: [0; MOST_ENTRIES + 1],
             groups: 0,
         };
-        for (place, entry) in t.held().iter().enumerate() {
-            held.add(place, entry, lines, coordinator.issued)?;
+        for place in 0..t.count as usize {
+            held.add(t, place, lines, coordinator.issued)?;
         }
         held.group_puts(t, coordinator);
         (phase_fits(t, &held) && place_fits(t, &held))
@@ -44,31 +47,55 @@ impl Held {
             .ok_or(ILL_FORMED)
     }
 
-    /// Takes in an entry that fits; keys are distinct if their lines are.
+    /// Takes in an entry that fits.
     #[inline(always)]
     fn add(
         &mut self,
+        t: &Transaction,
         place: usize,
-        entry: &Entry,
         lines: &[[u8; LINE]],
         issued: u32,
     ) -> Result<(), u32> {
-        let line = find(lines, &entry.key).map_err(|_| ILL_FORMED)?;
-        if !values_fit(entry, issued) || self.lines[..place].contains(&line) {
+        let entry = &t.entries[place];
+        let line = match find(lines, &entry.key) {
+            Ok(line) => line,
+            Err(NO_LINE) => NOWHERE,
+            Err(_) => return Err(ILL_FORMED),
+        };
+        if !values_fit(entry, issued) || self.holds(t, place, line) {
             return Err(ILL_FORMED);
         }
         self.lines[place] = line;
         if entry.wrote == 1 {
-            self.sort_in(place);
+            self.sort_in(t, place);
         }
         Ok(())
     }
 
-    /// Puts the entry to its place in key order, which is that of the lines.
+    /// Whether an entry before this one has its key. Keys are distinct if their lines are.
     #[inline(always)]
-    fn sort_in(&mut self, place: usize) {
+    fn holds(&self, t: &Transaction, place: usize, line: usize) -> bool {
+        let key = t.entries[place].key;
+        match line {
+            NOWHERE => t.entries[..place].iter().any(|entry| entry.key == key),
+            line => self.lines[..place].contains(&line),
+        }
+    }
+
+    /// Whether the key of one entry comes behind that of another. Keys with lines are in the order of these.
+    #[inline(always)]
+    fn is_behind(&self, t: &Transaction, one: usize, other: usize) -> bool {
+        match (self.lines[one], self.lines[other]) {
+            (NOWHERE, _) | (_, NOWHERE) => t.entries[one].key > t.entries[other].key,
+            (one, other) => one > other,
+        }
+    }
+
+    /// Puts the entry to its place in key order.
+    #[inline(always)]
+    fn sort_in(&mut self, t: &Transaction, place: usize) {
         let mut at = self.puts;
-        while at > 0 && self.lines[self.order[at - 1]] > self.lines[place] {
+        while at > 0 && self.is_behind(t, self.order[at - 1], place) {
             self.order[at] = self.order[at - 1];
             at -= 1;
         }

@@ -51,7 +51,8 @@ impl Step<'_> {
     }
 
     fn is_as_read(&self, t: &Transaction, place: usize) -> bool {
-        line::is_as_read(&self.records[self.held.lines[place]], &t.entries[place])
+        let line = self.records.get(self.held.lines[place]);
+        line.is_some_and(|line| line::is_as_read(line, &t.entries[place]))
     }
 
     fn group_is_as_read(&self, t: &Transaction, group: usize) -> bool {
@@ -143,9 +144,11 @@ impl Step<'_> {
             return Err(WRONG_PHASE);
         }
         for place in self.held.group(t.place as usize) {
-            let line = &mut self.records[self.held.lines[*place]];
-            if line::is_prepared(line) && line::tx_id(line) == t.number {
-                roll(line);
+            match self.records.get_mut(self.held.lines[*place]) {
+                Some(line) if line::is_prepared(line) && line::tx_id(line) == t.number => {
+                    roll(line)
+                }
+                _ => {}
             }
         }
         if was_last(t, self.held.groups) {

@@ -5,7 +5,7 @@ use super::random::Random;
 use crate::plain::coordinator::Decision;
 use crate::plain::groups::groups;
 use crate::plain::key::Key;
-use crate::plain::record::{Image, Record, State, MOST_VERSION};
+use crate::plain::record::{Image, Record, State, MOST_VERSION, NOTHING};
 use crate::plain::steps::to_validate;
 use crate::plain::store::Store;
 use crate::plain::transaction::*;
@@ -145,6 +145,32 @@ fn fill(random: &mut Random, transaction: &mut Transaction, store: &Store) {
         let held = &mut transaction.entries[..lines.len()];
         let may_put = held.iter_mut().filter(|e| e.seen.version < MOST_VERSION);
         may_put.for_each(|entry| entry.wrote = 1);
+    }
+    if random.once_in(3) {
+        without_line(random, &mut transaction.entries[..lines.len()], store);
+    }
+}
+
+/// As if the line of an entry had been taken away since it was read: the key beside it is held, which has none. Often it is
+/// the first of its group, and at times it was read as absent.
+fn without_line(random: &mut Random, held: &mut [Entry], store: &Store) {
+    let entry = match random.below(2) {
+        0 => held.iter_mut().min_by_key(|entry| entry.key).unwrap(),
+        _ => &mut held[random.below(held.len())],
+    };
+    let clustering = match entry.key.clustering {
+        0 => 1,
+        other => other - 1,
+    };
+    let key = Key {
+        clustering,
+        ..entry.key
+    };
+    if !store.has_line(&key) {
+        entry.key = key;
+        if random.once_in(3) {
+            entry.seen = NOTHING;
+        }
     }
 }
 

@@ -31,8 +31,12 @@ pub fn to_validate(t: &Transaction, coordinator: &Coordinator) -> Vec<Entry> {
         .collect()
 }
 
-/// Whether the entry's line is still as it was read. Its columns tell more than its version where both were read apart.
+/// Whether the entry's line is there and still as it was read. Its columns tell more than its version where both were read
+/// apart.
 fn condition(store: &Store, entry: &Entry) -> bool {
+    if !store.has_line(&entry.key) {
+        return false;
+    }
     let record = store.record(&entry.key);
     let read_apart = store.coordinator.is_small(entry.key.storage);
     record.state != State::Prepared
@@ -128,7 +132,8 @@ fn withdraw(store: &mut Store, t: Transaction) -> Result<Transaction, u32> {
     Ok(t.entering(then).with_verdict(ABORTED))
 }
 
-/// Rolls the group's lines that are still prepared by this number; a visitor may have been there before.
+/// Rolls the group's lines that are still prepared by this number; a visitor may have been there before, and a key need not have
+/// a line.
 fn roll(
     store: &mut Store,
     t: Transaction,
@@ -139,7 +144,9 @@ fn roll(
         return Err(WRONG_PHASE);
     }
     let groups = groups(&t, &store.coordinator.units);
-    for entry in &groups[t.place as usize] {
+    let group = groups[t.place as usize].iter();
+    let there: Vec<&Entry> = group.filter(|entry| store.has_line(&entry.key)).collect();
+    for entry in there {
         let record = *store.record(&entry.key);
         if record.state == State::Prepared && record.image.tx_id == t.number {
             store.replace(rolled(record));

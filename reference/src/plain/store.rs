@@ -83,6 +83,11 @@ impl Store {
         Rank::among(&self.records, key)?.place()
     }
 
+    /// Whether the key has a line.
+    pub fn has_line(&self, key: &Key) -> bool {
+        self.place_of(key).is_ok()
+    }
+
     /// The line of a key that has one.
     pub fn record(&self, key: &Key) -> &Record {
         let place = self.place_of(key).expect("the key has a line");

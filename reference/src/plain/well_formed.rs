@@ -36,7 +36,7 @@ fn entry_fits(entry: &Entry, store: &Store) -> bool {
         1 => columns_in_range(entry.put()) && seen.version < MOST_VERSION,
         _ => false,
     };
-    store.place_of(&entry.key).is_ok()
+    entry.key.in_range()
         && seen.in_range()
         && seen.tx_id <= store.coordinator.issued
         && (seen.version >= 1 || *seen == NOTHING)

@@ -198,11 +198,14 @@ fn of_second(record: &Record, reading: &Reading, columns: [u32; 2], store: &Stor
 
 /// Whether the line is as it was read but for its columns, and those aren't.
 fn has_only_other_columns(entry: &Entry, store: &Store) -> bool {
-    let line = store.record(&entry.key);
-    holds_but_for_columns(entry, store) && line.image.columns() != entry.seen.columns()
+    holds_but_for_columns(entry, store)
+        && store.record(&entry.key).image.columns() != entry.seen.columns()
 }
 
 fn holds_but_for_columns(entry: &Entry, store: &Store) -> bool {
+    if !store.has_line(&entry.key) {
+        return false;
+    }
     let line = store.record(&entry.key);
     line.state != State::Prepared
         && line.image.version == entry.seen.version

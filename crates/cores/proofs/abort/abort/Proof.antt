@@ -14,7 +14,7 @@ returns c =
     let s = sheetsOf (a .records .now) (a .coordinator .now) in
     c .refusal .ensures
     ∙ ap (toReturned (a .t))
-    (sym (abort-ill (a .t) s (formed-by s (a .t) false (c .before .before .before .admit .ensures) (not-true _ (c .before .if1 .taken)))))
+    (sym (abort-ill (a .t) s (formed-by (a .t) (a .coordinator .now) (c .before .before .before .judge .ensures) (a .records .now) false (not-true _ (c .before .if1 .taken)))))
 
 returns-2 : tie.Need-returns-2
 returns-2 c =
@@ -22,7 +22,7 @@ returns-2 c =
     let s = sheetsOf (a .records .now) (a .coordinator .now) in
     c .refusal2 .ensures ∙ ap (toReturned (a .t))
     (sym (abort-late (a .t) s
-    (formed-by s (a .t) true (c .before .before .before .before .before .admit .ensures) (not-false _ (c .before .before .before .if1 .left)))
+    (formed-by (a .t) (a .coordinator .now) (c .before .before .before .before .before .judge .ensures) (a .records .now) true (not-false _ (c .before .before .before .if1 .left)))
     (sym (c .before .before .cannot-abort .ensures) ∙ c .before .if2 .taken)))
 
 returns-3 : tie.Need-returns-3
@@ -32,7 +32,7 @@ returns-3 c =
     returned-made (a .t) nothing (c .moved .ensures)
     ∙ ap (toReturned (a .t))
     (sym (abort-made (a .t) s
-    (formed-by s (a .t) true (c .before .before .before .before .before .admit .ensures) (not-false _ (c .before .before .before .if1 .left)))
+    (formed-by (a .t) (a .coordinator .now) (c .before .before .before .before .before .judge .ensures) (a .records .now) true (not-false _ (c .before .before .before .if1 .left)))
     (sym (c .before .before .cannot-abort .ensures) ∙ c .before .if2 .left)))
 
 pub abort-spec : {M : Type 1} → statement M

@@ -3,7 +3,7 @@ use Rattle.lists.specs.Basics.{sym, ap, _∙_, true, false, not-true, not-false
 use Rattle.model.specs.Types.{Decision}
 use Rattle.model.specs.ByteCalls.{sheetsOf}
 use Rattle.call_laws.specs.Accepted.{outcome-refused}
-use Rattle.admission.specs.Admission.{formed-by, located-by, admitted-ready}
+use Rattle.admission.specs.Admission.{admitted-by, located-by, admitted-ready}
 use Rattle.answers.specs.Answers.{toReturned}
 use Rattle.well_formed.specs.Barred.{forbids}
 use Rattle.cores.specs.Advancing.{advance-ill, advance-forbidden, step-outcome}
@@ -16,7 +16,7 @@ returns c =
     let s = sheetsOf (a .records .now) (a .coordinator .now) in
     outcome-refused (toReturned (a .t)) (a .records .now) (a .coordinator .now) 3
     (advance-ill (a .t) (a .clock) (a .records .now) (a .coordinator .now)
-    (formed-by s (a .t) false (c .before .before .before .admit .ensures) (not-true _ (c .before .if1 .taken)))) (c .refusal .ensures)
+    (admitted-by s (a .t) false (c .before .before .before .admit .ensures) (not-true _ (c .before .if1 .taken)))) (c .refusal .ensures)
 
 returns-2 : tie.Need-returns-2
 returns-2 c =
@@ -24,7 +24,7 @@ returns-2 c =
     let s = sheetsOf (a .records .now) (a .coordinator .now) in
     outcome-refused (toReturned (a .t)) (a .records .now) (a .coordinator .now) 4
     (advance-forbidden (a .t) (a .clock) (a .records .now) (a .coordinator .now)
-    (formed-by s (a .t) true (c .before .before .before .before .before .before .before .admit .ensures)
+    (admitted-by s (a .t) true (c .before .before .before .before .before .before .before .admit .ensures)
     (not-false _ (c .before .before .before .before .before .if1 .left)))
     (ap (λ (d : Decision). forbids (a .t .phase) d) (sym (c .before .before .before .decision-at .ensures)) ∙
     (sym (c .before .before .forbids .ensures) ∙ c .before .if2 .taken))) (c .refusal2 .ensures)
@@ -33,7 +33,7 @@ step-requires : tie.Need-step-requires
 step-requires c κs =
     let a = c .before .before .before .before .before .before .before .before .before .before .before .before .before .before .args in
     let s = sheetsOf (a .records .now) (a .coordinator .now) in
-    let f = (formed-by s (a .t) true (c .before .before .before .before .before .before .before .before .before .admit .ensures)
+    let f = (admitted-by s (a .t) true (c .before .before .before .before .before .before .before .before .before .admit .ensures)
     (not-false _ (c .before .before .before .before .before .before .before .if1 .left))) in
     let r = admitted-ready (a .t) (a .records .now) (a .coordinator .now)
     (c .before .before .before .before .before .before .before .before .before .before .before .before .before .before .good .0) _
@@ -52,7 +52,7 @@ returns-3 c =
     in
     let s = sheetsOf (a .records .now) (a .coordinator .now) in
     step-outcome (a .t) (a .clock) (a .records .now) (a .coordinator .now)
-    (formed-by s (a .t) true
+    (admitted-by s (a .t) true
     (c .before .before .before .before .before .before .before .before .before .before .before .before .before .before .admit .ensures)
     (not-false _ (c .before .before .before .before .before .before .before .before .before .before .before .before .if1 .left)))
     (ap (λ (d : Decision). forbids (a .t .phase) d)

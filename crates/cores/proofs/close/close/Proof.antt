@@ -3,7 +3,7 @@ use Rattle.lists.specs.Basics.{sym, ap, _∙_, true, false, arith, not-true, no
 use Rattle.model.specs.Types.{Decision}
 use Rattle.model.specs.Closing.{closeBarred}
 use Rattle.model.specs.ByteCalls.{sheetsOf}
-use Rattle.admission.specs.Admission.{formed-by, located-by}
+use Rattle.admission.specs.Admission.{admitted-by, located-by}
 use Rattle.closing.specs.Running.{starts-sure}
 use Rattle.cores.specs.Closing.{close-ill, close-barred, close-free, close-refused, close-ended}
 use Rattle.cores.proofs.close.close.Statement.{statement}
@@ -14,7 +14,7 @@ returns c =
     let a = c .before .before .before .before .before .before .before .before .args in
     let s = sheetsOf (a .records .now) (a .coordinator .now) in
     close-refused (a .t) (a .records .now) (a .coordinator .now) (a .clock) (a .limit) 3
-    (close-ill (a .t) s (formed-by s (a .t) false (c .before .before .before .admit .ensures) (not-true _ (c .before .if1 .taken))))
+    (close-ill (a .t) s (admitted-by s (a .t) false (c .before .before .before .admit .ensures) (not-true _ (c .before .if1 .taken))))
     (λ z. omega (arith, z)) (c .refusal .ensures)
 
 returns-2 : tie.Need-returns-2
@@ -23,7 +23,7 @@ returns-2 c =
     let s = sheetsOf (a .records .now) (a .coordinator .now) in
     close-refused (a .t) (a .records .now) (a .coordinator .now) (a .clock) (a .limit) 4
     (close-barred (a .t) s
-    (formed-by s (a .t) true (c .before .before .before .before .before .before .before .admit .ensures)
+    (admitted-by s (a .t) true (c .before .before .before .before .before .before .before .admit .ensures)
     (not-false _ (c .before .before .before .before .before .if1 .left)))
     (ap (λ (d : Decision). closeBarred (a .t .phase) d) (sym (c .before .before .before .decision-at .ensures))
     ∙ (sym (c .before .before .bars .ensures) ∙ c .before .if2 .taken))) (λ z. omega (arith, z)) (c .refusal2 .ensures)
@@ -32,7 +32,7 @@ run-requires : tie.Need-run-requires
 run-requires c κs =
     let a = c .before .before .before .before .before .before .before .before .before .before .before .before .before .before .args in
     let s = sheetsOf (a .records .now) (a .coordinator .now) in
-    let f = formed-by s (a .t) true (c .before .before .before .before .before .before .before .before .before .admit .ensures)
+    let f = admitted-by s (a .t) true (c .before .before .before .before .before .before .before .before .before .admit .ensures)
     (not-false _ (c .before .before .before .before .before .before .before .if1 .left)) in
     starts-sure (a .t) (a .records .now) (a .coordinator .now)
     (c .before .before .before .before .before .before .before .before .before .before .before .before .before .before .good .0) _
@@ -50,7 +50,7 @@ returns-3 c =
     let s = sheetsOf (a .records .now) (a .coordinator .now) in
     close-ended (a .t) (a .records .now) (a .coordinator .now) (a .clock) (a .limit)
     (close-free (a .t) s
-    (formed-by s (a .t) true
+    (admitted-by s (a .t) true
     (c .before .before .before .before .before .before .before .before .before .before .before .before .before .before .before .admit .ensures)
     (not-false _ (c .before .before .before .before .before .before .before .before .before .before .before .before .before .if1 .left)))
     (ap (λ (d : Decision). closeBarred (a .t .phase) d)

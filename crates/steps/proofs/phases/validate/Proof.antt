@@ -1,6 +1,5 @@
 -- By whether the entry's condition holds; nothing is written.
-use Rattle.lists.specs.Basics.{sym, ap, _∙_, arith, not-true, not-false, needs}
-use Rattle.model.specs.Types.{At}
+use Rattle.lists.specs.Basics.{sym, _∙_, arith, not-true, not-false, needs}
 use Rattle.sheet_laws.specs.Decisions.{readable-length}
 use Rattle.held_lines.specs.Located.{indexed-in}
 use Rattle.steps.specs.Ready.{records-accepted, coordinator-readable, few, units, place-validate, validate-held}
@@ -16,9 +15,8 @@ holds-requires : tie.Need-holds-requires
 holds-requires c κs =
     let p = c .before .before .before .before .before .before .pre in (
       records-accepted _ _ _ _ (p .0),
-      indexed-in _ _ _ _ (p .0 .indexed)
-          (rw (c .before .before .to-validate .ensures, units _ _ _ _ (p .0)) (validate-held _ _ (place-validate _ _ _ _ (p .0) (p .1)))) ∙ ap At
-          (sym (c .index-of .ensures)),
+      c .index-of .ensures ∙ indexed-in _ _ _ _ (p .0 .indexed)
+          (rw (c .before .before .to-validate .ensures, units _ _ _ _ (p .0)) (validate-held _ _ (place-validate _ _ _ _ (p .0) (p .1)))),
     )
 
 returns : tie.Need-returns

@@ -1,9 +1,9 @@
 -- Five tests by the columns of a key, which are those of the definition.
 use Rattle.lists.specs.Basics.{needs}
 use Rattle.model.specs.Layouts.{keyLayout, recordLayout}
-use Rattle.sheets.specs.Answers.{key-tests}
-use Rattle.sheets.proofs.lookup.key_in_range.Statement.{statement}
-use Rattle.sheets.proofs.lookup.key_in_range.Tie as tie
+use Rattle.sheet_laws.specs.Keys.{key-tests}
+use Rattle.codec.proofs.keys.key_in_range.Statement.{statement}
+use Rattle.codec.proofs.keys.key_in_range.Tie as tie
 
 returns : tie.Need-returns
 unfolding keyLayout recordLayout
