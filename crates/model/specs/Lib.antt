@@ -4,6 +4,7 @@ pub mod Layouts
 pub mod Lines
 pub mod Search
 pub mod Records
+pub mod Spares
 pub mod Coordinator
 pub mod Refusals
 pub mod SheetCalls

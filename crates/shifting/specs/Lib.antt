@@ -5,3 +5,4 @@ pub mod Trimmed
 pub mod Keyed
 pub mod KeyLaws
 pub mod Spares
+pub mod Fronts

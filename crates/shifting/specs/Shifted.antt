@@ -1,6 +1,7 @@
 -- A list with an element put in or taken out, the others shifting by one, and the same of bytes.
-use Rattle.lists.specs.Basics.{ℕ, _+_, _-_, _≡_, refl, List, [], _∷_, _++_, length, take, drop, replicate}
+use Rattle.lists.specs.Basics.{ℕ, _+_, _-_, _≡_, refl, List, [], _∷_, _++_, length, take, drop}
 use Rattle.model.specs.Layouts.{recordBytes}
+use Rattle.model.specs.Spares.{spareText}
 
 -- x at index i; what stood there and below stands one further down, and the last goes
 unfoldable pub insertAt {ℓ} : {A : Type ℓ} → ℕ → A → List A → List A
@@ -18,10 +19,7 @@ movedDown w a s = take (a + w) s ++ take (length s - (a + w)) (drop a s)
 unfoldable pub movedUp : ℕ → ℕ → List ℕ → List ℕ
 movedUp w a s = take a s ++ (drop (a + w) s ++ drop (length s - w) s)
 
--- 97 spaces and LF
-unfoldable pub spareText : List ℕ
-spareText = replicate (recordBytes - 1) 32 ++ (10 ∷ [])
-
+-- a spare is as wide as any line
 pub length-spare : length spareText ≡ recordBytes
 unfolding spareText
 length-spare = refl

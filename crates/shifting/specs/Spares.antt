@@ -13,11 +13,12 @@ use Rattle.model.specs.Types.{Key, Record}
 use Rattle.model.specs.Layouts.{recordBytes, recordLayout, words}
 use Rattle.model.specs.Lines.{fieldValue, wordFrom, rowOf, linesOf}
 use Rattle.model.specs.Records.{noRecord, recordOf, keyOf, imageFrom, stateOf, recordIn, recordText, records, absentAt, rising, rank}
+use Rattle.model.specs.Spares.{spareText}
 use Rattle.sheet_laws.specs.Records.{ranged, record-read-written, length-recordText}
 use Rattle.sheet_laws.specs.ByIndex.{length-lines}
 use Rattle.sheet_laws.specs.KeyOrder.{listsKey}
 use Rattle.sheet_laws.specs.Ranks.{rank-within}
-use Rattle.shifting.specs.Shifted.{insertAt, removeAt, spareText, length-spare}
+use Rattle.shifting.specs.Shifted.{insertAt, removeAt, length-spare}
 use Rattle.shifting.specs.Keyed.{inserted, without}
 use Rattle.shifting.specs.KeyLaws.{inserted-at, without-at, rank-inside}
 
@@ -87,21 +88,21 @@ module _ {ℓ} {A : Type ℓ} (p : A → Bool) where
 
 -- All lines of one width.
 module _ {ℓ} {A : Type ℓ} (w : ℕ) where
-  all-join : (xs ys : List (List A)) → AllOf w xs → AllOf w ys → AllOf w (xs ++ ys)
+  pub all-join : (xs ys : List (List A)) → AllOf w xs → AllOf w ys → AllOf w (xs ++ ys)
   all-join [] ys f g = g
   all-join (x ∷ xs) ys f g = (f .0, all-join xs ys (f .1) g)
 
-  all-first : (n : ℕ) (xs : List (List A)) → AllOf w xs → AllOf w (take n xs)
+  pub all-first : (n : ℕ) (xs : List (List A)) → AllOf w xs → AllOf w (take n xs)
   all-first zero xs f = tt
   all-first (suc n) [] f = tt
   all-first (suc n) (x ∷ xs) f = (f .0, all-first n xs (f .1))
 
-  all-rest : (n : ℕ) (xs : List (List A)) → AllOf w xs → AllOf w (drop n xs)
+  pub all-rest : (n : ℕ) (xs : List (List A)) → AllOf w xs → AllOf w (drop n xs)
   all-rest zero xs f = f
   all-rest (suc n) [] f = tt
   all-rest (suc n) (x ∷ xs) f = all-rest n xs (f .1)
 
-  all-pieces : (n : ℕ) (s : List A) → length s ≡ n * w → AllOf w (pieces w n s)
+  pub all-pieces : (n : ℕ) (s : List A) → length s ≡ n * w → AllOf w (pieces w n s)
   unfolding pieces
   all-pieces zero s e = tt
   all-pieces (suc n) s e =
@@ -114,7 +115,7 @@ unfolding spareText recordIn recordOf keyOf imageFrom stateOf rowOf recordLayout
 spare-record = refl
 
 -- the lines of lines joined, where each has w bytes
-lines-joined : (w : ℕ) (ls : List (List ℕ)) → AllOf w ls → length (joined ls) / w ≡ length ls → linesOf w (joined ls) ≡ ls
+pub lines-joined : (w : ℕ) (ls : List (List ℕ)) → AllOf w ls → length (joined ls) / w ≡ length ls → linesOf w (joined ls) ≡ ls
 unfolding linesOf
 lines-joined w ls a e = ap (λ (n : ℕ). pieces w n (joined ls)) e ∙ pieces-joined w ls a
 

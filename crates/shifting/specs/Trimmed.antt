@@ -6,15 +6,7 @@ use lib.Seq.{take-suc, length-take-le}
 use Rattle.lists.specs.Pieces.{length-pieces, getD-pieces}
 use Rattle.model.specs.Layouts.{recordBytes}
 use Rattle.model.specs.Lines.{linesOf}
-use Rattle.shifting.specs.Shifted.{spareText}
-
-abbrev pub isSpareText : List ℕ → Bool
-isSpareText l = eqList l spareText
-
--- the index behind the last element that fails the test
-unfoldable pub trimmed {ℓ} : {A : Type ℓ} → (A → Bool) → List A → ℕ
-trimmed p [] = 0
-trimmed p (x ∷ xs) = cond (eqb (trimmed p xs) 0 && p x) 0 (suc (trimmed p xs))
+use Rattle.model.specs.Spares.{spareText, isSpareText, trimmed}
 
 some-left : (m : ℕ) (b : Bool) → cond (eqb (suc m) 0 && b) 0 (suc (suc m)) ≡ suc (suc m)
 some-left m b =

@@ -5,8 +5,8 @@ ghost use lib.ListN.{length};
 ghost use Rattle.lists.specs.Each.{joined};
 ghost use Rattle.model.specs.Layouts.{recordBytes};
 ghost use Rattle.model.specs.Lines.{linesOf};
-ghost use Rattle.shifting.specs.Shifted.{movedDown, movedUp, spareText, insertAt, removeAt};
-ghost use Rattle.shifting.specs.Trimmed.{isSpareText, trimmed};
+ghost use Rattle.model.specs.Spares.{spareText, recordLines};
+ghost use Rattle.shifting.specs.Shifted.{movedDown, movedUp, insertAt, removeAt};
 use types::RECORD_BYTES;
 
 // A spare: a line without a record.
@@ -71,7 +71,7 @@ pub fn remove_line(records: &mut [u8], at: usize)
 
 // How many lines a sheet has up to the last that is no spare. Counted from the end: one comparison where there is no spare.
 pub fn record_lines(records: &[u8]) -> usize
-    ensures { λ r. ⌜ r ≡ trimmed isSpareText (linesOf recordBytes (now (records .entry))) ⌝ }
+    ensures { λ r. ⌜ r ≡ recordLines (now (records .entry)) ⌝ }
 {
     let line = spare();
     let mut n = records.len() / RECORD_BYTES;

@@ -2,8 +2,9 @@
 use Rattle.lists.specs.Basics.{_/_, _≤_, _≡_, sym, _∙_, arith, length, take, not-true, not-false, needs}
 use Rattle.model.specs.Layouts.{recordBytes}
 use Rattle.model.specs.Lines.{linesOf}
-use Rattle.shifting.specs.Shifted.{spareText}
-use Rattle.shifting.specs.Trimmed.{isSpareText, trimmed, trim-first, trim-stop, trim-more, trim-none}
+use Rattle.model.specs.Spares.{spareText}
+use Rattle.model.specs.Spares.{isSpareText, trimmed}
+use Rattle.shifting.specs.Trimmed.{trim-first, trim-stop, trim-more, trim-none}
 use Rattle.shifting.proofs.record_lines.Statement.{statement}
 use Rattle.shifting.proofs.record_lines.Tie as tie
 

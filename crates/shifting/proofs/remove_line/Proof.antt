@@ -2,7 +2,8 @@
 use Rattle.lists.specs.Basics.{_/_, length, needs}
 use Rattle.model.specs.Layouts.{recordBytes}
 use Rattle.model.specs.Lines.{linesOf}
-use Rattle.shifting.specs.Shifted.{spareText, length-spare}
+use Rattle.shifting.specs.Shifted.{length-spare}
+use Rattle.model.specs.Spares.{spareText}
 use Rattle.shifting.specs.Moves.{remove-done}
 use Rattle.shifting.proofs.remove_line.Statement.{statement}
 use Rattle.shifting.proofs.remove_line.Tie as tie

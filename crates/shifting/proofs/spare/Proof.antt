@@ -1,6 +1,6 @@
 -- The line of spaces.
 use Rattle.lists.specs.Basics.{needs}
-use Rattle.shifting.specs.Shifted.{spareText}
+use Rattle.model.specs.Spares.{spareText}
 use Rattle.shifting.proofs.spare.Statement.{statement}
 use Rattle.shifting.proofs.spare.Tie as tie
 
