@@ -31,7 +31,7 @@
  *   - one caller at a time for one pair of sheets, whoever has the list: there is no lock. Calls on different sheets and lists are independent,
  *     in any threads, since the library holds no data of its own;
  *   - a call finds RAPYHEO_STACK_BYTES of stack, and one on two sheets RAPYHEO_TWO_STACK_BYTES, since it joins them in an area of its own.
- *     `make stack` measures what each needs, its arguments among it: 2488 at most, and 100568 on two sheets, to which some 2000 come where
+ *     `make stack` measures what each needs, its arguments among it: 2536 at most, and 100728 on two sheets, to which some 2000 come where
  *     the loader binds memcpy or memset in the middle of the first call (not so with -Wl,-z,now). A call allocates nothing.
  *
  * Record sheet: 1 to 500 lines of 98 bytes, the last byte LF. Figures are decimal, right-justified, filled with spaces, without leading zeros.
@@ -45,14 +45,16 @@
  *         30-35  version, 0-99999                   86-96  prepare clock, 0-4294967295
  *         36-39  TxID, 0-999                           97  LF
  *
- * Keys, the first five fields, rise strictly down the sheet.
+ * Keys, the first five fields, rise strictly down the sheet. It may end in spare lines, 97 spaces and LF, counted in the 500, or be all spares:
+ * every call leaves them where they are.
  *
  * Coordinator sheet: lines of 15 bytes, the last byte LF. The head has the count of numbers issued (4 columns), a space and the unit letters
  * of storages 1 to 9: R, P, T, N or S. Then come 1 to 999 lines: k (4 columns) and COMMITTED, ABORTED or `-` (10 columns).
  *
  * Two sheets instead of the record sheet, for a store whose own lines may not be widened: a plain sheet and a bookkeeping sheet with the same
  * keys in the same order, figures and words set as above. The functions rapyheo_two_.. take both, and each gives the answer that the joined sheet
- * would get; what was said of the record sheet holds of the two, an atomic write going to both within one unit.
+ * would get; what was said of the record sheet holds of the two, an atomic write going to both within one unit. A spare is spaces to each width
+ * and LF; one beside a record line on the other sheet, or different numbers of lines, is 13.
  *
  *   plain, 39 bytes a line                    bookkeeping, 80 bytes a line
  *          0-19  key, as bytes 0-19 above            0-39  key, state, version, TxID, as bytes 0-39 above
@@ -305,10 +307,10 @@ RAPYHEO_ANSWER uint32_t rapyheo_written(const uint8_t *records_before, size_t re
 /* Sheets to numbers and back. Each answers 0, or the refusal itself, as the check does; which numbers records name is not looked at. A target is
  * exactly as long as whole lines or records need, else 1 is answered, before 2. A refused one stays as it was. */
 
-/* Record sheet to numbers, 15 for each line: 0 or 1. */
+/* Record sheet to numbers, 15 for each line, all 0 for a spare: 0 or 1. */
 RAPYHEO_ANSWER uint32_t rapyheo_read_records(const uint8_t *records, size_t records_length, uint32_t *numbers, size_t numbers_length);
 
-/* Numbers to record sheet, 98 bytes for each record: 0 or 1. */
+/* Numbers to record sheet, 98 bytes for each record; records of zeros, which stand last, are spares: 0 or 1. */
 RAPYHEO_ANSWER uint32_t rapyheo_write_records(const uint32_t *numbers, size_t numbers_length, uint8_t *records, size_t records_length);
 
 /* Coordinator sheet to numbers, 10 for the head and one for each line: 0, 1 or 2. */

@@ -13,6 +13,8 @@ type WriteSet = BTreeMap<Key, [u32; 2]>;
 
 pub struct SequentialModel {
     lines: Vec<Record>,
+    /// The bytes of the sheet, spares counted.
+    length: usize,
     /// A write set for each number begun in the list.
     write_sets: BTreeMap<u32, WriteSet>,
     committed: BTreeSet<u32>,
@@ -23,6 +25,7 @@ impl SequentialModel {
     pub fn new(records: &[u8]) -> Option<SequentialModel> {
         Some(SequentialModel {
             lines: record::read_sheet(records)?,
+            length: records.len(),
             write_sets: BTreeMap::new(),
             committed: BTreeSet::new(),
         })
@@ -64,9 +67,9 @@ impl SequentialModel {
         }
     }
 
-    /// The model's lines as a record sheet.
+    /// The model's lines as a record sheet, and the spares of the first one below them.
     pub fn sheet(&self) -> Vec<u8> {
-        let mut sheet = vec![0; self.lines.len() * record::LINE];
+        let mut sheet = vec![0; self.length];
         record::write_sheet(&mut sheet, &self.lines);
         sheet
     }

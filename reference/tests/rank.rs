@@ -4,6 +4,7 @@ use reference::exported::{by_plain, rank_by_plain, Call};
 use reference::make::exported::without_list;
 use reference::make::random::Random;
 use reference::make::sheets::accepted;
+use reference::make::spares::is_spare;
 use reference::make::{Sheets, TwoSheets};
 use reference::plain;
 use reference::plain::key::Key;
@@ -90,7 +91,8 @@ fn as_the_text_of_a_sheet_orders() {
         let random = &mut Random::new(seed);
         let (sheets, others) = (accepted(random), accepted(random));
         let sheet = &sheets.records;
-        let texts: Vec<&[u8]> = sheet.chunks(98).map(|line| &line[..20]).collect();
+        let lines = sheet.chunks(98).filter(|line| !is_spare(line));
+        let texts: Vec<&[u8]> = lines.map(|line| &line[..20]).collect();
         let lines = [sheets.store().records, others.store().records];
         for line in lines.iter().flat_map(|lines| lines.iter().take(20)) {
             let numbers = line.key.numbers();

@@ -4,7 +4,7 @@ use Rattle.lists.specs.Basics.{all, choose-by}
 use Rattle.model.specs.Types.{Key, Rank, Ranked}
 use Rattle.model.specs.Refusals.{Condition, refusalOf, lastRefusal}
 use Rattle.model.specs.SheetCalls.{rankConditions, lookupConditions, toldRank, rankOn, lineOn}
-use Rattle.model.specs.TwoSheets.{linesConditions, keyConditions, rankTwoConditions, rankTwo, lookupTwoConditions, lineTwo}
+use Rattle.model.specs.TwoSpares.{formConditions, rankTwoConditions, rankTwo, lookupTwoConditions, lineTwo}
 use Rattle.call_laws.specs.Exactness.{small}
 
 abbrev pub oneIf : Bool → ℕ
@@ -36,9 +36,9 @@ unfolding lineOn lookupConditions rankConditions all
 line-small s k = told-small (lookupConditions s k) _ (small (lookupConditions s k) refl)
 
 pub rank-two-small : (ps bs : List ℕ) (k : Key) → rankTwo ps bs k .refusal ≤ lastRefusal
-unfolding rankTwo rankTwoConditions keyConditions linesConditions all
+unfolding rankTwo rankTwoConditions formConditions all
 rank-two-small ps bs k = told-small (rankTwoConditions ps bs k) _ (small (rankTwoConditions ps bs k) refl)
 
 pub line-two-small : (ps bs : List ℕ) (k : Key) → lineTwo ps bs k .refusal ≤ lastRefusal
-unfolding lineTwo lookupTwoConditions rankTwoConditions keyConditions linesConditions all
+unfolding lineTwo lookupTwoConditions rankTwoConditions formConditions all
 line-two-small ps bs k = told-small (lookupTwoConditions ps bs k) _ (small (lookupTwoConditions ps bs k) refl)

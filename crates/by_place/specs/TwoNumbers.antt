@@ -7,7 +7,7 @@ use Rattle.model.specs.Refusals.{refusalOf, lastRefusal}
 use Rattle.model.specs.Writes.{Sheets, Write, apply}
 use Rattle.model.specs.Steps.{unitsOf}
 use Rattle.model.specs.Results.{Call, begin, read, second, put, advance, abort, visit, Answer, turnedAway, returned, answered, visited, reported, Response, Result, refused, made, unless}
-use Rattle.model.specs.TwoSheets.{twoConditions, linesConditions}
+use Rattle.model.specs.TwoSpares.{twoConditions, formConditions}
 use Rattle.model.specs.Conditions.{conditions, isNew, takesTwo}
 use Rattle.model.specs.Visits.{meeting, isAgain}
 use Rattle.model.specs.Records.{lineOf}
@@ -118,7 +118,7 @@ NumberedTwo call t r =
 
 pub call-numbered-two : (call : ℕ) (k : Key) (c : Columns) (now limit : ℕ) (q : Request) → q ≡ requestOf call k c now limit
     → (t : Transaction) (b : TwoBytes) → NumberedTwo call t (responseTwo (operationOf q t) b)
-unfolding responseTwo twoConditions linesConditions all
+unfolding responseTwo twoConditions formConditions all
 call-numbered-two call k c now limit q e t b =
     let o = operationOf q t in
     go _ (sound-unless (conditionsOf b) (response o (sayingTwo b)) refl (response-sound o (sayingTwo b)))
@@ -131,7 +131,7 @@ call-numbered-two call k c now limit q e t b =
 -- the same of a visit, whose answer is what it did
 pub visit-numbered-two : (k : Key) (now : ℕ) (b : TwoBytes)
     → let r = responseTwo (once (visit k now)) b in Numbered (visitedIn r .refusal) (visitedIn r .reply) visitNumber r
-unfolding responseTwo twoConditions linesConditions all
+unfolding responseTwo twoConditions formConditions all
 visit-numbered-two k now b =
     let s = sayingTwo b in
     numbered (λ (r : Response Answer Sheets). visitedIn r .refusal) (λ (r : Response Answer Sheets). visitedIn r .reply) (λ (a : Answer). replyNumber (recoveryIn a))
@@ -140,7 +140,7 @@ visit-numbered-two k now b =
 
 -- and the check's refusal, where nothing is named
 pub check-numbered-two : (b : TwoBytes) → (refusalOf (conditionsOf b) ≤ lastRefusal) × (cond (eqb (refusalOf (conditionsOf b)) 0) 1003 (1000 + refusalOf (conditionsOf b)) ≡ unlistedNumberTwo b)
-unfolding twoConditions linesConditions all
+unfolding twoConditions formConditions all
 check-numbered-two b = (small (conditionsOf b) refl, go (eqb (refusalOf (conditionsOf b)) 0))
   where
     go : (x : Bool) → cond x 1003 (1000 + refusalOf (conditionsOf b)) ≡ callNumberTwo (cond x (refused 3) (refused (refusalOf (conditionsOf b))))

@@ -144,6 +144,6 @@ pub fn unlisted_two(plain: &mut [u8], book: &mut [u8], coordinator: &mut [u8]) -
     ensures bookkeeping { λ r. ⌜ now (book .exit) ≡ now (book .entry) ⌝ }
     ensures decisions { λ r. ⌜ now (coordinator .exit) ≡ now (coordinator .entry) ⌝ }
 {
-    let refused = two_sheets::check(plain, book, coordinator);
+    let refused = two_engine::check(plain, book, coordinator);
     number(refused, UNLISTED) as u64
 }

@@ -6,7 +6,7 @@ use Rattle.model.specs.Refusals.{Condition}
 use Rattle.model.specs.Writes.{Sheets}
 use Rattle.model.specs.Results.{Answer, Response, refused, made, unless}
 use Rattle.model.specs.SheetCalls.{checkConditions}
-use Rattle.model.specs.Operations.{responseOn, recordsLeft, coordinatorLeft}
+use Rattle.model.specs.Operations.{responseOn, sheetLeft, coordinatorLeft}
 use Rattle.model.specs.Requests.{operationOf}
 use Rattle.model.specs.CallByPlace.{listed, named, operationAt, listAfter}
 use Rattle.call_laws.specs.ByPlace.{leftWith, listed-within, named-response-on, unlisted-refused, refusal-leaves}
@@ -55,12 +55,12 @@ module _ (list : List Transaction) (place call storage namespace table partition
   -- what the call by place ensures: its answer, the list, and both sheets
   abbrev pub CallsAt : ℕ → List Transaction → List ℕ → List ℕ → Type 0
   CallsAt r list′ rs′ cs′ =
-      (r ≡ callNumber result) × ((list′ ≡ listAfter list place result) × ((rs′ ≡ recordsLeft rs result) × (cs′ ≡ coordinatorLeft cs result)))
+      (r ≡ callNumber result) × ((list′ ≡ listAfter list place result) × ((rs′ ≡ sheetLeft rs result) × (cs′ ≡ coordinatorLeft cs result)))
 
   -- place and call are named, and what the call returns is put back there
   pub calls-named : (out : Called) (rs′ cs′ : List ℕ) → naming calls (length list) place call ≡ true
       → out ≡ called (named list place) (responseOn (operationOf asking (named list place)) rs cs)
-      → rs′ ≡ recordsLeft rs (responseOn (operationOf asking (named list place)) rs cs)
+      → rs′ ≡ sheetLeft rs (responseOn (operationOf asking (named list place)) rs cs)
       → cs′ ≡ coordinatorLeft cs (responseOn (operationOf asking (named list place)) rs cs)
       → CallsAt (out .answer) (set list place (out .transaction)) rs′ cs′
   calls-named out rs′ cs′ e o l d =

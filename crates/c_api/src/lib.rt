@@ -5,8 +5,8 @@ ghost use Prim.Native.Nat.{_+_};
 ghost use Rattle.model.specs.Refusals.{refusalOf};
 ghost use Rattle.model.specs.SheetCalls.{checkConditions};
 ghost use Rattle.model.specs.Results.{begin, visit};
-ghost use Rattle.model.specs.ByteCalls.{resultOn, recordsAfter, coordinatorAfter};
-ghost use Rattle.model.specs.Operations.{responseOn, recordsLeft, coordinatorLeft};
+ghost use Rattle.model.specs.ByteCalls.{resultOn, sheetAfter, coordinatorAfter};
+ghost use Rattle.model.specs.Operations.{responseOn, sheetLeft, coordinatorLeft};
 ghost use Rattle.model.specs.Requests.{operationOf};
 ghost use Rattle.model.specs.CallByPlace.{listAfter};
 ghost use Rattle.by_place.specs.Numbers.{beginNumber, visitNumber, callNumber};
@@ -53,7 +53,7 @@ pub extern "C" fn rapyheo_visit(
     clock: u32,
 ) -> u32
     ensures answer { λ r. ⌜ r ≡ visitNumber (resultOn (visit (record { storage = storage; namespace = namespace; table = table; partition = partition; clustering = clustering }) clock) (now (records .entry)) (now (coordinator .entry))) ⌝ }
-    ensures lines { λ r. ⌜ now (records .exit) ≡ recordsAfter (now (records .entry)) (now (coordinator .entry)) (resultOn (visit (record { storage = storage; namespace = namespace; table = table; partition = partition; clustering = clustering }) clock) (now (records .entry)) (now (coordinator .entry))) ⌝ }
+    ensures lines { λ r. ⌜ now (records .exit) ≡ sheetAfter (now (records .entry)) (now (coordinator .entry)) (resultOn (visit (record { storage = storage; namespace = namespace; table = table; partition = partition; clustering = clustering }) clock) (now (records .entry)) (now (coordinator .entry))) ⌝ }
     ensures decisions { λ r. ⌜ now (coordinator .exit) ≡ coordinatorAfter (now (records .entry)) (now (coordinator .entry)) (resultOn (visit (record { storage = storage; namespace = namespace; table = table; partition = partition; clustering = clustering }) clock) (now (records .entry)) (now (coordinator .entry))) ⌝ }
 {
     let key = Key {
@@ -90,7 +90,7 @@ fn call_named(
     limit: u32,
 ) -> Called
     ensures answer { λ r. ⌜ r ≡ called t (responseOn (operationOf (asks call storage namespace table partition clustering column1 column2 clock limit) t) (now (records .entry)) (now (coordinator .entry))) ⌝ }
-    ensures lines { λ r. ⌜ now (records .exit) ≡ recordsLeft (now (records .entry)) (responseOn (operationOf (asks call storage namespace table partition clustering column1 column2 clock limit) t) (now (records .entry)) (now (coordinator .entry))) ⌝ }
+    ensures lines { λ r. ⌜ now (records .exit) ≡ sheetLeft (now (records .entry)) (responseOn (operationOf (asks call storage namespace table partition clustering column1 column2 clock limit) t) (now (records .entry)) (now (coordinator .entry))) ⌝ }
     ensures decisions { λ r. ⌜ now (coordinator .exit) ≡ coordinatorLeft (now (coordinator .entry)) (responseOn (operationOf (asks call storage namespace table partition clustering column1 column2 clock limit) t) (now (records .entry)) (now (coordinator .entry))) ⌝ }
 {
     let key = Key {
@@ -132,7 +132,7 @@ pub extern "C" fn rapyheo_call_at(
 ) -> u32
     ensures answer { λ r. ⌜ r ≡ callNumber (calledAtOn (now (list .entry)) place call (asks call storage namespace table partition clustering column1 column2 clock limit) (now (records .entry)) (now (coordinator .entry))) ⌝ }
     ensures transactions { λ r. ⌜ now (list .exit) ≡ listAfter (now (list .entry)) place (calledAtOn (now (list .entry)) place call (asks call storage namespace table partition clustering column1 column2 clock limit) (now (records .entry)) (now (coordinator .entry))) ⌝ }
-    ensures lines { λ r. ⌜ now (records .exit) ≡ recordsLeft (now (records .entry)) (calledAtOn (now (list .entry)) place call (asks call storage namespace table partition clustering column1 column2 clock limit) (now (records .entry)) (now (coordinator .entry))) ⌝ }
+    ensures lines { λ r. ⌜ now (records .exit) ≡ sheetLeft (now (records .entry)) (calledAtOn (now (list .entry)) place call (asks call storage namespace table partition clustering column1 column2 clock limit) (now (records .entry)) (now (coordinator .entry))) ⌝ }
     ensures decisions { λ r. ⌜ now (coordinator .exit) ≡ coordinatorLeft (now (coordinator .entry)) (calledAtOn (now (list .entry)) place call (asks call storage namespace table partition clustering column1 column2 clock limit) (now (records .entry)) (now (coordinator .entry))) ⌝ }
 {
     if by_place::is_named(list.len(), place, call) {

@@ -5,7 +5,7 @@ ghost use Rattle.model.specs.Results.{visit};
 ghost use Rattle.model.specs.Operations.{once, coordinatorLeft};
 ghost use Rattle.model.specs.Requests.{operationOf};
 ghost use Rattle.model.specs.CallByPlace.{listAfter};
-ghost use Rattle.model.specs.TwoSheets.{twoConditions, rankTwo, lineTwo};
+ghost use Rattle.model.specs.TwoSpares.{twoConditions, rankTwo, lineTwo};
 ghost use Rattle.model.specs.TwoCalls.{responseTwo, plainLeft, bookkeepingLeft};
 ghost use Rattle.two_check.specs.Areas.{two};
 ghost use Rattle.by_place.specs.Numbers.{visitNumber};
@@ -22,7 +22,7 @@ use types::Transaction;
 pub extern "C" fn rapyheo_two_check(plain: &[u8], book: &[u8], coordinator: &[u8]) -> u32
     ensures { λ r. ⌜ r ≡ refusalOf (twoConditions (now (plain .entry)) (now (book .entry)) (now (coordinator .entry))) ⌝ }
 {
-    two_sheets::check(plain, book, coordinator)
+    two_engine::check(plain, book, coordinator)
 }
 
 // 0 stays, 1 forward, 2 back, 3 again, or 1000 + the refusal.
@@ -50,7 +50,7 @@ pub extern "C" fn rapyheo_two_visit(
         partition,
         clustering,
     };
-    let visited = two_sheets::visit(key, clock, plain, book, coordinator);
+    let visited = two_engine::visit(key, clock, plain, book, coordinator);
     by_place::number(visited.refusal, visited.reply)
 }
 
@@ -74,7 +74,7 @@ pub extern "C" fn rapyheo_two_lookup(
         partition,
         clustering,
     };
-    by_place::line_number(two_sheets::lookup::line_of(plain, book, key))
+    by_place::line_number(two_engine::lookup::line_of(plain, book, key))
 }
 
 // Where the key stands, or would stand, on both sheets: as `rapyheo_rank`.
@@ -99,7 +99,7 @@ pub extern "C" fn rapyheo_two_rank(
         partition,
         clustering,
     };
-    by_place::tell_rank(two_sheets::lookup::rank_of(plain, book, key), rank)
+    by_place::tell_rank(two_engine::lookup::rank_of(plain, book, key), rank)
 }
 
 // What a call by place answers, and the transaction that stands at the place afterwards.
@@ -139,7 +139,7 @@ fn call_named_two(
     };
     let columns = Columns { column1, column2 };
     let asked = by_place::request(call, key, columns, clock, limit);
-    let performed = two_sheets::perform(asked, t, plain, book, coordinator);
+    let performed = two_engine::perform(asked, t, plain, book, coordinator);
     let answer = by_place::number_two(call, performed.refusal, performed.reply, performed.columns);
     let transaction = performed.transaction;
     CalledTwo {

@@ -1,23 +1,29 @@
 -- What is known of two sheets once the check has let them pass, and what a call on such sheets answers and leaves, as one statement about its result: refused,
 -- or made with a write.
-use Rattle.lists.specs.Basics.{_≡_, refl, sym, ap, subst, _∙_, ℕ, _≤_, eqb, Bool, true, false, cond, List, [], _∷_, _++_, leb-true, ne-eqb, all, and-fst}
+use Rattle.lists.specs.Basics.{_≡_, refl, sym, ap, subst, _∙_, ℕ, _-_, _*_, _/_, _≤_, eqb, Bool, true, false, cond, List, [], _∷_, _++_, length, length-map, drop, drop-at, arith, leb-true, ne-eqb, all, and-fst}
 use Rattle.lists.specs.Basics.{and-snd}
+use lib.ListN.{take-append-drop}
 use Rattle.model.specs.Types.{Record}
+use Rattle.model.specs.Layouts.{recordBytes}
+use Rattle.model.specs.Spares.{filledLines, front, sparesText, recordLines, sheetFor, sheetAccepted}
 use Rattle.model.specs.Records.{records, recordsText, recordsAccepted}
 use Rattle.model.specs.Coordinator.{Coordinator, coordinatorOf, coordinatorText, coordinatorReadable}
 use Rattle.model.specs.Refusals.{Condition, refusalOf}
-use Rattle.model.specs.SheetCalls.{readableConditions, checkConditions}
-use Rattle.model.specs.Writes.{Write, nothing, lineAfter, decisionsAfter, apply}
+use Rattle.model.specs.SheetCalls.{checkConditions}
+use Rattle.model.specs.Writes.{Write, nothing, lineAfter, decisionsAfter, linesAfter, apply}
 use Rattle.model.specs.Results.{Call, Answer, Response, Result, refused, made, unless}
 use Rattle.model.specs.Calls.{result}
-use Rattle.model.specs.ByteCalls.{sheetsOf, resultOn, recordsAfter, coordinatorAfter}
+use Rattle.model.specs.ByteCalls.{sheetsSaid, sheetText, resultOn, sheetAfter, coordinatorAfter, sheetsOf, recordsAfter}
 use Rattle.model.specs.ByteHistories.{Bytes}
 use Rattle.sheet_laws.specs.Records.{sheet-written-read}
+use Rattle.sheet_laws.specs.Fronts.{front-length, front-spares}
+use Rattle.sheet_laws.specs.Spared.{accepted-whole, count-front, sheet-said}
 use Rattle.sheet_laws.specs.Coordinator.{coordinator-written-read}
 use Rattle.call_laws.specs.Choices.{hasNumber, not-first}
-use Rattle.call_laws.specs.Lines.{lines-unmoved}
+use Rattle.call_laws.specs.Lines.{lines-mapped, lines-unmoved}
 use Rattle.call_laws.specs.Sheets.{GoodSheets, good-parts}
-use Rattle.call_laws.specs.Lifting.{readable-both, passing-readable, readable-good}
+use Rattle.call_laws.specs.Lifting.{passing-parts, passing-readable, LinesFit, lines-good, readable-lines}
+use Rattle.call_laws.specs.Sizes.{result-resized}
 
 -- The bytes after a write are those of the decoded sheets after it.
 pub record Written (w : Write) (rs cs rs′ cs′ : List ℕ) : Type 0 where
@@ -37,7 +43,7 @@ module _ {B : Type 0} (f : Result Answer → B) (rs cs : List ℕ) {result : Res
       record { said = a ∙ ap f (sym e); lines = ap (recordsAfter rs cs) (sym e); decisions = ap (coordinatorAfter rs cs) (sym e) }
 
   pub outcome-made : (x : Answer) (w : Write) {rs′ cs′ : List ℕ} → result ≡ made x w → answer ≡ f (made x w) → Written w rs cs rs′ cs′ → Outcome f result rs cs answer rs′ cs′
-  unfolding recordsAfter coordinatorAfter
+  unfolding recordsAfter coordinatorAfter apply
   outcome-made x w e a h =
       record {
         said = a ∙ ap f (sym e);
@@ -80,37 +86,92 @@ module _ {A E : Type 0} (ps qs : List Condition) (r : Response A E) where
   pub unless-past : all hasNumber ps ≡ true → refusalOf ps ≡ 0 → unless (ps ++ qs) r ≡ unless qs r
   unless-past l h = ap (λ (n : ℕ). cond (eqb n 0) r (refused n)) (refusal-past ps qs l h)
 
--- What is known of two sheets that break no rule, letters of either case.
+-- What is known of lines of records and a coordinator sheet that break no rule, letters of either case.
 pub record Accepted (rs cs : List ℕ) : Type 0 where
-  pub readable : refusalOf (readableConditions rs cs) ≡ 0
+  pub fit : LinesFit rs cs
   pub lines : recordsAccepted rs ≡ true
   pub decisions : coordinatorReadable cs ≡ true
   pub good : GoodSheets (sheetsOf rs cs)
 
-pub accepted-readable : (rs cs : List ℕ) → refusalOf (readableConditions rs cs) ≡ 0 → Accepted rs cs
-accepted-readable rs cs h =
+pub accepted-fit : (rs cs : List ℕ) → LinesFit rs cs → Accepted rs cs
+accepted-fit rs cs p =
+    record { fit = p; lines = p .0; decisions = p .1 .0; good = good-parts (sheetsOf rs cs) (lines-good rs cs p) }
+
+-- the check lets both sheets pass, which asks for capitals too: of their lines
+pub accepted : (rs cs : List ℕ) → refusalOf (checkConditions rs cs) ≡ 0 → Accepted (recordLines rs) cs
+accepted rs cs h =
     let b : Bytes = record { records = rs; coordinator = cs } in
-    let p = readable-both b h in
-    record { readable = h; lines = p .0; decisions = p .1 .0; good = good-parts (sheetsOf rs cs) (readable-good b h) }
+    accepted-fit (recordLines rs) cs (readable-lines b (passing-readable b h .0))
 
--- the check lets them pass, which asks for capitals too
-pub accepted : (rs cs : List ℕ) → refusalOf (checkConditions rs cs) ≡ 0 → Accepted rs cs
-accepted rs cs h = accepted-readable rs cs (passing-readable (record { records = rs; coordinator = cs }) h .0)
+-- Lines lent as the front of a sheet and come back: the spares stay behind them.
 
--- Every call: refused by the check, or what it comes to on the decoded sheets.
+module _ (rs cs : List ℕ) (h : refusalOf (checkConditions rs cs) ≡ 0) where
+  sheet : sheetAccepted rs ≡ true
+  sheet = passing-parts (record { records = rs; coordinator = cs }) h .0
+
+  abbrev ended : List ℕ → List ℕ
+  ended lines = lines ++ drop (filledLines recordBytes rs * recordBytes) rs
+
+  -- as they went
+  pub front-back : ended (recordLines rs) ≡ rs
+  unfolding front
+  front-back = take-append-drop (filledLines recordBytes rs * recordBytes) rs
+
+  tail : drop (filledLines recordBytes rs * recordBytes) rs ≡ sparesText recordBytes (length rs / recordBytes - filledLines recordBytes rs)
+  tail =
+      ap (drop (filledLines recordBytes rs * recordBytes)) (sym (front-spares recordBytes (omega arith) rs (accepted-whole rs sheet)))
+      ∙ drop-at (recordLines rs) (sparesText recordBytes (length rs / recordBytes - filledLines recordBytes rs)) (filledLines recordBytes rs * recordBytes)
+      (front-length recordBytes (omega arith) rs (accepted-whole rs sheet))
+
+  -- as many records as they were
+  pub front-text : (ys : List Record) → length ys ≡ length (records (recordLines rs)) → ended (recordsText ys) ≡ sheetFor ys (length rs / recordBytes)
+  unfolding sheetFor
+  front-text ys e =
+      ap (λ (t : List ℕ). recordsText ys ++ t)
+      (tail ∙ ap (λ (n : ℕ). sparesText recordBytes (length rs / recordBytes - n)) (sym (e ∙ count-front rs sheet)))
+
+-- The answer and the bytes of both sheets are those of a result.
+pub record SheetOutcome {B : Type 0} (f : Result Answer → B) (result : Result Answer) (rs cs : List ℕ) (answer : B) (rs′ cs′ : List ℕ) : Type 0 where
+  pub said : answer ≡ f result
+  pub sheet : rs′ ≡ sheetAfter rs cs result
+  pub decisions : cs′ ≡ coordinatorAfter rs cs result
+
+-- a call on both sheets is that on the lines of records
+pub on-lines : (c : Call) (rs cs : List ℕ) → refusalOf (checkConditions rs cs) ≡ 0 → resultOn c rs cs ≡ result c (sheetsOf (recordLines rs) cs)
+unfolding resultOn
+on-lines c rs cs e = unless-free (checkConditions rs cs) (result c (sheetsSaid rs cs)) e ∙ result-resized (length rs / recordBytes) c (sheetsOf (recordLines rs) cs)
+
+-- Every call: refused by the check, or what it comes to on the lines of records.
 module _ {B : Type 0} (f : Result Answer → B) (c : Call) (rs cs : List ℕ) {answer : B} where
-  pub turned-away : (n : ℕ) → n ≡ refusalOf (checkConditions rs cs) → (n ≡ 0 → ⊥) → answer ≡ f (refused n) → Outcome f (resultOn c rs cs) rs cs answer rs cs
-  unfolding resultOn
-  turned-away n e z a = outcome-refused f rs cs n (unless-held (checkConditions rs cs) (result c (sheetsOf rs cs)) n (sym e) z) a
+  pub turned-away : (n : ℕ) → n ≡ refusalOf (checkConditions rs cs) → (n ≡ 0 → ⊥) → answer ≡ f (refused n) → SheetOutcome f (resultOn c rs cs) rs cs answer rs cs
+  unfolding resultOn sheetAfter coordinatorAfter
+  turned-away n e z a =
+      let r : resultOn c rs cs ≡ refused n = unless-held (checkConditions rs cs) (result c (sheetsSaid rs cs)) n (sym e) z in
+      record { said = a ∙ ap f (sym r); sheet = ap (sheetAfter rs cs) (sym r); decisions = ap (coordinatorAfter rs cs) (sym r) }
 
-  pub let-pass : {rs′ cs′ : List ℕ} → refusalOf (checkConditions rs cs) ≡ 0 → Outcome f (result c (sheetsOf rs cs)) rs cs answer rs′ cs′ → Outcome f (resultOn c rs cs) rs cs answer rs′ cs′
-  unfolding resultOn
-  let-pass {rs′} {cs′} e h =
-      subst (λ (r : Result Answer). Outcome f r rs cs answer rs′ cs′) (sym (unless-free (checkConditions rs cs) (result c (sheetsOf rs cs)) e)) h
+  pub let-pass : {ls′ cs′ : List ℕ} → refusalOf (checkConditions rs cs) ≡ 0 → Outcome f (result c (sheetsOf (recordLines rs) cs)) (recordLines rs) cs answer ls′ cs′
+      → SheetOutcome f (resultOn c rs cs) rs cs answer (ls′ ++ drop (filledLines recordBytes rs * recordBytes) rs) cs′
+  let-pass {ls′} {cs′} e h =
+      subst (λ (r : Result Answer). SheetOutcome f r rs cs answer (ended rs cs e ls′) cs′) (sym (on-lines c rs cs e))
+      (record {
+        said = h .said;
+        sheet = ap (ended rs cs e) (h .lines) ∙ left (result c (sheetsOf (recordLines rs) cs));
+        decisions = h .decisions ∙ same (result c (sheetsOf (recordLines rs) cs));
+      })
+    where
+      left : (r : Result Answer) → ended rs cs e (recordsAfter (recordLines rs) cs r) ≡ sheetAfter rs cs r
+      left (refused n) = unfold recordsAfter sheetAfter in front-back rs cs e
+      left (made a w) =
+          unfold recordsAfter sheetAfter apply in
+          front-text rs cs e (linesAfter w (records (recordLines rs)))
+          (ap length (lines-mapped w (records (recordLines rs))) ∙ length-map (records (recordLines rs)) (lineAfter w))
 
-  pub passed-answer : refusalOf (checkConditions rs cs) ≡ 0 → answer ≡ f (result c (sheetsOf rs cs)) → answer ≡ f (resultOn c rs cs)
-  unfolding resultOn
-  passed-answer e h = h ∙ ap f (sym (unless-free (checkConditions rs cs) (result c (sheetsOf rs cs)) e))
+      same : (r : Result Answer) → coordinatorAfter (recordLines rs) cs r ≡ coordinatorAfter rs cs r
+      same (refused n) = unfold coordinatorAfter in refl
+      same (made a w) = unfold coordinatorAfter apply in refl
+
+  pub passed-answer : refusalOf (checkConditions rs cs) ≡ 0 → answer ≡ f (result c (sheetsOf (recordLines rs) cs)) → answer ≡ f (resultOn c rs cs)
+  passed-answer e h = h ∙ ap f (sym (on-lines c rs cs e))
 
 -- Writes that leave a sheet alone.
 
@@ -128,3 +189,15 @@ module _ (rs cs : List ℕ) (a : Accepted rs cs) where
   unfolding lineAfter decisionsAfter
   written-nothing =
       record { lines = lines-kept rs cs a nothing (λ r. refl); decisions = decisions-kept rs cs a nothing (λ c. refl) }
+
+-- and of both sheets
+module _ (rs cs : List ℕ) (h : refusalOf (checkConditions rs cs) ≡ 0) (w : Write) where
+  pub sheet-kept : ((r : Record) → lineAfter w r ≡ r) → sheetText (apply w (sheetsSaid rs cs)) ≡ rs
+  unfolding apply
+  sheet-kept k =
+      ap (λ (ls : List Record). sheetFor ls (length rs / recordBytes)) (lines-unmoved w k (records (recordLines rs)))
+      ∙ sheet-said rs (passing-parts (record { records = rs; coordinator = cs }) h .0)
+
+  pub coordinator-kept : ((c : Coordinator) → decisionsAfter w c ≡ c) → coordinatorText (apply w (sheetsSaid rs cs) .coordinator) ≡ cs
+  unfolding apply
+  coordinator-kept k = ap coordinatorText (k (coordinatorOf cs)) ∙ coordinator-written-read cs (accepted rs cs h .decisions)

@@ -11,9 +11,9 @@ use Rattle.model.specs.Writes.{Sheets}
 use Rattle.model.specs.Results.{Answer, refusalIn, Response, refused, made, unless, answerOf, heldAfter}
 use Rattle.model.specs.Conditions.{conditions}
 use Rattle.model.specs.Closing.{closeConditions}
-use Rattle.model.specs.ByteCalls.{sheetsOf}
+use Rattle.model.specs.ByteCalls.{sheetsSaid}
 use Rattle.model.specs.ByteHistories.{Bytes}
-use Rattle.model.specs.Operations.{operationConditions, response, responseOn, recordsLeft, coordinatorLeft, bytesLeft}
+use Rattle.model.specs.Operations.{operationConditions, response, responseOn, sheetLeft, coordinatorLeft, bytesLeft}
 use Rattle.model.specs.Requests.{operationOf}
 use Rattle.model.specs.CallByPlace.{listed, named, operationAt, placeConditions, allConditionsAt, responseAt, responseAtOn, listAfter}
 use Rattle.call_laws.specs.Exactness.{Sound, sound-unless, sound-on, when-refused, refusal-then, risingFrom, row-first}
@@ -49,26 +49,26 @@ module _ (list : List Transaction) (place : ℕ) (q : Request) (s : Sheets) wher
 module _ (list : List Transaction) (place : ℕ) (q : Request) (rs cs : List ℕ) where
   pub named-response-on : listed (length list) place ≡ true → responseAtOn list place q rs cs ≡ responseOn (operationAt list place q) rs cs
   unfolding responseAtOn responseOn
-  named-response-on e = ap (unless (checkConditions rs cs)) (named-response list place q (sheetsOf rs cs) e)
+  named-response-on e = ap (unless (checkConditions rs cs)) (named-response list place q (sheetsSaid rs cs) e)
 
   -- 1 and 2 come first
   pub unlisted-refused : listed (length list) place ≡ false → responseAtOn list place q rs cs ≡ unless (checkConditions rs cs) (refused 3)
   unfolding responseAtOn
-  unlisted-refused e = ap (unless (checkConditions rs cs)) (unlisted-response list place q (sheetsOf rs cs) e)
+  unlisted-refused e = ap (unless (checkConditions rs cs)) (unlisted-response list place q (sheetsSaid rs cs) e)
 
   pub place-sound : Sound (responseAtOn list place q rs cs)
   unfolding responseAtOn responseAt all
   place-sound =
-      sound-on rs cs (responseAt list place q (sheetsOf rs cs))
-      (sound-unless (placeConditions list place) _ refl (response-sound (operationAt list place q) (sheetsOf rs cs)))
+      sound-on rs cs (responseAt list place q (sheetsSaid rs cs))
+      (sound-unless (placeConditions list place) _ refl (response-sound (operationAt list place q) (sheetsSaid rs cs)))
 
   -- an answer's refusal is that of its conditions
   pub place-refusal-given : refusalIn (answerOf (responseAtOn list place q rs cs)) ≡ refusalOf (allConditionsAt list place q rs cs)
   unfolding responseAtOn responseAt allConditionsAt checkConditions all
   place-refusal-given =
-      let rest = operationConditions (operationAt list place q) (sheetsOf rs cs) in
+      let rest = operationConditions (operationAt list place q) (sheetsSaid rs cs) in
       refusal-then (checkConditions rs cs) (placeConditions list place ++ rest) _ refl
-      (refusal-then (placeConditions list place) rest _ refl (response-refusal (operationAt list place q) (sheetsOf rs cs)))
+      (refusal-then (placeConditions list place) rest _ refl (response-refusal (operationAt list place q) (sheetsSaid rs cs)))
 
   -- "The lowest number that applies is given": the first that is asked
   pub place-refusal-is-first : firstAsked (refusalOf (allConditionsAt list place q rs cs)) (allConditionsAt list place q rs cs) ≡ true
@@ -103,16 +103,16 @@ module _ (list : List Transaction) (place : ℕ) where
 
 -- a refusal leaves the list and both sheets as they were
 abbrev pub Leaves : List Transaction → ℕ → List ℕ → List ℕ → Response Answer Sheets → Type 0
-Leaves list place rs cs r = (listAfter list place r ≡ list) × ((recordsLeft rs r ≡ rs) × (coordinatorLeft cs r ≡ cs))
+Leaves list place rs cs r = (listAfter list place r ≡ list) × ((sheetLeft rs r ≡ rs) × (coordinatorLeft cs r ≡ cs))
 
 pub refusal-leaves : (list : List Transaction) (place : ℕ) (rs cs : List ℕ) (ps : List Condition) (n : ℕ) → Leaves list place rs cs (unless ps (refused n))
-unfolding listAfter recordsLeft coordinatorLeft
+unfolding listAfter sheetLeft coordinatorLeft
 refusal-leaves list place rs cs ps n =
     choose-by (Leaves list place rs cs) (eqb (refusalOf ps) 0) (λ e. (refl, (refl, refl))) (λ e. (refl, (refl, refl)))
 
 -- "after a refusal": the list and both sheets are as they were
 pub refused-leaves : (list : List Transaction) (place : ℕ) (q : Request) (b : Bytes) → 1 ≤ refusalIn (answerOf (responseAtOn list place q (b .records) (b .coordinator))) → (listAfter list place (responseAtOn list place q (b .records) (b .coordinator)) ≡ list) × (bytesLeft b (responseAtOn list place q (b .records) (b .coordinator)) ≡ b)
-unfolding listAfter recordsLeft coordinatorLeft
+unfolding listAfter sheetLeft coordinatorLeft
 refused-leaves list place q b =
     when-refused (λ (x : Response Answer Sheets). (listAfter list place x ≡ list) × (bytesLeft b x ≡ b)) (λ n. (refl, refl))
     (responseAtOn list place q (b .records) (b .coordinator)) (place-sound list place q (b .records) (b .coordinator))
@@ -120,7 +120,7 @@ refused-leaves list place q b =
 -- What is done by place, beside what is done with the one named.
 pub record AsNamed (list : List Transaction) (place : ℕ) (rs cs : List ℕ) (byPlace byName : Response Answer Sheets) : Type 0 where
   pub answer : byPlace ≡ byName
-  pub lines : recordsLeft rs byPlace ≡ recordsLeft rs byName
+  pub lines : sheetLeft rs byPlace ≡ sheetLeft rs byName
   pub decisions : coordinatorLeft cs byPlace ≡ coordinatorLeft cs byName
   pub one : named (listAfter list place byPlace) place ≡ leftWith (named list place) byName
   pub others : (j : ℕ) → (j ≡ place → ⊥) → named (listAfter list place byPlace) j ≡ named list j
@@ -131,7 +131,7 @@ pub by-place-is-named : (list : List Transaction) (place : ℕ) (q : Request) (r
 by-place-is-named list place q rs cs e =
     record {
       answer = same;
-      lines = ap (recordsLeft rs) same;
+      lines = ap (sheetLeft rs) same;
       decisions = ap (coordinatorLeft cs) same;
       one = named-replaced list place (listed-within (length list) place e) (responseAtOn list place q rs cs) ∙ ap (leftWith (named list place)) same;
       others = λ j d. others-stay list place j d (responseAtOn list place q rs cs);

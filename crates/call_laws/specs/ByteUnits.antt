@@ -1,24 +1,28 @@
 -- T2 over bytes: a write to lines of one unit leaves the coordinator's bytes and the bytes of every other line; any other write leaves the record sheet's.
 -- Lines of a sheet that passes stand at multiples of their length, before and after, and a record that stays has the same text.
-use Rattle.lists.specs.Basics.{_≡_, refl, sym, ap, subst, _∙_, ℕ, _*_, _/_, _≤_, _<_, ltb, Bool, true, false, List, [], map, length, take, drop, getD}
-use Rattle.lists.specs.Basics.{length-map, drop-of-length-le, List·getD-map, arith, ltb-true, ltb-false, tests}
+use Rattle.lists.specs.Basics.{_≡_, refl, sym, ap, subst, _∙_, ℕ, _+_, _-_, _*_, _/_, _≤_, _<_, ltb, Bool, true, false, List, [], _++_, map, length, length-append, length-drop, take, drop, drop-drop, drop-at, getD}
+use Rattle.lists.specs.Basics.{length-map, drop-of-length-le, List·getD-map, arith, ltb-true, ltb-false}
+use lib.Seq.{take-append-le, drop-append-le}
 use Rattle.lists.specs.All.{getD-any}
 use Rattle.model.specs.Types.{Record, At}
 use Rattle.model.specs.Layouts.{recordBytes}
 use Rattle.model.specs.Records.{records, recordsText, recordIn, recordText, recordsGood, recordsAccepted, noRecord}
+use Rattle.model.specs.Spares.{sparesText, recordLines, sheetFor, sheetAccepted}
 use Rattle.model.specs.Coordinator.{coordinatorText}
 use Rattle.model.specs.SheetCalls.{lineAt}
 use Rattle.model.specs.Writes.{Write, sheetsGood, lineAfter, linesAfter, apply}
 use Rattle.model.specs.Results.{Call}
 use Rattle.model.specs.Histories.{written, after, ClockFits}
+use Rattle.model.specs.ByteCalls.{sheetText}
 use Rattle.model.specs.ByteHistories.{Bytes, saying, Readable, Passing, afterOn}
 use Rattle.model.specs.AtomicWrites.{OneUnit, lines-of-one-unit, coordinator-only}
 use Rattle.sheet_laws.specs.Records.{record-written-read, records-read-written, sheet-written-read}
+use Rattle.sheet_laws.specs.Spared.{accepted-lines, sheet-said}
 use Rattle.sheet_laws.specs.Coordinator.{coordinator-written-read}
 use Rattle.sheet_laws.specs.ByIndex.{whole-lines, length-records, record-at, line-set}
 use Rattle.call_laws.specs.Lines.{lines-mapped, lines-unmoved}
 use Rattle.call_laws.specs.Closure.{sheets-stay-good}
-use Rattle.call_laws.specs.Lifting.{readable-both, passing-readable, readable-good, encoded, same-bytes}
+use Rattle.call_laws.specs.Lifting.{readable-both, passing-readable, readable-good, good-records, encoded, same-bytes}
 use Rattle.call_laws.specs.SingleUnit.{Single, single-unit}
 use Rattle.call_laws.specs.SingleUnit as Units
 
@@ -33,59 +37,130 @@ no-line s i a l =
     let m : length s ≤ i * recordBytes = omega (arith, whole-lines s a) in
     ap (take recordBytes) (drop-of-length-le s m)
 
-module _ (b : Bytes) (readable : Readable b) (w : Write) (good : sheetsGood (apply w (saying b)) ≡ true) where
+-- Lines of records, and what a write makes of them.
+module _ (rs : List ℕ) (accepted : recordsAccepted rs ≡ true) (w : Write) (good : recordsGood (linesAfter w (records rs)) ≡ true) where
   abbrev lines : List Record
-  lines = records (b .records)
+  lines = records rs
 
   abbrev sheet : List ℕ
   sheet = recordsText (linesAfter w lines)
 
-  accepted : recordsAccepted (b .records) ≡ true
-  accepted = readable-both b readable .0
-
   read-back : (records sheet ≡ linesAfter w lines) × (recordsAccepted sheet ≡ true)
-  unfolding sheetsGood apply
-  read-back =
-      let g : recordsGood (linesAfter w lines) ≡ true = search (tests, good) in
-      records-read-written (linesAfter w lines) g
+  read-back = records-read-written (linesAfter w lines) good
 
-  same-count : length sheet / recordBytes ≡ length (b .records) / recordBytes
+  same-count : length sheet / recordBytes ≡ length rs / recordBytes
   same-count =
       sym (length-records sheet)
-      ∙ (ap length (read-back .0 ∙ lines-mapped w lines) ∙ (length-map lines (lineAfter w) ∙ length-records (b .records)))
+      ∙ (ap length (read-back .0 ∙ lines-mapped w lines) ∙ (length-map lines (lineAfter w) ∙ length-records rs))
 
-  same-length : length sheet ≡ length (b .records)
-  same-length = whole-lines sheet (read-back .1) ∙ (ap (λ (n : ℕ). n * recordBytes) same-count ∙ sym (whole-lines (b .records) accepted))
+  same-length : length sheet ≡ length rs
+  same-length = whole-lines sheet (read-back .1) ∙ (ap (λ (n : ℕ). n * recordBytes) same-count ∙ sym (whole-lines rs accepted))
 
   -- a line whose record stays has the same bytes
-  line-stays : (i : ℕ) → lineAfter w (recordIn (lineAt (b .records) (At i))) ≡ recordIn (lineAt (b .records) (At i)) → lineAt sheet (At i) ≡ lineAt (b .records) (At i)
+  line-stays : (i : ℕ) → lineAfter w (recordIn (lineAt rs (At i))) ≡ recordIn (lineAt rs (At i)) → lineAt sheet (At i) ≡ lineAt rs (At i)
   unfolding lineAt
-  line-stays i stays = go (ltb i (length (b .records) / recordBytes)) refl
+  line-stays i stays = go (ltb i (length rs / recordBytes)) refl
     where
-      go : (x : Bool) → ltb i (length (b .records) / recordBytes) ≡ x → lineAt sheet (At i) ≡ lineAt (b .records) (At i)
+      go : (x : Bool) → ltb i (length rs / recordBytes) ≡ x → lineAt sheet (At i) ≡ lineAt rs (At i)
       go true e =
-          let l : i < length (b .records) / recordBytes = ltb-true i (length (b .records) / recordBytes) e in
+          let l : i < length rs / recordBytes = ltb-true i (length rs / recordBytes) e in
           let n : i < length sheet / recordBytes = omega (arith, same-count) in
-          let m : i < length (map (lineAfter w) lines) = omega (arith, length-map lines (lineAfter w), length-records (b .records)) in
-          let r : getD lines i noRecord ≡ recordIn (take recordBytes (drop (i * recordBytes) (b .records))) = record-at (b .records) i l in
+          let m : i < length (map (lineAfter w) lines) = omega (arith, length-map lines (lineAfter w), length-records rs) in
+          let r : getD lines i noRecord ≡ recordIn (take recordBytes (drop (i * recordBytes) rs)) = record-at rs i l in
           line-text sheet i (read-back .1) n
           ∙ (ap (λ (rs : List Record). recordText (getD rs i noRecord)) (read-back .0 ∙ lines-mapped w lines)
           ∙ (ap recordText
           (getD-any (map (lineAfter w) lines) i noRecord (lineAfter w noRecord) m
           ∙ (List·getD-map (lineAfter w) lines i noRecord ∙ (ap (lineAfter w) r ∙ (stays ∙ sym r))))
-          ∙ sym (line-text (b .records) i accepted l)))
+          ∙ sym (line-text rs i accepted l)))
       go false e =
-          let l : length (b .records) / recordBytes ≤ i = ltb-false i (length (b .records) / recordBytes) e in
+          let l : length rs / recordBytes ≤ i = ltb-false i (length rs / recordBytes) e in
           let n : length sheet / recordBytes ≤ i = omega (arith, same-count) in
-          no-line sheet i (read-back .1) n ∙ sym (no-line (b .records) i accepted l)
+          no-line sheet i (read-back .1) n ∙ sym (no-line rs i accepted l)
+
+-- Lines before the same tail.
+
+line-before : (x tail : List ℕ) (i : ℕ) → length x ≡ length x / recordBytes * recordBytes → i < length x / recordBytes → lineAt (x ++ tail) (At i) ≡ lineAt x (At i)
+unfolding lineAt
+line-before x tail i n l =
+    let k : length (drop (i * recordBytes) x) ≡ length x - i * recordBytes = length-drop (i * recordBytes) x in
+    ap (take recordBytes) (drop-append-le (i * recordBytes) x tail (omega arith)) ∙ take-append-le recordBytes (drop (i * recordBytes) x) tail (omega arith)
+
+line-behind : (x y tail : List ℕ) (i : ℕ) → length x ≡ length y → length x ≡ length x / recordBytes * recordBytes → length x / recordBytes ≤ i → lineAt (x ++ tail) (At i) ≡ lineAt (y ++ tail) (At i)
+unfolding lineAt
+line-behind x y tail i e n l =
+    let m : i * recordBytes ≡ length x + (i * recordBytes - length x) = omega arith in
+    let k : i * recordBytes ≡ length y + (i * recordBytes - length x) = omega arith in
+    ap (take recordBytes)
+    (ap (λ (j : ℕ). drop j (x ++ tail)) m ∙ (behind x (i * recordBytes - length x) ∙ sym (ap (λ (j : ℕ). drop j (y ++ tail)) k ∙ behind y (i * recordBytes - length x))))
+  where
+    behind : (z : List ℕ) (j : ℕ) → drop (length z + j) (z ++ tail) ≡ drop j tail
+    behind z j = sym (drop-drop j (length z) (z ++ tail)) ∙ ap (drop j) (drop-at z tail (length z) refl)
+
+-- Both sheets, spares included.
+module _ (b : Bytes) (readable : Readable b) (w : Write) (good : sheetsGood (apply w (saying b)) ≡ true) where
+  abbrev front : List ℕ
+  front = recordLines (b .records)
+
+  abbrev written-lines : List ℕ
+  written-lines = recordsText (linesAfter w (records front))
+
+  passes : sheetAccepted (b .records) ≡ true
+  passes = readable-both b readable .0
+
+  fits : recordsAccepted front ≡ true
+  fits = accepted-lines (b .records) passes
+
+  stay-good : recordsGood (linesAfter w (records front)) ≡ true
+  unfolding apply
+  stay-good = good-records (apply w (saying b)) good
+
+  tail : List ℕ
+  tail = sparesText recordBytes (length (b .records) / recordBytes - length (records front))
+
+  before-is : front ++ tail ≡ b .records
+  unfolding tail sheetFor
+  before-is = ap (λ (t : List ℕ). t ++ tail) (sym (sheet-written-read front fits)) ∙ sheet-said (b .records) passes
+
+  written-is : written-lines ++ tail ≡ sheetText (apply w (saying b))
+  unfolding tail sheetFor apply
+  written-is =
+      ap (λ (n : ℕ). written-lines ++ sparesText recordBytes (length (b .records) / recordBytes - n))
+      (sym (ap length (lines-mapped w (records front)) ∙ length-map (records front) (lineAfter w)))
+
+  same-size : length (sheetText (apply w (saying b))) ≡ length (b .records)
+  same-size =
+      ap length (sym written-is)
+      ∙ (length-append written-lines tail ∙ (ap (λ (n : ℕ). n + length tail) (same-length front fits w stay-good) ∙ (sym (length-append front tail) ∙ ap length before-is)))
+
+  -- a line whose record stays has the same bytes
+  stays-at : (i : ℕ) → (lineAfter w (recordIn (lineAt (b .records) (At i))) ≡ recordIn (lineAt (b .records) (At i))) → lineAt (sheetText (apply w (saying b))) (At i) ≡ lineAt (b .records) (At i)
+  stays-at i stays =
+      ap (λ (x : List ℕ). lineAt x (At i)) (sym written-is) ∙ (go (ltb i (length front / recordBytes)) refl ∙ ap (λ (x : List ℕ). lineAt x (At i)) before-is)
+    where
+      whole : length front ≡ length front / recordBytes * recordBytes
+      whole = whole-lines front fits
+
+      go : (x : Bool) → ltb i (length front / recordBytes) ≡ x → lineAt (written-lines ++ tail) (At i) ≡ lineAt (front ++ tail) (At i)
+      go true e =
+          let l : i < length front / recordBytes = ltb-true i (length front / recordBytes) e in
+          let n = same-length front fits w stay-good in
+          let q : lineAt (front ++ tail) (At i) ≡ lineAt front (At i) = line-before front tail i whole l in
+          let r : lineAt (b .records) (At i) ≡ lineAt front (At i) = ap (λ (x : List ℕ). lineAt x (At i)) (sym before-is) ∙ q in
+          line-before written-lines tail i (ap (λ (k : ℕ). k) n ∙ (whole ∙ ap (λ (k : ℕ). k / recordBytes * recordBytes) (sym n))) (omega (arith, n))
+          ∙ (line-stays front fits w stay-good i (ap (λ (x : List ℕ). lineAfter w (recordIn x)) (sym r) ∙ (stays ∙ ap recordIn r)) ∙ sym q)
+      go false e =
+          let n = same-length front fits w stay-good in
+          sym (line-behind front written-lines tail i (sym n) whole (ltb-false i (length front / recordBytes) e))
 
   pub write-unit : Single (saying b) w → OneUnit b (encoded (apply w (saying b)))
   unfolding apply
   write-unit (Units.one-unit g others stays) =
       lines-of-one-unit g (ap coordinatorText (stays (saying b .coordinator)) ∙ coordinator-written-read (b .coordinator) (readable-both b readable .1 .0))
-      same-length (λ i d. line-stays i (others _ d))
+      same-size (λ i d. stays-at i (others _ d))
   write-unit (Units.coordinator-only stays) =
-      coordinator-only (ap recordsText (lines-unmoved w stays lines) ∙ sheet-written-read (b .records) accepted)
+      coordinator-only
+      (ap (λ (ls : List Record). sheetFor ls (length (b .records) / recordBytes)) (lines-unmoved w stays (records front)) ∙ sheet-said (b .records) passes)
 
 -- what a call on what readable bytes say writes, encoded
 pub readable-unit : (c : Call) (b : Bytes) → ClockFits c → Readable b → OneUnit b (encoded (after c (saying b)))

@@ -12,7 +12,7 @@ use Rattle.model.specs.Results.{Call, begin, read, second, put, advance, abort,
 use Rattle.model.specs.Results.{unless}
 use Rattle.model.specs.Conditions.{takesTwo, conditions, refusals}
 use Rattle.model.specs.Calls.{wholeRead, outcome, result}
-use Rattle.model.specs.ByteCalls.{sheetsOf, allConditions, resultOn, recordsAfter, coordinatorAfter}
+use Rattle.model.specs.ByteCalls.{sheetsSaid, allConditions, resultOn, sheetAfter, coordinatorAfter}
 use Rattle.model.specs.ByteHistories.{Bytes, saying, bytesAfter, answerOn, afterOn}
 use Rattle.call_laws.specs.Choices.{hasNumber, unless-of, by-whole}
 use Rattle.call_laws.specs.Accepted.{refusal-front, refusal-past}
@@ -233,10 +233,10 @@ sound-on rs cs r k = sound-unless (checkConditions rs cs) r refl k
 
 pub result-sound : (call : Call) (rs cs : List ℕ) → Sound (resultOn call rs cs)
 unfolding resultOn
-result-sound call rs cs = sound-on rs cs (result call (sheetsOf rs cs)) (decoded-sound call (sheetsOf rs cs))
+result-sound call rs cs = sound-on rs cs (result call (sheetsSaid rs cs)) (decoded-sound call (sheetsSaid rs cs))
 
 -- "after a refusal it finds both sheets .. unchanged"
 pub refused-unchanged : (call : Call) (b : Bytes) → 1 ≤ refusalIn (answerOn call b) → afterOn call b ≡ b
-unfolding answerOn afterOn recordsAfter coordinatorAfter
+unfolding answerOn afterOn sheetAfter coordinatorAfter
 refused-unchanged call b =
     when-refused (λ (x : Result Answer). bytesAfter b x ≡ b) (λ n. refl) (resultOn call (b .records) (b .coordinator)) (result-sound call (b .records) (b .coordinator))

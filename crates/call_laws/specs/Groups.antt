@@ -48,12 +48,18 @@ module _ (us : List Letter) where
       ∙ add-own (scope us (e .key)) (scopes us es))
       (λ g n. add-other (scope us k) (scope us (e .key)) (scopes us es) (scope-listed k es n))
 
+  -- keys of one scope have one storage
+  pub scope-storage : (a b : Key) → scope us a ≡ scope us b → a .storage ≡ b .storage
+  unfolding scope
+  scope-storage a b e =
+      sym (first-field (letterFor (a .storage) us .unit) a) ∙ (ap (λ (l : List ℕ). getD l 0 0) e ∙ first-field (letterFor (b .storage) us .unit) b)
+
   -- a key between two of one scope has that scope
   pub scope-between : (a k b : Key) → keyLess a k ≡ true → keyLess k b ≡ true → scope us a ≡ scope us b → scope us k ≡ scope us a
   unfolding scope keyLess
   scope-between a k b h g e =
       let u = letterFor (a .storage) us .unit in
-      let p : a .storage ≡ b .storage = sym (first-field u a) ∙ (ap first e ∙ first-field (letterFor (b .storage) us .unit) b) in
+      let p : a .storage ≡ b .storage = scope-storage a b e in
       let f : take (unitFields u) (keyNumbers a) ≡ take (unitFields u) (keyNumbers b) = e ∙ ap (fields b) (sym p) in
       let m : take (unitFields u) (keyNumbers k) ≡ take (unitFields u) (keyNumbers a) =
       less-between (unitFields u) (keyNumbers a) (keyNumbers k) (keyNumbers b) h g f in

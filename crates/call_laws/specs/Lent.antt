@@ -1,44 +1,44 @@
 -- Sheets that a call is lent and never writes, for every input: the definition leaves them as they were, so that the contracts of begin, put and abort, which say
 -- only what they answer and what begin does to the coordinator sheet, settle both sheets too. A refused call leaves them, and so does the write of an accepted one.
-use Rattle.lists.specs.Basics.{_≡_, refl, sym, ℕ, Bool, List}
+use Rattle.lists.specs.Basics.{_≡_, refl, ℕ, Bool, List}
 use Rattle.model.specs.Types.{Key, Columns, Transaction}
 use Rattle.model.specs.Refusals.{Condition}
 use Rattle.model.specs.SheetCalls.{checkConditions}
-use Rattle.model.specs.Writes.{nothing, issue, lineAfter}
+use Rattle.model.specs.Writes.{nothing, issue, lineAfter, decisionsAfter}
 use Rattle.model.specs.Results.{begin, put, abort, Answer, Result, made, unless}
 use Rattle.model.specs.Conditions.{conditions}
 use Rattle.model.specs.Calls.{outcome, result}
-use Rattle.model.specs.ByteCalls.{sheetsOf, resultOn, recordsAfter, coordinatorAfter}
+use Rattle.model.specs.ByteCalls.{sheetsSaid, resultOn, sheetAfter, coordinatorAfter}
 use Rattle.call_laws.specs.Choices.{unless-by}
-use Rattle.call_laws.specs.Accepted.{accepted, lines-kept, written-nothing}
+use Rattle.call_laws.specs.Accepted.{sheet-kept, coordinator-kept}
 
 module _ (rs cs : List ℕ) where
-  nothing-leaves : (ps : List Condition) (x : Answer) → (recordsAfter rs cs (unless (checkConditions rs cs) (unless ps (made x nothing))) ≡ rs) × (coordinatorAfter rs cs (unless (checkConditions rs cs) (unless ps (made x nothing))) ≡ cs)
-  unfolding recordsAfter coordinatorAfter
+  nothing-leaves : (ps : List Condition) (x : Answer) → (sheetAfter rs cs (unless (checkConditions rs cs) (unless ps (made x nothing))) ≡ rs) × (coordinatorAfter rs cs (unless (checkConditions rs cs) (unless ps (made x nothing))) ≡ cs)
+  unfolding sheetAfter coordinatorAfter lineAfter decisionsAfter
   nothing-leaves ps x =
       unless-by Leaves (checkConditions rs cs) (refl, refl)
       (λ p. unless-by Leaves ps (refl, refl)
-      (λ q. let n = written-nothing rs cs (accepted rs cs p) in (sym (n .lines), sym (n .decisions))))
+      (λ q. (sheet-kept rs cs p nothing (λ r. refl), coordinator-kept rs cs p nothing (λ c. refl))))
     where
       Leaves : Result Answer → Type 0
-      Leaves r = (recordsAfter rs cs r ≡ rs) × (coordinatorAfter rs cs r ≡ cs)
+      Leaves r = (sheetAfter rs cs r ≡ rs) × (coordinatorAfter rs cs r ≡ cs)
 
   -- "Begin raises the issued count by one", which leaves every line as it was.
-  pub begin-leaves-records : (b : Bool) → recordsAfter rs cs (resultOn (begin b) rs cs) ≡ rs
-  unfolding recordsAfter resultOn result outcome lineAfter
+  pub begin-leaves-records : (b : Bool) → sheetAfter rs cs (resultOn (begin b) rs cs) ≡ rs
+  unfolding sheetAfter resultOn result outcome lineAfter
   begin-leaves-records b =
       unless-by Leaves (checkConditions rs cs) refl
-      (λ p. unless-by Leaves (conditions (begin b) (sheetsOf rs cs)) refl
-      (λ q. sym (lines-kept rs cs (accepted rs cs p) issue (λ r. refl))))
+      (λ p. unless-by Leaves (conditions (begin b) (sheetsSaid rs cs)) refl
+      (λ q. sheet-kept rs cs p issue (λ r. refl)))
     where
       Leaves : Result Answer → Type 0
-      Leaves r = recordsAfter rs cs r ≡ rs
+      Leaves r = sheetAfter rs cs r ≡ rs
 
   -- the calls that write nothing
-  pub put-leaves-sheets : (t : Transaction) (k : Key) (c : Columns) → (recordsAfter rs cs (resultOn (put t k c) rs cs) ≡ rs) × (coordinatorAfter rs cs (resultOn (put t k c) rs cs) ≡ cs)
+  pub put-leaves-sheets : (t : Transaction) (k : Key) (c : Columns) → (sheetAfter rs cs (resultOn (put t k c) rs cs) ≡ rs) × (coordinatorAfter rs cs (resultOn (put t k c) rs cs) ≡ cs)
   unfolding resultOn result outcome
-  put-leaves-sheets t k c = nothing-leaves (conditions (put t k c) (sheetsOf rs cs)) _
+  put-leaves-sheets t k c = nothing-leaves (conditions (put t k c) (sheetsSaid rs cs)) _
 
-  pub abort-leaves-sheets : (t : Transaction) → (recordsAfter rs cs (resultOn (abort t) rs cs) ≡ rs) × (coordinatorAfter rs cs (resultOn (abort t) rs cs) ≡ cs)
+  pub abort-leaves-sheets : (t : Transaction) → (sheetAfter rs cs (resultOn (abort t) rs cs) ≡ rs) × (coordinatorAfter rs cs (resultOn (abort t) rs cs) ≡ cs)
   unfolding resultOn result outcome
-  abort-leaves-sheets t = nothing-leaves (conditions (abort t) (sheetsOf rs cs)) _
+  abort-leaves-sheets t = nothing-leaves (conditions (abort t) (sheetsSaid rs cs)) _

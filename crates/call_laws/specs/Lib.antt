@@ -15,6 +15,7 @@ pub mod Entries
 pub mod Keeping
 pub mod Closure
 pub mod Lifting
+pub mod Sizes
 pub mod Accepted
 pub mod Lent
 pub mod Operations

@@ -4,15 +4,15 @@ use Rattle.lists.specs.Basics.{_≡_, refl, _∙_, ℕ, _≤_, eqb, Bool, true,
 use Rattle.model.specs.Types.{Transaction}
 use Rattle.model.specs.Refusals.{Condition, refusalOf, countBefore, firstAsked}
 use Rattle.model.specs.SheetCalls.{checkConditions}
-use Rattle.model.specs.Writes.{Sheets}
+use Rattle.model.specs.Writes.{Sheets, apply}
 use Rattle.model.specs.Conditions.{refusals}
 use Rattle.model.specs.Results.{Call, advance, Answer, refusalIn, Response, Result, refused, made, answerOf}
 use Rattle.model.specs.Calls.{result}
-use Rattle.model.specs.ByteCalls.{sheetsOf, allConditions, resultOn, recordsAfter, coordinatorAfter}
+use Rattle.model.specs.ByteCalls.{sheetsSaid, allConditions, resultOn, sheetAfter, coordinatorAfter, sheetsOf, recordsAfter}
 use Rattle.model.specs.ByteHistories.{Bytes}
 use Rattle.model.specs.Closing.{closeConditions}
-use Rattle.model.specs.Operations.{Operation, once, close, operationConditions, allOperationConditions, settled, closeRun, ended, response, responseOn, recordsLeft}
-use Rattle.model.specs.Operations.{coordinatorLeft, bytesLeft}
+use Rattle.model.specs.Operations.{Operation, once, close, operationConditions, allOperationConditions, settled, closeRun, ended, response, responseOn, sheetLeft}
+use Rattle.model.specs.Operations.{coordinatorLeft, bytesLeft, recordsLeft}
 use Rattle.call_laws.specs.Exactness.{Sound, sound-refused, sound-made, sound-unless, when-refused, refusal-unless, refusal-then, result-refusal}
 use Rattle.call_laws.specs.Exactness.{decoded-sound, sound-on, row-first, refusal-is-first, risingFrom}
 
@@ -36,13 +36,13 @@ response-sound (close t now limit) s = sound-unless (closeConditions t s) _ refl
 
 pub response-sound-on : (o : Operation) (rs cs : List ℕ) → Sound (responseOn o rs cs)
 unfolding responseOn
-response-sound-on o rs cs = sound-on rs cs (response o (sheetsOf rs cs)) (response-sound o (sheetsOf rs cs))
+response-sound-on o rs cs = sound-on rs cs (response o (sheetsSaid rs cs)) (response-sound o (sheetsSaid rs cs))
 
 -- an answer's refusal is that of the operation's conditions
 pub response-refusal-given : (o : Operation) (rs cs : List ℕ) → refusalIn (answerOf (responseOn o rs cs)) ≡ refusalOf (allOperationConditions o rs cs)
 unfolding responseOn allOperationConditions checkConditions all
 response-refusal-given o rs cs =
-    refusal-then (checkConditions rs cs) (operationConditions o (sheetsOf rs cs)) (response o (sheetsOf rs cs)) refl (response-refusal o (sheetsOf rs cs))
+    refusal-then (checkConditions rs cs) (operationConditions o (sheetsSaid rs cs)) (response o (sheetsSaid rs cs)) refl (response-refusal o (sheetsSaid rs cs))
 
 -- "The lowest number that applies is given": the first that is asked
 pub response-refusal-first : (o : Operation) (rs cs : List ℕ) → firstAsked (refusalOf (allOperationConditions o rs cs)) (allOperationConditions o rs cs) ≡ true
@@ -57,29 +57,29 @@ close-numbers t now limit rs cs = refl
 
 -- after a refusal both sheets are as they were
 pub refused-operation : (o : Operation) (b : Bytes) → 1 ≤ refusalIn (answerOf (responseOn o (b .records) (b .coordinator))) → bytesLeft b (responseOn o (b .records) (b .coordinator)) ≡ b
-unfolding recordsLeft coordinatorLeft
+unfolding sheetLeft coordinatorLeft
 refused-operation o b =
     when-refused (λ (x : Response Answer Sheets). bytesLeft b x ≡ b) (λ n. refl) (responseOn o (b .records) (b .coordinator)) (response-sound-on o (b .records) (b .coordinator))
 
 -- A call's operation, beside its result: what both leave.
 module _ (rs cs : List ℕ) where
-  pub settled-records : (r : Result Answer) → recordsLeft rs (settled (sheetsOf rs cs) r) ≡ recordsAfter rs cs r
-  unfolding recordsLeft recordsAfter
+  pub settled-records : (r : Result Answer) → sheetLeft rs (settled (sheetsSaid rs cs) r) ≡ sheetAfter rs cs r
+  unfolding sheetLeft sheetAfter
   settled-records (refused n) = refl
   settled-records (made a w) = refl
 
-  pub settled-coordinator : (r : Result Answer) → coordinatorLeft cs (settled (sheetsOf rs cs) r) ≡ coordinatorAfter rs cs r
+  pub settled-coordinator : (r : Result Answer) → coordinatorLeft cs (settled (sheetsSaid rs cs) r) ≡ coordinatorAfter rs cs r
   unfolding coordinatorLeft coordinatorAfter
   settled-coordinator (refused n) = refl
   settled-coordinator (made a w) = refl
 
   -- a call on bytes
-  pub once-on : (c : Call) → responseOn (once c) rs cs ≡ settled (sheetsOf rs cs) (resultOn c rs cs)
+  pub once-on : (c : Call) → responseOn (once c) rs cs ≡ settled (sheetsSaid rs cs) (resultOn c rs cs)
   unfolding responseOn resultOn response
   once-on c = go (eqb (refusalOf (checkConditions rs cs)) 0)
     where
       s : Sheets
-      s = sheetsOf rs cs
+      s = sheetsSaid rs cs
 
       n : ℕ
       n = refusalOf (checkConditions rs cs)
@@ -87,3 +87,15 @@ module _ (rs cs : List ℕ) where
       go : (b : Bool) → cond b (settled s (result c s)) (refused n) ≡ settled s (cond b (result c s) (refused n))
       go true = refl
       go false = refl
+
+-- The same of lines of records alone.
+module _ (rs cs : List ℕ) where
+  pub settled-lines : (r : Result Answer) → recordsLeft rs (settled (sheetsOf rs cs) r) ≡ recordsAfter rs cs r
+  unfolding recordsLeft recordsAfter
+  settled-lines (refused n) = refl
+  settled-lines (made a w) = refl
+
+  pub settled-decisions : (r : Result Answer) → coordinatorLeft cs (settled (sheetsOf rs cs) r) ≡ coordinatorAfter rs cs r
+  unfolding coordinatorLeft coordinatorAfter apply
+  settled-decisions (refused n) = refl
+  settled-decisions (made a w) = refl

@@ -7,7 +7,7 @@ use Rattle.model.specs.Types.{Key, Record, Decision, Undecided, Entry}
 use Rattle.model.specs.Records.{goodAlone, rising, recordsGood, absentAt, lineOf}
 use Rattle.model.specs.Coordinator.{Coordinator, coordinatorGood, namesIssued, decision, withDecision, withIssued}
 use Rattle.model.specs.Images.{isPrepared, preparedBy, prepared, committed, changeOf}
-use Rattle.model.specs.Writes.{Sheets, sheetsGood, Write, nothing, issue, decide, commit, prepare, forward, back, entryFor, byEntry, isOf, lineAfter}
+use Rattle.model.specs.Writes.{Sheets, sizeGood, sheetsGood, Write, nothing, issue, decide, commit, prepare, forward, back, entryFor, byEntry, isOf, lineAfter}
 use Rattle.model.specs.Writes.{linesAfter, decisionsAfter, apply}
 use Rattle.sheet_laws.specs.Decisions.{good-decided, good-raised}
 use Rattle.call_laws.specs.Ranges.{GoodParts, fine, fine-parts, parts-fine}
@@ -17,19 +17,21 @@ use Rattle.call_laws.specs.Lines.{lines-mapped, rising-after, Still, all
 
 -- Good sheets, in parts.
 pub record GoodSheets (s : Sheets) : Type 0 where
-  pub some-lines : 1 ≤ length (s .lines)
-  pub few-lines : length (s .lines) ≤ 500
+  pub some-size : 1 ≤ s .size
+  pub few-size : s .size ≤ 500
+  pub few-lines : length (s .lines) ≤ s .size
   pub fine-lines : all (fine (s .coordinator .issued)) (s .lines) ≡ true
   pub order : rising (s .lines) ≡ true
   pub decisions : coordinatorGood (s .coordinator) ≡ true
 
 pub good-parts : (s : Sheets) → sheetsGood s ≡ true → GoodSheets s
-unfolding sheetsGood recordsGood
+unfolding sheetsGood sizeGood recordsGood
 good-parts s h =
     let a : all goodAlone (s .lines) ≡ true = search tests in
     let b : all (namesIssued (s .coordinator .issued)) (s .lines) ≡ true = search tests in
     record {
-      some-lines = search tests;
+      some-size = search tests;
+      few-size = search tests;
       few-lines = search tests;
       fine-lines = all-and goodAlone (namesIssued (s .coordinator .issued)) (s .lines) a b;
       order = search tests;
@@ -37,16 +39,19 @@ good-parts s h =
     }
 
 pub parts-good : (s : Sheets) → GoodSheets s → sheetsGood s ≡ true
-unfolding sheetsGood recordsGood
+unfolding sheetsGood sizeGood recordsGood
 parts-good s g =
     let i = s .coordinator .issued in
     let a : all goodAlone (s .lines) ≡ true =
     all-weaken (fine i) goodAlone (λ r h. and-fst (goodAlone r) (namesIssued i r) h) (s .lines) (g .fine-lines) in
     let b : all (namesIssued i) (s .lines) ≡ true =
     all-weaken (fine i) (namesIssued i) (λ r h. and-snd (goodAlone r) (namesIssued i r) h) (s .lines) (g .fine-lines) in
+    let c : length (s .lines) ≤ 500 = let x = g .few-lines in let y = g .few-size in omega arith in
     and-both
     (and-both
-    (and-both (and-both (and-both (le-leb 1 (length (s .lines)) (g .some-lines)) (le-leb (length (s .lines)) 500 (g .few-lines))) a) (g .order))
+    (and-both
+    (and-both (and-both (le-leb 1 (s .size) (g .some-size)) (le-leb (s .size) 500 (g .few-size))) (le-leb (length (s .lines)) (s .size) (g .few-lines)))
+    (and-both (and-both (le-leb (length (s .lines)) 500 c) a) (g .order)))
     (g .decisions)) b
 
 -- the key of an entry has a line, over which the entry may be put
@@ -173,10 +178,10 @@ module _ (s : Sheets) (good : GoodSheets s) where
   unfolding apply
   write-closed {w} f =
       let n : length (linesAfter w (s .lines)) ≡ length (s .lines) = ap length (lines-mapped w (s .lines)) ∙ length-map (s .lines) (lineAfter w) in
-      let a : 1 ≤ length (s .lines) = good .some-lines in
-      let b : length (s .lines) ≤ 500 = good .few-lines in
+      let a : length (s .lines) ≤ s .size = good .few-lines in
       record {
-        some-lines = omega arith;
+        some-size = good .some-size;
+        few-size = good .few-size;
         few-lines = omega arith;
         fine-lines = lines-fit f;
         order = rising-after w (s .lines) ∙ good .order;

@@ -17,7 +17,6 @@ use Rattle.model.specs.WellFormed.{wellFormed}
 use Rattle.model.specs.Steps.{unitsOf, step}
 use Rattle.model.specs.Closing.{Run, stepWrites, stops, goesOn, turn, closing, starting, mostSteps, closeConditions}
 use Rattle.model.specs.ByteCalls.{sheetsOf}
-use Rattle.model.specs.ByteHistories.{Bytes, saying, Readable}
 use Rattle.sheet_laws.specs.Records.{sheet-written-read}
 use Rattle.sheet_laws.specs.Coordinator.{coordinator-written-read}
 use Rattle.call_laws.specs.Lines.{line-key}
@@ -25,7 +24,7 @@ use Rattle.call_laws.specs.Transactions.{well-formed-parts}
 use Rattle.call_laws.specs.Keeping.{units-kept}
 use Rattle.call_laws.specs.Moved.{step-leaves}
 use Rattle.closing_laws.specs.Steps.{Going, Sound, starts-sound, may-go, sound-next}
-use Rattle.call_laws.specs.Lifting.{readable-both, readable-good, encoded, encoded-readable}
+use Rattle.call_laws.specs.Lifting.{LinesFit, lines-good, lines-encoded}
 use Rattle.transactions.specs.Held.{entryAt, has-room}
 use Rattle.put_groups.specs.Groups.{inGroup}
 use Rattle.put_groups.specs.GroupsIn.{in-group-at}
@@ -68,7 +67,7 @@ running x rs cs = record { transaction = x .transaction; sheets = sheetsOf rs cs
 
 -- what a turn asks for; writes made and writes left are the limit together, so that counting one more never overflows
 pub record Sure (x : Ran) (rs cs : List ℕ) (l : Located) : Type 0 where
-  pub readable : Readable (record { records = rs; coordinator = cs })
+  pub fit : LinesFit rs cs
   pub formed : wellFormed (sheetsOf rs cs) (x .transaction) ≡ true
   pub placed : Placed (sheetsOf rs cs) (x .transaction) l
   pub going : Going (x .transaction) (sheetsOf rs cs)
@@ -76,15 +75,15 @@ pub record Sure (x : Ran) (rs cs : List ℕ) (l : Located) : Type 0 where
 
 -- a close that isn't refused begins so
 pub starts-sure : (t : Transaction) (rs cs : List ℕ) {vs : List Val} → Is (row the-type) t vs
-    → (l : Located) → l ≡ locatedIn (records rs) (coordinatorOf cs .units) t → Readable (record { records = rs; coordinator = cs })
+    → (l : Located) → l ≡ locatedIn (records rs) (coordinatorOf cs .units) t → LinesFit rs cs
     → refusalOf (closeConditions t (sheetsOf rs cs)) ≡ 0 → (limit : ℕ) → limit < 2 ^ 32
     → Sure (record { transaction = t; left = limit; writes = 0 }) rs cs l
 starts-sure t rs cs p l e h z limit m =
     let s = sheetsOf rs cs in
-    let k : Sound (starting t limit s) = starts-sound t limit s (readable-good (record { records = rs; coordinator = cs }) h) z in
+    let k : Sound (starting t limit s) = starts-sound t limit s (lines-good rs cs h) z in
     let q = well-formed-parts s t (k .formed) in
     record {
-      readable = h;
+      fit = h;
       formed = k .formed;
       placed =
           subst (λ (x : Located). Placed s t x) (sym e)
@@ -103,7 +102,7 @@ sure-ready x rs cs l k =
     let t = x .transaction in
     let q = well-formed-parts (sheetsOf rs cs) t (k .formed) in
     record {
-      readable = k .readable;
+      fit = k .fit;
       formed = k .formed;
       indexed = record { at = k .placed .at };
       grouped =
@@ -144,26 +143,25 @@ module _ (clock : ℕ) (x : Ran) (rs cs : List ℕ) (l : Located) (k : Sure x rs
       stopped (ap₂ (λ (a b : Bool). eqb (t .phase) donePhase || a && b) w (ap (λ (n : ℕ). eqb n 0) z) ∙ or-true (eqb (t .phase) donePhase))
 
   sound : Sound X
-  sound = record { good = readable-good (record { records = rs; coordinator = cs }) (k .readable); formed = k .formed; going = k .going }
+  sound = record { good = lines-good rs cs (k .fit); formed = k .formed; going = k .going }
 
   -- a step was made and counted
   module _ (fits : clock < 2 ^ 32) (y : Ran) (rs′ cs′ : List ℕ) (st : Stepped s (step t clock s) (y .transaction) rs′ cs′) where
     goes : stops clock X ≡ false → y .left ≡ cond (stepWrites clock X) (x .left - 1) (x .left)
         → y .writes ≡ cond (stepWrites clock X) (x .writes + 1) (x .writes) → y .writes + y .left < 2 ^ 32 → Turned clock x rs cs y rs′ cs′ l
-    unfolding turn
+    unfolding turn apply
     goes q m w n =
         let next : Sound (goesOn clock X) = sound-next clock fits X sound (may-go clock X (k .going) q) in
         let s₁ = apply (step t clock s .write) s in
-        let e = encoded-readable s₁ (next .good) in
-        let b : _≡_ {A = Bytes} (record { records = rs′; coordinator = cs′ }) (encoded s₁) =
-        λ i. record { records = st .records i; coordinator = st .coordinator i } in
-        let says : sheetsOf rs′ cs′ ≡ s₁ = ap saying b ∙ e .0 in
+        let e = lines-encoded s₁ (next .good) in
+        let says : sheetsOf rs′ cs′ ≡ s₁ =
+        λ i. record { lines = (ap records (st .records) ∙ e .lines) i; size = 500; coordinator = (ap coordinatorOf (st .coordinator) ∙ e .decisions) i } in
         let u : y .transaction ≡ step t clock s .transaction = st .transaction in
         record {
           made = (λ i. record { transaction = u i; sheets = says i; left = m i; writes = w i }) ∙ sym (ap (λ (c : Bool). cond c X (goesOn clock X)) q);
           sure =
               record {
-                readable = subst Readable (sym b) (e .1);
+                fit = subst (λ (x : List ℕ). LinesFit x cs′) (sym (st .records)) (subst (LinesFit (recordsText (s₁ .lines))) (sym (st .coordinator)) (e .fit));
                 formed = ap₂ wellFormed says u ∙ next .formed;
                 placed =
                     subst (λ (z : Transaction). Placed (sheetsOf rs′ cs′) z l) (sym u)
@@ -213,7 +211,7 @@ underway-last clock t limit rs cs l y rs′ cs′ i m u =
     let e : mostSteps - i ≡ 0 = omega arith in
     let q : running y rs′ cs′ ≡ closing mostSteps clock (starting t limit (sheetsOf rs cs)) =
     ap (λ (n : ℕ). closing n clock (running y rs′ cs′)) (sym e) ∙ u .rest in
-    let p = readable-both (record { records = rs′; coordinator = cs′ }) (u .sure .readable) in
+    let p = u .sure .fit in
     record {
       made = q;
       records = sym (sheet-written-read rs′ (p .0)) ∙ ap (λ (x : Run). recordsText (x .sheets .lines)) q;

@@ -19,7 +19,7 @@ use Rattle.sheet_laws.specs.KeyOrder.{same-key, same-key-refl, listsKey, apart}
 use Rattle.call_laws.specs.Keys.{same-key-flip}
 use Rattle.held_lines.specs.Located.{prepared-at}
 use Rattle.call_laws.specs.Sheets.{good-parts}
-use Rattle.call_laws.specs.Lifting.{readable-good}
+use Rattle.call_laws.specs.Lifting.{lines-good}
 use Rattle.transactions.specs.Held.{entryAt, some-kept}
 use Rattle.held_lines.specs.declared.Located.{Located}
 use Rattle.group_writes.specs.Groups.{ofGroup, group-in}
@@ -130,7 +130,7 @@ module _ (rs cs : List ℕ) (t : Transaction) where
 
 -- the lines of accepted bytes are in order
 pub in-order : (rs cs : List ℕ) (t : Transaction) (l : Located) → MayStep rs cs t l → rising (records rs) ≡ true
-in-order rs cs t l ready = good-parts (sheetsOf rs cs) (readable-good (record { records = rs; coordinator = cs }) (ready .readable)) .order
+in-order rs cs t l ready = good-parts (sheetsOf rs cs) (lines-good rs cs (ready .fit)) .order
 
 -- The step table, phase by phase.
 

@@ -1,13 +1,17 @@
 -- The companion's transaction and sheets reach the greatest count possible for so many puts, and no close of as many puts reports more.
-use Rattle.lists.specs.Basics.{_≡_, refl, ℕ, zero, suc, _+_, _*_, _^_, _≤_, _<_, true, length, arith}
+use Rattle.lists.specs.Basics.{_≡_, refl, sym, ap, subst, _∙_, ℕ, zero, suc, _+_, _-_, _*_, _^_, _≤_, _<_, true, _++_, append-nil, length, length-append, arith}
 use Rattle.model.specs.Types.{Transaction}
+use Rattle.model.specs.Layouts.{recordBytes}
+use Rattle.model.specs.Records.{recordsText}
+use Rattle.model.specs.Spares.{sparesText, sheetFor}
+use Rattle.model.specs.Coordinator.{coordinatorText}
 use Rattle.model.specs.Refusals.{refusalOf}
 use Rattle.model.specs.Transactions.{donePhase, committedVerdict, puts, moved}
 use Rattle.model.specs.Writes.{sheetsGood}
 use Rattle.model.specs.Results.{Answer, reported}
 use Rattle.model.specs.ByteHistories.{Bytes, saying, Passing}
 use Rattle.model.specs.Closing.{Run, closing, starting, mostSteps, closeConditions}
-use Rattle.model.specs.Greatest.{greatestSheets, greatestTransaction}
+use Rattle.model.specs.Greatest.{greatestLines, greatestCoordinator, greatestSheets, greatestBytes, greatestTransaction}
 use Rattle.call_laws.specs.Lifting.{Capitals, passing-good, encoded, encoded-says}
 use Rattle.closing_laws.specs.Steps.{starts-sound}
 use Rattle.closing_laws.specs.Report.{report-within, greatest-possible}
@@ -40,7 +44,7 @@ greatestClosed n = moved donePhase 0 committedVerdict (greatestTransaction n)
 
 -- what a close reports and returns; what the computations unfold is named here, once for all counts
 unfoldable ended : Run → Answer
-unfolding Lists.eqList Each.all Each.any Each.filter Each.count Each.less Layouts.recordLayout Layouts.keyLayout Layouts.imageLayout Layouts.columnsLayout Lines.inRange Lines.rowGood Search.firstFrom Records.stateNumber Records.keyNumbers Records.imageNumbers Records.recordNumbers Records.isZero Records.absentRule Records.goodAlone Records.keyLess Records.inOrder Records.rising Records.recordsGood Records.keyInRange Records.sameKey Records.found Records.isMissing Records.lineOf Coordinator.decision Coordinator.withDecision Coordinator.coordinatorGood Coordinator.namesIssued Refusals.refusalOf Transactions.held Transactions.puts Transactions.toValidate Groups.unitFields Groups.letterFor Groups.scope Groups.addScope Groups.scopes Groups.groupCount Groups.groupPlace Groups.group Images.preparedBy Images.unchanged Images.prepared Images.rolledForward Writes.sheetsGood Writes.entryFor Writes.isOf Writes.lineAfter Writes.linesAfter Writes.decisionsAfter Writes.apply WellFormed.imageInRange WellFormed.columnsInRange WellFormed.putFits WellFormed.entryFormed WellFormed.distinctKeys WellFormed.placeFormed WellFormed.verdictFormed WellFormed.formed WellFormed.wellFormed Steps.holds Steps.onePhaseAllowed Steps.openStep Steps.nextGroup Steps.prepareStep Steps.decideStep Steps.finishStep Steps.step Closing.changes Closing.turn Closing.closing Closing.closeBarred Closing.closeConditions Greatest.greatestLines Greatest.greatestCoordinator Greatest.greatestTransaction
+unfolding Lists.eqList Each.all Each.any Each.filter Each.count Each.less Layouts.recordLayout Layouts.keyLayout Layouts.imageLayout Layouts.columnsLayout Lines.inRange Lines.rowGood Search.firstFrom Records.stateNumber Records.keyNumbers Records.imageNumbers Records.recordNumbers Records.isZero Records.absentRule Records.goodAlone Records.keyLess Records.inOrder Records.rising Records.recordsGood Records.keyInRange Records.sameKey Records.found Records.isMissing Records.lineOf Coordinator.decision Coordinator.withDecision Coordinator.coordinatorGood Coordinator.namesIssued Refusals.refusalOf Transactions.held Transactions.puts Transactions.toValidate Groups.unitFields Groups.letterFor Groups.scope Groups.addScope Groups.scopes Groups.groupCount Groups.groupPlace Groups.group Images.preparedBy Images.unchanged Images.prepared Images.rolledForward Writes.sizeGood Writes.sheetsGood Writes.entryFor Writes.isOf Writes.lineAfter Writes.linesAfter Writes.decisionsAfter Writes.apply WellFormed.imageInRange WellFormed.columnsInRange WellFormed.putFits WellFormed.entryFormed WellFormed.distinctKeys WellFormed.placeFormed WellFormed.verdictFormed WellFormed.formed WellFormed.wellFormed Steps.holds Steps.onePhaseAllowed Steps.openStep Steps.nextGroup Steps.prepareStep Steps.decideStep Steps.finishStep Steps.step Closing.changes Closing.turn Closing.closing Closing.closeBarred Closing.closeConditions Greatest.greatestLines Greatest.greatestCoordinator Greatest.greatestTransaction
 ended x = reported (x .writes) (x .transaction)
 
 record Computed (n count : ℕ) : Type 0 where
@@ -97,14 +101,28 @@ computed (suc (suc (suc (suc (suc (suc (suc (suc (suc n))))))))) l m = absurd (o
 -- reading of the clock reports 2 n + 1 and is done, committed
 pub record Reached (n : ℕ) : Type 0 where
   pub puts-are : length (puts (greatestTransaction n)) ≡ n
-  pub passes : Passing (encoded (greatestSheets n))
-  pub says : saying (encoded (greatestSheets n)) ≡ greatestSheets n
+  pub passes : Passing (greatestBytes n)
+  pub says : saying (greatestBytes n) ≡ greatestSheets n
   pub closes : refusalOf (closeConditions (greatestTransaction n) (greatestSheets n)) ≡ 0
   pub report : (now : ℕ) → reported (greatestClose n now .writes) (greatestClose n now .transaction) ≡ reported (2 * n + 1) (greatestClosed n)
 
 capitals : (n : ℕ) → Capitals (greatestSheets n)
 unfolding Each.all Coordinator.allCapitals Greatest.greatestCoordinator
 capitals n = refl
+
+length-greatest : (n : ℕ) → length (greatestLines n) ≡ n
+unfolding greatestLines
+length-greatest zero = refl
+length-greatest (suc n) = length-append (greatestLines n) _ ∙ omega (arith, length-greatest n)
+
+-- as many records as lines, so that the sheet has no spare
+no-spare : (n : ℕ) → encoded (greatestSheets n) ≡ greatestBytes n
+unfolding sheetFor Each.joined
+no-spare n =
+    let z : n - length (greatestLines n) ≡ 0 = omega (arith, length-greatest n) in
+    let e : sheetFor (greatestLines n) n ≡ recordsText (greatestLines n) =
+    ap (λ (m : ℕ). recordsText (greatestLines n) ++ sparesText recordBytes m) z ∙ append-nil (recordsText (greatestLines n)) in
+    λ i. record { records = e i; coordinator = coordinatorText greatestCoordinator }
 
 -- "for each count of 1 to 8 puts"
 pub greatest-reached : (n : ℕ) → 1 ≤ n → n ≤ 8 → Reached n
@@ -114,8 +132,8 @@ greatest-reached n l m =
     let e = encoded-says (greatestSheets n) (c .good) (capitals n) in
     record {
       puts-are = c .puts-are;
-      passes = e .1;
-      says = e .0;
+      passes = subst Passing (no-spare n) (e .1);
+      says = ap saying (sym (no-spare n)) ∙ e .0;
       closes = c .closes;
       report = c .ends;
     }

@@ -32,8 +32,8 @@ none-rolled p f [] h = refl
 none-rolled p f (r ∷ rs) h =
     ap₂ _∷_ (ap (λ (b : Bool). cond b (f r) r) (or-fst (p r) (any p rs) h)) (none-rolled p f rs (or-snd (p r) (any p rs) h))
 
-lines-only : (s : Sheets) {rs : List Record} → rs ≡ s .lines → record { lines = rs; coordinator = s .coordinator } ≡ s
-lines-only s e = λ i. record { lines = e i; coordinator = s .coordinator }
+lines-only : (s : Sheets) {rs : List Record} → rs ≡ s .lines → record { lines = rs; size = s .size; coordinator = s .coordinator } ≡ s
+lines-only s e = λ i. record { lines = e i; size = s .size; coordinator = s .coordinator }
 
 -- a write that changes nothing leaves the sheets
 pub no-change : (w : Write) (s : Sheets) → changes w s ≡ false → apply w s ≡ s

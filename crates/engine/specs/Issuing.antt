@@ -5,9 +5,9 @@ use Rattle.model.specs.Writes.{Sheets}
 use Rattle.model.specs.Results.{Call, begin, Answer, Result, refused}
 use Rattle.model.specs.Conditions.{conditions}
 use Rattle.model.specs.Calls.{outcome, result}
-use Rattle.model.specs.ByteCalls.{sheetsOf, resultOn, coordinatorAfter}
+use Rattle.model.specs.ByteCalls.{sheetsSaid, resultOn, coordinatorAfter}
 use Rattle.call_laws.specs.Choices.{unless-of}
-use Rattle.call_laws.specs.Accepted.{Outcome}
+use Rattle.call_laws.specs.Accepted.{SheetOutcome}
 use Rattle.answers.specs.declared.Issued.{Issued}
 use Rattle.answers.specs.Answers.{toBegun, toIssued, ofIssued}
 
@@ -16,7 +16,7 @@ pub record IssuesOn (rs cs : List ℕ) (r : Issued) (cs′ : List ℕ) : Type 0 
   pub answer : (b : Bool) → r ≡ toIssued (resultOn (begin b) rs cs)
   pub decisions : (b : Bool) → cs′ ≡ coordinatorAfter rs cs (resultOn (begin b) rs cs)
 
-pub issues-on : {rs cs : List ℕ} {r : Issued} {rs′ cs′ : List ℕ} → ((b : Bool) → Outcome toIssued (resultOn (begin b) rs cs) rs cs r rs′ cs′) → IssuesOn rs cs r cs′
+pub issues-on : {rs cs : List ℕ} {r : Issued} {rs′ cs′ : List ℕ} → ((b : Bool) → SheetOutcome toIssued (resultOn (begin b) rs cs) rs cs r rs′ cs′) → IssuesOn rs cs r cs′
 issues-on o = record { answer = λ b. o b .said; decisions = λ b. o b .decisions }
 
 -- a result on bytes is a refusal, or what the call comes to
@@ -24,7 +24,7 @@ on-result : (rs cs : List ℕ) (P : Result Answer → Type 0) (c : Call) → ((n
 unfolding resultOn result
 on-result rs cs P c r o =
     unless-of P (checkConditions rs cs) (λ z. r _ z)
-    (λ p. unless-of P (conditions c (sheetsOf rs cs)) (λ z. r _ z) (λ q. o (sheetsOf rs cs)))
+    (λ p. unless-of P (conditions c (sheetsSaid rs cs)) (λ z. r _ z) (λ q. o (sheetsSaid rs cs)))
 
 pub issued-begun : (b : Bool) (rs cs : List ℕ) → ofIssued b (toIssued (resultOn (begin b) rs cs)) ≡ toBegun (resultOn (begin b) rs cs)
 unfolding outcome

@@ -1,9 +1,9 @@
-// The calls on two lent sheets, for every input: refusals 1 and 2 by the check, the others and what is done by the call on accepted sheets. A refusal leaves
-// both sheets as they were. `perform` is every call by one function.
+// The calls on two lent sheets, for every input: refusals 1 and 2 by the check, the others and what is done by the call on accepted sheets, which is lent the lines of
+// records and no spares. A refusal leaves both sheets as they were. `perform` is every call by one function.
 ghost use mathlib.Core.Path.{_≡_};
 ghost use Rattle.model.specs.Results as model;
-ghost use Rattle.model.specs.ByteCalls.{resultOn, recordsAfter, coordinatorAfter};
-ghost use Rattle.model.specs.Operations.{responseOn, recordsLeft, coordinatorLeft};
+ghost use Rattle.model.specs.ByteCalls.{resultOn, sheetAfter, coordinatorAfter};
+ghost use Rattle.model.specs.Operations.{responseOn, sheetLeft, coordinatorLeft};
 ghost use Rattle.model.specs.Operations as operations;
 ghost use Rattle.model.specs.Requests.{operationOf};
 ghost use Rattle.engine.specs.Issuing.{IssuesOn};
@@ -13,6 +13,7 @@ use answers::Issued;
 use answers::Performed;
 use answers::Returned;
 use answers::Visited;
+use record_check::lines_end;
 use sheets::check;
 use types::Columns;
 use types::Key;
@@ -48,14 +49,15 @@ pub fn read(
     coordinator: &mut [u8],
 ) -> Performed
     ensures answer { λ r. ⌜ r ≡ toPerformed t (resultOn (model.read t key clock) (now (records .entry)) (now (coordinator .entry))) ⌝ }
-    ensures lines { λ r. ⌜ now (records .exit) ≡ recordsAfter (now (records .entry)) (now (coordinator .entry)) (resultOn (model.read t key clock) (now (records .entry)) (now (coordinator .entry))) ⌝ }
+    ensures lines { λ r. ⌜ now (records .exit) ≡ sheetAfter (now (records .entry)) (now (coordinator .entry)) (resultOn (model.read t key clock) (now (records .entry)) (now (coordinator .entry))) ⌝ }
     ensures decisions { λ r. ⌜ now (coordinator .exit) ≡ coordinatorAfter (now (records .entry)) (now (coordinator .entry)) (resultOn (model.read t key clock) (now (records .entry)) (now (coordinator .entry))) ⌝ }
 {
     let checked = check::check(records, coordinator);
     if checked != 0 {
         return reads::refusal(checked, t);
     }
-    reads::read(t, key, clock, records, coordinator)
+    let end = lines_end(records);
+    reads::read(t, key, clock, &mut records[..end], coordinator)
 }
 
 pub fn put(
@@ -71,19 +73,21 @@ pub fn put(
     if checked != 0 {
         return answers::refusal(checked, t);
     }
-    cores::put::put(t, key, columns, records, coordinator)
+    let end = lines_end(records);
+    cores::put::put(t, key, columns, &records[..end], coordinator)
 }
 
 pub fn advance(t: Transaction, clock: u32, records: &mut [u8], coordinator: &mut [u8]) -> Returned
     ensures answer { λ r. ⌜ r ≡ toReturned t (resultOn (model.advance t clock) (now (records .entry)) (now (coordinator .entry))) ⌝ }
-    ensures lines { λ r. ⌜ now (records .exit) ≡ recordsAfter (now (records .entry)) (now (coordinator .entry)) (resultOn (model.advance t clock) (now (records .entry)) (now (coordinator .entry))) ⌝ }
+    ensures lines { λ r. ⌜ now (records .exit) ≡ sheetAfter (now (records .entry)) (now (coordinator .entry)) (resultOn (model.advance t clock) (now (records .entry)) (now (coordinator .entry))) ⌝ }
     ensures decisions { λ r. ⌜ now (coordinator .exit) ≡ coordinatorAfter (now (records .entry)) (now (coordinator .entry)) (resultOn (model.advance t clock) (now (records .entry)) (now (coordinator .entry))) ⌝ }
 {
     let checked = check::check(records, coordinator);
     if checked != 0 {
         return answers::refusal(checked, t);
     }
-    cores::advance::advance(t, clock, records, coordinator)
+    let end = lines_end(records);
+    cores::advance::advance(t, clock, &mut records[..end], coordinator)
 }
 
 // Steps up to done, or up to one that would write beyond the limit. One check serves them all.
@@ -95,14 +99,15 @@ pub fn close(
     coordinator: &mut [u8],
 ) -> Closed
     ensures answer { λ r. ⌜ r ≡ toClosed t (responseOn (operations.close t clock limit) (now (records .entry)) (now (coordinator .entry))) ⌝ }
-    ensures lines { λ r. ⌜ now (records .exit) ≡ recordsLeft (now (records .entry)) (responseOn (operations.close t clock limit) (now (records .entry)) (now (coordinator .entry))) ⌝ }
+    ensures lines { λ r. ⌜ now (records .exit) ≡ sheetLeft (now (records .entry)) (responseOn (operations.close t clock limit) (now (records .entry)) (now (coordinator .entry))) ⌝ }
     ensures decisions { λ r. ⌜ now (coordinator .exit) ≡ coordinatorLeft (now (coordinator .entry)) (responseOn (operations.close t clock limit) (now (records .entry)) (now (coordinator .entry))) ⌝ }
 {
     let checked = check::check(records, coordinator);
     if checked != 0 {
         return cores::close::refusal(checked, t);
     }
-    cores::close::close(t, clock, limit, records, coordinator)
+    let end = lines_end(records);
+    cores::close::close(t, clock, limit, &mut records[..end], coordinator)
 }
 
 pub fn abort(t: Transaction, records: &[u8], coordinator: &[u8]) -> Returned
@@ -112,19 +117,21 @@ pub fn abort(t: Transaction, records: &[u8], coordinator: &[u8]) -> Returned
     if checked != 0 {
         return answers::refusal(checked, t);
     }
-    cores::abort::abort(t, records, coordinator)
+    let end = lines_end(records);
+    cores::abort::abort(t, &records[..end], coordinator)
 }
 
 pub fn visit(key: Key, clock: u32, records: &mut [u8], coordinator: &mut [u8]) -> Visited
     ensures answer { λ r. ⌜ r ≡ toVisited (resultOn (model.visit key clock) (now (records .entry)) (now (coordinator .entry))) ⌝ }
-    ensures lines { λ r. ⌜ now (records .exit) ≡ recordsAfter (now (records .entry)) (now (coordinator .entry)) (resultOn (model.visit key clock) (now (records .entry)) (now (coordinator .entry))) ⌝ }
+    ensures lines { λ r. ⌜ now (records .exit) ≡ sheetAfter (now (records .entry)) (now (coordinator .entry)) (resultOn (model.visit key clock) (now (records .entry)) (now (coordinator .entry))) ⌝ }
     ensures decisions { λ r. ⌜ now (coordinator .exit) ≡ coordinatorAfter (now (records .entry)) (now (coordinator .entry)) (resultOn (model.visit key clock) (now (records .entry)) (now (coordinator .entry))) ⌝ }
 {
     let checked = check::check(records, coordinator);
     if checked != 0 {
         return visits::refusal(checked);
     }
-    visits::visit(key, clock, records, coordinator)
+    let end = lines_end(records);
+    visits::visit(key, clock, &mut records[..end], coordinator)
 }
 
 // Every call by one function: what is asked, of a transaction.
@@ -135,12 +142,13 @@ pub fn perform(
     coordinator: &mut [u8],
 ) -> Performed
     ensures answer { λ r. ⌜ r ≡ toPerformed t (responseOn (operationOf request t) (now (records .entry)) (now (coordinator .entry))) ⌝ }
-    ensures lines { λ r. ⌜ now (records .exit) ≡ recordsLeft (now (records .entry)) (responseOn (operationOf request t) (now (records .entry)) (now (coordinator .entry))) ⌝ }
+    ensures lines { λ r. ⌜ now (records .exit) ≡ sheetLeft (now (records .entry)) (responseOn (operationOf request t) (now (records .entry)) (now (coordinator .entry))) ⌝ }
     ensures decisions { λ r. ⌜ now (coordinator .exit) ≡ coordinatorLeft (now (coordinator .entry)) (responseOn (operationOf request t) (now (records .entry)) (now (coordinator .entry))) ⌝ }
 {
     let checked = check::check(records, coordinator);
     if checked != 0 {
         return reads::refusal(checked, t);
     }
-    perform::perform(request, t, records, coordinator)
+    let end = lines_end(records);
+    perform::perform(request, t, &mut records[..end], coordinator)
 }

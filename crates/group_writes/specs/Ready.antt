@@ -19,8 +19,7 @@ use Rattle.call_laws.specs.Lines.{line-passes, unlisted}
 use Rattle.call_laws.specs.Sheets.{GoodSheets, good-parts}
 use Rattle.call_laws.specs.Transactions.{Body, key-formed}
 use Rattle.call_laws.specs.Steps.{holds-parts, group-formed, may-put-over}
-use Rattle.model.specs.ByteHistories.{Readable}
-use Rattle.call_laws.specs.Lifting.{readable-both, readable-good}
+use Rattle.call_laws.specs.Lifting.{LinesFit, lines-good}
 use Rattle.group_writes.specs.declared.changes.Effect.{Effect}
 use Rattle.group_writes.specs.declared.changes.Effect.the-variants.{Commit, Prepare, Forward, Back}
 use Rattle.group_writes.specs.Changes.{changed, fits}
@@ -30,27 +29,27 @@ use Rattle.group_writes.specs.Turns.{MayChange}
 
 -- accepted bytes, and a transaction whose body is well formed and whose lines and groups are these
 pub record Ready (rs cs : List ℕ) (t : Transaction) (l : Located) : Type 0 where
-  pub readable : Readable (record { records = rs; coordinator = cs })
+  pub fit : LinesFit rs cs
   pub body : Body (sheetsOf rs cs) t
   pub indexed : Indexed (records rs) t (l .indices) (t .count)
   pub grouped : Grouped (coordinatorOf cs .units) t l
 
 module _ (rs cs : List ℕ) (t : Transaction) (l : Located) (ready : Ready rs cs t l) where
   pub accepted : recordsAccepted rs ≡ true
-  accepted = readable-both (record { records = rs; coordinator = cs }) (ready .readable) .0
+  accepted = ready .fit .0
 
   -- the letters of the head say the units
   pub units : unitsIn (take 9 (drop 5 cs)) ≡ coordinatorOf cs .units
-  units = units-said cs (readable-both (record { records = rs; coordinator = cs }) (ready .readable) .1 .0)
+  units = units-said cs (ready .fit .1 .0)
 
   pub has-letters : 14 ≤ length cs
-  has-letters = omega (arith, readable-length cs (readable-both (record { records = rs; coordinator = cs }) (ready .readable) .1 .0))
+  has-letters = omega (arith, readable-length cs (ready .fit .1 .0))
 
   abbrev issued : ℕ
   issued = sheetsOf rs cs .coordinator .issued
 
   good : GoodSheets (sheetsOf rs cs)
-  good = good-parts (sheetsOf rs cs) (readable-good (record { records = rs; coordinator = cs }) (ready .readable))
+  good = good-parts (sheetsOf rs cs) (lines-good rs cs (ready .fit))
 
   line-good : (e : Entry) → hasLine (e .key) (records rs) ≡ true → GoodParts issued (lineOf (e .key) (records rs))
   line-good e h =

@@ -4,7 +4,7 @@ use Rattle.lists.specs.Kit.{_≡_, refl, sym, ap, ap₂, _∙_, ℕ, zer
 use Rattle.lists.specs.Kit.{getD, set, length-append, length-take, length-drop, drop-drop, drop-at, take-at, take-add, take-take, arith}
 use native.Mathlib.Nat.{suc-mul, zero-mul, zero-add, add-assoc}
 use lib.ListN.{take-append-drop}
-use lib.Seq.{take-nil}
+use lib.Seq.{take-nil, length-take-le}
 use Rattle.lists.specs.Each.{joined, pieces}
 
 -- an empty list where there is nothing
@@ -44,6 +44,40 @@ pieces-joined w [] h = refl
 pieces-joined w (x ∷ xs) h =
     ap₂ _∷_ (take-at x (joined xs) w (h .0))
     (ap (pieces w (length xs)) (drop-at x (joined xs) w (h .0)) ∙ pieces-joined w xs (h .1))
+
+pub joined-append {ℓ} : {A : Type ℓ} (xs ys : List (List A)) → joined (xs ++ ys) ≡ joined xs ++ joined ys
+unfolding joined
+joined-append [] ys = refl
+joined-append (x ∷ xs) ys = ap (λ (t : List _). x ++ t) (joined-append xs ys) ∙ sym (append-assoc x (joined xs) (joined ys))
+
+-- parts of lists of one width
+module _ {ℓ} {A : Type ℓ} (w : ℕ) where
+  pub all-join : (xs ys : List (List A)) → AllOf w xs → AllOf w ys → AllOf w (xs ++ ys)
+  all-join [] ys f g = g
+  all-join (x ∷ xs) ys f g = (f .0, all-join xs ys (f .1) g)
+
+  pub all-first : (n : ℕ) (xs : List (List A)) → AllOf w xs → AllOf w (take n xs)
+  all-first zero xs f = tt
+  all-first (suc n) [] f = tt
+  all-first (suc n) (x ∷ xs) f = (f .0, all-first n xs (f .1))
+
+  pub all-rest : (n : ℕ) (xs : List (List A)) → AllOf w xs → AllOf w (drop n xs)
+  all-rest zero xs f = f
+  all-rest (suc n) [] f = tt
+  all-rest (suc n) (x ∷ xs) f = all-rest n xs (f .1)
+
+  pub all-pieces : (n : ℕ) (s : List A) → length s ≡ n * w → AllOf w (pieces w n s)
+  unfolding pieces
+  all-pieces zero s e = tt
+  all-pieces (suc n) s e =
+      let h : length s ≡ n * w + w = e ∙ suc-mul n w in
+      (length-take-le w s (omega arith), all-pieces n (drop w s) (length-drop w s ∙ omega arith))
+
+  -- the elements of the first lists are the first elements
+  pub take-joined : (n : ℕ) (xs : List (List A)) → AllOf w xs → n ≤ length xs → take (n * w) (joined xs) ≡ joined (take n xs)
+  take-joined n xs a l =
+      let k : length (joined (take n xs)) ≡ n * w = length-joined w (take n xs) (all-first n xs a) ∙ ap (λ (m : ℕ). m * w) (length-take-le n xs l) in
+      ap (take (n * w)) (ap joined (sym (take-append-drop n xs)) ∙ joined-append (take n xs) (drop n xs)) ∙ take-at (joined (take n xs)) (joined (drop n xs)) (n * w) k
 
 -- the first i pieces, and the n after them
 pub pieces-add {ℓ} : {A : Type ℓ} (w i n : ℕ) (s : List A) → pieces w (i + n) s ≡ pieces w i s ++ pieces w n (drop (i * w) s)

@@ -4,7 +4,7 @@ use Rattle.model.specs.Refusals.{refusalOf}
 use Rattle.model.specs.SheetCalls.{readableConditions, checkConditions}
 use Rattle.model.specs.Writes.{Sheets}
 use Rattle.model.specs.Results.{Call, Answer, Result, answerOf}
-use Rattle.model.specs.ByteCalls.{sheetsOf, resultOn, recordsAfter, coordinatorAfter}
+use Rattle.model.specs.ByteCalls.{sheetsSaid, resultOn, sheetAfter, coordinatorAfter}
 
 -- the bytes of both sheets
 pub record Bytes : Type 0 where
@@ -12,7 +12,7 @@ pub record Bytes : Type 0 where
   pub coordinator : List ℕ
 
 abbrev pub saying : Bytes → Sheets
-saying b = sheetsOf (b .records) (b .coordinator)
+saying b = sheetsSaid (b .records) (b .coordinator)
 
 -- "Accepted sheets are those that refusals 1 and 2 let pass."
 abbrev pub Passing : Bytes → Type 0
@@ -25,7 +25,7 @@ Readable b = refusalOf (readableConditions (b .records) (b .coordinator)) ≡ 0
 -- the bytes after a result
 abbrev pub bytesAfter : {A : Type 0} → Bytes → Result A → Bytes
 bytesAfter b r =
-    record { records = recordsAfter (b .records) (b .coordinator) r; coordinator = coordinatorAfter (b .records) (b .coordinator) r }
+    record { records = sheetAfter (b .records) (b .coordinator) r; coordinator = coordinatorAfter (b .records) (b .coordinator) r }
 
 -- what the call answers, made with these bytes
 unfoldable pub answerOn : Call → Bytes → Answer

@@ -7,7 +7,7 @@ use Rattle.model.specs.SheetCalls.{checkConditions}
 use Rattle.model.specs.Writes.{Sheets}
 use Rattle.model.specs.Results.{Call, Answer, heldAfter, Response, refused, made, unless}
 use Rattle.model.specs.Calls.{newTransaction}
-use Rattle.model.specs.ByteCalls.{sheetsOf, onSheets}
+use Rattle.model.specs.ByteCalls.{sheetsSaid, onSheets}
 use Rattle.model.specs.Operations.{Operation, standsFor, operationConditions, response}
 use Rattle.model.specs.Requests.{operationOf}
 
@@ -33,7 +33,7 @@ placeConditions list place = refuse 3 (not (listed (length list) place)) ∷ []
 -- all its conditions, in the order of the table: then as for the operation
 unfoldable pub allConditionsAt : List Transaction → ℕ → Request → List ℕ → List ℕ → List Condition
 allConditionsAt list place q rs cs =
-    checkConditions rs cs ++ (placeConditions list place ++ operationConditions (operationAt list place q) (sheetsOf rs cs))
+    checkConditions rs cs ++ (placeConditions list place ++ operationConditions (operationAt list place q) (sheetsSaid rs cs))
 
 -- "taking and returning the one named"
 unfoldable pub responseAt : List Transaction → ℕ → Request → Sheets → Response Answer Sheets

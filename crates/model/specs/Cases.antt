@@ -8,7 +8,7 @@ use Rattle.model.specs.Transactions.{noEntry, entryAs, openPhase, prepar
 use Rattle.model.specs.Groups.{groupCount}
 use Rattle.model.specs.Images.{lineExpired, byRecovery}
 use Rattle.model.specs.Results.{advance, Answer, turnedAway, returned, answered, visited, reported, Result, answerOf}
-use Rattle.model.specs.ByteCalls.{resultOn, recordsAfter, coordinatorAfter}
+use Rattle.model.specs.ByteCalls.{resultOn, sheetAfter, coordinatorAfter}
 use Rattle.model.specs.Visitor.{visitorOutput}
 use Rattle.lists.specs.Bytes as Bytes
 use Rattle.lists.specs.Each as Each
@@ -17,6 +17,7 @@ use Rattle.model.specs.Layouts as Layouts
 use Rattle.model.specs.Lines as Lines
 use Rattle.model.specs.Search as Search
 use Rattle.model.specs.Records as Records
+use Rattle.model.specs.Spares as Spares
 use Rattle.model.specs.Coordinator as Coordinator
 use Rattle.model.specs.Refusals as Refusals
 use Rattle.model.specs.SheetCalls as SheetCalls
@@ -126,14 +127,14 @@ abbrev pub advanceCase : Transaction → List ℕ → List ℕ → List ℕ → 
 advanceCase t line own line′ own′ answer =
     record {
       given =
-          recordsAfter (text (line ∷ [])) (coordinatorWith own) (advanced t line own)
+          sheetAfter (text (line ∷ [])) (coordinatorWith own) (advanced t line own)
           ++ (coordinatorAfter (text (line ∷ [])) (coordinatorWith own) (advanced t line own)
           ++ told (answerOf (advanced t line own)));
       expected = text (line′ ∷ []) ++ (coordinatorWith own′ ++ answer);
     }
 
 unfoldable pub cases : List Case
-unfolding Bytes.bytes Bytes.eqList Each.all Each.any Each.filter Each.count Each.joined Each.pieces Each.less Field.stepped Field.scanned Field.within Field.figure Field.number Field.isNumber Field.ahead Field.fieldText Layouts.words Layouts.recordLayout Layouts.keyLayout Layouts.imageLayout Layouts.columnsLayout Layouts.headLayout Layouts.lineLayout Lines.wordFrom Lines.fieldValue Lines.fieldBytes Lines.inRange Lines.rowOf Lines.lineSet Lines.lineText Lines.rowGood Lines.linesOf Lines.linesSet Records.stateNumber Records.stateOf Records.keyNumbers Records.imageNumbers Records.keyOf Records.imageFrom Records.recordOf Records.recordNumbers Records.isZero Records.absentRule Records.committedRule Records.preparedRule Records.goodAlone Records.keyLess Records.inOrder Records.rising Records.recordsGood Records.recordIn Records.recordText Records.records Records.recordsText Records.recordsAccepted Records.keyInRange Records.sameKey Search.firstFrom Records.found Records.isMissing Records.lineOf Coordinator.decisionNumber Coordinator.decisionOf Coordinator.unitNumber Coordinator.unitOf Coordinator.letterNumber Coordinator.letterOf Coordinator.isUndecided Coordinator.decision Coordinator.withDecision Coordinator.coordinatorGood Coordinator.decisionIn Coordinator.coordinatorOf Coordinator.numbered Coordinator.coordinatorReadable Coordinator.allCapitals Coordinator.coordinatorAccepted Coordinator.namesIssued Coordinator.decisionTexts Coordinator.headNumbers Coordinator.coordinatorText Refusals.refusalOf SheetCalls.allIssued SheetCalls.checkConditions Transactions.held Transactions.puts Transactions.toValidate Groups.unitFields Groups.letterFor Groups.scope Groups.addScope Groups.scopes Groups.groupCount Groups.groupPlace Groups.group Images.preparedBy Images.unchanged Images.sameColumns Images.prepared Images.committed Images.rolledForward Images.rolledBack Images.elapsed Images.lineExpired Images.recovery Writes.entryFor Writes.isOf Writes.lineAfter Writes.linesAfter Writes.decisionsAfter Writes.apply WellFormed.imageInRange WellFormed.columnsInRange WellFormed.putFits WellFormed.entryFormed WellFormed.distinctKeys WellFormed.placeFormed WellFormed.verdictFormed WellFormed.formed WellFormed.wellFormed Visits.numberExpired Visits.meeting Visits.recoveryWrite Conditions.cannotAdvance Conditions.conditions Steps.holds Steps.onePhaseAllowed Steps.onePhase Steps.openStep Steps.nextGroup Steps.prepareStep Steps.decideStep Steps.finishStep Steps.undoStep Steps.step Calls.outcome Calls.result ByteCalls.resultOn ByteCalls.recordsAfter ByteCalls.coordinatorAfter ByteHistories.afterOn Visitor.firstLayout Visitor.inputFits Visitor.inputConditions Visitor.visitedAll Visitor.swept Visitor.visitorOutput
+unfolding Bytes.bytes Bytes.eqList Each.all Each.any Each.filter Each.count Each.joined Each.pieces Each.less Field.stepped Field.scanned Field.within Field.figure Field.number Field.isNumber Field.ahead Field.fieldText Layouts.words Layouts.recordLayout Layouts.keyLayout Layouts.imageLayout Layouts.columnsLayout Layouts.headLayout Layouts.lineLayout Lines.wordFrom Lines.fieldValue Lines.fieldBytes Lines.inRange Lines.rowOf Lines.lineSet Lines.lineText Lines.rowGood Lines.linesOf Lines.linesSet Records.stateNumber Records.stateOf Records.keyNumbers Records.imageNumbers Records.keyOf Records.imageFrom Records.recordOf Records.recordNumbers Records.isZero Records.absentRule Records.committedRule Records.preparedRule Records.goodAlone Records.keyLess Records.inOrder Records.rising Records.recordsGood Records.recordIn Records.recordText Records.records Records.recordsText Records.recordsAccepted Spares.spareLine Spares.trimmed Spares.filledLines Spares.front Spares.sized Spares.sheetFor Spares.sheetAccepted Records.keyInRange Records.sameKey Search.firstFrom Records.found Records.isMissing Records.lineOf Coordinator.decisionNumber Coordinator.decisionOf Coordinator.unitNumber Coordinator.unitOf Coordinator.letterNumber Coordinator.letterOf Coordinator.isUndecided Coordinator.decision Coordinator.withDecision Coordinator.coordinatorGood Coordinator.decisionIn Coordinator.coordinatorOf Coordinator.numbered Coordinator.coordinatorReadable Coordinator.allCapitals Coordinator.coordinatorAccepted Coordinator.namesIssued Coordinator.decisionTexts Coordinator.headNumbers Coordinator.coordinatorText Refusals.refusalOf SheetCalls.allIssued SheetCalls.checkConditions Transactions.held Transactions.puts Transactions.toValidate Groups.unitFields Groups.letterFor Groups.scope Groups.addScope Groups.scopes Groups.groupCount Groups.groupPlace Groups.group Images.preparedBy Images.unchanged Images.sameColumns Images.prepared Images.committed Images.rolledForward Images.rolledBack Images.elapsed Images.lineExpired Images.recovery Writes.entryFor Writes.isOf Writes.lineAfter Writes.linesAfter Writes.decisionsAfter Writes.apply WellFormed.imageInRange WellFormed.columnsInRange WellFormed.putFits WellFormed.entryFormed WellFormed.distinctKeys WellFormed.placeFormed WellFormed.verdictFormed WellFormed.formed WellFormed.wellFormed Visits.numberExpired Visits.meeting Visits.recoveryWrite Conditions.cannotAdvance Conditions.conditions Steps.holds Steps.onePhaseAllowed Steps.onePhase Steps.openStep Steps.nextGroup Steps.prepareStep Steps.decideStep Steps.finishStep Steps.undoStep Steps.step Calls.outcome Calls.result ByteCalls.resultOn ByteCalls.sheetAfter ByteCalls.coordinatorAfter ByteHistories.afterOn Visitor.firstLayout Visitor.inputFits Visitor.inputConditions Visitor.visitedAll Visitor.swept Visitor.visitorOutput
 cases =
     -- the four clock edges: 14999, 15000, 2147483647 and 2147483648 ticks
     expiryCase 19999 0

@@ -27,7 +27,7 @@ unfoldable pub greatestCoordinator : Coordinator
 greatestCoordinator = record { issued = 1; units = replicate 9 noLetter; decisions = Undecided ∷ [] }
 
 abbrev pub greatestSheets : ℕ → Sheets
-greatestSheets n = record { lines = greatestLines n; coordinator = greatestCoordinator }
+greatestSheets n = record { lines = greatestLines n; size = n; coordinator = greatestCoordinator }
 
 abbrev pub greatestBytes : ℕ → Bytes
 greatestBytes n = record { records = recordsText (greatestLines n); coordinator = coordinatorText greatestCoordinator }

@@ -13,7 +13,7 @@ pub record Kind (S : Type 0) : Type 1 where
   -- what the sheets say, and which are accepted
   pub sheets : S → Sheets
   pub passes : S → Type 0
-  -- the bytes of their record lines
+  -- the bytes of their record sheet, spares included
   pub text : S → List ℕ
   -- what a call answers with them, and how it leaves them
   pub answers : Call → S → Answer

@@ -24,11 +24,13 @@ pub mod SequentialModel
 pub mod RecoveryPass
 pub mod ByteHistories
 pub mod TwoSheets
+pub mod TwoSpares
 pub mod Closing
 pub mod Operations
 pub mod Requests
 pub mod CallByPlace
 pub mod Turns
+pub mod FullCalls
 pub mod TwoCalls
 pub mod AtomicWrites
 pub mod Changes

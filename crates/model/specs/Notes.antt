@@ -7,7 +7,7 @@ use Rattle.model.specs.Transactions.{openPhase, undoPhase}
 use Rattle.model.specs.Coordinator.{Letter, coordinatorOf}
 use Rattle.model.specs.Groups.{unitFields}
 use Rattle.model.specs.Results.{visit, answerOf}
-use Rattle.model.specs.Operations.{Operation, once, close, responseOn, recordsLeft, coordinatorLeft}
+use Rattle.model.specs.Operations.{Operation, once, close, responseOn, sheetLeft, coordinatorLeft}
 use Rattle.model.specs.Cases.{Case, cases, told, transactionAs, committedLine, writtenLine, coordinatorWith, undecidedLine, decidedLine, abortedLine}
 use Rattle.lists.specs.Bytes as Bytes
 use Rattle.lists.specs.Each as Each
@@ -36,7 +36,7 @@ abbrev pub operationCase : Operation → (lines : List (List ℕ)) (coordinator 
 operationCase o lines cs lines′ cs′ answer =
     record {
       given =
-          recordsLeft (text lines) (responseOn o (text lines) cs)
+          sheetLeft (text lines) (responseOn o (text lines) cs)
           ++ (coordinatorLeft cs (responseOn o (text lines) cs) ++ told (answerOf (responseOn o (text lines) cs)));
       expected = text lines′ ++ (cs′ ++ answer);
     }
@@ -93,7 +93,7 @@ noteCases =
     ∷ liveOrder (firstLine ∷ lastLine ∷ []) ++ liveOrder (firstLine ∷ freshLine ∷ lastLine ∷ [])
 
 pub note-cases : map (λ (c : Case). c .given) noteCases ≡ map (λ (c : Case). c .expected) noteCases
-unfolding noteCases cases Closing.changes Closing.turn Closing.closing Closing.closeBarred Closing.closeConditions Operations.response Operations.responseOn Operations.recordsLeft Operations.coordinatorLeft
+unfolding noteCases cases Closing.changes Closing.turn Closing.closing Closing.closeBarred Closing.closeConditions Operations.response Operations.responseOn Operations.sheetLeft Operations.coordinatorLeft
 note-cases = refl
 
 -- NOTE 3: "The number of key fields that a unit letter compares .. the published listing, which has five cases": the letters of storages 1 to 5 of this head are R,

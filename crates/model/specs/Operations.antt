@@ -9,7 +9,7 @@ use Rattle.model.specs.Writes.{Sheets, apply}
 use Rattle.model.specs.Results.{Call, advance, Answer, reported, Response, Result, refused, made, unless}
 use Rattle.model.specs.Conditions.{conditions}
 use Rattle.model.specs.Calls.{result}
-use Rattle.model.specs.ByteCalls.{sheetsOf, onSheets}
+use Rattle.model.specs.ByteCalls.{sheetsSaid, sheetText, onSheets}
 use Rattle.model.specs.ByteHistories.{Bytes}
 use Rattle.model.specs.Closing.{Run, closing, starting, closingCalls, mostSteps, closeConditions}
 
@@ -35,7 +35,7 @@ operationConditions (once c) s = conditions c s
 operationConditions (close t now limit) s = closeConditions t s
 
 unfoldable pub allOperationConditions : Operation → List ℕ → List ℕ → List Condition
-allOperationConditions o rs cs = checkConditions rs cs ++ operationConditions o (sheetsOf rs cs)
+allOperationConditions o rs cs = checkConditions rs cs ++ operationConditions o (sheetsSaid rs cs)
 
 -- a call's result, with the sheets as its write leaves them
 abbrev pub settled : {A : Type 0} → Sheets → Result A → Response A Sheets
@@ -70,13 +70,18 @@ callsOf (close t now limit) s = cond (eqb (refusalOf (closeConditions t s)) 0) (
 unfoldable pub responseOn : Operation → List ℕ → List ℕ → Response Answer Sheets
 responseOn o rs cs = onSheets rs cs (response o)
 
-unfoldable pub recordsLeft : {A : Type 0} → List ℕ → Response A Sheets → List ℕ
-recordsLeft rs (refused n) = rs
-recordsLeft rs (made a s) = recordsText (s .lines)
+unfoldable pub sheetLeft : {A : Type 0} → List ℕ → Response A Sheets → List ℕ
+sheetLeft rs (refused n) = rs
+sheetLeft rs (made a s) = sheetText s
 
 unfoldable pub coordinatorLeft : {A : Type 0} → List ℕ → Response A Sheets → List ℕ
 coordinatorLeft cs (refused n) = cs
 coordinatorLeft cs (made a s) = coordinatorText (s .coordinator)
 
 abbrev pub bytesLeft : {A : Type 0} → Bytes → Response A Sheets → Bytes
-bytesLeft b r = record { records = recordsLeft (b .records) r; coordinator = coordinatorLeft (b .coordinator) r }
+bytesLeft b r = record { records = sheetLeft (b .records) r; coordinator = coordinatorLeft (b .coordinator) r }
+
+-- of lines of records alone
+unfoldable pub recordsLeft : {A : Type 0} → List ℕ → Response A Sheets → List ℕ
+recordsLeft rs (refused n) = rs
+recordsLeft rs (made a s) = recordsText (s .lines)

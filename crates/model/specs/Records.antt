@@ -112,11 +112,11 @@ unfoldable pub rising : List Record → Bool
 rising [] = true
 rising (r ∷ rs) = inOrder r rs && rising rs
 
--- 1 to 500 records, each good alone, neighbours in rising order
+-- at most 500 records, each good alone, neighbours in rising order
 unfoldable pub recordsGood : List Record → Bool
-recordsGood rs = leb 1 (length rs) && leb (length rs) 500 && all goodAlone rs && rising rs
+recordsGood rs = leb (length rs) 500 && all goodAlone rs && rising rs
 
--- The sheet.
+-- The lines of records, without spares (Spares has the sheet).
 
 -- the record that a line of bytes says
 unfoldable pub recordIn : List ℕ → Record
@@ -126,15 +126,15 @@ recordIn line = recordOf (rowOf recordLayout line)
 unfoldable pub recordText : Record → List ℕ
 recordText r = lineText recordLayout (recordNumbers r)
 
--- the records of a sheet, whatever its bytes
+-- the records of these lines, whatever their bytes
 unfoldable pub records : List ℕ → List Record
 records s = map recordIn (linesOf recordBytes s)
 
--- the sheet for a list of records
+-- the lines for a list of records
 unfoldable pub recordsText : List Record → List ℕ
 recordsText rs = joined (map recordText rs)
 
--- the record sheets that refusal 1 lets pass
+-- lines that break no rule
 unfoldable pub recordsAccepted : List ℕ → Bool
 recordsAccepted s = linesSet recordLayout recordBytes s && recordsGood (records s)
 

@@ -1,7 +1,7 @@
 -- What demand 3 claims, of sheets, a history of turns on them and visits that follow it.
 use Rattle.lists.specs.Basics.{_≡_, ℕ, _<_, Bool, true, List, [], map, some, _⊎_}
 use Rattle.model.specs.Types.{Key, Record, Decision, Committed}
-use Rattle.model.specs.Records.{recordsText}
+use Rattle.model.specs.Spares.{sheetFor}
 use Rattle.model.specs.Coordinator.{decision}
 use Rattle.model.specs.Images.{Change}
 use Rattle.model.specs.Writes.{Sheets}
@@ -40,8 +40,8 @@ module _ {S : Type 0} (kind : Kind S) where
   pub record RecoveredOn (vs : List Visit) (xs : List Turn) (b : S) : Type 0 where
     -- "no line is PREPARED"
     pub unprepared : nonePrepared (kind .sheets (sheetsRecovered vs xs b) .lines) ≡ true
-    -- "and each is, byte for byte, its line in document 01's plain book"
-    pub lines : kind .text (sheetsRecovered vs xs b) ≡ recordsText (map (λ (r : Record). historyModel xs b .line (r .key)) (kind .sheets b .lines))
+    -- "and each is, byte for byte, its line in document 01's plain book"; spares are as many as there were
+    pub lines : kind .text (sheetsRecovered vs xs b) ≡ sheetFor (map (λ (r : Record). historyModel xs b .line (r .key)) (kind .sheets b .lines)) (kind .sheets b .size)
     -- of the numbers begun in the history those that have put something
     pub committed : (n : ℕ) → kind .sheets b .coordinator .issued < n → (k : Key) (c : Change) → historyModel xs b .writes n k ≡ some c → CommittedExactly (isCommitted n (historyModel xs b)) (decision n (kind .sheets (sheetsRecovered vs xs b) .coordinator)) (onePhaseMade n xs b)
 

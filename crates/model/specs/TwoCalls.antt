@@ -1,27 +1,24 @@
 -- The operations on a plain sheet, a bookkeeping sheet and a coordinator sheet: refusals 1, 2 and 13 first, then the operation on what the joined sheet says. Document 02,
 -- note 4: "each operation on the two sheets gives the answer of the joined sheet, and the sheets after it join to what that sheet would be".
-use Rattle.lists.specs.Basics.{_≡_, ℕ, List, _++_}
+use Rattle.lists.specs.Basics.{_≡_, ℕ, _-_, List, _++_, length}
 use Rattle.model.specs.Types.{Transaction, Request}
 use Rattle.model.specs.Records.{recordsText}
+use Rattle.model.specs.Spares.{sparesText}
 use Rattle.model.specs.Refusals.{Condition, refusalOf}
 use Rattle.model.specs.Writes.{Sheets}
 use Rattle.model.specs.Results.{Call, Answer, Response, refused, made, unless, answerOf}
-use Rattle.model.specs.ByteCalls.{sheetsOf}
+use Rattle.model.specs.ByteCalls.{sheetsSaid}
 use Rattle.model.specs.Histories.{Event}
 use Rattle.model.specs.Operations.{Operation, once, operationConditions, response, coordinatorLeft}
 use Rattle.model.specs.CallByPlace.{operationAt, placeConditions, responseAt}
 use Rattle.model.specs.Turns.{Turn, single, byPlace, turnCall}
-use Rattle.model.specs.TwoSheets.{joinedSheet, plainPart, bookkeepingPart, twoConditions}
-
--- the bytes of all three sheets
-pub record TwoBytes : Type 0 where
-  pub plain : List ℕ
-  pub bookkeeping : List ℕ
-  pub coordinator : List ℕ
+use Rattle.model.specs.TwoSheets.{plainBytes, bookkeepingBytes, joinedSheet, plainPart, bookkeepingPart}
+use Rattle.model.specs.TwoSpares.{twoConditions}
+pub use Rattle.model.specs.FullCalls.{TwoBytes}
 
 -- what they say, whatever their bytes: "demand 3's lines and the plain book's are the joined sheet's"
 abbrev pub sayingTwo : TwoBytes → Sheets
-sayingTwo b = sheetsOf (joinedSheet (b .plain) (b .bookkeeping)) (b .coordinator)
+sayingTwo b = sheetsSaid (joinedSheet (b .plain) (b .bookkeeping)) (b .coordinator)
 
 -- what all calls ask of the sheets
 abbrev pub conditionsOf : TwoBytes → List Condition
@@ -51,11 +48,11 @@ allConditionsAtTwo list place q b = conditionsOf b ++ (placeConditions list plac
 
 unfoldable pub plainLeft : {A : Type 0} → List ℕ → Response A Sheets → List ℕ
 plainLeft ps (refused n) = ps
-plainLeft ps (made a s) = plainPart (recordsText (s .lines))
+plainLeft ps (made a s) = plainPart (recordsText (s .lines)) ++ sparesText plainBytes (s .size - length (s .lines))
 
 unfoldable pub bookkeepingLeft : {A : Type 0} → List ℕ → Response A Sheets → List ℕ
 bookkeepingLeft bs (refused n) = bs
-bookkeepingLeft bs (made a s) = bookkeepingPart (recordsText (s .lines))
+bookkeepingLeft bs (made a s) = bookkeepingPart (recordsText (s .lines)) ++ sparesText bookkeepingBytes (s .size - length (s .lines))
 
 abbrev pub twoLeft : {A : Type 0} → TwoBytes → Response A Sheets → TwoBytes
 twoLeft b r =

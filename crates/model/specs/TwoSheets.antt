@@ -1,6 +1,6 @@
 -- The plain sheet and the bookkeeping sheet, joined and apart. Document 02, note 4: "Some saddlers' fitting sheets may not be widened. Add a plain sheet with key,
 -- column 1 and column 2, and a bookkeeping sheet with key and the remaining fields, as in source document 000's decoupling."
-use Rattle.lists.specs.Basics.{ℕ, _+_, _*_, eqb, Bool, true, false, _&&_, not, cond, List, [], _∷_, _++_, map, take, drop, getD, all, joined}
+use Rattle.lists.specs.Basics.{ℕ, _+_, _*_, Bool, true, false, _&&_, not, List, [], _∷_, _++_, map, take, drop, getD, all, joined}
 use Rattle.types.specs.declared.State.the-variants.{Committed}
 use Rattle.model.specs.Types.{Key, Column, Record, Ranked, Found, At, Nothing}
 use Rattle.model.specs.Layouts.{recordLayout, imageField, beforeField, keyLayout, columnsLayout, keyBytes, recordBytes}
@@ -8,7 +8,7 @@ use Rattle.model.specs.Lines.{rowOf, linesOf, linesSet}
 use Rattle.model.specs.Records.{stateOf, keyOf, imageFrom, noImage, recordsGood, records, recordsAccepted, sameKey, keyInRange, found, isMissing, ranked}
 use Rattle.model.specs.Coordinator.{coordinatorOf, coordinatorReadable, namesIssued}
 use Rattle.model.specs.Refusals.{Condition, refuse}
-use Rattle.model.specs.SheetCalls.{unlessRefused, toldRank}
+use Rattle.model.specs.SheetCalls.{toldRank}
 
 -- Layouts: "a plain sheet with key, column 1 and column 2, and a bookkeeping sheet with key and the remaining fields .. with widths and field order as in document 01".
 
@@ -72,7 +72,7 @@ plainPart s = joined (map plainLine (linesOf recordBytes s))
 unfoldable pub bookkeepingPart : List ℕ → List ℕ
 bookkeepingPart s = joined (map bookkeepingLine (linesOf recordBytes s))
 
--- "Refusal 1 is for either sheet alone": the rules that speak of its own fields only.
+-- Both without spares (TwoSpares has the others). "Refusal 1 is for either sheet alone": the rules that speak of its own fields only.
 
 -- what a plain line's row says, beside COMMITTED and version 1
 unfoldable pub plainSaid : List ℕ → Record
@@ -137,25 +137,24 @@ keyConditions ps bs = linesConditions ps bs ++ (refuse 13 (not (sameKeys ps bs))
 unfoldable pub coordinatorFits : List ℕ → List ℕ → Bool
 coordinatorFits bs cs = coordinatorReadable cs && all (namesIssued (coordinatorOf cs .issued)) (map bookkeepingRecord (linesOf bookkeepingBytes bs))
 
--- "Errors: 13, after 2"
-unfoldable pub twoConditions : List ℕ → List ℕ → List ℕ → List Condition
-twoConditions ps bs cs = linesConditions ps bs ++ (refuse 2 (not (coordinatorFits bs cs)) ∷ refuse 13 (not (sameKeys ps bs)) ∷ [])
+unfoldable pub fullConditions : List ℕ → List ℕ → List ℕ → List Condition
+fullConditions ps bs cs = linesConditions ps bs ++ (refuse 2 (not (coordinatorFits bs cs)) ∷ refuse 13 (not (sameKeys ps bs)) ∷ [])
 
 -- The look-up's companion, which answers of the joined sheet (note 5).
 
-unfoldable pub rankTwoConditions : List ℕ → List ℕ → Key → List Condition
-rankTwoConditions ps bs k = keyConditions ps bs ++ (refuse 5 (not (keyInRange k)) ∷ [])
+unfoldable pub rankFullConditions : List ℕ → List ℕ → Key → List Condition
+rankFullConditions ps bs k = keyConditions ps bs ++ (refuse 5 (not (keyInRange k)) ∷ [])
 
-unfoldable pub rankTwo : List ℕ → List ℕ → Key → Ranked
-rankTwo ps bs k = toldRank (rankTwoConditions ps bs k) (ranked k (records (joinedSheet ps bs)))
+unfoldable pub rankFull : List ℕ → List ℕ → Key → Ranked
+rankFull ps bs k = toldRank (rankFullConditions ps bs k) (ranked k (records (joinedSheet ps bs)))
 
--- The look-up "hands back the line of whichever sheet is named, an empty part under 13 too".
+-- Which line has the key.
 
-unfoldable pub lookupTwoConditions : List ℕ → List ℕ → Key → List Condition
-lookupTwoConditions ps bs k = rankTwoConditions ps bs k ++ (refuse 6 (isMissing (found k (records (joinedSheet ps bs)))) ∷ [])
+unfoldable pub lookupFullConditions : List ℕ → List ℕ → Key → List Condition
+lookupFullConditions ps bs k = rankFullConditions ps bs k ++ (refuse 6 (isMissing (found k (records (joinedSheet ps bs)))) ∷ [])
 
-unfoldable pub lineTwo : List ℕ → List ℕ → Key → Ranked
-lineTwo ps bs k = toldRank (lookupTwoConditions ps bs k) (ranked k (records (joinedSheet ps bs)))
+unfoldable pub lineFull : List ℕ → List ℕ → Key → Ranked
+lineFull ps bs k = toldRank (lookupFullConditions ps bs k) (ranked k (records (joinedSheet ps bs)))
 
 -- the sheets by the numbers that name them
 abbrev pub plainNamed : ℕ
@@ -168,13 +167,3 @@ bookkeepingNamed = 1
 unfoldable pub lineOfSheet : ℕ → List ℕ → Found → List ℕ
 lineOfSheet width s (At i) = take width (drop (i * width) s)
 lineOfSheet width s Nothing = []
-
--- the line that has the key, or nothing; nothing too where no sheet has that name
-unfoldable pub lookedUpTwo : List ℕ → List ℕ → ℕ → Key → List ℕ
-lookedUpTwo ps bs named k =
-    unlessRefused (lookupTwoConditions ps bs k)
-    (cond (eqb named plainNamed) (lineOfSheet plainBytes ps at) (cond (eqb named bookkeepingNamed) (lineOfSheet bookkeepingBytes bs at) []))
-    []
-  where
-    at : Found
-    at = found k (records (joinedSheet ps bs))

@@ -5,6 +5,7 @@ use Rattle.model.specs.Types.{Key, Record, Column}
 use Rattle.model.specs.Layouts.{figures, recordBytes, coordinatorBytes}
 use Rattle.model.specs.Lines.{rowOf, lineSet}
 use Rattle.model.specs.Records.{records}
+use Rattle.model.specs.Spares.{recordLines}
 use Rattle.model.specs.Refusals.{Condition, refuse, refusalOf}
 use Rattle.model.specs.SheetCalls.{checkConditions}
 use Rattle.model.specs.Results.{visit}
@@ -45,7 +46,7 @@ visitedAll now [] b = b
 visitedAll now (k ∷ ks) b = visitedAll now ks (afterOn (visit k now) b)
 
 abbrev pub keysIn : Bytes → List Key
-keysIn b = map (λ (r : Record). r .key) (records (b .records))
+keysIn b = map (λ (r : Record). r .key) (records (recordLines (b .records)))
 
 -- "It visits all lines in order, then all again"
 unfoldable pub swept : ℕ → Bytes → Bytes

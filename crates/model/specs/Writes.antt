@@ -1,19 +1,25 @@
 -- What a call writes, as data: the lines of one group, or the coordinator sheet, or nothing. Only `apply` changes sheets.
-use Rattle.lists.specs.Basics.{ℕ, _+_, eqb, Bool, false, _&&_, cond, List, [], _∷_, map, Option, none, some, all, any}
+use Rattle.lists.specs.Basics.{ℕ, _+_, eqb, leb, Bool, false, _&&_, cond, List, [], _∷_, map, length, Option, none, some, all, any}
 use Rattle.model.specs.Types.{Key, Record, Decision, Entry}
 use Rattle.model.specs.Records.{sameKey, recordsGood}
 use Rattle.model.specs.Coordinator.{Coordinator, coordinatorGood, namesIssued, withDecision, withIssued}
 use Rattle.model.specs.Images.{changeOf, preparedBy, prepared, committed, rolledForward, rolledBack}
 
--- both sheets, decoded
+-- both sheets, decoded: the records, how many lines their sheet has, spares included, and the coordinator sheet
 pub record Sheets : Type 0 where
   pub lines : List Record
+  pub size : ℕ
   pub coordinator : Coordinator
+
+-- 1 to 500 lines, enough for the records
+unfoldable pub sizeGood : Sheets → Bool
+sizeGood s = leb 1 (s .size) && leb (s .size) 500 && leb (length (s .lines)) (s .size)
 
 -- the sheets that refusals 1 and 2 let pass
 unfoldable pub sheetsGood : Sheets → Bool
 sheetsGood s =
-    recordsGood (s .lines)
+    sizeGood s
+    && recordsGood (s .lines)
     && coordinatorGood (s .coordinator)
     && all (namesIssued (s .coordinator .issued)) (s .lines)
 
@@ -68,7 +74,7 @@ unfoldable pub linesAfter : Write → List Record → List Record
 linesAfter w rs = map (lineAfter w) rs
 
 unfoldable pub apply : Write → Sheets → Sheets
-apply w s = record { lines = linesAfter w (s .lines); coordinator = decisionsAfter w (s .coordinator) }
+apply w s = record { lines = linesAfter w (s .lines); size = s .size; coordinator = decisionsAfter w (s .coordinator) }
 
 -- the write is the one-phase write of a number
 unfoldable pub isOnePhase : ℕ → Write → Bool

@@ -1,14 +1,18 @@
 -- Records as numbers, judged row by row: each row by itself, and its key against the next row's. Where a row is in range,
 -- its record's numbers are the row again, so that the record's ranges need not be asked twice.
-use Rattle.lists.specs.Basics.{_≡_, refl, sym, ap, ap₂, _∙_, ℕ, _+_, _-_, _*_, _/_, _≤_, _<_, eqb, leb, Bool, true, false, _&&_, and-assoc, List, [], _∷_, map}
-use Rattle.lists.specs.Basics.{length, take, drop, getD, length-map, drop-of-length-le, arith, eqb-true, all, and-fst, and-snd, and-both, same-test}
+use Rattle.lists.specs.Basics.{_≡_, refl, sym, ap, ap₂, _∙_, ℕ, _+_, _-_, _*_, _/_, _≤_, _<_, eqb, Bool, true, false, _&&_, List, [], _∷_, map}
+use Rattle.lists.specs.Basics.{length, take, drop, getD, length-map, drop-of-length-le, arith, eq-eqb, le-leb, all, and-fst, and-snd, and-both, same-test}
 use Rattle.lists.specs.All.{pieces-whole}
 use Rattle.lists.specs.Pieces.{getD-pieces}
 use Rattle.lists.specs.Walks.{drop-here, LeftFrom, left-here, left-last}
 use Rattle.model.specs.Layouts.{recordLayout, recordFields}
 use Rattle.model.specs.Lines.{rowGood}
 use Rattle.model.specs.Records.{recordOf, recordNumbers, stateRule, goodAlone, keyLess, inOrder, rising, recordsGood, rows, rowsAccepted}
+use Rattle.model.specs.Spares.{sized}
+use Rattle.model.specs.SheetCalls.{rowsFront, allRowsAccepted}
 use Rattle.sheet_laws.specs.Numbers.{length-rows, row-same}
+use Rattle.sheet_laws.specs.Fronts.{sized-whole, sized-few}
+use Rattle.sheet_laws.specs.SparedNumbers.{rows-within, rows-front-count, rows-front-whole}
 
 -- a row good by itself
 unfoldable pub rowOk : List ℕ → Bool
@@ -109,28 +113,25 @@ rows-whole : (v : List ℕ) → length v ≡ length v / recordFields * recordFie
 unfolding rows
 rows-whole v n = pieces-whole recordFields (length v / recordFields) v n
 
--- bounds on the count asked before the rows
-reorder : (g l m a r : Bool) → (g && (l && m && a && r)) ≡ (l && (m && (g && (a && r))))
-reorder true l m a r = and-assoc (l && m) a r ∙ and-assoc l m (a && r)
-reorder false false m a r = refl
-reorder false true false a r = refl
-reorder false true true a r = refl
-
--- the acceptance of numbers, in the order in which the code asks
-pub accepted-rows : (v : List ℕ) → rowsAccepted v ≡ (eqb (length v) (length v / recordFields * recordFields) && (leb 1 (length v / recordFields) && (leb (length v / recordFields) 500 && rowsPass (rows v))))
+-- the acceptance of whole rows that are few enough
+few-rows : (v : List ℕ) → length v ≡ length v / recordFields * recordFields → length v / recordFields ≤ 500 → rowsAccepted v ≡ rowsPass (rows v)
 unfolding rowsAccepted recordsGood
-accepted-rows v = go (eqb (length v) (length v / recordFields * recordFields)) refl
-  where
-    count : length (map recordOf (rows v)) ≡ length v / recordFields
-    count = length-map (rows v) recordOf ∙ length-rows v
+few-rows v w l =
+    let n : length (map recordOf (rows v)) ≡ length v / recordFields = length-map (rows v) recordOf ∙ length-rows v in
+    rw (eq-eqb (length v) (length v / recordFields * recordFields) w, le-leb (length (map recordOf (rows v))) 500 (omega arith))
+    (rows-pass (rows v) (rows-whole v w))
 
-    go : (b : Bool) → eqb (length v) (length v / recordFields * recordFields) ≡ b → rowsAccepted v ≡ (eqb (length v) (length v / recordFields * recordFields) && (leb 1 (length v / recordFields) && (leb (length v / recordFields) 500 && rowsPass (rows v))))
-    go true e =
-        let w = rows-whole v (eqb-true (length v) (length v / recordFields * recordFields) e) in
-        rw (e, count)
-        (reorder (all (rowGood recordLayout) (rows v)) (leb 1 (length v / recordFields)) (leb (length v / recordFields) 500) (all goodAlone (map recordOf (rows v))) (rising (map recordOf (rows v)))
-        ∙ ap (λ (b : Bool). leb 1 (length v / recordFields) && (leb (length v / recordFields) 500 && b)) (rows-pass (rows v) w))
-    go false e = rw e
+-- the acceptance of numbers: their size, and the rows before the spares
+pub rows-unsized : (v : List ℕ) → sized recordFields v ≡ false → false ≡ allRowsAccepted v
+unfolding allRowsAccepted
+rows-unsized v h = sym (ap (λ (x : Bool). x && rowsAccepted (rowsFront v)) h)
+
+pub rows-sized : (v : List ℕ) → sized recordFields v ≡ true → rowsPass (rows (rowsFront v)) ≡ allRowsAccepted v
+unfolding allRowsAccepted
+rows-sized v h =
+    let w : length v ≡ length v / recordFields * recordFields = sized-whole recordFields v h in
+    let l : length (rowsFront v) / recordFields ≤ 500 = omega (arith, sized-few recordFields v h, rows-within v w, rows-front-count v w) in
+    sym (ap (λ (x : Bool). x && rowsAccepted (rowsFront v)) h ∙ few-rows (rowsFront v) (rows-front-whole v w) l)
 
 -- Row i as the code lends it, and the row after it.
 

@@ -3,7 +3,7 @@
 use Rattle.lists.specs.Basics.{_≡_, refl, sym, ap, subst, _∙_, ℕ, Bool, and-true, and-false, List, ne-eqb}
 use Rattle.model.specs.Types.{Key, Columns, Transaction, Request}
 use Rattle.types.specs.declared.Request.the-variants as asked
-use Rattle.model.specs.Writes.{Sheets, nothing}
+use Rattle.model.specs.Writes.{Sheets, nothing, apply}
 use Rattle.model.specs.Results.{Call, begin, read, second, put, advance, abort, visit, Answer, Response, Result, refused, made}
 use Rattle.model.specs.Conditions.{conditions}
 use Rattle.model.specs.Calls.{outcome, result}
@@ -13,7 +13,7 @@ use Rattle.model.specs.Operations.{Operation, once, close, settled, response, r
 use Rattle.model.specs.Requests.{operationOf}
 use Rattle.call_laws.specs.Choices.{unless-of, unless-by}
 use Rattle.call_laws.specs.Accepted.{Outcome, Accepted, written-nothing}
-use Rattle.call_laws.specs.Operations.{settled-records, settled-coordinator}
+use Rattle.call_laws.specs.Operations.{settled-lines, settled-decisions}
 use Rattle.answers.specs.declared.Closed.{Closed}
 use Rattle.answers.specs.declared.Returned.{Returned}
 use Rattle.answers.specs.declared.Visited.{Visited}
@@ -90,11 +90,11 @@ module _ (q : Request) (t : Transaction) (rs cs : List ℕ) (accepted : Accepted
   made-of c e o l d =
       let r = result c s in
       comes-to (settled s r) (ap (λ (x : Operation). response x s) e)
-      (o ∙ sym (settled-performed s t r)) (l ∙ sym (settled-records rs cs r)) (d ∙ sym (settled-coordinator rs cs r))
+      (o ∙ sym (settled-performed s t r)) (l ∙ sym (settled-lines rs cs r)) (d ∙ sym (settled-decisions rs cs r))
 
   -- a call that writes nothing leaves both sheets
   quiet : (c : Call) (a : Answer) → outcome c s ≡ made a nothing → operationOf q t ≡ once c → out ≡ toPerformed t (result c s) → Performs rs cs
-  unfolding recordsAfter coordinatorAfter result
+  unfolding recordsAfter coordinatorAfter apply result
   quiet c a e f o =
       let n = written-nothing rs cs accepted in
       let l = on-result s (λ (r : Result Answer). (rs ≡ recordsAfter rs cs r) × (cs ≡ coordinatorAfter rs cs r)) c (λ n z. (refl, refl))

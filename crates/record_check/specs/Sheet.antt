@@ -5,6 +5,7 @@ use Rattle.lists.specs.Basics.{List, map, length, take, drop, drop-drop, take-t
 use Rattle.lists.specs.Tests.{and-swap}
 use Rattle.model.specs.Layouts.{recordLayout, recordBytes, keyBytes}
 use Rattle.model.specs.Lines.{lineSet, linesOf, linesSet}
+use Rattle.model.specs.Spares.{sized, recordLines, sheetAccepted}
 use Rattle.model.specs.Records.{goodAlone, inOrder, rising, recordsGood, recordIn, records, recordsAccepted}
 use Rattle.sheet_laws.specs.ByIndex.{length-records}
 use Rattle.record_check.specs.Keys.{key-order}
@@ -71,19 +72,28 @@ pass-next i n s l =
     let f : (i + 1) * recordBytes ≡ i * recordBytes + recordBytes = omega arith in
     rw (e, f, drop-drop recordBytes (i * recordBytes) s)
 
--- 1 to 500 whole lines
-unfoldable pub sheetSized : ℕ → ℕ → Bool
-sheetSized bytes n = eqb bytes (n * recordBytes) && (leb 1 n && leb n 500)
+-- at most 500 whole lines
+unfoldable pub linesSized : ℕ → ℕ → Bool
+linesSized bytes n = eqb bytes (n * recordBytes) && leb n 500
 
--- the record sheets that the code lets pass
-pub accepted-is : (s : List ℕ) → recordsAccepted s ≡ (sheetSized (length s) (length s / recordBytes) && linesPass (length s / recordBytes) s)
-unfolding recordsAccepted linesSet linesOf records recordsGood sheetSized
+-- the lines of records that the code lets pass
+pub accepted-is : (s : List ℕ) → recordsAccepted s ≡ (linesSized (length s) (length s / recordBytes) && linesPass (length s / recordBytes) s)
+unfolding recordsAccepted linesSet linesOf records recordsGood linesSized
 accepted-is s =
     let n = length s / recordBytes in
     let ls = pieces recordBytes n s in
     let whole = eqb (length s) (n * recordBytes) in
-    let count = leb 1 n && leb n 500 in
+    let count = leb n 500 in
     let good = all goodAlone (map recordIn ls) in
     rw (length-records s, lines-pass n s)
     (ap (λ (x : Bool). whole && all (lineSet recordLayout) ls && x) (and-assoc count good (rising (map recordIn ls)))
     ∙ and-swap whole (all (lineSet recordLayout) ls) count (good && rising (map recordIn ls)))
+
+-- and the record sheets
+pub sheet-unsized : (s : List ℕ) → sized recordBytes s ≡ false → sheetAccepted s ≡ false
+unfolding sheetAccepted
+sheet-unsized s h = ap (λ (x : Bool). x && recordsAccepted (recordLines s)) h
+
+pub sheet-sized : (s : List ℕ) → sized recordBytes s ≡ true → sheetAccepted s ≡ recordsAccepted (recordLines s)
+unfolding sheetAccepted
+sheet-sized s h = ap (λ (x : Bool). x && recordsAccepted (recordLines s)) h

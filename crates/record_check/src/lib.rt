@@ -7,6 +7,7 @@ ghost use Prim.Native.Nat.{_+_, _-_, _*_, _<_, _≤_};
 ghost use lib.ListN.{length, drop};
 ghost use Rattle.model.specs.Layouts.{recordBytes};
 ghost use Rattle.model.specs.Records.{recordsAccepted};
+ghost use Rattle.model.specs.Spares.{sized, filledLines, sheetAccepted};
 ghost use Rattle.line_bytes.specs.Parts.{partsOk};
 ghost use Rattle.record_check.specs.States.{kinds, kindAt, kindParts};
 ghost use Rattle.record_check.specs.Relations.{highestClock, follows};
@@ -209,15 +210,12 @@ fn lines_pass(s: &[u8], n: usize, lent: &[u8], highest: &[u8]) -> bool
     true
 }
 
-// Whether the record sheet is one that refusal 1 lets pass.
+// Whether lines of records, without spares, break no rule.
 pub fn records_ok(records: &[u8]) -> bool
     ensures { λ r. ⌜ r ≡ recordsAccepted (now (records .entry)) ⌝ }
 {
     let n = records.len() / RECORD_BYTES;
     if n * RECORD_BYTES != records.len() {
-        return false;
-    }
-    if n < 1 {
         return false;
     }
     if n > 500 {
@@ -226,4 +224,34 @@ pub fn records_ok(records: &[u8]) -> bool
     // bound once for the sheet and lent: a constant is built anew wherever it is named
     let lent = TABLES;
     lines_pass(records, n, &lent, b" 4294967295\n")
+}
+
+// Whether a sheet has whole lines of so many bytes, 1 to 500 of them.
+pub fn is_sized(s: &[u8], width: usize) -> bool
+    requires { ⌜ 10 ≤ width ⌝ }
+    requires { ⌜ width ≤ recordBytes ⌝ }
+    ensures { λ r. ⌜ r ≡ sized width (now (s .entry)) ⌝ }
+{
+    let n = s.len() / width;
+    (s.len() == n * width) & (1 <= n) & (n <= 500)
+}
+
+// Whether the record sheet is one that refusal 1 lets pass, spares at its end included.
+pub fn sheet_ok(records: &[u8]) -> bool
+    ensures { λ r. ⌜ r ≡ sheetAccepted (now (records .entry)) ⌝ }
+{
+    if !is_sized(records, RECORD_BYTES) {
+        return false;
+    }
+    let end = shifting::front_end(records, RECORD_BYTES);
+    records_ok(&records[..end])
+}
+
+// Where the spares of an accepted record sheet begin: its records stand before.
+pub fn lines_end(records: &[u8]) -> usize
+    requires { ⌜ sheetAccepted (now records) ≡ true ⌝ }
+    ensures is { λ r. ⌜ r ≡ filledLines recordBytes (now (records .entry)) * recordBytes ⌝ }
+    ensures within { λ r. ⌜ r ≤ length (now (records .entry)) ⌝ }
+{
+    shifting::front_end(records, RECORD_BYTES)
 }

@@ -2,7 +2,7 @@
 -- call or by the second of two, leaves it rolled forward, at any reading of the clock. The owner is decided, so that neither expiry nor refusal 12 is asked.
 use Rattle.lists.specs.Basics.{_≡_, refl, sym, ap, ap₂, _∙_, ℕ, _^_, _<_, Bool, true, false, _&&_, cond, true≢false, [], _∷_, and-snd, choose-by}
 use Rattle.model.specs.Types.{Key, Image, Record, Decision, Committed, Columns, Transaction, Recovery, Stays, Forward, Back, Again, Busy}
-use Rattle.model.specs.Records.{records, lineOf, hasLine}
+use Rattle.model.specs.Records.{lineOf, hasLine}
 use Rattle.model.specs.Coordinator.{coordinatorOf, isUndecided}
 use Rattle.model.specs.Images.{isPrepared, byDecision, rolledForward, recovery}
 use Rattle.model.specs.Writes.{Sheets, Write, forward, lineAfter, apply}
@@ -71,19 +71,19 @@ module _ (s : Sheets) (good : GoodSheets s) (k : Key) (now : ℕ) (listed : list
         unless-of Finishes (conditions (second t k now c) s) (λ z a. absurd (z a)) (λ z. whole-finishes (seenSecond (isLower (unitsOf s) k) c))
 
 -- Over bytes.
-module _ (b : Bytes) (passing : Passing b) (k : Key) (now : ℕ) (fits : now < 2 ^ 32) (has : hasLine k (records (b .records)) ≡ true) (pending : isPrepared (lineOf k (records (b .records))) ≡ true) (owner : ownerDecision (lineOf k (records (b .records))) (coordinatorOf (b .coordinator)) ≡ Committed) where
+module _ (b : Bytes) (passing : Passing b) (k : Key) (now : ℕ) (fits : now < 2 ^ 32) (has : hasLine k (saying b .lines) ≡ true) (pending : isPrepared (lineOf k (saying b .lines)) ≡ true) (owner : ownerDecision (lineOf k (saying b .lines)) (coordinatorOf (b .coordinator)) ≡ Committed) where
   good : GoodSheets (saying b)
   good = good-parts (saying b) (passing-good b passing)
 
-  listed : listsKey k (records (b .records)) ≡ true
-  listed = sym (has-line k (records (b .records))) ∙ has
+  listed : listsKey k (saying b .lines) ≡ true
+  listed = sym (has-line k (saying b .lines)) ∙ has
 
-  pub next-visit-finishes : (answerOn (visit k now) b ≡ visited Forward) × (lineOf k (records (afterOn (visit k now) b .records)) ≡ rolledForward (lineOf k (records (b .records))))
+  pub next-visit-finishes : (answerOn (visit k now) b ≡ visited Forward) × (lineOf k (saying (afterOn (visit k now) b) .lines) ≡ rolledForward (lineOf k (saying b .lines)))
   next-visit-finishes =
       let f = visit-finishes (saying b) good k now listed pending owner in
       (same-answer (visit k now) b passing ∙ f .0, ap (λ (s : Sheets). lineOf k (s .lines)) (bytes-stay-passing (visit k now) b fits passing .0) ∙ f .1)
 
-  pub next-read-finishes : (t : Transaction) → isNew k t ≡ true → refusalIn (answerOn (read t k now) b) ≡ 0 → lineOf k (records (afterOn (read t k now) b .records)) ≡ rolledForward (lineOf k (records (b .records)))
+  pub next-read-finishes : (t : Transaction) → isNew k t ≡ true → refusalIn (answerOn (read t k now) b) ≡ 0 → lineOf k (saying (afterOn (read t k now) b) .lines) ≡ rolledForward (lineOf k (saying b .lines))
   next-read-finishes t new accepted =
       ap (λ (s : Sheets). lineOf k (s .lines)) (bytes-stay-passing (read t k now) b fits passing .0)
       ∙ read-finishes (saying b) good k now listed pending owner t new (capitals-lower (saying b) (passing-readable b passing .1) k) (ap refusalIn (sym (same-answer (read t k now) b passing)) ∙ accepted)

@@ -2,7 +2,7 @@
 ghost use mathlib.Core.Path.{_≡_};
 ghost use Prim.Native.Nat.{_≤_};
 ghost use lib.ListN.{getD};
-ghost use Rattle.model.specs.TwoSheets.{lookedUpTwo};
+ghost use Rattle.model.specs.TwoSpares.{lookedUpTwo};
 ghost use Rattle.script_calls.specs.Parts.{keyFrom, partAsked};
 use script::reply;
 use script::reply::Reply;
@@ -17,13 +17,13 @@ use types::Transaction;
 fn check(plain: &[u8], book: &[u8], coordinator: &[u8]) -> Reply
     ensures { λ r. ⌜ r .count ≤ 102 ⌝ }
 {
-    reply::unless_refused(two_sheets::check(plain, book, coordinator), calls::ok())
+    reply::unless_refused(two_engine::check(plain, book, coordinator), calls::ok())
 }
 
 fn lookup(n: [u32; 14], plain: &[u8], book: &[u8]) -> Reply
     ensures { λ r. ⌜ r .count ≤ 102 ⌝ }
 {
-    calls::rank(two_sheets::lookup::rank_of(plain, book, calls::key_at(n, 0)))
+    calls::rank(two_engine::lookup::rank_of(plain, book, calls::key_at(n, 0)))
 }
 
 // What is printed after the reply: the part of the named sheet that the look-up hands back, and an empty part for a call that asks for none.
@@ -35,7 +35,7 @@ pub fn part<'a>(c: Command, plain: &'a [u8], book: &'a [u8]) -> &'a [u8]
     if !calls::asks_line(kind) {
         return &plain[..0];
     }
-    two_sheets::lookup::lookup(plain, book, n[0], calls::key_at(n, 1))
+    two_engine::lookup::lookup(plain, book, n[0], calls::key_at(n, 1))
 }
 
 // A line that asks for a call on a transaction or a visit, or for none.
@@ -51,7 +51,7 @@ fn perform(
     match calls::request(c) {
         Asked::Call(request) => {
             let t = slots::taken(c, slots);
-            let performed = two_sheets::perform(request, t, plain, book, coordinator);
+            let performed = two_engine::perform(request, t, plain, book, coordinator);
             slots::performed(c, slots, performed)
         }
         Asked::Nothing => slots::replied(c, slots),

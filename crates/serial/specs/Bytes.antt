@@ -1,7 +1,7 @@
 -- Checked transactions are serializable, over bytes, which are a kind of sheets.
 use Rattle.lists.specs.Basics.{_≡_, true, List, [], map, all}
 use Rattle.model.specs.Types.{Record}
-use Rattle.model.specs.Records.{records, recordsText}
+use Rattle.model.specs.Spares.{sheetFor}
 use Rattle.model.specs.ByteHistories.{Bytes, saying, Passing, afterOn}
 use Rattle.model.specs.RecoveryPass.{Visit, nonePrepared, Closing}
 use Rattle.model.specs.Turns.{Turn, turnEventOn, turnAfterOn, turnsLeft, LegalTurns}
@@ -12,13 +12,13 @@ use Rattle.turns.specs.Bytes.{bytes-faithful}
 use Rattle.serial.specs.Kinds.{checked-serializable-of, serial-bytes-of}
 
 -- For all bytes that refusals 1 and 2 let pass, without a PREPARED line; for every legal history of turns on them in which every transaction is begun as checked.
-pub checked-serializable : (b : Bytes) → Passing b → nonePrepared (records (b .records)) ≡ true → (xs : List Turn)
-    → LegalTurns turnAfterOn turnEventOn xs b [] → all begunChecked (callsOn xs b) ≡ true → Serializable (records (b .records)) (modelOn xs b) (callsOn xs b)
+pub checked-serializable : (b : Bytes) → Passing b → nonePrepared (saying b .lines) ≡ true → (xs : List Turn)
+    → LegalTurns turnAfterOn turnEventOn xs b [] → all begunChecked (callsOn xs b) ≡ true → Serializable (saying b .lines) (modelOn xs b) (callsOn xs b)
 checked-serializable b p z xs legal checked = checked-serializable-of bytesKind bytes-faithful b p z xs legal checked
 
 -- so that after every recovery pass the record sheet is, byte for byte, what the serial run leaves
-pub serial-bytes : (b : Bytes) → Passing b → nonePrepared (records (b .records)) ≡ true → (xs : List Turn) → LegalTurns turnAfterOn turnEventOn xs b []
+pub serial-bytes : (b : Bytes) → Passing b → nonePrepared (saying b .lines) ≡ true → (xs : List Turn) → LegalTurns turnAfterOn turnEventOn xs b []
     → all begunChecked (callsOn xs b) ≡ true → (vs : List Visit) → Closing saying afterOn vs (turnsLeft turnAfterOn xs b)
     → bytesRecovered vs xs b .records
-    ≡ recordsText (map (λ (r : Record). serialLine (records (b .records)) (modelOn xs b) (serialOrder (callsOn xs b)) (r .key)) (records (b .records)))
+    ≡ sheetFor (map (λ (r : Record). serialLine (saying b .lines) (modelOn xs b) (serialOrder (callsOn xs b)) (r .key)) (saying b .lines)) (saying b .size)
 serial-bytes b p z xs legal checked vs c = serial-bytes-of bytesKind bytes-faithful b p z xs legal checked vs c

@@ -3,7 +3,7 @@
 use Rattle.lists.specs.Basics.{_≡_, refl, sym, ap, subst, _∙_, true, List, [], _∷_, map, all}
 use Rattle.lists.specs.All.{all-always, map-equal}
 use Rattle.model.specs.Types.{Record}
-use Rattle.model.specs.Records.{recordsText}
+use Rattle.model.specs.Spares.{sheetFor}
 use Rattle.model.specs.Writes.{Sheets}
 use Rattle.model.specs.Results.{Call, Answer}
 use Rattle.model.specs.Histories.{Event, answer, after, event, eventsAfter, Legal}
@@ -50,9 +50,9 @@ module _ {S : Type 0} (kind : Kind S) (laws : Faithful kind) where
   pub serial-bytes-of : (b : S) → kind .passes b → nonePrepared (sheets b .lines) ≡ true → (xs : List Turn) → LegalTurns (kind .turned) (kind .events) xs b []
       → all begunChecked (callsMade kind xs b) ≡ true → (vs : List Visit) → Closing sheets (kind .leaves) vs (turnsLeft (kind .turned) xs b)
       → kind .text (sheetsRecovered kind vs xs b)
-      ≡ recordsText (map (λ (r : Record). serialLine (sheets b .lines) (historyModel kind xs b) (serialOrder (callsMade kind xs b)) (r .key)) (sheets b .lines))
+      ≡ sheetFor (map (λ (r : Record). serialLine (sheets b .lines) (historyModel kind xs b) (serialOrder (callsMade kind xs b)) (r .key)) (sheets b .lines)) (sheets b .size)
   serial-bytes-of b p z xs legal checked vs c =
       demand-3-of kind laws b p z xs legal vs c .lines
-      ∙ ap recordsText
+      ∙ ap (λ (ls : List Record). sheetFor ls (sheets b .size))
       (map-equal (λ (r : Record). true) (λ (r : Record). historyModel kind xs b .line (r .key)) _
       (λ r t. sym (checked-serializable-of b p z xs legal checked .writes (r .key))) (sheets b .lines) (all-always (sheets b .lines)))

@@ -101,8 +101,7 @@ accepted-over s i r d a l g e =
     let j : i < length (records s) = omega (arith, length-records s) in
     let p = and-fst (eqb (length s) (length s / recordBytes * recordBytes) && all (lineSet recordLayout) (pieces recordBytes (length s / recordBytes) s)) _ a in
     let w : all (lineSet recordLayout) (pieces recordBytes (length s / recordBytes) s) ≡ true = search (tests, p) in
-    let q = and-snd (eqb (length s) (length s / recordBytes * recordBytes) && all (lineSet recordLayout) (pieces recordBytes (length s / recordBytes) s)) (leb 1 (length (records s)) && leb (length (records s)) 500 && all goodAlone (records s) && rising (records s)) a in
-    let q1 : leb 1 (length (records s)) ≡ true = search (tests, q) in
+    let q = and-snd (eqb (length s) (length s / recordBytes * recordBytes) && all (lineSet recordLayout) (pieces recordBytes (length s / recordBytes) s)) (leb (length (records s)) 500 && all goodAlone (records s) && rising (records s)) a in
     let q2 : leb (length (records s)) 500 ≡ true = search (tests, q) in
     let q3 : all goodAlone (records s) ≡ true = search (tests, q) in
     let q4 : rising (records s) ≡ true = search (tests, q) in
@@ -112,5 +111,5 @@ accepted-over s i r d a l g e =
     (rw (pieces-over recordBytes i (length s / recordBytes) s (recordText r) l n (length-recordText r f))
     (all-set (lineSet recordLayout) (pieces recordBytes (length s / recordBytes) s) i (recordText r) w (record-text-set r f))))
     (and-both
-    (and-both (and-both q1 q2) (all-set goodAlone (records s) i r q3 g))
+    (and-both q2 (all-set goodAlone (records s) i r q3 g))
     (rising-set (records s) i r d j e ∙ q4)))

@@ -4,6 +4,9 @@ pub mod Lines
 pub mod Spans
 pub mod Records
 pub mod ByIndex
+pub mod Trimmed
+pub mod Ends
+pub mod Fronts
 pub mod Search
 pub mod Numbers
 pub mod Keys
@@ -16,3 +19,5 @@ pub mod Decisions
 pub mod Letters
 pub mod Singles
 pub mod RoundTrips
+pub mod SparedNumbers
+pub mod Spared

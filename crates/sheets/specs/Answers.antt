@@ -1,8 +1,9 @@
 -- What each call answers, case by case in the order of its conditions.
-use Rattle.lists.specs.Basics.{_≡_, refl, sym, ap, _∙_, ℕ, _+_, _*_, _≤_, Bool, true, false, not, List, [], _∷_, length, take, drop, arith}
+use Rattle.lists.specs.Basics.{_≡_, refl, sym, ap, _∙_, ℕ, _+_, _*_, _≤_, Bool, true, false, not, List, [], _∷_, length, length-take, take, drop, arith}
 use Rattle.model.specs.Types.{Key, Record, Rank, Ranked, Found, At, Nothing}
 use Rattle.model.specs.Layouts.{recordBytes}
 use Rattle.model.specs.Records.{noRecord, records, recordsAccepted, keyInRange, sameKey, found, isMissing, ranked, placed}
+use Rattle.model.specs.Spares.{filledLines, front, recordLines, sheetAccepted}
 use Rattle.model.specs.Refusals.{refuse, refusalOf}
 use Rattle.model.specs.Coordinator.{coordinatorAccepted}
 use Rattle.model.specs.SheetCalls.{allIssued, checkConditions, lookupConditions, lineAt, lookedUp, rankConditions, rankOn, lineOn, lineAmong}
@@ -42,29 +43,29 @@ module _ (s : List ℕ) (k : Key) where
   abbrev none : ℕ → Ranked
   none n = record { refusal = n; rank = record { below = 0; present = false } }
 
-  pub lookup-bad : recordsAccepted s ≡ false → LookedUp [] (none 1)
+  pub lookup-bad : sheetAccepted s ≡ false → LookedUp [] (none 1)
   unfolding lookedUp lookupConditions rankOn lineOn rankConditions refusalOf
   lookup-bad e = record { part = rw e; rank = rw e; line = rw e }
 
-  pub lookup-out : recordsAccepted s ≡ true → keyInRange k ≡ false → LookedUp [] (none 5)
+  pub lookup-out : sheetAccepted s ≡ true → keyInRange k ≡ false → LookedUp [] (none 5)
   unfolding lookedUp lookupConditions rankOn lineOn rankConditions refusalOf
   lookup-out e g = record { part = rw (e, g); rank = rw (e, g); line = rw (e, g) }
 
-  module _ (e : recordsAccepted s ≡ true) (g : keyInRange k ≡ true) where
+  module _ (e : sheetAccepted s ≡ true) (g : keyInRange k ≡ true) where
     -- the companion answers of every key in range
-    pub told : rankOn s k ≡ record { refusal = 0; rank = ranked k (records s) }
+    pub told : rankOn s k ≡ record { refusal = 0; rank = ranked k (records (recordLines s)) }
     unfolding rankOn rankConditions refusalOf
     told = rw (e, g)
 
-    pub lookup-none : found k (records s) ≡ Nothing → [] ≡ lookedUp s k
+    pub lookup-none : found k (records (recordLines s)) ≡ Nothing → [] ≡ lookedUp s k
     unfolding lookedUp lookupConditions rankConditions refusalOf isMissing
     lookup-none f = rw (e, g, f)
 
-    pub line-told : lineAmong (records s) k ≡ lineOn s k
+    pub line-told : lineAmong (records (recordLines s)) k ≡ lineOn s k
     unfolding lineOn lookupConditions rankConditions refusalOf
     line-told = rw (e, g)
 
-    pub lookup-met : (i : ℕ) → found k (records s) ≡ At i → take recordBytes (drop (i * recordBytes) s) ≡ lookedUp s k
+    pub lookup-met : (i : ℕ) → found k (records (recordLines s)) ≡ At i → take recordBytes (drop (i * recordBytes) s) ≡ lookedUp s k
     unfolding lookedUp lookupConditions rankConditions refusalOf isMissing lineAt
     lookup-met i f = rw (e, g, f)
 
@@ -75,11 +76,19 @@ found-fits s k i e =
     let x = first-at (λ (r : Record). sameKey (r .key) k) (records s) noRecord i e in
     omega (arith, x .within, length-records s)
 
+-- and so of the whole sheet, where it was found among its front
+pub front-fits : (s : List ℕ) (k : Key) (i : ℕ) → found k (records (recordLines s)) ≡ At i → i * recordBytes + recordBytes ≤ length s
+unfolding front
+front-fits s k i e =
+    let n : length (take (filledLines recordBytes s * recordBytes) s) ≤ length s = simp length-take (omega arith) in
+    let l = found-fits (recordLines s) k i e in
+    omega (arith, n, l)
+
 -- A companion that is not refused: the sheet is accepted and the key in range, so that an index that was found is below 500.
 module _ (s : List ℕ) (k : Key) where
-  pub looked-up : refusalOf (rankConditions s k) ≡ 0 → (recordsAccepted s ≡ true) × (keyInRange k ≡ true)
+  pub looked-up : refusalOf (rankConditions s k) ≡ 0 → (sheetAccepted s ≡ true) × (keyInRange k ≡ true)
   unfolding rankConditions refusalOf
-  looked-up = go (recordsAccepted s) (keyInRange k)
+  looked-up = go (sheetAccepted s) (keyInRange k)
     where
       go : (a b : Bool) → refusalOf (refuse 1 (not a) ∷ refuse 5 (not b) ∷ []) ≡ 0 → (a ≡ true) × (b ≡ true)
       go true true z = (refl, refl)
@@ -91,18 +100,18 @@ module _ (rs cs : List ℕ) where
   abbrev pub Checked : ℕ → Type 0
   Checked r = r ≡ refusalOf (checkConditions rs cs)
 
-  pub check-bad : recordsAccepted rs ≡ false → Checked 1
+  pub check-bad : sheetAccepted rs ≡ false → Checked 1
   unfolding checkConditions refusalOf
   check-bad e = rw e
 
-  pub check-coordinator : recordsAccepted rs ≡ true → coordinatorAccepted cs ≡ false → Checked 2
+  pub check-coordinator : sheetAccepted rs ≡ true → coordinatorAccepted cs ≡ false → Checked 2
   unfolding checkConditions refusalOf
   check-coordinator e f = rw (e, f)
 
-  pub check-unissued : recordsAccepted rs ≡ true → coordinatorAccepted cs ≡ true → allIssued rs cs ≡ false → Checked 2
+  pub check-unissued : sheetAccepted rs ≡ true → coordinatorAccepted cs ≡ true → allIssued (recordLines rs) cs ≡ false → Checked 2
   unfolding checkConditions refusalOf
   check-unissued e f g = rw (e, f, g)
 
-  pub check-good : recordsAccepted rs ≡ true → coordinatorAccepted cs ≡ true → allIssued rs cs ≡ true → Checked 0
+  pub check-good : sheetAccepted rs ≡ true → coordinatorAccepted cs ≡ true → allIssued (recordLines rs) cs ≡ true → Checked 0
   unfolding checkConditions refusalOf
   check-good e f g = rw (e, f, g)

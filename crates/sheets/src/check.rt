@@ -7,13 +7,14 @@ ghost use Rattle.model.specs.SheetCalls.{checkConditions};
 pub fn check(records: &[u8], coordinator: &[u8]) -> u32
     ensures { λ r. ⌜ r ≡ refusalOf (checkConditions (now (records .entry)) (now (coordinator .entry))) ⌝ }
 {
-    if !record_check::records_ok(records) {
+    if !record_check::sheet_ok(records) {
         return 1;
     }
     if !coordinator_check::coordinator_ok(coordinator) {
         return 2;
     }
-    if !coordinator_check::all_issued(records, coordinator) {
+    let end = record_check::lines_end(records);
+    if !coordinator_check::all_issued(&records[..end], coordinator) {
         return 2;
     }
     0

@@ -12,6 +12,7 @@ ghost use Rattle.model.specs.Lines.{linesOf};
 ghost use Rattle.model.specs.SheetCalls.{lookedUp, rankOn, lineOn, lineAmong};
 ghost use Rattle.sheets.specs.Search.{keyField, foundLine};
 use codec::keys::key_in_range;
+use record_check::lines_end;
 use types::CLUSTERING_AT;
 use types::Found;
 use types::Key;
@@ -95,7 +96,7 @@ fn find_line(records: &[u8], text: &[u8]) -> Found
     Found::Nothing
 }
 
-// The line that has the key, in an accepted sheet: that part of `rank`'s answer by which operations go. None of them needs to know where a missing key would stand.
+// The line that has the key, among accepted lines: that part of `rank`'s answer by which operations go. None of them needs to know where a missing key would stand.
 pub fn find(records: &[u8], key: Key) -> Found
     requires { ⌜ recordsAccepted (now records) ≡ true ⌝ }
     requires { ⌜ keyInRange key ≡ true ⌝ }
@@ -105,7 +106,7 @@ pub fn find(records: &[u8], key: Key) -> Found
     find_line(records, &text)
 }
 
-// How many lines of an accepted sheet have smaller keys. Keys rise, so that a line tells of all lines on one side of it.
+// How many of accepted lines have smaller keys. Keys rise, so that a line tells of all lines on one side of it.
 fn below(records: &[u8], key: Key) -> usize
     requires { ⌜ recordsAccepted (now records) ≡ true ⌝ }
     ensures { λ r. ⌜ r ≡ model.rank key (model.records (now (records .entry))) ⌝ }
@@ -123,7 +124,7 @@ fn below(records: &[u8], key: Key) -> usize
     low
 }
 
-// Where the key stands on an accepted sheet, or would stand. Smaller keys are looked for only where no line has the key: else the index of its line is the rank.
+// Where the key stands among accepted lines, or would stand. Smaller keys are looked for only where no line has the key: else the index of its line is the rank.
 pub fn rank(records: &[u8], key: Key) -> Rank
     requires { ⌜ recordsAccepted (now records) ≡ true ⌝ }
     requires { ⌜ keyInRange key ≡ true ⌝ }
@@ -141,7 +142,7 @@ pub fn rank(records: &[u8], key: Key) -> Rank
     }
 }
 
-// Which line of an accepted sheet has the key: its index, or 6.
+// Which of accepted lines has the key: its index, or 6.
 pub fn line(records: &[u8], key: Key) -> Ranked
     requires { ⌜ recordsAccepted (now records) ≡ true ⌝ }
     requires { ⌜ keyInRange key ≡ true ⌝ }
@@ -164,17 +165,18 @@ pub fn line(records: &[u8], key: Key) -> Ranked
 pub fn lookup(records: &[u8], key: Key) -> &[u8]
     ensures { λ r. ⌜ now r ≡ lookedUp (now (records .entry)) key ⌝ }
 {
-    if !record_check::records_ok(records) {
+    if !record_check::sheet_ok(records) {
         return &records[..0];
     }
     if !key_in_range(key) {
         return &records[..0];
     }
-    match find(records, key) {
+    let end = lines_end(records);
+    match find(&records[..end], key) {
         Found::At(i) => {
             let at = i * RECORD_BYTES;
-            let end = at + RECORD_BYTES;
-            &records[at..end]
+            let past = at + RECORD_BYTES;
+            &records[at..past]
         }
         Found::Nothing => &records[..0],
     }
@@ -198,15 +200,16 @@ pub fn rank_of(records: &[u8], key: Key) -> Ranked
     ensures told { λ r. ⌜ r ≡ rankOn (now (records .entry)) key ⌝ }
     ensures few { λ r. ⌜ r .rank .below ≤ 500 ⌝ }
 {
-    if !record_check::records_ok(records) {
+    if !record_check::sheet_ok(records) {
         return no_rank(1);
     }
     if !key_in_range(key) {
         return no_rank(5);
     }
+    let end = lines_end(records);
     Ranked {
         refusal: 0,
-        rank: rank(records, key),
+        rank: rank(&records[..end], key),
     }
 }
 
@@ -215,11 +218,12 @@ pub fn line_of(records: &[u8], key: Key) -> Ranked
     ensures told { λ r. ⌜ r ≡ lineOn (now (records .entry)) key ⌝ }
     ensures few { λ r. ⌜ r .rank .below ≤ 500 ⌝ }
 {
-    if !record_check::records_ok(records) {
+    if !record_check::sheet_ok(records) {
         return no_rank(1);
     }
     if !key_in_range(key) {
         return no_rank(5);
     }
-    line(records, key)
+    let end = lines_end(records);
+    line(&records[..end], key)
 }

@@ -1,8 +1,8 @@
 -- A line put into a sheet and one taken out, and spares at its end.
 pub mod Shifted
 pub mod Moves
-pub mod Trimmed
+pub mod Comparing
+pub mod Counting
 pub mod Keyed
 pub mod KeyLaws
 pub mod Spares
-pub mod Fronts

@@ -1,7 +1,7 @@
 -- A list with an element put in or taken out, the others shifting by one, and the same of bytes.
 use Rattle.lists.specs.Basics.{ℕ, _+_, _-_, _≡_, refl, List, [], _∷_, _++_, length, take, drop}
 use Rattle.model.specs.Layouts.{recordBytes}
-use Rattle.model.specs.Spares.{spareText}
+use Rattle.model.specs.Spares.{spareLine}
 
 -- x at index i; what stood there and below stands one further down, and the last goes
 unfoldable pub insertAt {ℓ} : {A : Type ℓ} → ℕ → A → List A → List A
@@ -20,6 +20,6 @@ unfoldable pub movedUp : ℕ → ℕ → List ℕ → List ℕ
 movedUp w a s = take a s ++ (drop (a + w) s ++ drop (length s - w) s)
 
 -- a spare is as wide as any line
-pub length-spare : length spareText ≡ recordBytes
-unfolding spareText
+pub length-spare : length (spareLine recordBytes) ≡ recordBytes
+unfolding spareLine
 length-spare = refl

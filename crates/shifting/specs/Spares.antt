@@ -1,21 +1,21 @@
 -- From lines of bytes to records: a sheet of record lines with spares behind them, after a line is put in or taken out.
 use Rattle.lists.specs.Basics.{ℕ, zero, suc, _+_, _-_, _*_, _/_, _≤_, _<_, _≡_, refl, sym, ap, ap₂, _∙_, Bool, true, false, List, [], _∷_, _++_, map}
 use Rattle.lists.specs.Basics.{append-assoc, arith, length, take, drop, length-append, length-drop, length-map, replicate, and-fst, and-snd, and-both}
-use Rattle.lists.specs.Basics.{bytes, eqList, all, joined, pieces}
-use native.Mathlib.Nat.{suc-mul}
+use Rattle.lists.specs.Basics.{all, joined, pieces}
 use lib.ListN.{length-replicate, replicate-append-replicate}
 use mathlib.Core.List.{map-append}
 use lib.Seq.{take-append-le, drop-append-le, take-append-add, length-take-le}
 use Rattle.lists.specs.All.{all-append, all-drop}
-use Rattle.lists.specs.Pieces.{AllOf, pieces-joined, length-joined}
-use Rattle.decimal.specs.Field.{number, figure, scanned, stepped, within}
+use Rattle.lists.specs.Pieces.{AllOf, length-joined, all-join, all-first, all-rest, all-pieces}
 use Rattle.model.specs.Types.{Key, Record}
-use Rattle.model.specs.Layouts.{recordBytes, recordLayout, words}
-use Rattle.model.specs.Lines.{fieldValue, wordFrom, rowOf, linesOf}
-use Rattle.model.specs.Records.{noRecord, recordOf, keyOf, imageFrom, stateOf, recordIn, recordText, records, absentAt, rising, rank}
-use Rattle.model.specs.Spares.{spareText}
+use Rattle.model.specs.Layouts.{recordBytes}
+use Rattle.model.specs.Lines.{linesOf}
+use Rattle.model.specs.Records.{noRecord, recordIn, recordText, records, absentAt, rising, rank}
+use Rattle.model.specs.Spares.{spareLine}
 use Rattle.sheet_laws.specs.Records.{ranged, record-read-written, length-recordText}
 use Rattle.sheet_laws.specs.ByIndex.{length-lines}
+use Rattle.sheet_laws.specs.Fronts.{lines-joined}
+use Rattle.sheet_laws.specs.Spared.{spare-record}
 use Rattle.sheet_laws.specs.KeyOrder.{listsKey}
 use Rattle.sheet_laws.specs.Ranks.{rank-within}
 use Rattle.shifting.specs.Shifted.{insertAt, removeAt, length-spare}
@@ -86,39 +86,6 @@ module _ {ℓ} {A : Type ℓ} (p : A → Bool) where
       all-append p (take i xs) (drop (i + 1) xs ++ (x ∷ []))
       ∙ and-both (all-take i xs h) (all-append p (drop (i + 1) xs) (x ∷ []) ∙ and-both (all-drop p (i + 1) xs h) (and-both q refl))
 
--- All lines of one width.
-module _ {ℓ} {A : Type ℓ} (w : ℕ) where
-  pub all-join : (xs ys : List (List A)) → AllOf w xs → AllOf w ys → AllOf w (xs ++ ys)
-  all-join [] ys f g = g
-  all-join (x ∷ xs) ys f g = (f .0, all-join xs ys (f .1) g)
-
-  pub all-first : (n : ℕ) (xs : List (List A)) → AllOf w xs → AllOf w (take n xs)
-  all-first zero xs f = tt
-  all-first (suc n) [] f = tt
-  all-first (suc n) (x ∷ xs) f = (f .0, all-first n xs (f .1))
-
-  pub all-rest : (n : ℕ) (xs : List (List A)) → AllOf w xs → AllOf w (drop n xs)
-  all-rest zero xs f = f
-  all-rest (suc n) [] f = tt
-  all-rest (suc n) (x ∷ xs) f = all-rest n xs (f .1)
-
-  pub all-pieces : (n : ℕ) (s : List A) → length s ≡ n * w → AllOf w (pieces w n s)
-  unfolding pieces
-  all-pieces zero s e = tt
-  all-pieces (suc n) s e =
-      let h : length s ≡ n * w + w = e ∙ suc-mul n w in
-      (length-take-le w s (omega arith), all-pieces n (drop w s) (length-drop w s ∙ omega arith))
-
--- a line of spaces says the record of zeros
-pub spare-record : recordIn spareText ≡ noRecord
-unfolding spareText recordIn recordOf keyOf imageFrom stateOf rowOf recordLayout fieldValue wordFrom words bytes eqList number figure scanned stepped within
-spare-record = refl
-
--- the lines of lines joined, where each has w bytes
-pub lines-joined : (w : ℕ) (ls : List (List ℕ)) → AllOf w ls → length (joined ls) / w ≡ length ls → linesOf w (joined ls) ≡ ls
-unfolding linesOf
-lines-joined w ls a e = ap (λ (n : ℕ). pieces w n (joined ls)) e ∙ pieces-joined w ls a
-
 module _ (s : List ℕ) (i : ℕ) (whole : length s ≡ length s / recordBytes * recordBytes) (inside : i < length s / recordBytes) where
   -- every line has its bytes after a line t was put in or taken out
   inserted-wide : (t : List ℕ) → length t ≡ recordBytes → AllOf recordBytes (insertAt i t (linesOf recordBytes s))
@@ -143,7 +110,7 @@ module _ (s : List ℕ) (i : ℕ) (whole : length s ≡ length s / recordBytes *
 
   joined-lines : (xs : List (List ℕ)) → AllOf recordBytes xs → length xs ≡ length (linesOf recordBytes s) → linesOf recordBytes (joined xs) ≡ xs
   joined-lines xs a e =
-      lines-joined recordBytes xs a (ap (λ (n : ℕ). n / recordBytes) (joined-same xs a e) ∙ sym (e ∙ length-lines s))
+      lines-joined recordBytes (omega arith) xs a
 
   pub bytes-inserted : (t : List ℕ) → length t ≡ recordBytes → length (joined (insertAt i t (linesOf recordBytes s))) ≡ length s
   bytes-inserted t w =
@@ -170,11 +137,11 @@ module _ (s : List ℕ) (i : ℕ) (whole : length s ≡ length s / recordBytes *
       ∙ (map-insert recordIn i (recordText r) (linesOf recordBytes s) ∙ ap (λ (x : Record). insertAt i x (records s)) (record-read-written r g))
 
   -- and of one from which a line was taken
-  pub records-removed : records (joined (removeAt i spareText (linesOf recordBytes s))) ≡ removeAt i noRecord (records s)
+  pub records-removed : records (joined (removeAt i (spareLine recordBytes) (linesOf recordBytes s))) ≡ removeAt i noRecord (records s)
   unfolding records
   records-removed =
-      ap (map recordIn) (lines-removed spareText length-spare)
-      ∙ (map-remove recordIn i spareText (linesOf recordBytes s) ∙ ap (λ (x : Record). removeAt i x (records s)) spare-record)
+      ap (map recordIn) (lines-removed (spareLine recordBytes) length-spare)
+      ∙ (map-remove recordIn i (spareLine recordBytes) (linesOf recordBytes s) ∙ ap (λ (x : Record). removeAt i x (records s)) spare-record)
 
 -- Record lines with spares behind them.
 

@@ -1,17 +1,17 @@
 // A line put into a record sheet and one taken out, the lines below shifting by one; and how many lines stand before the spares at the end (document 02, note 6).
 ghost use mathlib.Core.Path.{_≡_};
 ghost use Prim.Native.Nat.{_+_, _*_, _/_, _≤_, _<_};
-ghost use lib.ListN.{length};
+ghost use lib.ListN.{length, take, drop};
 ghost use Rattle.lists.specs.Each.{joined};
 ghost use Rattle.model.specs.Layouts.{recordBytes};
 ghost use Rattle.model.specs.Lines.{linesOf};
-ghost use Rattle.model.specs.Spares.{spareText, recordLines};
+ghost use Rattle.model.specs.Spares.{spareLine, isSpare, filledLines};
 ghost use Rattle.shifting.specs.Shifted.{movedDown, movedUp, insertAt, removeAt};
 use types::RECORD_BYTES;
 
 // A spare: a line without a record.
 pub fn spare() -> [u8; RECORD_BYTES]
-    ensures { λ r. ⌜ r ≡ spareText ⌝ }
+    ensures { λ r. ⌜ r ≡ spareLine recordBytes ⌝ }
 {
     let mut line = [32u8; RECORD_BYTES];
     line[RECORD_BYTES - 1] = 10;
@@ -61,7 +61,7 @@ pub fn insert_line(records: &mut [u8], at: usize, text: &[u8])
 pub fn remove_line(records: &mut [u8], at: usize)
     requires { ⌜ length (now records) ≡ length (now records) / recordBytes * recordBytes ⌝ }
     requires { ⌜ at < length (now records) / recordBytes ⌝ }
-    ensures { λ u. ⌜ now (records .exit) ≡ joined (removeAt at spareText (linesOf recordBytes (now (records .entry)))) ⌝ }
+    ensures { λ u. ⌜ now (records .exit) ≡ joined (removeAt at (spareLine recordBytes) (linesOf recordBytes (now (records .entry)))) ⌝ }
 {
     move_up(records, at * RECORD_BYTES);
     let last = records.len() - RECORD_BYTES;
@@ -69,19 +69,39 @@ pub fn remove_line(records: &mut [u8], at: usize)
     decimal::put(&mut records[last..], &line);
 }
 
-// How many lines a sheet has up to the last that is no spare. Counted from the end: one comparison where there is no spare.
-pub fn record_lines(records: &[u8]) -> usize
-    ensures { λ r. ⌜ r ≡ recordLines (now (records .entry)) ⌝ }
+// Whether the line at `at` is a spare, beside the widest one: ten bytes at a time, the last ten by themselves, whether or not some of them were compared before.
+fn is_spare(s: &[u8], at: usize, width: usize, line: &[u8]) -> bool
+    requires { ⌜ at + width ≤ length (now s) ⌝ }
+    requires { ⌜ 10 ≤ width ⌝ }
+    requires { ⌜ width ≤ recordBytes ⌝ }
+    requires { ⌜ now line ≡ spareLine recordBytes ⌝ }
+    ensures { λ r. ⌜ r ≡ isSpare width (take width (drop at (now (s .entry)))) ⌝ }
+{
+    let from = RECORD_BYTES - width;
+    let tens = width / 10;
+    for k in 0..tens {
+        if !line_bytes::ten_equal(s, at + k * 10, line, from + k * 10) {
+            return false;
+        }
+    }
+    line_bytes::ten_equal(s, at + (width - 10), line, RECORD_BYTES - 10)
+}
+
+// Where the spares at the end of a sheet begin. Lines are compared from the end: one where there is no spare.
+pub fn front_end(s: &[u8], width: usize) -> usize
+    requires { ⌜ length (now s) ≡ length (now s) / width * width ⌝ }
+    requires { ⌜ 10 ≤ width ⌝ }
+    requires { ⌜ width ≤ recordBytes ⌝ }
+    ensures { λ r. ⌜ r ≡ filledLines width (now (s .entry)) * width ⌝ }
 {
     let line = spare();
-    let mut n = records.len() / RECORD_BYTES;
-    while n > 0 {
-        let at = (n - 1) * RECORD_BYTES;
-        let end = at + RECORD_BYTES;
-        if !decimal::same(&records[at..end], &line) {
-            return n;
+    let mut end = s.len();
+    while end > 0 {
+        let at = end - width;
+        if !is_spare(s, at, width, &line) {
+            return end;
         }
-        n -= 1;
+        end = at;
     }
-    n
+    end
 }

@@ -11,8 +11,7 @@ use Rattle.model.specs.ByteCalls.{sheetsOf}
 use Rattle.sheet_laws.specs.KeyOrder.{same-key-refl}
 use Rattle.call_laws.specs.Keys.{hasKey, kept-key}
 use Rattle.call_laws.specs.Transactions.{Body, Stage, well-formed-parts, place-at}
-use Rattle.model.specs.ByteHistories.{Readable}
-use Rattle.call_laws.specs.Lifting.{readable-both}
+use Rattle.call_laws.specs.Lifting.{LinesFit}
 use Rattle.transactions.specs.Units.{unitsIn, units-said}
 use Rattle.held_lines.specs.declared.Located.{Located}
 use Rattle.held_lines.specs.Located.{Indexed, Grouped}
@@ -20,7 +19,7 @@ use Rattle.group_writes.specs.Ready.{Ready as MayWrite}
 
 -- what refusals 1 to 3 let pass, and what was found of the entries
 pub record Ready (rs cs : List ℕ) (t : Transaction) (l : Located) : Type 0 where
-  pub readable : Readable (record { records = rs; coordinator = cs })
+  pub fit : LinesFit rs cs
   pub formed : wellFormed (sheetsOf rs cs) t ≡ true
   pub indexed : Indexed (records rs) t (l .indices) (t .count)
   pub grouped : Grouped (coordinatorOf cs .units) t l
@@ -52,10 +51,10 @@ module _ (rs cs : List ℕ) (t : Transaction) (l : Located) (ready : Ready rs cs
   stage = well-formed-parts (sheetsOf rs cs) t (ready .formed) .1
 
   pub records-accepted : recordsAccepted rs ≡ true
-  records-accepted = readable-both (record { records = rs; coordinator = cs }) (ready .readable) .0
+  records-accepted = ready .fit .0
 
   pub coordinator-readable : coordinatorReadable cs ≡ true
-  coordinator-readable = readable-both (record { records = rs; coordinator = cs }) (ready .readable) .1 .0
+  coordinator-readable = ready .fit .1 .0
 
   -- the letters of the head say the units
   pub units : unitsIn (take 9 (drop 5 cs)) ≡ coordinatorOf cs .units
@@ -65,7 +64,7 @@ module _ (rs cs : List ℕ) (t : Transaction) (l : Located) (ready : Ready rs cs
   few = body .few
 
   pub may-write : MayWrite rs cs t l
-  may-write = record { readable = ready .readable; body = body; indexed = ready .indexed; grouped = ready .grouped }
+  may-write = record { fit = ready .fit; body = body; indexed = ready .indexed; grouped = ready .grouped }
 
   pub known : Known cs t
   known =

@@ -1,29 +1,26 @@
 -- How long sheets and inputs are: an accepted sheet keeps its number of lines, so an input longer than the largest that fits is refused by 1,
 -- and reading a byte more than that is enough.
 use Rattle.lists.specs.Basics.{_≡_, refl, sym, ap, _∙_, ℕ, _+_, _-_, _*_, _/_, _≤_, _<_, eqb, leb, Bool, true, false, cond, List, length, take, drop}
-use Rattle.lists.specs.Basics.{length-take, length-drop, take-all, arith, eqb-true, leb-true, leb-false, all, and-fst, and-snd, tests}
-use Rattle.model.specs.Layouts.{recordLayout, recordBytes, coordinatorBytes, mostCoordinatorBytes, mostRecordBytes}
-use Rattle.model.specs.Lines.{linesOf, linesSet, lineSet}
-use Rattle.model.specs.Records.{records, recordsGood, recordsAccepted}
+use Rattle.lists.specs.Basics.{length-take, length-drop, take-all, arith, leb-true, leb-false}
+use Rattle.model.specs.Layouts.{recordBytes, coordinatorBytes, mostCoordinatorBytes, mostRecordBytes}
+use Rattle.model.specs.Spares.{sheetAccepted}
 use Rattle.model.specs.Coordinator.{coordinatorOf, coordinatorAccepted}
 use Rattle.model.specs.Refusals.{refusalOf}
 use Rattle.model.specs.SheetCalls.{checkConditions}
 use Rattle.model.specs.Visitor.{firstNumber, coordinatorSize, inputFits, inputSheets, inputConditions, printed, refusedText, swept, visitorOutput, firstBytes}
-use Rattle.sheet_laws.specs.ByIndex.{length-records}
+use Rattle.sheet_laws.specs.Fronts.{sized-few}
+use Rattle.sheet_laws.specs.Spared.{accepted-sized, accepted-whole}
 use Rattle.sheet_laws.specs.Coordinator.{bounds}
 use Rattle.sheet_laws.specs.Decisions.{length-decisions, readable-parts, accepted-parts}
 use Rattle.call_laws.specs.Lifting.{passing-parts}
 use Rattle.sweep.specs.FirstLine.{firstOf, recordsFrom, first-small, fit, unfit-refused, fit-refused, accepted-input, records-within}
 
 -- 1 to 500 lines of 98 bytes
-records-few : (s : List ℕ) → recordsAccepted s ≡ true → length s ≤ mostRecordBytes
-unfolding recordsAccepted linesSet recordsGood
+records-few : (s : List ℕ) → sheetAccepted s ≡ true → length s ≤ mostRecordBytes
 records-few s h =
-    let l : linesSet recordLayout recordBytes s ≡ true = and-fst (linesSet recordLayout recordBytes s) (recordsGood (records s)) h in
-    let g : recordsGood (records s) ≡ true = and-snd (linesSet recordLayout recordBytes s) (recordsGood (records s)) h in
-    let w : length s ≡ length s / recordBytes * recordBytes = eqb-true _ _ (and-fst (eqb (length s) (length s / recordBytes * recordBytes)) (all (lineSet recordLayout) (linesOf recordBytes s)) l) in
-    let f : length (records s) ≤ 500 = search tests in
-    omega (arith, length-records s)
+    let w : length s ≡ length s / recordBytes * recordBytes = accepted-whole s h in
+    let f : length s / recordBytes ≤ 500 = sized-few recordBytes s (accepted-sized s h) in
+    omega (arith, w, f)
 
 -- a head and 1 to 999 lines of 15 bytes
 coordinator-few : (s : List ℕ) → coordinatorAccepted s ≡ true → length s ≤ mostCoordinatorBytes
@@ -65,9 +62,9 @@ refused-text s h = ap (λ (n : ℕ). cond (eqb n 0) (printed (swept (firstNumber
 
 many-refused : (rs cs : List ℕ) → mostRecordBytes < length rs → refusalOf (checkConditions rs cs) ≡ 1
 unfolding checkConditions refusalOf
-many-refused rs cs l = go (recordsAccepted rs) refl
+many-refused rs cs l = go (sheetAccepted rs) refl
   where
-    go : (b : Bool) → recordsAccepted rs ≡ b → refusalOf (checkConditions rs cs) ≡ 1
+    go : (b : Bool) → sheetAccepted rs ≡ b → refusalOf (checkConditions rs cs) ≡ 1
     go true e = absurd (omega (arith, records-few rs e))
     go false e = rw e
 

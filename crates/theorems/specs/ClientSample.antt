@@ -111,7 +111,7 @@ clientRecovered = sheets issued3 firstCommitted secondAborted writtenA writtenB
 -- recovery pass and leave those.
 record Computed : Type 0 where
   pub passes : Passing (clientWorld .bytes)
-  pub unprepared : nonePrepared (records (clientWorld .bytes .records)) ≡ true
+  pub unprepared : nonePrepared (saying (clientWorld .bytes) .lines) ≡ true
   pub fits : all clockFits clientActs ≡ true
   pub left : turnsLeft turnAfterOn clientTurns (clientWorld .bytes) ≡ lastBytes
   pub refusals : clientRefusals ≡ 0 ∷ 0 ∷ 0 ∷ 3 ∷ 0 ∷ 0 ∷ 0 ∷ 0 ∷ 0 ∷ 0 ∷ 0 ∷ 0 ∷ 0 ∷ 0 ∷ []
@@ -129,7 +129,7 @@ computed = record { passes = refl; unprepared = refl; fits = refl; left = refl; 
 pub client-passes : Passing (clientWorld .bytes)
 client-passes = computed .passes
 
-pub client-unprepared : nonePrepared (records (clientWorld .bytes .records)) ≡ true
+pub client-unprepared : nonePrepared (saying (clientWorld .bytes) .lines) ≡ true
 client-unprepared = computed .unprepared
 
 pub client-unused : Unused (clientWorld .lists)

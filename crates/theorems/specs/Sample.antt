@@ -208,7 +208,7 @@ recoveredBytes = sheets issued4 thirdCommitted fourthAborted writtenA writtenB w
 -- What follows by computation: the first sheets pass and have no PREPARED line, the table is true, and the visits are such a pass and leave these bytes.
 record Computed : Type 0 where
   pub passes : Passing sampleBytes
-  pub unprepared : nonePrepared (records (sampleBytes .records)) ≡ true
+  pub unprepared : nonePrepared (saying sampleBytes .lines) ≡ true
   pub true-story : told bytesKind story sampleBytes ≡ story
   pub readable : leavesReadings (saying lastBytes) ≡ true
   pub visits : recoveryPass (readingsOf (saying lastBytes)) (saying lastBytes) ≡ sampleVisits
@@ -254,7 +254,7 @@ story-legal =
 pub sample-passes : Passing sampleBytes
 sample-passes = computed .passes
 
-pub sample-unprepared : nonePrepared (records (sampleBytes .records)) ≡ true
+pub sample-unprepared : nonePrepared (saying sampleBytes .lines) ≡ true
 sample-unprepared = computed .unprepared
 
 pub sample-legal : LegalTurns turnAfterOn turnEventOn sampleTurns sampleBytes []
@@ -277,4 +277,4 @@ sample-recovered = ap (leftBy answerOn afterOn (map visitCall sampleVisits)) lef
 pub sample-committed : modelOn sampleTurns sampleBytes .committed ≡ 3 ∷ 2 ∷ []
 unfolding modelAfter modelStep modelCall modelBegin modelPut modelCommit firstModel operationOf standsFor
 sample-committed =
-    ap (λ (es : List Event). modelAfter es (firstModel (records (sampleBytes .records))) .committed) (rows-events bytesKind story sampleBytes [] (computed .true-story))
+    ap (λ (es : List Event). modelAfter es (firstModel (saying sampleBytes .lines)) .committed) (rows-events bytesKind story sampleBytes [] (computed .true-story))

@@ -156,7 +156,7 @@ serialTurns = map (λ (r : Row Bytes). r .turn) story
 
 record Computed : Type 0 where
   pub passes : Passing serialBytes
-  pub unprepared : nonePrepared (records (serialBytes .records)) ≡ true
+  pub unprepared : nonePrepared (saying serialBytes .lines) ≡ true
   pub true-story : told bytesKind story serialBytes ≡ story
 
 computed : Computed
@@ -198,7 +198,7 @@ story-legal =
 pub serial-passes : Passing serialBytes
 serial-passes = computed .passes
 
-pub serial-unprepared : nonePrepared (records (serialBytes .records)) ≡ true
+pub serial-unprepared : nonePrepared (saying serialBytes .lines) ≡ true
 serial-unprepared = computed .unprepared
 
 pub serial-legal : LegalTurns turnAfterOn turnEventOn serialTurns serialBytes []
@@ -234,4 +234,4 @@ serial-order = ap serialOrder calls-made
 pub serial-committed : modelOn serialTurns serialBytes .committed ≡ 1 ∷ 2 ∷ 3 ∷ []
 unfolding modelAfter modelStep modelCall modelBegin modelPut modelCommit firstModel
 serial-committed =
-    ap (λ (es : List Event). modelAfter es (firstModel (records (serialBytes .records))) .committed) (rows-events bytesKind story serialBytes [] (computed .true-story))
+    ap (λ (es : List Event). modelAfter es (firstModel (saying serialBytes .lines)) .committed) (rows-events bytesKind story serialBytes [] (computed .true-story))

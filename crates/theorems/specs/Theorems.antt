@@ -1,11 +1,12 @@
 -- What is proved of the engine: every headline statement, in the words of the definitions of `model`, each by citing the law that proves it. Document 02, note 4, is in TwoTheorems.
 -- The engine's contracts cite the same definitions, so that what holds of `answerOn`, `afterOn`, `responseOn` and `responseAtOn` holds of the functions that run.
-use Rattle.lists.specs.Basics.{_≡_, ap, _∙_, ℕ, _+_, _*_, _%_, _^_, _≤_, _<_, true, false, cond, List, [], _∷_, map, length, take, drop, some, all, any, bytes}
+use Rattle.lists.specs.Basics.{_≡_, ap, _∙_, ℕ, _+_, _*_, _/_, _%_, _^_, _≤_, _<_, true, false, cond, List, [], _∷_, map, length, take, drop, some, all, any, bytes}
 use Rattle.model.specs.Types.{Key, Record, Committed, At, Nothing, Transaction, Forward, Request}
 use Rattle.model.specs.Layouts.{recordBytes}
 use Rattle.model.specs.Lines.{text}
 use Rattle.model.specs.Groups.{unitFields}
-use Rattle.model.specs.Records.{keyLess, records, recordsText, recordsGood, recordsAccepted, found, lineOf, hasLine, rank}
+use Rattle.model.specs.Records.{keyLess, records, recordsGood, found, lineOf, hasLine, rank}
+use Rattle.model.specs.Spares.{recordLines, sheetFor, sheetAccepted}
 use Rattle.model.specs.Coordinator.{Letter, Coordinator, coordinatorOf, coordinatorText, coordinatorGood, coordinatorReadable, allCapitals, coordinatorAccepted}
 use Rattle.model.specs.Refusals.{Condition, firstAsked}
 use Rattle.model.specs.Images.{isPrepared, rolledForward}
@@ -30,7 +31,7 @@ use Rattle.model.specs.Recovered.{Recovered, modelOn, bytesRecovered}
 use Rattle.model.specs.SerialOrder.{callsOn, begunChecked, serialOrder, serialLine, Serializable}
 use Rattle.model.specs.Cases.{Case, cases, twelve-cases}
 use Rattle.model.specs.Notes.{noteCases, note-cases, five-letters, rankAt, standing, shared-place}
-use Rattle.sheet_laws.specs.Records as RecordLaws
+use Rattle.sheet_laws.specs.Spared as SheetLaws
 use Rattle.sheet_laws.specs.Coordinator as CoordinatorLaws
 use Rattle.sheet_laws.specs.Decisions as DecisionLaws
 use Rattle.sheet_laws.specs.Ranks as Ranks
@@ -124,15 +125,16 @@ pub returned-well-formed : (x : Turn) (b : Bytes) (t : Transaction) → ClockFit
 returned-well-formed x b t l p e = Recovery.turn-returns-formed-on x b t l p e
 
 -- "an accepted sheet read into records and written again is the same sheet"
-pub records-written-again : (s : List ℕ) → recordsAccepted s ≡ true → recordsText (records s) ≡ s
-records-written-again s a = RecordLaws.sheet-written-read s a
+pub records-written-again : (s : List ℕ) → sheetAccepted s ≡ true → sheetFor (records (recordLines s)) (length s / recordBytes) ≡ s
+records-written-again s a = SheetLaws.sheet-said s a
 
 pub coordinator-written-again : (s : List ℕ) → coordinatorAccepted s ≡ true → coordinatorText (coordinatorOf s) ≡ s
 coordinator-written-again s a = CoordinatorLaws.coordinator-written-read s (DecisionLaws.accepted-parts s a .0)
 
 -- "and records that keep its rules, written and read, are the same records"
-pub records-read-again : (rs : List Record) → recordsGood rs ≡ true → (records (recordsText rs) ≡ rs) × (recordsAccepted (recordsText rs) ≡ true)
-records-read-again rs g = RecordLaws.records-read-written rs g
+pub records-read-again : (rs : List Record) (n : ℕ) → recordsGood rs ≡ true → length rs ≤ n → 1 ≤ n → n ≤ 500
+    → (records (recordLines (sheetFor rs n)) ≡ rs) × ((length (sheetFor rs n) / recordBytes ≡ n) × (sheetAccepted (sheetFor rs n) ≡ true))
+records-read-again rs n g room least most = (SheetLaws.sheet-records rs n g room, (SheetLaws.sheet-count rs n g room, SheetLaws.sheet-accepted rs n g room least most))
 
 -- with letters of either case the sheet breaks no other rule, and with capitals it is accepted
 pub coordinator-read-again : (c : Coordinator) → coordinatorGood c ≡ true
@@ -153,14 +155,14 @@ unit-letters = five-letters
 
 -- DOCUMENT 02, NOTE 5, of every accepted record sheet: the place of a key's line is the number of lines with smaller keys, those lines stand above it, and no later
 -- line has a smaller key; "two keys without lines may share a place", as the third and the fourth of these do
-pub rank-is-place : (k : Key) (s : List ℕ) → recordsAccepted s ≡ true → found k (records s) ≡ cond (hasLine k (records s)) (At (rank k (records s))) Nothing
-rank-is-place k s a = Ranks.found-by-rank k (records s) (Ranks.accepted-order s a)
+pub rank-is-place : (k : Key) (s : List ℕ) → sheetAccepted s ≡ true → found k (records (recordLines s)) ≡ cond (hasLine k (records (recordLines s))) (At (rank k (records (recordLines s)))) Nothing
+rank-is-place k s a = Ranks.found-by-rank k (records (recordLines s)) (Ranks.accepted-order (recordLines s) (SheetLaws.accepted-lines s a))
 
-pub smaller-above : (k : Key) (s : List ℕ) → recordsAccepted s ≡ true → all (λ (r : Record). keyLess (r .key) k) (take (rank k (records s)) (records s)) ≡ true
-smaller-above k s a = Ranks.rank-above k (records s) (Ranks.accepted-order s a)
+pub smaller-above : (k : Key) (s : List ℕ) → sheetAccepted s ≡ true → all (λ (r : Record). keyLess (r .key) k) (take (rank k (records (recordLines s))) (records (recordLines s))) ≡ true
+smaller-above k s a = Ranks.rank-above k (records (recordLines s)) (Ranks.accepted-order (recordLines s) (SheetLaws.accepted-lines s a))
 
-pub none-smaller-behind : (k : Key) (s : List ℕ) → recordsAccepted s ≡ true → any (λ (r : Record). keyLess (r .key) k) (drop (rank k (records s)) (records s)) ≡ false
-none-smaller-behind k s a = Ranks.rank-behind k (records s) (Ranks.accepted-order s a)
+pub none-smaller-behind : (k : Key) (s : List ℕ) → sheetAccepted s ≡ true → any (λ (r : Record). keyLess (r .key) k) (drop (rank k (records (recordLines s))) (records (recordLines s))) ≡ false
+none-smaller-behind k s a = Ranks.rank-behind k (records (recordLines s)) (Ranks.accepted-order (recordLines s) (SheetLaws.accepted-lines s a))
 
 pub places-shared : map rankAt (0 ∷ 1 ∷ 2 ∷ 3 ∷ 4 ∷ 5 ∷ []) ≡ standing 0 false ∷ standing 0 true ∷ standing 1 false ∷ standing 1 false ∷ standing 1 true ∷ standing 2 false ∷ []
 places-shared = shared-place
@@ -207,7 +209,7 @@ none-greater t now limit b fits n u e = Closes.none-greater t now limit b fits n
 -- DEMAND 3, over bytes and every turn of a history; a turn may be a close, and a crash after its k-th write is the close with limit k. For all bytes that refusals 1 and 2 let pass, without a PREPARED line; for every legal history of turns
 -- on them, refused ones included; for every recovery pass after it: no line is PREPARED, the record sheet is byte for byte the sequential model's, and a
 -- transaction with puts is committed exactly when its coordinator line says so or its one-phase write was made.
-pub demand-3 : (b : Bytes) → Passing b → nonePrepared (records (b .records)) ≡ true → (xs : List Turn) → LegalTurns turnAfterOn turnEventOn xs b [] → (vs : List Visit) → Closing saying afterOn vs (turnsLeft turnAfterOn xs b) → Recovered vs xs b
+pub demand-3 : (b : Bytes) → Passing b → nonePrepared (saying b .lines) ≡ true → (xs : List Turn) → LegalTurns turnAfterOn turnEventOn xs b [] → (vs : List Visit) → Closing saying afterOn vs (turnsLeft turnAfterOn xs b) → Recovered vs xs b
 demand-3 b p z xs legal vs c = Recovery.demand-3 b p z xs legal vs c
 
 -- DOCUMENT 02, NOTE 2. A number has expired exactly when every line PREPARED by it has (Visits `numberExpired`), and demand 3 is for readings at which it has. After
@@ -224,7 +226,7 @@ pub readings-told : (b : Bytes) → Passing b → (leavesReadings (saying b) ≡
 readings-told b p = (ReadingLaws.readings-exist (saying b), ReadingLaws.readings-needed (saying b) (good-parts (saying b) (passing-good b p)))
 
 -- a history and a pass that meet the hypotheses, the bytes that they leave, and what was committed, the last number first
-pub sample-legal : (Passing Sample.sampleBytes × (nonePrepared (records (Sample.sampleBytes .records)) ≡ true)) × (LegalTurns turnAfterOn turnEventOn Sample.sampleTurns Sample.sampleBytes [] × Closing saying afterOn Sample.sampleVisits (turnsLeft turnAfterOn Sample.sampleTurns Sample.sampleBytes))
+pub sample-legal : (Passing Sample.sampleBytes × (nonePrepared (saying Sample.sampleBytes .lines) ≡ true)) × (LegalTurns turnAfterOn turnEventOn Sample.sampleTurns Sample.sampleBytes [] × Closing saying afterOn Sample.sampleVisits (turnsLeft turnAfterOn Sample.sampleTurns Sample.sampleBytes))
 sample-legal = ((Sample.sample-passes, Sample.sample-unprepared), (Sample.sample-legal, Sample.sample-closing))
 
 pub sample-recovered : (bytesRecovered Sample.sampleVisits Sample.sampleTurns Sample.sampleBytes ≡ Sample.recoveredBytes) × (modelOn Sample.sampleTurns Sample.sampleBytes .committed ≡ 3 ∷ 2 ∷ [])
@@ -238,13 +240,13 @@ pub clients-legal : (acts : List Act) (w : World) → Passing (w .bytes) → Unu
 clients-legal acts w p u f = Clients.clients-legal acts w p u f
 
 -- so that demand 3 holds of all that they do
-pub clients-recovered : (acts : List Act) (w : World) → Passing (w .bytes) → nonePrepared (records (w .bytes .records)) ≡ true → Unused (w .lists)
+pub clients-recovered : (acts : List Act) (w : World) → Passing (w .bytes) → nonePrepared (saying (w .bytes) .lines) ≡ true → Unused (w .lists)
     → all clockFits acts ≡ true → (vs : List Visit) → Closing saying afterOn vs (turnsLeft turnAfterOn (turnsOf acts w) (w .bytes))
     → Recovered vs (turnsOf acts w) (w .bytes)
 clients-recovered acts w p z u f vs c = demand-3 (w .bytes) p z (turnsOf acts w) (clients-legal acts w p u f) vs c
 
 -- acts and a pass that meet the hypotheses: two clients, of which one closes an order of two groups, crashes after its third write, and is refused once where it goes on
-pub clients-sample : ((Passing (ClientSample.clientWorld .bytes) × (nonePrepared (records (ClientSample.clientWorld .bytes .records)) ≡ true))
+pub clients-sample : ((Passing (ClientSample.clientWorld .bytes) × (nonePrepared (saying (ClientSample.clientWorld .bytes) .lines) ≡ true))
     × (Unused (ClientSample.clientWorld .lists) × (all clockFits ClientSample.clientActs ≡ true)))
     × Closing saying afterOn ClientSample.clientVisits (turnsLeft turnAfterOn ClientSample.clientTurns (ClientSample.clientWorld .bytes))
 clients-sample =
@@ -258,30 +260,30 @@ clients-sample-recovered = (ClientSample.client-refusals, (ClientSample.client-c
 
 -- "if COMMITTED was written, the next reader finishes it": the next visit of a line PREPARED by a COMMITTED owner, and the next read of it as a new key, leave
 -- it rolled forward, at any reading of the clock
-pub next-visit-finishes : (b : Bytes) → Passing b → (k : Key) (now : ℕ) → now < 2 ^ 32 → hasLine k (records (b .records)) ≡ true → isPrepared (lineOf k (records (b .records))) ≡ true → ownerDecision (lineOf k (records (b .records))) (coordinatorOf (b .coordinator)) ≡ Committed → (answerOn (visit k now) b ≡ visited Forward) × (lineOf k (records (afterOn (visit k now) b .records)) ≡ rolledForward (lineOf k (records (b .records))))
+pub next-visit-finishes : (b : Bytes) → Passing b → (k : Key) (now : ℕ) → now < 2 ^ 32 → hasLine k (saying b .lines) ≡ true → isPrepared (lineOf k (saying b .lines)) ≡ true → ownerDecision (lineOf k (saying b .lines)) (coordinatorOf (b .coordinator)) ≡ Committed → (answerOn (visit k now) b ≡ visited Forward) × (lineOf k (saying (afterOn (visit k now) b) .lines) ≡ rolledForward (lineOf k (saying b .lines)))
 next-visit-finishes b p k now l h m d = NextReader.next-visit-finishes b p k now l h m d
 
-pub next-read-finishes : (b : Bytes) → Passing b → (k : Key) (now : ℕ) → now < 2 ^ 32 → hasLine k (records (b .records)) ≡ true → isPrepared (lineOf k (records (b .records))) ≡ true → ownerDecision (lineOf k (records (b .records))) (coordinatorOf (b .coordinator)) ≡ Committed → (t : Transaction) → isNew k t ≡ true → refusalIn (answerOn (read t k now) b) ≡ 0 → lineOf k (records (afterOn (read t k now) b .records)) ≡ rolledForward (lineOf k (records (b .records)))
+pub next-read-finishes : (b : Bytes) → Passing b → (k : Key) (now : ℕ) → now < 2 ^ 32 → hasLine k (saying b .lines) ≡ true → isPrepared (lineOf k (saying b .lines)) ≡ true → ownerDecision (lineOf k (saying b .lines)) (coordinatorOf (b .coordinator)) ≡ Committed → (t : Transaction) → isNew k t ≡ true → refusalIn (answerOn (read t k now) b) ≡ 0 → lineOf k (saying (afterOn (read t k now) b) .lines) ≡ rolledForward (lineOf k (saying b .lines))
 next-read-finishes b p k now l h m d t n a = NextReader.next-read-finishes b p k now l h m d t n a
 
 -- DOCUMENT 02, NOTE 8, for the calls that stand: "Suppose every transaction is begun as checked, in a list as demand 3 and the cut-off rule allow." Over bytes
 -- and every turn of a history, a turn counting as the calls that it comes to: each committed transaction has one position in the order, each of its reads saw
 -- what the committed ones before it leave, run whole one after another from the first sheets, and all of them together leave the sequential model's lines.
-pub checked-serializable : (b : Bytes) → Passing b → nonePrepared (records (b .records)) ≡ true → (xs : List Turn)
+pub checked-serializable : (b : Bytes) → Passing b → nonePrepared (saying b .lines) ≡ true → (xs : List Turn)
     → LegalTurns turnAfterOn turnEventOn xs b [] → all begunChecked (callsOn xs b) ≡ true
-    → Serializable (records (b .records)) (modelOn xs b) (callsOn xs b)
+    → Serializable (saying b .lines) (modelOn xs b) (callsOn xs b)
 checked-serializable b p z xs legal checked = Serial.checked-serializable b p z xs legal checked
 
 -- so that after every recovery pass the record sheet is, byte for byte, what that serial run leaves
-pub serial-bytes : (b : Bytes) → Passing b → nonePrepared (records (b .records)) ≡ true → (xs : List Turn)
+pub serial-bytes : (b : Bytes) → Passing b → nonePrepared (saying b .lines) ≡ true → (xs : List Turn)
     → LegalTurns turnAfterOn turnEventOn xs b [] → all begunChecked (callsOn xs b) ≡ true
     → (vs : List Visit) → Closing saying afterOn vs (turnsLeft turnAfterOn xs b)
     → bytesRecovered vs xs b .records
-    ≡ recordsText (map (λ (r : Record). serialLine (records (b .records)) (modelOn xs b) (serialOrder (callsOn xs b)) (r .key)) (records (b .records)))
+    ≡ sheetFor (map (λ (r : Record). serialLine (saying b .lines) (modelOn xs b) (serialOrder (callsOn xs b)) (r .key)) (saying b .lines)) (saying b .size)
 serial-bytes b p z xs legal checked vs c = Serial.serial-bytes b p z xs legal checked vs c
 
 -- a history that meets the hypotheses, the order in which its transactions count, and the order in which they committed, the last number first in both
-pub serial-legal : (Passing SerialSample.serialBytes × (nonePrepared (records (SerialSample.serialBytes .records)) ≡ true))
+pub serial-legal : (Passing SerialSample.serialBytes × (nonePrepared (saying SerialSample.serialBytes .lines) ≡ true))
     × (LegalTurns turnAfterOn turnEventOn SerialSample.serialTurns SerialSample.serialBytes []
     × (all begunChecked (callsOn SerialSample.serialTurns SerialSample.serialBytes) ≡ true))
 serial-legal = ((SerialSample.serial-passes, SerialSample.serial-unprepared), (SerialSample.serial-legal, SerialSample.serial-checked))

@@ -1,11 +1,11 @@
 -- DOCUMENT 02, NOTE 4: what is proved of the operations on a plain sheet and a bookkeeping sheet, in the words of the definitions of `model` (TwoSheets, TwoCalls),
 -- each by citing the law that proves it. The contracts of the operations on two sheets cite `responseTwo`, `plainLeft` and `bookkeepingLeft`, so that what holds of
 -- these holds of the functions that run.
-use Rattle.lists.specs.Basics.{_≡_, ℕ, _^_, _≤_, _<_, true, false, List, [], _∷_, map, drop, some, all}
+use Rattle.lists.specs.Basics.{_≡_, ℕ, _^_, _≤_, _<_, true, _&&_, false, List, [], _∷_, map, drop, some, all}
 use Rattle.model.specs.Types.{Key, Columns, Record, Transaction, Request}
 use Rattle.types.specs.declared.Reading.the-variants.{First}
 use Rattle.model.specs.Layouts.{recordBytes}
-use Rattle.model.specs.Records.{recordsText}
+use Rattle.model.specs.Spares.{sized, sheetFor}
 use Rattle.model.specs.Refusals.{Condition, firstAsked}
 use Rattle.model.specs.Writes.{Sheets}
 use Rattle.model.specs.WellFormed.{wellFormed}
@@ -19,7 +19,8 @@ use Rattle.model.specs.Operations.{Operation, once, responseOn, bytesLeft}
 use Rattle.model.specs.CallByPlace.{listAfter}
 use Rattle.model.specs.RecoveryPass.{Visit, nonePrepared, Closing, Readings, leavesReadings}
 use Rattle.model.specs.Turns.{Turn, single, turnCall, turnWritesOnce, turnEvent, turnAfter, turnResponseOn, turnAfterOn, turnsLeft, LegalTurns}
-use Rattle.model.specs.TwoSheets.{joinedSheet, plainPart, bookkeepingPart, plainAlone, bookkeepingAlone, sameKeys}
+use Rattle.model.specs.TwoSheets.{bookkeepingBytes, plainBytes, joinedSheet, plainPart, bookkeepingPart, plainAlone, bookkeepingAlone}
+use Rattle.model.specs.TwoSpares.{plainLines, bookkeepingLines, keysMatch}
 use Rattle.model.specs.TwoCalls.{TwoBytes, sayingTwo, PassingTwo, responseTwo, responseAtTwo, allConditionsTwo, allConditionsAtTwo, answerTwo, afterTwo}
 use Rattle.model.specs.TwoCalls.{turnResponseTwo, turnEventTwo, turnAfterTwo}
 use Rattle.model.specs.AtomicWrites.{OneUnitTwo}
@@ -30,8 +31,8 @@ use Rattle.call_laws.specs.Lifting.{Capitals}
 use Rattle.recovery.specs.PassExists.{recoveryPass}
 use Rattle.two_laws.specs.Deciding.{whole}
 use Rattle.two_laws.specs.JoinedSheets as JoinedSheets
-use Rattle.two_laws.specs.Encoding.{joinedBytes, Joinable, alone-joinable, passing-joined}
-use Rattle.two_laws.specs.Encoding as Encoding
+use Rattle.two_laws.specs.TwoEncoding.{joinedBytes, JoinableTwo, alone-joinable-two, passing-two}
+use Rattle.two_laws.specs.TwoEncoding as Encoding
 use Rattle.two_turns.specs.Turns as TwoTurns
 use Rattle.two_turns.specs.History as History
 use Rattle.two_turns.specs.JoinedCalls as JoinedCalls
@@ -41,32 +42,32 @@ use Rattle.two_turns.specs.Readings.{plainColumns}
 use Rattle.two_turns.specs.Readings as FirstCalls
 use Rattle.theorems.specs.TwoSample as TwoSample
 
--- THE SHEETS. "Both have the same keys in the same order": whole lines whose keys agree, byte for byte, are one record sheet apart, and a record sheet of whole lines
--- is its two parts joined.
+-- THE SHEETS. "Both have the same keys in the same order": as many whole lines, before the spares with keys that agree, byte for byte, are one record sheet apart, and a
+-- record sheet of whole lines is its two parts joined.
 pub joined-apart : (s : List ℕ) → whole recordBytes s ≡ true → joinedSheet (plainPart s) (bookkeepingPart s) ≡ s
 joined-apart s w = JoinedSheets.join-split s w
 
-pub apart-joined : (b : TwoBytes) → Joinable b → (plainPart (joinedSheet (b .plain) (b .bookkeeping)) ≡ b .plain) × (bookkeepingPart (joinedSheet (b .plain) (b .bookkeeping)) ≡ b .bookkeeping)
-apart-joined b j = Encoding.split-join b j
+pub apart-joined : (b : TwoBytes) → JoinableTwo b → (plainPart (joinedSheet (b .plain) (b .bookkeeping)) ≡ b .plain) × (bookkeepingPart (joinedSheet (b .plain) (b .bookkeeping)) ≡ b .bookkeeping)
+apart-joined b j = TwoUnits.split-join-two b j
 
 -- such are the sheets that refusal 1 of either alone and 13 let pass, and so all that are accepted
-pub alone-are-joinable : (b : TwoBytes) → plainAlone (b .plain) ≡ true → bookkeepingAlone (b .bookkeeping) ≡ true → sameKeys (b .plain) (b .bookkeeping) ≡ true → Joinable b
-alone-are-joinable b p q k = alone-joinable b p q k
+pub alone-are-joinable : (b : TwoBytes) → (sized plainBytes (b .plain) && plainAlone (plainLines (b .plain))) ≡ true → (sized bookkeepingBytes (b .bookkeeping) && bookkeepingAlone (bookkeepingLines (b .bookkeeping))) ≡ true → keysMatch (b .plain) (b .bookkeeping) ≡ true → JoinableTwo b
+alone-are-joinable b p q k = alone-joinable-two b p q k
 
-pub accepted-are-joinable : (b : TwoBytes) → PassingTwo b → Joinable b
-accepted-are-joinable b p = passing-joined b p .lines
+pub accepted-are-joinable : (b : TwoBytes) → PassingTwo b → JoinableTwo b
+accepted-are-joinable b p = passing-two b p .lines
 
 -- THE JOINED SHEET'S ANSWERS. "Apart from that and lower-case letters, each operation on the two sheets gives the answer of the joined sheet": for every turn, a
 -- close and the calls by place included, and every such pair of sheets beside capitals, refused ones included
-pub two-answers-joined : (x : Turn) (b : TwoBytes) → Joinable b → Capitals (sayingTwo b) → turnResponseTwo x b ≡ turnResponseOn x (joinedBytes b)
+pub two-answers-joined : (x : Turn) (b : TwoBytes) → JoinableTwo b → Capitals (sayingTwo b) → turnResponseTwo x b ≡ turnResponseOn x (joinedBytes b)
 two-answers-joined x b j a = JoinedCalls.joined-response x b j a
 
-pub operation-answers-joined : (o : Operation) (b : TwoBytes) → Joinable b → Capitals (sayingTwo b) → responseTwo o b ≡ responseOn o (joinedSheet (b .plain) (b .bookkeeping)) (b .coordinator)
+pub operation-answers-joined : (o : Operation) (b : TwoBytes) → JoinableTwo b → Capitals (sayingTwo b) → responseTwo o b ≡ responseOn o (joinedSheet (b .plain) (b .bookkeeping)) (b .coordinator)
 unfolding turnResponseTwo turnResponseOn
 operation-answers-joined o b j a = two-answers-joined (single o) b j a
 
 -- "and the sheets after it join to what that sheet would be"
-pub two-leaves-joined : (x : Turn) (b : TwoBytes) → ClockFits (turnCall x) → Joinable b → Capitals (sayingTwo b) → joinedBytes (turnAfterTwo x b) ≡ turnAfterOn x (joinedBytes b)
+pub two-leaves-joined : (x : Turn) (b : TwoBytes) → ClockFits (turnCall x) → JoinableTwo b → Capitals (sayingTwo b) → joinedBytes (turnAfterTwo x b) ≡ turnAfterOn x (joinedBytes b)
 two-leaves-joined x b l j a = JoinedCalls.joined-left x b l j a
 
 -- with letters of either case they join to what the answer leaves of the joined sheet, whatever the sheets
@@ -163,7 +164,7 @@ checked-serializable-two b p z xs legal checked = History.checked-serializable-t
 pub serial-bytes-two : (b : TwoBytes) → PassingTwo b → nonePrepared (sayingTwo b .lines) ≡ true → (xs : List Turn) → LegalTurns turnAfterTwo turnEventTwo xs b []
     → all begunChecked (callsTwo xs b) ≡ true → (vs : List Visit) → Closing sayingTwo afterTwo vs (turnsLeft turnAfterTwo xs b)
     → joinedSheet (twoRecovered vs xs b .plain) (twoRecovered vs xs b .bookkeeping)
-    ≡ recordsText (map (λ (r : Record). serialLine (sayingTwo b .lines) (modelTwo xs b) (serialOrder (callsTwo xs b)) (r .key)) (sayingTwo b .lines))
+    ≡ sheetFor (map (λ (r : Record). serialLine (sayingTwo b .lines) (modelTwo xs b) (serialOrder (callsTwo xs b)) (r .key)) (sayingTwo b .lines)) (sayingTwo b .size)
 serial-bytes-two b p z xs legal checked vs c = History.serial-bytes-two b p z xs legal checked vs c
 
 -- a history that meets the hypotheses, the order in which its transactions count, and the order in which they committed, the last number first in both

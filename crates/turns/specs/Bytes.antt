@@ -32,7 +32,7 @@ turn-returns-formed-on x b t l p e = returns-formed-of bytesKind bytes-faithful 
 
 -- DEMAND 3. For all bytes that refusals 1 and 2 let pass, without a PREPARED line; for every legal history of turns on them, refused ones included; for
 -- every recovery pass after it.
-pub demand-3 : (b : Bytes) → Passing b → nonePrepared (records (b .records)) ≡ true → (xs : List Turn) → LegalTurns turnAfterOn turnEventOn xs b [] → (vs : List Visit) → Closing saying afterOn vs (turnsLeft turnAfterOn xs b) → Recovered vs xs b
+pub demand-3 : (b : Bytes) → Passing b → nonePrepared (saying b .lines) ≡ true → (xs : List Turn) → LegalTurns turnAfterOn turnEventOn xs b [] → (vs : List Visit) → Closing saying afterOn vs (turnsLeft turnAfterOn xs b) → Recovered vs xs b
 demand-3 b p z xs legal vs c = demand-3-of bytesKind bytes-faithful b p z xs legal vs c
 
 -- after a legal history that leaves each undecided number a reading a recovery pass exists ..

@@ -15,7 +15,7 @@ use Rattle.model.specs.Histories.{answer, written, after, ClockFits}
 use Rattle.model.specs.Closing.{Run, stepWrites, stops, goesOn, turn, closing, starting, mostSteps, cannotClose, closeConditions}
 use Rattle.model.specs.ByteHistories.{Bytes, saying, Readable, Passing, answerOn, afterOn}
 use Rattle.model.specs.AtomicWrites.{OneUnit, coordinator-only}
-use Rattle.model.specs.Operations.{close, standsFor, closeRun, ended, response, responseOn, recordsLeft, coordinatorLeft, bytesLeft}
+use Rattle.model.specs.Operations.{close, standsFor, closeRun, ended, response, responseOn, sheetLeft, coordinatorLeft, bytesLeft}
 use Rattle.model.specs.Closes.{closeAnswer, closeLeaves, Advances, no-advance, unwritten, written as wrote, NextWrite, nothing-more, one-write-more, NextLimit, EndsAt}
 use Rattle.model.specs.Changes.{ToldAtomic, toldOf}
 use Rattle.model.specs.Turns.{Turn, single, turnCall, turnEventOn, turnAfterOn, turnResponseOn}
@@ -123,7 +123,7 @@ module _ (t : Transaction) (now limit : ℕ) (b : Bytes) where
     leaves : left ≡ encoded (run .sheets)
 
   accepted : (n : ℕ) (u : Transaction) → closeAnswer t now limit b ≡ reported n u → Accepted n u (closeLeaves t now limit b)
-  unfolding responseOn response recordsLeft coordinatorLeft
+  unfolding responseOn response sheetLeft coordinatorLeft
   accepted n u =
       unless-of (λ (r : Response Answer Sheets). answerOf r ≡ reported n u → Accepted n u (bytesLeft b r)) (checkConditions (b .records) (b .coordinator))
       (λ z e. absurd (z (ap refusalIn e)))
@@ -242,7 +242,7 @@ module _ (t : Transaction) (now limit : ℕ) (b : Bytes) (fits : now < 2 ^ 32) w
           (write-unit (encoded (lower .sheets)) (x .1) w kept single))
 
   pub next-limit : NextLimit t now limit b
-  unfolding responseOn recordsLeft coordinatorLeft
+  unfolding responseOn sheetLeft coordinatorLeft
   next-limit =
       next-by OneUnit (bytesLeft b) (checkConditions (b .records) (b .coordinator)) t now limit (saying b) (λ p z. run-next (passing-readable b p .0) z)
 

@@ -2,7 +2,8 @@
 -- sheets stay accepted and say what the turn leaves; and accepted sheets have the text of what they say.
 use Rattle.lists.specs.Basics.{_≡_, refl, sym, ap, ap₂, subst, _∙_, ℕ, Bool, true, _||_, List, [], _∷_, map, some}
 use Rattle.model.specs.Types.{Record, Transaction}
-use Rattle.model.specs.Records.{recordsText}
+use Rattle.model.specs.Spares.{sheetFor}
+use Rattle.model.specs.ByteCalls.{sheetText}
 use Rattle.model.specs.Coordinator.{decision}
 use Rattle.model.specs.Writes.{Sheets, sheetsGood}
 use Rattle.model.specs.Results.{Call, returns}
@@ -28,7 +29,7 @@ pub record Faithful {S : Type 0} (kind : Kind S) : Type 0 where
   pub stays : (x : Turn) (b : S) → ClockFits (kind .events x b .call) → kind .passes b → (kind .sheets (kind .turned x b) ≡ turnAfter x (kind .sheets b)) × kind .passes (kind .turned x b)
   pub same-answer : (c : Call) (b : S) → kind .passes b → kind .answers c b ≡ answer c (kind .sheets b)
   pub call-stays : (c : Call) (b : S) → ClockFits c → kind .passes b → (kind .sheets (kind .leaves c b) ≡ after c (kind .sheets b)) × kind .passes (kind .leaves c b)
-  pub text-is : (b : S) → kind .passes b → kind .text b ≡ recordsText (kind .sheets b .lines)
+  pub text-is : (b : S) → kind .passes b → kind .text b ≡ sheetText (kind .sheets b)
 
 module _ {S : Type 0} (kind : Kind S) (laws : Faithful kind) where
   abbrev sheets : S → Sheets
@@ -120,8 +121,8 @@ module _ {S : Type 0} (kind : Kind S) (laws : Faithful kind) where
         unprepared = ap (λ (s : Sheets). nonePrepared (s .lines)) (l .says) ∙ r .unprepared;
         lines =
             laws .text-is (sheetsRecovered kind vs xs b) (l .passes)
-            ∙ (ap (λ (s : Sheets). recordsText (s .lines)) (l .says)
-            ∙ (ap recordsText (r .lines) ∙ ap (λ (m : Model). recordsText (map (λ (x : Record). m .line (x .key)) (sheets b .lines))) (l .model)));
+            ∙ (ap sheetText (l .says)
+            ∙ (ap₂ sheetFor (r .lines) (r .size) ∙ ap (λ (m : Model). sheetFor (map (λ (x : Record). m .line (x .key)) (sheets b .lines)) (sheets b .size)) (l .model)));
         committed = λ n new k x put.
             exactly-same (ap (isCommitted n) (l .model)) (sym (ap (λ (s : Sheets). decision n (s .coordinator)) (l .says))) (sym (l .ones n))
             (r .committed n new k x (ap (λ (m : Model). m .writes n k) (l .model) ∙ put));

@@ -11,7 +11,7 @@ use Rattle.model.specs.Calls.{result}
 use Rattle.model.specs.Histories.{answer, written, after, ClockFits}
 use Rattle.model.specs.ByteHistories.{Bytes, saying, Readable}
 use Rattle.model.specs.Closing.{Run, starting, mostSteps, closeConditions}
-use Rattle.model.specs.Operations.{Operation, once, close, standsFor, settled, closeRun, response, sheetsLeft, recordsLeft, coordinatorLeft, bytesLeft}
+use Rattle.model.specs.Operations.{Operation, once, close, standsFor, settled, closeRun, response, sheetsLeft, sheetLeft, coordinatorLeft, bytesLeft}
 use Rattle.call_laws.specs.Choices.{unless-by}
 use Rattle.call_laws.specs.Closure.{sheets-stay-good, returned-well-formed}
 use Rattle.call_laws.specs.Lifting.{apply-nothing, encoded, readable-encoded}
@@ -62,6 +62,6 @@ operation-keeps P f (close t now limit) s p =
 
 -- the bytes that are left on readable bytes are the sheets that are left, encoded
 pub bytes-of-response : {A : Type 0} (b : Bytes) (r : Response A Sheets) → Readable b → bytesLeft b r ≡ encoded (sheetsLeft (saying b) r)
-unfolding recordsLeft coordinatorLeft
+unfolding sheetLeft coordinatorLeft
 bytes-of-response b (made a s) h = refl
 bytes-of-response b (refused n) h = sym (readable-encoded b h)

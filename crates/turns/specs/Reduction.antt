@@ -7,7 +7,7 @@ use Rattle.model.specs.Calls.{result}
 use Rattle.model.specs.Images.{Change}
 use Rattle.model.specs.Coordinator.{decision}
 use Rattle.model.specs.Refusals.{refusalOf}
-use Rattle.model.specs.Writes.{Sheets, sheetsGood, isOnePhase}
+use Rattle.model.specs.Writes.{Sheets, sheetsGood, apply, isOnePhase}
 use Rattle.model.specs.Results.{Call, advance, Answer, turnedAway, returns, Response, refused, answerOf}
 use Rattle.model.specs.Closing.{starting, closingCalls, mostSteps, closeConditions}
 use Rattle.model.specs.Operations.{Operation, once, close, standsFor, settled, closeRun, ended, response, sheetsLeft, callsOf}
@@ -207,7 +207,14 @@ modelOfTurns xs s = modelAfterTurns (λ (y : Sheets). y) turnAfter turnEvent xs 
 pub record RecoveredSheets (vs : List Visit) (xs : List Turn) (s : Sheets) : Type 0 where
   pub unprepared : nonePrepared (recoveredAfter vs xs s .lines) ≡ true
   pub lines : recoveredAfter vs xs s .lines ≡ map (λ (r : Record). modelOfTurns xs s .line (r .key)) (s .lines)
+  pub size : recoveredAfter vs xs s .size ≡ s .size
   pub committed : (n : ℕ) → s .coordinator .issued < n → (k : Key) (c : Change) → modelOfTurns xs s .writes n k ≡ some c → CommittedExactly (isCommitted n (modelOfTurns xs s)) (decision n (recoveredAfter vs xs s .coordinator)) (onePhaseTurn turnAfter turnOnePhase n xs s)
+
+-- no call changes how many lines there are
+size-left : (cs : List Call) (s : Sheets) → leftBy answer after cs s .size ≡ s .size
+unfolding leftBy after apply
+size-left [] s = refl
+size-left (c ∷ cs) s = size-left cs (after c s)
 
 pub turns-recover : (s : Sheets) → sheetsGood s ≡ true → nonePrepared (s .lines) ≡ true → (xs : List Turn) → LegalTurns turnAfter turnEvent xs s [] → (vs : List Visit) → Closing (λ (y : Sheets). y) after vs (turnsLeft turnAfter xs s) → RecoveredSheets vs xs s
 unfolding modelAfter
@@ -221,6 +228,7 @@ turns-recover s g z xs legal vs c =
       lines =
           ap (λ (y : Sheets). y .lines) (sym e)
           ∙ (t .1 ∙ ap (λ (m : Model). map (λ (x : Record). m .line (x .key)) (s .lines)) (r .model));
+      size = ap (λ (y : Sheets). y .size) (sym e) ∙ (size-left (map visitCall vs) (leftBy answer after cs s) ∙ size-left cs s);
       committed = λ n new k x put. exactly-same (ap (isCommitted n) (r .model)) (ap (λ (y : Sheets). decision n (y .coordinator)) e) (r .ones n)
           (commits-exactly s g z cs (r .legal) vs n new k x (ap (λ (m : Model). m .writes n k) (r .model) ∙ put));
     }

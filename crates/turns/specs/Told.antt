@@ -1,12 +1,15 @@
 -- What is told of a turn on accepted sheets. Sheets keep their lengths, so that nothing is refused; lines that differ are of the one unit that the turn may
 -- write, and then the coordinator sheet stays. Keys rise, so that every line between two of one unit is of it too: the range told begins and ends in lines
 -- that differ, and is of one unit throughout.
-use Rattle.lists.specs.Basics.{_≡_, refl, sym, ap, subst, _∙_, ℕ, zero, suc, _+_, _-_, _*_, _/_, _%_, _^_, _≤_, _<_, eqb, Bool, true, false, not}
-use Rattle.lists.specs.Basics.{true≢false, List, length, getD, length-drop, length-set, arith, eqb-true, eqb-false, eq-eqb, lt-leb, tests, eqList}
+use Rattle.lists.specs.Basics.{_≡_, refl, sym, ap, subst, _∙_, ℕ, zero, suc, _+_, _-_, _*_, _/_, _%_, _^_, _≤_, _<_, eqb, ltb, Bool, true, false, not}
+use Rattle.lists.specs.Basics.{true≢false, List, length, take, drop, getD, all, ltb-true, ltb-false, length-drop, length-set, arith, eqb-true, eqb-false, eq-eqb, lt-leb, tests, eqList}
 use Rattle.lists.specs.Basics.{eqList-true, eqList-refl}
 use Rattle.model.specs.Types.{Key, Record, At}
 use Rattle.model.specs.Layouts.{recordBytes, coordinatorBytes}
-use Rattle.model.specs.Records.{records, keyLess, rising, recordsGood, recordsAccepted, noRecord}
+use Rattle.lists.specs.All.{all-at}
+use Rattle.lists.specs.Pieces.{take-drop-take}
+use Rattle.model.specs.Records.{records, recordIn, goodAlone, keyLess, rising, recordsGood, recordsAccepted, noRecord}
+use Rattle.model.specs.Spares.{filledLines, front, recordLines, sheetAccepted}
 use Rattle.model.specs.Coordinator.{Letter, Coordinator, coordinatorOf, coordinatorReadable, withDecision, withIssued}
 use Rattle.model.specs.Refusals.{refusalOf}
 use Rattle.model.specs.SheetCalls.{lineAt}
@@ -18,9 +21,12 @@ use Rattle.model.specs.AtomicWrites.{scopeAt, OneUnit, lines-of-one-unit, coord
 use Rattle.model.specs.Turns.{Turn, turnCall, turnWritesOnce, turnAfter, turnEventOn, turnAfterOn}
 use Rattle.model.specs.Changes.{differs, reachOf, lastReach, firstDiffering, lengthConditions, sheetsTold, writtenConditions, writtenNumber, toldOf}
 use Rattle.model.specs.Changes.{ToldAtomic, nothing-told, coordinator-told, lines-told}
-use Rattle.sheet_laws.specs.ByIndex.{whole-lines, length-records, record-at}
+use Rattle.sheet_laws.specs.Records.{good-ranged}
+use Rattle.sheet_laws.specs.ByIndex.{length-records, record-at}
+use Rattle.sheet_laws.specs.Fronts.{sized-few, spare-at, front-count}
+use Rattle.sheet_laws.specs.Spared.{storage-some, spare-record, accepted-sized, accepted-lines, accepted-whole}
 use Rattle.sheet_laws.specs.Decisions.{readable-parts, readable-length, length-decisions}
-use Rattle.call_laws.specs.Groups.{scope-between}
+use Rattle.call_laws.specs.Groups.{scope-storage, scope-between}
 use Rattle.call_laws.specs.ByIndex.{rising-at}
 use Rattle.call_laws.specs.Lifting.{readable-both, passing-readable, encoded}
 use Rattle.call_laws.specs.Told.{reach-within, told-ends, told-none}
@@ -28,10 +34,6 @@ use Rattle.turns.specs.Turns.{turn-keeps, turn-bytes, turn-stays-readabl
 use Rattle.turns.specs.Units.{readable-unit}
 
 -- The sheets keep their lengths.
-
-few-lines : (s : List ℕ) → recordsAccepted s ≡ true → length s / recordBytes ≤ 500
-unfolding recordsAccepted recordsGood
-few-lines s a = let l : length (records s) ≤ 500 = search tests in omega (arith, length-records s)
 
 decisions-kept : (w : Write) (c : Coordinator) → length (decisionsAfter w c .decisions) ≡ length (c .decisions)
 unfolding decisionsAfter withDecision withIssued
@@ -73,39 +75,86 @@ unfolding reachOf
 reach-same s zero = refl
 reach-same s (suc n) = let e : eqList (lineAt s (At n)) (lineAt s (At n)) ≡ true = eqList-refl (lineAt s (At n)) in rw e (reach-same s n)
 
--- The scopes of lines of an accepted sheet.
-module _ (b : Bytes) (accepted : recordsAccepted (b .records) ≡ true) where
+-- The scopes of lines of an accepted sheet: record lines, and spares below them, which are all of one.
+module _ (b : Bytes) (accepted : sheetAccepted (b .records) ≡ true) where
+  abbrev ours : List ℕ
+  ours = recordLines (b .records)
+
+  fit : recordsAccepted ours ≡ true
+  fit = accepted-lines (b .records) accepted
+
+  filled : ℕ
+  filled = filledLines recordBytes (b .records)
+
+  count : length ours / recordBytes ≡ filled
+  unfolding filled
+  count = front-count recordBytes (omega arith) (b .records) (accepted-whole (b .records) accepted)
+
   abbrev keyAt : ℕ → Key
-  keyAt i = getD (records (b .records)) i noRecord .key
+  keyAt i = getD (records ours) i noRecord .key
 
   abbrev units : List Letter
   units = coordinatorOf (b .coordinator) .units
 
-  scope-at : (i : ℕ) → i < length (b .records) / recordBytes → scopeAt i b ≡ scope units (keyAt i)
-  unfolding lineAt
-  scope-at i l = sym (ap (λ (r : Record). scope units (r .key)) (record-at (b .records) i l))
+  front-line : (i : ℕ) → i < filled → take recordBytes (drop (i * recordBytes) (b .records)) ≡ take recordBytes (drop (i * recordBytes) ours)
+  unfolding filled front
+  front-line i l = sym (take-drop-take recordBytes (i * recordBytes) (filledLines recordBytes (b .records) * recordBytes) (b .records) (omega arith))
 
-  higher : (i j : ℕ) → i < j → j < length (b .records) / recordBytes → keyLess (keyAt i) (keyAt j) ≡ true
+  scope-at : (i : ℕ) → i < filled → scopeAt i b ≡ scope units (keyAt i)
+  unfolding lineAt
+  scope-at i l =
+      ap (λ (x : List ℕ). scope units (recordIn x .key)) (front-line i l)
+      ∙ sym (ap (λ (r : Record). scope units (r .key)) (record-at ours i (omega (arith, count))))
+
+  scope-spare : (i : ℕ) → filled ≤ i → i < length (b .records) / recordBytes → scopeAt i b ≡ scope units (noRecord .key)
+  unfolding lineAt filled
+  scope-spare i l m =
+      ap (λ (x : List ℕ). scope units (recordIn x .key)) (spare-at recordBytes (omega arith) (b .records) (accepted-whole (b .records) accepted) i l m)
+      ∙ ap (λ (r : Record). scope units (r .key)) spare-record
+
+  higher : (i j : ℕ) → i < j → j < filled → keyLess (keyAt i) (keyAt j) ≡ true
   unfolding recordsAccepted recordsGood
   higher i j k l =
-      let r : rising (records (b .records)) ≡ true = search tests in
-      rising-at (records (b .records)) i j r k (omega (arith, length-records (b .records)))
+      let f : recordsAccepted ours ≡ true = fit in
+      let r : rising (records ours) ≡ true = search tests in
+      rising-at (records ours) i j r k (omega (arith, length-records ours, count))
+
+  -- a record line and a spare are of different units
+  apart : (i j : ℕ) → i < filled → filled ≤ j → j < length (b .records) / recordBytes → scopeAt i b ≡ scopeAt j b → ⊥
+  unfolding recordsAccepted recordsGood
+  apart i j l m n e =
+      let f : recordsAccepted ours ≡ true = fit in
+      let g : all goodAlone (records ours) ≡ true = search tests in
+      let p : i < length (records ours) = omega (arith, length-records ours, count) in
+      let q : 1 ≤ keyAt i .storage = storage-some (getD (records ours) i noRecord) (good-ranged (getD (records ours) i noRecord) (all-at goodAlone (records ours) noRecord i g p)) in
+      let z : keyAt i .storage ≡ 0 = scope-storage units (keyAt i) (noRecord .key) (sym (scope-at i l) ∙ (e ∙ scope-spare j m n)) in
+      omega (arith, q, z)
 
   -- a line between two of one unit, or one of the two, is of that unit
   line-between : (i m j : ℕ) → i ≤ m → m ≤ j → j < length (b .records) / recordBytes → scopeAt i b ≡ scopeAt j b → scopeAt m b ≡ scopeAt i b
-  line-between i m j p q l e = go (eqb i m) refl (eqb m j) refl
+  line-between i m j p q l e = go (ltb j filled) refl
     where
-      go : (x : Bool) → eqb i m ≡ x → (y : Bool) → eqb m j ≡ y → scopeAt m b ≡ scopeAt i b
-      go true f y g = ap (λ (n : ℕ). scopeAt n b) (sym (eqb-true i m f))
-      go false f true g = ap (λ (n : ℕ). scopeAt n b) (eqb-true m j g) ∙ sym e
-      go false f false g =
+      among : j < filled → (x : Bool) → eqb i m ≡ x → (y : Bool) → eqb m j ≡ y → scopeAt m b ≡ scopeAt i b
+      among t true f y g = ap (λ (n : ℕ). scopeAt n b) (sym (eqb-true i m f))
+      among t false f true g = ap (λ (n : ℕ). scopeAt n b) (eqb-true m j g) ∙ sym e
+      among t false f false g =
           let c = eqb-false i m f in
           let d = eqb-false m j g in
           let h : i < m = omega (arith, c) in
           let k : m < j = omega (arith, d) in
-          let u : scope units (keyAt i) ≡ scope units (keyAt j) = sym (scope-at i (omega arith)) ∙ (e ∙ scope-at j l) in
+          let u : scope units (keyAt i) ≡ scope units (keyAt j) = sym (scope-at i (omega arith)) ∙ (e ∙ scope-at j t) in
           scope-at m (omega arith)
-          ∙ (scope-between units (keyAt i) (keyAt m) (keyAt j) (higher i m h (omega arith)) (higher m j k l) u ∙ sym (scope-at i (omega arith)))
+          ∙ (scope-between units (keyAt i) (keyAt m) (keyAt j) (higher i m h (omega arith)) (higher m j k t) u ∙ sym (scope-at i (omega arith)))
+
+      below : filled ≤ j → (x : Bool) → ltb i filled ≡ x → scopeAt m b ≡ scopeAt i b
+      below t true h = absurd (apart i j (ltb-true i filled h) t l e)
+      below t false h =
+          let k = ltb-false i filled h in
+          scope-spare m (omega arith) (omega arith) ∙ sym (scope-spare i k (omega arith))
+
+      go : (x : Bool) → ltb j filled ≡ x → scopeAt m b ≡ scopeAt i b
+      go true h = among (ltb-true j filled h) (eqb i m) refl (eqb m j) refl
+      go false h = below (ltb-false j filled h) (ltb i filled) refl
 
 module _ (b a : Bytes) where
   abbrev rs : List ℕ
@@ -126,9 +175,9 @@ module _ (b a : Bytes) where
           let s : eqList (lineAt rs (At i)) (lineAt rs′ (At i)) ≡ true = ap (eqList (lineAt rs (At i))) o ∙ eqList-refl (lineAt rs (At i)) in
           absurd (true≢false (sym d ∙ ap not s))
 
-  module _ (accepted : recordsAccepted rs ≡ true) where
+  module _ (accepted : sheetAccepted rs ≡ true) where
     whole : length rs % recordBytes ≡ 0
-    whole = omega (arith, whole-lines rs accepted)
+    whole = omega (arith, accepted-whole rs accepted)
 
     -- a line of the range told is of the unit of the first, since the last that differs is
     range-of-unit : ((i j : ℕ) → differs rs rs′ i ≡ true → differs rs rs′ j ≡ true → scopeAt i b ≡ scopeAt j b)
@@ -170,7 +219,7 @@ unfolding writtenNumber
 told-between b a target t p q u d =
     let r = readable-both b p .0 in
     let w = whole b a r in
-    let f : length (b .records) / recordBytes < 2 ^ 32 = omega (arith, few-lines (b .records) r) in
+    let f : length (b .records) / recordBytes < 2 ^ 32 = omega (arith, sized-few recordBytes (b .records) (accepted-sized (b .records) r)) in
     let n = refusalOf (writtenConditions (b .records) (a .records) (b .coordinator) (a .coordinator) target) in
     let z : n ≡ 0 = not-refused _ _ _ _ _ (same-size b a u) w f t (coordinator-length b a p q d) in
     let e : eqb n 0 ≡ true = eq-eqb n 0 z in

@@ -8,8 +8,8 @@ use Rattle.model.specs.Coordinator.{coordinatorOf, coordinatorReadable, namesIs
 use Rattle.model.specs.Refusals.{refuse, refusalOf}
 use Rattle.model.specs.SheetCalls.{allIssued}
 use Rattle.model.specs.TwoSheets.{plainBytes, bookkeepingBytes, joinedSheet, bookkeepingRecord, plainAlone, bookkeepingAlone, linesConditions, keyConditions}
-use Rattle.model.specs.TwoSheets.{coordinatorFits, twoConditions}
-use Rattle.model.specs.TwoCalls.{TwoBytes}
+use Rattle.model.specs.TwoSheets.{coordinatorFits, fullConditions}
+use Rattle.model.specs.FullCalls.{TwoBytes}
 use Rattle.two_laws.specs.Deciding.{whole, linesAgree, filledPlain, filledBookkeeping}
 use Rattle.two_laws.specs.FilledSheets.{filled-plain, filled-bookkeeping, filled-bookkeeping-records}
 use Rattle.two_laws.specs.JoinedSheets.{issued-joined}
@@ -202,7 +202,7 @@ module _ (ps bs cs area : List ℕ) (r : ℕ) (h : Lines ps bs r area) where
   pub few : (r ≡ 1 → ⊥) → length bs / bookkeepingBytes ≤ 500
   few z = few-lines ps bs (λ e. z (h .told ∙ e))
 
-  pub check-bad : r ≡ 1 → 1 ≡ refusalOf (twoConditions ps bs cs)
+  pub check-bad : r ≡ 1 → 1 ≡ refusalOf (fullConditions ps bs cs)
   check-bad e = sym (keys-bad ps bs cs (sym (h .told) ∙ e))
 
   module _ (z : r ≡ 1 → ⊥) (f : Bool) (told : f ≡ (coordinatorReadable cs && allIssued (take (joinedSize bookkeepingBytes bs) area) cs)) where
@@ -210,11 +210,11 @@ module _ (ps bs cs area : List ℕ) (r : ℕ) (h : Lines ps bs r area) where
     unfolding coordinatorFits allIssued
     same-test = told ∙ ap (λ (x : Bool). coordinatorReadable cs && x) (h .names z .same (coordinatorOf cs .issued))
 
-    past : refusalOf (twoConditions ps bs cs) ≡ cond f r 2
+    past : refusalOf (fullConditions ps bs cs) ≡ cond f r 2
     past = keys-past ps bs cs (λ e. z (h .told ∙ e)) ∙ ap₂ (λ (x : Bool) (n : ℕ). cond x n 2) (sym same-test) (sym (h .told))
 
-    pub check-unfit : f ≡ false → 2 ≡ refusalOf (twoConditions ps bs cs)
+    pub check-unfit : f ≡ false → 2 ≡ refusalOf (fullConditions ps bs cs)
     check-unfit e = sym (past ∙ rw e)
 
-    pub check-fit : f ≡ true → r ≡ refusalOf (twoConditions ps bs cs)
+    pub check-fit : f ≡ true → r ≡ refusalOf (fullConditions ps bs cs)
     check-fit e = sym (past ∙ rw e)

@@ -8,7 +8,7 @@ ghost use Rattle.model.specs.Records.{recordsAccepted};
 ghost use Rattle.model.specs.Refusals.{refusalOf};
 ghost use Rattle.model.specs.Coordinator.{coordinatorReadable};
 ghost use Rattle.model.specs.SheetCalls.{allIssued};
-ghost use Rattle.model.specs.TwoSheets.{plainBytes, bookkeepingBytes, joinedSheet, twoConditions};
+ghost use Rattle.model.specs.TwoSheets.{plainBytes, bookkeepingBytes, joinedSheet, fullConditions};
 ghost use Rattle.two_laws.specs.Deciding.{whole, filledPlain, filledBookkeeping};
 ghost use Rattle.two_check.specs.Areas.{bothWithin, Room, Rooms, BookkeepingIn, Apart, Lines, JoinedIn};
 use two_join::BOOKKEEPING_BYTES;
@@ -159,7 +159,7 @@ fn fits(records: &[u8], coordinator: &[u8]) -> bool
 // 0 where the sheets are accepted, and then both stand joined in the area; else the refusal: 1, 2 or 13.
 pub fn join_checked(plain: &[u8], book: &[u8], coordinator: &[u8], area: &mut [u8]) -> u32
     requires { ⌜ Rooms (now plain) (now book) (length (now area)) ⌝ }
-    ensures answer { λ r. ⌜ r ≡ refusalOf (twoConditions (now (plain .entry)) (now (book .entry)) (now (coordinator .entry))) ⌝ }
+    ensures answer { λ r. ⌜ r ≡ refusalOf (fullConditions (now (plain .entry)) (now (book .entry)) (now (coordinator .entry))) ⌝ }
     ensures joined { λ r. ⌜ (r ≡ 0 → JoinedIn (now (plain .entry)) (now (book .entry)) (now (area .exit))) ⌝ }
 {
     let refused = lines_refusal(plain, book, area);

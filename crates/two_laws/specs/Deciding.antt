@@ -1,7 +1,11 @@
 -- What decides the refusals of two sheets by bytes: whole lines, bytes of keys, and sheets filled with fixed text.
-use Rattle.lists.specs.Basics.{ℕ, _+_, _*_, _/_, eqb, Bool, true, false, _&&_, List, [], _∷_, _++_, map, length, take, drop, bytes, eqList, joined}
+use Rattle.lists.specs.Basics.{ℕ, _+_, _*_, _/_, eqb, Bool, true, false, not, _&&_, List, [], _∷_, _++_, map, length, take, drop, bytes, eqList, joined}
 use Rattle.model.specs.Layouts.{keyBytes}
 use Rattle.model.specs.Lines.{linesOf}
+use Rattle.model.specs.Records.{recordsAccepted}
+use Rattle.model.specs.Coordinator.{coordinatorReadable}
+use Rattle.model.specs.Refusals.{Condition, refuse}
+use Rattle.model.specs.SheetCalls.{allIssued}
 use Rattle.model.specs.TwoSheets.{plainBytes, bookkeepingBytes, stateBytes, columnsIn, endOf}
 
 -- whole lines of w bytes
@@ -42,3 +46,7 @@ filledPlain ps = joined (map fillPlain (linesOf plainBytes ps))
 
 unfoldable pub filledBookkeeping : List ℕ → List ℕ
 filledBookkeeping bs = joined (map fillBookkeeping (linesOf bookkeepingBytes bs))
+
+-- what is asked of lines of records, without spares, beside a coordinator sheet with letters of either case
+unfoldable pub joinedConditions : List ℕ → List ℕ → List Condition
+joinedConditions rs cs = refuse 1 (not (recordsAccepted rs)) ∷ refuse 2 (not (coordinatorReadable cs && allIssued rs cs)) ∷ []

@@ -10,10 +10,10 @@ use Rattle.model.specs.Lines.{linesOf, linesSet, lineSet}
 use Rattle.model.specs.Records.{records, recordsGood, recordsAccepted}
 use Rattle.model.specs.Coordinator.{coordinatorOf, coordinatorReadable, namesIssued}
 use Rattle.model.specs.Refusals.{Condition, refuse, refusalOf}
-use Rattle.model.specs.SheetCalls.{allIssued, readableConditions}
+use Rattle.model.specs.SheetCalls.{allIssued}
 use Rattle.model.specs.TwoSheets.{plainBytes, bookkeepingBytes, joinedSheet, plainPart, bookkeepingPart, bookkeepingRecord, plainAlone, bookkeepingAlone}
-use Rattle.model.specs.TwoSheets.{plainLayout, bookkeepingLayout, plainRecord, sameKeys, linesConditions, keyConditions, coordinatorFits, twoConditions}
-use Rattle.two_laws.specs.Deciding.{whole, linesAgree, filledPlain, filledBookkeeping}
+use Rattle.model.specs.TwoSheets.{plainLayout, bookkeepingLayout, plainRecord, sameKeys, linesConditions, keyConditions, coordinatorFits, fullConditions}
+use Rattle.two_laws.specs.Deciding.{whole, linesAgree, filledPlain, filledBookkeeping, joinedConditions}
 use Rattle.two_laws.specs.FilledSheets.{filled-plain, filled-bookkeeping, filled-bookkeeping-records}
 use Rattle.two_laws.specs.JoinedSheets.{join-split, split-agrees, split-whole, issued-joined, joined-plain, joined-bookkeeping}
 use Rattle.two_laws.specs.KeysAsBytes.{keys-as-bytes}
@@ -46,8 +46,8 @@ abbrev agree : List ℕ → List ℕ → Bool
 agree ps bs = linesAgree (linesOf plainBytes ps) (linesOf bookkeepingBytes bs)
 
 -- keys agree: the refusals are those of the joined sheet, and 13 is none of them
-pub agreeing : (ps bs cs : List ℕ) → whole plainBytes ps ≡ true → whole bookkeepingBytes bs ≡ true → agree ps bs ≡ true → refusalOf (twoConditions ps bs cs) ≡ refusalOf (readableConditions (joinedSheet ps bs) cs)
-unfolding twoConditions linesConditions coordinatorFits readableConditions allIssued
+pub agreeing : (ps bs cs : List ℕ) → whole plainBytes ps ≡ true → whole bookkeepingBytes bs ≡ true → agree ps bs ≡ true → refusalOf (fullConditions ps bs cs) ≡ refusalOf (joinedConditions (joinedSheet ps bs) cs)
+unfolding fullConditions linesConditions coordinatorFits joinedConditions allIssued
 agreeing ps bs cs wp wb h =
     joined-decides (plainAlone ps) (bookkeepingAlone bs) (sameKeys ps bs) (recordsAccepted (joinedSheet ps bs))
     (coordinatorReadable cs && all (namesIssued (coordinatorOf cs .issued)) (map bookkeepingRecord (linesOf bookkeepingBytes bs)))
@@ -66,8 +66,8 @@ aloneConditions ps bs cs =
     ∷ []
 
 -- keys do not agree: each sheet beside fixed text, then the coordinator sheet, then 13
-pub differing : (ps bs cs : List ℕ) → agree ps bs ≡ false → refusalOf (twoConditions ps bs cs) ≡ refusalOf (aloneConditions ps bs cs)
-unfolding twoConditions linesConditions coordinatorFits aloneConditions allIssued
+pub differing : (ps bs cs : List ℕ) → agree ps bs ≡ false → refusalOf (fullConditions ps bs cs) ≡ refusalOf (aloneConditions ps bs cs)
+unfolding fullConditions linesConditions coordinatorFits aloneConditions allIssued
 differing ps bs cs h =
     alone-decides (plainAlone ps) (bookkeepingAlone bs) (sameKeys ps bs) (recordsAccepted (joinedSheet ps bs))
     (coordinatorReadable cs && all (namesIssued (coordinatorOf cs .issued)) (map bookkeepingRecord (linesOf bookkeepingBytes bs)))
@@ -80,11 +80,11 @@ differing ps bs cs h =
     (filled-plain ps) (filled-bookkeeping bs)
 
 -- the parts of an accepted sheet, beside a coordinator sheet that fits it, are not refused as two sheets
-pub split-passes : (s cs : List ℕ) → whole recordBytes s ≡ true → refusalOf (twoConditions (plainPart s) (bookkeepingPart s) cs) ≡ refusalOf (readableConditions s cs)
+pub split-passes : (s cs : List ℕ) → whole recordBytes s ≡ true → refusalOf (fullConditions (plainPart s) (bookkeepingPart s) cs) ≡ refusalOf (joinedConditions s cs)
 split-passes s cs h =
     let w = split-whole s h in
     agreeing (plainPart s) (bookkeepingPart s) cs (w .0) (w .1) (split-agrees s h)
-    ∙ ap (λ (t : List ℕ). refusalOf (readableConditions t cs)) (join-split s h)
+    ∙ ap (λ (t : List ℕ). refusalOf (joinedConditions t cs)) (join-split s h)
 
 -- an accepted sheet is whole lines
 pub accepted-whole : (s : List ℕ) → recordsAccepted s ≡ true → whole recordBytes s ≡ true
@@ -157,12 +157,12 @@ two-from-keys true true false j false = (λ e. absurd (omega (arith, e)), λ z. 
 two-from-keys true false s j c = (λ e. refl, λ z. absurd (z refl))
 two-from-keys false b s j c = (λ e. refl, λ z. absurd (z refl))
 
-pub keys-bad : (ps bs cs : List ℕ) → refusalOf (keyConditions ps bs) ≡ 1 → refusalOf (twoConditions ps bs cs) ≡ 1
-unfolding keyConditions linesConditions twoConditions
+pub keys-bad : (ps bs cs : List ℕ) → refusalOf (keyConditions ps bs) ≡ 1 → refusalOf (fullConditions ps bs cs) ≡ 1
+unfolding keyConditions linesConditions fullConditions
 keys-bad ps bs cs = two-from-keys (plainAlone ps) (bookkeepingAlone bs) (sameKeys ps bs) (recordsAccepted (joinedSheet ps bs)) (coordinatorFits bs cs) .0
 
-pub keys-past : (ps bs cs : List ℕ) → (refusalOf (keyConditions ps bs) ≡ 1 → ⊥) → refusalOf (twoConditions ps bs cs) ≡ cond (coordinatorFits bs cs) (refusalOf (keyConditions ps bs)) 2
-unfolding keyConditions linesConditions twoConditions
+pub keys-past : (ps bs cs : List ℕ) → (refusalOf (keyConditions ps bs) ≡ 1 → ⊥) → refusalOf (fullConditions ps bs cs) ≡ cond (coordinatorFits bs cs) (refusalOf (keyConditions ps bs)) 2
+unfolding keyConditions linesConditions fullConditions
 keys-past ps bs cs = two-from-keys (plainAlone ps) (bookkeepingAlone bs) (sameKeys ps bs) (recordsAccepted (joinedSheet ps bs)) (coordinatorFits bs cs) .1
 
 -- More than 500 lines are refused.
@@ -171,7 +171,7 @@ many-bad : (said : List ℕ → Record) (w : ℕ) (s : List ℕ) → 500 < lengt
 unfolding recordsGood linesOf
 many-bad said w s l =
     let n : length (map said (linesOf w s)) ≡ length s / w = length-map (linesOf w s) said ∙ length-pieces w (length s / w) s in
-    rw (lt-leb (length (map said (linesOf w s))) 500 (omega (arith, n)), and-false (leb 1 (length (map said (linesOf w s)))))
+    rw (lt-leb (length (map said (linesOf w s))) 500 (omega (arith, n)))
 
 pub many-plain : (ps : List ℕ) → 500 < length ps / plainBytes → plainAlone ps ≡ false
 unfolding plainAlone

@@ -87,14 +87,13 @@ module _ (f : Record → Record) (keys : (r : Record) → f r .key ≡ r .key) (
   good-map : (rs : List Record) → recordsGood rs ≡ true → recordsGood (map f rs) ≡ true
   unfolding recordsGood
   good-map rs h =
-      let a : leb 1 (length rs) ≡ true = search tests in
       let b : leb (length rs) 500 ≡ true = search tests in
       let g : all goodAlone rs ≡ true = search tests in
       let o : rising rs ≡ true = search tests in
       let n : length (map f rs) ≡ length rs = length-map rs f in
       let x : all goodAlone (map f rs) ≡ true = all-map goodAlone f rs ∙ all-weaken goodAlone (λ (r : Record). goodAlone (f r)) kept rs g in
       and-both
-      (and-both (and-both (ap (leb 1) n ∙ a) (ap (λ (k : ℕ). leb k 500) n ∙ b)) x)
+      (and-both (ap (λ (k : ℕ). leb k 500) n ∙ b) x)
       (rising-map rs ∙ o)
 
 -- the ranges of a record's numbers, part by part

@@ -7,4 +7,6 @@ pub mod JoinedSheets
 pub mod KeysAsBytes
 pub mod Decision
 pub mod Encoding
+pub mod SparedJoin
+pub mod TwoEncoding
 pub mod TwoCases

@@ -1,12 +1,12 @@
 -- The look-up on two sheets and its companion, case by case in the order of their conditions.
-use Rattle.lists.specs.Basics.{_≡_, refl, sym, ap, _∙_, ℕ, _+_, _*_, _/_, _≤_, eqb, Bool, true, false, not, true≢false, List, [], _∷_, length, take, drop, arith}
-use Rattle.lists.specs.Basics.{eqb-true, eq-eqb, ne-eqb, all, choose-by, cond, _++_}
+use Rattle.lists.specs.Basics.{_≡_, refl, sym, ap, _∙_, ℕ, _+_, _*_, _/_, _≤_, eqb, Bool, true, false, not, true≢false, List, [], _∷_, length, arith}
+use Rattle.lists.specs.Basics.{ne-eqb, all, choose-by, cond, _++_}
 use Rattle.model.specs.Types.{Key, Rank, Ranked, At}
 use Rattle.model.specs.Records.{records, recordsAccepted, keyInRange, found, isMissing, rank, ranked}
 use Rattle.model.specs.Refusals.{Condition, refuse, refusalOf}
 use Rattle.model.specs.SheetCalls.{toldRank, lineAmong}
-use Rattle.model.specs.TwoSheets.{plainBytes, bookkeepingBytes, joinedSheet, linesConditions, keyConditions, rankTwoConditions, rankTwo, lookupTwoConditions, lineOfSheet}
-use Rattle.model.specs.TwoSheets.{lookedUpTwo, lineTwo}
+use Rattle.model.specs.TwoSheets.{plainBytes, bookkeepingBytes, joinedSheet, linesConditions, keyConditions, rankFullConditions, rankFull, lookupFullConditions}
+use Rattle.model.specs.TwoSheets.{lineFull}
 use Rattle.sheet_laws.specs.Ranks.{rank-few}
 use Rattle.sheets.specs.Answers.{found-fits, line-at}
 use Rattle.call_laws.specs.Accepted.{refusal-front, refusal-past}
@@ -15,7 +15,7 @@ use Rattle.two_check.specs.Areas.{joinedSize}
 
 -- where a key stands or, if its line is asked for, which it is: what is told, and of a line that it is within both sheets
 pub record Ranks (line : Bool) (ps bs : List ℕ) (k : Key) (r : Ranked) : Type 0 where
-  pub told : r ≡ cond line (lineTwo ps bs k) (rankTwo ps bs k)
+  pub told : r ≡ cond line (lineFull ps bs k) (rankFull ps bs k)
   pub few : r .rank .below ≤ 500
   pub at : line ≡ true → r .refusal ≡ 0 → found k (records (joinedSheet ps bs)) ≡ At (r .rank .below)
   pub fits : line ≡ true → r .refusal ≡ 0 → (r .rank .below * plainBytes + plainBytes ≤ length ps) × (r .rank .below * bookkeepingBytes + bookkeepingBytes ≤ length bs)
@@ -34,26 +34,26 @@ module _ (ps bs : List ℕ) (k : Key) where
       rw (f, e)
 
   -- refused with a number
-  ranks-not : (line : Bool) (n : ℕ) → n ≡ refusalOf (rankTwoConditions ps bs k) → (n ≡ 0 → ⊥) → Ranks line ps bs k (without n)
-  unfolding rankTwo lineTwo lookupTwoConditions
+  ranks-not : (line : Bool) (n : ℕ) → n ≡ refusalOf (rankFullConditions ps bs k) → (n ≡ 0 → ⊥) → Ranks line ps bs k (without n)
+  unfolding rankFull lineFull lookupFullConditions
   ranks-not line n e z =
       record {
         told =
             choose-by (λ (r : Ranked). without n ≡ r) line
-            (λ h. told-not n (rankTwoConditions ps bs k ++ missing) (refusal-front (rankTwoConditions ps bs k) missing n e z) z)
-            (λ h. told-not n (rankTwoConditions ps bs k) e z);
+            (λ h. told-not n (rankFullConditions ps bs k ++ missing) (refusal-front (rankFullConditions ps bs k) missing n e z) z)
+            (λ h. told-not n (rankFullConditions ps bs k) e z);
         few = omega arith;
         at = λ l h. absurd (z h);
         fits = λ l h. absurd (z h);
       }
 
   pub ranks-refused : (line : Bool) (n : ℕ) → n ≡ refusalOf (keyConditions ps bs) → (n ≡ 0 → ⊥) → Ranks line ps bs k (without n)
-  unfolding rankTwoConditions
+  unfolding rankFullConditions
   ranks-refused line n e z = ranks-not line n (refusal-front (keyConditions ps bs) (refuse 5 (not (keyInRange k)) ∷ []) n e z) z
 
   module _ (free : 0 ≡ refusalOf (keyConditions ps bs)) where
-    past : refusalOf (rankTwoConditions ps bs k) ≡ refusalOf (refuse 5 (not (keyInRange k)) ∷ [])
-    unfolding rankTwoConditions keyConditions linesConditions all
+    past : refusalOf (rankFullConditions ps bs k) ≡ refusalOf (refuse 5 (not (keyInRange k)) ∷ [])
+    unfolding rankFullConditions keyConditions linesConditions all
     past = refusal-past (keyConditions ps bs) (refuse 5 (not (keyInRange k)) ∷ []) refl (sym free)
 
     pub ranks-out : (line : Bool) → keyInRange k ≡ false → Ranks line ps bs k (without 5)
@@ -65,12 +65,12 @@ module _ (ps bs : List ℕ) (k : Key) where
       good : recordsAccepted s ≡ true
       good = ap recordsAccepted joined ∙ joined-accepted ps bs free
 
-      pass : refusalOf (rankTwoConditions ps bs k) ≡ 0
+      pass : refusalOf (rankFullConditions ps bs k) ≡ 0
       unfolding refusalOf
       pass = past ∙ rw g
 
       pub ranks-told : (r : Rank) → r ≡ ranked k (records s) → Ranks false ps bs k (record { refusal = 0; rank = r })
-      unfolding rankTwo
+      unfolding rankFull
       ranks-told r e =
           record {
             told = rw pass (ap with-rank (e ∙ ap (λ (x : List ℕ). ranked k (records x)) joined));
@@ -85,10 +85,10 @@ module _ (ps bs : List ℕ) (k : Key) where
       -- a line of the joined sheet is one of both
       pub ranks-line : (r : Ranked) → r ≡ lineAmong (records s) k → r .rank .below ≤ 500
           → length s ≡ joinedSize plainBytes ps → length bs / bookkeepingBytes ≡ length ps / plainBytes → Ranks true ps bs k r
-      unfolding lineTwo lookupTwoConditions rankTwoConditions keyConditions linesConditions all
+      unfolding lineFull lookupFullConditions rankFullConditions keyConditions linesConditions all
       ranks-line r e few n c =
           record {
-            told = e ∙ (ap (λ (x : List ℕ). lineAmong (records x) k) joined ∙ ap (λ (m : ℕ). toldBy m) (sym (refusal-past (rankTwoConditions ps bs k) missing refl pass)));
+            told = e ∙ (ap (λ (x : List ℕ). lineAmong (records x) k) joined ∙ ap (λ (m : ℕ). toldBy m) (sym (refusal-past (rankFullConditions ps bs k) missing refl pass)));
             few = few;
             at = λ l z. ap (λ (x : List ℕ). found k (records x)) (sym joined) ∙ line-at s k good r e z;
             fits = λ l z. let f = found-fits s k (r .rank .below) (line-at s k good r e z) in (omega arith, omega arith);
@@ -96,34 +96,3 @@ module _ (ps bs : List ℕ) (k : Key) where
         where
           toldBy : ℕ → Ranked
           toldBy m = cond (eqb m 0) (record { refusal = 0; rank = ranked k (records (joinedSheet ps bs)) }) (without m)
-
--- What is handed back.
-module _ (ps bs : List ℕ) (k : Key) (r : Ranked) (p : Ranks true ps bs k r) (named : ℕ) where
-  -- the refusal told is the look-up's
-  refusal-told : r .refusal ≡ refusalOf (lookupTwoConditions ps bs k)
-  unfolding lineTwo
-  refusal-told = ap (λ (x : Ranked). x .refusal) (p .told) ∙ go (eqb (refusalOf (lookupTwoConditions ps bs k)) 0) refl
-    where
-      go : (b : Bool) → eqb (refusalOf (lookupTwoConditions ps bs k)) 0 ≡ b → toldRank (lookupTwoConditions ps bs k) (ranked k (records (joinedSheet ps bs))) .refusal ≡ refusalOf (lookupTwoConditions ps bs k)
-      go true e = rw e (sym (eqb-true (refusalOf (lookupTwoConditions ps bs k)) 0 e))
-      go false e = rw e
-
-  pub looked-missing : (r .refusal ≡ 0 → ⊥) → [] ≡ lookedUpTwo ps bs named k
-  unfolding lookedUpTwo
-  looked-missing d = rw (ne-eqb (refusalOf (lookupTwoConditions ps bs k)) 0 (λ h. d (refusal-told ∙ h)))
-
-  module _ (here : r .refusal ≡ 0) where
-    free : eqb (refusalOf (lookupTwoConditions ps bs k)) 0 ≡ true
-    free = eq-eqb (refusalOf (lookupTwoConditions ps bs k)) 0 (sym refusal-told ∙ here)
-
-    pub looked-plain : named ≡ 0 → take plainBytes (drop (r .rank .below * plainBytes) ps) ≡ lookedUpTwo ps bs named k
-    unfolding lookedUpTwo lineOfSheet
-    looked-plain e = rw (free, eq-eqb named 0 e, p .at refl here)
-
-    pub looked-bookkeeping : (named ≡ 0 → ⊥) → named ≡ 1 → take bookkeepingBytes (drop (r .rank .below * bookkeepingBytes) bs) ≡ lookedUpTwo ps bs named k
-    unfolding lookedUpTwo lineOfSheet
-    looked-bookkeeping d e = rw (free, ne-eqb named 0 d, eq-eqb named 1 e, p .at refl here)
-
-    pub looked-none : (named ≡ 0 → ⊥) → (named ≡ 1 → ⊥) → [] ≡ lookedUpTwo ps bs named k
-    unfolding lookedUpTwo
-    looked-none d e = rw (free, ne-eqb named 0 d, ne-eqb named 1 e)

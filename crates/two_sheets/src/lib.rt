@@ -1,26 +1,22 @@
 // The calls on a plain sheet, a bookkeeping sheet and a coordinator sheet, for every input (document 02, note 4). Both sheets are joined in an area of this call's
 // own, where the call on accepted sheets runs, and an accepted call is split back; a lent area wouldn't do, since a refusal leaves every lent byte.
 ghost use mathlib.Core.Path.{_≡_};
-ghost use mathlib.Core.Bool.{false};
 ghost use lib.ListN.{length};
 ghost use Rattle.model.specs.Refusals.{refusalOf};
-ghost use Rattle.model.specs.TwoSheets.{twoConditions};
+ghost use Rattle.model.specs.TwoSheets.{fullConditions};
 ghost use Rattle.model.specs.Results as model;
-ghost use Rattle.model.specs.Calls.{newTransaction};
-ghost use Rattle.model.specs.Operations as operations;
 ghost use Rattle.model.specs.Operations.{once, coordinatorLeft};
 ghost use Rattle.model.specs.Requests.{operationOf};
-ghost use Rattle.model.specs.TwoCalls.{responseTwo, plainLeft, bookkeepingLeft};
+ghost use Rattle.model.specs.FullCalls.{responseFull, fullPlainLeft, fullBookkeepingLeft};
 ghost use Rattle.answers.specs.Answers.{toPerformed, visitedIn};
 ghost use Rattle.two_check.specs.Areas.{two, Rooms};
-ghost use Rattle.two_sheets.specs.Performing.{OnJoined, GivesAs, Gives, Performs};
+ghost use Rattle.two_sheets.specs.Performing.{OnJoined, GivesAs, Performs};
 
 pub mod lookup;
 
 use answers::Performed;
 use answers::Visited;
 use two_join::PLAIN_BYTES;
-use types::Columns;
 use types::Key;
 use types::RECORD_BYTES;
 use types::Request;
@@ -28,7 +24,7 @@ use types::Transaction;
 
 // The check in the smallest area that has room.
 fn check_in_area(plain: &[u8], book: &[u8], coordinator: &[u8]) -> u32
-    ensures { λ r. ⌜ r ≡ refusalOf (twoConditions (now (plain .entry)) (now (book .entry)) (now (coordinator .entry))) ⌝ }
+    ensures { λ r. ⌜ r ≡ refusalOf (fullConditions (now (plain .entry)) (now (book .entry)) (now (coordinator .entry))) ⌝ }
 {
     if two_check::within(50, plain, book) {
         let mut area = two_check::blank_50();
@@ -49,7 +45,7 @@ fn check_in_area(plain: &[u8], book: &[u8], coordinator: &[u8]) -> u32
 // 0 where the sheets are accepted, else the refusal: 1, 2 or 13. It only asks another function: where the compiler takes that one in, its areas share one place
 // on the stack (`make stack`), and so it is with `search`.
 pub fn check(plain: &[u8], book: &[u8], coordinator: &[u8]) -> u32
-    ensures { λ r. ⌜ r ≡ refusalOf (twoConditions (now (plain .entry)) (now (book .entry)) (now (coordinator .entry))) ⌝ }
+    ensures { λ r. ⌜ r ≡ refusalOf (fullConditions (now (plain .entry)) (now (book .entry)) (now (coordinator .entry))) ⌝ }
 {
     check_in_area(plain, book, coordinator)
 }
@@ -102,10 +98,10 @@ pub fn perform(
     book: &mut [u8],
     coordinator: &mut [u8],
 ) -> Performed
-    ensures answer { λ r. ⌜ r ≡ toPerformed t (responseTwo (operationOf request t) (two (now (plain .entry)) (now (book .entry)) (now (coordinator .entry)))) ⌝ }
-    ensures plain { λ r. ⌜ now (plain .exit) ≡ plainLeft (now (plain .entry)) (responseTwo (operationOf request t) (two (now (plain .entry)) (now (book .entry)) (now (coordinator .entry)))) ⌝ }
-    ensures bookkeeping { λ r. ⌜ now (book .exit) ≡ bookkeepingLeft (now (book .entry)) (responseTwo (operationOf request t) (two (now (plain .entry)) (now (book .entry)) (now (coordinator .entry)))) ⌝ }
-    ensures decisions { λ r. ⌜ now (coordinator .exit) ≡ coordinatorLeft (now (coordinator .entry)) (responseTwo (operationOf request t) (two (now (plain .entry)) (now (book .entry)) (now (coordinator .entry)))) ⌝ }
+    ensures answer { λ r. ⌜ r ≡ toPerformed t (responseFull (operationOf request t) (two (now (plain .entry)) (now (book .entry)) (now (coordinator .entry)))) ⌝ }
+    ensures plain { λ r. ⌜ now (plain .exit) ≡ fullPlainLeft (now (plain .entry)) (responseFull (operationOf request t) (two (now (plain .entry)) (now (book .entry)) (now (coordinator .entry)))) ⌝ }
+    ensures bookkeeping { λ r. ⌜ now (book .exit) ≡ fullBookkeepingLeft (now (book .entry)) (responseFull (operationOf request t) (two (now (plain .entry)) (now (book .entry)) (now (coordinator .entry)))) ⌝ }
+    ensures decisions { λ r. ⌜ now (coordinator .exit) ≡ coordinatorLeft (now (coordinator .entry)) (responseFull (operationOf request t) (two (now (plain .entry)) (now (book .entry)) (now (coordinator .entry)))) ⌝ }
 {
     if two_check::within(50, plain, book) {
         let mut area = two_check::blank_50();
@@ -121,98 +117,6 @@ pub fn perform(
     }
     let mut area = two_check::blank_500();
     on_area(request, t, plain, book, coordinator, &mut area)
-}
-
-// A refused begin gives a transaction of number 0.
-pub fn begin(
-    serializable: bool,
-    plain: &mut [u8],
-    book: &mut [u8],
-    coordinator: &mut [u8],
-) -> Performed
-    ensures { λ r. ⌜ Gives (once (model.begin serializable)) (newTransaction 0 false) (now (plain .entry)) (now (book .entry)) (now (coordinator .entry)) r (now (plain .exit)) (now (book .exit)) (now (coordinator .exit)) ⌝ }
-{
-    let none = transactions::new_transaction(0, false);
-    perform(Request::Begin(serializable), none, plain, book, coordinator)
-}
-
-// The read, or the first of its two calls, which answers the columns of the plain sheet.
-pub fn read(
-    t: Transaction,
-    key: Key,
-    clock: u32,
-    plain: &mut [u8],
-    book: &mut [u8],
-    coordinator: &mut [u8],
-) -> Performed
-    ensures { λ r. ⌜ Gives (once (model.read t key clock)) t (now (plain .entry)) (now (book .entry)) (now (coordinator .entry)) r (now (plain .exit)) (now (book .exit)) (now (coordinator .exit)) ⌝ }
-{
-    perform(Request::Read(key, clock), t, plain, book, coordinator)
-}
-
-// The second call of a read, with the columns that the first answered.
-pub fn second(
-    t: Transaction,
-    key: Key,
-    clock: u32,
-    columns: Columns,
-    plain: &mut [u8],
-    book: &mut [u8],
-    coordinator: &mut [u8],
-) -> Performed
-    ensures { λ r. ⌜ Gives (once (model.second t key clock columns)) t (now (plain .entry)) (now (book .entry)) (now (coordinator .entry)) r (now (plain .exit)) (now (book .exit)) (now (coordinator .exit)) ⌝ }
-{
-    perform(
-        Request::Second(key, clock, columns),
-        t,
-        plain,
-        book,
-        coordinator,
-    )
-}
-
-pub fn put(
-    t: Transaction,
-    key: Key,
-    columns: Columns,
-    plain: &mut [u8],
-    book: &mut [u8],
-    coordinator: &mut [u8],
-) -> Performed
-    ensures { λ r. ⌜ Gives (once (model.put t key columns)) t (now (plain .entry)) (now (book .entry)) (now (coordinator .entry)) r (now (plain .exit)) (now (book .exit)) (now (coordinator .exit)) ⌝ }
-{
-    perform(Request::Put(key, columns), t, plain, book, coordinator)
-}
-
-pub fn advance(
-    t: Transaction,
-    clock: u32,
-    plain: &mut [u8],
-    book: &mut [u8],
-    coordinator: &mut [u8],
-) -> Performed
-    ensures { λ r. ⌜ Gives (once (model.advance t clock)) t (now (plain .entry)) (now (book .entry)) (now (coordinator .entry)) r (now (plain .exit)) (now (book .exit)) (now (coordinator .exit)) ⌝ }
-{
-    perform(Request::Advance(clock), t, plain, book, coordinator)
-}
-
-pub fn close(
-    t: Transaction,
-    clock: u32,
-    limit: u32,
-    plain: &mut [u8],
-    book: &mut [u8],
-    coordinator: &mut [u8],
-) -> Performed
-    ensures { λ r. ⌜ Gives (operations.close t clock limit) t (now (plain .entry)) (now (book .entry)) (now (coordinator .entry)) r (now (plain .exit)) (now (book .exit)) (now (coordinator .exit)) ⌝ }
-{
-    perform(Request::Close(clock, limit), t, plain, book, coordinator)
-}
-
-pub fn abort(t: Transaction, plain: &mut [u8], book: &mut [u8], coordinator: &mut [u8]) -> Performed
-    ensures { λ r. ⌜ Gives (once (model.abort t)) t (now (plain .entry)) (now (book .entry)) (now (coordinator .entry)) r (now (plain .exit)) (now (book .exit)) (now (coordinator .exit)) ⌝ }
-{
-    perform(Request::Abort, t, plain, book, coordinator)
 }
 
 // The visit on both sheets joined in the area. It takes no transaction, which `perform` would hand on and back.

@@ -1,12 +1,12 @@
-// The line of a key on the sheet that is named.
+// Where a key stands on both sheets.
 ghost use mathlib.Core.Path.{_≡_};
+ghost use mathlib.Core.Bool.{true};
 ghost use Prim.Native.Nat.{_≤_};
 ghost use lib.ListN.{length};
-ghost use Rattle.model.specs.TwoSheets.{rankTwo, lineTwo, lookedUpTwo};
+ghost use Rattle.model.specs.TwoSheets.{rankFull};
 ghost use Rattle.two_check.specs.Areas.{Rooms};
 ghost use Rattle.two_sheets.specs.Lookups.{Ranks};
 use sheets::lookup::no_rank;
-use two_join::BOOKKEEPING_BYTES;
 use two_join::PLAIN_BYTES;
 use types::Key;
 use types::RECORD_BYTES;
@@ -62,7 +62,7 @@ fn search(line: bool, plain: &[u8], book: &[u8], key: Key) -> Ranked
 
 // The look-up's companion: how many lines have smaller keys, the same on both sheets, and whether the key has a line itself.
 pub fn rank_of(plain: &[u8], book: &[u8], key: Key) -> Ranked
-    ensures told { λ r. ⌜ r ≡ rankTwo (now (plain .entry)) (now (book .entry)) key ⌝ }
+    ensures told { λ r. ⌜ r ≡ rankFull (now (plain .entry)) (now (book .entry)) key ⌝ }
     ensures few { λ r. ⌜ r .rank .below ≤ 500 ⌝ }
 {
     search(false, plain, book, key)
@@ -70,30 +70,7 @@ pub fn rank_of(plain: &[u8], book: &[u8], key: Key) -> Ranked
 
 // Which line has the key, the same on both sheets: its index, or the look-up's refusal, 6 where no line has it.
 pub fn line_of(plain: &[u8], book: &[u8], key: Key) -> Ranked
-    ensures told { λ r. ⌜ r ≡ lineTwo (now (plain .entry)) (now (book .entry)) key ⌝ }
-    ensures few { λ r. ⌜ r .rank .below ≤ 500 ⌝ }
+    ensures { λ r. ⌜ Ranks true (now (plain .entry)) (now (book .entry)) key r ⌝ }
 {
     search(true, plain, book, key)
-}
-
-// The line that has the key, as a part of the sheet that is named, 0 the plain sheet and 1 the bookkeeping sheet; an empty part where 1, 13, 5 or 6 applies, or no sheet has
-// that name.
-pub fn lookup<'a>(plain: &'a [u8], book: &'a [u8], named: u32, key: Key) -> &'a [u8]
-    ensures { λ r. ⌜ now r ≡ lookedUpTwo (now (plain .entry)) (now (book .entry)) named key ⌝ }
-{
-    let told = search(true, plain, book, key);
-    if told.refusal != 0 {
-        return &plain[..0];
-    }
-    if named == 0 {
-        let at = told.rank.below * PLAIN_BYTES;
-        let end = at + PLAIN_BYTES;
-        return &plain[at..end];
-    }
-    if named == 1 {
-        let at = told.rank.below * BOOKKEEPING_BYTES;
-        let end = at + BOOKKEEPING_BYTES;
-        return &book[at..end];
-    }
-    &plain[..0]
 }

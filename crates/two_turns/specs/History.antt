@@ -2,7 +2,7 @@
 -- they say.
 use Rattle.lists.specs.Basics.{_≡_, sym, ap, ℕ, true, List, [], map, some, all}
 use Rattle.model.specs.Types.{Record, Transaction}
-use Rattle.model.specs.Records.{records, recordsText}
+use Rattle.model.specs.Spares.{sheetFor}
 use Rattle.model.specs.ByteHistories.{Bytes}
 use Rattle.model.specs.Results.{returns}
 use Rattle.model.specs.WellFormed.{wellFormed}
@@ -18,7 +18,7 @@ use Rattle.call_laws.specs.Lifting.{readable-encoded}
 use Rattle.recovery.specs.PassExists.{recoveryPass}
 use Rattle.turns.specs.Lift.{Faithful, returns-formed-of, demand-3-of, pass-exists-on, pass-told-on, pass-needs-on}
 use Rattle.serial.specs.Kinds.{checked-serializable-of, serial-bytes-of}
-use Rattle.two_laws.specs.Encoding.{joinedBytes, passing-joined, passing-two-good}
+use Rattle.two_laws.specs.TwoEncoding.{joinedBytes, passing-two, passing-two-good}
 use Rattle.two_turns.specs.Turns.{same-event, turn-stays, same-answer, call-stays}
 
 pub two-faithful : Faithful twoKind
@@ -29,7 +29,7 @@ two-faithful =
       stays = turn-stays;
       same-answer = same-answer;
       call-stays = call-stays;
-      text-is = λ b p. sym (ap (λ (x : Bytes). x .records) (readable-encoded (joinedBytes b) (passing-joined b p .readable)));
+      text-is = λ b p. sym (ap (λ (x : Bytes). x .records) (readable-encoded (joinedBytes b) (passing-two b p .readable)));
     }
 
 -- the transaction that a turn returns is well formed, on the sheets that it leaves
@@ -65,5 +65,5 @@ checked-serializable-two b p z xs legal checked = checked-serializable-of twoKin
 pub serial-bytes-two : (b : TwoBytes) → PassingTwo b → nonePrepared (sayingTwo b .lines) ≡ true → (xs : List Turn) → LegalTurns turnAfterTwo turnEventTwo xs b []
     → all begunChecked (callsTwo xs b) ≡ true → (vs : List Visit) → Closing sayingTwo afterTwo vs (turnsLeft turnAfterTwo xs b)
     → joinedSheet (twoRecovered vs xs b .plain) (twoRecovered vs xs b .bookkeeping)
-    ≡ recordsText (map (λ (r : Record). serialLine (sayingTwo b .lines) (modelTwo xs b) (serialOrder (callsTwo xs b)) (r .key)) (sayingTwo b .lines))
+    ≡ sheetFor (map (λ (r : Record). serialLine (sayingTwo b .lines) (modelTwo xs b) (serialOrder (callsTwo xs b)) (r .key)) (sayingTwo b .lines)) (sayingTwo b .size)
 serial-bytes-two b p z xs legal checked vs c = serial-bytes-of twoKind two-faithful b p z xs legal checked vs c

@@ -4,7 +4,7 @@
 use Rattle.lists.specs.Basics.{_≡_, refl, sym, ap, ap₂, _∙_, ℕ, eqb, Bool, true, false, not, _&&_, cond, true≢false, and-true, and-false, List, [], _∷_}
 use Rattle.lists.specs.Basics.{eqb-true}
 use Rattle.model.specs.Types.{Key, Columns, Transaction}
-use Rattle.model.specs.Records.{recordsAccepted}
+use Rattle.model.specs.Spares.{recordLines, sheetAccepted}
 use Rattle.model.specs.Coordinator.{coordinatorReadable, coordinatorAccepted}
 use Rattle.model.specs.Groups.{isLower}
 use Rattle.model.specs.Refusals.{refuse, refusalOf}
@@ -14,10 +14,10 @@ use Rattle.model.specs.Steps.{unitsOf}
 use Rattle.model.specs.Results.{read, second, Answer, Response, refused, made}
 use Rattle.model.specs.Conditions.{isNew, takesTwo, conditions}
 use Rattle.model.specs.Calls.{seenSecond, wholeRead, outcome, result}
-use Rattle.model.specs.ByteCalls.{sheetsOf, resultOn}
+use Rattle.model.specs.ByteCalls.{sheetsSaid, resultOn}
 use Rattle.model.specs.ByteHistories.{Bytes}
 use Rattle.model.specs.Histories.{ClockFits}
-use Rattle.model.specs.Operations.{response, sheetsLeft, responseOn, recordsLeft, coordinatorLeft, bytesLeft}
+use Rattle.model.specs.Operations.{response, sheetsLeft, responseOn, sheetLeft, coordinatorLeft, bytesLeft}
 use Rattle.model.specs.CallByPlace.{responseAt, responseAtOn}
 use Rattle.model.specs.Turns.{Turn, single, byPlace, turnCall, turnResponse, turnEvent, turnAfter, turnResponseOn, turnAfterOn}
 use Rattle.model.specs.TwoCalls.{TwoBytes, sayingTwo, conditionsOf, onTwo, responseTwo, responseAtTwo, plainLeft, bookkeepingLeft, twoLeft, turnResponseTwo}
@@ -25,30 +25,30 @@ use Rattle.model.specs.TwoCalls.{turnAfterTwo}
 use Rattle.call_laws.specs.Choices.{unless-of}
 use Rattle.call_laws.specs.Lifting.{Capitals, capitals-lower, passing-readable}
 use Rattle.turns.specs.Turns.{turn-stays-good}
-use Rattle.two_laws.specs.Decision.{agreeing}
-use Rattle.two_laws.specs.Encoding.{joinedBytes, Joinable, passing-two-good, encoded-joins}
+use Rattle.two_laws.specs.TwoEncoding.{agreeing-two}
+use Rattle.two_laws.specs.TwoEncoding.{joinedBytes, JoinableTwo, passing-two-good, encoded-joins}
 
 -- with capitals a coordinator sheet is refused on a record sheet where it is on two
-capital-conditions : (rs cs : List ℕ) → Capitals (sheetsOf rs cs) → refusalOf (readableConditions rs cs) ≡ refusalOf (checkConditions rs cs)
+capital-conditions : (rs cs : List ℕ) → Capitals (sheetsSaid rs cs) → refusalOf (readableConditions rs cs) ≡ refusalOf (checkConditions rs cs)
 unfolding readableConditions checkConditions coordinatorAccepted
 capital-conditions rs cs a =
-    ap (λ (x : Bool). refusalOf (refuse 1 (not (recordsAccepted rs)) ∷ refuse 2 (not (x && allIssued rs cs)) ∷ []))
+    ap (λ (x : Bool). refusalOf (refuse 1 (not (sheetAccepted rs)) ∷ refuse 2 (not (x && allIssued (recordLines rs) cs)) ∷ []))
     (sym (ap (λ (x : Bool). coordinatorReadable cs && x) a ∙ and-true (coordinatorReadable cs)))
 
 -- the refusals of both sheets and of the joined one
-joined-refusal : (b : TwoBytes) → Joinable b → Capitals (sayingTwo b) → refusalOf (conditionsOf b) ≡ refusalOf (checkConditions (joinedBytes b .records) (b .coordinator))
+joined-refusal : (b : TwoBytes) → JoinableTwo b → Capitals (sayingTwo b) → refusalOf (conditionsOf b) ≡ refusalOf (checkConditions (joinedBytes b .records) (b .coordinator))
 joined-refusal b j a =
-    agreeing (b .plain) (b .bookkeeping) (b .coordinator) (j .plain) (j .bookkeeping) (j .agree) ∙ capital-conditions (joinedBytes b .records) (b .coordinator) a
+    agreeing-two b j ∙ capital-conditions (joinedBytes b .records) (b .coordinator) a
 
 -- "each operation on the two sheets gives the answer of the joined sheet", by place too and where it is refused
-pub joined-response : (x : Turn) (b : TwoBytes) → Joinable b → Capitals (sayingTwo b) → turnResponseTwo x b ≡ turnResponseOn x (joinedBytes b)
+pub joined-response : (x : Turn) (b : TwoBytes) → JoinableTwo b → Capitals (sayingTwo b) → turnResponseTwo x b ≡ turnResponseOn x (joinedBytes b)
 unfolding turnResponseTwo turnResponseOn responseTwo responseOn responseAtTwo responseAtOn
 joined-response (single o) b j a = ap (λ (n : ℕ). cond (eqb n 0) (response o (sayingTwo b)) (refused n)) (joined-refusal b j a)
 joined-response (byPlace list place q) b j a = ap (λ (n : ℕ). cond (eqb n 0) (responseAt list place q (sayingTwo b)) (refused n)) (joined-refusal b j a)
 
 -- "and the sheets after it join to what that sheet would be", of any sheets and letters of either case
 pub left-joins : (x : Turn) (b : TwoBytes) → ClockFits (turnCall x) → joinedBytes (turnAfterTwo x b) ≡ bytesLeft (joinedBytes b) (turnResponseTwo x b)
-unfolding turnAfterTwo turnResponseTwo responseTwo responseAtTwo turnEvent turnAfter turnResponse plainLeft bookkeepingLeft recordsLeft coordinatorLeft
+unfolding turnAfterTwo turnResponseTwo responseTwo responseAtTwo turnEvent turnAfter turnResponse plainLeft bookkeepingLeft sheetLeft coordinatorLeft
 left-joins x b l = turn x l (λ h. turn-stays-good x (sayingTwo b) l (passing-two-good b h))
   where
     made-joins : (r : Response Answer Sheets) → sheetsGood (sheetsLeft (sayingTwo b) r) ≡ true → joinedBytes (twoLeft b r) ≡ bytesLeft (joinedBytes b) r
@@ -64,7 +64,7 @@ left-joins x b l = turn x l (λ h. turn-stays-good x (sayingTwo b) l (passing-tw
     turn (single o) l g = joins (response o) g
     turn (byPlace list place q) l g = joins (responseAt list place q) g
 
-pub joined-left : (x : Turn) (b : TwoBytes) → ClockFits (turnCall x) → Joinable b → Capitals (sayingTwo b) → joinedBytes (turnAfterTwo x b) ≡ turnAfterOn x (joinedBytes b)
+pub joined-left : (x : Turn) (b : TwoBytes) → ClockFits (turnCall x) → JoinableTwo b → Capitals (sayingTwo b) → joinedBytes (turnAfterTwo x b) ≡ turnAfterOn x (joinedBytes b)
 unfolding turnAfterOn
 joined-left x b l j a = left-joins x b l ∙ ap (bytesLeft (joinedBytes b)) (joined-response x b j a)
 
@@ -89,6 +89,6 @@ second-is-read t k now c rs cs = go (eqb (refusalOf (checkConditions rs cs)) 0) 
     b : Bytes
     b = record { records = rs; coordinator = cs }
 
-    go : (x : Bool) → eqb (refusalOf (checkConditions rs cs)) 0 ≡ x → cond x (result (second t k now c) (sheetsOf rs cs)) (refused (refusalOf (checkConditions rs cs))) ≡ cond x (result (read t k now) (sheetsOf rs cs)) (refused (refusalOf (checkConditions rs cs)))
-    go true e = either-is-whole t k now c (sheetsOf rs cs) (capital-takes-one (sheetsOf rs cs) (passing-readable b (eqb-true (refusalOf (checkConditions rs cs)) 0 e) .1) k t)
+    go : (x : Bool) → eqb (refusalOf (checkConditions rs cs)) 0 ≡ x → cond x (result (second t k now c) (sheetsSaid rs cs)) (refused (refusalOf (checkConditions rs cs))) ≡ cond x (result (read t k now) (sheetsSaid rs cs)) (refused (refusalOf (checkConditions rs cs)))
+    go true e = either-is-whole t k now c (sheetsSaid rs cs) (capital-takes-one (sheetsSaid rs cs) (passing-readable b (eqb-true (refusalOf (checkConditions rs cs)) 0 e) .1) k t)
     go false e = refl

@@ -7,7 +7,8 @@ use Rattle.types.specs.declared.Reading.the-variants.{First}
 use Rattle.model.specs.Types.{Key, Columns, Record, Transaction}
 use Rattle.model.specs.Layouts.{recordBytes}
 use Rattle.model.specs.Lines.{linesOf}
-use Rattle.model.specs.Records.{sameKey, recordIn, records, lineOf}
+use Rattle.model.specs.Records.{sameKey, recordIn, records, recordsAccepted, lineOf}
+use Rattle.model.specs.Spares.{recordLines}
 use Rattle.model.specs.Images.{columnsOf}
 use Rattle.model.specs.Groups.{isLower}
 use Rattle.model.specs.Refusals.{Condition, refusalOf}
@@ -17,33 +18,40 @@ use Rattle.model.specs.Results.{read, Answer, answered, refusalIn, Response, Re
 use Rattle.model.specs.Conditions.{isNew, takesTwo, conditions}
 use Rattle.model.specs.Calls.{firstRead, outcome, result}
 use Rattle.model.specs.Operations.{once, operationConditions, settled, response, coordinatorLeft}
-use Rattle.model.specs.TwoSheets.{plainBytes, plainLine, joinedSheet, plainRecord, linesConditions, twoConditions}
+use Rattle.model.specs.TwoSheets.{plainBytes, plainLine, joinedSheet, plainRecord}
+use Rattle.model.specs.TwoSpares.{plainLines, bookkeepingLines, joinedLines, formConditions, twoConditions}
 use Rattle.model.specs.TwoCalls.{TwoBytes, sayingTwo, conditionsOf, PassingTwo, responseTwo, allConditionsTwo, plainLeft, bookkeepingLeft, twoLeft, answerTwo, afterTwo}
 use Rattle.call_laws.specs.Choices.{unless-of}
-use Rattle.call_laws.specs.Lifting.{apply-nothing}
+use Rattle.call_laws.specs.Lifting.{apply-nothing, readable-both}
+use Rattle.sheet_laws.specs.Spared.{accepted-lines}
 use Rattle.two_laws.specs.FilledSheets.{lines-wide}
 use Rattle.two_laws.specs.JoinedSheets.{plain-lines}
 use Rattle.two_laws.specs.TwoLines.{plainOf}
-use Rattle.two_laws.specs.Encoding.{joinedBytes, passing-joined, encodedTwo, passing-encoded-two}
-use Rattle.two_turns.specs.Units.{plain-says, readable-whole}
+use Rattle.two_laws.specs.Decision.{accepted-whole}
+use Rattle.two_laws.specs.TwoEncoding.{joinedBytes, front-joined, passing-two, encodedTwo, passing-encoded-two}
+use Rattle.two_turns.specs.Units.{plain-says}
 use Rattle.two_turns.specs.Refusals.{refusal-given}
 
 -- the columns of a key's line on the plain sheet, 0 where it has none
 abbrev pub plainColumns : Key → List ℕ → Columns
-plainColumns k ps = columnsOf (lineOf k (map plainRecord (linesOf plainBytes ps)) .image)
+plainColumns k ps = columnsOf (lineOf k (map plainRecord (linesOf plainBytes (plainLines ps))) .image)
 
 -- what the plain sheet says is what the joined one says, beside fixed fields
-plain-records : (b : TwoBytes) → PassingTwo b → map plainRecord (linesOf plainBytes (b .plain)) ≡ map (λ (r : Record). plainOf r) (sayingTwo b .lines)
+plain-records : (b : TwoBytes) → PassingTwo b → map plainRecord (linesOf plainBytes (plainLines (b .plain))) ≡ map (λ (r : Record). plainOf r) (sayingTwo b .lines)
 unfolding records
 plain-records b h =
-    let j = passing-joined b h in
-    let ls = linesOf recordBytes (joinedSheet (b .plain) (b .bookkeeping)) in
-    let wide = lines-wide recordBytes (joinedSheet (b .plain) (b .bookkeeping)) (readable-whole (joinedBytes b) (j .readable)) in
-    ap (map plainRecord) (sym (plain-lines (b .plain) (b .bookkeeping) (j .lines .plain) (j .lines .bookkeeping) (j .lines .agree)))
+    let p = passing-two b h in
+    let j = p .lines .lines in
+    let joint = joinedLines (b .plain) (b .bookkeeping) in
+    let ls = linesOf recordBytes joint in
+    let front : recordLines (joinedSheet (b .plain) (b .bookkeeping)) ≡ joint = front-joined b (p .lines) in
+    let a : recordsAccepted joint ≡ true = ap recordsAccepted (sym front) ∙ accepted-lines (joinedSheet (b .plain) (b .bookkeeping)) (readable-both (joinedBytes b) (p .readable) .0) in
+    let wide = lines-wide recordBytes joint (accepted-whole joint a) in
+    ap (map plainRecord) (sym (plain-lines (plainLines (b .plain)) (bookkeepingLines (b .bookkeeping)) (j .plain) (j .bookkeeping) (j .agree)))
     ∙ (map-map plainRecord plainLine ls
     ∙ (map-equal (λ (l : List ℕ). eqb (length l) recordBytes) (λ (l : List ℕ). plainRecord (plainLine l)) (λ (l : List ℕ). plainOf (recordIn l))
     (λ l e. plain-says l (eqb-true (length l) recordBytes e)) ls wide
-    ∙ sym (map-map (λ (r : Record). plainOf r) recordIn ls)))
+    ∙ (sym (map-map (λ (r : Record). plainOf r) recordIn ls) ∙ ap (λ (x : List ℕ). map (λ (r : Record). plainOf r) (map recordIn (linesOf recordBytes x))) (sym front))))
 
 columns-kept : (k : Key) (rs : List Record) → columnsOf (lineOf k (map (λ (r : Record). plainOf r) rs) .image) ≡ columnsOf (lineOf k rs .image)
 unfolding lineOf
@@ -101,7 +109,7 @@ module _ (t : Transaction) (k : Key) (now : ℕ) (b : TwoBytes) (two : takesTwo 
 
   -- "The first, never refused with 12"
   pub first-not-12 : refusalIn (answerTwo (read t k now) b) ≡ 12 → ⊥
-  unfolding answerTwo allConditionsTwo twoConditions linesConditions operationConditions conditions all
+  unfolding answerTwo allConditionsTwo twoConditions formConditions operationConditions conditions all
   first-not-12 e =
       not-among 12 (allConditionsTwo (once (read t k now)) b) (λ z. omega (arith, z)) (rw (new, lower) refl) (sym (refusal-given (once (read t k now)) b) ∙ e)
     where

@@ -12,7 +12,7 @@ use Rattle.model.specs.Operations.{Operation, once, close, operationConditions,
 use Rattle.model.specs.Requests.{operationOf}
 use Rattle.model.specs.CallByPlace.{operationAt, placeConditions, responseAt, listAfter}
 use Rattle.model.specs.Turns.{Turn, single, byPlace}
-use Rattle.model.specs.TwoSheets.{linesConditions, twoConditions}
+use Rattle.model.specs.TwoSpares.{formConditions, twoConditions}
 use Rattle.model.specs.TwoCalls.{TwoBytes, sayingTwo, conditionsOf, responseTwo, responseAtTwo, allConditionsTwo, allConditionsAtTwo, plainLeft, bookkeepingLeft}
 use Rattle.model.specs.TwoCalls.{twoLeft, turnResponseTwo, turnEventTwo, turnAfterTwo}
 use Rattle.call_laws.specs.Exactness.{Sound, sound-unless, when-refused, refusal-then, row-first, risingFrom}
@@ -20,12 +20,12 @@ use Rattle.call_laws.specs.Operations.{response-refusal, response-sound}
 
 -- an answer's refusal is that of the operation's conditions
 pub refusal-given : (o : Operation) (b : TwoBytes) → refusalIn (answerOf (responseTwo o b)) ≡ refusalOf (allConditionsTwo o b)
-unfolding responseTwo allConditionsTwo twoConditions linesConditions all
+unfolding responseTwo allConditionsTwo twoConditions formConditions all
 refusal-given o b =
     refusal-then (conditionsOf b) (operationConditions o (sayingTwo b)) (response o (sayingTwo b)) refl (response-refusal o (sayingTwo b))
 
 refusal-given-at : (list : List Transaction) (place : ℕ) (q : Request) (b : TwoBytes) → refusalIn (answerOf (responseAtTwo list place q b)) ≡ refusalOf (allConditionsAtTwo list place q b)
-unfolding responseAtTwo responseAt allConditionsAtTwo twoConditions linesConditions all
+unfolding responseAtTwo responseAt allConditionsAtTwo twoConditions formConditions all
 refusal-given-at list place q b =
     let rest = operationConditions (operationAt list place q) (sayingTwo b) in
     refusal-then (conditionsOf b) (placeConditions list place ++ rest) _ refl
@@ -33,7 +33,7 @@ refusal-given-at list place q b =
 
 -- and this is the first that is asked
 conditions-first : (o : Operation) (b : TwoBytes) → firstAsked (refusalOf (allConditionsTwo o b)) (allConditionsTwo o b) ≡ true
-unfolding allConditionsTwo twoConditions linesConditions operationConditions conditions closeConditions risingFrom all countBefore
+unfolding allConditionsTwo twoConditions formConditions operationConditions conditions closeConditions risingFrom all countBefore
 conditions-first (once (begin x)) b = row-first (allConditionsTwo (once (begin x)) b) refl
 conditions-first (once (read t k now)) b = row-first (allConditionsTwo (once (read t k now)) b) refl
 conditions-first (once (second t k now c)) b = row-first (allConditionsTwo (once (second t k now c)) b) refl
@@ -44,7 +44,7 @@ conditions-first (once (visit k now)) b = row-first (allConditionsTwo (once (vis
 conditions-first (close t now limit) b = row-first (allConditionsTwo (close t now limit) b) refl
 
 conditions-first-at : (list : List Transaction) (place : ℕ) (q : Request) (b : TwoBytes) → firstAsked (refusalOf (allConditionsAtTwo list place q b)) (allConditionsAtTwo list place q b) ≡ true
-unfolding allConditionsAtTwo twoConditions linesConditions operationOf operationConditions conditions closeConditions risingFrom all countBefore
+unfolding allConditionsAtTwo twoConditions formConditions operationOf operationConditions conditions closeConditions risingFrom all countBefore
 conditions-first-at list place (asked.Begin x) b = row-first (allConditionsAtTwo list place (asked.Begin x) b) refl
 conditions-first-at list place (asked.Read k now) b = row-first (allConditionsAtTwo list place (asked.Read k now) b) refl
 conditions-first-at list place (asked.Second k now c) b = row-first (allConditionsAtTwo list place (asked.Second k now c) b) refl
@@ -62,7 +62,7 @@ refusal-exact-at-two list place q b = ap (λ (n : ℕ). firstAsked n (allConditi
 
 -- the row of a call: 1 of either sheet and of the joined one, 2, 13, and then as beside a record sheet
 pub numbers-two : (c : Call) (b : TwoBytes) → map (λ (x : Condition). x .number) (allConditionsTwo (once c) b) ≡ 1 ∷ 1 ∷ 1 ∷ 2 ∷ 13 ∷ drop 2 (refusals c)
-unfolding allConditionsTwo twoConditions linesConditions operationConditions conditions refusals
+unfolding allConditionsTwo twoConditions formConditions operationConditions conditions refusals
 numbers-two (begin x) b = refl
 numbers-two (read t k now) b = refl
 numbers-two (second t k now c) b = refl
@@ -74,7 +74,7 @@ numbers-two (visit k now) b = refl
 -- After a refusal.
 
 turn-sound : (x : Turn) (b : TwoBytes) → Sound (turnResponseTwo x b)
-unfolding turnResponseTwo responseTwo responseAtTwo responseAt twoConditions linesConditions all
+unfolding turnResponseTwo responseTwo responseAtTwo responseAt twoConditions formConditions all
 turn-sound (single o) b = sound-unless (conditionsOf b) _ refl (response-sound o (sayingTwo b))
 turn-sound (byPlace list place q) b =
     sound-unless (conditionsOf b) _ refl (sound-unless (placeConditions list place) _ refl (response-sound (operationAt list place q) (sayingTwo b)))

@@ -12,7 +12,7 @@ use Rattle.model.specs.TwoCalls.{TwoBytes, sayingTwo, PassingTwo, responseTwo, 
 use Rattle.model.specs.TwoCalls.{turnAfterTwo}
 use Rattle.turns.specs.Operations.{settled-left, settled-answer}
 use Rattle.turns.specs.Turns.{turn-stays-good}
-use Rattle.two_laws.specs.Encoding.{passing-two-good, encodedTwo, encoded-two-says, on-passing-two, left-two}
+use Rattle.two_laws.specs.TwoEncoding.{passing-two-good, encodedTwo, encoded-two-says, on-passing-two, left-two}
 
 pub same-response : (x : Turn) (b : TwoBytes) → PassingTwo b → turnResponseTwo x b ≡ turnResponse x (sayingTwo b)
 unfolding turnResponseTwo turnResponse responseTwo responseAtTwo

@@ -1,41 +1,49 @@
 -- "An atomic write goes to both, within one unit." The joined sheet has this law already (turns), letters of either case; a line of either sheet is the part of the
 -- line joined, and says its key. So a line that stays joined stays in both parts.
-use Rattle.lists.specs.Basics.{_≡_, refl, sym, ap, subst, _∙_, ℕ, _+_, _*_, _/_, _^_, _≤_, _<_, eqb, ltb, Bool, true, false, List, [], map, length, take, getD}
+use Rattle.lists.specs.Basics.{_≡_, refl, sym, ap, ap₂, subst, _∙_, ℕ, zero, suc, _+_, _-_, _*_, _/_, _^_, _≤_, _<_, eqb, ltb, Bool, true, false, List, [], _∷_, _++_, map, length, take, getD, replicate, eq-eqb}
 use Rattle.lists.specs.Basics.{length-map, length-take, length-drop, drop-of-length-le, List·getD-map, arith, eqb-true, ltb-true, ltb-false, joined}
 use native.Mathlib.Nat.{mul-le-mul-right}
+use mathlib.Core.List.{map-append}
 use Rattle.lists.specs.All.{all-of, getD-any}
-use Rattle.lists.specs.Pieces.{AllOf, length-pieces, pieces-joined, length-joined, getD-pieces}
+use Rattle.lists.specs.Pieces.{AllOf, length-pieces, pieces-joined, length-joined, joined-append, getD-pieces}
 use Rattle.model.specs.Types.{Key, Record, Transaction, At}
 use Rattle.model.specs.Layouts.{recordBytes}
 use Rattle.model.specs.Lines.{linesOf}
-use Rattle.model.specs.Records.{recordIn}
-use Rattle.model.specs.Coordinator.{Letter, coordinatorOf}
+use Rattle.model.specs.Records.{recordIn, recordsText}
+use Rattle.model.specs.Coordinator.{Letter, coordinatorOf, coordinatorText}
 use Rattle.model.specs.Groups.{scope}
 use Rattle.model.specs.Refusals.{refusalOf}
 use Rattle.model.specs.SheetCalls.{lineAt}
-use Rattle.model.specs.Writes.{Sheets}
+use Rattle.model.specs.Spares.{spareLine, filledLines, sparesText, sheetFor}
+use Rattle.model.specs.Writes.{Sheets, sheetsGood}
 use Rattle.model.specs.Results.{Call, answerOf}
 use Rattle.model.specs.Histories.{ClockFits}
 use Rattle.model.specs.ByteHistories.{Bytes, Readable}
 use Rattle.model.specs.Closing.{Run, closeConditions}
 use Rattle.model.specs.Operations.{once, writesOnce, standsFor, closeRun, ended, coordinatorLeft}
-use Rattle.model.specs.Turns.{Turn, single, turnCall, turnWritesOnce, turnAfter}
-use Rattle.model.specs.TwoSheets.{plainBytes, bookkeepingBytes, plainLine, bookkeepingLine, plainPart, bookkeepingPart, plainRecord, bookkeepingRecord, lineOfSheet}
+use Rattle.model.specs.Turns.{Turn, single, turnCall, turnWritesOnce, turnEvent, turnAfter}
+use Rattle.model.specs.TwoSheets.{plainBytes, bookkeepingBytes, joinedSheet, plainLine, bookkeepingLine, plainPart, bookkeepingPart, plainRecord, bookkeepingRecord, lineOfSheet}
+use Rattle.model.specs.TwoSpares.{joinedLines}
 use Rattle.model.specs.TwoCalls.{TwoBytes, sayingTwo, conditionsOf, PassingTwo, responseTwo, plainLeft, bookkeepingLeft, twoLeft, afterTwo, turnResponseTwo}
 use Rattle.model.specs.TwoCalls.{turnAfterTwo}
 use Rattle.model.specs.Closes.{NextWrite, nothing-more, one-write-more, NextLimitTwo}
 use Rattle.model.specs.AtomicWrites.{OneUnit, lines-of-one-unit, coordinator-only, KeepsOthers, OneUnitTwo, lines-of-one-unit-two, coordinator-only-two}
-use Rattle.call_laws.specs.Lifting.{readable-both, readable-good, encoded, encoded-readable}
+use Rattle.call_laws.specs.Lifting.{readable-both, readable-good, encoded, encoded-readable, readable-encoded, good-records}
 use Rattle.turns.specs.Operations.{close-sound}
-use Rattle.turns.specs.Turns.{turn-stays-readable}
+use Rattle.turns.specs.Turns.{turn-stays-good, turn-stays-readable}
 use Rattle.turns.specs.Units.{readable-unit}
 use Rattle.turns.specs.Closes.{next-by, run-next}
 use Rattle.two_laws.specs.Deciding.{whole}
 use Rattle.two_laws.specs.FilledSheets.{lines-wide}
 use Rattle.two_laws.specs.TwoLines.{plainOf, bookkeepingOf, joined-plain-record, joined-bookkeeping-record, join-back, parts-agree, length-plainLine}
 use Rattle.two_laws.specs.TwoLines.{length-bookkeepingLine}
-use Rattle.two_laws.specs.Decision.{accepted-whole}
-use Rattle.two_laws.specs.Encoding.{joinedBytes, split-join, passing-joined}
+use Rattle.sheet_laws.specs.Records.{records-read-written}
+use Rattle.sheet_laws.specs.ByIndex.{whole-lines}
+use Rattle.sheet_laws.specs.Fronts.{lines-behind, front-spares}
+use Rattle.sheet_laws.specs.Spared.{accepted-whole}
+use Rattle.two_laws.specs.Encoding.{split-join}
+use Rattle.two_laws.specs.SparedJoin.{joined-spared}
+use Rattle.two_laws.specs.TwoEncoding.{joinedBytes, cutTwo, JoinableTwo, same-filled, joined-lines-whole, passing-two, passing-two-good, encodedTwo, passing-encoded-two}
 use Rattle.two_turns.specs.Turns.{turn-two}
 
 -- either part of a record line says its fields
@@ -132,20 +140,74 @@ unit-apart b a h h′ (lines-of-one-unit unit c n f) =
 unit-apart b a h h′ (coordinator-only e) = coordinator-only-two (ap plainPart e) (ap bookkeepingPart e)
 
 pub readable-whole : (b : Bytes) → Readable b → whole recordBytes (b .records) ≡ true
-readable-whole b h = accepted-whole (b .records) (readable-both b h .0)
+readable-whole b h = eq-eqb (length (b .records)) (length (b .records) / recordBytes * recordBytes) (accepted-whole (b .records) (readable-both b h .0))
+
+-- a spare's parts are spares
+plain-spare : plainLine (spareLine recordBytes) ≡ spareLine plainBytes
+unfolding spareLine plainLine
+plain-spare = refl
+
+bookkeeping-spare : bookkeepingLine (spareLine recordBytes) ≡ spareLine bookkeepingBytes
+unfolding spareLine bookkeepingLine
+bookkeeping-spare = refl
+
+map-replicate : (part : List ℕ → List ℕ) (w n : ℕ) → part (spareLine recordBytes) ≡ spareLine w → map part (replicate n (spareLine recordBytes)) ≡ replicate n (spareLine w)
+map-replicate part w zero e = refl
+map-replicate part w (suc n) e = ap₂ _∷_ e (map-replicate part w n e)
+
+parts-behind : (part : List ℕ → List ℕ) (w n : ℕ) (s : List ℕ) → part (spareLine recordBytes) ≡ spareLine w → length s ≡ length s / recordBytes * recordBytes
+    → joined (map part (linesOf recordBytes (s ++ sparesText recordBytes n))) ≡ joined (map part (linesOf recordBytes s)) ++ sparesText w n
+parts-behind part w n s e whole =
+    let ls = linesOf recordBytes s in
+    ap (λ (x : List (List ℕ)). joined (map part x)) (lines-behind recordBytes (omega arith) s n whole)
+    ∙ (ap joined (map-append part ls (replicate n (spareLine recordBytes)) ∙ ap (λ (x : List (List ℕ)). map part ls ++ x) (map-replicate part w n e))
+    ∙ joined-append (map part ls) (replicate n (spareLine w)))
+
+-- good sheets encoded, apart, are those encoded and split
+apart-encoded : (s : Sheets) → sheetsGood s ≡ true → apart (encoded s) ≡ encodedTwo s
+unfolding plainPart bookkeepingPart sheetFor
+apart-encoded s g =
+    let n = s .size - length (s .lines) in
+    let w : length (recordsText (s .lines)) ≡ length (recordsText (s .lines)) / recordBytes * recordBytes = whole-lines (recordsText (s .lines)) (records-read-written (s .lines) (good-records s g) .1) in
+    λ i. record {
+      plain = parts-behind plainLine plainBytes n (recordsText (s .lines)) plain-spare w i;
+      bookkeeping = parts-behind bookkeepingLine bookkeepingBytes n (recordsText (s .lines)) bookkeeping-spare w i;
+      coordinator = coordinatorText (s .coordinator);
+    }
+
+-- either sheet is its part of the joined one
+pub split-join-two : (b : TwoBytes) → JoinableTwo b → (plainPart (joinedSheet (b .plain) (b .bookkeeping)) ≡ b .plain) × (bookkeepingPart (joinedSheet (b .plain) (b .bookkeeping)) ≡ b .bookkeeping)
+unfolding plainPart bookkeepingPart
+split-join-two b j =
+    let ps = b .plain in
+    let bs = b .bookkeeping in
+    let n = length bs / bookkeepingBytes - filledLines bookkeepingBytes bs in
+    let m : n ≡ length ps / plainBytes - filledLines plainBytes ps = ap₂ _-_ (sym (j .many)) (sym (same-filled b j)) in
+    let e : joinedSheet ps bs ≡ joinedLines ps bs ++ sparesText recordBytes n = joined-spared ps bs (j .plain) (j .bookkeeping) (j .many) (same-filled b j) in
+    let w : length (joinedLines ps bs) ≡ length (joinedLines ps bs) / recordBytes * recordBytes = joined-lines-whole b j in
+    let f = split-join (cutTwo b) (j .lines) in (
+      ap plainPart e
+          ∙ (parts-behind plainLine plainBytes n (joinedLines ps bs) plain-spare w
+          ∙ (ap₂ (λ (t : List ℕ) (k : ℕ). t ++ sparesText plainBytes k) (f .0) m ∙ front-spares plainBytes (omega arith) ps (j .plain))),
+      ap bookkeepingPart e
+          ∙ (parts-behind bookkeepingLine bookkeepingBytes n (joinedLines ps bs) bookkeeping-spare w
+          ∙ (ap (λ (t : List ℕ). t ++ sparesText bookkeepingBytes n) (f .1) ∙ front-spares bookkeepingBytes (omega arith) bs (j .bookkeeping))),
+    )
 
 -- sheets that pass are the parts of the joined one
 passing-apart : (b : TwoBytes) → PassingTwo b → apart (joinedBytes b) ≡ b
 passing-apart b h =
-    let s = split-join b (passing-joined b h .lines) in
-    λ i. record { plain = s .0 i; bookkeeping = s .1 i; coordinator = b .coordinator }
+    ap apart (sym (readable-encoded (joinedBytes b) (passing-two b h .readable)))
+    ∙ (apart-encoded (sayingTwo b) (passing-two-good b h) ∙ passing-encoded-two b h)
 
 -- "An atomic write goes to both, within one unit."
 pub turn-unit-two : (x : Turn) (b : TwoBytes) → turnWritesOnce x ≡ true → ClockFits (turnCall x) → PassingTwo b → OneUnitTwo b (turnAfterTwo x b)
+unfolding turnEvent
 turn-unit-two x b w l h =
-    let r = passing-joined b h .readable in
+    let r = passing-two b h .readable in
+    let g : sheetsGood (turnAfter x (sayingTwo b)) ≡ true = turn-stays-good x (sayingTwo b) l (passing-two-good b h) in
     subst (λ (a : TwoBytes). OneUnitTwo a (turnAfterTwo x b)) (passing-apart b h)
-    (subst (OneUnitTwo (apart (joinedBytes b))) (sym (turn-two x b h))
+    (subst (OneUnitTwo (apart (joinedBytes b))) (apart-encoded (turnAfter x (sayingTwo b)) g ∙ sym (turn-two x b h))
     (unit-apart (joinedBytes b) (encoded (turnAfter x (sayingTwo b))) (readable-whole (joinedBytes b) r)
     (readable-whole (encoded (turnAfter x (sayingTwo b))) (turn-stays-readable x (joinedBytes b) l r .1)) (readable-unit x (joinedBytes b) w l r)))
 
@@ -156,7 +218,7 @@ call-unit-two c b l h = turn-unit-two (single (once c)) b refl l h
 -- A close, "from one limit to the next"
 pub next-limit-two : (t : Transaction) (now limit : ℕ) (b : TwoBytes) → now < 2 ^ 32 → NextLimitTwo t now limit b
 unfolding responseTwo plainLeft bookkeepingLeft coordinatorLeft
-next-limit-two t now limit b fits = next-by OneUnitTwo (twoLeft b) (conditionsOf b) t now limit s (λ h z. go h z (run-next t now limit (joinedBytes b) fits (passing-joined b h .readable) z))
+next-limit-two t now limit b fits = next-by OneUnitTwo (twoLeft b) (conditionsOf b) t now limit s (λ h z. go h z (run-next t now limit (joinedBytes b) fits (passing-two b h .readable) z))
   where
     s : Sheets
     s = sayingTwo b
@@ -164,14 +226,20 @@ next-limit-two t now limit b fits = next-by OneUnitTwo (twoLeft b) (conditionsOf
     run : ℕ → Run
     run m = closeRun t now m s
 
+    good-at : PassingTwo b → refusalOf (closeConditions t s) ≡ 0 → (m : ℕ) → sheetsGood (run m .sheets) ≡ true
+    good-at h z m = close-sound t now m s fits (readable-good (joinedBytes b) (passing-two b h .readable)) z .good
+
     -- what is left is the parts of what the joined sheet would be, which has whole lines
     whole-at : PassingTwo b → refusalOf (closeConditions t s) ≡ 0 → (m : ℕ) → whole recordBytes (encoded (run m .sheets) .records) ≡ true
-    whole-at h z m =
-        readable-whole (encoded (run m .sheets)) (encoded-readable (run m .sheets) (close-sound t now m s fits (readable-good (joinedBytes b) (passing-joined b h .readable)) z .good) .1)
+    whole-at h z m = readable-whole (encoded (run m .sheets)) (encoded-readable (run m .sheets) (good-at h z m) .1)
 
     go : PassingTwo b → refusalOf (closeConditions t s) ≡ 0
         → NextWrite OneUnit (answerOf (ended (run limit))) (answerOf (ended (run (limit + 1)))) (encoded (run limit .sheets)) (encoded (run (limit + 1) .sheets))
         → NextWrite OneUnitTwo (answerOf (ended (run limit))) (answerOf (ended (run (limit + 1)))) (twoLeft b (ended (run limit))) (twoLeft b (ended (run (limit + 1))))
-    go h z (nothing-more e f) = nothing-more e (ap apart f)
+    go h z (nothing-more e f) =
+        nothing-more e (sym (apart-encoded (run (limit + 1) .sheets) (good-at h z (limit + 1))) ∙ (ap apart f ∙ apart-encoded (run limit .sheets) (good-at h z limit)))
     go h z (one-write-more e u) =
-        one-write-more e (unit-apart (encoded (run limit .sheets)) (encoded (run (limit + 1) .sheets)) (whole-at h z limit) (whole-at h z (limit + 1)) u)
+        one-write-more e
+        (subst (λ (x : TwoBytes). OneUnitTwo x (encodedTwo (run (limit + 1) .sheets))) (apart-encoded (run limit .sheets) (good-at h z limit))
+        (subst (OneUnitTwo (apart (encoded (run limit .sheets)))) (apart-encoded (run (limit + 1) .sheets) (good-at h z (limit + 1)))
+        (unit-apart (encoded (run limit .sheets)) (encoded (run (limit + 1) .sheets)) (whole-at h z limit) (whole-at h z (limit + 1)) u)))

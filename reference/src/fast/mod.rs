@@ -1,6 +1,7 @@
 //! The check and the calls that the benchmark times, written for speed, with the answers of `plain`.
 //!
-//! Every call checks both sheets in one pass, finds lines by halves and writes only the columns that change.
+//! Every call checks both sheets in one pass, finds lines by halves and writes only the columns that change. Where the spares
+//! begin is found from the end, and what is below isn't looked at again.
 
 mod coordinator;
 mod held;
@@ -29,19 +30,27 @@ pub fn check(records: &[u8], coordinator: &[u8]) -> u32 {
     }
 }
 
-fn accepted(records: &[u8], coordinator: &[u8]) -> Result<Accepted, u32> {
-    let Some(named) = records::greatest_tx_id(records) else {
+/// How many record lines there are, and what is known of the coordinator sheet.
+fn accepted(records: &[u8], coordinator: &[u8]) -> Result<(usize, Accepted), u32> {
+    let Some(named) = records::accepted(records) else {
         return Err(BAD_RECORDS);
     };
     match coordinator::accepted(coordinator) {
-        Some(accepted) if named <= accepted.issued_text() => Ok(accepted),
+        Some(accepted) if named.tx_id <= accepted.issued_text() => Ok((named.lines, accepted)),
         _ => Err(BAD_COORDINATOR),
     }
 }
 
+/// The record lines of an accepted sheet.
+#[inline(always)]
+fn record_lines(records: &mut [u8], count: usize) -> &mut [[u8; LINE]] {
+    let (lines, _) = records.as_chunks_mut::<LINE>();
+    &mut lines[..count]
+}
+
 /// Issues the next number.
 pub fn begin(records: &[u8], coordinator: &mut [u8]) -> Result<u32, u32> {
-    let issued = accepted(records, coordinator)?.issued;
+    let (_, Accepted { issued, .. }) = accepted(records, coordinator)?;
     let next = issued + 1;
     if next as usize * COORDINATOR_LINE >= coordinator.len() {
         return Err(NUMBERS_SPENT);
@@ -52,8 +61,8 @@ pub fn begin(records: &[u8], coordinator: &mut [u8]) -> Result<u32, u32> {
 
 /// Lazy recovery of the key's line.
 pub fn visit(records: &mut [u8], coordinator: &mut [u8], key: Key, now: u32) -> Result<Visit, u32> {
-    accepted(records, coordinator)?;
-    let (lines, _) = records.as_chunks_mut::<LINE>();
+    let (count, _) = accepted(records, coordinator)?;
+    let lines = record_lines(records, count);
     let place = search::find(lines, &key)?;
     let line = &mut lines[place];
     if !line::is_prepared(line) {
@@ -86,12 +95,12 @@ pub fn advance_at(
     coordinator: &mut [u8],
     now: u32,
 ) -> Result<(), u32> {
-    let accepted = accepted(records, coordinator)?;
+    let (count, accepted) = accepted(records, coordinator)?;
     if list.len() > MOST_LISTED {
         return Err(ILL_FORMED);
     }
     let transaction = list.get_mut(place).ok_or(ILL_FORMED)?;
-    let (records, _) = records.as_chunks_mut::<LINE>();
+    let records = record_lines(records, count);
     let held = Held::of(transaction, records, &accepted)?;
     let (coordinator, _) = coordinator.as_chunks_mut::<COORDINATOR_LINE>();
     let mut step = Step {

@@ -6,13 +6,46 @@ const MOST_LINES: usize = 500;
 /// Bytes judged at a time.
 const LANES: usize = 16;
 
-/// The greatest TxID named, in its four columns as one number, or nothing if the sheet breaks a rule.
-/// Figures well set in as many columns order as their bytes do, so keys, TxIDs and clocks are compared unread.
-pub fn greatest_tx_id(sheet: &[u8]) -> Option<u32> {
+/// A spare, compared as a whole.
+const SPARE: [u8; LINE] = {
+    let mut line = [b' '; LINE];
+    line[LINE - 1] = b'\n';
+    line
+};
+
+/// What the calls need to know of an accepted sheet.
+pub struct Accepted {
+    /// How many record lines there are. Below them are spares.
+    pub lines: usize,
+    /// The greatest TxID named, in its four columns as one number.
+    pub tx_id: u32,
+}
+
+/// What is known of the sheet, or nothing if it breaks a rule. Figures well set in as many columns order as their bytes do, so
+/// keys, TxIDs and clocks are compared unread.
+pub fn accepted(sheet: &[u8]) -> Option<Accepted> {
     let (lines, rest) = sheet.as_chunks::<LINE>();
     if !rest.is_empty() || lines.is_empty() || lines.len() > MOST_LINES {
         return None;
     }
+    let lines = above_spares(lines);
+    let tx_id = greatest_tx_id(lines)?;
+    Some(Accepted {
+        lines: lines.len(),
+        tx_id,
+    })
+}
+
+/// The lines up to the last that is no spare. A spare among them is judged as a record line, and no kind of line is blank.
+#[inline(always)]
+fn above_spares(lines: &[[u8; LINE]]) -> &[[u8; LINE]] {
+    let last = lines.iter().rposition(|line| *line != SPARE);
+    &lines[..last.map_or(0, |last| last + 1)]
+}
+
+/// The greatest TxID that record lines name, or nothing if they break a rule.
+#[inline(always)]
+fn greatest_tx_id(lines: &[[u8; LINE]]) -> Option<u32> {
     let mut found = Findings {
         rising: true,
         ..Findings::default()
@@ -129,9 +162,10 @@ fn leap(line: &[u8; LINE]) -> u64 {
 
 /// Keys rise, so the first line and the last show bytes 0 and 1 of all.
 fn storages_fit(lines: &[[u8; LINE]]) -> bool {
-    let first = &lines[0][..FIRST];
-    let last = &lines[lines.len() - 1][..FIRST];
-    first >= b" 1".as_slice() && last <= b" 9".as_slice()
+    match (lines.first(), lines.last()) {
+        (Some(first), Some(last)) => first[..FIRST] >= b" 1"[..] && last[..FIRST] <= b" 9"[..],
+        _ => true,
+    }
 }
 
 /// Whether no clock is above 4294967295. Only clocks that begin like that number need a second look.

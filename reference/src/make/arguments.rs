@@ -49,6 +49,14 @@ fn close_key(random: &mut Random) -> [u32; 5] {
     ]
 }
 
+/// The key of some line, or any where all lines are spares.
+fn some_key(random: &mut Random, records: &[Record]) -> [u32; 5] {
+    match records.is_empty() {
+        true => close_key(random),
+        false => random.pick(records).key.numbers(),
+    }
+}
+
 /// A place in the key and a number just out of its range.
 const BEYOND: [(usize, u32); 8] = [
     (0, 0),
@@ -68,7 +76,7 @@ pub fn any_key(random: &mut Random, records: &[Record]) -> Key {
 
 /// The same; once in so many times a key of each other kind.
 pub fn key_of(random: &mut Random, times: usize, records: &[Record]) -> Key {
-    let mut numbers = random.pick(records).key.numbers();
+    let mut numbers = some_key(random, records);
     match random.below(times) {
         0 => numbers = close_key(random),
         1 => {
@@ -90,8 +98,8 @@ pub fn sought_key(random: &mut Random, times: usize, records: &[Record]) -> Key 
 
 /// A line's key with a field one more or less, or with the last fields of another's; seldom the least or the greatest key.
 fn key_beside(random: &mut Random, records: &[Record]) -> Key {
-    let mut numbers = random.pick(records).key.numbers();
-    let other = random.pick(records).key.numbers();
+    let mut numbers = some_key(random, records);
+    let other = some_key(random, records);
     let field = random.below(5);
     match random.below(8) {
         0 => numbers = random.pick(&[[1, 1, 1, 0, 0], [9, 99, 99, 99_999, 99_999]]),

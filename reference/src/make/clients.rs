@@ -10,6 +10,7 @@ use super::random::Random;
 use super::requests::{begin, Client};
 use super::scripts::{history, Extent};
 use super::sheets::{with_keys, Mix, Size};
+use super::spares::end_in_spares;
 use super::two_sheets::letters;
 use super::Sheets;
 use crate::compare::clients::{ClientHistory, Expected, Turn, Written};
@@ -86,6 +87,7 @@ fn first(random: &mut Random, extent: Extent) -> (Sheets, usize) {
     if random.once_in(3) {
         sheets.part_units();
     }
+    end_in_spares(random, 4, &mut sheets);
     (sheets, calls)
 }
 

@@ -2,6 +2,7 @@
 
 use super::random::Random;
 use super::sheets::{of_size, Mix, Size};
+use super::spares::fill_up;
 use super::{any, sheets, Sheets};
 use crate::conversions::{by_plain, Conversion, Lent};
 use crate::plain::numbers::{HEAD_NUMBERS, RECORD_NUMBERS};
@@ -98,7 +99,11 @@ fn good_sheets(random: &mut Random) -> Sheets {
         decisions,
         issued: random.below(decisions),
     };
-    of_size(random, size, Mix::Thirds)
+    let mut sheets = of_size(random, size, Mix::Thirds);
+    if random.once_in(2) {
+        fill_up(&mut sheets.records, record::LINE, random.pick(&[500, 501]));
+    }
+    sheets
 }
 
 /// The numbers that a sheet says; of a sheet that is refused, those of a head or nothing.
@@ -126,20 +131,39 @@ fn bytes(numbers: Vec<u32>) -> Vec<u8> {
     numbers.into_iter().map(|number| number as u8).collect()
 }
 
-/// Another number in one field, other lengths, or rows in another order.
+/// Another number in one field, other lengths, rows in another order, or a spare among them.
 fn change_rows(random: &mut Random, numbers: &mut Vec<u32>) {
     let rows = numbers.len() / RECORD_NUMBERS;
     let row = random.below(rows) * RECORD_NUMBERS;
     let other = random.below(rows) * RECORD_NUMBERS;
     let place = row + random.below(RECORD_NUMBERS);
-    match random.below(12) {
+    match random.below(16) {
         0 | 10 => length(random, numbers, RECORD_NUMBERS),
         1 => numbers.copy_within(row..row + 5, other),
         2 => (0..RECORD_NUMBERS).for_each(|i| numbers.swap(row + i, other + i)),
         3 => numbers[place] = numbers[place].wrapping_add(1),
         4 => numbers[place] = numbers[place].wrapping_sub(1),
+        12 => numbers[row..row + RECORD_NUMBERS].fill(0),
+        13 => drop(numbers.splice(row..row, [0; RECORD_NUMBERS])),
+        14 | 15 => spare_row(random, numbers),
         5 | 11 => numbers[row + 5] = random.pick(&[0, 1, 2, 3, 3]),
         _ => numbers[place] = random.pick(&EDGES),
+    }
+}
+
+/// Spares below the others, at times with a number in the last, up to as many rows as there may be or one more.
+fn spare_row(random: &mut Random, numbers: &mut Vec<u32>) {
+    let rows = numbers.len() / RECORD_NUMBERS;
+    let rows = match random.below(8) {
+        0 => 500,
+        1 => 501,
+        _ => rows + 1 + random.below(2),
+    };
+    numbers.resize(rows * RECORD_NUMBERS, 0);
+    if random.once_in(2) {
+        let any = random.below(RECORD_NUMBERS);
+        let place = numbers.len() - 1 - random.pick(&[0, any]);
+        numbers[place] = random.pick(&[1, 1, 2, u32::MAX]);
     }
 }
 

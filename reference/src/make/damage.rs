@@ -2,6 +2,7 @@
 
 use super::random::Random;
 use super::sheets::{self, Mix, Size};
+use super::spares::{is_spare, misplace};
 use super::Sheets;
 
 pub const RECORD_LINE: usize = 98;
@@ -76,7 +77,7 @@ pub fn damage(random: &mut Random, sheets: &mut Sheets) {
     if sheets.records.len() < RECORD_LINE || sheets.coordinator.len() < 2 * COORDINATOR_LINE {
         return; // An earlier damage left nothing to work on.
     }
-    match random.below(28) {
+    match random.below(31) {
         0..=2 => any_byte(random, &mut sheets.records),
         3 => any_byte(random, &mut sheets.coordinator),
         4 => length(random, &mut sheets.records, RECORD_LINE),
@@ -93,6 +94,7 @@ pub fn damage(random: &mut Random, sheets: &mut Sheets) {
         23 | 24 => head(random, &mut sheets.coordinator),
         25 => decision(random, &mut sheets.coordinator),
         26 => above_the_count(random, &mut sheets.coordinator),
+        27..=29 => misplace(random, &mut sheets.records, RECORD_LINE),
         _ => size(random, sheets),
     }
 }
@@ -269,8 +271,11 @@ fn lone_field(random: &mut Random, sheet: &mut [u8]) {
 fn tx_id(random: &mut Random, sheets: &mut Sheets) {
     let issued = figure_of(&sheets.coordinator[0..4]);
     let figure = random.pick(&[&TX_ID, &BEFORE_TX_ID]);
-    // A before TxID may stand in a PREPARED line only.
-    let may_have = |line: &&mut [u8]| figure.start == TX_ID.start || line[20..30] == *b"  PREPARED";
+    // A before TxID may stand in a PREPARED line only, and a spare has none.
+    let may_have = |line: &&mut [u8]| match figure.start == TX_ID.start {
+        true => !is_spare(line),
+        false => line[20..30] == *b"  PREPARED",
+    };
     let lines = sheets.records.chunks_exact_mut(RECORD_LINE);
     let mut lines: Vec<&mut [u8]> = lines.filter(may_have).collect();
     if lines.is_empty() {

@@ -5,6 +5,7 @@ use super::closing::own_close;
 use super::random::Random;
 use super::requests::{begin, stray, Client};
 use super::sheets::{with_keys, Mix, Size};
+use super::spares::end_in_spares;
 use super::Sheets;
 use crate::plain::request::{Answer, Request};
 use crate::plain::transaction::{Reading, Transaction, DONE, OPEN};
@@ -65,6 +66,7 @@ impl History {
         if random.once_in(3) {
             sheets.part_units();
         }
+        end_in_spares(random, 4, &mut sheets);
         History::on(random, rule, sheets)
     }
 

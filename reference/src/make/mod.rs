@@ -20,6 +20,7 @@ pub mod requests;
 pub mod script;
 pub mod scripts;
 pub mod sheets;
+pub mod spares;
 pub mod transactions;
 pub mod two_damage;
 pub mod two_orders;

@@ -15,6 +15,7 @@ use super::random::Random;
 use super::requests::{begin, stray};
 use super::script::Script;
 use super::sheets::{self, accepted, of_size, Mix, Size};
+use super::spares::end_in_spares;
 use super::two_damage::damaged_two;
 use super::two_orders;
 use super::two_sheets::letters;
@@ -50,15 +51,19 @@ pub fn history(random: &mut Random, rule: Rule, extent: Extent) -> (History, usi
         }
         Extent::Long => {
             let size = sizes(random, 12, 999);
-            let sheets = of_size(random, size, mix);
-            (History::on(random, rule, sheets), 3_000)
+            (large(random, rule, size, mix), 3_000)
         }
         Extent::Wide => {
             let size = sizes(random, 500, 999);
-            let sheets = of_size(random, size, mix);
-            (History::on(random, rule, sheets), 300)
+            (large(random, rule, size, mix), 300)
         }
     }
+}
+
+fn large(random: &mut Random, rule: Rule, size: Size, mix: Mix) -> History {
+    let mut sheets = of_size(random, size, mix);
+    end_in_spares(random, 2, &mut sheets);
+    History::on(random, rule, sheets)
 }
 
 /// Nearly as many lines as told.

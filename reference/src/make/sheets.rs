@@ -3,6 +3,7 @@
 use super::arguments::close_keys;
 use super::expiry::apart;
 use super::random::Random;
+use super::spares::{end_in_any_spares, end_in_spares, is_spare};
 use super::Sheets;
 use std::collections::BTreeSet;
 
@@ -25,7 +26,7 @@ pub struct Size {
     pub issued: usize,
 }
 
-/// Sheets of a random size, small ones more often.
+/// Sheets of a random size, small ones more often; some end in spares, and seldom all lines are.
 pub fn accepted(random: &mut Random) -> Sheets {
     let records = size(random, 500);
     let decisions = size(random, 999);
@@ -39,7 +40,9 @@ pub fn accepted(random: &mut Random) -> Sheets {
         decisions,
         issued,
     };
-    of_size(random, size, mix)
+    let mut sheets = of_size(random, size, mix);
+    end_in_any_spares(random, 5, &mut sheets);
+    sheets
 }
 
 fn size(random: &mut Random, most: usize) -> usize {
@@ -61,14 +64,16 @@ pub fn crowded(random: &mut Random) -> Sheets {
     };
     let mix = random.pick(&[Mix::Prepared, Mix::Thirds, Mix::Thirds, Mix::Settled]);
     let keys = close_keys(random, size.records);
-    with_keys(random, &keys, size, mix)
+    let mut sheets = with_keys(random, &keys, size, mix);
+    end_in_any_spares(random, 5, &mut sheets);
+    sheets
 }
 
 /// The same with lines in several storages, so that an order holds keys under different letters.
 pub fn of_several_storages(random: &mut Random) -> Sheets {
     loop {
         let sheets = crowded(random);
-        let lines = sheets.records.chunks(98);
+        let lines = sheets.records.chunks(98).filter(|line| !is_spare(line));
         let storages: BTreeSet<&[u8]> = lines.map(|line| &line[..2]).collect();
         if storages.len() > 1 {
             return sheets;
@@ -90,6 +95,7 @@ pub fn spread(random: &mut Random) -> Sheets {
     if !random.once_in(6) {
         sheets.part_units();
     }
+    end_in_spares(random, 5, &mut sheets);
     sheets
 }
 

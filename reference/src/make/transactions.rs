@@ -107,7 +107,7 @@ fn number_for(random: &mut Random, phase: u32, store: &Store) -> Option<u32> {
 /// An open transaction with as many entries as it may have, or one less, as far as there are lines.
 pub fn full(random: &mut Random, base: Transaction, records: &[Record]) -> Transaction {
     let mut transaction = base.entering(OPEN).with_verdict(NO_VERDICT);
-    let first = random.below(records.len());
+    let first = random.below(records.len().max(1));
     let lines = records.iter().cycle().skip(first);
     let most = MOST_ENTRIES - usize::from(random.once_in(4));
     let lines = lines.take(records.len().min(most));
@@ -146,13 +146,13 @@ fn fill(random: &mut Random, transaction: &mut Transaction, store: &Store) {
         let may_put = held.iter_mut().filter(|e| e.seen.version < MOST_VERSION);
         may_put.for_each(|entry| entry.wrote = 1);
     }
-    if random.once_in(3) {
+    if random.once_in(2) && !lines.is_empty() {
         without_line(random, &mut transaction.entries[..lines.len()], store);
     }
 }
 
 /// As if the line of an entry had been taken away since it was read: the key beside it is held, which has none. Often it is
-/// the first of its group, and at times it was read as absent.
+/// the first of its group, and at times it was read as absent, often without a put, so that it is to be checked.
 fn without_line(random: &mut Random, held: &mut [Entry], store: &Store) {
     let entry = match random.below(2) {
         0 => held.iter_mut().min_by_key(|entry| entry.key).unwrap(),
@@ -168,8 +168,9 @@ fn without_line(random: &mut Random, held: &mut [Entry], store: &Store) {
     };
     if !store.has_line(&key) {
         entry.key = key;
-        if random.once_in(3) {
+        if random.once_in(2) {
             entry.seen = NOTHING;
+            entry.wrote *= random.below(2) as u32;
         }
     }
 }
@@ -183,7 +184,7 @@ fn some_lines<'a>(random: &mut Random, records: &'a [Record]) -> Vec<&'a Record>
     if lines.is_empty() {
         lines = records.iter().collect();
     }
-    let first = random.below(lines.len());
+    let first = random.below(lines.len().max(1));
     lines.rotate_left(first);
     lines.truncate(1 + random.below(MOST_ENTRIES));
     if random.once_in(2) {

@@ -4,6 +4,7 @@ use super::damage::damage_coordinator;
 use super::random::Random;
 use super::scripts::damaged_or_forged;
 use super::sheets::{of_size, Mix, Size};
+use super::spares::{is_spare, misplace, spare};
 use super::two_sheets::{BOOKKEEPING_LINE, PLAIN_LINE};
 use super::{Sheets, TwoSheets};
 
@@ -57,13 +58,17 @@ pub fn damaged_two(random: &mut Random, sheets: &Sheets) -> TwoSheets {
 /// Something wrong with one of the sheets alone.
 fn spoil_one(random: &mut Random, sheets: &Sheets, two: &mut TwoSheets) {
     let part = Part::any(random);
-    match random.below(9) {
+    match random.below(11) {
         0 => twice(random, part, two),
         1 => other_size(random, part, two),
         2 => key_beyond(random, part, two),
         3 => line_end(random, part, two),
         4 => columns_beyond(random, two),
         5 => part_of_line(random, part, two),
+        6 | 7 => {
+            let (sheet, line) = part.of(two);
+            misplace(random, sheet, line);
+        }
         _ => {
             let mut damaged = TwoSheets::of(&damaged_or_forged(random, sheets.clone()));
             *part.of(two).0 = part.of(&mut damaged).0.clone();
@@ -161,16 +166,29 @@ fn absent_with_columns(random: &mut Random, two: &mut TwoSheets) {
     }
 }
 
-/// A line is left out of one sheet, or another one of each, or a key differs in one digit.
+/// A line is left out of one sheet, or another one of each, or a key differs in one digit, or one sheet has another spare.
 fn differ(random: &mut Random, two: &mut TwoSheets) {
     let part = Part::any(random);
-    match random.below(4) {
+    match random.below(7) {
         0 => leave_out(random, part, two),
         1 => {
             leave_out(random, Part::Plain, two);
             leave_out(random, Part::Bookkeeping, two);
         }
+        2 | 3 => other_spares(random, part, two),
         _ => other_key(random, part, two),
+    }
+}
+
+/// One sheet has a spare more, or one where the other has its last record line.
+fn other_spares(random: &mut Random, part: Part, two: &mut TwoSheets) {
+    let (sheet, line) = part.of(two);
+    let last = sheet.chunks_exact(line).rposition(|l| !is_spare(l));
+    match last {
+        Some(last) if random.once_in(2) => {
+            sheet[last * line..][..line].copy_from_slice(&spare(line));
+        }
+        _ => sheet.extend(spare(line)),
     }
 }
 

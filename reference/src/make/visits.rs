@@ -5,6 +5,7 @@ use super::damage::TELLING;
 use super::halfway::halfway;
 use super::random::Random;
 use super::sheets::{accepted, crowded, of_size, spread, Mix, Size};
+use super::spares::fill_up;
 use super::{any, Sheets};
 use crate::compare::Case;
 use crate::plain::{coordinator, record};
@@ -61,8 +62,14 @@ fn text(sheets: &Sheets, clock: u64) -> Vec<u8> {
     [first, sheets.coordinator.clone(), sheets.records.clone()].concat()
 }
 
-/// More lines than a sheet may have, or none, that fit the input.
+/// More lines than a sheet may have, or none, that fit the input; at times most of them are spares.
 fn too_many_lines(random: &mut Random) -> Vec<u8> {
+    if random.once_in(3) {
+        let mut sheets = crowded(random);
+        let lines = random.pick(&[499, 500, 500, 501]);
+        fill_up(&mut sheets.records, record::LINE, lines);
+        return text(&sheets, 0);
+    }
     let size = Size {
         records: random.pick(&[0, 1, 2, 500, 501, 1_200]),
         decisions: random.pick(&[0, 1, 999, 1_000, 1_500, 9_999]),

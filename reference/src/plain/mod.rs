@@ -11,6 +11,7 @@ pub mod numbers;
 pub mod rank;
 pub mod record;
 pub mod request;
+pub mod spares;
 pub mod steps;
 pub mod store;
 pub mod transaction;
@@ -57,7 +58,7 @@ pub const KEY_NOT_HELD: u32 = 10;
 pub const VERSION_SPENT: u32 = 11;
 /// The line's owner is undecided and has not expired.
 pub const BUSY: u32 = 12;
-/// The two sheets differ in number of lines or in a key.
+/// The two sheets differ in number of lines or in a key, or a spare stands beside a record line.
 pub const SHEETS_DIFFER: u32 = 13;
 
 /// The version of the functions for C: 2.2.0.

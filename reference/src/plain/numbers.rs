@@ -1,12 +1,14 @@
 //! Sheets to rows of numbers and back, as they are lent from C.
 //!
 //! A record is 15 numbers in the order of its fields, the state as ABSENT 0, COMMITTED 1, PREPARED 2. A coordinator is
-//! the issued count, nine units (R 0, P 1, T 2, N 3, S 4) and for each line `-` 0, COMMITTED 1, ABORTED 2.
+//! the issued count, nine units (R 0, P 1, T 2, N 3, S 4) and for each line `-` 0, COMMITTED 1, ABORTED 2. A spare is a
+//! record whose numbers are all 0, and stands last, as its line does.
 //! A refusal leaves the target as it was.
 
 use super::coordinator::{self, Coordinator, Decision, Unit};
 use super::key::Key;
 use super::record::{self, Image, Record, STATES};
+use super::spares::{above_spares, is_spare_row};
 use super::{ACCEPTED, BAD_COORDINATOR, BAD_RECORDS};
 
 /// Numbers of one record.
@@ -64,13 +66,10 @@ fn record_from(n: &[u32]) -> Option<Record> {
     })
 }
 
-/// The records that a row of numbers stands for, if they may stand in a sheet.
+/// The records that rows of numbers stand for, if they may stand in a sheet. The other rows are spares.
 fn records_from(numbers: &[u32]) -> Option<Vec<Record>> {
-    if !numbers.len().is_multiple_of(RECORD_NUMBERS) {
-        return None;
-    }
-    let rows = numbers.chunks(RECORD_NUMBERS);
-    let records: Option<Vec<Record>> = rows.map(record_from).collect();
+    let rows = above_spares(numbers, RECORD_NUMBERS, is_spare_row)?;
+    let records: Option<Vec<Record>> = rows.into_iter().map(record_from).collect();
     records.filter(|r| record::keep_rules(r))
 }
 
@@ -82,9 +81,11 @@ pub fn records_to_numbers(sheet: &[u8], target: &mut [u32]) -> u32 {
     let Some(records) = record::read_sheet(sheet) else {
         return BAD_RECORDS;
     };
-    for (row, record) in target.chunks_mut(RECORD_NUMBERS).zip(&records) {
+    let (rows, spares) = target.split_at_mut(records.len() * RECORD_NUMBERS);
+    for (row, record) in rows.chunks_mut(RECORD_NUMBERS).zip(&records) {
         write_record_numbers(row, record);
     }
+    spares.fill(0);
     ACCEPTED
 }
 

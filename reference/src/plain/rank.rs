@@ -1,5 +1,5 @@
-//! Where a key stands among the lines of a sheet, or would stand: what the look-up's companion answers. Every call that
-//! names a key finds its line, or refusal 6, by this answer.
+//! Where a key stands among the record lines of a sheet, or would stand: what the look-up's companion answers. Every call
+//! that names a key finds its line, or refusal 6, by this answer.
 
 use super::key::Key;
 use super::record::Record;
@@ -7,7 +7,7 @@ use super::{require, BAD_RECORDS, KEY_OUT_OF_RANGE, NO_LINE};
 
 #[derive(Clone, Copy, Debug, PartialEq, Eq)]
 pub struct Rank {
-    /// How many lines have smaller keys.
+    /// How many record lines have smaller keys.
     pub below: usize,
     /// Whether the key has a line itself.
     pub present: bool,

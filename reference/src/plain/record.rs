@@ -2,10 +2,11 @@
 
 use super::field::{is_word, read_figure, write_figure, write_word};
 use super::key::Key;
+use super::spares::{above_spares, is_spare_line, write_spare_line};
 
 /// Bytes of a record line, LF counted.
 pub const LINE: usize = 98;
-/// The most lines a record sheet may have.
+/// The most lines a record sheet may have, spares counted.
 pub const MOST_LINES: usize = 500;
 
 #[derive(Clone, Copy, Debug, PartialEq, Eq)]
@@ -136,19 +137,16 @@ fn read_line(line: &[u8]) -> Option<Record> {
     })
 }
 
-/// Whether these records may stand in a sheet, in this order.
+/// Whether these records may stand in a sheet, in this order. None may too: then all lines are spares.
 pub fn keep_rules(records: &[Record]) -> bool {
-    let count = (1..=MOST_LINES).contains(&records.len());
     let rising = records.windows(2).all(|pair| pair[0].key < pair[1].key);
-    count && rising && records.iter().all(Record::keeps_rules)
+    rising && records.iter().all(Record::keeps_rules)
 }
 
-/// The records of a sheet that refusal 1 lets pass.
+/// The records of a sheet that refusal 1 lets pass. Its other lines are spares.
 pub fn read_sheet(sheet: &[u8]) -> Option<Vec<Record>> {
-    if !sheet.len().is_multiple_of(LINE) {
-        return None;
-    }
-    let records: Option<Vec<Record>> = sheet.chunks(LINE).map(read_line).collect();
+    let lines = above_spares(sheet, LINE, is_spare_line)?;
+    let records: Option<Vec<Record>> = lines.into_iter().map(read_line).collect();
     records.filter(|r| keep_rules(r))
 }
 
@@ -177,9 +175,11 @@ fn write_line(line: &mut [u8], record: &Record) {
     line[97] = b'\n';
 }
 
-/// Writes records that keep the rules to a sheet of just that length.
+/// Writes records that keep the rules to a sheet of at least as many lines, and spares below them.
 pub fn write_sheet(sheet: &mut [u8], records: &[Record]) {
-    for (line, record) in sheet.chunks_mut(LINE).zip(records) {
+    let (lines, spares) = sheet.split_at_mut(records.len() * LINE);
+    for (line, record) in lines.chunks_mut(LINE).zip(records) {
         write_line(line, record);
     }
+    spares.chunks_mut(LINE).for_each(write_spare_line);
 }

@@ -9,6 +9,7 @@ use super::{require, BAD_COORDINATOR, BAD_RECORDS, BUSY, SHEETS_DIFFER};
 
 #[derive(Clone, Debug, PartialEq, Eq)]
 pub struct Store {
+    /// The record lines. What the sheet has below them is spares.
     pub records: Vec<Record>,
     pub coordinator: Coordinator,
 }

@@ -1,10 +1,11 @@
 //! Bookkeeping on a sheet of its own: the plain sheet has key, column 1 and column 2, the bookkeeping sheet key and the rest.
-//! Both have the same keys in the same order, so that they join to one record sheet.
+//! Both have the same keys in the same order and as many spares, so that they join to one record sheet.
 
 use super::field::{read_figure, write_figure, write_word};
 use super::key::Key;
 use super::rank::Rank;
-use super::record::{self, state_word, Image, Record, MOST_LINES};
+use super::record::{self, state_word, Image, Record};
+use super::spares::{above_spares, is_spare_line, write_spare_line};
 use super::store::Store;
 use super::{require, ACCEPTED, BAD_RECORDS, SHEETS_DIFFER};
 
@@ -50,30 +51,29 @@ fn read_bookkeeping_line(line: &[u8]) -> Option<Record> {
     (line[79] == b'\n').then_some(read)
 }
 
-/// The lines of a plain sheet that refusal 1 lets pass alone.
+/// The lines of a plain sheet that refusal 1 lets pass alone, its spares left away.
 pub fn read_plain(sheet: &[u8]) -> Option<Vec<PlainLine>> {
-    if !sheet.len().is_multiple_of(PLAIN_LINE) {
-        return None;
-    }
-    let lines: Option<Vec<PlainLine>> = sheet.chunks(PLAIN_LINE).map(read_plain_line).collect();
+    let lines = above_spares(sheet, PLAIN_LINE, is_spare_line)?;
+    let lines: Option<Vec<PlainLine>> = lines.into_iter().map(read_plain_line).collect();
     let lines = lines?;
     let in_range = |line: &PlainLine| line.key.in_range() && record::columns_in_range(line.columns);
     let rising = lines.windows(2).all(|pair| pair[0].key < pair[1].key);
-    let count = (1..=MOST_LINES).contains(&lines.len());
-    (count && rising && lines.iter().all(in_range)).then_some(lines)
+    (rising && lines.iter().all(in_range)).then_some(lines)
 }
 
-/// The lines of a bookkeeping sheet that refusal 1 lets pass alone.
+/// The lines of a bookkeeping sheet that refusal 1 lets pass alone, its spares left away.
 pub fn read_bookkeeping(sheet: &[u8]) -> Option<Vec<Record>> {
-    if !sheet.len().is_multiple_of(BOOKKEEPING_LINE) {
-        return None;
-    }
-    let lines = sheet.chunks(BOOKKEEPING_LINE);
-    let records: Option<Vec<Record>> = lines.map(read_bookkeeping_line).collect();
+    let lines = above_spares(sheet, BOOKKEEPING_LINE, is_spare_line)?;
+    let records: Option<Vec<Record>> = lines.into_iter().map(read_bookkeeping_line).collect();
     records.filter(|records| record::keep_rules(records))
 }
 
-/// Whether the sheets have as many lines and the same keys.
+/// Whether the sheets have as many lines, spares counted.
+fn are_as_long(plain: &[u8], bookkeeping: &[u8]) -> bool {
+    plain.len() / PLAIN_LINE == bookkeeping.len() / BOOKKEEPING_LINE
+}
+
+/// Whether the sheets have as many record lines and the same keys. In sheets as long this leaves no spare beside a record line.
 fn have_same_keys(plain: &[PlainLine], bookkeeping: &[Record]) -> bool {
     let pairs = plain.iter().zip(bookkeeping);
     let mut same = pairs.map(|(line, record)| line.key == record.key);
@@ -89,9 +89,10 @@ fn with_columns(record: &Record, columns: [u32; 2]) -> Record {
 /// What refusal 1 lets pass: the joined records and true, or those of the bookkeeping sheet alone and false, where the
 /// sheets don't join.
 pub fn read(plain: &[u8], bookkeeping: &[u8]) -> Option<(Vec<Record>, bool)> {
+    let as_long = are_as_long(plain, bookkeeping);
     let plain = read_plain(plain)?;
     let bookkeeping = read_bookkeeping(bookkeeping)?;
-    if !have_same_keys(&plain, &bookkeeping) {
+    if !as_long || !have_same_keys(&plain, &bookkeeping) {
         return Some((bookkeeping, false));
     }
     let pairs = bookkeeping.iter().zip(&plain);
@@ -118,14 +119,20 @@ fn write_bookkeeping_line(line: &mut [u8], record: &Record) {
     line[79] = b'\n';
 }
 
-/// Writes records that keep the rules to two sheets of just their lengths.
+/// Writes records that keep the rules to two sheets of at least as many lines, and spares below them.
 pub fn write(plain: &mut [u8], bookkeeping: &mut [u8], records: &[Record]) {
-    for (line, record) in plain.chunks_mut(PLAIN_LINE).zip(records) {
+    let (lines, spares) = plain.split_at_mut(records.len() * PLAIN_LINE);
+    for (line, record) in lines.chunks_mut(PLAIN_LINE).zip(records) {
         write_plain_line(line, record);
     }
-    for (line, record) in bookkeeping.chunks_mut(BOOKKEEPING_LINE).zip(records) {
+    spares.chunks_mut(PLAIN_LINE).for_each(write_spare_line);
+    let (lines, spares) = bookkeeping.split_at_mut(records.len() * BOOKKEEPING_LINE);
+    for (line, record) in lines.chunks_mut(BOOKKEEPING_LINE).zip(records) {
         write_bookkeeping_line(line, record);
     }
+    spares
+        .chunks_mut(BOOKKEEPING_LINE)
+        .for_each(write_spare_line);
 }
 
 /// 0 where the sheets are accepted, else the refusal.

@@ -27,7 +27,7 @@ pub fn parts(input: &[u8]) -> Option<(Vec<u8>, Vec<u8>, u32)> {
     Some((coordinator.to_vec(), records.to_vec(), clock))
 }
 
-/// All lines visited in order, then all again, passing over 12.
+/// All record lines visited in order, then all again, passing over 12. Spares stay.
 fn visited_twice(
     mut coordinator: Vec<u8>,
     mut records: Vec<u8>,

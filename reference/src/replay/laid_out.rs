@@ -90,7 +90,7 @@ impl LaidOut {
         }
     }
 
-    /// How many lines the record sheet or the plain sheet has.
+    /// How many lines the record sheet or the plain sheet has, spares counted.
     pub fn lines(&self) -> usize {
         match self {
             LaidOut::Joined(s) => s.records.len() / record::LINE,

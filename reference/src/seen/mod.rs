@@ -1,5 +1,5 @@
 //! What a comparison has seen: every refusal of every call, every step from phase to phase, every report of a close, where
-//! keys stood, and where it mattered that a number has several lines, counted.
+//! keys stood, which sheets had spares, and where it mattered that a number has several lines, counted.
 
 mod answers;
 mod by_place;
@@ -8,6 +8,7 @@ mod closes;
 mod expiry;
 mod lists;
 mod ranks;
+mod spares;
 mod steps;
 mod two_kinds;
 mod two_sheets;
@@ -17,6 +18,7 @@ use crate::compare::Case;
 use crate::conversions::Conversion;
 use crate::exported::{refusal_of, Call, Lent};
 use crate::plain::transaction::Transaction;
+use crate::plain::visitor;
 use crate::replay::laid_out::LaidOut;
 use crate::replay::line::Line;
 use crate::replay::reply::Reply;
@@ -28,6 +30,7 @@ use closes::Closes;
 use expiry::{Expiry, Found};
 use lists::Lists;
 use ranks::Ranks;
+use spares::{Spares, FOR_C, ON_VISITS, REPLAY, TO_NUMBERS};
 use std::fmt;
 use steps::{Steps, ADVANCES};
 use two_sheets::OnTwoSheets;
@@ -86,6 +89,7 @@ pub struct Seen {
     steps: Steps,
     closes: Closes,
     ranks: Ranks,
+    spares: Spares,
     changes: [u64; 4],
     /// How often it was told beside a call what it has written. It isn't counted as a call.
     pub told_beside: u64,
@@ -109,6 +113,7 @@ impl Default for Seen {
             steps: Steps::new("step to", &ADVANCES),
             closes: Closes::default(),
             ranks: Ranks::default(),
+            spares: Spares::default(),
             changes: [0; 4],
             told_beside: 0,
             clients: Clients::default(),
@@ -173,6 +178,10 @@ impl Seen {
             _ => 0,
         };
         self.ranks.note(reply, before);
+        // A line handed back, or none, tells no refusal.
+        if !matches!(line, Line::LineOf { .. }) {
+            self.spares.note(REPLAY, refusal, before);
+        }
         let sheets = match before {
             LaidOut::Joined(sheets) => sheets,
             LaidOut::Two(_) => {
@@ -204,8 +213,16 @@ impl Seen {
                 after,
             } => self.note_call(call, &lent.list, *answer, after),
             Case::Convert {
-                conversion, answer, ..
-            } => self.exported.note(conversion_of(*conversion), *answer),
+                conversion,
+                lent,
+                answer,
+                ..
+            } => {
+                self.exported.note(conversion_of(*conversion), *answer);
+                if *conversion == Conversion::ReadRecords {
+                    self.spares.note_joined(TO_NUMBERS, *answer, &lent.sheet);
+                }
+            }
             Case::Written { answer, .. } => {
                 self.exported.note(WRITTEN, answer.saturating_sub(1_000));
                 self.note_change(*answer);
@@ -235,6 +252,9 @@ impl Seen {
             LaidOut::Two(_) => (&mut self.exported_on_two, &mut self.by_place_on_two),
         };
         let refusal = refusal_of(call, answer);
+        if *call != Call::Version {
+            self.spares.note(FOR_C, refusal, &lent.sheets);
+        }
         match call {
             Call::Check => exported.note(0, refusal),
             Call::Visit { .. } => exported.note(1, refusal),
@@ -267,14 +287,15 @@ impl Seen {
     pub fn note_visits(&mut self, case: &Case) {
         if let Case::Visit { input, expected } = case {
             self.expiry.note_visits(input, expected);
-            self.visitor.note(
-                0,
-                match expected.as_slice() {
-                    b"REFUSED  1\n" => 1,
-                    b"REFUSED  2\n" => 2,
-                    _ => 0,
-                },
-            );
+            let refusal = match expected.as_slice() {
+                b"REFUSED  1\n" => 1,
+                b"REFUSED  2\n" => 2,
+                _ => 0,
+            };
+            self.visitor.note(0, refusal);
+            if let Some((_, records, _)) = visitor::parts(input) {
+                self.spares.note_joined(ON_VISITS, refusal, &records);
+            }
         }
     }
 
@@ -310,6 +331,7 @@ impl Seen {
         amiss.extend(self.steps.amiss("advance"));
         amiss.extend(self.closes.amiss("close"));
         amiss.extend(self.ranks.amiss());
+        amiss.extend(self.spares.amiss());
         amiss.extend(self.by_place.amiss());
         amiss.extend(unseen("written", &CHANGES, &self.changes));
         amiss.extend(self.expiry.amiss());
@@ -346,12 +368,16 @@ fn named(names: &[&str], counts: &[u64]) -> String {
 }
 
 impl fmt::Display for Seen {
-    /// The answers of each call in a replay, the steps from phase to phase, how closes ended and where keys stood, the same of
-    /// the functions for C, the answers of the visiting program, where several lines of a number mattered, and the same on
+    /// The answers of each call in a replay, the steps from phase to phase, how closes ended, where keys stood and which sheets
+    /// had spares, the same of the functions for C, the answers of the visiting program, where several lines of a number mattered, and the same on
     /// two sheets.
     fn fmt(&self, out: &mut fmt::Formatter) -> fmt::Result {
         writeln!(out, "{}\n\n{}\n", self.lines, self.steps)?;
-        writeln!(out, "{}\n\n{}\n", self.closes, self.ranks)?;
+        writeln!(
+            out,
+            "{}\n\n{}\n\n{}\n",
+            self.closes, self.ranks, self.spares
+        )?;
         writeln!(out, "for C\n{}\n", self.exported)?;
         writeln!(out, "for C, by place\n{}", self.by_place)?;
         writeln!(out, "written: {}", named(&CHANGES, &self.changes))?;

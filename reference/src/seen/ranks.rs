@@ -2,6 +2,9 @@
 
 use super::{named, unseen};
 use crate::compare::ranked::Ranked;
+use crate::make::damage::RECORD_LINE;
+use crate::make::spares::is_spare;
+use crate::make::two_sheets::PLAIN_LINE;
 use crate::plain::rank::Rank;
 use crate::plain::{KEY_OUT_OF_RANGE, SHEETS_DIFFER};
 use crate::replay::laid_out::LaidOut;
@@ -48,11 +51,20 @@ fn place_of(rank: &Rank, lines: usize) -> usize {
     }
 }
 
+/// How many lines of accepted sheets are no spares.
+fn record_lines(sheets: &LaidOut) -> usize {
+    let lines = match sheets {
+        LaidOut::Joined(sheets) => sheets.records.chunks(RECORD_LINE),
+        LaidOut::Two(sheets) => sheets.plain.chunks(PLAIN_LINE),
+    };
+    lines.filter(|line| !is_spare(line)).count()
+}
+
 impl Ranks {
     fn count(&mut self, for_c: bool, rank: &Rank, sheets: &LaidOut) {
         let on_two = sheets.layout() == Layout::Two;
         let row = 2 * usize::from(for_c) + usize::from(on_two);
-        self.places[row][place_of(rank, sheets.lines())] += 1;
+        self.places[row][place_of(rank, record_lines(sheets))] += 1;
     }
 
     /// Notes the reply to a line of a replay, if it tells a rank.

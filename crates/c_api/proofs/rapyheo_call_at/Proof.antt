@@ -49,7 +49,7 @@ use Rattle.types.proofs.Transaction.Laws as T′
 use Rattle.c_api.proofs.Called as O
 use Rattle.c_api.proofs.Called.Laws as O′
 use Rattle.model.specs.Calls.{newTransaction}
-use Rattle.model.specs.Operations.{responseOn, recordsLeft, coordinatorLeft}
+use Rattle.model.specs.Operations.{responseOn, sheetLeft, coordinatorLeft}
 use Rattle.model.specs.Requests.{operationOf}
 use Rattle.by_place.specs.Numbers.{unlistedNumber}
 use Rattle.by_place.specs.Asked.{calls, asks, naming}
@@ -242,7 +242,7 @@ module _ {M : Type 1} (𝓤 : URA M) (H : Heap 𝓤) (A : Atoms 𝓤) (W : Given
         -- [what `call_named` asks; place's; list[place]; the others; the open borrow; obs; auth; list's fact; the last local; …]
         calls-at ! fm (Core 𝓤 H A mem run) known-core to-core (and-then ! (load ! (from ! (stop !)) (look ! 40 refl)) (and-then ! (load ! (from ! (stop !)) (look ! 22 refl)) (and-then ! (load ! (from ! (stop !)) (look ! 18 refl)) (and-then ! (load ! (from ! (stop !)) (look ! 60 refl)) (and-then ! (load ! (from ! (stop !)) (look ! 58 refl)) (and-then ! (load ! (from ! (stop !)) (look ! 56 refl)) (and-then ! (load ! (from ! (stop !)) (look ! 54 refl)) (and-then ! (load ! (from ! (stop !)) (look ! 52 refl)) (and-then ! (load ! (from ! (stop !)) (look ! 50 refl)) (and-then ! (load ! (from ! (stop !)) (look ! 48 refl)) (and-then ! (load ! (from ! (stop !)) (look ! 46 refl)) (and-then ! (load ! (from ! (stop !)) (look ! 44 refl)) (and-then ! (load ! (from ! (stop !)) (look ! 42 refl)) (no-more !)))))))))))))) (λ v′.
         use1 W (later (some (λ (r : Called). ((‵ (flft κ0 q0) ⊛ (‵ (flft κ1 q1) ⊛ ‵ ftrue)) ⊛ ‵ (O.the-row .own r (v′ ∷ []))) ⊛ raw (ensured 𝓤 H A core.ended (core.clauses 𝓤 H A mem run) (κ0, (κ1, tt)) (t, (bytes0, (bytes1, (m2, (m3, (m4, (m5, (m6, (m7, (m8, (m9, (m10, (m11, tt))))))))))))) tt r)))) (id⊢ 𝓤 _) $ await ! tt $ pick ! (λ r.
-        split ! $ move ! (1 ∷ []) $ use1 W (some (λ (zs : (Unit {0} × (List ℕ × (List ℕ × (Unit {0} × (Unit {0} × (Unit {0} × (Unit {0} × (Unit {0} × (Unit {0} × (Unit {0} × (Unit {0} × (Unit {0} × (Unit {0} × Unit {0})))))))))))))). ‵ (lasts core.ended (κ0, (κ1, tt)) (t, (bytes0, (bytes1, (m2, (m3, (m4, (m5, (m6, (m7, (m8, (m9, (m10, (m11, tt))))))))))))) zs) ⊛ raw (fact 𝓤 (r ≡ called t (responseOn (operationOf (asks m2 m3 m4 m5 m6 m7 m8 m9 m10 m11) t) x0 x1))) ⊛ raw (fact 𝓤 (zs .1 .0 ≡ recordsLeft x0 (responseOn (operationOf (asks m2 m3 m4 m5 m6 m7 m8 m9 m10 m11) t) x0 x1))) ⊛ raw (fact 𝓤 (zs .1 .1 .0 ≡ coordinatorLeft x1 (responseOn (operationOf (asks m2 m3 m4 m5 m6 m7 m8 m9 m10 m11) t) x0 x1))))) (id⊢ 𝓤 _) $ pick ! (λ zs.
+        split ! $ move ! (1 ∷ []) $ use1 W (some (λ (zs : (Unit {0} × (List ℕ × (List ℕ × (Unit {0} × (Unit {0} × (Unit {0} × (Unit {0} × (Unit {0} × (Unit {0} × (Unit {0} × (Unit {0} × (Unit {0} × (Unit {0} × Unit {0})))))))))))))). ‵ (lasts core.ended (κ0, (κ1, tt)) (t, (bytes0, (bytes1, (m2, (m3, (m4, (m5, (m6, (m7, (m8, (m9, (m10, (m11, tt))))))))))))) zs) ⊛ raw (fact 𝓤 (r ≡ called t (responseOn (operationOf (asks m2 m3 m4 m5 m6 m7 m8 m9 m10 m11) t) x0 x1))) ⊛ raw (fact 𝓤 (zs .1 .0 ≡ sheetLeft x0 (responseOn (operationOf (asks m2 m3 m4 m5 m6 m7 m8 m9 m10 m11) t) x0 x1))) ⊛ raw (fact 𝓤 (zs .1 .1 .0 ≡ coordinatorLeft x1 (responseOn (operationOf (asks m2 m3 m4 m5 m6 m7 m8 m9 m10 m11) t) x0 x1))))) (id⊢ 𝓤 _) $ pick ! (λ zs.
         split ! $ move ! (1 ∷ []) $ split ! $ heard ! _ (λ e. split ! $ heard ! _ (λ e0. heard ! _ (λ e1. fsplit ! $ move ! (1 ∷ []) $
         fsplit ! $ fsplit ! $ move ! (1 ∷ []) $ feqL ! (λ l0. move ! (1 ∷ []) $
         fsplit ! $ fsplit ! $ move ! (1 ∷ []) $ feqL ! (λ l1. move ! (1 ∷ []) $

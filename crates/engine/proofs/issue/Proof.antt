@@ -1,5 +1,6 @@
 -- Refused by the check, or a number issued beside an accepted record sheet.
 use Rattle.lists.specs.Basics.{_≡_, refl, sym, _∙_, needs}
+use Rattle.model.specs.Spares.{recordLines}
 use Rattle.model.specs.Refusals.{refusalOf}
 use Rattle.model.specs.SheetCalls.{checkConditions}
 use Rattle.model.specs.Results.{begin}
@@ -24,7 +25,7 @@ returns-2 c =
     let a = c .before .before .before .before .before .before .before .before .before .args in
     let passed : refusalOf (checkConditions (a .records .now) (a .coordinator .now)) ≡ 0 = sym (c .before .before .before .before .before .check .ensures) ∙ c .before .before .before .before .if1 .left in
     issues-on (λ b. let-pass toIssued (begin b) (a .records .now) (a .coordinator .now) passed
-    (c .before .before .issue .ensures .beside b (a .records .now) (accepted (a .records .now) (a .coordinator .now) passed)))
+    (c .before .before .issue .ensures .beside b (recordLines (a .records .now)) (accepted (a .records .now) (a .coordinator .now) passed)))
 
 pub issue-spec : {M : Type 1} → statement M
 issue-spec = tie.close (tie.spec (λ c κs. search needs) (λ c. search needs) returns issue-requires (λ c. search needs) returns-2)

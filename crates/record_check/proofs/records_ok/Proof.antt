@@ -1,4 +1,4 @@
--- The law on accepted sheets: whole lines, 1 to 500 of them, and the lines pass. What is lent is what the laws ask for, byte by byte.
+-- The law on accepted lines: whole, at most 500 of them, and they pass. What is lent is what the laws ask for, byte by byte.
 use Rattle.lists.specs.Basics.{refl, sym, _*_, _/_, and-false, length, arith, eq-eqb, ne-eqb, le-leb, lt-leb, needs, joined, bytes}
 use Rattle.decimal.specs.Field.{fieldText, ahead}
 use Rattle.model.specs.Layouts.{recordLayout, words, recordBytes}
@@ -11,42 +11,36 @@ use Rattle.record_check.specs.Limits.{narrowed, limited}
 use Rattle.record_check.specs.States.{kinds, zeros, kindLimits, openLayout, kindParts}
 use Rattle.record_check.specs.Relations.{highestClock}
 use Rattle.record_check.specs.Tables.{middle, tables}
-use Rattle.record_check.specs.Sheet.{sheetSized, accepted-is}
+use Rattle.record_check.specs.Sheet.{linesSized, accepted-is}
 use Rattle.record_check.proofs.records_ok.Statement.{statement}
 use Rattle.record_check.proofs.records_ok.Tie as tie
 
 returns : tie.Need-returns
-unfolding sheetSized
+unfolding linesSized
 returns c =
     let s = c .before .before .args .records .now in
     rw (accepted-is s, ne-eqb (length s) (length s / recordBytes * recordBytes) (λ q. c .if1 .taken (sym q)))
 
 returns-2 : tie.Need-returns-2
-unfolding sheetSized
+unfolding linesSized
 returns-2 c =
     let s = c .before .before .before .args .records .now in
-    rw (accepted-is s, lt-leb 1 (length s / recordBytes) (c .if2 .taken), and-false)
-
-returns-3 : tie.Need-returns-3
-unfolding sheetSized
-returns-3 c =
-    let s = c .before .before .before .before .args .records .now in
-    rw (accepted-is s, lt-leb (length s / recordBytes) 500 (c .if3 .taken), and-false, and-false)
+    rw (accepted-is s, lt-leb (length s / recordBytes) 500 (c .if2 .taken), and-false)
 
 lines-pass-requires : tie.Need-lines-pass-requires
 unfolding tables joined lows highs alsos middle layoutColumns partColumns columns kindParts kindLimits layoutParts columnPart limited narrowed kinds zeros stateNumber openLayout opened recordLayout fieldBytes fieldText ahead words bytes highestClock
-lines-pass-requires c κs = (sym (c .before .before .before .before .if1 .left), (refl, refl))
+lines-pass-requires c κs = (sym (c .before .before .before .if1 .left), (refl, refl))
 
-returns-4 : tie.Need-returns-4
-unfolding sheetSized
-returns-4 c =
-    let k = c .before .before .before .before .before in
+returns-3 : tie.Need-returns-3
+unfolding linesSized
+returns-3 c =
+    let k = c .before .before .before .before in
     let s = k .before .before .args .records .now in
     let n = length s / recordBytes in
-    rw (accepted-is s, eq-eqb (length s) (n * recordBytes) (sym (k .if1 .left)), le-leb 1 n (omega arith), le-leb n 500 (omega arith))
+    rw (accepted-is s, eq-eqb (length s) (n * recordBytes) (sym (k .if1 .left)), le-leb n 500 (omega arith))
     (c .lines-pass .ensures)
 
 pub records-ok-spec : {M : Type 1} → statement M
 records-ok-spec =
-    tie.close (tie.spec (λ c. search needs) returns returns-2 returns-3 (λ c. search needs) (λ c. search needs)
-    lines-pass-requires returns-4)
+    tie.close (tie.spec (λ c. search needs) returns returns-2 (λ c. search needs) (λ c. search needs)
+    lines-pass-requires returns-3)

@@ -3,7 +3,7 @@ use Rattle.lists.specs.Basics.{_/_, length, needs}
 use Rattle.model.specs.Layouts.{recordBytes}
 use Rattle.model.specs.Lines.{linesOf}
 use Rattle.shifting.specs.Shifted.{length-spare}
-use Rattle.model.specs.Spares.{spareText}
+use Rattle.model.specs.Spares.{spareLine}
 use Rattle.shifting.specs.Moves.{remove-done}
 use Rattle.shifting.proofs.remove_line.Statement.{statement}
 use Rattle.shifting.proofs.remove_line.Tie as tie
@@ -14,7 +14,7 @@ returns c =
     let o = c .before .before .before .before .before .before .before .before .before .before .before in
     let a = o .args in
     let e = c .before .before .before .before .before .spare .ensures in
-    remove-done recordBytes (a .at) (length (a .records .now) / recordBytes) (a .records .now) _ spareText (o .pre .0) (o .pre .1) length-spare _
+    remove-done recordBytes (a .at) (length (a .records .now) / recordBytes) (a .records .now) _ (spareLine recordBytes) (o .pre .0) (o .pre .1) length-spare _
     (c .before .before .before .before .before .before .before .before .move-up .ensures)
     (rw e at (c .before .before .put .ensures))
 

@@ -1,11 +1,11 @@
 -- The line of spaces.
 use Rattle.lists.specs.Basics.{needs}
-use Rattle.model.specs.Spares.{spareText}
+use Rattle.model.specs.Spares.{spareLine}
 use Rattle.shifting.proofs.spare.Statement.{statement}
 use Rattle.shifting.proofs.spare.Tie as tie
 
 returns : tie.Need-returns
-unfolding spareText
+unfolding spareLine
 returns c = search needs
 
 pub spare-spec : {M : Type 1} → statement M

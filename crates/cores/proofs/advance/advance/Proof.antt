@@ -39,7 +39,7 @@ step-requires c κs =
     (c .before .before .before .before .before .before .before .before .before .before .before .before .before .before .good .0) _
     (located-by s (a .t) (c .before .before .before .before .before .before .before .before .before .admit .ensures) f) f in
     record {
-      readable = c .before .before .before .before .before .before .before .before .before .before .before .before .before .before .pre .readable;
+      fit = c .before .before .before .before .before .before .before .before .before .before .before .before .before .before .pre .fit;
       formed = f;
       indexed = r .0;
       grouped = r .1;

@@ -37,7 +37,7 @@ run-requires c κs =
     starts-sure (a .t) (a .records .now) (a .coordinator .now)
     (c .before .before .before .before .before .before .before .before .before .before .before .before .before .before .good .0) _
     (located-by s (a .t) (c .before .before .before .before .before .before .before .before .before .admit .ensures) f)
-    (c .before .before .before .before .before .before .before .before .before .before .before .before .before .before .pre .readable)
+    (c .before .before .before .before .before .before .before .before .before .before .before .before .before .before .pre .fit)
     (close-free (a .t) s f
     (ap (λ (d : Decision). closeBarred (a .t .phase) d) (sym (c .before .before .before .before .before .decision-at .ensures))
     ∙ (sym (c .before .before .before .before .bars .ensures) ∙ c .before .before .before .if2 .left))) (a .limit) (omega arith)

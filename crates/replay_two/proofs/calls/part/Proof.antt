@@ -1,6 +1,6 @@
 -- By whether the call asks for a line; one that does is looked up by its key on the sheet that it names.
 use Rattle.lists.specs.Basics.{sym, ap, _∙_, getD, not-true, not-false, needs}
-use Rattle.model.specs.TwoSheets.{lookedUpTwo}
+use Rattle.model.specs.TwoSpares.{lookedUpTwo}
 use Rattle.script_calls.specs.Parts.{keyFrom, part-none, part-asked}
 use Rattle.replay_two.proofs.calls.part.Statement.{statement}
 use Rattle.replay_two.proofs.calls.part.Tie as tie

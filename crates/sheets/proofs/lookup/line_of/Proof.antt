@@ -1,6 +1,11 @@
--- Case by case in the order of the refusals.
-use Rattle.lists.specs.Basics.{sym, subst, _∙_, _≤_, arith, not-true, not-false}
+-- Case by case in the order of the refusals; what is found is found among the lines before the spares.
+use Rattle.lists.specs.Basics.{_≤_, sym, ap, subst, _∙_, ℕ, length-take, take, arith, not-true, not-false, needs}
+use Rattle.model.specs.Records.{recordsAccepted}
+use Rattle.model.specs.Spares.{front}
+use Rattle.sheet_laws.specs.Spared.{accepted-lines}
 use Rattle.model.specs.Types.{Ranked}
+use Rattle.model.specs.Records.{records}
+use Rattle.model.specs.SheetCalls.{lineAmong}
 use Rattle.sheets.specs.Answers.{lookup-bad, lookup-out, line-told}
 use borrow.Author.Needs.{needs}
 use Rattle.sheets.proofs.lookup.line_of.Statement.{statement}
@@ -9,23 +14,33 @@ use Rattle.sheets.proofs.lookup.line_of.Tie as tie
 returns : tie.Need-returns
 returns c =
     let a = c .before .before .before .before .args in
-    (c .no-rank .ensures ∙ lookup-bad (a .records .now) (a .key) (sym (c .before .before .records-ok .ensures) ∙ not-true _ (c .before .if1 .taken)) .line, subst (λ (r : Ranked). r .rank .below ≤ 500) (sym (c .no-rank .ensures)) (omega arith))
+    (c .no-rank .ensures ∙ lookup-bad (a .records .now) (a .key) (sym (c .before .before .sheet-ok .ensures) ∙ not-true _ (c .before .if1 .taken)) .line, subst (λ (r : Ranked). r .rank .below ≤ 500) (sym (c .no-rank .ensures)) (omega arith))
 
 returns-2 : tie.Need-returns-2
 returns-2 c =
     let a = c .before .before .before .before .before .before .args in
-    (c .no-rank2 .ensures ∙ lookup-out (a .records .now) (a .key) (sym (c .before .before .before .before .records-ok .ensures) ∙ not-false _ (c .before .before .before .if1 .left)) (sym (c .before .before .key-in-range .ensures) ∙ not-true _ (c .before .if2 .taken)) .line, subst (λ (r : Ranked). r .rank .below ≤ 500) (sym (c .no-rank2 .ensures)) (omega arith))
+    (c .no-rank2 .ensures ∙ lookup-out (a .records .now) (a .key) ((sym (c .before .before .before .before .sheet-ok .ensures) ∙ not-false _ (c .before .before .before .if1 .left))) (sym (c .before .before .key-in-range .ensures) ∙ not-true _ (c .before .if2 .taken)) .line, subst (λ (r : Ranked). r .rank .below ≤ 500) (sym (c .no-rank2 .ensures)) (omega arith))
+
+lines-end-requires : tie.Need-lines-end-requires
+lines-end-requires c κs = (sym (c .before .before .before .sheet-ok .ensures) ∙ not-false _ (c .before .before .if1 .left))
+
+slice-aggregate-line : tie.Need-slice-aggregate-line
+slice-aggregate-line c = simp length-take (omega (arith, c .before .lines-end .ensures .0, c .before .lines-end .ensures .1))
 
 line-requires : tie.Need-line-requires
+unfolding front
 line-requires c κs =
-    (sym (c .before .before .before .records-ok .ensures) ∙ not-false _ (c .before .before .if1 .left), sym (c .before .key-in-range .ensures) ∙ not-false _ (c .if2 .left))
+    let a = c .before .before .before .before .before .before .before .args in
+    (ap (λ (n : ℕ). recordsAccepted (take n (a .records .now))) (c .before .lines-end .ensures .0) ∙ accepted-lines (a .records .now) ((sym (c .before .before .before .before .before .sheet-ok .ensures) ∙ not-false _ (c .before .before .before .before .if1 .left))), (sym (c .before .before .before .key-in-range .ensures) ∙ not-false _ (c .before .before .if2 .left)))
 
 returns-3 : tie.Need-returns-3
+unfolding front
 returns-3 c =
-    let a = c .before .before .before .before .before .before .args in
-    (c .line .ensures .0 ∙ line-told (a .records .now) (a .key) (sym (c .before .before .before .before .records-ok .ensures) ∙ not-false _ (c .before .before .before .if1 .left)) (sym (c .before .before .key-in-range .ensures) ∙ not-false _ (c .before .if2 .left)), c .line .ensures .1)
+    let a = c .before .before .before .before .before .before .before .before .args in
+    (c .line .ensures .0 ∙ (ap (λ (n : ℕ). lineAmong (records (take n (a .records .now))) (a .key)) (c .before .before .lines-end .ensures .0) ∙ line-told (a .records .now) (a .key) ((sym (c .before .before .before .before .before .before .sheet-ok .ensures) ∙ not-false _ (c .before .before .before .before .before .if1 .left))) ((sym (c .before .before .before .before .key-in-range .ensures) ∙ not-false _ (c .before .before .before .if2 .left)))), c .line .ensures .1)
 
 pub line-of-spec : {M : Type 1} → statement M
 line-of-spec =
     tie.close
-    (tie.spec (λ c κs. search needs) (λ c κs. search needs) returns (λ c κs. search needs) (λ c κs. search needs) returns-2 line-requires returns-3)
+    (tie.spec (λ c κs. search needs) (λ c κs. search needs) returns (λ c κs. search needs) (λ c κs. search needs) returns-2 lines-end-requires
+    slice-aggregate-line line-requires returns-3)
