@@ -4,5 +4,6 @@ pub mod Sample
 pub mod ClientSample
 pub mod SerialSample
 pub mod TwoSample
+pub mod SpareSample
 pub mod Theorems
 pub mod TwoTheorems

@@ -56,6 +56,8 @@ use Rattle.serial.specs.Bytes as Serial
 use Rattle.theorems.specs.Sample as Sample
 use Rattle.theorems.specs.ClientSample as ClientSample
 use Rattle.theorems.specs.SerialSample as SerialSample
+use Rattle.theorems.specs.SpareSample as SpareSample
+use Rattle.theorems.specs.Tables.{keyA}
 
 -- DEMAND 1: "a result or the one refusal that our table names for that input, and after a refusal it finds both sheets and its transaction unchanged".
 -- A call by value returns its transaction as it came where it is refused: `answers` Answers.
@@ -166,6 +168,17 @@ none-smaller-behind k s a = Ranks.rank-behind k (records (recordLines s)) (Ranks
 
 pub places-shared : map rankAt (0 ∷ 1 ∷ 2 ∷ 3 ∷ 4 ∷ 5 ∷ []) ≡ standing 0 false ∷ standing 0 true ∷ standing 1 false ∷ standing 1 false ∷ standing 1 true ∷ standing 2 false ∷ []
 places-shared = shared-place
+
+-- DOCUMENT 02, NOTE 6: spares last and spares only are accepted, a spare above a record line and a sheet without lines are refused with 1; a visit finishes a line and leaves
+-- the spare below it; on two sheets spares beside spares are accepted, a spare beside a record line on either and one more on one are 13
+pub spares-accepted : map SpareSample.refusedWith SpareSample.sparedSheets ≡ 0 ∷ 0 ∷ 1 ∷ 1 ∷ []
+spares-accepted = SpareSample.spares-checked
+
+pub spare-stays : afterOn (visit keyA 7001) SpareSample.pendingSpared ≡ SpareSample.finishedSpared
+spare-stays = SpareSample.spare-left
+
+pub spares-on-two : SpareSample.sparedTwo ≡ 0 ∷ 13 ∷ 13 ∷ 13 ∷ []
+spares-on-two = SpareSample.two-checked
 
 -- DOCUMENT 02, NOTE 1, for every input at a clock reading below 2^32, as every u32 is.
 

@@ -71,12 +71,17 @@ third-bookkeeping bs = ap (λ (x : List ℕ). sameKeys [] bs && not (recordsAcce
 
 -- Tests of either sheet beside an empty one.
 
-first-alone : (p c s : Bool) (n : ℕ) → n ≡ refusalOf (refuse 1 (not p) ∷ refuse 1 false ∷ refuse 1 false ∷ refuse 2 (not c) ∷ refuse 13 (not s) ∷ []) → (n ≡ 1 → p ≡ false) × ((n ≡ 1 → ⊥) → p ≡ true)
+-- a test that is asked with 1, before others that aren't
+alone-told : (x : Bool) (cs : List Condition) (n : ℕ) → (refusalOf cs ≡ 1 → ⊥) → n ≡ refusalOf (refuse 1 (not x) ∷ cs) → (n ≡ 1 → x ≡ false) × ((n ≡ 1 → ⊥) → x ≡ true)
 unfolding refusalOf
-first-alone true true true n e = (λ z. absurd (omega (arith, e, z)), λ z. refl)
-first-alone true true false n e = (λ z. absurd (omega (arith, e, z)), λ z. refl)
-first-alone true false s n e = (λ z. absurd (omega (arith, e, z)), λ z. refl)
-first-alone false c s n e = (λ z. refl, λ z. absurd (z e))
+alone-told true cs n k e = (λ z. absurd (k (sym e ∙ z)), λ z. refl)
+alone-told false cs n k e = (λ z. refl, λ z. absurd (z e))
+
+never-one : (a b : ℕ) (x y : Bool) → (a ≡ 1 → ⊥) → (b ≡ 1 → ⊥) → refusalOf (refuse 1 false ∷ refuse a x ∷ refuse b y ∷ []) ≡ 1 → ⊥
+unfolding refusalOf
+never-one a b true y p q e = p e
+never-one a b false true p q e = q e
+never-one a b false false p q e = omega (arith, e)
 
 second-alone : (b c s : Bool) (n : ℕ) → n ≡ refusalOf (refuse 1 false ∷ refuse 1 (not b) ∷ refuse 1 false ∷ refuse 2 (not c) ∷ refuse 13 (not s) ∷ [])
     → (n ≡ 0 → 13 ≡ refusalOf (refuse 1 (not b) ∷ refuse 2 (not c) ∷ refuse 13 true ∷ [])) × ((n ≡ 0 → ⊥) → n ≡ refusalOf (refuse 1 (not b) ∷ refuse 2 (not c) ∷ refuse 13 true ∷ []))
@@ -88,8 +93,10 @@ second-alone false c s n e = (λ z. absurd (omega (arith, e, z)), λ z. e)
 
 module _ (ps bs cs : List ℕ) where
   plain-told : (n : ℕ) → n ≡ refusalOf (fullConditions ps [] cs) → (n ≡ 1 → plainAlone ps ≡ false) × ((n ≡ 1 → ⊥) → plainAlone ps ≡ true)
-  unfolding fullConditions linesConditions
-  plain-told n e = first-alone (plainAlone ps) (coordinatorFits [] cs) (sameKeys ps []) n (e ∙ rw (bookkeeping-empty, third-plain ps) refl)
+  unfolding fullConditions linesConditions refusalOf
+  plain-told n e =
+      alone-told (plainAlone ps) (refuse 1 false ∷ refuse 2 (not (coordinatorFits [] cs)) ∷ refuse 13 (not (sameKeys ps [])) ∷ []) n
+      (never-one 2 13 (not (coordinatorFits [] cs)) (not (sameKeys ps [])) (λ z. omega (arith, z)) (λ z. omega (arith, z))) (e ∙ rw (bookkeeping-empty, third-plain ps) refl)
 
   pub unequal-plain : (n : ℕ) → n ≡ refusalOf (fullConditions ps [] cs) → n ≡ 1 → 1 ≡ refusalOf (unequalConditions ps bs cs)
   unfolding unequalConditions refusalOf
@@ -119,31 +126,19 @@ module _ (k : Key) where
       go true e = sym (eqb-true (refusalOf cs) 0 e)
       go false e = refl
 
-  key-first : (p s g : Bool) (n : ℕ) → n ≡ refusalOf (refuse 1 (not p) ∷ refuse 1 false ∷ refuse 1 false ∷ refuse 13 (not s) ∷ refuse 5 (not g) ∷ []) → (n ≡ 1 → p ≡ false) × ((n ≡ 1 → ⊥) → p ≡ true)
-  unfolding refusalOf
-  key-first true true true n e = (λ z. absurd (omega (arith, e, z)), λ z. refl)
-  key-first true true false n e = (λ z. absurd (omega (arith, e, z)), λ z. refl)
-  key-first true false g n e = (λ z. absurd (omega (arith, e, z)), λ z. refl)
-  key-first false s g n e = (λ z. refl, λ z. absurd (z e))
-
-  key-second : (b s g : Bool) (n : ℕ) → n ≡ refusalOf (refuse 1 false ∷ refuse 1 (not b) ∷ refuse 1 false ∷ refuse 13 (not s) ∷ refuse 5 (not g) ∷ []) → (n ≡ 1 → b ≡ false) × ((n ≡ 1 → ⊥) → b ≡ true)
-  unfolding refusalOf
-  key-second true true true n e = (λ z. absurd (omega (arith, e, z)), λ z. refl)
-  key-second true true false n e = (λ z. absurd (omega (arith, e, z)), λ z. refl)
-  key-second true false g n e = (λ z. absurd (omega (arith, e, z)), λ z. refl)
-  key-second false s g n e = (λ z. refl, λ z. absurd (z e))
-
   module _ (ps bs : List ℕ) where
     pub keys-plain : (r : Ranked) → r ≡ rankFull ps [] k → (r .refusal ≡ 1 → plainAlone ps ≡ false) × ((r .refusal ≡ 1 → ⊥) → plainAlone ps ≡ true)
-    unfolding rankFull rankFullConditions keyConditions linesConditions
+    unfolding rankFull rankFullConditions keyConditions linesConditions refusalOf
     keys-plain r e =
-        key-first (plainAlone ps) (sameKeys ps []) (keyInRange k) (r .refusal)
+        alone-told (plainAlone ps) (refuse 1 false ∷ refuse 13 (not (sameKeys ps [])) ∷ refuse 5 (not (keyInRange k)) ∷ []) (r .refusal)
+        (never-one 13 5 (not (sameKeys ps [])) (not (keyInRange k)) (λ z. omega (arith, z)) (λ z. omega (arith, z)))
         (ap (λ (x : Ranked). x .refusal) e ∙ (told-refusal (rankFullConditions ps [] k) _ ∙ rw (bookkeeping-empty, third-plain ps) refl))
 
     pub keys-bookkeeping : (r : Ranked) → r ≡ rankFull [] bs k → (r .refusal ≡ 1 → bookkeepingAlone bs ≡ false) × ((r .refusal ≡ 1 → ⊥) → bookkeepingAlone bs ≡ true)
-    unfolding rankFull rankFullConditions keyConditions linesConditions
+    unfolding rankFull rankFullConditions keyConditions linesConditions refusalOf
     keys-bookkeeping r e =
-        key-second (bookkeepingAlone bs) (sameKeys [] bs) (keyInRange k) (r .refusal)
+        alone-told (bookkeepingAlone bs) (refuse 1 false ∷ refuse 13 (not (sameKeys [] bs)) ∷ refuse 5 (not (keyInRange k)) ∷ []) (r .refusal)
+        (never-one 13 5 (not (sameKeys [] bs)) (not (keyInRange k)) (λ z. omega (arith, z)) (λ z. omega (arith, z)))
         (ap (λ (x : Ranked). x .refusal) e ∙ (told-refusal (rankFullConditions [] bs k) _ ∙ rw (plain-empty, third-bookkeeping bs) refl))
 
   pub keys-first : (p b : Bool) → p ≡ false → 1 ≡ refusalOf (refuse 1 (not p) ∷ refuse 1 (not b) ∷ refuse 13 true ∷ [])
@@ -201,19 +196,13 @@ module _ (ps bs cs : List ℕ) where
         never false false true e = omega (arith, e)
         never false false false e = omega (arith, e)
 
-        never-keys : (x y : Bool) → refusalOf (refuse 1 x ∷ refuse 1 y ∷ refuse 13 true ∷ []) ≡ 0 → ⊥
-        unfolding refusalOf
-        never-keys true y e = omega (arith, e)
-        never-keys false true e = omega (arith, e)
-        never-keys false false e = omega (arith, e)
-
         pub unequal-told : (r : ℕ) → r ≡ refusalOf (unequalConditions (plainLines ps) (bookkeepingLines bs) cs) → Forms ps bs cs r
         unfolding twoConditions formConditions unequalConditions refusalOf
         unequal-told r e = record { refused = λ z. e ∙ rw (p, b, apart) refl; fit = λ z. absurd (never (not (plainAlone (plainLines ps))) (not (bookkeepingAlone (bookkeepingLines bs))) (not (coordinatorFits (bookkeepingLines bs) cs)) (sym e ∙ z)) }
 
         pub apart-told : (r : ℕ) → r ≡ refusalOf (unequalKeys (plainLines ps) (bookkeepingLines bs)) → KeyForms ps bs r
         unfolding refusalOf unequalKeys
-        apart-told r e = record { refused = λ z. e ∙ rw (p, b, apart) refl; fit = λ z. absurd (never-keys (not (plainAlone (plainLines ps))) (not (bookkeepingAlone (bookkeepingLines bs))) (sym e ∙ z)) }
+        apart-told r e = record { refused = λ z. e ∙ rw (p, b, apart) refl; fit = λ z. absurd (never (not (plainAlone (plainLines ps))) (not (bookkeepingAlone (bookkeepingLines bs))) false (sym e ∙ z)) }
 
 -- Where they do, the refusals are those of the lines before the spares.
 module _ (ps bs : List ℕ) (w : Whole ps bs) where

@@ -7,7 +7,7 @@ use Rattle.lists.specs.Pieces.{AllOf, length-joined, joined-append, all-join}
 use Rattle.model.specs.Layouts.{recordBytes}
 use Rattle.model.specs.Lines.{linesOf}
 use Rattle.model.specs.Spares.{spareLine, isSpare, trimmed, filledLines, front, sparesText, recordLines}
-use Rattle.model.specs.TwoSheets.{plainBytes, bookkeepingBytes, joinLine, bookkeepingLine, joinLines, joinedSheet}
+use Rattle.model.specs.TwoSheets.{plainBytes, bookkeepingBytes, joinLine, plainLine, bookkeepingLine, joinLines, joinedSheet}
 use Rattle.model.specs.TwoSpares.{plainLines, bookkeepingLines, joinedLines}
 use Rattle.sheet_laws.specs.Trimmed.{trimmed-more}
 use Rattle.sheet_laws.specs.Fronts.{wide-lines, length-lines, filled-within, front-count, front-whole, front-filled, lines-spared, spares-wide, lines-joined}
@@ -19,15 +19,19 @@ spare-joins : joinLine (spareLine plainBytes) (spareLine bookkeepingBytes) ≡ s
 unfolding spareLine joinLine
 spare-joins = refl
 
--- of which the bookkeeping line is one
-spare-part : bookkeepingLine (spareLine recordBytes) ≡ spareLine bookkeepingBytes
+-- of which either part is one
+pub plain-spare : plainLine (spareLine recordBytes) ≡ spareLine plainBytes
+unfolding spareLine plainLine
+plain-spare = refl
+
+pub bookkeeping-spare : bookkeepingLine (spareLine recordBytes) ≡ spareLine bookkeepingBytes
 unfolding spareLine bookkeepingLine
-spare-part = refl
+bookkeeping-spare = refl
 
 joined-spare : (p b : List ℕ) → length p ≡ plainBytes → length b ≡ bookkeepingBytes → isSpare recordBytes (joinLine p b) ≡ true → isSpare bookkeepingBytes b ≡ true
 joined-spare p b l m h =
     let e : b ≡ spareLine bookkeepingBytes =
-    sym (bookkeeping-back p b l m) ∙ (ap bookkeepingLine (eqList-true (joinLine p b) (spareLine recordBytes) h) ∙ spare-part) in
+    sym (bookkeeping-back p b l m) ∙ (ap bookkeepingLine (eqList-true (joinLine p b) (spareLine recordBytes) h) ∙ bookkeeping-spare) in
     ap (isSpare bookkeepingBytes) e ∙ eqList-refl (spareLine bookkeepingBytes)
 
 -- Lines.

@@ -42,7 +42,7 @@ use Rattle.sheet_laws.specs.ByIndex.{whole-lines}
 use Rattle.sheet_laws.specs.Fronts.{lines-behind, front-spares}
 use Rattle.sheet_laws.specs.Spared.{accepted-whole}
 use Rattle.two_laws.specs.Encoding.{split-join}
-use Rattle.two_laws.specs.SparedJoin.{joined-spared}
+use Rattle.two_laws.specs.SparedJoin.{plain-spare, bookkeeping-spare, joined-spared}
 use Rattle.two_laws.specs.TwoEncoding.{joinedBytes, cutTwo, JoinableTwo, same-filled, joined-lines-whole, passing-two, passing-two-good, encodedTwo, passing-encoded-two}
 use Rattle.two_turns.specs.Turns.{turn-two}
 
@@ -142,15 +142,7 @@ unit-apart b a h h′ (coordinator-only e) = coordinator-only-two (ap plainPart 
 pub readable-whole : (b : Bytes) → Readable b → whole recordBytes (b .records) ≡ true
 readable-whole b h = eq-eqb (length (b .records)) (length (b .records) / recordBytes * recordBytes) (accepted-whole (b .records) (readable-both b h .0))
 
--- a spare's parts are spares
-plain-spare : plainLine (spareLine recordBytes) ≡ spareLine plainBytes
-unfolding spareLine plainLine
-plain-spare = refl
-
-bookkeeping-spare : bookkeepingLine (spareLine recordBytes) ≡ spareLine bookkeepingBytes
-unfolding spareLine bookkeepingLine
-bookkeeping-spare = refl
-
+-- the parts of spares
 map-replicate : (part : List ℕ → List ℕ) (w n : ℕ) → part (spareLine recordBytes) ≡ spareLine w → map part (replicate n (spareLine recordBytes)) ≡ replicate n (spareLine w)
 map-replicate part w zero e = refl
 map-replicate part w (suc n) e = ap₂ _∷_ e (map-replicate part w n e)
