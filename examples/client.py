@@ -125,7 +125,7 @@ def die():
 
 
 def show():
-    print(f"version {library.rapyheo_version()} with header 20200, check {library.rapyheo_check(*lent(records), *lent(coordinator))}")
+    print(f"version {library.rapyheo_version()} with header 20300, check {library.rapyheo_check(*lent(records), *lent(coordinator))}")
     print((bytes(coordinator) + bytes(records)).decode(), end="")
 
 

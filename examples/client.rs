@@ -219,7 +219,7 @@ impl Desk {
     fn show(&self) {
         let (r, d) = (&self.records, &self.coordinator);
         let check = unsafe { rapyheo_check(r.as_ptr(), r.len(), d.as_ptr(), d.len()) };
-        println!("version {} with header 20200, check {check}", unsafe { rapyheo_version() });
+        println!("version {} with header 20300, check {check}", unsafe { rapyheo_version() });
         print!("{}{}", text(d), text(r));
     }
 

@@ -13,14 +13,15 @@
  *
  * Duties towards the orders:
  *   - hand on what the last call left, the list and both sheets. The first sheets are accepted ones without a PREPARED line, and nothing but
- *     these calls and visits changes them: they are no target of rapyheo_write_records or .._write_coordinator;
+ *     these calls, visits, adding and removing changes them: they are no target of rapyheo_write_records or .._write_coordinator;
  *   - after a crash never hand in a saved list. Begin anew with one of zeros; what the old one had done stands on the sheets, and visits finish
  *     or undo it. A list need not be saved at all;
  *   - never fill in or change an entry or a field by hand: a list is for reading. Each call judges what it is given, but an entry added in the
  *     phase decide, or a state handed in twice, can break an order with every call answering 0;
  *   - what a call wrote stands whole or not at all after a crash, and writes stand in the order in which they were made. A call writes the
  *     lines of one unit, or the coordinator sheet, or nothing, never both: rapyheo_written tells which, and every line of the range that it
- *     tells is of that unit. A close makes as many such writes as its limit allows. Above 1 the range may span several units and both sheets
+ *     tells is of that unit. rapyheo_add and rapyheo_remove write one line, and the lines that shift by it don't count as written: the store has to
+ *     put a line in, or take one out, as a whole. A client that saves bytes saves from that line to the end of the sheet at once. A close makes as many such writes as its limit allows. Above 1 the range may span several units and both sheets
  *     may differ, so that only a client which saves both sheets at once may close like that. One that saves unit by unit closes with limit 1
  *     again and again, and saves after each, until the phase is done.
  *
@@ -31,7 +32,7 @@
  *   - one caller at a time for one pair of sheets, whoever has the list: there is no lock. Calls on different sheets and lists are independent,
  *     in any threads, since the library holds no data of its own;
  *   - a call finds RAPYHEO_STACK_BYTES of stack, and one on two sheets RAPYHEO_TWO_STACK_BYTES, since it joins them in an area of its own.
- *     `make stack` measures what each needs, its arguments among it: 2536 at most, and 100728 on two sheets, to which some 2000 come where
+ *     `make stack` measures what each needs, its arguments among it: 8928 at most, and 100728 on two sheets, to which some 2000 come where
  *     the loader binds memcpy or memset in the middle of the first call (not so with -Wl,-z,now). A call allocates nothing.
  *
  * Record sheet: 1 to 500 lines of 98 bytes, the last byte LF. Figures are decimal, right-justified, filled with spaces, without leading zeros.
@@ -45,8 +46,9 @@
  *         30-35  version, 0-99999                   86-96  prepare clock, 0-4294967295
  *         36-39  TxID, 0-999                           97  LF
  *
- * Keys, the first five fields, rise strictly down the sheet. It may end in spare lines, 97 spaces and LF, counted in the 500, or be all spares:
- * every call leaves them where they are.
+ * Keys, the first five fields, rise strictly down the sheet. It may end in spare lines, 97 spaces and LF, counted in the 500, or be all spares.
+ * rapyheo_add uses one up and rapyheo_remove makes one; every other call leaves them where they are. A key without a line counts as an ABSENT line
+ * of version 0, except that it can't be read, put or visited (6); a transaction may hold one whose line was removed.
  *
  * Coordinator sheet: lines of 15 bytes, the last byte LF. The head has the count of numbers issued (4 columns), a space and the unit letters
  * of storages 1 to 9: R, P, T, N or S. Then come 1 to 999 lines: k (4 columns) and COMMITTED, ABORTED or `-` (10 columns).
@@ -85,7 +87,7 @@ extern "C" {
 
 /* Version of this header. rapyheo_version() is the library's: the same major and at least the same minor will do. */
 #define RAPYHEO_VERSION_MAJOR 2
-#define RAPYHEO_VERSION_MINOR 2
+#define RAPYHEO_VERSION_MINOR 3
 #define RAPYHEO_VERSION_PATCH 0
 #define RAPYHEO_VERSION (10000 * RAPYHEO_VERSION_MAJOR + 100 * RAPYHEO_VERSION_MINOR + RAPYHEO_VERSION_PATCH)
 
@@ -111,12 +113,12 @@ enum {
     RAPYHEO_LIST = 16,           /* transactions in a list */
     RAPYHEO_CLOSE_WRITES = 17,   /* writes that a close makes at most */
     RAPYHEO_REFUSED = 1000,      /* an answer above this is 1000 + the refusal */
-    RAPYHEO_STACK_BYTES = 8192,  /* enough stack for any call on a record sheet */
+    RAPYHEO_STACK_BYTES = 16384, /* enough stack for any call on a record sheet */
     RAPYHEO_TWO_STACK_BYTES = 131072 /* enough for any on two sheets */
 };
 
-/* Refusals. The first that applies is given, in the order of the numbers but that 13 comes after 2, and a call gives only those that its comment
- * names. */
+/* Refusals. The first that applies is given, in the order of the numbers but that 13 comes after 2 and 14 to 16 after 6, and a call gives only those
+ * that its comment names. */
 enum {
     RAPYHEO_BAD_RECORDS = 1,     /* the record sheet, or records in numbers, break a rule, or a target has another length than needed */
     RAPYHEO_BAD_COORDINATOR = 2, /* the coordinator sheet does, or its numbers do, or a record names a number that is not issued */
@@ -130,7 +132,10 @@ enum {
     RAPYHEO_NOT_HELD = 10,       /* a put of a key that was not read */
     RAPYHEO_VERSIONS_SPENT = 11, /* a put over version 99999 */
     RAPYHEO_BUSY = 12,           /* the line is undecided, and not every line of its owner has expired */
-    RAPYHEO_SHEETS_DIFFER = 13   /* the plain and the bookkeeping sheet differ in number of lines or in a key */
+    RAPYHEO_SHEETS_DIFFER = 13,  /* the plain and the bookkeeping sheet differ in number of lines or in a key */
+    RAPYHEO_HAS_LINE = 14,       /* a key to be added has a line */
+    RAPYHEO_NO_SPARE = 15,       /* there is no spare for a line to be added */
+    RAPYHEO_NOT_BLANK = 16       /* a line to be removed isn't ABSENT of version 0 */
 };
 
 /* What is asked by place. */
@@ -284,6 +289,16 @@ RAPYHEO_ANSWER uint32_t rapyheo_call_at(rapyheo_transaction *list, size_t list_l
 RAPYHEO_ANSWER uint32_t rapyheo_visit(uint8_t *records, size_t records_length, uint8_t *coordinator, size_t coordinator_length, uint32_t storage,
                                       uint32_t name_space, uint32_t table, uint32_t partition, uint32_t clustering, uint32_t clock);
 
+/* Adds a line for a key that has none: ABSENT of version 0, in key order, those below it one further down and the last spare gone. Answers 0, or the
+ * refusal itself: 1, 2, 5, 14 or 15. */
+RAPYHEO_ANSWER uint32_t rapyheo_add(uint8_t *records, size_t records_length, const uint8_t *coordinator, size_t coordinator_length, uint32_t storage,
+                                    uint32_t name_space, uint32_t table, uint32_t partition, uint32_t clustering);
+
+/* Removes the line of a key, which is ABSENT of version 0: those below it one further up, and a spare last. Answers 0, or the refusal itself: 1, 2, 5,
+ * 6 or 16. */
+RAPYHEO_ANSWER uint32_t rapyheo_remove(uint8_t *records, size_t records_length, const uint8_t *coordinator, size_t coordinator_length, uint32_t storage,
+                                       uint32_t name_space, uint32_t table, uint32_t partition, uint32_t clustering);
+
 /* Issues a number and no transaction, so that the number stays unused: 1 to 999, or 1000 + 1, 2 or 8. An order begins by rapyheo_begin_at. */
 RAPYHEO_ANSWER uint32_t rapyheo_begin(const uint8_t *records, size_t records_length, uint8_t *coordinator, size_t coordinator_length);
 
@@ -386,7 +401,8 @@ static inline rapyheo_columns rapyheo_columns_held(const rapyheo_transaction *tr
     return columns;
 }
 
-/* The calls on a plain and a bookkeeping sheet. Each gives 1000 + 13 where these differ, after 2, besides the refusals of its like above; 1 is for
+/* The calls on a plain and a bookkeeping sheet. Each gives 13 (1000 + 13 where its like above has 1000 + the
+ * refusal) where these differ, after 2, besides the refusals of its like above; 1 is for
  * either of them alone and for both joined. */
 
 /* 0 where all three sheets are accepted, else the refusal itself: 1, 2 or 13. */
@@ -397,6 +413,14 @@ RAPYHEO_ANSWER uint32_t rapyheo_two_check(const uint8_t *plain, size_t plain_len
 RAPYHEO_ANSWER uint32_t rapyheo_two_visit(uint8_t *plain, size_t plain_length, uint8_t *bookkeeping, size_t bookkeeping_length,
                                           uint8_t *coordinator, size_t coordinator_length, uint32_t storage, uint32_t name_space, uint32_t table,
                                           uint32_t partition, uint32_t clustering, uint32_t clock);
+
+/* As rapyheo_add and rapyheo_remove, on both sheets: 0, or the refusal itself, 13 among them. */
+RAPYHEO_ANSWER uint32_t rapyheo_two_add(uint8_t *plain, size_t plain_length, uint8_t *bookkeeping, size_t bookkeeping_length, const uint8_t *coordinator,
+                                        size_t coordinator_length, uint32_t storage, uint32_t name_space, uint32_t table, uint32_t partition,
+                                        uint32_t clustering);
+RAPYHEO_ANSWER uint32_t rapyheo_two_remove(uint8_t *plain, size_t plain_length, uint8_t *bookkeeping, size_t bookkeeping_length,
+                                           const uint8_t *coordinator, size_t coordinator_length, uint32_t storage, uint32_t name_space,
+                                           uint32_t table, uint32_t partition, uint32_t clustering);
 
 /* The index of the key's line, from 0, the same on both sheets, or 1000 + 1, 13, 5 or 6. */
 RAPYHEO_ANSWER uint32_t rapyheo_two_lookup(const uint8_t *plain, size_t plain_length, const uint8_t *bookkeeping, size_t bookkeeping_length,
@@ -509,10 +533,13 @@ static inline const char *rapyheo_refusal_text(uint32_t refusal) {
         "the version read is 99999, and no put can follow it",
         "the line is undecided, and not every line of its owner has expired",
         "the plain and the bookkeeping sheet differ in number of lines or in a key",
+        "the key to be added has a line",
+        "there is no spare for the line to be added",
+        "the line to be removed is not ABSENT of version 0",
     };
     if (refusal > RAPYHEO_REFUSED)
         refusal -= RAPYHEO_REFUSED;
-    return texts[refusal <= RAPYHEO_SHEETS_DIFFER ? refusal : 0];
+    return texts[refusal <= RAPYHEO_NOT_BLANK ? refusal : 0];
 }
 
 #undef RAPYHEO_ANSWER

@@ -28,6 +28,12 @@ pub enum Call {
         key: Key,
         now: u32,
     },
+    Add {
+        key: Key,
+    },
+    Remove {
+        key: Key,
+    },
     /// Any call of the one at this place of the list.
     At {
         place: usize,
@@ -40,14 +46,19 @@ pub enum Call {
     Version,
 }
 
-/// The refusal of an answer, 0 of an accepted call. The check answers with the refusal itself.
+/// The refusal of an answer, 0 of an accepted call. Check, add and remove answer with the refusal itself.
 pub fn refusal_of(call: &Call, answer: u64) -> u32 {
     match (call, answer) {
-        (Call::Check, refusal) => refusal as u32,
+        (Call::Check | Call::Add { .. } | Call::Remove { .. }, refusal) => refusal as u32,
         (Call::Version, _) => 0,
         (_, 1_000..by_place::FIRST) => answer as u32 - 1_000,
         _ => 0,
     }
+}
+
+/// 0 of an accepted call, or the refusal.
+fn refusal<T>(answer: Result<T, u32>) -> u64 {
+    answer.err().unwrap_or(plain::ACCEPTED).into()
 }
 
 /// What an accepted call gives, or 1000 and the refusal.
@@ -64,10 +75,11 @@ fn visit_number(visit: Visit) -> u64 {
     }
 }
 
-/// What a begin or a visit gives: the number issued, or what was done.
+/// What a begin or a visit gives: the number issued, or what was done; 0 of add and remove.
 fn answer_number(answer: Answer) -> u64 {
     match answer {
         Answer::Visited(visit) => visit_number(visit),
+        Answer::Done => 0,
         Answer::Returned(t) | Answer::Read(t, _) | Answer::Closed(t, _) => t.number.into(),
     }
 }
@@ -86,6 +98,8 @@ pub fn by_plain(call: &Call, lent: &mut Lent) -> u64 {
             let visit = Request::Visit { key, now };
             number(sheets.ask(visit).map(answer_number))
         }
+        Call::Add { key } => refusal(sheets.ask(Request::Add { key })),
+        Call::Remove { key } => refusal(sheets.ask(Request::Remove { key })),
         Call::At { place, asked } => number(sheets.call_at(list, place, &asked)),
         Call::Lookup { key } => number(sheets.lookup(key).map(|place| place as u64)),
         Call::Version => plain::version().into(),
@@ -107,7 +121,9 @@ pub fn rank_by_plain(sheets: &LaidOut, key: Key, target: &mut [u32]) -> u32 {
 /// Whether `fast` has the call: of those by place it has the advance.
 pub fn is_fast(call: &Call) -> bool {
     match call {
-        Call::Check | Call::Begin | Call::Visit { .. } => true,
+        Call::Check | Call::Begin | Call::Visit { .. } | Call::Add { .. } | Call::Remove { .. } => {
+            true
+        }
         Call::At { asked, .. } => asked.call == by_place::ADVANCE,
         Call::Lookup { .. } | Call::Version => false,
     }
@@ -128,6 +144,8 @@ pub fn by_fast(call: &Call, lent: &mut Lent) -> u64 {
         Call::Visit { key, now } => {
             number(fast::visit(records, coordinator, key, now).map(visit_number))
         }
+        Call::Add { key } => refusal(fast::add(records, coordinator, key)),
+        Call::Remove { key } => refusal(fast::remove(records, coordinator, key)),
         Call::At { place, asked } if asked.call == by_place::ADVANCE => {
             let advanced = fast::advance_at(&mut lent.list, place, records, coordinator, asked.now);
             number(advanced.map(|()| 0))

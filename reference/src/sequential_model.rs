@@ -1,6 +1,7 @@
 //! The sequential model, document 01's plain book: what the record sheet comes to once every line has been visited.
 //!
-//! It is told what each call was asked and answered and never sees the sheets after the first.
+//! It is told what each call was asked and answered and never sees the sheets after the first. Adding and removing do nothing to
+//! it: a key without a line, here or in the sheet, counts as ABSENT of version 0.
 
 use crate::plain::key::Key;
 use crate::plain::record::{self, Record};
@@ -11,21 +12,31 @@ use std::collections::{BTreeMap, BTreeSet};
 /// The last columns put to each key by one number, which document 01 calls its page.
 type WriteSet = BTreeMap<Key, [u32; 2]>;
 
+/// Lines by their keys.
+type Lines = BTreeMap<Key, Record>;
+
 pub struct SequentialModel {
-    lines: Vec<Record>,
-    /// The bytes of the sheet, spares counted.
-    length: usize,
+    lines: Lines,
     /// A write set for each number begun in the list.
     write_sets: BTreeMap<u32, WriteSet>,
     committed: BTreeSet<u32>,
+}
+
+fn by_key(records: &[Record]) -> Lines {
+    records.iter().map(|line| (line.key, *line)).collect()
+}
+
+/// The key's line, or what a key without one counts as.
+fn line_of(lines: &Lines, key: &Key) -> Record {
+    let line = lines.get(key).copied();
+    line.unwrap_or(Record::absent(*key))
 }
 
 impl SequentialModel {
     /// The model before the first call, or nothing where the record sheet isn't accepted.
     pub fn new(records: &[u8]) -> Option<SequentialModel> {
         Some(SequentialModel {
-            lines: record::read_sheet(records)?,
-            length: records.len(),
+            lines: by_key(&record::read_sheet(records)?),
             write_sets: BTreeMap::new(),
             committed: BTreeSet::new(),
         })
@@ -60,18 +71,20 @@ impl SequentialModel {
         let Some(write_set) = self.write_sets.get(&taken.number) else {
             return;
         };
-        for line in &mut self.lines {
-            if let Some(columns) = write_set.get(&line.key) {
-                *line = line.committed(taken.number, *columns);
-            }
+        for (key, columns) in write_set {
+            let line = line_of(&self.lines, key);
+            let line = line.committed(taken.number, *columns);
+            self.lines.insert(*key, line);
         }
     }
 
-    /// The model's lines as a record sheet, and the spares of the first one below them.
-    pub fn sheet(&self) -> Vec<u8> {
-        let mut sheet = vec![0; self.length];
-        record::write_sheet(&mut sheet, &self.lines);
-        sheet
+    /// The first key whose line in this sheet is another than in the model. Every key of either is compared.
+    pub fn difference(&self, records: &[Record]) -> Option<Key> {
+        let sheet = by_key(records);
+        let keys = self.lines.keys().chain(sheet.keys());
+        let keys: BTreeSet<Key> = keys.copied().collect();
+        let differs = |key: &Key| line_of(&self.lines, key) != line_of(&sheet, key);
+        keys.into_iter().find(differs)
     }
 
     /// The numbers begun in the list that have puts.

@@ -18,7 +18,7 @@ const PHASES: [&str; 8] = [
 const VERDICTS: [&str; 3] = ["none", "committed", "aborted"];
 
 /// The refusals of each call but 4.
-const REFUSALS: [(&str, &[u32]); 7] = [
+const REFUSALS: [(&str, &[u32]); 9] = [
     ("begin", &[1, 2, 8]),
     ("read", &[1, 2, 3, 5, 6, 9, 12]),
     ("put", &[1, 2, 3, 5, 6, 7, 10, 11]),
@@ -26,6 +26,8 @@ const REFUSALS: [(&str, &[u32]); 7] = [
     ("abort", &[1, 2, 3]),
     ("close", &[1, 2, 3]),
     ("visit", &[1, 2, 5, 6, 12]),
+    ("add", &[1, 2, 5, 14, 15]),
+    ("remove", &[1, 2, 5, 6, 16]),
 ];
 
 /// The first phase from which on refusal 4 is given, up to done.
@@ -113,6 +115,8 @@ visit: Stays, wrote nothing
 visit: Forward, wrote records
 visit: Back, wrote records
 visit: Again, wrote coordinator
+add: Done, wrote records
+remove: Done, wrote records
 ";
 
 /// A number without puts has no prepared lines, so that none but itself aborts it: only made-up states find it so.
@@ -151,6 +155,8 @@ fn shown(event: &Event, after: &Sheets) -> String {
         Request::Abort { .. } => "abort",
         Request::Close { .. } => "close",
         Request::Visit { .. } => "visit",
+        Request::Add { .. } => "add",
+        Request::Remove { .. } => "remove",
     };
     let taken = event.request.taken();
     let phase = taken.map(|t| PHASES.get(t.phase as usize).unwrap_or(&"no phase"));
@@ -163,6 +169,7 @@ fn shown(event: &Event, after: &Sheets) -> String {
         (Ok(Answer::Returned(t)), from) => step(from.copied(), t),
         (Ok(Answer::Read(_, reading)), _) => format!("{reading:?}"),
         (Ok(Answer::Visited(visit)), _) => format!("{visit:?}"),
+        (Ok(Answer::Done), _) => "Done".into(),
     };
     // The values read are of no interest here.
     let answer = answer.split('(').next().unwrap_or_default();

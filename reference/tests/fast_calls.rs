@@ -29,6 +29,8 @@ fn name(call: &Call) -> &'static str {
         Call::Begin => "begin",
         Call::Visit { .. } => "visit",
         Call::At { .. } => "advance",
+        Call::Add { .. } => "add",
+        Call::Remove { .. } => "remove",
         _ => "not a call of fast",
     }
 }
@@ -63,9 +65,11 @@ fn on_histories() {
         }
     }
     let expected: &[(&str, &[u64])] = &[
+        ("add", &[0, 1, 2, 5, 14, 15]),
         ("advance", &[0, 1_001, 1_002, 1_003, 1_004]),
         ("begin", &[0, 1_001, 1_002, 1_008]),
         ("check", &[0, 1, 2]),
+        ("remove", &[0, 1, 2, 5, 6, 16]),
         ("visit", &[0, 1, 2, 3, 1_001, 1_002, 1_005, 1_006, 1_012]),
     ];
     let expected = expected.iter();

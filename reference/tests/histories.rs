@@ -10,22 +10,29 @@ use reference::make::Sheets;
 use reference::plain::coordinator::Decision;
 use reference::plain::groups::share_unit;
 use reference::plain::key::Key;
-use reference::plain::record::State;
+use reference::plain::record::{Record, State};
 use reference::plain::request::{Answer, Request};
 use reference::plain::store::Store;
 use reference::plain::transaction::{Transaction, COMMITTED, DONE, OPEN};
 use reference::plain::BUSY;
 use reference::replay::Layout;
 use reference::sequential_model::SequentialModel;
-use std::collections::BTreeSet;
+use std::collections::{BTreeMap, BTreeSet};
 
 const HISTORIES: u64 = 2_000;
 
-/// The keys of the lines that the call wrote.
+/// The keys of the lines that the call wrote. Those that shift by adding or removing one don't count.
 fn written(before: &Store, after: &Store) -> Vec<Key> {
-    let pairs = before.records.iter().zip(&after.records);
-    let changed = pairs.filter(|(one, other)| one != other);
-    changed.map(|(one, _)| one.key).collect()
+    let by_key = |store: &Store| -> BTreeMap<Key, Record> {
+        let lines = store.records.iter();
+        lines.map(|line| (line.key, *line)).collect()
+    };
+    let (before, after) = (by_key(before), by_key(after));
+    let keys: BTreeSet<Key> = before.keys().chain(after.keys()).copied().collect();
+    let changed = keys.into_iter();
+    changed
+        .filter(|key| before.get(key) != after.get(key))
+        .collect()
 }
 
 /// What holds of every call: no change by a refusal, else accepted sheets and one write, or in a close one after another.
@@ -144,8 +151,8 @@ fn demand_3(layout: Layout, seed: u64) -> bool {
     let left: BTreeSet<u32> = left.map(|line| line.image.tx_id).collect();
     assert_eq!(left, outside, "seed {seed}\n{sheets}");
     roll_back(&mut last);
-    last.write(&mut sheets.records, &mut sheets.coordinator);
-    assert_eq!(sheets.records, model.sheet(), "seed {seed}\n{sheets}");
+    let difference = model.difference(&last.records);
+    assert_eq!(difference, None, "seed {seed}\n{sheets}");
     for number in model.with_puts() {
         let committed =
             last.decision(number) == Decision::Committed || one_phase_numbers.contains(&number);

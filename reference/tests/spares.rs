@@ -1,4 +1,5 @@
-//! Spares: blank lines at the end of a sheet of records count among its lines and stay, and no call takes one for a record.
+//! Spares: blank lines at the end of a sheet of records count among its lines, and no call takes one for a record. But for adding
+//! and removing they stay.
 
 use reference::fast;
 use reference::make::history::{Event, History, Rule};
@@ -344,11 +345,16 @@ fn calls_on_spares_only() {
     assert_eq!(sheets.records, before);
 }
 
-/// The same call with and without spares: the same answer, and the sheets differ in the spares alone.
+/// The same call with and without spares: the same answer, and the sheets differ in the spares alone. Where all lines have been
+/// removed one spare is kept, since a sheet of no lines is refused.
 fn is_as_without(event: &Event, layout: Layout, spares: usize) {
+    // These take a spare or make one.
+    if let Request::Add { .. } | Request::Remove { .. } = event.request {
+        return;
+    }
     let mut without = event.before.clone();
     let bare = spare(LINE);
-    while without.records.ends_with(&bare) {
+    while without.records.len() > LINE && without.records.ends_with(&bare) {
         without.records.truncate(without.records.len() - LINE);
     }
     let lines = without.records.len() / LINE;

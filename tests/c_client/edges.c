@@ -144,22 +144,56 @@ static void sheets(void) {
     expect("spent", rapyheo_begin(records, RECORDS, coordinator, COORDINATOR), RAPYHEO_REFUSED + RAPYHEO_NUMBERS_SPENT);
 }
 
+/* A line for a key of the second storage, added to a sheet of so many bytes, and removed. */
+static uint32_t add(uint8_t *sheet, size_t length, uint32_t name_space, uint32_t clustering) {
+    return rapyheo_add(sheet, length, coordinator, COORDINATOR, 2, name_space, 1, 1, clustering);
+}
+static uint32_t remove_line(uint8_t *sheet, size_t length, uint32_t storage, uint32_t clustering) {
+    return rapyheo_remove(sheet, length, coordinator, COORDINATOR, storage, 1, 1, 1, clustering);
+}
+
+static void lines_come_and_go(void) {
+    uint8_t sheet[RECORDS], first[RECORDS], spared[RECORDS];
+    const uint8_t *added = (const uint8_t *)" 2  1  1     1     0    ABSENT     0   0        0        0     0   0        0        0          0\n";
+    memcpy(sheet, records, RECORDS);
+    memcpy(first, records, RECORDS);
+    memcpy(spared, records, RECORDS);
+    memset(spared + RAPYHEO_RECORD_BYTES, ' ', RAPYHEO_RECORD_BYTES - 1);
+    expect("a key that has a line", add(sheet, RECORDS, 1, 1), RAPYHEO_HAS_LINE);
+    expect("no spare", add(sheet, RECORDS, 1, 0), RAPYHEO_NO_SPARE);
+    expect("no key to add", add(sheet, RECORDS, 0, 0), RAPYHEO_BAD_KEY);
+    expect("no whole lines to add to", add(sheet, RECORDS - 1, 1, 0), RAPYHEO_BAD_RECORDS);
+    expect("no decisions", rapyheo_add(sheet, RECORDS, coordinator, 15, 2, 1, 1, 1, 0), RAPYHEO_BAD_COORDINATOR);
+    expect("a COMMITTED line", remove_line(sheet, RECORDS, 1, 1), RAPYHEO_NOT_BLANK);
+    expect("no line to remove", remove_line(sheet, RECORDS, 2, 0), RAPYHEO_NO_SUCH_KEY);
+    expect("no key to remove", remove_line(sheet, RECORDS, 0, 0), RAPYHEO_BAD_KEY);
+    expect("nothing changed", (uint32_t)memcmp(sheet, first, RECORDS), 0);
+    expect("removed", remove_line(sheet, RECORDS, 2, 1), 0);
+    expect("a spare came", (uint32_t)memcmp(sheet, spared, RECORDS), 0);
+    expect("added again", add(sheet, RECORDS, 1, 1), 0);
+    expect("as it was", (uint32_t)memcmp(sheet, first, RECORDS), 0);
+    expect("to the spare", add(spared, RECORDS, 1, 0), 0);
+    expect("the line", (uint32_t)memcmp(spared + RAPYHEO_RECORD_BYTES, added, RAPYHEO_RECORD_BYTES), 0);
+    expect("the other stays", (uint32_t)memcmp(spared, first, RAPYHEO_RECORD_BYTES), 0);
+}
+
 static void header(void) {
     const char *none = rapyheo_refusal_text(0);
     expect("version", rapyheo_version(), RAPYHEO_VERSION);
     expect("no refusal", strcmp(none, "no such refusal") == 0, 1);
-    for (uint32_t n = 1; n <= RAPYHEO_SHEETS_DIFFER; n++) {
+    for (uint32_t n = 1; n <= RAPYHEO_NOT_BLANK; n++) {
         expect("a text", strcmp(rapyheo_refusal_text(n), none) != 0, 1);
         expect("of its own", strcmp(rapyheo_refusal_text(n), rapyheo_refusal_text(n - 1)) != 0, 1);
         expect("of the answer too", strcmp(rapyheo_refusal_text(RAPYHEO_REFUSED + n), rapyheo_refusal_text(n)) == 0, 1);
     }
     for (uint32_t i = 0; i < 4; i++) {
-        const uint32_t others[] = {14, 1000, 1014, 4294967295u};
+        const uint32_t others[] = {17, 1000, 1017, 4294967295u};
         expect("no other text", strcmp(rapyheo_refusal_text(others[i]), none) == 0, 1);
     }
 }
 
 int main(void) {
+    lines_come_and_go();
     by_place();
     closes();
     sheets();

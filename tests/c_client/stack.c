@@ -57,6 +57,20 @@ static void lookup(void) {
 static void rank(void) {
     answer = rapyheo_rank(records, RECORDS, key.storage, key.name_space, key.table, key.partition, key.clustering, lines, 2);
 }
+static void add(void) {
+    answer = rapyheo_add(records, RECORDS, coordinator, COORDINATOR, key.storage, key.name_space, key.table, key.partition, key.clustering);
+}
+static void remove_line(void) {
+    answer = rapyheo_remove(records, RECORDS, coordinator, COORDINATOR, key.storage, key.name_space, key.table, key.partition, key.clustering);
+}
+static void two_add(void) {
+    answer = rapyheo_two_add(plain, PLAIN, bookkeeping, BOOKKEEPING, coordinator, COORDINATOR, key.storage, key.name_space, key.table, key.partition,
+                             key.clustering);
+}
+static void two_remove(void) {
+    answer = rapyheo_two_remove(plain, PLAIN, bookkeeping, BOOKKEEPING, coordinator, COORDINATOR, key.storage, key.name_space, key.table,
+                                key.partition, key.clustering);
+}
 static void written(void) {
     answer = rapyheo_written(records_before, RECORDS, records, RECORDS, coordinator_before, COORDINATOR, coordinator, COORDINATOR, lines, 2);
 }
@@ -92,6 +106,8 @@ static struct measured {
     {"visit", visit, 0},
     {"lookup", lookup, 0},
     {"rank", rank, 0},
+    {"add", add, 0},
+    {"remove", remove_line, 0},
     {"written", written, 0},
     {"read_records", read_records, 0},
     {"write_records", write_records, 0},
@@ -102,11 +118,14 @@ static struct measured {
     {"two_visit", two_visit, 0},
     {"two_lookup", two_lookup, 0},
     {"two_rank", two_rank, 0},
+    {"two_add", two_add, 0},
+    {"two_remove", two_remove, 0},
 };
-enum { FUNCTIONS = sizeof table / sizeof *table, ON_TWO = 5, ON_ONE = FUNCTIONS - ON_TWO };
+enum { FUNCTIONS = sizeof table / sizeof *table, ON_TWO = 7, ON_ONE = FUNCTIONS - ON_TWO };
 
 /* What the orders below ask: on the record sheet, or on two. */
 static void (*call_by_place)(void) = call_at, (*visit_line)(void) = visit, (*look_up)(void) = lookup, (*tell_rank)(void) = rank;
+static void (*add_line)(void) = add, (*take_line)(void) = remove_line;
 
 static size_t unmeasured; /* what an empty function uses */
 
@@ -123,10 +142,11 @@ static uint32_t ask(uint32_t call) {
     return measure(call_by_place);
 }
 
-/* Lines of all storages, the first an ABSENT one, and every number but one of a kind that a begin can issue. */
+/* Lines of all storages, the first and the last ABSENT, and every number but one of a kind that a begin can issue. */
 static void lay_out(void) {
     for (uint32_t i = 0; i < LINES; i++) {
-        const uint32_t row[RAPYHEO_RECORD_NUMBERS] = {1 + i * 9 / LINES, 99, 99, 99000 + i, 99999, i > 0, i > 0, 0, i > 0, 5, 0, 0, 0, 0, 0};
+        const uint32_t there = i > 0 && i + 1 < LINES;
+        const uint32_t row[RAPYHEO_RECORD_NUMBERS] = {1 + i * 9 / LINES, 99, 99, 99000 + i, 99999, there, there, 0, there, 5 * there, 0, 0, 0, 0, 0};
         memcpy(rows + i * RAPYHEO_RECORD_NUMBERS, row, sizeof row);
     }
     memset(decisions, 0, sizeof decisions);
@@ -151,6 +171,8 @@ static void split(void) {
     visit_line = two_visit;
     look_up = two_lookup;
     tell_rank = two_rank;
+    add_line = two_add;
+    take_line = two_remove;
 }
 
 static void key_of(uint32_t line) { memcpy(&key, rows + line * RAPYHEO_RECORD_NUMBERS, sizeof key); }
@@ -201,6 +223,9 @@ static void orders(void) {
     ask(RAPYHEO_CALL_ADVANCE);
     ask(RAPYHEO_CALL_ABORT);
     ask(RAPYHEO_CALL_CLOSE);
+    key_of(LINES - 1); /* no order puts it */
+    measure(take_line);
+    measure(add_line);
     place = PLACES; /* the list has no such place: the sheets are looked at all the same */
     ask(RAPYHEO_CALL_ADVANCE);
     place = PLACE;
@@ -222,12 +247,14 @@ int main(void) {
     unmeasured = used(none);
     lay_out();
     measure(version);
-    measure(check);
+    if (measure(check) != 0) /* a refused sheet would be looked at no further */
+        return !!puts("the record sheet is refused");
     measure(begin);
     orders();
     lay_out();
     split();
-    measure(two_check);
+    if (measure(two_check) != 0)
+        return !!puts("the two sheets are refused");
     orders();
     const size_t on_one = most_of(table, ON_ONE), on_two = most_of(table + ON_ONE, ON_TWO);
     printf("most bytes of stack %7zu, on two sheets %zu\n", on_one, on_two);

@@ -124,8 +124,37 @@ static void keys(void) {
     expect("no key to visit", visit(outside), RAPYHEO_REFUSED + RAPYHEO_BAD_KEY);
 }
 
+static uint32_t add(rapyheo_key key, size_t plain_length) {
+    return rapyheo_two_add(plain, plain_length, bookkeeping, BOOKKEEPING, coordinator, COORDINATOR, key.storage, key.name_space, key.table,
+                           key.partition, key.clustering);
+}
+static uint32_t remove_line(rapyheo_key key) {
+    return rapyheo_two_remove(plain, PLAIN, bookkeeping, BOOKKEEPING, coordinator, COORDINATOR, key.storage, key.name_space, key.table,
+                              key.partition, key.clustering);
+}
+
+static void lines_come_and_go(void) {
+    const rapyheo_key missing = {2, 1, 1, 1, 2}, outside = {0, 1, 1, 1, 1};
+    uint8_t first_plain[PLAIN], first_bookkeeping[BOOKKEEPING];
+    memcpy(first_plain, plain, PLAIN);
+    memcpy(first_bookkeeping, bookkeeping, BOOKKEEPING);
+    expect("a key that has a line", add(capital, PLAIN), RAPYHEO_HAS_LINE);
+    expect("no spare", add(missing, PLAIN), RAPYHEO_NO_SPARE);
+    expect("no key to add", add(outside, PLAIN), RAPYHEO_BAD_KEY);
+    expect("sheets that differ", add(missing, RAPYHEO_PLAIN_BYTES), RAPYHEO_SHEETS_DIFFER);
+    expect("a COMMITTED line", remove_line(small), RAPYHEO_NOT_BLANK);
+    expect("no line to remove", remove_line(missing), RAPYHEO_NO_SUCH_KEY);
+    expect("removed", remove_line(capital), 0);
+    expect("a plain spare", plain[RAPYHEO_PLAIN_BYTES] == ' ' && plain[PLAIN - 1] == '\n' && plain[PLAIN - 2] == ' ', 1);
+    expect("and one beside it", bookkeeping[RAPYHEO_BOOKKEEPING_BYTES + 1] == ' ' && bookkeeping[BOOKKEEPING - 1] == '\n', 1);
+    expect("accepted", check(PLAIN, BOOKKEEPING, COORDINATOR), 0);
+    expect("added again", add(capital, PLAIN), 0);
+    expect("as they were", (uint64_t)!!memcmp(plain, first_plain, PLAIN) + !!memcmp(bookkeeping, first_bookkeeping, BOOKKEEPING), 0);
+}
+
 int main(void) {
     lengths();
+    lines_come_and_go();
     by_place();
     readings();
     keys();

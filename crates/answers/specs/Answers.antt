@@ -4,7 +4,7 @@ use Rattle.model.specs.Types.{Columns, Transaction, Recovery, Stays, Reading}
 use Rattle.types.specs.declared.Reading.the-variants.{Absent, Value, Again, First}
 use Rattle.model.specs.Images.{byRecovery}
 use Rattle.model.specs.Writes.{Sheets, Write}
-use Rattle.model.specs.Results.{Answer, turnedAway, returned, answered, visited, reported, heldAfter, Response, Result, refused, made}
+use Rattle.model.specs.Results.{Answer, turnedAway, returned, answered, visited, reported, acknowledged, heldAfter, Response, Result, refused, made}
 use Rattle.model.specs.Calls.{newTransaction}
 use Rattle.answers.specs.declared.Closed.{Closed}
 use Rattle.answers.specs.declared.Performed.{Performed}
@@ -38,6 +38,7 @@ recoveryIn (returned t) = Stays
 recoveryIn (answered v t) = Stays
 recoveryIn (visited v) = v
 recoveryIn (reported n t) = Stays
+recoveryIn acknowledged = Stays
 
 -- 0 stays, 1 forward, 2 back, 3 again. A busy line is refused and has no number of its own.
 abbrev pub replyNumber : Recovery → ℕ
@@ -83,6 +84,7 @@ replyIn (returned t) = 0
 replyIn (answered v t) = readingNumber v
 replyIn (visited v) = replyNumber v
 replyIn (reported n t) = n
+replyIn acknowledged = 0
 
 -- the columns that were read; of another answer, none
 abbrev pub columnsIn : Answer → Columns
@@ -91,6 +93,7 @@ columnsIn (returned t) = noColumns
 columnsIn (answered v t) = readingColumns v
 columnsIn (visited v) = noColumns
 columnsIn (reported n t) = noColumns
+columnsIn acknowledged = noColumns
 
 -- a refused call leaves the transaction that there was, a begin too
 abbrev pub performedNot : ℕ → Transaction → Performed

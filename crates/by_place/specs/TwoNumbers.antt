@@ -6,7 +6,7 @@ use Rattle.types.specs.declared.Reading.the-variants.{Absent, Value, Again, Fir
 use Rattle.model.specs.Refusals.{refusalOf, lastRefusal}
 use Rattle.model.specs.Writes.{Sheets, Write, apply}
 use Rattle.model.specs.Steps.{unitsOf}
-use Rattle.model.specs.Results.{Call, begin, read, second, put, advance, abort, visit, Answer, turnedAway, returned, answered, visited, reported, Response, Result, refused, made, unless}
+use Rattle.model.specs.Results.{Call, begin, read, second, put, advance, abort, visit, Answer, turnedAway, returned, answered, visited, reported, acknowledged, Response, Result, refused, made, unless}
 use Rattle.model.specs.TwoSpares.{twoConditions, formConditions}
 use Rattle.model.specs.Conditions.{conditions, isNew, takesTwo}
 use Rattle.model.specs.Visits.{meeting, isAgain}
@@ -41,6 +41,7 @@ replyTwo (returned t) = 0
 replyTwo (answered v t) = readingTwo v
 replyTwo (visited v) = replyIn (visited v)
 replyTwo (reported n t) = n
+replyTwo acknowledged = 0
 
 abbrev pub callNumberTwo : Response Answer Sheets → ℕ
 callNumberTwo r = asNumber replyTwo r

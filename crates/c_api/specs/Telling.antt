@@ -5,7 +5,7 @@ abbrev pub major : ℕ
 major = 2
 
 abbrev pub minor : ℕ
-minor = 2
+minor = 3
 
 abbrev pub patch : ℕ
 patch = 0

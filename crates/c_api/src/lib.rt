@@ -14,6 +14,7 @@ ghost use Rattle.by_place.specs.Asked.{asks, calledAtOn};
 ghost use Rattle.c_api.specs.ByPlace.{called};
 
 pub mod conversions;
+pub mod shifts;
 pub mod telling;
 pub mod two;
 

@@ -1,6 +1,6 @@
 -- What is known of two sheets once the check has let them pass, and what a call on such sheets answers and leaves, as one statement about its result: refused,
 -- or made with a write.
-use Rattle.lists.specs.Basics.{_≡_, refl, sym, ap, subst, _∙_, ℕ, _-_, _*_, _/_, _≤_, eqb, Bool, true, false, cond, List, [], _∷_, _++_, length, length-map, drop, drop-at, arith, leb-true, ne-eqb, all, and-fst}
+use Rattle.lists.specs.Basics.{_≡_, refl, sym, ap, subst, _∙_, ℕ, _-_, _*_, _/_, _≤_, eqb, Bool, true, false, cond, List, [], _∷_, _++_, length, length-map, drop, arith, leb-true, ne-eqb, all, and-fst}
 use Rattle.lists.specs.Basics.{and-snd}
 use lib.ListN.{take-append-drop}
 use Rattle.model.specs.Types.{Record}
@@ -11,16 +11,17 @@ use Rattle.model.specs.Coordinator.{Coordinator, coordinatorOf, coordinatorText
 use Rattle.model.specs.Refusals.{Condition, refusalOf}
 use Rattle.model.specs.SheetCalls.{checkConditions}
 use Rattle.model.specs.Writes.{Write, nothing, lineAfter, decisionsAfter, linesAfter, apply}
-use Rattle.model.specs.Results.{Call, Answer, Response, Result, refused, made, unless}
+use Rattle.model.specs.Results.{Call, shiftsLines, Answer, Response, Result, refused, made, unless, writeOf}
 use Rattle.model.specs.Calls.{result}
 use Rattle.model.specs.ByteCalls.{sheetsSaid, sheetText, resultOn, sheetAfter, coordinatorAfter, sheetsOf, recordsAfter}
 use Rattle.model.specs.ByteHistories.{Bytes}
 use Rattle.sheet_laws.specs.Records.{sheet-written-read}
-use Rattle.sheet_laws.specs.Fronts.{front-length, front-spares}
+use Rattle.sheet_laws.specs.Fronts.{front-tail}
 use Rattle.sheet_laws.specs.Spared.{accepted-whole, count-front, sheet-said}
 use Rattle.sheet_laws.specs.Coordinator.{coordinator-written-read}
 use Rattle.call_laws.specs.Choices.{hasNumber, not-first}
-use Rattle.call_laws.specs.Lines.{lines-mapped, lines-unmoved}
+use Rattle.call_laws.specs.Lines.{shifts, lines-mapped, lines-unmoved}
+use Rattle.call_laws.specs.SingleUnit.{made-shifts}
 use Rattle.call_laws.specs.Sheets.{GoodSheets, good-parts}
 use Rattle.call_laws.specs.Lifting.{passing-parts, passing-readable, LinesFit, lines-good, readable-lines}
 use Rattle.call_laws.specs.Sizes.{result-resized}
@@ -117,18 +118,12 @@ module _ (rs cs : List ℕ) (h : refusalOf (checkConditions rs cs) ≡ 0) where
   unfolding front
   front-back = take-append-drop (filledLines recordBytes rs * recordBytes) rs
 
-  tail : drop (filledLines recordBytes rs * recordBytes) rs ≡ sparesText recordBytes (length rs / recordBytes - filledLines recordBytes rs)
-  tail =
-      ap (drop (filledLines recordBytes rs * recordBytes)) (sym (front-spares recordBytes (omega arith) rs (accepted-whole rs sheet)))
-      ∙ drop-at (recordLines rs) (sparesText recordBytes (length rs / recordBytes - filledLines recordBytes rs)) (filledLines recordBytes rs * recordBytes)
-      (front-length recordBytes (omega arith) rs (accepted-whole rs sheet))
-
   -- as many records as they were
   pub front-text : (ys : List Record) → length ys ≡ length (records (recordLines rs)) → ended (recordsText ys) ≡ sheetFor ys (length rs / recordBytes)
   unfolding sheetFor
   front-text ys e =
       ap (λ (t : List ℕ). recordsText ys ++ t)
-      (tail ∙ ap (λ (n : ℕ). sparesText recordBytes (length rs / recordBytes - n)) (sym (e ∙ count-front rs sheet)))
+      (front-tail recordBytes (omega arith) rs (accepted-whole rs sheet) ∙ ap (λ (n : ℕ). sparesText recordBytes (length rs / recordBytes - n)) (sym (e ∙ count-front rs sheet)))
 
 -- The answer and the bytes of both sheets are those of a result.
 pub record SheetOutcome {B : Type 0} (f : Result Answer → B) (result : Result Answer) (rs cs : List ℕ) (answer : B) (rs′ cs′ : List ℕ) : Type 0 where
@@ -137,11 +132,11 @@ pub record SheetOutcome {B : Type 0} (f : Result Answer → B) (result : Result 
   pub decisions : cs′ ≡ coordinatorAfter rs cs result
 
 -- a call on both sheets is that on the lines of records
-pub on-lines : (c : Call) (rs cs : List ℕ) → refusalOf (checkConditions rs cs) ≡ 0 → resultOn c rs cs ≡ result c (sheetsOf (recordLines rs) cs)
+pub on-lines : (c : Call) (rs cs : List ℕ) → shiftsLines c ≡ false → refusalOf (checkConditions rs cs) ≡ 0 → resultOn c rs cs ≡ result c (sheetsOf (recordLines rs) cs)
 unfolding resultOn
-on-lines c rs cs e = unless-free (checkConditions rs cs) (result c (sheetsSaid rs cs)) e ∙ result-resized (length rs / recordBytes) c (sheetsOf (recordLines rs) cs)
+on-lines c rs cs h e = unless-free (checkConditions rs cs) (result c (sheetsSaid rs cs)) e ∙ result-resized (length rs / recordBytes) c (sheetsOf (recordLines rs) cs) h
 
--- Every call: refused by the check, or what it comes to on the lines of records.
+-- Every call: refused by the check, or what it comes to on the lines of records, unless it adds or removes one.
 module _ {B : Type 0} (f : Result Answer → B) (c : Call) (rs cs : List ℕ) {answer : B} where
   pub turned-away : (n : ℕ) → n ≡ refusalOf (checkConditions rs cs) → (n ≡ 0 → ⊥) → answer ≡ f (refused n) → SheetOutcome f (resultOn c rs cs) rs cs answer rs cs
   unfolding resultOn sheetAfter coordinatorAfter
@@ -149,36 +144,36 @@ module _ {B : Type 0} (f : Result Answer → B) (c : Call) (rs cs : List ℕ) {a
       let r : resultOn c rs cs ≡ refused n = unless-held (checkConditions rs cs) (result c (sheetsSaid rs cs)) n (sym e) z in
       record { said = a ∙ ap f (sym r); sheet = ap (sheetAfter rs cs) (sym r); decisions = ap (coordinatorAfter rs cs) (sym r) }
 
-  pub let-pass : {ls′ cs′ : List ℕ} → refusalOf (checkConditions rs cs) ≡ 0 → Outcome f (result c (sheetsOf (recordLines rs) cs)) (recordLines rs) cs answer ls′ cs′
+  pub let-pass : {ls′ cs′ : List ℕ} → shiftsLines c ≡ false → refusalOf (checkConditions rs cs) ≡ 0 → Outcome f (result c (sheetsOf (recordLines rs) cs)) (recordLines rs) cs answer ls′ cs′
       → SheetOutcome f (resultOn c rs cs) rs cs answer (ls′ ++ drop (filledLines recordBytes rs * recordBytes) rs) cs′
-  let-pass {ls′} {cs′} e h =
-      subst (λ (r : Result Answer). SheetOutcome f r rs cs answer (ended rs cs e ls′) cs′) (sym (on-lines c rs cs e))
+  let-pass {ls′} {cs′} n e h =
+      subst (λ (r : Result Answer). SheetOutcome f r rs cs answer (ended rs cs e ls′) cs′) (sym (on-lines c rs cs n e))
       (record {
         said = h .said;
-        sheet = ap (ended rs cs e) (h .lines) ∙ left (result c (sheetsOf (recordLines rs) cs));
+        sheet = ap (ended rs cs e) (h .lines) ∙ left (result c (sheetsOf (recordLines rs) cs)) (made-shifts c (sheetsOf (recordLines rs) cs) n);
         decisions = h .decisions ∙ same (result c (sheetsOf (recordLines rs) cs));
       })
     where
-      left : (r : Result Answer) → ended rs cs e (recordsAfter (recordLines rs) cs r) ≡ sheetAfter rs cs r
-      left (refused n) = unfold recordsAfter sheetAfter in front-back rs cs e
-      left (made a w) =
+      left : (r : Result Answer) → shifts (writeOf r) ≡ false → ended rs cs e (recordsAfter (recordLines rs) cs r) ≡ sheetAfter rs cs r
+      left (refused n) q = unfold recordsAfter sheetAfter in front-back rs cs e
+      left (made a w) q =
           unfold recordsAfter sheetAfter apply in
           front-text rs cs e (linesAfter w (records (recordLines rs)))
-          (ap length (lines-mapped w (records (recordLines rs))) ∙ length-map (records (recordLines rs)) (lineAfter w))
+          (ap length (lines-mapped w (records (recordLines rs)) q) ∙ length-map (records (recordLines rs)) (lineAfter w))
 
       same : (r : Result Answer) → coordinatorAfter (recordLines rs) cs r ≡ coordinatorAfter rs cs r
       same (refused n) = unfold coordinatorAfter in refl
       same (made a w) = unfold coordinatorAfter apply in refl
 
-  pub passed-answer : refusalOf (checkConditions rs cs) ≡ 0 → answer ≡ f (result c (sheetsOf (recordLines rs) cs)) → answer ≡ f (resultOn c rs cs)
-  passed-answer e h = h ∙ ap f (sym (on-lines c rs cs e))
+  pub passed-answer : shiftsLines c ≡ false → refusalOf (checkConditions rs cs) ≡ 0 → answer ≡ f (result c (sheetsOf (recordLines rs) cs)) → answer ≡ f (resultOn c rs cs)
+  passed-answer n e h = h ∙ ap f (sym (on-lines c rs cs n e))
 
 -- Writes that leave a sheet alone.
 
 module _ (rs cs : List ℕ) (a : Accepted rs cs) (w : Write) where
-  pub lines-kept : ((r : Record) → lineAfter w r ≡ r) → rs ≡ recordsText (apply w (sheetsOf rs cs) .lines)
+  pub lines-kept : shifts w ≡ false → ((r : Record) → lineAfter w r ≡ r) → rs ≡ recordsText (apply w (sheetsOf rs cs) .lines)
   unfolding apply
-  lines-kept h = sym (ap recordsText (lines-unmoved w h (records rs)) ∙ sheet-written-read rs (a .lines))
+  lines-kept q h = sym (ap recordsText (lines-unmoved w q h (records rs)) ∙ sheet-written-read rs (a .lines))
 
   pub decisions-kept : ((c : Coordinator) → decisionsAfter w c ≡ c) → cs ≡ coordinatorText (apply w (sheetsOf rs cs) .coordinator)
   unfolding apply
@@ -188,14 +183,14 @@ module _ (rs cs : List ℕ) (a : Accepted rs cs) where
   pub written-nothing : Written nothing rs cs rs cs
   unfolding lineAfter decisionsAfter
   written-nothing =
-      record { lines = lines-kept rs cs a nothing (λ r. refl); decisions = decisions-kept rs cs a nothing (λ c. refl) }
+      record { lines = lines-kept rs cs a nothing refl (λ r. refl); decisions = decisions-kept rs cs a nothing (λ c. refl) }
 
 -- and of both sheets
 module _ (rs cs : List ℕ) (h : refusalOf (checkConditions rs cs) ≡ 0) (w : Write) where
-  pub sheet-kept : ((r : Record) → lineAfter w r ≡ r) → sheetText (apply w (sheetsSaid rs cs)) ≡ rs
+  pub sheet-kept : shifts w ≡ false → ((r : Record) → lineAfter w r ≡ r) → sheetText (apply w (sheetsSaid rs cs)) ≡ rs
   unfolding apply
-  sheet-kept k =
-      ap (λ (ls : List Record). sheetFor ls (length rs / recordBytes)) (lines-unmoved w k (records (recordLines rs)))
+  sheet-kept q k =
+      ap (λ (ls : List Record). sheetFor ls (length rs / recordBytes)) (lines-unmoved w q k (records (recordLines rs)))
       ∙ sheet-said rs (passing-parts (record { records = rs; coordinator = cs }) h .0)
 
   pub coordinator-kept : ((c : Coordinator) → decisionsAfter w c ≡ c) → coordinatorText (apply w (sheetsSaid rs cs) .coordinator) ≡ cs

@@ -13,11 +13,23 @@ use Rattle.model.specs.Conditions.{conditions}
 use Rattle.model.specs.Closing.{closeConditions}
 use Rattle.model.specs.ByteCalls.{sheetsSaid}
 use Rattle.model.specs.ByteHistories.{Bytes}
-use Rattle.model.specs.Operations.{operationConditions, response, responseOn, sheetLeft, coordinatorLeft, bytesLeft}
+use Rattle.model.specs.Operations.{operationShifts, operationConditions, response, responseOn, sheetLeft, coordinatorLeft, bytesLeft}
 use Rattle.model.specs.Requests.{operationOf}
 use Rattle.model.specs.CallByPlace.{listed, named, operationAt, placeConditions, allConditionsAt, responseAt, responseAtOn, listAfter}
 use Rattle.call_laws.specs.Exactness.{Sound, sound-unless, sound-on, when-refused, refusal-then, risingFrom, row-first}
 use Rattle.call_laws.specs.Operations.{response-refusal, response-sound}
+
+-- what is asked by place neither adds nor removes a line
+pub request-calm : (q : Request) (t : Transaction) → operationShifts (operationOf q t) ≡ false
+unfolding operationOf
+request-calm (asked.Begin b) t = refl
+request-calm (asked.Read k now) t = refl
+request-calm (asked.Second k now c) t = refl
+request-calm (asked.Put k c) t = refl
+request-calm (asked.Advance now) t = refl
+request-calm asked.Abort t = refl
+request-calm (asked.Visit k now) t = refl
+request-calm (asked.Close now limit) t = refl
 
 -- the transaction that is left with the client: as it came where the operation is refused
 abbrev pub leftWith : {E : Type 0} → Transaction → Response Answer E → Transaction

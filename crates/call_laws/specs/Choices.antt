@@ -9,7 +9,7 @@ use Rattle.model.specs.Transactions.{byPhase, reading, entryAs}
 use Rattle.model.specs.Images.{isPrepared, byDecision, recovery}
 use Rattle.model.specs.Writes.{Sheets, Write, nothing}
 use Rattle.model.specs.Visits.{meeting, isAgain, recovered, recoveryWrite}
-use Rattle.model.specs.Results.{Call, begin, read, second, put, advance, abort, visit, Answer, answered, Response, Result, refused, made, unless, writeOf}
+use Rattle.model.specs.Results.{Call, begin, read, second, put, advance, abort, visit, add, remove, Answer, answered, Response, Result, refused, made, unless, writeOf}
 use Rattle.model.specs.Conditions.{isNew, heldEntry, conditions}
 use Rattle.model.specs.Calls.{readHeld, readNew, holding, wholeRead, outcome, result}
 use Rattle.model.specs.Histories.{written}
@@ -91,6 +91,8 @@ conditions-numbered (put t k c) s = refl
 conditions-numbered (advance t now) s = refl
 conditions-numbered (abort t) s = refl
 conditions-numbered (visit k now) s = refl
+conditions-numbered (add k) s = refl
+conditions-numbered (remove k) s = refl
 
 -- of a call that is accepted
 pub accepted : (n : ℕ) (c : Call) (s : Sheets) → refusalOf (conditions c s) ≡ 0 → testOf n (conditions c s) ≡ false

@@ -11,11 +11,11 @@ use Rattle.model.specs.Coordinator.{Letter, withIssued}
 use Rattle.model.specs.Groups.{isLower}
 use Rattle.model.specs.Transactions.{withdrawPhase, noVerdict, held, noEntry, heldAt, entryAs, withPut, moved, withEntry}
 use Rattle.model.specs.Images.{isAbsent, isPrepared, rolledForward}
-use Rattle.model.specs.Writes.{Sheets, sheetsGood, nothing, issue, decisionsAfter, apply}
+use Rattle.model.specs.Writes.{Sheets, sheetsGood, Write, nothing, issue, addLine, removeLine, decisionsAfter, apply}
 use Rattle.model.specs.WellFormed.{columnsInRange, imageInRange, putFits, entryFormed, distinctKeys, placeFormed, verdictFormed, wellFormed}
 use Rattle.model.specs.Visits.{meeting, isAgain, isBusy, recovered, recoveryWrite}
 use Rattle.model.specs.Refusals.{refusalOf}
-use Rattle.model.specs.Results.{Call, begin, read, second, put, advance, abort, visit, returned, returns}
+use Rattle.model.specs.Results.{Call, begin, read, second, put, advance, abort, visit, add, remove, returned, acknowledged, made, returns}
 use Rattle.model.specs.Conditions.{isNew, takesTwo, heldEntry, busy, cannotAbort, conditions}
 use Rattle.model.specs.Steps.{unitsOf, step}
 use Rattle.model.specs.Calls.{newTransaction, seenSecond, holding, wholeRead, afterPut, outcome, result}
@@ -27,7 +27,8 @@ use Rattle.call_laws.specs.Keys.{hasKey}
 use Rattle.call_laws.specs.Ranges.{GoodParts}
 use Rattle.call_laws.specs.Images.{back-plain, version-some, when-settled, forward-fine, back-fine}
 use Rattle.call_laws.specs.Lines.{line-of-key}
-use Rattle.call_laws.specs.Sheets.{GoodSheets, good-parts, parts-good, Fit, fit-nothing, fit-issue, fit-decide, fit-forward, fit-back, write-closed}
+use Rattle.call_laws.specs.Sheets.{GoodSheets, good-parts, parts-good, Fit, fit-nothing, fit-issue, fit-decide, fit-forward, fit-back, fit-add, fit-remove, write-closed}
+use Rattle.call_laws.specs.Adding.{may-add, may-remove}
 use Rattle.call_laws.specs.Transactions.{Body, Stage, parts-well-formed, body-moved, verdict-at, to-withdraw}
 use Rattle.call_laws.specs.Steps.{Closed, step-closed}
 use Rattle.call_laws.specs.Entries.{getD-first, all-more, all-replaced, distinct-more, distinct-replaced}
@@ -289,6 +290,20 @@ module _ (s : Sheets) (good : GoodSheets s) where
       keeps-made s (returned (afterPut t k c)) nothing (afterPut t k c) refl fit-nothing
       (put-formed t (p .0) c k (p .1) ph (not-false (columnsInRange c) c7) c11)
 
+-- Adding and removing, which return no transaction.
+
+free-keeps : (s : Sheets) (w : Write) → Fit s w → Keeps s (made acknowledged w)
+unfolding returns
+free-keeps s w f = record { fits = f; formed = λ t e. absurd (Option·none-ne-some t e) }
+
+add-keeps : (s : Sheets) (k : Key) → refusalOf (conditions (add k) s) ≡ 0 → Keeps s (outcome (add k) s)
+unfolding outcome
+add-keeps s k z = free-keeps s (addLine k) (fit-add k (may-add k s z))
+
+remove-keeps : (s : Sheets) (k : Key) → refusalOf (conditions (remove k) s) ≡ 0 → Keeps s (outcome (remove k) s)
+unfolding outcome
+remove-keeps s k z = free-keeps s (removeLine k) (fit-remove k (may-remove k s z))
+
 -- Every call.
 
 accepted-keeps : (c : Call) (s : Sheets) → GoodSheets s → ClockFits c → refusalOf (conditions c s) ≡ 0 → Keeps s (outcome c s)
@@ -299,6 +314,8 @@ accepted-keeps (put t k c) s g l = put-keeps s g t k c
 accepted-keeps (advance t now) s g l = advance-keeps s g t now l
 accepted-keeps (abort t) s g l = abort-keeps s g t
 accepted-keeps (visit k now) s g l = visit-keeps s g k now
+accepted-keeps (add k) s g l = add-keeps s k
+accepted-keeps (remove k) s g l = remove-keeps s k
 
 kept : (c : Call) (s : Sheets) → GoodSheets s → ClockFits c → Keeps s (result c s)
 unfolding result

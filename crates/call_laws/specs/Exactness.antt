@@ -8,7 +8,7 @@ use Rattle.model.specs.SheetCalls.{checkConditions}
 use Rattle.model.specs.Types.{Key, Image, Record, Transaction}
 use Rattle.model.specs.Writes.{Sheets, Write}
 use Rattle.model.specs.Steps.{unitsOf}
-use Rattle.model.specs.Results.{Call, begin, read, second, put, advance, abort, visit, Answer, refusalIn, Response, Result, refused, made, answerOf}
+use Rattle.model.specs.Results.{Call, begin, read, second, put, advance, abort, visit, add, remove, Answer, refusalIn, Response, Result, refused, made, answerOf}
 use Rattle.model.specs.Results.{unless}
 use Rattle.model.specs.Conditions.{takesTwo, conditions, refusals}
 use Rattle.model.specs.Calls.{wholeRead, outcome, result}
@@ -83,6 +83,8 @@ numbers-are (put t k c) rs cs = refl
 numbers-are (advance t now) rs cs = refl
 numbers-are (abort t) rs cs = refl
 numbers-are (visit k now) rs cs = refl
+numbers-are (add k) rs cs = refl
+numbers-are (remove k) rs cs = refl
 
 -- beside a record sheet a row rises, so that the first that applies is the lowest
 pub rows-rise : (call : Call) → risingFrom 1 (refusals call) ≡ true
@@ -94,6 +96,8 @@ rows-rise (put t k c) = refl
 rows-rise (advance t now) = refl
 rows-rise (abort t) = refl
 rows-rise (visit k now) = refl
+rows-rise (add k) = refl
+rows-rise (remove k) = refl
 
 -- a row: its numbers are of the table, in the order of asking
 abbrev rowInOrder : List ℕ → Bool
@@ -108,6 +112,8 @@ row-in-order (put t k c) = refl
 row-in-order (advance t now) = refl
 row-in-order (abort t) = refl
 row-in-order (visit k now) = refl
+row-in-order (add k) = refl
+row-in-order (remove k) = refl
 
 -- what a row says of the conditions that have its numbers
 module _ (cs : List Condition) (h : rowInOrder (numbers cs) ≡ true) where
@@ -192,6 +198,8 @@ outcome-made (put t k c) s = is-made _ _ refl
 outcome-made (advance t now) s = is-made _ _ refl
 outcome-made (abort t) s = is-made _ _ refl
 outcome-made (visit k now) s = is-made _ _ refl
+outcome-made (add k) s = is-made _ _ refl
+outcome-made (remove k) s = is-made _ _ refl
 
 outcome-accepts : (c : Call) (s : Sheets) → refusalIn (answerOf (outcome c s)) ≡ 0
 outcome-accepts c s = go (outcome c s) (outcome-made c s)
@@ -218,6 +226,8 @@ conditions-small (put t k c) s = refl
 conditions-small (advance t now) s = refl
 conditions-small (abort t) s = refl
 conditions-small (visit k now) s = refl
+conditions-small (add k) s = refl
+conditions-small (remove k) s = refl
 
 pub decoded-sound : (call : Call) (s : Sheets) → Sound (result call s)
 unfolding result

@@ -1,12 +1,13 @@
 -- A record that keeps the rules keeps them when it is prepared, committed in one phase, rolled forward or back; and what rolling a prepared record gives.
 -- Each goes part by part, the rule of the new state from that of the old.
 use Rattle.lists.specs.Basics.{_≡_, refl, sym, ap, _∙_, ℕ, _+_, _≤_, eqb, leb, Bool, true, false, _||_, cond, true≢false, arith, eqb-true, eqb-false, leb-true}
-use Rattle.lists.specs.Basics.{eq-eqb, ne-eqb, le-leb, and-both, choose-by, tests, or-else, or-right}
+use Rattle.lists.specs.Basics.{eq-eqb, ne-eqb, le-leb, and-fst, and-both, choose-by, tests, or-else, or-right}
 use Rattle.model.specs.Types.{Key, Image, Record, State}
 use Rattle.types.specs.declared.State.the-variants.{Absent, Committed, Prepared}
-use Rattle.model.specs.Records.{byState, isZero, absentRule, committedRule, preparedRule, stateRule, noImage}
+use Rattle.model.specs.Records.{byState, isZero, absentRule, committedRule, preparedRule, stateRule, noImage, absentAt}
 use Rattle.model.specs.Images.{isAbsent, isPrepared, Change, writtenImage, prepared, committed, rolledForward, beforeState, rolledBack}
 use Rattle.model.specs.WellFormed.{imageInRange, columnsInRange}
+use Rattle.model.specs.Conditions.{isBlank}
 use Rattle.call_laws.specs.Ranges.{GoodParts, image-ranged, zeros-ranged}
 
 -- The rule of a state, from the record's.
@@ -155,6 +156,20 @@ zero-is m h =
     let a : m .column1 ≡ 0 = search tests in
     let b : m .column2 ≡ 0 = search tests in
     λ i. record { version = v i; txid = n i; column1 = a i; column2 = b i }
+
+-- a blank record is the ABSENT line of its key
+pub blank-is : (r : Record) → stateRule r ≡ true → isBlank r ≡ true → r ≡ absentAt (r .key)
+unfolding isBlank absentRule
+blank-is r = λ h b. go (r .state) refl h (and-fst (isAbsent r) (eqb (r .image .version) 0) b)
+  where
+    go : (x : State) → r .state ≡ x → byState x (absentRule r) (committedRule r) (preparedRule r) ≡ true → byState x true false false ≡ true → r ≡ absentAt (r .key)
+    go Absent e h a =
+        let m : isZero (r .image) ≡ true = search tests in
+        let z : isZero (r .before) ≡ true = search tests in
+        let c : r .clock ≡ 0 = search tests in
+        λ i. record { key = r .key; state = e i; image = zero-is (r .image) m i; before = zero-is (r .before) z i; clock = c i }
+    go Committed e h a = absurd (true≢false (sym a))
+    go Prepared e h a = absurd (true≢false (sym a))
 
 -- a record that isn't prepared has no before image and no clock, and its state tells whether it has a version
 record Settled (r : Record) : Type 0 where

@@ -7,7 +7,7 @@ use Rattle.model.specs.Records.{sameKey, hasLine, lineOf}
 use Rattle.model.specs.Coordinator.{Letter, Coordinator, withIssued}
 use Rattle.model.specs.Refusals.{Condition, refuse, refusalOf}
 use Rattle.model.specs.Transactions.{held, heldAt, withEntry}
-use Rattle.model.specs.Writes.{Sheets, Write, nothing, issue, decide, commit, prepare, forward, back, decisionsAfter, apply}
+use Rattle.model.specs.Writes.{Sheets, Write, nothing, issue, decide, commit, prepare, forward, back, addLine, removeLine, decisionsAfter, apply}
 use Rattle.model.specs.WellFormed.{entryFormed, placeFormed, verdictFormed, wellFormed}
 use Rattle.model.specs.Results.{Result, refused, made, writeOf, Answer, returns, answerOf}
 use Rattle.model.specs.Conditions.{isNew}
@@ -15,10 +15,9 @@ use Rattle.model.specs.Steps.{unitsOf}
 use Rattle.sheet_laws.specs.Search.{some-found}
 use Rattle.call_laws.specs.Choices.{not-first}
 use Rattle.call_laws.specs.Keys.{hasKey}
-use Rattle.call_laws.specs.Ranges.{GoodParts, fine, fine-parts}
+use Rattle.call_laws.specs.Ranges.{GoodParts}
 use Rattle.sheet_laws.specs.KeyOrder.{has-line}
-use Rattle.call_laws.specs.Lines.{line-passes}
-use Rattle.call_laws.specs.Sheets.{GoodSheets, Fit, fit-nothing, decided-issued, decided-units}
+use Rattle.call_laws.specs.Sheets.{GoodSheets, listed-good, Fit, fit-nothing, decided-issued, decided-units}
 use Rattle.call_laws.specs.Transactions.{Body, Stage, well-formed-parts, parts-well-formed, place-at, verdict-at, stage-open}
 
 -- What a write leaves of a transaction's rules.
@@ -32,6 +31,8 @@ issued-grows (commit n es) c = omega arith
 issued-grows (prepare n now es) c = omega arith
 issued-grows (forward n ks) c = omega arith
 issued-grows (back n ks) c = omega arith
+issued-grows (addLine k) c = omega arith
+issued-grows (removeLine k) c = omega arith
 
 -- units are fixed
 pub units-kept : (w : Write) (c : Coordinator) → decisionsAfter w c .units ≡ c .units
@@ -43,6 +44,8 @@ units-kept (commit n es) c = refl
 units-kept (prepare n now es) c = refl
 units-kept (forward n ks) c = refl
 units-kept (back n ks) c = refl
+units-kept (addLine k) c = refl
+units-kept (removeLine k) c = refl
 
 entry-later : (i j : ℕ) → i ≤ j → (e : Entry) → entryFormed i e ≡ true → entryFormed j e ≡ true
 unfolding entryFormed
@@ -97,8 +100,7 @@ taken-parts s t cs z = well-formed-parts s t (not-false (wellFormed s t) (not-fi
 -- the line of a key is a good one
 pub line-good : (s : Sheets) → GoodSheets s → (k : Key) → hasLine k (s .lines) ≡ true → GoodParts (s .coordinator .issued) (lineOf k (s .lines))
 line-good s good k h =
-    fine-parts (s .coordinator .issued) (lineOf k (s .lines))
-    (line-passes (fine (s .coordinator .issued)) k (s .lines) (good .fine-lines) (sym (has-line k (s .lines)) ∙ h))
+    listed-good s good k (sym (has-line k (s .lines)) ∙ h)
 
 pub less-than-eight : (n : ℕ) → leb 8 n ≡ false → n < 8
 less-than-eight n h = leb-false 8 n h

@@ -1,5 +1,6 @@
 -- Theorems about the calls.
 pub mod Choices
+pub mod Adding
 pub mod Exactness
 pub mod Keys
 pub mod Groups
@@ -19,7 +20,10 @@ pub mod Sizes
 pub mod Accepted
 pub mod Lent
 pub mod Operations
+pub mod StandingKeys
 pub mod ByPlace
 pub mod Moved
+pub mod PutIn
 pub mod ByteUnits
+pub mod Undoing
 pub mod Told

@@ -175,7 +175,7 @@ same-answer c b h = ap answerOf (same-result c b h)
 
 pub apply-nothing : (s : Sheets) → apply nothing s ≡ s
 unfolding apply lineAfter decisionsAfter
-apply-nothing s = λ i. record { lines = lines-unmoved nothing (λ x. refl) (s .lines) i; size = s .size; coordinator = s .coordinator }
+apply-nothing s = λ i. record { lines = lines-unmoved nothing refl (λ x. refl) (s .lines) i; size = s .size; coordinator = s .coordinator }
 
 -- readable bytes are those of the sheets that they say
 pub readable-encoded : (b : Bytes) → Readable b → encoded (saying b) ≡ b

@@ -1,12 +1,13 @@
--- Lines by their keys: a write keeps keys, so that order and look-up stay; on a sheet in order the line of a record's key is that record.
+-- Lines by their keys: a write that shifts none keeps keys, so that order and look-up stay; on a sheet in order the line of a record's key is that record.
 use Rattle.lists.specs.Basics.{_≡_, refl, sym, ap, ap₂, _∙_, ℕ, Bool, true, false, _&&_, _||_, cond, true≢false, List, [], _∷_, map, Option, none, some, all}
-use Rattle.lists.specs.Basics.{any, and-fst, and-snd, and-both, choose-by, or-left, or-right, or-fst, or-snd}
+use Rattle.lists.specs.Basics.{any, and-fst, and-snd, and-both, choose-by, or-left, or-right}
 use Rattle.lists.specs.All.{map-unmoved}
 use Rattle.model.specs.Types.{Key, Record, Decision, Entry}
-use Rattle.model.specs.Records.{keyLess, inOrder, rising, sameKey, hasLine, absentAt, lineOf}
+use Rattle.model.specs.Records.{keyLess, inOrder, rising, sameKey, keysIn, absentAt, lineOf}
 use Rattle.model.specs.Images.{preparedBy, prepared, committed, rolledForward, rolledBack, changeOf}
-use Rattle.model.specs.Writes.{Write, nothing, issue, decide, commit, prepare, forward, back, entryFor, byEntry, isOf, lineAfter, linesAfter}
-use Rattle.sheet_laws.specs.KeyOrder.{same-key, same-key-refl, listsKey, has-line, apart}
+use Rattle.model.specs.Writes.{Write, nothing, issue, decide, commit, prepare, forward, back, addLine, removeLine, entryFor, byEntry, isOf, lineAfter, inserted, without, shifted, linesAfter}
+use Rattle.sheet_laws.specs.AddedLines.{line-after-adding, line-after-removing}
+use Rattle.sheet_laws.specs.KeyOrder.{same-key, same-key-refl, listsKey, unlisted, apart}
 
 -- Keys are kept.
 
@@ -14,7 +15,7 @@ entry-key : (o : Option Entry) (r : Record) (f : Entry → Record) → ((e : Ent
 entry-key none r f h = refl
 entry-key (some e) r f h = h e
 
--- "Keys are fixed when the sheet is laid out."
+-- no write changes the key of a line
 pub line-key : (w : Write) (r : Record) → lineAfter w r .key ≡ r .key
 unfolding lineAfter prepared committed rolledForward rolledBack
 line-key nothing r = refl
@@ -23,6 +24,8 @@ line-key (decide n d) r = refl
 line-key (commit n es) r = entry-key (entryFor (r .key) es) r (λ (e : Entry). committed n (changeOf e) r) (λ e. refl)
 line-key (prepare n now es) r = entry-key (entryFor (r .key) es) r (λ (e : Entry). prepared n now (changeOf e) r) (λ e. refl)
 line-key (forward n ks) r = choose-by (λ (x : Record). x .key ≡ r .key) (isOf n ks r) (λ e. refl) (λ e. refl)
+line-key (addLine k) r = refl
+line-key (removeLine k) r = refl
 line-key (back n ks) r = choose-by (λ (x : Record). x .key ≡ r .key) (isOf n ks r) (λ e. refl) (λ e. refl)
 
 module _ (f : Record → Record) (kept : (r : Record) → f r .key ≡ r .key) where
@@ -41,9 +44,6 @@ module _ (f : Record → Record) (kept : (r : Record) → f r .key ≡ r .key) w
   lists-kept k [] = refl
   lists-kept k (r ∷ rs) = ap₂ _||_ (ap (λ (x : Key). sameKey x k) (kept r)) (lists-kept k rs)
 
-  pub has-line-kept : (k : Key) (rs : List Record) → hasLine k (map f rs) ≡ hasLine k rs
-  has-line-kept k rs = has-line k (map f rs) ∙ (lists-kept k rs ∙ sym (has-line k rs))
-
   -- the line of a key that has one, after a map that keeps keys
   pub line-mapped : (k : Key) (rs : List Record) → listsKey k rs ≡ true → lineOf k (map f rs) ≡ f (lineOf k rs)
   unfolding lineOf any
@@ -57,47 +57,62 @@ module _ (f : Record → Record) (kept : (r : Record) → f r .key ≡ r .key) w
 
 -- A write, by key.
 
-pub lines-mapped : (w : Write) (rs : List Record) → linesAfter w rs ≡ map (lineAfter w) rs
-unfolding linesAfter
-lines-mapped w rs = refl
+-- it puts a line in or takes one out, so that others shift
+abbrev pub shifts : Write → Bool
+shifts nothing = false
+shifts issue = false
+shifts (decide n d) = false
+shifts (commit n es) = false
+shifts (prepare n now es) = false
+shifts (forward n ks) = false
+shifts (back n ks) = false
+shifts (addLine k) = true
+shifts (removeLine k) = true
 
-pub lists-after : (w : Write) (k : Key) (rs : List Record) → listsKey k (linesAfter w rs) ≡ listsKey k rs
-unfolding linesAfter
-lists-after w k rs = lists-kept (lineAfter w) (line-key w) k rs
+-- any other write goes line by line
+pub lines-mapped : (w : Write) (rs : List Record) → shifts w ≡ false → linesAfter w rs ≡ map (lineAfter w) rs
+unfolding linesAfter shifted
+lines-mapped nothing rs h = refl
+lines-mapped issue rs h = refl
+lines-mapped (decide n d) rs h = refl
+lines-mapped (commit n es) rs h = refl
+lines-mapped (prepare n now es) rs h = refl
+lines-mapped (forward n ks) rs h = refl
+lines-mapped (back n ks) rs h = refl
+lines-mapped (addLine k) rs h = absurd (true≢false h)
+lines-mapped (removeLine k) rs h = absurd (true≢false h)
 
-pub has-line-after : (w : Write) (k : Key) (rs : List Record) → hasLine k (linesAfter w rs) ≡ hasLine k rs
-unfolding linesAfter
-has-line-after w k rs = has-line-kept (lineAfter w) (line-key w) k rs
+pub lines-added : (k : Key) (rs : List Record) → linesAfter (addLine k) rs ≡ inserted k rs
+unfolding linesAfter shifted lineAfter
+lines-added k rs = ap (inserted k) (map-unmoved (λ (r : Record). r) (λ r. refl) rs)
 
-pub rising-after : (w : Write) (rs : List Record) → rising (linesAfter w rs) ≡ rising rs
-unfolding linesAfter
-rising-after w rs = rising-kept (lineAfter w) (line-key w) rs
+pub lines-removed : (k : Key) (rs : List Record) → linesAfter (removeLine k) rs ≡ without k rs
+unfolding linesAfter shifted lineAfter
+lines-removed k rs = ap (without k) (map-unmoved (λ (r : Record). r) (λ r. refl) rs)
 
-pub lines-unmoved : (w : Write) → ((r : Record) → lineAfter w r ≡ r) → (rs : List Record) → linesAfter w rs ≡ rs
-unfolding linesAfter
-lines-unmoved w h rs = map-unmoved (lineAfter w) h rs
+pub lists-after : (w : Write) (k : Key) (rs : List Record) → shifts w ≡ false → listsKey k (linesAfter w rs) ≡ listsKey k rs
+lists-after w k rs h = ap (listsKey k) (lines-mapped w rs h) ∙ lists-kept (lineAfter w) (line-key w) k rs
 
-pub keys-after : (w : Write) (rs : List Record) → map (λ (r : Record). r .key) (linesAfter w rs) ≡ map (λ (r : Record). r .key) rs
-unfolding linesAfter
-keys-after w [] = refl
-keys-after w (r ∷ rs) = ap₂ _∷_ (line-key w r) (keys-after w rs)
+pub rising-after : (w : Write) (rs : List Record) → shifts w ≡ false → rising (linesAfter w rs) ≡ rising rs
+rising-after w rs h = ap rising (lines-mapped w rs h) ∙ rising-kept (lineAfter w) (line-key w) rs
 
--- a key without a line counts as an ABSENT line of version 0
-pub unlisted : (k : Key) (rs : List Record) → listsKey k rs ≡ false → lineOf k rs ≡ absentAt k
-unfolding lineOf any
-unlisted k [] h = refl
-unlisted k (r ∷ rs) h =
-    ap (λ (b : Bool). cond b r (lineOf k rs)) (or-fst (sameKey (r .key) k) (listsKey k rs) h)
-    ∙ unlisted k rs (or-snd (sameKey (r .key) k) (listsKey k rs) h)
+pub lines-unmoved : (w : Write) → shifts w ≡ false → ((r : Record) → lineAfter w r ≡ r) → (rs : List Record) → linesAfter w rs ≡ rs
+lines-unmoved w s h rs = lines-mapped w rs s ∙ map-unmoved (lineAfter w) h rs
 
--- a write that leaves keys without a line as they are
-abbrev pub Still : List Record → Write → Type 0
-Still rs w = (k : Key) → listsKey k rs ≡ false → lineAfter w (absentAt k) ≡ absentAt k
+pub keys-after : (w : Write) (rs : List Record) → shifts w ≡ false → keysIn (linesAfter w rs) ≡ keysIn rs
+keys-after w rs s = ap keysIn (lines-mapped w rs s) ∙ go rs
+  where
+    go : (rs : List Record) → keysIn (map (lineAfter w) rs) ≡ keysIn rs
+    go [] = refl
+    go (r ∷ rs) = ap₂ _∷_ (line-key w r) (go rs)
 
--- the line of a key after such a write
-pub line-written : (rs : List Record) (w : Write) → Still rs w → (k : Key) → lineOf k (linesAfter w rs) ≡ lineAfter w (lineOf k rs)
-unfolding linesAfter
-line-written rs w still k = go (listsKey k rs) refl
+-- a write that goes line by line, keys without a line included: the line of a key becomes what the write makes of a line
+abbrev pub Linewise : List Record → Write → Type 0
+Linewise rs w = (k : Key) → lineOf k (linesAfter w rs) ≡ lineAfter w (lineOf k rs)
+
+-- as a write is that leaves keys without a line as they are
+pub linewise : (rs : List Record) (w : Write) → shifts w ≡ false → ((k : Key) → listsKey k rs ≡ false → lineAfter w (absentAt k) ≡ absentAt k) → Linewise rs w
+linewise rs w s still k = ap (lineOf k) (lines-mapped w rs s) ∙ go (listsKey k rs) refl
   where
     go : (b : Bool) → listsKey k rs ≡ b → lineOf k (map (lineAfter w) rs) ≡ lineAfter w (lineOf k rs)
     go true h = line-mapped (lineAfter w) (line-key w) k rs h
@@ -106,25 +121,34 @@ line-written rs w still k = go (listsKey k rs) refl
         ∙ (sym (still k h) ∙ ap (lineAfter w) (sym (unlisted k rs h)))
 
 -- the writes that put nothing
-pub still-nothing : (rs : List Record) → Still rs nothing
+pub nothing-linewise : (rs : List Record) → Linewise rs nothing
 unfolding lineAfter
-still-nothing rs k h = refl
+nothing-linewise rs = linewise rs nothing refl (λ k h. refl)
 
-pub still-issue : (rs : List Record) → Still rs issue
+pub issue-linewise : (rs : List Record) → Linewise rs issue
 unfolding lineAfter
-still-issue rs k h = refl
+issue-linewise rs = linewise rs issue refl (λ k h. refl)
 
-pub still-decide : (rs : List Record) (n : ℕ) (d : Decision) → Still rs (decide n d)
+pub decide-linewise : (rs : List Record) (n : ℕ) (d : Decision) → Linewise rs (decide n d)
 unfolding lineAfter
-still-decide rs n d k h = refl
+decide-linewise rs n d = linewise rs (decide n d) refl (λ k h. refl)
 
-pub still-forward : (rs : List Record) (n : ℕ) (ks : List Key) → Still rs (forward n ks)
+pub forward-linewise : (rs : List Record) (n : ℕ) (ks : List Key) → Linewise rs (forward n ks)
 unfolding lineAfter isOf preparedBy
-still-forward rs n ks k h = refl
+forward-linewise rs n ks = linewise rs (forward n ks) refl (λ k h. refl)
 
-pub still-back : (rs : List Record) (n : ℕ) (ks : List Key) → Still rs (back n ks)
+pub back-linewise : (rs : List Record) (n : ℕ) (ks : List Key) → Linewise rs (back n ks)
 unfolding lineAfter isOf preparedBy
-still-back rs n ks k h = refl
+back-linewise rs n ks = linewise rs (back n ks) refl (λ k h. refl)
+
+-- a line for a key that had none, and an ABSENT line of version 0 taken away: no key's line changes, one without a line counting as such
+pub add-linewise : (rs : List Record) (k : Key) → listsKey k rs ≡ false → Linewise rs (addLine k)
+unfolding lineAfter
+add-linewise rs k n j = ap (lineOf j) (lines-added k rs) ∙ line-after-adding k j rs n
+
+pub remove-linewise : (rs : List Record) (k : Key) → rising rs ≡ true → lineOf k rs ≡ absentAt k → Linewise rs (removeLine k)
+unfolding lineAfter
+remove-linewise rs k o a j = ap (lineOf j) (lines-removed k rs) ∙ line-after-removing k j rs o a
 
 -- The line of a key.
 

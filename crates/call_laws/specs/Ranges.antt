@@ -8,6 +8,7 @@ use Rattle.model.specs.Lines.{inRange, rowGood}
 use Rattle.model.specs.Records.{stateNumber, keyNumbers, imageNumbers, recordNumbers, keyInRange, stateRule, absentRule, isZero, goodAlone, noImage, absentAt}
 use Rattle.model.specs.Coordinator.{namesIssued}
 use Rattle.model.specs.WellFormed.{imageInRange, columnsInRange}
+use Rattle.sheet_laws.specs.Records.{ranged, good-ranged}
 
 row-append : (cs ds : List Column) (vs ws : List ℕ) → length vs ≡ length cs → rowGood (cs ++ ds) (vs ++ ws) ≡ (rowGood cs vs && rowGood ds ws)
 unfolding rowGood
@@ -111,3 +112,7 @@ pub absent-good : (issued : ℕ) (k : Key) → keyInRange k ≡ true → GoodPar
 unfolding absentRule isZero
 absent-good issued k h =
     record { key = h; image = zeros-ranged; before = zeros-ranged; clock = omega arith; rule = refl; txid = omega arith; before-txid = omega arith }
+
+pub absent-ranged : (k : Key) → keyInRange k ≡ true → ranged (absentAt k) ≡ true
+absent-ranged k h =
+    good-ranged (absentAt k) (and-fst (goodAlone (absentAt k)) (namesIssued 0 (absentAt k)) (parts-fine 0 (absentAt k) (absent-good 0 k h)))

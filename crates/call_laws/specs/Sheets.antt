@@ -1,19 +1,23 @@
--- Sheets stay good under the writes that calls make: each line by the lemma of its image, order because keys are kept, the coordinator by its own rules.
+-- Sheets stay good under the writes that calls make: each line by the lemma of its image, order because keys are kept or a line goes where its key belongs, the coordinator by its
+-- own rules.
 use Rattle.lists.specs.Basics.{_≡_, refl, sym, ap, subst, _∙_, ℕ, zero, suc, _+_, _≤_, _<_, true, false, true≢false, List, length, length-map, Option, none}
 use Rattle.lists.specs.Basics.{some, arith, add-one, le-leb, all, and-fst, and-snd, and-both, choose-by, tests}
 use lib.Seq.{getD-set-same}
 use Rattle.lists.specs.All.{all-and, all-weaken, all-map}
 use Rattle.model.specs.Types.{Key, Record, Decision, Undecided, Entry}
-use Rattle.model.specs.Records.{goodAlone, rising, recordsGood, absentAt, lineOf}
+use Rattle.model.specs.Records.{goodAlone, keyInRange, rising, recordsGood, absentAt, lineOf}
 use Rattle.model.specs.Coordinator.{Coordinator, coordinatorGood, namesIssued, decision, withDecision, withIssued}
 use Rattle.model.specs.Images.{isPrepared, preparedBy, prepared, committed, changeOf}
-use Rattle.model.specs.Writes.{Sheets, sizeGood, sheetsGood, Write, nothing, issue, decide, commit, prepare, forward, back, entryFor, byEntry, isOf, lineAfter}
+use Rattle.model.specs.Writes.{Sheets, sizeGood, sheetsGood, Write, nothing, issue, decide, commit, prepare, forward, back, addLine, removeLine, entryFor, byEntry, isOf, lineAfter}
 use Rattle.model.specs.Writes.{linesAfter, decisionsAfter, apply}
 use Rattle.sheet_laws.specs.Decisions.{good-decided, good-raised}
-use Rattle.call_laws.specs.Ranges.{GoodParts, fine, fine-parts, parts-fine}
-use Rattle.call_laws.specs.Images.{MayPut, committed-fine, prepared-fine, forward-fine, back-fine}
+use Rattle.call_laws.specs.Ranges.{GoodParts, fine, fine-parts, parts-fine, absent-good}
+use Rattle.call_laws.specs.Images.{MayPut, committed-fine, prepared-fine, forward-fine, back-fine, blank-is}
 use Rattle.sheet_laws.specs.KeyOrder.{listsKey}
-use Rattle.call_laws.specs.Lines.{lines-mapped, rising-after, Still, all-lines, line-passes}
+use Rattle.sheet_laws.specs.AddedLines.{rising-inserted, length-inserted, all-inserted, rising-without, length-without, all-without}
+use Rattle.call_laws.specs.Lines.{shifts, lines-mapped, lines-added, lines-removed, rising-after, Linewise, linewise, add-linewise, remove-linewise, all-lines, line-passes}
+use Rattle.call_laws.specs.Lines.{line-of-key}
+use Rattle.call_laws.specs.Adding.{MayAdd, MayRemove}
 
 -- Good sheets, in parts.
 pub record GoodSheets (s : Sheets) : Type 0 where
@@ -67,15 +71,17 @@ no-entry-there s n es m k h = go (entryFor k es) refl
     go none e = refl
     go (some x) e = absurd (true≢false (sym (m k x e .0) ∙ h))
 
-pub still-commit : (s : Sheets) (n : ℕ) (es : List Entry) → MayPutAll s n es → Still (s .lines) (commit n es)
+pub commit-linewise : (s : Sheets) (n : ℕ) (es : List Entry) → MayPutAll s n es → Linewise (s .lines) (commit n es)
 unfolding lineAfter
-still-commit s n es m k h =
-    ap (λ (o : Option Entry). byEntry o (absentAt k) (λ (e : Entry). committed n (changeOf e) (absentAt k))) (no-entry-there s n es m k h)
+commit-linewise s n es m =
+    linewise (s .lines) (commit n es) refl
+    (λ k h. ap (λ (o : Option Entry). byEntry o (absentAt k) (λ (e : Entry). committed n (changeOf e) (absentAt k))) (no-entry-there s n es m k h))
 
-pub still-prepare : (s : Sheets) (n now : ℕ) (es : List Entry) → MayPutAll s n es → Still (s .lines) (prepare n now es)
+pub prepare-linewise : (s : Sheets) (n now : ℕ) (es : List Entry) → MayPutAll s n es → Linewise (s .lines) (prepare n now es)
 unfolding lineAfter
-still-prepare s n now es m k h =
-    ap (λ (o : Option Entry). byEntry o (absentAt k) (λ (e : Entry). prepared n now (changeOf e) (absentAt k))) (no-entry-there s n es m k h)
+prepare-linewise s n now es m =
+    linewise (s .lines) (prepare n now es) refl
+    (λ k h. ap (λ (o : Option Entry). byEntry o (absentAt k) (λ (e : Entry). prepared n now (changeOf e) (absentAt k))) (no-entry-there s n es m k h))
 
 -- The writes that keep sheets good.
 pub data Fit (s : Sheets) : Write → Type 0 where
@@ -86,6 +92,8 @@ pub data Fit (s : Sheets) : Write → Type 0 where
   fit-prepare : (n now : ℕ) (es : List Entry) → now ≤ 4294967295 → MayPutAll s n es → Fit s (prepare n now es)
   fit-forward : (n : ℕ) (ks : List Key) → Fit s (forward n ks)
   fit-back : (n : ℕ) (ks : List Key) → Fit s (back n ks)
+  fit-add : (k : Key) → MayAdd k s → Fit s (addLine k)
+  fit-remove : (k : Key) → MayRemove k s → Fit s (removeLine k)
 
 -- a decision leaves the count and the units alone
 pub decided-issued : (n : ℕ) (d : Decision) (c : Coordinator) → withDecision n d c .issued ≡ c .issued
@@ -127,6 +135,15 @@ rolled : (n : ℕ) (ks : List Key) (r : Record) → isOf n ks r ≡ true → isP
 unfolding isOf preparedBy
 rolled n ks r h = search tests
 
+-- the line of a key that has one
+pub listed-good : (s : Sheets) → GoodSheets s → (k : Key) → listsKey k (s .lines) ≡ true → GoodParts (s .coordinator .issued) (lineOf k (s .lines))
+listed-good s g k h =
+    fine-parts (s .coordinator .issued) (lineOf k (s .lines))
+    (line-passes (fine (s .coordinator .issued)) k (s .lines) (g .fine-lines) h)
+
+pub listed-range : (s : Sheets) → GoodSheets s → (k : Key) → listsKey k (s .lines) ≡ true → keyInRange k ≡ true
+listed-range s g k h = ap keyInRange (sym (line-of-key k (s .lines))) ∙ listed-good s g k h .key
+
 module _ (s : Sheets) (good : GoodSheets s) where
   -- the line after a write
   line-fit : {w : Write} → Fit s w → (r : Record) → listsKey (r .key) (s .lines) ≡ true → lineOf (r .key) (s .lines) ≡ r → GoodParts (s .coordinator .issued) r → GoodParts (decisionsAfter w (s .coordinator) .issued) (lineAfter w r)
@@ -147,15 +164,58 @@ module _ (s : Sheets) (good : GoodSheets s) where
   line-fit (fit-back n ks) r k e g =
       choose-by (GoodParts (s .coordinator .issued)) (isOf n ks r)
       (λ h. back-fine (s .coordinator .issued) r g (rolled n ks r h)) (λ h. g)
+  line-fit (fit-add j m) r k e g = g
+  line-fit (fit-remove j m) r k e g = g
 
-  lines-fit : {w : Write} → Fit s w → all (fine (decisionsAfter w (s .coordinator) .issued)) (linesAfter w (s .lines)) ≡ true
-  lines-fit {w} f =
-      ap (all (fine (decisionsAfter w (s .coordinator) .issued))) (lines-mapped w (s .lines))
+  mapped-fit : {w : Write} → shifts w ≡ false → Fit s w → all (fine (decisionsAfter w (s .coordinator) .issued)) (linesAfter w (s .lines)) ≡ true
+  mapped-fit {w} h f =
+      ap (all (fine (decisionsAfter w (s .coordinator) .issued))) (lines-mapped w (s .lines) h)
       ∙ all-map (fine (decisionsAfter w (s .coordinator) .issued)) (lineAfter w) (s .lines)
       ∙ all-lines (λ (r : Record). fine (decisionsAfter w (s .coordinator) .issued) (lineAfter w r)) (s .lines) (good .order)
       (λ r k e. let h : fine (s .coordinator .issued) r ≡ true =
       ap (fine (s .coordinator .issued)) (sym e) ∙ line-passes (fine (s .coordinator .issued)) (r .key) (s .lines) (good .fine-lines) k in
       parts-fine (decisionsAfter w (s .coordinator) .issued) (lineAfter w r) (line-fit f r k e (fine-parts (s .coordinator .issued) r h)))
+
+  -- what the lines owe
+  record LinesStay (w : Write) : Type 0 where
+    few : length (linesAfter w (s .lines)) ≤ s .size
+    fine-after : all (fine (decisionsAfter w (s .coordinator) .issued)) (linesAfter w (s .lines)) ≡ true
+    order : rising (linesAfter w (s .lines)) ≡ true
+
+  mapped-stay : {w : Write} → shifts w ≡ false → Fit s w → LinesStay w
+  mapped-stay {w} h f =
+      let n : length (linesAfter w (s .lines)) ≡ length (s .lines) = ap length (lines-mapped w (s .lines) h) ∙ length-map (s .lines) (lineAfter w) in
+      let a : length (s .lines) ≤ s .size = good .few-lines in
+      record { few = omega arith; fine-after = mapped-fit h f; order = rising-after w (s .lines) h ∙ good .order }
+
+  lines-stay : {w : Write} → Fit s w → LinesStay w
+  unfolding decisionsAfter
+  lines-stay fit-nothing = mapped-stay refl fit-nothing
+  lines-stay (fit-issue l) = mapped-stay refl (fit-issue l)
+  lines-stay (fit-decide n d l) = mapped-stay refl (fit-decide n d l)
+  lines-stay (fit-commit n es m) = mapped-stay refl (fit-commit n es m)
+  lines-stay (fit-prepare n now es l m) = mapped-stay refl (fit-prepare n now es l m)
+  lines-stay (fit-forward n ks) = mapped-stay refl (fit-forward n ks)
+  lines-stay (fit-back n ks) = mapped-stay refl (fit-back n ks)
+  lines-stay (fit-add k m) =
+      let e = lines-added k (s .lines) in
+      let n : length (linesAfter (addLine k) (s .lines)) ≡ suc (length (s .lines)) = ap length e ∙ length-inserted k (s .lines) in
+      let a : length (s .lines) < s .size = m .room in
+      let i = s .coordinator .issued in
+      record {
+        few = omega arith;
+        fine-after = ap (all (fine i)) e ∙ all-inserted k (fine i) (s .lines) (parts-fine i (absentAt k) (absent-good i k (m .in-range))) (good .fine-lines);
+        order = ap rising e ∙ rising-inserted k (s .lines) (good .order) (m .unlisted);
+      }
+  lines-stay (fit-remove k m) =
+      let e = lines-removed k (s .lines) in
+      let n : suc (length (linesAfter (removeLine k) (s .lines))) ≡ length (s .lines) = ap (λ (ls : List Record). suc (length ls)) e ∙ length-without k (s .lines) (m .listed) in
+      let a : length (s .lines) ≤ s .size = good .few-lines in
+      record {
+        few = omega arith;
+        fine-after = ap (all (fine (s .coordinator .issued))) e ∙ all-without k (fine (s .coordinator .issued)) (s .lines) (good .fine-lines);
+        order = ap rising e ∙ rising-without k (s .lines) (good .order);
+      }
 
   decide-fit : (n : ℕ) (d : Decision) → n ≤ s .coordinator .issued → coordinatorGood (withDecision n d (s .coordinator)) ≡ true
   unfolding withDecision
@@ -172,18 +232,31 @@ module _ (s : Sheets) (good : GoodSheets s) where
   decisions-fit (fit-prepare n now es l m) = good .decisions
   decisions-fit (fit-forward n ks) = good .decisions
   decisions-fit (fit-back n ks) = good .decisions
+  decisions-fit (fit-add k m) = good .decisions
+  decisions-fit (fit-remove k m) = good .decisions
 
   -- good sheets stay good
   pub write-closed : {w : Write} → Fit s w → GoodSheets (apply w s)
   unfolding apply
   write-closed {w} f =
-      let n : length (linesAfter w (s .lines)) ≡ length (s .lines) = ap length (lines-mapped w (s .lines)) ∙ length-map (s .lines) (lineAfter w) in
-      let a : length (s .lines) ≤ s .size = good .few-lines in
+      let l : LinesStay w = lines-stay f in
       record {
         some-size = good .some-size;
         few-size = good .few-size;
-        few-lines = omega arith;
-        fine-lines = lines-fit f;
-        order = rising-after w (s .lines) ∙ good .order;
+        few-lines = l .few;
+        fine-lines = l .fine-after;
+        order = l .order;
         decisions = decisions-fit f;
       }
+
+  -- a blank line is ABSENT, of version 0 and nothing else
+  pub removed-line : (k : Key) → MayRemove k s → lineOf k (s .lines) ≡ absentAt k
+  removed-line k m =
+      blank-is (lineOf k (s .lines)) (listed-good s good k (m .listed) .rule) (m .blank) ∙ ap absentAt (line-of-key k (s .lines))
+
+  -- adding and removing change the line of no key
+  pub added-linewise : (k : Key) → MayAdd k s → Linewise (s .lines) (addLine k)
+  added-linewise k m = add-linewise (s .lines) k (m .unlisted)
+
+  pub removed-linewise : (k : Key) → MayRemove k s → Linewise (s .lines) (removeLine k)
+  removed-linewise k m = remove-linewise (s .lines) k (good .order) (removed-line k m)

@@ -1,4 +1,4 @@
--- T2: whatever a call writes, it changes lines of one atomicity unit and leaves the coordinator alone, or it leaves the record sheet alone.
+-- T2: whatever a call writes, it changes lines of one atomicity unit or puts one in or takes one out and leaves the coordinator alone, or it leaves the record sheet alone.
 -- A write of a group changes only lines whose keys are in it, and those agree in the fields of their unit; a visit changes one line.
 use Rattle.lists.specs.Basics.{_≡_, refl, sym, ap, _∙_, ℕ, Bool, true, false, cond, true≢false, and-false, List, [], _∷_, getD, Option, none, all, any}
 use Rattle.lists.specs.Basics.{choose-by, or-left}
@@ -8,24 +8,31 @@ use Rattle.model.specs.Records.{sameKey, lineOf}
 use Rattle.model.specs.Coordinator.{Letter, Coordinator, decision}
 use Rattle.model.specs.Groups.{scope, group}
 use Rattle.model.specs.Images.{preparedBy, prepared, committed, rolledForward, rolledBack, changeOf}
-use Rattle.model.specs.Writes.{Sheets, Write, nothing, issue, decide, commit, prepare, forward, back, byEntry, isOf, lineAfter, decisionsAfter}
+use Rattle.model.specs.Writes.{Sheets, Write, nothing, issue, decide, commit, prepare, forward, back, addLine, removeLine, byEntry, isOf, lineAfter, decisionsAfter}
 use Rattle.model.specs.Transactions.{puts, toValidate, isEmpty, noEntry}
 use Rattle.model.specs.Visits.{recoveryWrite, meeting}
 use Rattle.model.specs.Steps.{Step, holds, unitsOf, groupAt, keysOf, onePhaseAllowed, openWithoutPuts, onePhase, openStep, prepareStep, validateStep}
 use Rattle.model.specs.Steps.{decideStep, withdrawStep, finishStep, undoStep, step}
-use Rattle.model.specs.Results.{Call, begin, read, second, put, advance, abort, visit, Answer, Result, writeOf}
-use Rattle.model.specs.Conditions.{takesTwo}
-use Rattle.model.specs.Calls.{wholeRead, outcome}
+use Rattle.model.specs.Results.{Call, begin, read, second, put, advance, abort, visit, add, remove, shiftsLines, Answer, Result, writeOf}
+use Rattle.model.specs.Conditions.{takesTwo, conditions}
+use Rattle.model.specs.Calls.{wholeRead, outcome, result}
 use Rattle.model.specs.Histories.{written}
 use Rattle.call_laws.specs.Choices.{by-phase, by-decision, by-written, by-whole}
+use Rattle.model.specs.Refusals.{refusalOf}
 use Rattle.sheet_laws.specs.KeyOrder.{same-key-refl, other-key}
+use Rattle.call_laws.specs.Lines.{shifts}
+use Rattle.call_laws.specs.Adding.{MayAdd, may-add, MayRemove, may-remove}
 use Rattle.call_laws.specs.Keys.{hasKey, no-entry}
 use Rattle.call_laws.specs.Groups.{InGroup, in-group, one-scope}
 
 -- a write to lines of one scope, or to the coordinator sheet
 pub data SingleUnit (us : List Letter) (w : Write) : Type 0 where
-  one-unit : (g : List ℕ) → ((r : Record) → (scope us (r .key) ≡ g → ⊥) → lineAfter w r ≡ r) → ((c : Coordinator) → decisionsAfter w c ≡ c) → SingleUnit us w
-  coordinator-only : ((r : Record) → lineAfter w r ≡ r) → SingleUnit us w
+  one-unit : shifts w ≡ false → (g : List ℕ) → ((r : Record) → (scope us (r .key) ≡ g → ⊥) → lineAfter w r ≡ r) → ((c : Coordinator) → decisionsAfter w c ≡ c) → SingleUnit us w
+  coordinator-only : shifts w ≡ false → ((r : Record) → lineAfter w r ≡ r) → SingleUnit us w
+
+pub unit-shifts : {us : List Letter} {w : Write} → SingleUnit us w → shifts w ≡ false
+unit-shifts (one-unit h g others kept) = h
+unit-shifts (coordinator-only h kept) = h
 
 module _ (us : List Letter) (es : List Entry) (i : ℕ) where
   -- the scope of the group at place i, no fields if there is none
@@ -54,14 +61,14 @@ module _ (us : List Letter) (es : List Entry) (i : ℕ) where
   pub commit-unit : (n : ℕ) → SingleUnit us (commit n (group us es i))
   unfolding lineAfter decisionsAfter
   commit-unit n =
-      one-unit (groupScope (group us es i))
+      one-unit refl (groupScope (group us es i))
       (λ r d. ap (λ (o : Option Entry). byEntry o r (λ (e : Entry). committed n (changeOf e) r)) (no-entry (r .key) (group us es i) (not-in r d)))
       (λ c. refl)
 
   pub prepare-unit : (n now : ℕ) → SingleUnit us (prepare n now (group us es i))
   unfolding lineAfter decisionsAfter
   prepare-unit n now =
-      one-unit (groupScope (group us es i))
+      one-unit refl (groupScope (group us es i))
       (λ r d. ap (λ (o : Option Entry). byEntry o r (λ (e : Entry). prepared n now (changeOf e) r)) (no-entry (r .key) (group us es i) (not-in r d)))
       (λ c. refl)
 
@@ -76,14 +83,14 @@ module _ (us : List Letter) (es : List Entry) (i : ℕ) where
   pub forward-unit : (n : ℕ) → SingleUnit us (forward n (keysOf (group us es i)))
   unfolding lineAfter decisionsAfter
   forward-unit n =
-      one-unit (groupScope (group us es i))
+      one-unit refl (groupScope (group us es i))
       (λ r d. ap (λ (b : Bool). cond b (rolledForward r) r) (not-of n r d))
       (λ c. refl)
 
   pub back-unit : (n : ℕ) → SingleUnit us (back n (keysOf (group us es i)))
   unfolding lineAfter decisionsAfter
   back-unit n =
-      one-unit (groupScope (group us es i))
+      one-unit refl (groupScope (group us es i))
       (λ r d. ap (λ (b : Bool). cond b (rolledBack r) r) (not-of n r d))
       (λ c. refl)
 
@@ -91,15 +98,15 @@ module _ (us : List Letter) where
   -- nothing, one more number, a decision: no line changes
   pub nothing-unit : SingleUnit us nothing
   unfolding lineAfter
-  nothing-unit = coordinator-only (λ r. refl)
+  nothing-unit = coordinator-only refl (λ r. refl)
 
   pub issue-unit : SingleUnit us issue
   unfolding lineAfter
-  issue-unit = coordinator-only (λ r. refl)
+  issue-unit = coordinator-only refl (λ r. refl)
 
   pub decide-unit : (n : ℕ) (d : Decision) → SingleUnit us (decide n d)
   unfolding lineAfter
-  decide-unit n d = coordinator-only (λ r. refl)
+  decide-unit n d = coordinator-only refl (λ r. refl)
 
   -- a visit: one line, or the coordinator
   not-line : (n : ℕ) (k : Key) (r : Record) → (scope us (r .key) ≡ scope us k → ⊥) → isOf n (k ∷ []) r ≡ false
@@ -112,25 +119,25 @@ module _ (us : List Letter) where
   unfolding recoveryWrite lineAfter decisionsAfter
   visit-unit Stays r = nothing-unit
   visit-unit Forward r =
-      one-unit (scope us (r .key)) (λ x d. ap (λ (b : Bool). cond b (rolledForward x) x) (not-line (r .image .txid) (r .key) x d)) (λ c. refl)
+      one-unit refl (scope us (r .key)) (λ x d. ap (λ (b : Bool). cond b (rolledForward x) x) (not-line (r .image .txid) (r .key) x d)) (λ c. refl)
   visit-unit Back r =
-      one-unit (scope us (r .key)) (λ x d. ap (λ (b : Bool). cond b (rolledBack x) x) (not-line (r .image .txid) (r .key) x d)) (λ c. refl)
+      one-unit refl (scope us (r .key)) (λ x d. ap (λ (b : Bool). cond b (rolledBack x) x) (not-line (r .image .txid) (r .key) x d)) (λ c. refl)
   visit-unit Again r = decide-unit (r .image .txid) Aborted
   visit-unit Busy r = nothing-unit
 
--- The calls.
+-- Steps and visits.
 
-abbrev pub Single : Sheets → Write → Type 0
-Single s w = SingleUnit (s .coordinator .units) w
+abbrev InUnit : Sheets → Write → Type 0
+InUnit s w = SingleUnit (s .coordinator .units) w
 
-prepare-single : (t : Transaction) (now : ℕ) (s : Sheets) → Single s (prepareStep t now s .write)
+prepare-single : (t : Transaction) (now : ℕ) (s : Sheets) → InUnit s (prepareStep t now s .write)
 unfolding prepareStep
 prepare-single t now s =
-    choose-by (λ (x : Step). Single s (x .write)) (all (holds s) (groupAt t s))
+    choose-by (λ (x : Step). InUnit s (x .write)) (all (holds s) (groupAt t s))
     (λ e. prepare-unit (unitsOf s) (puts t) (t .place) (t .number) now)
     (λ e. nothing-unit (unitsOf s))
 
-open-single : (t : Transaction) (s : Sheets) → Single s (openStep t s .write)
+open-single : (t : Transaction) (s : Sheets) → InUnit s (openStep t s .write)
 unfolding openStep openWithoutPuts onePhase
 open-single t s =
     choose-by P (isEmpty (puts t))
@@ -142,27 +149,27 @@ open-single t s =
     (λ f. nothing-unit (unitsOf s)))
   where
     P : Step → Type 0
-    P x = Single s (x .write)
+    P x = InUnit s (x .write)
 
-pub step-single : (t : Transaction) (now : ℕ) (s : Sheets) → Single s (step t now s .write)
+pub step-single : (t : Transaction) (now : ℕ) (s : Sheets) → InUnit s (step t now s .write)
 unfolding step validateStep decideStep withdrawStep finishStep undoStep
 step-single t now s =
-    by-phase (λ (x : Step). Single s (x .write)) (t .phase)
+    by-phase (λ (x : Step). InUnit s (x .write)) (t .phase)
     (open-single t s)
     (prepare-single t now s)
-    (choose-by (λ (x : Step). Single s (x .write)) (holds s (getD (toValidate (unitsOf s) t) (t .place) noEntry)) (λ e. none) (λ e. none))
-    (by-decision (λ (x : Step). Single s (x .write)) (decision (t .number) (s .coordinator)) (decide-unit (unitsOf s) (t .number) Committed) none none)
-    (by-decision (λ (x : Step). Single s (x .write)) (decision (t .number) (s .coordinator)) (decide-unit (unitsOf s) (t .number) Aborted) none none)
+    (choose-by (λ (x : Step). InUnit s (x .write)) (holds s (getD (toValidate (unitsOf s) t) (t .place) noEntry)) (λ e. none) (λ e. none))
+    (by-decision (λ (x : Step). InUnit s (x .write)) (decision (t .number) (s .coordinator)) (decide-unit (unitsOf s) (t .number) Committed) none none)
+    (by-decision (λ (x : Step). InUnit s (x .write)) (decision (t .number) (s .coordinator)) (decide-unit (unitsOf s) (t .number) Aborted) none none)
     (forward-unit (unitsOf s) (puts t) (t .place) (t .number))
     (back-unit (unitsOf s) (puts t) (t .place) (t .number))
     none none
   where
-    none : Single s nothing
+    none : InUnit s nothing
     none = nothing-unit (unitsOf s)
 
-whole-single : (sees : Record → Image) (t : Transaction) (k : Key) (now : ℕ) (s : Sheets) → Single s (writeOf (wholeRead sees t k now s))
+whole-single : (sees : Record → Image) (t : Transaction) (k : Key) (now : ℕ) (s : Sheets) → InUnit s (writeOf (wholeRead sees t k now s))
 whole-single sees t k now s =
-    by-whole sees t k now s (λ (x : Result Answer). Single s (writeOf x)) (λ n a. visit-unit (unitsOf s) v r) (λ n a. visit-unit (unitsOf s) v r) (λ n. nothing-unit (unitsOf s))
+    by-whole sees t k now s (λ (x : Result Answer). InUnit s (writeOf x)) (λ n a. visit-unit (unitsOf s) v r) (λ n a. visit-unit (unitsOf s) v r) (λ n. nothing-unit (unitsOf s))
   where
     r : Record
     r = lineOf k (s .lines)
@@ -170,17 +177,50 @@ whole-single sees t k now s =
     v : Recovery
     v = meeting now s r
 
-outcome-single : (c : Call) (s : Sheets) → Single s (writeOf (outcome c s))
+-- The calls.
+
+pub outcome-unit : (c : Call) (s : Sheets) → shiftsLines c ≡ false → InUnit s (writeOf (outcome c s))
 unfolding outcome
-outcome-single (begin b) s = issue-unit (unitsOf s)
-outcome-single (read t k now) s =
-    choose-by (λ (x : Result Answer). Single s (writeOf x)) (takesTwo (unitsOf s) k t) (λ e. nothing-unit (unitsOf s)) (λ e. whole-single _ t k now s)
-outcome-single (second t k now c) s = whole-single _ t k now s
-outcome-single (put t k c) s = nothing-unit (unitsOf s)
-outcome-single (advance t now) s = step-single t now s
-outcome-single (abort t) s = nothing-unit (unitsOf s)
-outcome-single (visit k now) s = visit-unit (unitsOf s) (meeting now s (lineOf k (s .lines))) (lineOf k (s .lines))
+outcome-unit (begin b) s h = issue-unit (unitsOf s)
+outcome-unit (read t k now) s h =
+    choose-by (λ (x : Result Answer). InUnit s (writeOf x)) (takesTwo (unitsOf s) k t) (λ e. nothing-unit (unitsOf s)) (λ e. whole-single _ t k now s)
+outcome-unit (second t k now c) s h = whole-single _ t k now s
+outcome-unit (put t k c) s h = nothing-unit (unitsOf s)
+outcome-unit (advance t now) s h = step-single t now s
+outcome-unit (abort t) s h = nothing-unit (unitsOf s)
+outcome-unit (visit k now) s h = visit-unit (unitsOf s) (meeting now s (lineOf k (s .lines))) (lineOf k (s .lines))
+outcome-unit (add k) s h = absurd (true≢false h)
+outcome-unit (remove k) s h = absurd (true≢false h)
+
+-- every other call shifts no line
+pub written-unit : (c : Call) (s : Sheets) → shiftsLines c ≡ false → InUnit s (written c s)
+written-unit c s h = by-written (InUnit s) c s (nothing-unit (unitsOf s)) (λ z. outcome-unit c s h)
+
+pub written-shifts : (c : Call) (s : Sheets) → shiftsLines c ≡ false → shifts (written c s) ≡ false
+written-shifts c s h = unit-shifts (written-unit c s h)
+
+pub made-shifts : (c : Call) (s : Sheets) → shiftsLines c ≡ false → shifts (writeOf (result c s)) ≡ false
+unfolding written
+made-shifts c s h = written-shifts c s h
+
+-- What a call may write: to one unit, or to the coordinator sheet, or a line for a key that has none, or a key's line taken away.
+pub data Single (s : Sheets) : Write → Type 0 where
+  in-unit : {w : Write} → InUnit s w → Single s w
+  line-added : (k : Key) → MayAdd k s → Single s (addLine k)
+  line-removed : (k : Key) → MayRemove k s → Single s (removeLine k)
+
+outcome-single : (c : Call) (s : Sheets) → refusalOf (conditions c s) ≡ 0 → Single s (writeOf (outcome c s))
+unfolding outcome
+outcome-single (begin b) s z = in-unit (outcome-unit (begin b) s refl)
+outcome-single (read t k now) s z = in-unit (outcome-unit (read t k now) s refl)
+outcome-single (second t k now c) s z = in-unit (outcome-unit (second t k now c) s refl)
+outcome-single (put t k c) s z = in-unit (outcome-unit (put t k c) s refl)
+outcome-single (advance t now) s z = in-unit (outcome-unit (advance t now) s refl)
+outcome-single (abort t) s z = in-unit (outcome-unit (abort t) s refl)
+outcome-single (visit k now) s z = in-unit (outcome-unit (visit k now) s refl)
+outcome-single (add k) s z = line-added k (may-add k s z)
+outcome-single (remove k) s z = line-removed k (may-remove k s z)
 
 -- "writes to at most one unit or the coordinator sheet", whatever the call, its arguments and the sheets
 pub single-unit : (c : Call) (s : Sheets) → Single s (written c s)
-single-unit c s = by-written (Single s) c s (nothing-unit (unitsOf s)) (λ z. outcome-single c s)
+single-unit c s = by-written (Single s) c s (in-unit (nothing-unit (unitsOf s))) (λ z. outcome-single c s z)

@@ -1,9 +1,9 @@
--- What a call comes to doesn't depend on how many lines the record sheet has: no condition, answer or write looks at it. So an operation on sheets of any size is that on the
--- same sheets of another.
-use Rattle.lists.specs.Basics.{_≡_, refl, ap, _∙_, ℕ, zero, suc, _+_, _-_, eqb, Bool, true, false, _&&_, _||_, cond}
+-- What a call comes to doesn't depend on how many lines the record sheet has, unless it adds a line: no other condition, answer or write looks at it. So an operation on sheets of
+-- any size is that on the same sheets of another.
+use Rattle.lists.specs.Basics.{_≡_, refl, ap, _∙_, ℕ, zero, suc, _+_, _-_, eqb, Bool, true, false, _&&_, _||_, cond, true≢false}
 use Rattle.model.specs.Types.{Transaction}
-use Rattle.model.specs.Writes.{Sheets, Write, nothing, issue, decide, commit, prepare, forward, back, apply}
-use Rattle.model.specs.Results.{Call, begin, read, second, put, advance, abort, visit, Answer, returned, Response, Result, refused, made, unless}
+use Rattle.model.specs.Writes.{Sheets, Write, nothing, issue, decide, commit, prepare, forward, back, addLine, removeLine, apply}
+use Rattle.model.specs.Results.{Call, begin, read, second, put, advance, abort, visit, add, remove, shiftsLines, Answer, returned, Response, Result, refused, made, unless}
 use Rattle.model.specs.Refusals.{refusalOf}
 use Rattle.model.specs.Transactions.{donePhase}
 use Rattle.model.specs.WellFormed.{wellFormed}
@@ -12,22 +12,24 @@ use Rattle.model.specs.Conditions.{cannotAdvance, conditions}
 use Rattle.model.specs.Steps.{Step, holds, onePhaseAllowed, onePhase, openStep, nextGroup, prepareStep, validateStep, decideStep, withdrawStep, finishStep, undoStep, step}
 use Rattle.model.specs.Calls.{wholeRead, outcome, result}
 use Rattle.model.specs.Closing.{changes, Run, turn, closing, starting, mostSteps, closeConditions}
-use Rattle.model.specs.Operations.{Operation, once, close, settled, closeRun, ended, response}
+use Rattle.model.specs.Operations.{Operation, once, close, operationShifts, settled, closeRun, ended, response}
 use Rattle.call_laws.specs.Lifting.{withSize}
 
 pub step-resized : (n : ℕ) (t : Transaction) (now : ℕ) (s : Sheets) → step t now (withSize n s) ≡ step t now s
 unfolding step openStep onePhase onePhaseAllowed holds nextGroup prepareStep validateStep decideStep withdrawStep finishStep undoStep
 step-resized n t now s = refl
 
-pub result-resized : (n : ℕ) (c : Call) (s : Sheets) → result c (withSize n s) ≡ result c s
+pub result-resized : (n : ℕ) (c : Call) (s : Sheets) → shiftsLines c ≡ false → result c (withSize n s) ≡ result c s
 unfolding result conditions outcome wholeRead wellFormed meeting cannotAdvance
-result-resized n (begin b) s = refl
-result-resized n (read t k now) s = refl
-result-resized n (second t k now c) s = refl
-result-resized n (put t k c) s = refl
-result-resized n (advance t now) s = ap (λ (x : Step). unless (conditions (advance t now) s) (made (returned (x .transaction)) (x .write))) (step-resized n t now s)
-result-resized n (abort t) s = refl
-result-resized n (visit k now) s = refl
+result-resized n (begin b) s h = refl
+result-resized n (read t k now) s h = refl
+result-resized n (second t k now c) s h = refl
+result-resized n (put t k c) s h = refl
+result-resized n (advance t now) s h = ap (λ (x : Step). unless (conditions (advance t now) s) (made (returned (x .transaction)) (x .write))) (step-resized n t now s)
+result-resized n (abort t) s h = refl
+result-resized n (visit k now) s h = refl
+result-resized n (add k) s h = absurd (true≢false h)
+result-resized n (remove k) s h = absurd (true≢false h)
 
 -- Operations.
 
@@ -49,6 +51,8 @@ changes-resized n (commit i es) s = refl
 changes-resized n (prepare i now es) s = refl
 changes-resized n (forward i ks) s = refl
 changes-resized n (back i ks) s = refl
+changes-resized n (addLine k) s = refl
+changes-resized n (removeLine k) s = refl
 
 -- a turn of it, by the step and whether that writes
 turnBy : Run → Step → Bool → Run
@@ -86,10 +90,10 @@ unfolding apply
 settled-resized n s (refused m) = refl
 settled-resized n s (made a w) = refl
 
-pub response-resized : (n : ℕ) (o : Operation) (s : Sheets) → response o (withSize n s) ≡ resized n (response o s)
+pub response-resized : (n : ℕ) (o : Operation) (s : Sheets) → operationShifts o ≡ false → response o (withSize n s) ≡ resized n (response o s)
 unfolding response closeConditions wellFormed
-response-resized n (once c) s = ap (settled (withSize n s)) (result-resized n c s) ∙ settled-resized n s (result c s)
-response-resized n (close t now limit) s =
+response-resized n (once c) s h = ap (settled (withSize n s)) (result-resized n c s h) ∙ settled-resized n s (result c s)
+response-resized n (close t now limit) s h =
     ap (λ (x : Run). unless (closeConditions t s) (ended x)) (closing-resized n mostSteps now (starting t limit s))
     ∙ go (eqb (refusalOf (closeConditions t s)) 0)
   where

@@ -8,14 +8,14 @@ use Rattle.model.specs.Types.{Transaction, Request}
 use Rattle.types.specs.declared.Request.the-variants as asked
 use Rattle.model.specs.Coordinator.{Coordinator}
 use Rattle.model.specs.Writes.{Sheets}
-use Rattle.model.specs.Results.{Call, begin, visit, Answer, turnedAway, returned, answered, visited, reported, Response, answerOf}
+use Rattle.model.specs.Results.{Call, begin, visit, add, remove, Answer, turnedAway, returned, answered, visited, reported, acknowledged, Response, answerOf}
 use Rattle.model.specs.Operations.{once, standsFor, sheetsLeft}
 use Rattle.model.specs.Requests.{operationOf}
 use Rattle.model.specs.CallByPlace.{named, callAt, responseAt, responseAtOn, listAfter}
 use Rattle.model.specs.Histories.{Event, given, takenBy, taken, Available, ClockFits, Permitted}
 use Rattle.model.specs.ByteHistories.{Bytes, saying, Passing}
 use Rattle.model.specs.Turns.{Turn, single, byPlace, turnCall, turnResponse, turnAfter, turnResponseOn, turnEventOn, turnAfterOn, turnsLeft, LegalTurns}
-use Rattle.model.specs.Clients.{Act, asks, loses, visits, begins, World, unused, Unused, withList, turnsIn, listsAfter, worldAfter, turnsOf, clockAsked, clockFits}
+use Rattle.model.specs.Clients.{Act, asks, loses, visits, begins, adds, removes, World, unused, Unused, withList, turnsIn, listsAfter, worldAfter, turnsOf, clockAsked, clockFits}
 use Rattle.call_laws.specs.Keeping.{issued-grows}
 use Rattle.call_laws.specs.Lifting.{on-passing}
 use Rattle.call_laws.specs.ByPlace.{leftWith, others-stay}
@@ -222,6 +222,7 @@ module _ (c : Call) (b : Bytes) (es : List Event) (p : Passing b) (fits : ClockF
   takes-none (answered v t) = none-given
   takes-none (visited v) = none-given
   takes-none (reported n t) = none-given
+  takes-none acknowledged = none-given
 
   abbrev free : Turn
   free = single (once c)
@@ -238,6 +239,12 @@ module _ (c : Call) (b : Bytes) (es : List Event) (p : Passing b) (fits : ClockF
       let grows : issuedIn b ≤ issuedIn (turnAfterOn free b) =
       subst (λ (s : Sheets). issuedIn b ≤ s .coordinator .issued) (sym (q .0)) (turn-issued free (saying b)) in
       (q .1, kept-same (turnEventOn free b) k grows (takes-none (turnEventOn free b .answer)))
+
+  -- and whatever is legal after it
+  free-legal : (lists : ℕ → List Transaction) → Kept lists (issuedIn b) es → (xs : List Turn)
+      → (Passing (turnAfterOn free b) → Kept lists (issuedIn (turnAfterOn free b)) (turnEventOn free b ∷ es) → LegalTurns turnAfterOn turnEventOn xs (turnAfterOn free b) (turnEventOn free b ∷ es))
+      → LegalTurns turnAfterOn turnEventOn (free ∷ xs) b es
+  free-legal lists k xs f = let n = free-kept lists k in (free-permitted, f (n .0) (n .1))
 
 -- a call by place
 module _ (lists : ℕ → List Transaction) (client place : ℕ) (q : Request) (b : Bytes) (es : List Event)
@@ -293,16 +300,14 @@ legal-from (asks client place q ∷ acts) w es p k f =
 legal-from (loses client size ∷ acts) w es p k f = legal-from acts (worldAfter (loses client size) w) es p (kept-lost k (lost (w .lists) client size)) f
 legal-from (visits key now ∷ acts) w es p k f =
     let l : now < 2 ^ 32 = ltb-true now (2 ^ 32) (and-fst (ltb now (2 ^ 32)) (all clockFits acts) f) in
-    let n = free-kept (visit key now) (w .bytes) es p l refl (w .lists) k in (
-      free-permitted (visit key now) (w .bytes) es p l refl,
-      legal-from acts (worldAfter (visits key now) w) (turnEventOn (single (once (visit key now))) (w .bytes) ∷ es) (n .0) (n .1)
-          (and-snd (ltb now (2 ^ 32)) (all clockFits acts) f),
-    )
+    free-legal (visit key now) (w .bytes) es p l refl (w .lists) k (turnsOf acts (worldAfter (visits key now) w))
+    (λ q k′. legal-from acts (worldAfter (visits key now) w) _ q k′ (and-snd (ltb now (2 ^ 32)) (all clockFits acts) f))
 legal-from (begins b ∷ acts) w es p k f =
-    let n = free-kept (begin b) (w .bytes) es p tt refl (w .lists) k in (
-      free-permitted (begin b) (w .bytes) es p tt refl,
-      legal-from acts (worldAfter (begins b) w) (turnEventOn (single (once (begin b))) (w .bytes) ∷ es) (n .0) (n .1) f,
-    )
+    free-legal (begin b) (w .bytes) es p tt refl (w .lists) k (turnsOf acts (worldAfter (begins b) w)) (λ q k′. legal-from acts (worldAfter (begins b) w) _ q k′ f)
+legal-from (adds key ∷ acts) w es p k f =
+    free-legal (add key) (w .bytes) es p tt refl (w .lists) k (turnsOf acts (worldAfter (adds key) w)) (λ q k′. legal-from acts (worldAfter (adds key) w) _ q k′ f)
+legal-from (removes key ∷ acts) w es p k f =
+    free-legal (remove key) (w .bytes) es p tt refl (w .lists) k (turnsOf acts (worldAfter (removes key) w)) (λ q k′. legal-from acts (worldAfter (removes key) w) _ q k′ f)
 
 pub clients-legal : (acts : List Act) (w : World) → Passing (w .bytes) → Unused (w .lists) → all clockFits acts ≡ true
     → LegalTurns turnAfterOn turnEventOn (turnsOf acts w) (w .bytes) []

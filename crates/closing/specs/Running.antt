@@ -6,20 +6,21 @@ use mir.Val.{Val}
 use denote.Laws.{Is}
 use denote.Struct.Declared.{row}
 use Rattle.types.proofs.Transaction.{the-type}
-use Rattle.model.specs.Types.{Transaction}
+use Rattle.model.specs.Types.{Record, Transaction}
 use Rattle.model.specs.Records.{records, recordsText}
 use Rattle.model.specs.Coordinator.{Letter, coordinatorOf, coordinatorText}
 use Rattle.model.specs.Refusals.{refusalOf}
 use Rattle.model.specs.Transactions.{donePhase, held, puts, moved}
 use Rattle.model.specs.Groups.{groupCount}
-use Rattle.model.specs.Writes.{Sheets, Write, lineAfter, linesAfter, apply}
+use Rattle.model.specs.Writes.{Sheets, Write, lineAfter, apply}
 use Rattle.model.specs.WellFormed.{wellFormed}
 use Rattle.model.specs.Steps.{unitsOf, step}
 use Rattle.model.specs.Closing.{Run, stepWrites, stops, goesOn, turn, closing, starting, mostSteps, closeConditions}
 use Rattle.model.specs.ByteCalls.{sheetsOf}
 use Rattle.sheet_laws.specs.Records.{sheet-written-read}
 use Rattle.sheet_laws.specs.Coordinator.{coordinator-written-read}
-use Rattle.call_laws.specs.Lines.{line-key}
+use Rattle.call_laws.specs.Lines.{shifts, line-key, lines-mapped}
+use Rattle.call_laws.specs.SingleUnit.{unit-shifts, step-single}
 use Rattle.call_laws.specs.Transactions.{well-formed-parts}
 use Rattle.call_laws.specs.Keeping.{units-kept}
 use Rattle.call_laws.specs.Moved.{step-leaves}
@@ -29,7 +30,7 @@ use Rattle.transactions.specs.Held.{entryAt, has-room}
 use Rattle.put_groups.specs.Groups.{inGroup}
 use Rattle.put_groups.specs.GroupsIn.{in-group-at}
 use Rattle.held_lines.specs.declared.Located.{Located}
-use Rattle.held_lines.specs.Located.{lineIndex, locatedIn, indexed-all, indexed-kept, place-few}
+use Rattle.held_lines.specs.Located.{Indexed, lineIndex, locatedIn, indexed-all, indexed-kept, place-few}
 use Rattle.steps.specs.Ready.{Ready}
 use Rattle.steps.specs.Stepped.{Stepped}
 use Rattle.closing.specs.declared.Ran.{Ran}
@@ -51,12 +52,12 @@ placed-step s z t l now h =
     let e : moved 0 0 0 u ≡ moved 0 0 0 t = step-leaves (λ (x : Transaction). moved 0 0 0 x) t (λ p q v. refl) s now in
     placed-moved z (moved 0 0 0 u) l (u .phase) (u .place) (u .verdict) (subst (λ (x : Transaction). Placed z x l) (sym e) (placed-moved z t l 0 0 0 h))
 
-placed-written : (w : Write) (s : Sheets) (t : Transaction) (l : Located) → Placed s t l → Placed (apply w s) t l
-unfolding apply linesAfter
-placed-written w s t l h =
+placed-written : (w : Write) (s : Sheets) (t : Transaction) (l : Located) → shifts w ≡ false → Placed s t l → Placed (apply w s) t l
+unfolding apply
+placed-written w s t l calm h =
     let us : unitsOf s ≡ unitsOf (apply w s) = sym (units-kept w (s .coordinator)) in
     record {
-      at = indexed-kept (lineAfter w) (line-key w) (s .lines) t (l .indices) (t .count) (record { at = h .at }) .at;
+      at = subst (λ (ls : List Record). Indexed ls t (l .indices) (t .count)) (sym (lines-mapped w (s .lines) calm)) (indexed-kept (lineAfter w) (line-key w) (s .lines) t (l .indices) (t .count) (record { at = h .at })) .at;
       groups = h .groups ∙ ap (λ (x : List Letter). groupCount x (puts t)) us;
       own = λ p m i k. h .own p m i k ∙ ap (λ (x : List Letter). inGroup x t p (entryAt t i)) us;
     }
@@ -166,7 +167,7 @@ module _ (clock : ℕ) (x : Ran) (rs cs : List ℕ) (l : Located) (k : Sure x rs
                 placed =
                     subst (λ (z : Transaction). Placed (sheetsOf rs′ cs′) z l) (sym u)
                     (subst (λ (z : Sheets). Placed z (step t clock s .transaction) l) (sym says)
-                    (placed-step s s₁ t l clock (placed-written (step t clock s .write) s t l (k .placed))));
+                    (placed-step s s₁ t l clock (placed-written (step t clock s .write) s t l (unit-shifts (step-single t clock s)) (k .placed))));
                 going =
                     subst (λ (z : Transaction). Going z (sheetsOf rs′ cs′)) (sym u)
                     (subst (λ (z : Sheets). Going (step t clock s .transaction) z) (sym says) (next .going));

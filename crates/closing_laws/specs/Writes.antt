@@ -7,7 +7,7 @@ use Rattle.model.specs.Records.{sameKey, hasLine, lineOf}
 use Rattle.model.specs.Coordinator.{decision}
 use Rattle.model.specs.Transactions.{isEmpty, puts, toValidate, noEntry}
 use Rattle.model.specs.Images.{isPrepared, preparedBy, prepared, committed, rolledForward, rolledBack, byDecision, changeOf}
-use Rattle.model.specs.Writes.{Sheets, sheetsGood, Write, nothing, issue, decide, commit, prepare, forward, back, entryFor, byEntry, isOf, lineAfter, linesAfter}
+use Rattle.model.specs.Writes.{Sheets, sheetsGood, Write, nothing, issue, decide, commit, prepare, forward, back, addLine, removeLine, entryFor, byEntry, isOf, lineAfter, shifted, linesAfter}
 use Rattle.model.specs.Writes.{decisionsAfter, apply}
 use Rattle.model.specs.WellFormed.{wellFormed}
 use Rattle.model.specs.Steps.{Step, holds, unitsOf, groupAt, keysOf, onePhaseAllowed, openWithoutPuts, onePhase, openStep, prepareStep, validateStep, decideStep}
@@ -17,7 +17,7 @@ use Rattle.model.specs.Closing.{changes}
 use Rattle.call_laws.specs.Choices.{by-phase, by-decision-of}
 use Rattle.sheet_laws.specs.KeyOrder.{same-key-refl, has-line}
 use Rattle.call_laws.specs.Images.{forward-plain, back-plain}
-use Rattle.call_laws.specs.Lines.{line-key, line-mapped, lines-unmoved, line-of-key}
+use Rattle.call_laws.specs.Lines.{shifts, line-key, line-mapped, lines-mapped, lines-unmoved, line-of-key}
 use Rattle.call_laws.specs.Sheets.{GoodSheets, good-parts, parts-good, write-closed}
 use Rattle.call_laws.specs.Transactions.{Body, well-formed-parts}
 use Rattle.call_laws.specs.Steps.{holds-parts, Closed, step-closed}
@@ -37,16 +37,18 @@ lines-only s e = λ i. record { lines = e i; size = s .size; coordinator = s .co
 
 -- a write that changes nothing leaves the sheets
 pub no-change : (w : Write) (s : Sheets) → changes w s ≡ false → apply w s ≡ s
-unfolding changes apply linesAfter lineAfter decisionsAfter entryFor
-no-change nothing s h = lines-only s (lines-unmoved nothing (λ r. refl) (s .lines))
+unfolding changes apply linesAfter shifted lineAfter decisionsAfter entryFor
+no-change nothing s h = lines-only s (lines-unmoved nothing refl (λ r. refl) (s .lines))
 no-change issue s h = absurd (true≢false h)
 no-change (decide n d) s h = absurd (true≢false h)
-no-change (commit n []) s h = lines-only s (lines-unmoved (commit n []) (λ r. refl) (s .lines))
+no-change (commit n []) s h = lines-only s (lines-unmoved (commit n []) refl (λ r. refl) (s .lines))
 no-change (commit n (e ∷ es)) s h = absurd (true≢false h)
-no-change (prepare n now []) s h = lines-only s (lines-unmoved (prepare n now []) (λ r. refl) (s .lines))
+no-change (prepare n now []) s h = lines-only s (lines-unmoved (prepare n now []) refl (λ r. refl) (s .lines))
 no-change (prepare n now (e ∷ es)) s h = absurd (true≢false h)
 no-change (forward n ks) s h = lines-only s (none-rolled (isOf n ks) rolledForward (s .lines) h)
 no-change (back n ks) s h = lines-only s (none-rolled (isOf n ks) rolledBack (s .lines) h)
+no-change (addLine k) s h = absurd (true≢false h)
+no-change (removeLine k) s h = absurd (true≢false h)
 
 -- What counts.
 
@@ -66,37 +68,37 @@ module _ (s : Sheets) (n : ℕ) (ks : List Key) where
   of-prepared r h = search (tests, h)
 
   forward-changes : any (isOf n ks) (s .lines) ≡ true → apply (forward n ks) s ≡ s → ⊥
-  unfolding apply linesAfter lineAfter
+  unfolding apply linesAfter shifted lineAfter
   forward-changes h e =
       some-rolled (isOf n ks) rolledForward
       (λ r q z. true≢false (sym (of-prepared r q) ∙ (ap isPrepared (sym z) ∙ forward-plain r))) (s .lines) h (ap (λ (x : Sheets). x .lines) e)
 
   back-changes : any (isOf n ks) (s .lines) ≡ true → apply (back n ks) s ≡ s → ⊥
-  unfolding apply linesAfter lineAfter
+  unfolding apply linesAfter shifted lineAfter
   back-changes h e =
       some-rolled (isOf n ks) rolledBack
       (λ r q z. true≢false (sym (of-prepared r q) ∙ (ap isPrepared (sym z) ∙ back-plain r))) (s .lines) h (ap (λ (x : Sheets). x .lines) e)
 
 -- a write that raises the version of a line that is there
-version-changes : (s : Sheets) (w : Write) (k : Key) → hasLine k (s .lines) ≡ true
+version-changes : (s : Sheets) (w : Write) (k : Key) → shifts w ≡ false → hasLine k (s .lines) ≡ true
     → ((r : Record) → r .key ≡ k → lineAfter w r .image .version ≡ r .image .version + 1) → apply w s ≡ s → ⊥
-unfolding apply linesAfter
-version-changes s w k h up e =
+unfolding apply
+version-changes s w k calm h up e =
     let r = lineOf k (s .lines) in
     let m : lineOf k (map (lineAfter w) (s .lines)) ≡ lineAfter w r = line-mapped (lineAfter w) (line-key w) k (s .lines) (sym (has-line k (s .lines)) ∙ h) in
-    let a : lineAfter w r ≡ r = sym m ∙ ap (λ (x : Sheets). lineOf k (x .lines)) e in
+    let a : lineAfter w r ≡ r = sym (ap (lineOf k) (lines-mapped w (s .lines) calm) ∙ m) ∙ ap (λ (x : Sheets). lineOf k (x .lines)) e in
     let b : lineAfter w r .image .version ≡ r .image .version = ap (λ (x : Record). x .image .version) a in
     omega (arith, b, up r (line-of-key k (s .lines)))
 
 -- a group whose conditions hold, written so that the first entry's line has a higher version
-group-changes : (s : Sheets) (w : List Entry → Write)
+group-changes : (s : Sheets) (w : List Entry → Write) → ((es : List Entry) → shifts (w es) ≡ false)
     → ((e : Entry) (es : List Entry) (r : Record) → r .key ≡ e .key → lineAfter (w (e ∷ es)) r .image .version ≡ r .image .version + 1) → (es : List Entry)
     → all (holds s) es ≡ true → not (isEmpty es) ≡ true → apply (w es) s ≡ s → ⊥
 unfolding all
-group-changes s w up [] c h e = true≢false (sym h)
-group-changes s w up (x ∷ es) c h e =
+group-changes s w calm up [] c h e = true≢false (sym h)
+group-changes s w calm up (x ∷ es) c h e =
     let a : holds s x ≡ true = and-fst (holds s x) (all (holds s) es) c in
-    version-changes s (w (x ∷ es)) (x .key) (holds-parts s x a .0) (up x es) e
+    version-changes s (w (x ∷ es)) (x .key) (calm (x ∷ es)) (holds-parts s x a .0) (up x es) e
 
 own-entry : (e : Entry) (es : List Entry) (r : Record) → r .key ≡ e .key → entryFor (r .key) (e ∷ es) ≡ some e
 unfolding entryFor
@@ -131,11 +133,11 @@ module _ (s : Sheets) (good : GoodSheets s) (t : Transaction) (b : Body s t) (no
       (λ x. choose-by Differs (isEmpty (toValidate (unitsOf s) t)) (λ y. none) (λ y. none))
       (λ x. choose-by Differs (onePhaseAllowed t s)
       (λ y. choose-by Differs (all (holds s) (groupAt t s))
-      (λ c. group-changes s (commit (t .number)) (commit-raises (t .number)) (groupAt t s) c)
+      (λ c. group-changes s (commit (t .number)) (λ es. refl) (commit-raises (t .number)) (groupAt t s) c)
       (λ c. none))
       (λ y. none)))
       (choose-by Differs (all (holds s) (groupAt t s))
-      (λ c. group-changes s (prepare (t .number) now) (prepare-raises (t .number) now) (groupAt t s) c)
+      (λ c. group-changes s (prepare (t .number) now) (λ es. refl) (prepare-raises (t .number) now) (groupAt t s) c)
       (λ c. none))
       (choose-by Differs (holds s (getD (toValidate (unitsOf s) t) (t .place) noEntry)) (λ c. none) (λ c. none))
       (by-decision-of Differs own (λ u h. decide-changes Committed u (undecided-not Committed refl)) (λ d. none) (λ d. none))

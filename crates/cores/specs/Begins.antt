@@ -50,7 +50,7 @@ module _ (cs : List ℕ) (a : coordinatorReadable cs ≡ true) where
         let l : coordinatorBytes ≤ length cs = readable-length cs a in
         let m : leb 4 (length cs) ≡ true = le-leb 4 (length cs) (omega arith) in
         record {
-          lines = lines-kept rs cs h issue (λ r. refl);
+          lines = lines-kept rs cs h issue refl (λ r. refl);
           decisions =
               e
               ∙ (ap (λ (x : Bool). cond x (over cs 0 (fieldText 4 (n + 1))) cs) m

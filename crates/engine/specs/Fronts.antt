@@ -1,57 +1,24 @@
 -- A call is lent the lines of records, and the spares stay behind them: what it makes of the lines is what the call on both sheets makes of the record sheet. No call sees how
--- many spares there are (call_laws Sizes), and none changes how many records.
-use Rattle.lists.specs.Basics.{_≡_, refl, sym, ap, subst, _∙_, ℕ, zero, suc, _*_, _/_, _≤_, eqb, Bool, true, false, cond, List, _++_, length, length-map, take, drop, arith}
-use Rattle.model.specs.Types.{Record, Transaction}
+-- many spares there are (call_laws Sizes), and none changes how many records (StandingKeys), but for adding and removing, which have a crate of their own.
+use Rattle.lists.specs.Basics.{_≡_, refl, sym, ap, subst, _∙_, ℕ, _*_, _/_, _≤_, false, List, _++_, length, take, drop, arith}
+use Rattle.model.specs.Types.{Transaction}
 use Rattle.model.specs.Layouts.{recordBytes}
 use Rattle.model.specs.Records.{records}
 use Rattle.model.specs.Spares.{filledLines, front, recordLines}
 use Rattle.model.specs.Refusals.{refusalOf}
 use Rattle.model.specs.SheetCalls.{checkConditions}
-use Rattle.model.specs.Writes.{Sheets, Write, lineAfter, linesAfter, apply}
-use Rattle.model.specs.Results.{Call, Answer, Response, Result, refused, made}
+use Rattle.model.specs.Writes.{Sheets}
+use Rattle.model.specs.Results.{Call, shiftsLines, Answer, Response, Result, refused, made}
 use Rattle.model.specs.Calls.{result}
 use Rattle.model.specs.ByteCalls.{sheetsSaid, resultOn, sheetsOf}
-use Rattle.model.specs.Closing.{Run, stops, goesOn, turn, closing, starting, mostSteps, closeConditions}
-use Rattle.model.specs.Operations.{Operation, once, close, settled, closeRun, ended, response, sheetsLeft, responseOn, sheetLeft, coordinatorLeft, recordsLeft}
+use Rattle.model.specs.Operations.{Operation, operationShifts, response, sheetsLeft, responseOn, sheetLeft, coordinatorLeft, recordsLeft}
 use Rattle.sheet_laws.specs.Fronts.{filled-within}
 use Rattle.sheet_laws.specs.Spared.{accepted-whole}
-use Rattle.call_laws.specs.Lines.{lines-mapped}
+use Rattle.call_laws.specs.StandingKeys.{response-count}
 use Rattle.call_laws.specs.Lifting.{passing-parts}
 use Rattle.call_laws.specs.Sizes.{resized, response-resized}
 use Rattle.answers.specs.Answers.{toClosed, toPerformed}
 use Rattle.call_laws.specs.Accepted.{Accepted, accepted, Outcome, SheetOutcome, let-pass, passed-answer, unless-free, front-back, front-text}
-
--- As many records as before.
-
-lines-count : (w : Write) (rs : List Record) → length (linesAfter w rs) ≡ length rs
-lines-count w rs = ap length (lines-mapped w rs) ∙ length-map rs (lineAfter w)
-
-turn-count : (now : ℕ) (x : Run) → length (turn now x .sheets .lines) ≡ length (x .sheets .lines)
-unfolding turn apply
-turn-count now x = go (stops now x)
-  where
-    go : (b : Bool) → length (cond b x (goesOn now x) .sheets .lines) ≡ length (x .sheets .lines)
-    go true = refl
-    go false = lines-count _ (x .sheets .lines)
-
-closing-count : (n now : ℕ) (x : Run) → length (closing n now x .sheets .lines) ≡ length (x .sheets .lines)
-unfolding closing
-closing-count zero now x = refl
-closing-count (suc n) now x = closing-count n now (turn now x) ∙ turn-count now x
-
-settled-count : (s : Sheets) (r : Result Answer) → length (sheetsLeft s (settled s r) .lines) ≡ length (s .lines)
-unfolding apply
-settled-count s (refused n) = refl
-settled-count s (made a w) = lines-count w (s .lines)
-
-pub response-count : (o : Operation) (s : Sheets) → length (sheetsLeft s (response o s) .lines) ≡ length (s .lines)
-unfolding response
-response-count (once c) s = settled-count s (result c s)
-response-count (close t now limit) s = go (eqb (refusalOf (closeConditions t s)) 0)
-  where
-    go : (b : Bool) → length (sheetsLeft s (cond b (ended (closeRun t now limit s)) (refused (refusalOf (closeConditions t s)))) .lines) ≡ length (s .lines)
-    go true = closing-count mostSteps now (starting t limit s)
-    go false = refl
 
 -- The answer and the bytes are those of a response: of lines of records, and of both sheets.
 abbrev pub Gives : {B : Type 0} → (Response Answer Sheets → B) → Response Answer Sheets → List ℕ → List ℕ → B → List ℕ → List ℕ → Type 0
@@ -91,16 +58,16 @@ module _ (rs cs : List ℕ) (passed : refusalOf (checkConditions rs cs) ≡ 0) (
   behind : drop (filledLines recordBytes rs * recordBytes) rs ≡ drop end rs
   behind = ap (λ (n : ℕ). drop n rs) (sym at)
 
-  module _ {B : Type 0} (f : Result Answer → B) (c : Call) {answer : B} where
+  module _ {B : Type 0} (f : Result Answer → B) (c : Call) (calm : shiftsLines c ≡ false) {answer : B} where
     pub call-passed : {ls′ cs′ : List ℕ} → Outcome f (result c (sheetsOf (take end rs) cs)) (take end rs) cs answer ls′ cs′ → SheetOutcome f (resultOn c rs cs) rs cs answer (ls′ ++ drop end rs) cs′
     call-passed {ls′} {cs′} o =
         subst (λ (x : List ℕ). SheetOutcome f (resultOn c rs cs) rs cs answer (ls′ ++ x) cs′) behind
-        (let-pass f c rs cs passed (subst (λ (x : List ℕ). Outcome f (result c (sheetsOf x cs)) x cs answer ls′ cs′) (sym lent) o))
+        (let-pass f c rs cs calm passed (subst (λ (x : List ℕ). Outcome f (result c (sheetsOf x cs)) x cs answer ls′ cs′) (sym lent) o))
 
     pub answer-passed : answer ≡ f (result c (sheetsOf (take end rs) cs)) → answer ≡ f (resultOn c rs cs)
-    answer-passed e = passed-answer f c rs cs passed (e ∙ ap (λ (x : List ℕ). f (result c (sheetsOf x cs))) (sym lent))
+    answer-passed e = passed-answer f c rs cs calm passed (e ∙ ap (λ (x : List ℕ). f (result c (sheetsOf x cs))) (sym lent))
 
-  module _ {B : Type 0} (f : Response Answer Sheets → B) (blind : Blind f) (o : Operation) where
+  module _ {B : Type 0} (f : Response Answer Sheets → B) (blind : Blind f) (o : Operation) (calm : operationShifts o ≡ false) where
     abbrev inner : Response Answer Sheets
     inner = response o (sheetsOf (recordLines rs) cs)
 
@@ -108,7 +75,7 @@ module _ (rs cs : List ℕ) (passed : refusalOf (checkConditions rs cs) ≡ 0) (
     unfolding responseOn
     whole =
         unless-free (checkConditions rs cs) (response o (sheetsSaid rs cs)) passed
-        ∙ response-resized (length rs / recordBytes) o (sheetsOf (recordLines rs) cs)
+        ∙ response-resized (length rs / recordBytes) o (sheetsOf (recordLines rs) cs) calm
 
     sheet-left : (r : Response Answer Sheets) → length (sheetsLeft (sheetsOf (recordLines rs) cs) r .lines) ≡ length (records (recordLines rs))
         → recordsLeft (recordLines rs) r ++ drop (filledLines recordBytes rs * recordBytes) rs ≡ sheetLeft rs (resized (length rs / recordBytes) r)
@@ -128,7 +95,7 @@ module _ (rs cs : List ℕ) (passed : refusalOf (checkConditions rs cs) ≡ 0) (
           h .0 ∙ sym (blind (length rs / recordBytes) inner),
           (
             ap (λ (x : List ℕ). ls′ ++ x) (sym behind)
-                ∙ (ap (λ (x : List ℕ). x ++ drop (filledLines recordBytes rs * recordBytes) rs) (h .1 .0) ∙ sheet-left inner (response-count o (sheetsOf (recordLines rs) cs))),
+                ∙ (ap (λ (x : List ℕ). x ++ drop (filledLines recordBytes rs * recordBytes) rs) (h .1 .0) ∙ sheet-left inner (response-count o (sheetsOf (recordLines rs) cs) calm)),
             h .1 .1 ∙ decisions-left inner,
           ),
         )

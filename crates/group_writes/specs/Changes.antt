@@ -12,7 +12,7 @@ use Rattle.model.specs.Writes.{Write, commit, prepare, forward, back, entryFor,
 use Rattle.model.specs.Steps.{keysOf}
 use Rattle.sheet_laws.specs.Records.{good-ranged, record-written-read}
 use Rattle.sheet_laws.specs.ByIndex.{whole-lines, length-records, record-at, line-set, records-over}
-use Rattle.call_laws.specs.Lines.{lines-unmoved}
+use Rattle.call_laws.specs.Lines.{shifts, lines-mapped, lines-unmoved}
 use Rattle.sheet_laws.specs.Ranks.{accepted-order}
 use Rattle.sheet_laws.specs.KeyOrder.{same-key, same-key-refl}
 use Rattle.call_laws.specs.Keys.{same-key-flip, hasKey, no-entry}
@@ -88,19 +88,32 @@ by-key (Prepare now) n es r = refl
 by-key Forward n es r = rolled-by-entry (preparedBy n r) (rolledForward r) r (r .key) es
 by-key Back n es r = rolled-by-entry (preparedBy n r) (rolledBack r) r (r .key) es
 
+-- no line shifts
+group-calm : (c : Effect) (n : ℕ) (es : List Entry) → shifts (written c n es) ≡ false
+unfolding written
+group-calm Commit n es = refl
+group-calm (Prepare now) n es = refl
+group-calm Forward n es = refl
+group-calm Back n es = refl
+
 -- Lines under the changes for a group's entries.
 module _ (c : Effect) (n : ℕ) where
+  -- they go line by line
+  pub group-mapped : (es : List Entry) (rs : List Record) → linesAfter (written c n es) rs ≡ map (lineAfter (written c n es)) rs
+  group-mapped es rs = lines-mapped (written c n es) rs (group-calm c n es)
+
   pub lines-none : (rs : List Record) → linesAfter (written c n []) rs ≡ rs
   unfolding entryFor
-  lines-none rs = lines-unmoved (written c n []) (λ r. by-key c n [] r) rs
+  lines-none rs = lines-unmoved (written c n []) (group-calm c n []) (λ r. by-key c n [] r) rs
 
   pub lines-first : (e : Entry) (es : List Entry) (rs : List Record) → hasKey (e .key) es ≡ false → linesAfter (written c n (e ∷ es)) rs ≡ linesAfter (written c n es) (map (atKey (e .key) (changed c n (changeOf e))) rs)
-  unfolding linesAfter
   lines-first e es rs free =
-      map-equal (λ (r : Record). true) (lineAfter (written c n (e ∷ es))) (λ (r : Record). lineAfter (written c n es) (atKey (e .key) (changed c n (changeOf e)) r))
+      group-mapped (e ∷ es) rs
+      ∙ map-equal (λ (r : Record). true) (lineAfter (written c n (e ∷ es))) (λ (r : Record). lineAfter (written c n es) (atKey (e .key) (changed c n (changeOf e)) r))
       (λ r h. by-key c n (e ∷ es) r ∙ (one-first c n e es r free ∙ sym (by-key c n es (atKey (e .key) (changed c n (changeOf e)) r))))
       rs (all-always rs)
-      ∙ sym (map-map (lineAfter (written c n es)) (atKey (e .key) (changed c n (changeOf e))) rs)
+      ∙ (sym (map-map (lineAfter (written c n es)) (atKey (e .key) (changed c n (changeOf e))) rs)
+      ∙ sym (group-mapped es (map (atKey (e .key) (changed c n (changeOf e))) rs)))
 
   -- the new line of the entry's key keeps the rules
   abbrev pub fits : List Record → Entry → Bool

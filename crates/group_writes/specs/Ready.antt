@@ -14,8 +14,8 @@ use Rattle.sheet_laws.specs.Letters.{unitsIn, units-said}
 use Rattle.sheet_laws.specs.Decisions.{readable-length}
 use Rattle.call_laws.specs.Ranges.{GoodParts, fine, fine-parts, parts-fine, absent-good}
 use Rattle.call_laws.specs.Images.{MayPut, committed-fine, prepared-fine, forward-fine, back-fine}
-use Rattle.sheet_laws.specs.KeyOrder.{has-line}
-use Rattle.call_laws.specs.Lines.{line-passes, unlisted}
+use Rattle.sheet_laws.specs.KeyOrder.{has-line, unlisted}
+use Rattle.call_laws.specs.Lines.{line-passes}
 use Rattle.call_laws.specs.Sheets.{GoodSheets, good-parts}
 use Rattle.call_laws.specs.Transactions.{Body, key-formed}
 use Rattle.call_laws.specs.Steps.{holds-parts, group-formed, may-put-over}

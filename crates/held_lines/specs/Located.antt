@@ -18,8 +18,7 @@ use Rattle.model.specs.WellFormed.{placeFormed}
 use Rattle.sheet_laws.specs.Search.{some-found, first-at, first-map}
 use Rattle.call_laws.specs.Choices.{by-phase-of}
 use Rattle.call_laws.specs.Entries.{getD-first}
-use Rattle.sheet_laws.specs.KeyOrder.{same-key, has-line, listsKey}
-use Rattle.call_laws.specs.Lines.{unlisted}
+use Rattle.sheet_laws.specs.KeyOrder.{same-key, has-line, listsKey, unlisted}
 use Rattle.model.specs.Images.{preparedBy}
 use Rattle.call_laws.specs.Keys.{hasKey}
 use Rattle.call_laws.specs.ByIndex.{found-at}

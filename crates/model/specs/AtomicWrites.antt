@@ -1,7 +1,10 @@
 -- A write in one unit, over bytes. Document 00, demand 2: a call "writes to at most one unit or the coordinator sheet".
-use Rattle.lists.specs.Basics.{_≡_, ℕ, List, length}
+use Rattle.lists.specs.Basics.{_≡_, ℕ, List, [], _∷_, _++_, length}
 use Rattle.model.specs.Types.{Key, At}
+use Rattle.model.specs.Layouts.{recordBytes}
+use Rattle.model.specs.Lines.{linesOf}
 use Rattle.model.specs.Records.{recordIn}
+use Rattle.model.specs.Spares.{spareLine}
 use Rattle.model.specs.Coordinator.{Letter, coordinatorOf}
 use Rattle.model.specs.SheetCalls.{lineAt}
 use Rattle.model.specs.Groups.{scope}
@@ -15,9 +18,26 @@ scopeAt i b = scope (coordinatorOf (b .coordinator) .units) (recordIn (lineAt (b
 
 -- Both sheets before and after: the coordinator sheet stays, the record sheet keeps its length and each of its lines outside one unit its bytes; or the
 -- record sheet stays.
+pub data WithinUnit (before after : Bytes) : Type 0 where
+  lines-of-one-unit : (unit : List ℕ) → after .coordinator ≡ before .coordinator → length (after .records) ≡ length (before .records) → ((i : ℕ) → (scopeAt i before ≡ unit → ⊥) → lineAt (after .records) (At i) ≡ lineAt (before .records) (At i)) → WithinUnit before after
+  coordinator-only : after .records ≡ before .records → WithinUnit before after
+
+-- Document 02, note 6: "Each is one atomic write, of that line only: lines that shift by it don't count as written." A sheet before and after a line is put in at index i: it keeps its length, the lines from there on stand one further down, and of the spares at the end one is used up. The
+-- other way round it is a line taken out, those below it one further up and a spare more.
+pub record LinePutIn (width i : ℕ) (before after : List ℕ) : Type 0 where
+  pub above : List (List ℕ)
+  pub below : List (List ℕ)
+  pub line : List ℕ
+  pub index : length above ≡ i
+  pub size : length after ≡ length before
+  pub was : linesOf width before ≡ above ++ (below ++ (spareLine width ∷ []))
+  pub is : linesOf width after ≡ above ++ (line ∷ below)
+
+-- what a call may write: within one unit, or the coordinator sheet, or one line put in or taken out
 pub data OneUnit (before after : Bytes) : Type 0 where
-  lines-of-one-unit : (unit : List ℕ) → after .coordinator ≡ before .coordinator → length (after .records) ≡ length (before .records) → ((i : ℕ) → (scopeAt i before ≡ unit → ⊥) → lineAt (after .records) (At i) ≡ lineAt (before .records) (At i)) → OneUnit before after
-  coordinator-only : after .records ≡ before .records → OneUnit before after
+  within-unit : WithinUnit before after → OneUnit before after
+  line-added : (i : ℕ) → after .coordinator ≡ before .coordinator → LinePutIn recordBytes i (before .records) (after .records) → OneUnit before after
+  line-removed : (i : ℕ) → after .coordinator ≡ before .coordinator → LinePutIn recordBytes i (after .records) (before .records) → OneUnit before after
 
 -- Of a plain sheet and a bookkeeping sheet. Document 02, note 4: "An atomic write goes to both, within one unit."
 
@@ -32,6 +52,15 @@ PlainKeeps unit b a = KeepsOthers (coordinatorOf (b .coordinator) .units) unit p
 abbrev pub BookkeepingKeeps : List ℕ → TwoBytes → TwoBytes → Type 0
 BookkeepingKeeps unit b a = KeepsOthers (coordinatorOf (b .coordinator) .units) unit bookkeepingBytes (λ (l : List ℕ). bookkeepingRecord l .key) (b .bookkeeping) (a .bookkeeping)
 
+pub data WithinUnitTwo (before after : TwoBytes) : Type 0 where
+  lines-of-one-unit-two : (unit : List ℕ) → after .coordinator ≡ before .coordinator → PlainKeeps unit before after → BookkeepingKeeps unit before after → WithinUnitTwo before after
+  coordinator-only-two : after .plain ≡ before .plain → after .bookkeeping ≡ before .bookkeeping → WithinUnitTwo before after
+
+-- a line put in goes to both, at the same index
+abbrev pub BothPutIn : ℕ → TwoBytes → TwoBytes → Type 0
+BothPutIn i b a = LinePutIn plainBytes i (b .plain) (a .plain) × LinePutIn bookkeepingBytes i (b .bookkeeping) (a .bookkeeping)
+
 pub data OneUnitTwo (before after : TwoBytes) : Type 0 where
-  lines-of-one-unit-two : (unit : List ℕ) → after .coordinator ≡ before .coordinator → PlainKeeps unit before after → BookkeepingKeeps unit before after → OneUnitTwo before after
-  coordinator-only-two : after .plain ≡ before .plain → after .bookkeeping ≡ before .bookkeeping → OneUnitTwo before after
+  within-unit-two : WithinUnitTwo before after → OneUnitTwo before after
+  line-added-two : (i : ℕ) → after .coordinator ≡ before .coordinator → BothPutIn i before after → OneUnitTwo before after
+  line-removed-two : (i : ℕ) → after .coordinator ≡ before .coordinator → BothPutIn i after before → OneUnitTwo before after

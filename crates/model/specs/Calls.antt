@@ -6,9 +6,9 @@ use Rattle.model.specs.Records.{lineOf, byFound}
 use Rattle.model.specs.Groups.{isLower}
 use Rattle.model.specs.Images.{isAbsent, columnsOf}
 use Rattle.model.specs.Transactions.{openPhase, withdrawPhase, noVerdict, noEntry, heldAt, reading, entryAs, withPut, moved, withEntry}
-use Rattle.model.specs.Writes.{Sheets, nothing, issue}
+use Rattle.model.specs.Writes.{Sheets, nothing, issue, addLine, removeLine}
 use Rattle.model.specs.Visits.{meeting, isAgain, recovered, recoveryWrite}
-use Rattle.model.specs.Results.{Call, begin, read, second, put, advance, abort, visit, Answer, returned, answered, visited, Result, made, unless}
+use Rattle.model.specs.Results.{Call, begin, read, second, put, advance, abort, visit, add, remove, Answer, returned, answered, visited, acknowledged, Result, made, unless}
 use Rattle.model.specs.Conditions.{isNew, takesTwo, heldEntry, conditions}
 use Rattle.model.specs.Steps.{unitsOf, step}
 
@@ -77,6 +77,9 @@ outcome (abort t) s = made (returned (moved withdrawPhase 0 (t .verdict) t)) not
 outcome (visit k now) s =
     made (visited (meeting now s (lineOf k (s .lines))))
     (recoveryWrite (meeting now s (lineOf k (s .lines))) (lineOf k (s .lines)))
+-- "uses up a spare", "makes a spare": the sheet has as many lines as before
+outcome (add k) s = made acknowledged (addLine k)
+outcome (remove k) s = made acknowledged (removeLine k)
 
 -- Every call: refused by the first of its conditions that holds, or what an accepted one comes to.
 unfoldable pub result : Call → Sheets → Result Answer

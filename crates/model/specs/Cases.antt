@@ -7,7 +7,7 @@ use Rattle.model.specs.Records.{recordIn, noImage}
 use Rattle.model.specs.Transactions.{noEntry, entryAs, openPhase, preparePhase, decidePhase, finishPhase, undoPhase}
 use Rattle.model.specs.Groups.{groupCount}
 use Rattle.model.specs.Images.{lineExpired, byRecovery}
-use Rattle.model.specs.Results.{advance, Answer, turnedAway, returned, answered, visited, reported, Result, answerOf}
+use Rattle.model.specs.Results.{advance, Answer, turnedAway, returned, answered, visited, reported, acknowledged, Result, answerOf}
 use Rattle.model.specs.ByteCalls.{resultOn, sheetAfter, coordinatorAfter}
 use Rattle.model.specs.Visitor.{visitorOutput}
 use Rattle.lists.specs.Bytes as Bytes
@@ -119,6 +119,7 @@ told (answered v t) = []
 -- 0 stays, 1 forward, 2 back, 3 again
 told (visited v) = byRecovery v 0 1 2 3 0 ∷ []
 told (reported n t) = n ∷ t .phase ∷ t .place ∷ t .verdict ∷ []
+told acknowledged = []
 
 abbrev pub advanced : Transaction → List ℕ → List ℕ → Result Answer
 advanced t line own = resultOn (advance t 7000) (text (line ∷ [])) (coordinatorWith own)
@@ -134,7 +135,7 @@ advanceCase t line own line′ own′ answer =
     }
 
 unfoldable pub cases : List Case
-unfolding Bytes.bytes Bytes.eqList Each.all Each.any Each.filter Each.count Each.joined Each.pieces Each.less Field.stepped Field.scanned Field.within Field.figure Field.number Field.isNumber Field.ahead Field.fieldText Layouts.words Layouts.recordLayout Layouts.keyLayout Layouts.imageLayout Layouts.columnsLayout Layouts.headLayout Layouts.lineLayout Lines.wordFrom Lines.fieldValue Lines.fieldBytes Lines.inRange Lines.rowOf Lines.lineSet Lines.lineText Lines.rowGood Lines.linesOf Lines.linesSet Records.stateNumber Records.stateOf Records.keyNumbers Records.imageNumbers Records.keyOf Records.imageFrom Records.recordOf Records.recordNumbers Records.isZero Records.absentRule Records.committedRule Records.preparedRule Records.goodAlone Records.keyLess Records.inOrder Records.rising Records.recordsGood Records.recordIn Records.recordText Records.records Records.recordsText Records.recordsAccepted Spares.spareLine Spares.trimmed Spares.filledLines Spares.front Spares.sized Spares.sheetFor Spares.sheetAccepted Records.keyInRange Records.sameKey Search.firstFrom Records.found Records.isMissing Records.lineOf Coordinator.decisionNumber Coordinator.decisionOf Coordinator.unitNumber Coordinator.unitOf Coordinator.letterNumber Coordinator.letterOf Coordinator.isUndecided Coordinator.decision Coordinator.withDecision Coordinator.coordinatorGood Coordinator.decisionIn Coordinator.coordinatorOf Coordinator.numbered Coordinator.coordinatorReadable Coordinator.allCapitals Coordinator.coordinatorAccepted Coordinator.namesIssued Coordinator.decisionTexts Coordinator.headNumbers Coordinator.coordinatorText Refusals.refusalOf SheetCalls.allIssued SheetCalls.checkConditions Transactions.held Transactions.puts Transactions.toValidate Groups.unitFields Groups.letterFor Groups.scope Groups.addScope Groups.scopes Groups.groupCount Groups.groupPlace Groups.group Images.preparedBy Images.unchanged Images.sameColumns Images.prepared Images.committed Images.rolledForward Images.rolledBack Images.elapsed Images.lineExpired Images.recovery Writes.entryFor Writes.isOf Writes.lineAfter Writes.linesAfter Writes.decisionsAfter Writes.apply WellFormed.imageInRange WellFormed.columnsInRange WellFormed.putFits WellFormed.entryFormed WellFormed.distinctKeys WellFormed.placeFormed WellFormed.verdictFormed WellFormed.formed WellFormed.wellFormed Visits.numberExpired Visits.meeting Visits.recoveryWrite Conditions.cannotAdvance Conditions.conditions Steps.holds Steps.onePhaseAllowed Steps.onePhase Steps.openStep Steps.nextGroup Steps.prepareStep Steps.decideStep Steps.finishStep Steps.undoStep Steps.step Calls.outcome Calls.result ByteCalls.resultOn ByteCalls.sheetAfter ByteCalls.coordinatorAfter ByteHistories.afterOn Visitor.firstLayout Visitor.inputFits Visitor.inputConditions Visitor.visitedAll Visitor.swept Visitor.visitorOutput
+unfolding Bytes.bytes Bytes.eqList Each.all Each.any Each.filter Each.count Each.joined Each.pieces Each.less Field.stepped Field.scanned Field.within Field.figure Field.number Field.isNumber Field.ahead Field.fieldText Layouts.words Layouts.recordLayout Layouts.keyLayout Layouts.imageLayout Layouts.columnsLayout Layouts.headLayout Layouts.lineLayout Lines.wordFrom Lines.fieldValue Lines.fieldBytes Lines.inRange Lines.rowOf Lines.lineSet Lines.lineText Lines.rowGood Lines.linesOf Lines.linesSet Records.stateNumber Records.stateOf Records.keyNumbers Records.imageNumbers Records.keyOf Records.imageFrom Records.recordOf Records.recordNumbers Records.isZero Records.absentRule Records.committedRule Records.preparedRule Records.goodAlone Records.keyLess Records.inOrder Records.rising Records.recordsGood Records.recordIn Records.recordText Records.records Records.recordsText Records.recordsAccepted Spares.spareLine Spares.trimmed Spares.filledLines Spares.front Spares.sized Spares.sheetFor Spares.sheetAccepted Records.keyInRange Records.sameKey Search.firstFrom Records.found Records.isMissing Records.lineOf Coordinator.decisionNumber Coordinator.decisionOf Coordinator.unitNumber Coordinator.unitOf Coordinator.letterNumber Coordinator.letterOf Coordinator.isUndecided Coordinator.decision Coordinator.withDecision Coordinator.coordinatorGood Coordinator.decisionIn Coordinator.coordinatorOf Coordinator.numbered Coordinator.coordinatorReadable Coordinator.allCapitals Coordinator.coordinatorAccepted Coordinator.namesIssued Coordinator.decisionTexts Coordinator.headNumbers Coordinator.coordinatorText Refusals.refusalOf SheetCalls.allIssued SheetCalls.checkConditions Transactions.held Transactions.puts Transactions.toValidate Groups.unitFields Groups.letterFor Groups.scope Groups.addScope Groups.scopes Groups.groupCount Groups.groupPlace Groups.group Images.preparedBy Images.unchanged Images.sameColumns Images.prepared Images.committed Images.rolledForward Images.rolledBack Images.elapsed Images.lineExpired Images.recovery Writes.entryFor Writes.isOf Writes.lineAfter Writes.shifted Writes.linesAfter Writes.decisionsAfter Writes.apply WellFormed.imageInRange WellFormed.columnsInRange WellFormed.putFits WellFormed.entryFormed WellFormed.distinctKeys WellFormed.placeFormed WellFormed.verdictFormed WellFormed.formed WellFormed.wellFormed Visits.numberExpired Visits.meeting Visits.recoveryWrite Conditions.cannotAdvance Conditions.conditions Steps.holds Steps.onePhaseAllowed Steps.onePhase Steps.openStep Steps.nextGroup Steps.prepareStep Steps.decideStep Steps.finishStep Steps.undoStep Steps.step Calls.outcome Calls.result ByteCalls.resultOn ByteCalls.sheetAfter ByteCalls.coordinatorAfter ByteHistories.afterOn Visitor.firstLayout Visitor.inputFits Visitor.inputConditions Visitor.visitedAll Visitor.swept Visitor.visitorOutput
 cases =
     -- the four clock edges: 14999, 15000, 2147483647 and 2147483648 ticks
     expiryCase 19999 0

@@ -3,7 +3,7 @@
 use Rattle.lists.specs.Basics.{_≡_, ℕ, _^_, eqb, ltb, Bool, true, false, cond, List, [], _∷_, _++_, replicate}
 use Rattle.model.specs.Types.{Key, Transaction, Request}
 use Rattle.types.specs.declared.Request.the-variants as asked
-use Rattle.model.specs.Results.{begin, visit}
+use Rattle.model.specs.Results.{begin, visit, add, remove}
 use Rattle.model.specs.Calls.{newTransaction}
 use Rattle.model.specs.Operations.{once}
 use Rattle.model.specs.CallByPlace.{named, responseAtOn, listAfter}
@@ -19,6 +19,9 @@ pub data Act : Type 0 where
   visits : Key → ℕ → Act
   -- a number is given to someone who keeps no list
   begins : Bool → Act
+  -- anyone adds a line, or removes one
+  adds : Key → Act
+  removes : Key → Act
 
 -- The bytes of both sheets and the list of each client, empty where it has none.
 pub record World : Type 0 where
@@ -43,6 +46,8 @@ turnsIn (asks client place q) w = byPlace (w .lists client) place q ∷ []
 turnsIn (loses client size) w = []
 turnsIn (visits k now) w = single (once (visit k now)) ∷ []
 turnsIn (begins b) w = single (once (begin b)) ∷ []
+turnsIn (adds k) w = single (once (add k)) ∷ []
+turnsIn (removes k) w = single (once (remove k)) ∷ []
 
 unfoldable pub listsAfter : Act → World → ℕ → List Transaction
 listsAfter (asks client place q) w =
@@ -52,6 +57,8 @@ listsAfter (asks client place q) w =
 listsAfter (loses client size) w = withList client (unused size) (w .lists)
 listsAfter (visits k now) w = w .lists
 listsAfter (begins b) w = w .lists
+listsAfter (adds k) w = w .lists
+listsAfter (removes k) w = w .lists
 
 unfoldable pub worldAfter : Act → World → World
 worldAfter a w = record { bytes = turnsLeft turnAfterOn (turnsIn a w) (w .bytes); lists = listsAfter a w }
@@ -78,3 +85,5 @@ clockFits (asks client place q) = ltb (clockAsked q) (2 ^ 32)
 clockFits (loses client size) = true
 clockFits (visits k now) = ltb now (2 ^ 32)
 clockFits (begins b) = true
+clockFits (adds k) = true
+clockFits (removes k) = true

@@ -4,7 +4,7 @@ use Rattle.model.specs.Types.{Transaction}
 use Rattle.model.specs.Transactions.{donePhase}
 use Rattle.model.specs.Results.{advance, Answer, returned, reportIn, answerOf}
 use Rattle.model.specs.ByteHistories.{Bytes, answerOn, afterOn}
-use Rattle.model.specs.AtomicWrites.{OneUnit, OneUnitTwo}
+use Rattle.model.specs.AtomicWrites.{WithinUnit, WithinUnitTwo}
 use Rattle.model.specs.Operations.{close, responseOn, bytesLeft}
 use Rattle.model.specs.TwoCalls.{TwoBytes, responseTwo, twoLeft}
 
@@ -32,11 +32,11 @@ pub data NextWrite {S : Type 0} (unit : S → S → Type 0) (answer answer′ : 
 
 abbrev pub NextLimit : Transaction → (clock limit : ℕ) → Bytes → Type 0
 NextLimit t clock limit b =
-    NextWrite OneUnit (closeAnswer t clock limit b) (closeAnswer t clock (limit + 1) b) (closeLeaves t clock limit b) (closeLeaves t clock (limit + 1) b)
+    NextWrite WithinUnit (closeAnswer t clock limit b) (closeAnswer t clock (limit + 1) b) (closeLeaves t clock limit b) (closeLeaves t clock (limit + 1) b)
 
 abbrev pub NextLimitTwo : Transaction → (clock limit : ℕ) → TwoBytes → Type 0
 NextLimitTwo t clock limit b =
-    NextWrite OneUnitTwo (answerOf (responseTwo (close t clock limit) b)) (answerOf (responseTwo (close t clock (limit + 1)) b))
+    NextWrite WithinUnitTwo (answerOf (responseTwo (close t clock limit) b)) (answerOf (responseTwo (close t clock (limit + 1)) b))
     (twoLeft b (responseTwo (close t clock limit) b)) (twoLeft b (responseTwo (close t clock (limit + 1)) b))
 
 -- "before a step that would write beyond it returns the transaction as it stands", and nowhere else but at done: as many writes were made as the limit

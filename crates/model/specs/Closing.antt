@@ -5,7 +5,7 @@ use Rattle.model.specs.Types.{Decision, Transaction}
 use Rattle.model.specs.Refusals.{Condition, refuse}
 use Rattle.model.specs.Transactions.{byPhase, donePhase, isEmpty}
 use Rattle.model.specs.Images.{byDecision}
-use Rattle.model.specs.Writes.{Sheets, Write, nothing, issue, decide, commit, prepare, forward, back, isOf, apply}
+use Rattle.model.specs.Writes.{Sheets, Write, nothing, issue, decide, commit, prepare, forward, back, addLine, removeLine, isOf, apply}
 use Rattle.model.specs.WellFormed.{wellFormed}
 use Rattle.model.specs.Results.{Call, advance}
 use Rattle.model.specs.Conditions.{ownDecision}
@@ -21,6 +21,8 @@ changes (commit n es) s = not (isEmpty es)
 changes (prepare n now es) s = not (isEmpty es)
 changes (forward n ks) s = any (isOf n ks) (s .lines)
 changes (back n ks) s = any (isOf n ks) (s .lines)
+changes (addLine k) s = true
+changes (removeLine k) s = true
 
 -- A close under way: "the transaction as it stands", both sheets, how many more writes the limit allows, and "how many atomic writes it made".
 pub record Run : Type 0 where

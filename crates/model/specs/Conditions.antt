@@ -1,18 +1,18 @@
 -- Which refusals each call can give, in the order in which they are asked. Document 01, "Numbered refusals"; 1 and 2, of the sheets themselves,
 -- come before these (ByteCalls).
 use Rattle.lists.specs.Basics.{ℕ, eqb, leb, Bool, true, false, not, _&&_, List, [], _∷_, length, getD}
-use Rattle.model.specs.Types.{Key, Decision, Entry, Transaction}
+use Rattle.model.specs.Types.{Key, Record, Decision, Entry, Transaction}
 use Rattle.model.specs.Records.{keyInRange, hasLine, lineOf, isMissing, byFound}
 use Rattle.model.specs.Coordinator.{Letter, decision}
 use Rattle.model.specs.Groups.{isLower}
 use Rattle.model.specs.Refusals.{Condition, refuse}
 use Rattle.model.specs.Transactions.{byPhase, openPhase, noEntry, heldAt}
-use Rattle.model.specs.Images.{byDecision}
+use Rattle.model.specs.Images.{isAbsent, byDecision}
 use Rattle.model.specs.Writes.{Sheets}
 use Rattle.model.specs.Visits.{meeting, isBusy}
 use Rattle.model.specs.WellFormed.{columnsInRange, wellFormed}
 use Rattle.model.specs.Steps.{unitsOf}
-use Rattle.model.specs.Results.{Call, begin, read, second, put, advance, abort, visit}
+use Rattle.model.specs.Results.{Call, begin, read, second, put, advance, abort, visit, add, remove}
 
 -- the key is not held, so that a read visits its line
 abbrev pub isNew : Key → Transaction → Bool
@@ -48,6 +48,21 @@ cannotAdvance t s =
 unfoldable pub cannotAbort : Transaction → Bool
 cannotAbort t = byPhase (t .phase) false false false false true true true true true
 
+-- every line of the record sheet has a record
+abbrev pub noSpare : Sheets → Bool
+noSpare s = leb (s .size) (length (s .lines))
+
+-- "an ABSENT line of version 0"
+unfoldable pub isBlank : Record → Bool
+isBlank r = isAbsent r && eqb (r .image .version) 0
+
+-- of adding, where the sheet is full or not, and of removing
+abbrev pub addConditions : Bool → Key → List Record → List Condition
+addConditions full k rs = refuse 5 (not (keyInRange k)) ∷ refuse 14 (hasLine k rs) ∷ refuse 15 full ∷ []
+
+abbrev pub removeConditions : Key → List Record → List Condition
+removeConditions k rs = refuse 5 (not (keyInRange k)) ∷ refuse 6 (not (hasLine k rs)) ∷ refuse 16 (not (isBlank (lineOf k rs))) ∷ []
+
 unfoldable pub conditions : Call → Sheets → List Condition
 conditions (begin serializable) s = refuse 8 (eqb (s .coordinator .issued) (length (s .coordinator .decisions))) ∷ []
 conditions (read t k now) s =
@@ -79,6 +94,8 @@ conditions (put t k c) s =
 conditions (advance t now) s = refuse 3 (not (wellFormed s t)) ∷ refuse 4 (cannotAdvance t s) ∷ []
 conditions (abort t) s = refuse 3 (not (wellFormed s t)) ∷ refuse 4 (cannotAbort t) ∷ []
 conditions (visit k now) s = refuse 5 (not (keyInRange k)) ∷ refuse 6 (not (hasLine k (s .lines))) ∷ refuse 12 (busy k now s) ∷ []
+conditions (add k) s = addConditions (noSpare s) k (s .lines)
+conditions (remove k) s = removeConditions k (s .lines)
 
 -- the numbers that a call can give, and no others
 unfoldable pub refusals : Call → List ℕ
@@ -89,3 +106,5 @@ refusals (put t k c) = 1 ∷ 2 ∷ 3 ∷ 4 ∷ 5 ∷ 6 ∷ 7 ∷ 10 ∷ 11 ∷ [
 refusals (advance t now) = 1 ∷ 2 ∷ 3 ∷ 4 ∷ []
 refusals (abort t) = 1 ∷ 2 ∷ 3 ∷ 4 ∷ []
 refusals (visit k now) = 1 ∷ 2 ∷ 5 ∷ 6 ∷ 12 ∷ []
+refusals (add k) = 1 ∷ 2 ∷ 5 ∷ 14 ∷ 15 ∷ []
+refusals (remove k) = 1 ∷ 2 ∷ 5 ∷ 6 ∷ 16 ∷ []

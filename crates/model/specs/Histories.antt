@@ -2,8 +2,8 @@
 use Rattle.lists.specs.Basics.{_≡_, ℕ, _^_, _<_, Bool, false, _||_, List, [], _∷_, Option, none, some, _⊎_}
 use Rattle.model.specs.Types.{Transaction}
 use Rattle.model.specs.Writes.{Sheets, Write, isOnePhase, apply}
-use Rattle.model.specs.Results.{Call, begin, read, second, put, advance, abort, visit, Answer, turnedAway, returned, answered, visited, reported}
-use Rattle.model.specs.Results.{returns, writeOf, answerOf}
+use Rattle.model.specs.Results.{Call, begin, read, second, put, advance, abort, visit, add, remove, Answer, turnedAway, returned, answered, visited, reported}
+use Rattle.model.specs.Results.{acknowledged, returns, writeOf, answerOf}
 use Rattle.model.specs.Calls.{result}
 
 -- a call made, and its answer
@@ -32,6 +32,8 @@ given (put t k c) = some t
 given (advance t now) = some t
 given (abort t) = some t
 given (visit k now) = none
+given (add k) = none
+given (remove k) = none
 
 -- the transaction that an accepted call takes; a refused call takes none
 abbrev pub takenBy : Call → Answer → Option Transaction
@@ -40,6 +42,7 @@ takenBy c (returned t) = given c
 takenBy c (answered v t) = given c
 takenBy c (visited v) = given c
 takenBy c (reported n t) = given c
+takenBy c acknowledged = given c
 
 abbrev pub taken : Event → Option Transaction
 taken e = takenBy (e .call) (e .answer)
@@ -59,6 +62,8 @@ ClockFits (put t k c) = Unit {0}
 ClockFits (advance t now) = now < 2 ^ 32
 ClockFits (abort t) = Unit {0}
 ClockFits (visit k now) = now < 2 ^ 32
+ClockFits (add k) = Unit {0}
+ClockFits (remove k) = Unit {0}
 
 -- "A refused call may bring any transaction, key and clock. An accepted one that takes a transaction takes a state" that is available.
 pub record Permitted (c : Call) (a : Answer) (es : List Event) : Type 0 where

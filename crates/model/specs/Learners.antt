@@ -4,13 +4,13 @@ use Rattle.lists.specs.Basics.{_≡_, refl, ℕ, false, List, all}
 use Rattle.lists.specs.All.{map-unmoved}
 use Rattle.model.specs.Types.{Key, Record, Transaction, Back, Again}
 use Rattle.model.specs.Images.{preparedBy}
-use Rattle.model.specs.Writes.{Sheets, nothing, forward, back, isOf, lineAfter, linesAfter, decisionsAfter, apply}
+use Rattle.model.specs.Writes.{Sheets, nothing, forward, back, isOf, lineAfter, shifted, linesAfter, decisionsAfter, apply}
 use Rattle.model.specs.Visits.{recoveryWrite}
 use Rattle.model.specs.Steps.{holds, groupAt, prepareStep}
 
 -- Rolling back and writing ABORTED in one call: a visit that writes ABORTED leaves every line as it is ..
 pub again-leaves-lines : (s : Sheets) (r : Record) → apply (recoveryWrite Again r) s .lines ≡ s .lines
-unfolding apply linesAfter recoveryWrite lineAfter
+unfolding apply linesAfter shifted recoveryWrite lineAfter
 again-leaves-lines s r = map-unmoved _ (λ (x : Record). refl) (s .lines)
 
 -- .. and one that rolls back writes nothing to the coordinator.

@@ -1,12 +1,12 @@
 -- Cases of document 02's requests as one table, and one theorem: each follows from the definitions by computation.
-use Rattle.lists.specs.Basics.{_≡_, refl, ℕ, Bool, true, false, List, [], _∷_, _++_, map, take, bytes}
-use Rattle.model.specs.Types.{Ranked}
+use Rattle.lists.specs.Basics.{_≡_, refl, ℕ, Bool, true, false, List, [], _∷_, _++_, map, take, replicate, bytes}
+use Rattle.model.specs.Types.{Key, Ranked}
 use Rattle.model.specs.Lines.{text}
 use Rattle.model.specs.SheetCalls.{rankOn}
 use Rattle.model.specs.Transactions.{openPhase, undoPhase}
 use Rattle.model.specs.Coordinator.{Letter, coordinatorOf}
 use Rattle.model.specs.Groups.{unitFields}
-use Rattle.model.specs.Results.{visit, answerOf}
+use Rattle.model.specs.Results.{visit, add, remove, answerOf}
 use Rattle.model.specs.Operations.{Operation, once, close, responseOn, sheetLeft, coordinatorLeft}
 use Rattle.model.specs.Cases.{Case, cases, told, transactionAs, committedLine, writtenLine, coordinatorWith, undecidedLine, decidedLine, abortedLine}
 use Rattle.lists.specs.Bytes as Bytes
@@ -30,6 +30,10 @@ use Rattle.model.specs.Steps as Steps
 use Rattle.model.specs.Calls as Calls
 use Rattle.model.specs.Closing as Closing
 use Rattle.model.specs.Operations as Operations
+
+-- keys of one partition
+abbrev pub keyAt : ℕ → Key
+keyAt clustering = record { storage = 1; namespace = 1; table = 1; partition = 1; clustering = clustering }
 
 -- What an operation leaves of both sheets, and what it tells: a refusal; of a visit 0 to 3, of a close the report, phase, place and verdict.
 abbrev pub operationCase : Operation → (lines : List (List ℕ)) (coordinator : List ℕ) (lines′ : List (List ℕ)) (coordinator′ answer : List ℕ) → Case
@@ -66,7 +70,7 @@ abbrev pub ordersWith : List ℕ → List ℕ
 ordersWith own = text (bytes "   2 SSSSSSSSS" ∷ own ∷ bytes "   2         -" ∷ [])
 
 abbrev pub visitAt : (clustering now : ℕ) → Operation
-visitAt clustering now = once (visit (record { storage = 1; namespace = 1; table = 1; partition = 1; clustering = clustering }) now)
+visitAt clustering now = once (visit (keyAt clustering) now)
 
 -- "every line PREPARED by it": at 20000 the first has expired and the last hasn't, at 25000 both have
 abbrev pub liveOrder : List (List ℕ) → List Case
@@ -104,15 +108,14 @@ five-letters = refl
 
 -- NOTE 5: "Two keys without lines may share a place." Of a sheet with lines of clustering 1 and 4 the keys of clustering 0 to 5: 2 and 3 share a place.
 
-abbrev pub twoLines : List ℕ
-twoLines =
-    text
-    (bytes " 1  1  1     1     1 COMMITTED     1   0      500      250     0   0        0        0          0"
-    ∷ bytes " 1  1  1     1     4 COMMITTED     1   0      600      300     0   0        0        0          0"
-    ∷ [])
+abbrev pub lineOne : List ℕ
+lineOne = bytes " 1  1  1     1     1 COMMITTED     1   0      500      250     0   0        0        0          0"
+
+abbrev pub lineFour : List ℕ
+lineFour = bytes " 1  1  1     1     4 COMMITTED     1   0      600      300     0   0        0        0          0"
 
 abbrev pub rankAt : ℕ → Ranked
-rankAt clustering = rankOn twoLines (record { storage = 1; namespace = 1; table = 1; partition = 1; clustering = clustering })
+rankAt clustering = rankOn (text (lineOne ∷ lineFour ∷ [])) (keyAt clustering)
 
 abbrev pub standing : ℕ → Bool → Ranked
 standing below present = record { refusal = 0; rank = record { below = below; present = present } }
@@ -120,3 +123,53 @@ standing below present = record { refusal = 0; rank = record { below = below; pr
 pub shared-place : map rankAt (0 ∷ 1 ∷ 2 ∷ 3 ∷ 4 ∷ 5 ∷ []) ≡ standing 0 false ∷ standing 0 true ∷ standing 1 false ∷ standing 1 false ∷ standing 1 true ∷ standing 2 false ∷ []
 unfolding cases SheetCalls.rankConditions SheetCalls.rankOn Records.rank Each.count
 shared-place = refl
+
+-- NOTE 6: "Adding puts an ABSENT line in key order and uses up a spare; removing takes away an ABSENT line of version 0 and makes a spare".
+
+abbrev pub spare : List ℕ
+spare = replicate 97 32
+
+abbrev pub absentTwo : List ℕ
+absentTwo = bytes " 1  1  1     1     2    ABSENT     0   0        0        0     0   0        0        0          0"
+
+abbrev pub keyCase : Operation → (lines lines′ : List (List ℕ)) (answer : List ℕ) → Case
+keyCase o lines lines′ answer = operationCase o lines (coordinatorWith undecidedLine) lines′ (coordinatorWith undecidedLine) answer
+
+-- refused, nothing changed
+abbrev pub keptCase : Operation → List (List ℕ) → ℕ → Case
+keptCase o lines refusal = keyCase o lines lines (refusal ∷ [])
+
+abbrev pub adding : ℕ → Operation
+adding clustering = once (add (keyAt clustering))
+
+abbrev pub removing : ℕ → Operation
+removing clustering = once (remove (keyAt clustering))
+
+abbrev pub nowhere : Key
+nowhere = record { storage = 0; namespace = 1; table = 1; partition = 1; clustering = 2 }
+
+unfoldable pub spareCases : List Case
+spareCases =
+    -- between, above and below the lines that are there, and on a sheet of spares
+    keyCase (adding 2) (lineOne ∷ lineFour ∷ spare ∷ spare ∷ []) (lineOne ∷ absentTwo ∷ lineFour ∷ spare ∷ []) []
+    ∷ keyCase (adding 2) (lineFour ∷ spare ∷ []) (absentTwo ∷ lineFour ∷ []) []
+    ∷ keyCase (adding 2) (lineOne ∷ spare ∷ []) (lineOne ∷ absentTwo ∷ []) []
+    ∷ keyCase (adding 2) (spare ∷ []) (absentTwo ∷ []) []
+    -- "14, after 6, adding a key that has a line", with a spare or without; "15, after 14, adding with no spare"
+    ∷ keptCase (adding 4) (lineOne ∷ lineFour ∷ spare ∷ []) 14
+    ∷ keptCase (adding 4) (lineOne ∷ lineFour ∷ []) 14
+    ∷ keptCase (adding 2) (lineOne ∷ lineFour ∷ []) 15
+    ∷ keptCase (once (add nowhere)) (lineOne ∷ lineFour ∷ []) 5
+    -- removing
+    ∷ keyCase (removing 2) (lineOne ∷ absentTwo ∷ lineFour ∷ []) (lineOne ∷ lineFour ∷ spare ∷ []) []
+    ∷ keyCase (removing 2) (absentTwo ∷ []) (spare ∷ []) []
+    -- "16, after 15, removing a line that isn't ABSENT of version 0": COMMITTED, or PREPARED over nothing
+    ∷ keptCase (removing 1) (lineOne ∷ lineFour ∷ spare ∷ []) 16
+    ∷ keptCase (removing 1) (firstLine ∷ spare ∷ []) 16
+    ∷ keptCase (removing 2) (lineOne ∷ lineFour ∷ spare ∷ []) 6
+    ∷ keptCase (once (remove nowhere)) (lineOne ∷ absentTwo ∷ []) 5
+    ∷ []
+
+pub spare-cases : map (λ (c : Case). c .given) spareCases ≡ map (λ (c : Case). c .expected) spareCases
+unfolding spareCases noteCases cases Operations.response Operations.responseOn Operations.sheetLeft Operations.coordinatorLeft Writes.inserted Writes.without Conditions.isBlank
+spare-cases = refl

@@ -6,7 +6,7 @@ use Rattle.model.specs.Coordinator.{coordinatorText}
 use Rattle.model.specs.Refusals.{Condition, refusalOf}
 use Rattle.model.specs.SheetCalls.{checkConditions}
 use Rattle.model.specs.Writes.{Sheets, apply}
-use Rattle.model.specs.Results.{Call, advance, Answer, reported, Response, Result, refused, made, unless}
+use Rattle.model.specs.Results.{Call, advance, shiftsLines, Answer, reported, Response, Result, refused, made, unless}
 use Rattle.model.specs.Conditions.{conditions}
 use Rattle.model.specs.Calls.{result}
 use Rattle.model.specs.ByteCalls.{sheetsSaid, sheetText, onSheets}
@@ -23,6 +23,11 @@ pub data Operation : Type 0 where
 unfoldable pub writesOnce : Operation → Bool
 writesOnce (once c) = true
 writesOnce (close t now limit) = false
+
+-- it adds or removes a line
+abbrev pub operationShifts : Operation → Bool
+operationShifts (once c) = shiftsLines c
+operationShifts (close t now limit) = false
 
 -- what it is to legality and to the sequential model: a close takes a transaction and returns it, as one long advance would
 unfoldable pub standsFor : Operation → Call

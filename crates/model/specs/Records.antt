@@ -191,6 +191,9 @@ ranked k rs = record { below = rank k rs; present = hasLine k rs }
 abbrev pub placed : Rank → Found
 placed r = cond (r .present) (At (r .below)) Nothing
 
+abbrev pub keysIn : List Record → List Key
+keysIn rs = map (λ (r : Record). r .key) rs
+
 -- a key without a line counts as an ABSENT line of version 0
 abbrev pub absentAt : Key → Record
 absentAt k = record { key = k; state = Absent; image = noImage; before = noImage; clock = 0 }

@@ -1,13 +1,15 @@
 -- What demand 3 claims, of sheets, a history of turns on them and visits that follow it.
-use Rattle.lists.specs.Basics.{_≡_, ℕ, _<_, Bool, true, List, [], map, some, _⊎_}
-use Rattle.model.specs.Types.{Key, Record, Decision, Committed}
+use Rattle.lists.specs.Basics.{_≡_, ℕ, _<_, Bool, true, false, List, [], map, some, _⊎_, any}
+use Rattle.model.specs.Types.{Key, Decision, Committed}
+use Rattle.model.specs.Records.{sameKey, absentAt, keysIn}
 use Rattle.model.specs.Spares.{sheetFor}
 use Rattle.model.specs.Coordinator.{decision}
 use Rattle.model.specs.Images.{Change}
 use Rattle.model.specs.Writes.{Sheets}
+use Rattle.model.specs.Results.{Call, acknowledged}
 use Rattle.model.specs.Histories.{Event, leftBy}
 use Rattle.model.specs.ByteHistories.{Bytes}
-use Rattle.model.specs.SequentialModel.{Model, firstModel, modelAfter, isCommitted}
+use Rattle.model.specs.SequentialModel.{Model, firstModel, modelAfter, isCommitted, keysAfter}
 use Rattle.model.specs.RecoveryPass.{Visit, visitCall, nonePrepared}
 use Rattle.model.specs.Turns.{Turn, turnOnePhase, turnsLeft, onePhaseTurn, turnEvents}
 use Rattle.model.specs.TwoCalls.{TwoBytes}
@@ -29,6 +31,10 @@ module _ {S : Type 0} (kind : Kind S) where
   abbrev pub historyModel : List Turn → S → Model
   historyModel xs b = modelAfterTurns (kind .sheets) (kind .turned) (kind .events) xs b
 
+  -- the keys that have a line after it
+  abbrev pub historyKeys : List Turn → S → List Key
+  historyKeys xs b = keysAfter (turnEvents (kind .turned) (kind .events) xs b []) (keysIn (kind .sheets b .lines))
+
   -- the sheets after a history, and after visits that follow it
   abbrev pub sheetsRecovered : List Visit → List Turn → S → S
   sheetsRecovered vs xs b = leftBy (kind .answers) (kind .leaves) (map visitCall vs) (turnsLeft (kind .turned) xs b)
@@ -40,15 +46,24 @@ module _ {S : Type 0} (kind : Kind S) where
   pub record RecoveredOn (vs : List Visit) (xs : List Turn) (b : S) : Type 0 where
     -- "no line is PREPARED"
     pub unprepared : nonePrepared (kind .sheets (sheetsRecovered vs xs b) .lines) ≡ true
-    -- "and each is, byte for byte, its line in document 01's plain book"; spares are as many as there were
-    pub lines : kind .text (sheetsRecovered vs xs b) ≡ sheetFor (map (λ (r : Record). historyModel xs b .line (r .key)) (kind .sheets b .lines)) (kind .sheets b .size)
+    -- "and each is, byte for byte, its line in document 01's plain book": the lines of the keys that have one, and spares up to the sheet's size
+    pub lines : kind .text (sheetsRecovered vs xs b) ≡ sheetFor (map (historyModel xs b .line) (historyKeys xs b)) (kind .sheets b .size)
+    -- "a key without a line counting, in the plain book too, as an ABSENT line of version 0"
+    pub missing : (k : Key) → any (λ (j : Key). sameKey j k) (historyKeys xs b) ≡ false → historyModel xs b .line k ≡ absentAt k
     -- of the numbers begun in the history those that have put something
     pub committed : (n : ℕ) → kind .sheets b .coordinator .issued < n → (k : Key) (c : Change) → historyModel xs b .writes n k ≡ some c → CommittedExactly (isCommitted n (historyModel xs b)) (decision n (kind .sheets (sheetsRecovered vs xs b) .coordinator)) (onePhaseMade n xs b)
+
+  -- Of two calls the second is acknowledged and gives back the sheets as they were before the first.
+  abbrev pub Undoes : Call → Call → S → Type 0
+  Undoes c d b = (kind .answers d (kind .leaves c b) ≡ acknowledged) × (kind .leaves d (kind .leaves c b) ≡ b)
 
 -- On a record sheet.
 
 abbrev pub modelOn : List Turn → Bytes → Model
 modelOn xs b = historyModel bytesKind xs b
+
+abbrev pub standingOn : List Turn → Bytes → List Key
+standingOn xs b = historyKeys bytesKind xs b
 
 abbrev pub bytesRecovered : List Visit → List Turn → Bytes → Bytes
 bytesRecovered vs xs b = sheetsRecovered bytesKind vs xs b
@@ -60,6 +75,9 @@ Recovered vs xs b = RecoveredOn bytesKind vs xs b
 
 abbrev pub modelTwo : List Turn → TwoBytes → Model
 modelTwo xs b = historyModel twoKind xs b
+
+abbrev pub standingTwo : List Turn → TwoBytes → List Key
+standingTwo xs b = historyKeys twoKind xs b
 
 abbrev pub twoRecovered : List Visit → List Turn → TwoBytes → TwoBytes
 twoRecovered vs xs b = sheetsRecovered twoKind vs xs b

@@ -16,12 +16,12 @@ refusalOf (c ∷ cs) = cond (c .holds) (c .number) (refusalOf cs)
 
 -- the highest number of the table
 abbrev pub lastRefusal : ℕ
-lastRefusal = 13
+lastRefusal = 16
 
 -- The one order in which all calls ask. Document 01: "The lowest number that applies is given"; document 02 has numbers that are asked before lower ones
--- ("13, after 2"), so that it is the first of this order.
+-- ("13, after 2", "14, after 6"), so that it is the first of this order.
 abbrev pub askingOrder : List ℕ
-askingOrder = 1 ∷ 2 ∷ 13 ∷ 3 ∷ 4 ∷ 5 ∷ 6 ∷ 7 ∷ 8 ∷ 9 ∷ 10 ∷ 11 ∷ 12 ∷ []
+askingOrder = 1 ∷ 2 ∷ 13 ∷ 3 ∷ 4 ∷ 5 ∷ 6 ∷ 14 ∷ 15 ∷ 16 ∷ 7 ∷ 8 ∷ 9 ∷ 10 ∷ 11 ∷ 12 ∷ []
 
 -- how many numbers of an order come before this one
 unfoldable pub countBefore : List ℕ → ℕ → ℕ

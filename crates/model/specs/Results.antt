@@ -1,5 +1,5 @@
 -- The calls, their arguments and what they come to.
-use Rattle.lists.specs.Basics.{ℕ, eqb, Bool, cond, List, Option, none, some}
+use Rattle.lists.specs.Basics.{ℕ, eqb, Bool, true, false, cond, List, Option, none, some}
 use Rattle.model.specs.Types.{Key, Columns, Transaction, Recovery, Reading}
 use Rattle.model.specs.Refusals.{Condition, refusalOf}
 use Rattle.model.specs.Writes.{Write, nothing}
@@ -15,6 +15,21 @@ pub data Call : Type 0 where
   advance : Transaction → ℕ → Call
   abort : Transaction → Call
   visit : Key → ℕ → Call
+  -- a line for a key that has none, and the line of a key taken away
+  add : Key → Call
+  remove : Key → Call
+
+-- it adds or removes a line, so that those below it shift
+abbrev pub shiftsLines : Call → Bool
+shiftsLines (begin b) = false
+shiftsLines (read t k now) = false
+shiftsLines (second t k now c) = false
+shiftsLines (put t k c) = false
+shiftsLines (advance t now) = false
+shiftsLines (abort t) = false
+shiftsLines (visit k now) = false
+shiftsLines (add k) = true
+shiftsLines (remove k) = true
 
 -- What a call answers to its client.
 pub data Answer : Type 0 where
@@ -24,6 +39,8 @@ pub data Answer : Type 0 where
   visited : Recovery → Answer
   -- of a close: how many writes it made, and the transaction as it stands
   reported : ℕ → Transaction → Answer
+  -- of adding and removing, which have nothing else to say
+  acknowledged : Answer
 
 -- the number that an answer turns away with, 0 where it doesn't
 abbrev pub refusalIn : Answer → ℕ
@@ -32,6 +49,7 @@ refusalIn (returned t) = 0
 refusalIn (answered v t) = 0
 refusalIn (visited v) = 0
 refusalIn (reported n t) = 0
+refusalIn acknowledged = 0
 
 -- the transaction that an accepted call returns, begin's included; "a transaction that a refusal leaves unchanged isn't returned by it"
 unfoldable pub returns : Answer → Option Transaction
@@ -40,6 +58,7 @@ returns (returned t) = some t
 returns (answered v t) = some t
 returns (visited v) = none
 returns (reported n t) = some t
+returns acknowledged = none
 
 -- how many writes a close reports, 0 of any other answer
 abbrev pub reportIn : Answer → ℕ
@@ -48,6 +67,7 @@ reportIn (returned t) = 0
 reportIn (answered v t) = 0
 reportIn (visited v) = 0
 reportIn (reported n t) = n
+reportIn acknowledged = 0
 
 -- What is asked comes to: refused with a number, or an answer and an effect.
 pub data Response (A E : Type 0) : Type 0 where
@@ -79,3 +99,4 @@ heldAfter t (returned u) = u
 heldAfter t (answered v u) = u
 heldAfter t (visited v) = t
 heldAfter t (reported n u) = u
+heldAfter t acknowledged = t

@@ -3,10 +3,11 @@
 use Rattle.lists.specs.Basics.{ℕ, eqb, Bool, false, _&&_, cond, List, [], _∷_, Option, none, some, any}
 use Rattle.types.specs.declared.State.the-variants.{Committed}
 use Rattle.model.specs.Types.{Key, Record, Transaction}
-use Rattle.model.specs.Records.{noImage, sameKey, lineOf}
+use Rattle.model.specs.Records.{noImage, keyLess, sameKey, lineOf}
 use Rattle.model.specs.Images.{Change, writtenImage}
 use Rattle.model.specs.Transactions.{noVerdict, committedVerdict}
-use Rattle.model.specs.Results.{Call, begin, read, second, put, advance, abort, visit, Answer, turnedAway, returned, answered, visited, reported}
+use Rattle.model.specs.Results.{Call, begin, read, second, put, advance, abort, visit, add, remove, Answer, turnedAway, returned, answered, visited}
+use Rattle.model.specs.Results.{reported, acknowledged}
 use Rattle.model.specs.Histories.{Event}
 
 -- what is to be done to the line of each key
@@ -21,7 +22,7 @@ pub record Model : Type 0 where
   -- the numbers committed, the last one first
   pub committed : List ℕ
 
--- "a line for each key, at first the record sheet's"
+-- "a line for each key, at first the record sheet's", "a key without a line counting, in the plain book too, as an ABSENT line of version 0"
 unfoldable pub firstModel : List Record → Model
 firstModel rs =
     record { line = λ (k : Key). lineOf k rs; writes = λ (n : ℕ) (k : Key). none; committed = [] }
@@ -65,6 +66,8 @@ modelCall (second t k now c) u m = cond (commitsIt (some t) u) (modelCommit (t .
 modelCall (advance t now) u m = cond (commitsIt (some t) u) (modelCommit (t .number) m) m
 modelCall (abort t) u m = cond (commitsIt (some t) u) (modelCommit (t .number) m) m
 modelCall (visit k now) u m = m
+modelCall (add k) u m = m
+modelCall (remove k) u m = m
 
 -- "any other call, refused ones too: nothing"
 unfoldable pub modelStep : Event → Model → Model
@@ -76,6 +79,7 @@ modelStep e m = byAnswer (e .answer)
     byAnswer (answered v t) = modelCall (e .call) (some t) m
     byAnswer (visited v) = m
     byAnswer (reported n t) = modelCall (e .call) (some t) m
+    byAnswer acknowledged = m
 
 -- the model after events, the last one first
 unfoldable pub modelAfter : List Event → Model → Model
@@ -85,3 +89,39 @@ modelAfter (e ∷ es) m = modelStep e (modelAfter es m)
 -- the model has committed the number
 abbrev pub isCommitted : ℕ → Model → Bool
 isCommitted n m = any (eqb n) (m .committed)
+
+-- Which keys have a line, told from the events as the model is: at first those of the record sheet. Document 02, note 6.
+
+-- "in key order"
+unfoldable pub keyAdded : Key → List Key → List Key
+keyAdded k [] = k ∷ []
+keyAdded k (j ∷ ks) = cond (keyLess k j) (k ∷ j ∷ ks) (j ∷ keyAdded k ks)
+
+unfoldable pub keyRemoved : Key → List Key → List Key
+keyRemoved k [] = []
+keyRemoved k (j ∷ ks) = cond (sameKey j k) ks (j ∷ keyRemoved k ks)
+
+-- after a call that was acknowledged
+unfoldable pub keysCall : Call → List Key → List Key
+keysCall (begin b) ks = ks
+keysCall (read t k now) ks = ks
+keysCall (second t k now c) ks = ks
+keysCall (put t k c) ks = ks
+keysCall (advance t now) ks = ks
+keysCall (abort t) ks = ks
+keysCall (visit k now) ks = ks
+keysCall (add k) ks = keyAdded k ks
+keysCall (remove k) ks = keyRemoved k ks
+
+unfoldable pub keysStep : Call → Answer → List Key → List Key
+keysStep c (turnedAway n) ks = ks
+keysStep c (returned t) ks = ks
+keysStep c (answered v t) ks = ks
+keysStep c (visited v) ks = ks
+keysStep c (reported n t) ks = ks
+keysStep c acknowledged ks = keysCall c ks
+
+-- after events, the last one first
+unfoldable pub keysAfter : List Event → List Key → List Key
+keysAfter [] ks = ks
+keysAfter (e ∷ es) ks = keysStep (e .call) (e .answer) (keysAfter es ks)

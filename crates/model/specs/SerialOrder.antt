@@ -6,7 +6,7 @@ use Rattle.model.specs.Types.{Key, Record, Columns, Transaction, Reading
 use Rattle.types.specs.declared.Reading.the-variants.{Absent, Value, Again, First}
 use Rattle.model.specs.Records.{lineOf}
 use Rattle.model.specs.Transactions.{openPhase, preparePhase, validatePhase, decidePhase, donePhase, isEmpty, puts, reading}
-use Rattle.model.specs.Results.{Call, begin, read, second, put, advance, abort, visit, answered, refusalIn, returns}
+use Rattle.model.specs.Results.{Call, begin, read, second, put, advance, abort, visit, add, remove, answered, refusalIn, returns}
 use Rattle.model.specs.Conditions.{heldEntry}
 use Rattle.model.specs.Histories.{Event, taken, eventsAfter}
 use Rattle.model.specs.SequentialModel.{Model, overwritten, isCommitted}
@@ -35,6 +35,8 @@ toldChecked (put t k c) = true
 toldChecked (advance t now) = true
 toldChecked (abort t) = true
 toldChecked (visit k now) = true
+toldChecked (add k) = true
+toldChecked (remove k) = true
 
 abbrev pub begunChecked : Event → Bool
 begunChecked e = leb 1 (refusalIn (e .answer)) || toldChecked (e .call)

@@ -7,7 +7,7 @@ use Rattle.model.specs.Writes.{Sheets}
 use Rattle.model.specs.Results.{Call, Answer, Response, answerOf}
 use Rattle.model.specs.Histories.{Event, written, after, Permitted, onePhaseIn}
 use Rattle.model.specs.ByteHistories.{Bytes}
-use Rattle.model.specs.Operations.{Operation, writesOnce, standsFor, response, sheetsLeft, callsOf, responseOn, bytesLeft}
+use Rattle.model.specs.Operations.{Operation, writesOnce, operationShifts, standsFor, response, sheetsLeft, callsOf, responseOn, bytesLeft}
 use Rattle.model.specs.CallByPlace.{listed, operationAt, callAt, responseAt, responseAtOn}
 
 pub data Turn : Type 0 where
@@ -24,6 +24,11 @@ turnCall (byPlace list place q) = callAt list place q
 unfoldable pub turnWritesOnce : Turn → Bool
 turnWritesOnce (single o) = writesOnce o
 turnWritesOnce (byPlace list place q) = writesOnce (operationAt list place q)
+
+-- it adds or removes a line; a call by place does neither
+abbrev pub turnShifts : Turn → Bool
+turnShifts (single o) = operationShifts o
+turnShifts (byPlace list place q) = false
 
 -- Over decoded sheets.
 

@@ -1,10 +1,10 @@
 -- The visiting program, from its whole input to its whole output. Document 01, "The visiting program".
-use Rattle.lists.specs.Basics.{ℕ, _+_, _*_, eqb, Bool, not, _&&_, cond, List, [], _∷_, _++_, map, length, take, drop, getD, bytes}
+use Rattle.lists.specs.Basics.{ℕ, _+_, _*_, eqb, Bool, not, _&&_, cond, List, [], _∷_, _++_, length, take, drop, getD, bytes}
 use Rattle.decimal.specs.Field.{fieldText}
-use Rattle.model.specs.Types.{Key, Record, Column}
+use Rattle.model.specs.Types.{Key, Column}
 use Rattle.model.specs.Layouts.{figures, recordBytes, coordinatorBytes}
 use Rattle.model.specs.Lines.{rowOf, lineSet}
-use Rattle.model.specs.Records.{records}
+use Rattle.model.specs.Records.{keysIn, records}
 use Rattle.model.specs.Spares.{recordLines}
 use Rattle.model.specs.Refusals.{Condition, refuse, refusalOf}
 use Rattle.model.specs.SheetCalls.{checkConditions}
@@ -45,12 +45,12 @@ unfoldable pub visitedAll : ℕ → List Key → Bytes → Bytes
 visitedAll now [] b = b
 visitedAll now (k ∷ ks) b = visitedAll now ks (afterOn (visit k now) b)
 
-abbrev pub keysIn : Bytes → List Key
-keysIn b = map (λ (r : Record). r .key) (records (recordLines (b .records)))
+abbrev pub keysOn : Bytes → List Key
+keysOn b = keysIn (records (recordLines (b .records)))
 
 -- "It visits all lines in order, then all again"
 unfoldable pub swept : ℕ → Bytes → Bytes
-swept now b = visitedAll now (keysIn b ++ keysIn b) b
+swept now b = visitedAll now (keysOn b ++ keysOn b) b
 
 -- "prints both sheets in that order"
 abbrev pub printed : Bytes → List ℕ

@@ -1,11 +1,11 @@
--- What a call writes, as data: the lines of one group, or the coordinator sheet, or nothing. Only `apply` changes sheets.
+-- What a call writes, as data: the lines of one group, a line put in or taken out, the coordinator sheet, or nothing. Only `apply` changes sheets.
 use Rattle.lists.specs.Basics.{ℕ, _+_, eqb, leb, Bool, false, _&&_, cond, List, [], _∷_, map, length, Option, none, some, all, any}
 use Rattle.model.specs.Types.{Key, Record, Decision, Entry}
-use Rattle.model.specs.Records.{sameKey, recordsGood}
+use Rattle.model.specs.Records.{keyLess, sameKey, absentAt, recordsGood}
 use Rattle.model.specs.Coordinator.{Coordinator, coordinatorGood, namesIssued, withDecision, withIssued}
 use Rattle.model.specs.Images.{changeOf, preparedBy, prepared, committed, rolledForward, rolledBack}
 
--- both sheets, decoded: the records, how many lines their sheet has, spares included, and the coordinator sheet
+-- both sheets, decoded: the records, how many lines their sheet has, spares included, which no write changes, and the coordinator sheet
 pub record Sheets : Type 0 where
   pub lines : List Record
   pub size : ℕ
@@ -36,6 +36,9 @@ pub data Write : Type 0 where
   -- the lines of these keys that a number has prepared
   forward : ℕ → List Key → Write
   back : ℕ → List Key → Write
+  -- a line for this key, and the line of this key taken away
+  addLine : Key → Write
+  removeLine : Key → Write
 
 -- the entry of a key among those of a group
 unfoldable pub entryFor : Key → List Entry → Option Entry
@@ -60,6 +63,9 @@ lineAfter (commit n es) r = byEntry (entryFor (r .key) es) r (λ (e : Entry). co
 lineAfter (prepare n now es) r = byEntry (entryFor (r .key) es) r (λ (e : Entry). prepared n now (changeOf e) r)
 lineAfter (forward n ks) r = cond (isOf n ks r) (rolledForward r) r
 lineAfter (back n ks) r = cond (isOf n ks r) (rolledBack r) r
+-- "lines that shift by it don't count as written"
+lineAfter (addLine k) r = r
+lineAfter (removeLine k) r = r
 
 unfoldable pub decisionsAfter : Write → Coordinator → Coordinator
 decisionsAfter nothing c = c
@@ -69,9 +75,33 @@ decisionsAfter (commit n es) c = c
 decisionsAfter (prepare n now es) c = c
 decisionsAfter (forward n ks) c = c
 decisionsAfter (back n ks) c = c
+decisionsAfter (addLine k) c = c
+decisionsAfter (removeLine k) c = c
+
+-- Document 02, note 6: "Adding puts an ABSENT line in key order", before the first line of a greater key
+unfoldable pub inserted : Key → List Record → List Record
+inserted k [] = absentAt k ∷ []
+inserted k (r ∷ rs) = cond (keyLess k (r .key)) (absentAt k ∷ r ∷ rs) (r ∷ inserted k rs)
+
+-- without the line of k
+unfoldable pub without : Key → List Record → List Record
+without k [] = []
+without k (r ∷ rs) = cond (sameKey (r .key) k) rs (r ∷ without k rs)
+
+-- a line put in or taken out, where the write does that
+unfoldable pub shifted : Write → List Record → List Record
+shifted nothing rs = rs
+shifted issue rs = rs
+shifted (decide n d) rs = rs
+shifted (commit n es) rs = rs
+shifted (prepare n now es) rs = rs
+shifted (forward n ks) rs = rs
+shifted (back n ks) rs = rs
+shifted (addLine k) rs = inserted k rs
+shifted (removeLine k) rs = without k rs
 
 unfoldable pub linesAfter : Write → List Record → List Record
-linesAfter w rs = map (lineAfter w) rs
+linesAfter w rs = shifted w (map (lineAfter w) rs)
 
 unfoldable pub apply : Write → Sheets → Sheets
 apply w s = record { lines = linesAfter w (s .lines); size = s .size; coordinator = decisionsAfter w (s .coordinator) }
@@ -85,3 +115,5 @@ isOnePhase n (commit i es) = eqb n i
 isOnePhase n (prepare i now es) = false
 isOnePhase n (forward i ks) = false
 isOnePhase n (back i ks) = false
+isOnePhase n (addLine k) = false
+isOnePhase n (removeLine k) = false

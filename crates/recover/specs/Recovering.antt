@@ -21,7 +21,8 @@ use Rattle.sheet_laws.specs.KeyOrder.{same-key-refl, has-line}
 use Rattle.call_laws.specs.Keys.{same-key-flip}
 use Rattle.call_laws.specs.Ranges.{GoodParts, parts-fine}
 use Rattle.call_laws.specs.Images.{when-prepared, forward-fine, back-fine}
-use Rattle.call_laws.specs.Lines.{line-key, lines-mapped}
+use Rattle.call_laws.specs.Lines.{shifts, line-key, lines-mapped}
+use Rattle.call_laws.specs.SingleUnit.{unit-shifts, visit-unit}
 use Rattle.call_laws.specs.Sheets.{Fit, write-closed, parts-good}
 use Rattle.call_laws.specs.Keeping.{line-good}
 use Rattle.call_laws.specs.Closure.{visit-fits}
@@ -92,9 +93,9 @@ module _ (rs cs : List ℕ) (i : ℕ) (s : Standing rs cs i) where
       (line-good (sheetsOf rs cs) (s .accepted .good) (here .key) (has-line (here .key) (records rs) ∙ s .index .listed))
 
   -- the line of one key replaced
-  line-set : (w : Write) (r : Record) → Alone w (here .key) → lineAfter w here ≡ r → GoodParts (coordinatorOf cs .issued) r → cond (ltb i (length rs / recordBytes)) (over rs (i * recordBytes) (recordText r)) rs ≡ recordsText (apply w (sheetsOf rs cs) .lines)
+  line-set : (w : Write) (r : Record) → shifts w ≡ false → Alone w (here .key) → lineAfter w here ≡ r → GoodParts (coordinatorOf cs .issued) r → cond (ltb i (length rs / recordBytes)) (over rs (i * recordBytes) (recordText r)) rs ≡ recordsText (apply w (sheetsOf rs cs) .lines)
   unfolding apply
-  line-set w r h e g =
+  line-set w r calm h e g =
       let l : i < length (records rs) = s .index .within in
       let m : ltb i (length rs / recordBytes) ≡ true = lt-ltb i (length rs / recordBytes) (omega (arith, length-records rs)) in
       let q : goodAlone r ≡ true = and-fst (goodAlone r) (namesIssued (coordinatorOf cs .issued) r) (parts-fine (coordinatorOf cs .issued) r g) in
@@ -105,15 +106,15 @@ module _ (rs cs : List ℕ) (i : ℕ) (s : Standing rs cs i) where
       ∙ (ap (λ (x : Record). recordsText (set (records rs) i x)) f
       ∙ ap recordsText
       (set-at-key (here .key) (lineAfter w) (records rs) i (s .accepted .good .order) l refl
-      ∙ (map-alone w (here .key) h (records rs) ∙ sym (lines-mapped w (records rs))))))
+      ∙ (map-alone w (here .key) h (records rs) ∙ sym (lines-mapped w (records rs) calm)))))
 
   -- the line rolled, by a write that rolls it alone
-  settle-rolled : (w : Write) (roll : Record → Record) {rs′ : List ℕ} → ((r : Record) → lineAfter w r ≡ cond (isOf (here .image .txid) (here .key ∷ []) r) (roll r) r) → ((c : Coordinator) → decisionsAfter w c ≡ c) → GoodParts (coordinatorOf cs .issued) (roll here) → isPrepared here ≡ true → rs′ ≡ cond (ltb i (length rs / recordBytes)) (over rs (i * recordBytes) (recordText (roll here))) rs → Written w rs cs rs′ cs
-  settle-rolled w roll rolls still g p e =
+  settle-rolled : (w : Write) (roll : Record → Record) {rs′ : List ℕ} → shifts w ≡ false → ((r : Record) → lineAfter w r ≡ cond (isOf (here .image .txid) (here .key ∷ []) r) (roll r) r) → ((c : Coordinator) → decisionsAfter w c ≡ c) → GoodParts (coordinatorOf cs .issued) (roll here) → isPrepared here ≡ true → rs′ ≡ cond (ltb i (length rs / recordBytes)) (over rs (i * recordBytes) (recordText (roll here))) rs → Written w rs cs rs′ cs
+  settle-rolled w roll calm rolls still g p e =
       record {
         lines =
             e
-            ∙ line-set w (roll here)
+            ∙ line-set w (roll here) calm
             (λ r h. rolls r ∙ ap (λ (b : Bool). cond b (roll r) r) (not-of (here .image .txid) (here .key) r h))
             (rolls here ∙ ap (λ (b : Bool). cond b (roll here) here) (is-of here p))
             g;
@@ -123,12 +124,12 @@ module _ (rs cs : List ℕ) (i : ℕ) (s : Standing rs cs i) where
   pub settle-forward : {rs′ : List ℕ} → isPrepared here ≡ true → rs′ ≡ cond (ltb i (length rs / recordBytes)) (over rs (i * recordBytes) (recordText (rolledForward here))) rs → Written (forward (here .image .txid) (here .key ∷ [])) rs cs rs′ cs
   unfolding lineAfter decisionsAfter
   settle-forward p =
-      settle-rolled (forward (here .image .txid) (here .key ∷ [])) rolledForward (λ r. refl) (λ c. refl) (forward-fine (coordinatorOf cs .issued) here line-parts p) p
+      settle-rolled (forward (here .image .txid) (here .key ∷ [])) rolledForward refl (λ r. refl) (λ c. refl) (forward-fine (coordinatorOf cs .issued) here line-parts p) p
 
   pub settle-back : {rs′ : List ℕ} → isPrepared here ≡ true → rs′ ≡ cond (ltb i (length rs / recordBytes)) (over rs (i * recordBytes) (recordText (rolledBack here))) rs → Written (back (here .image .txid) (here .key ∷ [])) rs cs rs′ cs
   unfolding lineAfter decisionsAfter
   settle-back p =
-      settle-rolled (back (here .image .txid) (here .key ∷ [])) rolledBack (λ r. refl) (λ c. refl) (back-fine (coordinatorOf cs .issued) here line-parts p) p
+      settle-rolled (back (here .image .txid) (here .key ∷ [])) rolledBack refl (λ r. refl) (λ c. refl) (back-fine (coordinatorOf cs .issued) here line-parts p) p
 
   pub settle-again : {cs′ : List ℕ} → isPrepared here ≡ true → cs′ ≡ cond (numberHasLine (here .image .txid) cs) (over cs (here .image .txid * coordinatorBytes) (decisionText (here .image .txid) Aborted)) cs → Written (decide (here .image .txid) Aborted) rs cs rs cs′
   unfolding apply lineAfter decisionsAfter preparedRule
@@ -137,7 +138,7 @@ module _ (rs cs : List ℕ) (i : ℕ) (s : Standing rs cs i) where
       let h : preparedRule here ≡ true = when-prepared here p (line-parts .rule) in
       let l : 1 ≤ here .image .txid = search (tests, h) in
       record {
-        lines = lines-kept rs cs (s .accepted) w (λ r. refl);
+        lines = lines-kept rs cs (s .accepted) w refl (λ r. refl);
         decisions = e ∙ decision-written cs (here .image .txid) Aborted (s .accepted .decisions) l (line-parts .txid);
       }
 
@@ -170,7 +171,7 @@ module _ (now : ℕ) (rs cs : List ℕ) (i : ℕ) (s : Standing rs cs i) (v : Re
       let m : i < length (map (lineAfter w) (records rs)) = omega (arith, length-map (records rs) (lineAfter w)) in
       let p : Pending v (lineAt rs i) = subst (λ (x : Recovery). Pending x (lineAt rs i)) (sym (h .met)) (meeting-pending now (sheetsOf rs cs) (lineAt rs i)) in
       ap (λ (x : List ℕ). getD (records x) i noRecord) (h .written .lines)
-      ∙ (ap (λ (ls : List Record). getD ls i noRecord) (records-read-written (linesAfter w (records rs)) g .0 ∙ lines-mapped w (records rs))
+      ∙ (ap (λ (ls : List Record). getD ls i noRecord) (records-read-written (linesAfter w (records rs)) g .0 ∙ lines-mapped w (records rs) (unit-shifts (visit-unit (coordinatorOf cs .units) v (lineAt rs i))))
       ∙ (getD-any (map (lineAfter w) (records rs)) i noRecord (lineAfter w noRecord) m
       ∙ (List·getD-map (lineAfter w) (records rs) i noRecord ∙ after-line v (lineAt rs i) p)))
 

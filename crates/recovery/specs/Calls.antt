@@ -1,4 +1,4 @@
--- Every call keeps the invariant of a history. A refused call changes nothing; a visit makes a gentle write; begin adds a state of a new number; read, its
+-- Every call keeps the invariant of a history. A refused call changes nothing; a visit, adding and removing make a gentle write; begin adds a state of a new number; read, its
 -- second call, put, abort and advance replace the state that they take.
 use Rattle.lists.specs.Basics.{_≡_, refl, sym, ap, subst, _∙_, ℕ, zero, suc, _+_, _≤_, _<_, eqb, Bool, true, false, not, _&&_, cond, true≢false, List, [], _∷_}
 use Rattle.lists.specs.Basics.{take, drop, getD, set, none, some, arith, add-one, eqb-true, eq-eqb, ne-eqb, not-false, all, and-snd, and-both, choose-by, tests}
@@ -8,10 +8,10 @@ use Rattle.model.specs.Records.{sameKey, lineOf, isMissing, byFound}
 use Rattle.model.specs.Coordinator.{Coordinator, decision, isUndecided, coordinatorGood}
 use Rattle.model.specs.Groups.{isLower}
 use Rattle.model.specs.Images.{preparedBy}
-use Rattle.model.specs.Writes.{Sheets, Write, nothing, issue, lineAfter, decisionsAfter, apply}
+use Rattle.model.specs.Writes.{Sheets, Write, nothing, issue, addLine, removeLine, lineAfter, decisionsAfter, apply}
 use Rattle.model.specs.WellFormed.{wellFormed}
 use Rattle.model.specs.Visits.{ownerDecision, ownerExpired, meeting, recoveryWrite}
-use Rattle.model.specs.Results.{Call, begin, read, second, put, advance, abort, visit, Result, refused, writeOf, Answer, returns, answerOf}
+use Rattle.model.specs.Results.{Call, begin, read, second, put, advance, abort, visit, add, remove, Result, refused, writeOf, Answer, returns, answerOf}
 use Rattle.model.specs.Transactions.{withdrawPhase, isPut, held, noEntry, heldAt, withPut, moved, withEntry}
 use Rattle.model.specs.Conditions.{isNew, takesTwo, cannotAdvance, cannotAbort, conditions}
 use Rattle.model.specs.Steps.{unitsOf, step}
@@ -21,14 +21,15 @@ use Rattle.model.specs.SequentialModel.{Model, modelBegin, modelPut, modelCommi
 use Rattle.sheet_laws.specs.Search.{FirstAt, first-by}
 use Rattle.call_laws.specs.Choices.{by-phase-of, unless-by, testOf, accepted, by-meeting, entryRead, by-whole}
 use Rattle.sheet_laws.specs.KeyOrder.{same-key}
-use Rattle.call_laws.specs.Lines.{still-issue}
-use Rattle.call_laws.specs.Sheets.{GoodSheets}
+use Rattle.call_laws.specs.Lines.{Linewise, issue-linewise}
+use Rattle.call_laws.specs.Adding.{may-add, may-remove}
+use Rattle.call_laws.specs.Sheets.{GoodSheets, added-linewise, removed-linewise}
 use Rattle.call_laws.specs.Transactions.{well-formed-parts}
 use Rattle.call_laws.specs.Entries.{getD-first}
-use Rattle.recovery.specs.Settling.{Gentle, gentle-nothing, gentle-issue, gentle-abort, gentle-forward, gentle-back, issued-decision, undecided-committed}
+use Rattle.recovery.specs.Settling.{Gentle, gentle-nothing, gentle-issue, gentle-abort, gentle-forward, gentle-back, gentle-add, gentle-remove, issued-decision, undecided-committed}
 use Rattle.recovery.specs.View.{own-txid, line-after, gentle-view}
 use Rattle.recovery.specs.Memory.{putIn, preparedChange, Memory, other-owner, memory-kept, undecided-kept, Away, away-nothing, away-issue, away-abort}
-use Rattle.recovery.specs.Memory.{away-forward, away-back}
+use Rattle.recovery.specs.Memory.{away-forward, away-back, away-add, away-remove}
 use Rattle.recovery.specs.Advance.{never-both, afterStep, plain, withdraws, stays, step-moves, advance-live}
 use Rattle.recovery.specs.Puts.{put-in-more, put-in-replaced, take-set}
 use Rattle.recovery.specs.Stages.{memory-as, done-in-open}
@@ -119,6 +120,20 @@ module _ {base : ℕ} {one : ℕ → Bool} (s : Sheets) (es : List Event) (m : M
       inv-free s es m (recoveryWrite (meeting now s (lineOf k (s .lines))) (lineOf k (s .lines))) _ inv refl g
       (visit-gentle s now (lineOf k (s .lines))) (visit-away s now k)
 
+  -- Adding and removing change the line of no key, one without a line counting as an ABSENT line of version 0.
+
+  add-kept : (k : Key) → refusalOf (conditions (add k) s) ≡ 0 → Kept (add k) (outcome (add k) s)
+  unfolding outcome modelStep returns
+  add-kept k z g w a =
+      let l : Linewise (s .lines) (addLine k) = added-linewise s (inv .good) k (may-add k s z) in
+      inv-free s es m (addLine k) _ inv refl g (gentle-add k l) (λ j. away-add k l)
+
+  remove-kept : (k : Key) → refusalOf (conditions (remove k) s) ≡ 0 → Kept (remove k) (outcome (remove k) s)
+  unfolding outcome modelStep returns
+  remove-kept k z g w a =
+      let l : Linewise (s .lines) (removeLine k) = removed-linewise s (inv .good) k (may-remove k s z) in
+      inv-free s es m (removeLine k) _ inv refl g (gentle-remove k l) (λ j. away-remove k l)
+
   advance-kept : (t : Transaction) (now : ℕ) → refusalOf (conditions (advance t now) s) ≡ 0 → Kept (advance t now) (outcome (advance t now) s)
   unfolding outcome conditions testOf modelStep modelCall returns given afterStep
   advance-kept t now z g w a =
@@ -149,7 +164,7 @@ module _ {base : ℕ} {one : ℕ → Bool} (s : Sheets) (es : List Event) (m : M
       record {
         undone = λ e. undecided-committed (sym new-undecided ∙ (sym (issued-decision (s .coordinator .issued + 1) (s .coordinator .issued + 1) (s .coordinator)) ∙ e));
         changes = λ e k. let x : lineOf k (s .lines) .image .txid ≤ s .coordinator .issued = own-txid s (inv .good) k in
-            ap (preparedChange (s .coordinator .issued + 1)) (line-after s issue (still-issue (s .lines)) k)
+            ap (preparedChange (s .coordinator .issued + 1)) (line-after s issue (issue-linewise (s .lines)) k)
             ∙ (other-owner (s .coordinator .issued + 1) (lineOf k (s .lines)) (λ q. omega (arith, x, q))
             ∙ sym (done-in-open (unitsOf (apply issue s)) (newTransaction (s .coordinator .issued + 1) b) refl k));
       }
@@ -282,6 +297,8 @@ module _ {base : ℕ} {one : ℕ → Bool} (s : Sheets) (es : List Event) (m : M
   accepted-kept (advance t now) = advance-kept t now
   accepted-kept (abort t) = abort-kept t
   accepted-kept (visit k now) = visit-kept k now
+  accepted-kept (add k) = add-kept k
+  accepted-kept (remove k) = remove-kept k
 
   pub result-kept : (c : Call) → Kept c (result c s)
   unfolding result

@@ -1,6 +1,6 @@
 -- What learners doubt, as corollaries of the invariant.
 use Rattle.lists.specs.Basics.{_≡_, sym, ap, _∙_, ℕ, _<_, Bool, true, false, _||_, List, [], _∷_, map}
-use Rattle.model.specs.Types.{Key, Record, Undecided, Committed}
+use Rattle.model.specs.Types.{Key, Undecided, Committed}
 use Rattle.model.specs.Records.{lineOf}
 use Rattle.model.specs.Coordinator.{decision}
 use Rattle.model.specs.Images.{isPrepared, rolledBack}
@@ -19,7 +19,7 @@ use Rattle.recovery.specs.Counted.{Silent, silent-kept}
 use Rattle.recovery.specs.Calls.{visit-away}
 use Rattle.recovery.specs.Invariant.{Inv}
 use Rattle.recovery.specs.History.{first-inv, onesAfter, history-kept}
-use Rattle.recovery.specs.Theorem.{modelOf, recoveredBy, recovery-theorem}
+use Rattle.recovery.specs.Theorem.{modelOf, recoveredBy, RecoveredLines, recovery-theorem}
 use Rattle.recovery.specs.Commits.{visits-later, ones-are}
 
 -- a visit keeps a number silent
@@ -46,8 +46,8 @@ module _ (s : Sheets) (good : sheetsGood s ≡ true) (none : nonePrepared (s .li
       sym (invariant .view k) ∙ settled-back (leftBy answer after cs s .coordinator) (lineOf k (leftBy answer after cs s .lines)) p d
 
   -- "They think a dead station means a lost order; if COMMITTED was written, the next reader finishes it": the model has committed the number, and every
-  -- recovery pass leaves the coordinator line, no line PREPARED and the model's lines.
-  pub committed-completes : (n : ℕ) → s .coordinator .issued < n → decision n (leftBy answer after cs s .coordinator) ≡ Committed → (vs : List Visit) → Closing (λ (y : Sheets). y) after vs (leftBy answer after cs s) → ((isCommitted n (modelOf cs s) ≡ true) × (decision n (recoveredBy vs cs s .coordinator) ≡ Committed)) × ((nonePrepared (recoveredBy vs cs s .lines) ≡ true) × (recoveredBy vs cs s .lines ≡ map (λ (r : Record). modelOf cs s .line (r .key)) (s .lines)))
+  -- recovery pass leaves the coordinator line, no line PREPARED and the model's lines (RecoveredLines).
+  pub committed-completes : (n : ℕ) → s .coordinator .issued < n → decision n (leftBy answer after cs s .coordinator) ≡ Committed → (vs : List Visit) → Closing (λ (y : Sheets). y) after vs (leftBy answer after cs s) → ((isCommitted n (modelOf cs s) ≡ true) × (decision n (recoveredBy vs cs s .coordinator) ≡ Committed)) × RecoveredLines vs cs s
   committed-completes n new d vs c =
       ((invariant .counted .decided n new d, visits-later vs (leftBy answer after cs s) n d), recovery-theorem s good none cs legal vs c)
 

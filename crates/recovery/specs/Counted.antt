@@ -12,7 +12,7 @@ use Rattle.call_laws.specs.Sheets.{decided-own}
 use Rattle.call_laws.specs.Keeping.{issued-grows}
 use Rattle.model.specs.Records.{lineOf}
 use Rattle.recovery.specs.Memory.{preparedChange, Away, undecided-kept, none-prepared-kept}
-use Rattle.recovery.specs.Settling.{Gentle, gentle-nothing, gentle-issue, gentle-abort, gentle-forward, gentle-back, gentle-prepare}
+use Rattle.recovery.specs.Settling.{Gentle, gentle-nothing, gentle-issue, gentle-abort, gentle-forward, gentle-back, gentle-add, gentle-remove, gentle-prepare}
 use Rattle.recovery.specs.Settling.{decided-other, issued-decision, abort-commits-none, undecided-committed}
 
 -- the numbers whose one-phase write has been made, after one more write
@@ -63,6 +63,8 @@ gentle-before s w gentle-issue n e = sym (issued-decision _ n (s .coordinator)) 
 gentle-before s w (gentle-abort i u) n e = abort-commits-none (s .coordinator) i n e
 gentle-before s w (gentle-forward i ks d) n e = e
 gentle-before s w (gentle-back i ks d) n e = e
+gentle-before s w (gentle-add k l) n e = e
+gentle-before s w (gentle-remove k l) n e = e
 gentle-before s w (gentle-prepare i now es d m) n e = e
 
 pub gentle-later : (s : Sheets) (w : Write) → Gentle s w → (n : ℕ) → decision n (s .coordinator) ≡ Committed → decision n (decisionsAfter w (s .coordinator)) ≡ Committed
@@ -73,6 +75,8 @@ gentle-later s w (gentle-abort i u) n e =
     decided-other i n Aborted (s .coordinator) (λ q. undecided-committed (sym u ∙ (ap (λ (x : ℕ). decision x (s .coordinator)) q ∙ e))) ∙ e
 gentle-later s w (gentle-forward i ks d) n e = e
 gentle-later s w (gentle-back i ks d) n e = e
+gentle-later s w (gentle-add k l) n e = e
+gentle-later s w (gentle-remove k l) n e = e
 gentle-later s w (gentle-prepare i now es d m) n e = e
 
 pub gentle-one : (s : Sheets) (w : Write) → Gentle s w → (n : ℕ) → isOnePhase n w ≡ false
@@ -82,6 +86,8 @@ gentle-one s w gentle-issue n = refl
 gentle-one s w (gentle-abort i u) n = refl
 gentle-one s w (gentle-forward i ks d) n = refl
 gentle-one s w (gentle-back i ks d) n = refl
+gentle-one s w (gentle-add k l) n = refl
+gentle-one s w (gentle-remove k l) n = refl
 gentle-one s w (gentle-prepare i now es d m) n = refl
 
 -- A gentle write, by a call that changes the write set of at most one number, and of one that is not committed.

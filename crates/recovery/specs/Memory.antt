@@ -8,11 +8,11 @@ use Rattle.model.specs.Coordinator.{Letter, Coordinator, decision, withDecision
 use Rattle.model.specs.Transactions.{byPhase, isPut, held, puts}
 use Rattle.model.specs.Groups.{groupCount, groupPlace}
 use Rattle.model.specs.Images.{isPrepared, preparedBy, prepared, committed, rolledForward, rolledBack, Change, changeOf, changeIn}
-use Rattle.model.specs.Writes.{Sheets, Write, nothing, issue, decide, commit, prepare, forward, back, entryFor, byEntry, isOf, lineAfter, decisionsAfter, apply}
+use Rattle.model.specs.Writes.{Sheets, Write, nothing, issue, decide, commit, prepare, forward, back, addLine, removeLine, entryFor, byEntry, isOf, lineAfter, decisionsAfter, apply}
 use Rattle.model.specs.Steps.{unitsOf}
 use Rattle.call_laws.specs.Images.{forward-plain, back-plain}
-use Rattle.call_laws.specs.Lines.{Still, still-nothing, still-issue, still-decide, still-forward, still-back}
-use Rattle.call_laws.specs.Sheets.{MayPutAll, still-commit, still-prepare}
+use Rattle.call_laws.specs.Lines.{Linewise, nothing-linewise, issue-linewise, decide-linewise, forward-linewise, back-linewise}
+use Rattle.call_laws.specs.Sheets.{MayPutAll, commit-linewise, prepare-linewise}
 use Rattle.call_laws.specs.Keeping.{units-kept}
 use Rattle.recovery.specs.Settling.{decided-other, issued-decision, abort-commits-none, own-line, undecided-committed, undecided-aborted}
 use Rattle.recovery.specs.View.{own-key, line-after}
@@ -54,17 +54,21 @@ pub data Away (s : Sheets) (j : ℕ) : Write → Type 0 where
   away-prepare : (i now : ℕ) (es : List Entry) → (i ≡ j → ⊥) → MayPutAll s i es → Away s j (prepare i now es)
   away-forward : (i : ℕ) (ks : List Key) → (i ≡ j → decision j (s .coordinator) ≡ Committed) → Away s j (forward i ks)
   away-back : (i : ℕ) (ks : List Key) → (i ≡ j → decision j (s .coordinator) ≡ Aborted) → Away s j (back i ks)
+  away-add : (k : Key) → Linewise (s .lines) (addLine k) → Away s j (addLine k)
+  away-remove : (k : Key) → Linewise (s .lines) (removeLine k) → Away s j (removeLine k)
 
--- they leave keys without a line as they are
-pub away-still : (s : Sheets) (j : ℕ) (w : Write) → Away s j w → Still (s .lines) w
-away-still s j w away-nothing = still-nothing (s .lines)
-away-still s j w away-issue = still-issue (s .lines)
-away-still s j w (away-abort i x) = still-decide (s .lines) i Aborted
-away-still s j w (away-decide i d n) = still-decide (s .lines) i d
-away-still s j w (away-commit i es m) = still-commit s i es m
-away-still s j w (away-prepare i now es n m) = still-prepare s i now es m
-away-still s j w (away-forward i ks h) = still-forward (s .lines) i ks
-away-still s j w (away-back i ks h) = still-back (s .lines) i ks
+-- they go line by line
+pub away-linewise : (s : Sheets) (j : ℕ) (w : Write) → Away s j w → Linewise (s .lines) w
+away-linewise s j w away-nothing = nothing-linewise (s .lines)
+away-linewise s j w away-issue = issue-linewise (s .lines)
+away-linewise s j w (away-abort i x) = decide-linewise (s .lines) i Aborted
+away-linewise s j w (away-decide i d n) = decide-linewise (s .lines) i d
+away-linewise s j w (away-commit i es m) = commit-linewise s i es m
+away-linewise s j w (away-prepare i now es n m) = prepare-linewise s i now es m
+away-linewise s j w (away-forward i ks h) = forward-linewise (s .lines) i ks
+away-linewise s j w (away-back i ks h) = back-linewise (s .lines) i ks
+away-linewise s j w (away-add k l) = l
+away-linewise s j w (away-remove k l) = l
 
 -- A line without a preparation of the number.
 
@@ -105,6 +109,8 @@ module _ (s : Sheets) (j : ℕ) (u : decision j (s .coordinator) ≡ Undecided) 
       put-away i es (λ (e : Entry). prepared i now (changeOf e) r) m (λ e. other-owner j (prepared i now (changeOf e) r) n)
   away-columns w (away-forward i ks h) = roll-away i ks (rolledForward r) (λ e. undecided-committed (sym u ∙ h e)) (forward-plain r)
   away-columns w (away-back i ks h) = roll-away i ks (rolledBack r) (λ e. undecided-aborted (sym u ∙ h e)) (back-plain r)
+  away-columns w (away-add k l) = refl
+  away-columns w (away-remove k l) = refl
 
 -- The decision.
 
@@ -136,6 +142,8 @@ away-stood d s j w f (away-commit i es m) e = e
 away-stood d s j w f (away-prepare i now es n m) e = e
 away-stood d s j w f (away-forward i ks h) e = e
 away-stood d s j w f (away-back i ks h) e = e
+away-stood d s j w f (away-add k l) e = e
+away-stood d s j w f (away-remove k l) e = e
 
 -- Writes away from a transaction keep what is remembered of it.
 pub memory-kept : (s : Sheets) (t : Transaction) (w : Write) → Away s (t .number) w → Memory s t → Memory (apply w s) t
@@ -144,7 +152,7 @@ memory-kept s t w a m =
     record {
       undone = λ e. m .undone (away-stood Committed s (t .number) w (λ i. abort-commits-none (s .coordinator) i (t .number)) a e);
       changes = λ e k. let u : decision (t .number) (s .coordinator) ≡ Undecided = away-stood Undecided s (t .number) w (λ i. abort-undecided (s .coordinator) i (t .number)) a e in
-          ap (preparedChange (t .number)) (line-after s w (away-still s (t .number) w a) k)
+          ap (preparedChange (t .number)) (line-after s w (away-linewise s (t .number) w a) k)
           ∙ (away-columns s (t .number) u (lineOf k (s .lines)) (own-key s k) w a
           ∙ (m .changes u k ∙ ap (λ (us : List Letter). doneAt us t k) (sym (units-kept w (s .coordinator)))));
     }
@@ -165,9 +173,11 @@ undecided-kept s j w (away-commit i es m) n u = u
 undecided-kept s j w (away-prepare i now es e m) n u = u
 undecided-kept s j w (away-forward i ks h) n u = u
 undecided-kept s j w (away-back i ks h) n u = u
+undecided-kept s j w (away-add k l) n u = u
+undecided-kept s j w (away-remove k l) n u = u
 
 -- and none is prepared by the writes of others
 pub none-prepared-kept : (s : Sheets) (j : ℕ) (w : Write) → Away s j w → ((k : Key) → preparedChange j (lineOf k (s .lines)) ≡ none) → decision j (s .coordinator) ≡ Undecided → (k : Key) → preparedChange j (lineOf k (apply w s .lines)) ≡ none
 unfolding apply
 none-prepared-kept s j w a n u k =
-    ap (preparedChange j) (line-after s w (away-still s j w a) k) ∙ (away-columns s j u (lineOf k (s .lines)) (own-key s k) w a ∙ n k)
+    ap (preparedChange j) (line-after s w (away-linewise s j w a) k) ∙ (away-columns s j u (lineOf k (s .lines)) (own-key s k) w a ∙ n k)

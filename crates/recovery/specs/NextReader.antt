@@ -17,7 +17,7 @@ use Rattle.model.specs.ByteHistories.{Bytes, saying, Passing, answerOn, afterOn
 use Rattle.model.specs.RecoveryPass.{lineUndecided}
 use Rattle.call_laws.specs.Choices.{unless-of, by-whole}
 use Rattle.sheet_laws.specs.KeyOrder.{listsKey, has-line}
-use Rattle.call_laws.specs.Lines.{still-forward}
+use Rattle.call_laws.specs.Lines.{forward-linewise}
 use Rattle.call_laws.specs.Sheets.{GoodSheets, good-parts}
 use Rattle.call_laws.specs.Lifting.{capitals-lower, passing-readable, passing-good, same-answer, bytes-stay-passing}
 use Rattle.recovery.specs.View.{line-after}
@@ -39,7 +39,7 @@ module _ (s : Sheets) (good : GoodSheets s) (k : Key) (now : ℕ) (listed : list
   unfolding recoveryWrite lineAfter
   finished w e =
       ap (λ (x : Write). lineOf k (apply x s .lines)) (e ∙ ap (λ (v : Recovery). recoveryWrite v (lineOf k (s .lines))) meets-forward)
-      ∙ (line-after s (forward (lineOf k (s .lines) .image .txid) (lineOf k (s .lines) .key ∷ [])) (still-forward (s .lines) (lineOf k (s .lines) .image .txid) (lineOf k (s .lines) .key ∷ [])) k ∙ rolled-line s good k now listed decided rolledForward pending)
+      ∙ (line-after s (forward (lineOf k (s .lines) .image .txid) (lineOf k (s .lines) .key ∷ [])) (forward-linewise (s .lines) (lineOf k (s .lines) .image .txid) (lineOf k (s .lines) .key ∷ [])) k ∙ rolled-line s good k now listed decided rolledForward pending)
 
   pub visit-finishes : (answer (visit k now) s ≡ visited Forward) × (lineOf k (after (visit k now) s .lines) ≡ rolledForward (lineOf k (s .lines)))
   unfolding answer after written

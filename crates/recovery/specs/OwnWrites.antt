@@ -14,8 +14,8 @@ use Rattle.model.specs.Steps.{unitsOf, groupAt}
 use Rattle.model.specs.SequentialModel.{Model, modelCommit, overwritten}
 use Rattle.call_laws.specs.Images.{when-prepared}
 use Rattle.call_laws.specs.Groups.{place-below}
-use Rattle.call_laws.specs.Lines.{line-of-key, still-decide}
-use Rattle.call_laws.specs.Sheets.{GoodSheets, MayPutAll, still-commit, still-prepare, decided-own}
+use Rattle.call_laws.specs.Lines.{line-of-key, decide-linewise}
+use Rattle.call_laws.specs.Sheets.{GoodSheets, MayPutAll, commit-linewise, prepare-linewise, decided-own}
 use Rattle.recovery.specs.Settling.{settle, settled-plain, settled-by, settled-back, decided-other, undecided-committed}
 use Rattle.recovery.specs.View.{View, own-key, own-rule, line-after}
 use Rattle.recovery.specs.Memory.{putIn, preparedChange}
@@ -113,7 +113,7 @@ module _ (s : Sheets) (good : GoodSheets s) (t : Transaction) where
       let w = prepare (t .number) now (groupAt t s) in
       let o : entryFor (lineOf k (s .lines) .key) (groupAt t s) ≡ cond (eqb (groupPlace (unitsOf s) (puts t) k) (t .place)) (entryFor k (puts t)) none =
       ap (λ (x : Key). entryFor x (groupAt t s)) (line-of-key k (s .lines)) ∙ group-entry k in
-      ap (preparedChange (t .number)) (line-after s w (still-prepare s (t .number) now (groupAt t s) may) k)
+      ap (preparedChange (t .number)) (line-after s w (prepare-linewise s (t .number) now (groupAt t s) may) k)
       ∙ (ap (λ (x : Option Entry). preparedChange (t .number) (byEntry x (lineOf k (s .lines)) (λ (e : Entry). prepared (t .number) now (changeOf e) (lineOf k (s .lines))))) o
       ∙ go (eqb (groupPlace (unitsOf s) (puts t) k) (t .place)) refl (entryFor k (puts t)) refl)
     where
@@ -143,7 +143,7 @@ module _ (s : Sheets) (good : GoodSheets s) (t : Transaction) where
       let w = commit (t .number) (groupAt t s) in
       let o : entryFor (lineOf k (s .lines) .key) (groupAt t s) ≡ cond (eqb (groupPlace (unitsOf s) (puts t) k) (t .place)) (entryFor k (puts t)) none =
       ap (λ (x : Key). entryFor x (groupAt t s)) (line-of-key k (s .lines)) ∙ group-entry k in
-      ap (settle (s .coordinator)) (line-after s w (still-commit s (t .number) (groupAt t s) may) k)
+      ap (settle (s .coordinator)) (line-after s w (commit-linewise s (t .number) (groupAt t s) may) k)
       ∙ (go (entryFor k (puts t)) refl (eqb (groupPlace (unitsOf s) (puts t) k) (t .place)) refl o
       ∙ ap (λ (x : Option Change). overwritten (t .number) x (m .line k)) (sym (sets k)))
     where
@@ -181,7 +181,7 @@ module _ (s : Sheets) (good : GoodSheets s) (t : Transaction) where
   pub decide-view : (m : Model) → ((k : Key) → m .writes (t .number) k ≡ putIn k (held t)) → 1 ≤ t .number → t .number ≤ length (s .coordinator .decisions) → decision (t .number) (s .coordinator) ≡ Undecided → ((k : Key) → preparedChange (t .number) (lineOf k (s .lines)) ≡ putIn k (held t)) → View s m → View (apply (decide (t .number) Committed) s) (modelCommit (t .number) m)
   unfolding lineAfter decisionsAfter modelCommit apply overwritten preparedBy
   decide-view m sets one known u done v k =
-      ap (settle (withDecision (t .number) Committed (s .coordinator))) (line-after s (decide (t .number) Committed) (still-decide (s .lines) (t .number) Committed) k)
+      ap (settle (withDecision (t .number) Committed (s .coordinator))) (line-after s (decide (t .number) Committed) (decide-linewise (s .lines) (t .number) Committed) k)
       ∙ (go (preparedBy (t .number) r) refl ∙ ap (λ (x : Option Change). overwritten (t .number) x (m .line k)) (sym (sets k)))
     where
       n : ℕ

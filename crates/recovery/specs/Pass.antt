@@ -10,7 +10,7 @@ use Rattle.model.specs.Images.{isPrepared, preparedBy, rolledForward, rolledBac
 use Rattle.model.specs.Writes.{Sheets, Write, nothing, decide, forward, back, isOf, lineAfter, decisionsAfter, apply}
 use Rattle.model.specs.Visits.{ownerDecision, ownerExpired, meeting, isBusy, recoveryWrite}
 use Rattle.model.specs.Refusals.{refusalOf}
-use Rattle.model.specs.Results.{Call, visit, made, writeOf, visited}
+use Rattle.model.specs.Results.{visit, made, writeOf, visited}
 use Rattle.model.specs.Conditions.{conditions}
 use Rattle.model.specs.Histories.{answer, written, after, leftBy}
 use Rattle.model.specs.RecoveryPass.{Visit, visitCall, lineUndecided, timesVisited, Expiring, Closing}
@@ -19,11 +19,11 @@ use Rattle.call_laws.specs.Choices.{by-meeting, by-visit}
 use Rattle.sheet_laws.specs.Coordinator.{bounds}
 use Rattle.sheet_laws.specs.KeyOrder.{same-key, same-key-refl, listsKey, has-line}
 use Rattle.call_laws.specs.Images.{forward-plain, back-plain, when-prepared}
-use Rattle.call_laws.specs.Lines.{lists-after, line-of-key, Still, still-nothing, still-decide, still-forward, still-back}
-use Rattle.call_laws.specs.Sheets.{GoodSheets, good-parts, parts-good, decided-own}
+use Rattle.call_laws.specs.Lines.{shifts, lists-after, line-of-key, Linewise, nothing-linewise, decide-linewise, forward-linewise, back-linewise}
+use Rattle.call_laws.specs.Sheets.{GoodSheets, good-parts, parts-good, decided-own, listed-good}
 use Rattle.call_laws.specs.Closure.{sheets-stay-good}
 use Rattle.recovery.specs.Settling.{settle, settled-plain, gentle-nothing, undecided-aborted}
-use Rattle.recovery.specs.View.{View, listed-good, own-rule, own-txid, line-after, gentle-view}
+use Rattle.recovery.specs.View.{View, own-rule, own-txid, line-after, gentle-view}
 use Rattle.recovery.specs.Memory.{abort-undecided}
 use Rattle.recovery.specs.Calls.{visit-gentle}
 
@@ -51,11 +51,17 @@ recovery-visiting Busy r = visiting-nothing
 pub visit-visiting : (k : Key) (now : ℕ) (s : Sheets) → Visiting (written (visit k now) s)
 visit-visiting k now s = by-visit Visiting k now s visiting-nothing (recovery-visiting _ _)
 
-pub visiting-still : (rs : List Record) (w : Write) → Visiting w → Still rs w
-visiting-still rs w visiting-nothing = still-nothing rs
-visiting-still rs w (visiting-abort i) = still-decide rs i Aborted
-visiting-still rs w (visiting-forward i ks) = still-forward rs i ks
-visiting-still rs w (visiting-back i ks) = still-back rs i ks
+pub visiting-shifts : {w : Write} → Visiting w → shifts w ≡ false
+visiting-shifts visiting-nothing = refl
+visiting-shifts (visiting-abort i) = refl
+visiting-shifts (visiting-forward i ks) = refl
+visiting-shifts (visiting-back i ks) = refl
+
+pub visiting-linewise : (rs : List Record) (w : Write) → Visiting w → Linewise rs w
+visiting-linewise rs w visiting-nothing = nothing-linewise rs
+visiting-linewise rs w (visiting-abort i) = decide-linewise rs i Aborted
+visiting-linewise rs w (visiting-forward i ks) = forward-linewise rs i ks
+visiting-linewise rs w (visiting-back i ks) = back-linewise rs i ks
 
 -- a line that is prepared after a visit was prepared before, by the same number
 pub prepared-before : (w : Write) → Visiting w → (r : Record) → isPrepared (lineAfter w r) ≡ true → lineAfter w r ≡ r
@@ -87,12 +93,12 @@ rank-kept : (n : ℕ) (s : Sheets) (w : Write) (k : Key) → Visiting w → AtLe
 unfolding apply
 rank-kept zero s w k v a = tt
 rank-kept (suc zero) s w k v a = λ p u.
-    let l : lineOf k (apply w s .lines) ≡ lineAfter w (lineOf k (s .lines)) = line-after s w (visiting-still (s .lines) w v) k in
+    let l : lineOf k (apply w s .lines) ≡ lineAfter w (lineOf k (s .lines)) = line-after s w (visiting-linewise (s .lines) w v) k in
     let q : isPrepared (lineAfter w (lineOf k (s .lines))) ≡ true = ap isPrepared (sym l) ∙ p in
     let e : lineOf k (apply w s .lines) ≡ lineOf k (s .lines) = l ∙ prepared-before w v (lineOf k (s .lines)) q in
     a (ap isPrepared (sym e) ∙ p)
     (undecided-before w v s (lineOf k (s .lines) .image .txid) (ap (λ (r : Record). ownerDecision r (decisionsAfter w (s .coordinator))) (sym e) ∙ u))
-rank-kept (suc (suc n)) s w k v a = ap isPrepared (line-after s w (visiting-still (s .lines) w v) k) ∙ settled-stays w v (lineOf k (s .lines)) a
+rank-kept (suc (suc n)) s w k v a = ap isPrepared (line-after s w (visiting-linewise (s .lines) w v) k) ∙ settled-stays w v (lineOf k (s .lines)) a
 
 -- A visit at a reading at which an undecided line has expired.
 module _ (s : Sheets) (good : GoodSheets s) (k : Key) (now : ℕ) (listed : listsKey k (s .lines) ≡ true) (expiring : lineUndecided s (lineOf k (s .lines)) ≡ true → ownerExpired now (s .lines) (lineOf k (s .lines)) ≡ true) where
@@ -150,19 +156,19 @@ module _ (s : Sheets) (good : GoodSheets s) (k : Key) (now : ℕ) (listed : list
 
   clear-stays : isPrepared (lineOf k (s .lines)) ≡ false → isPrepared (lineAfterVisit Stays) ≡ false
   unfolding recoveryWrite lineAfter
-  clear-stays p = ap isPrepared (line-after s nothing (still-nothing (s .lines)) k) ∙ p
+  clear-stays p = ap isPrepared (line-after s nothing (nothing-linewise (s .lines)) k) ∙ p
 
   clear-forward : isPrepared (lineOf k (s .lines)) ≡ true → isPrepared (lineAfterVisit Forward) ≡ false
   unfolding recoveryWrite lineAfter
-  clear-forward p = ap isPrepared (line-after s (forward owner (here ∷ [])) (still-forward (s .lines) owner (here ∷ [])) k ∙ rolled-line rolledForward p) ∙ forward-plain (lineOf k (s .lines))
+  clear-forward p = ap isPrepared (line-after s (forward owner (here ∷ [])) (forward-linewise (s .lines) owner (here ∷ [])) k ∙ rolled-line rolledForward p) ∙ forward-plain (lineOf k (s .lines))
 
   clear-back : isPrepared (lineOf k (s .lines)) ≡ true → isPrepared (lineAfterVisit Back) ≡ false
   unfolding recoveryWrite lineAfter
-  clear-back p = ap isPrepared (line-after s (back owner (here ∷ [])) (still-back (s .lines) owner (here ∷ [])) k ∙ rolled-line rolledBack p) ∙ back-plain (lineOf k (s .lines))
+  clear-back p = ap isPrepared (line-after s (back owner (here ∷ [])) (back-linewise (s .lines) owner (here ∷ [])) k ∙ rolled-line rolledBack p) ∙ back-plain (lineOf k (s .lines))
 
   same-again : lineAfterVisit Again ≡ lineOf k (s .lines)
   unfolding recoveryWrite lineAfter
-  same-again = line-after s (decide owner Aborted) (still-decide (s .lines) owner Aborted) k
+  same-again = line-after s (decide owner Aborted) (decide-linewise (s .lines) owner Aborted) k
 
   raised : (n : ℕ) → AtLeast n s k → AtLeast (suc n) (apply (recoveryWrite (meeting now s (lineOf k (s .lines))) (lineOf k (s .lines))) s) k
   unfolding meeting recoveryWrite apply decisionsAfter
@@ -221,9 +227,9 @@ module _ (m : Model) (v : Visit) (fits : v .clock < 2 ^ 32) (s : Sheets) (good :
       by-visit (λ (x : Write). View (apply x s) m) (v .key) (v .clock) s (gentle-view s m nothing good gentle-nothing w)
       (gentle-view s m _ good (visit-gentle s (v .clock) (lineOf (v .key) (s .lines))) w)
 
-pub call-lists : (c : Call) (s : Sheets) (k : Key) → listsKey k (after c s .lines) ≡ listsKey k (s .lines)
+pub visit-lists : (v : Visit) (s : Sheets) (k : Key) → listsKey k (after (visitCall v) s .lines) ≡ listsKey k (s .lines)
 unfolding after apply
-call-lists c s k = lists-after (written c s) k (s .lines)
+visit-lists v s k = lists-after (written (visitCall v) s) k (s .lines) (visiting-shifts (visit-visiting (v .key) (v .clock) s))
 
 -- what a pass leaves
 pub record Passed (m : Model) (vs : List Visit) (s s′ : Sheets) : Type 0 where
@@ -240,9 +246,9 @@ pass-kept m (v ∷ vs) s g w x =
     record {
       good = r .good;
       view = r .view;
-      rank = λ k n p h l a. r .rank k (cond (sameKey (v .key) k) (suc n) n) p (call-lists (visitCall v) s k ∙ h)
+      rank = λ k n p h l a. r .rank k (cond (sameKey (v .key) k) (suc n) n) p (visit-lists v s k ∙ h)
           (one-visit (sameKey (v .key) k) n p (timesVisited k vs) l) (turn v s g k n h (x .1 .0) a);
-      lists = λ k. r .lists k ∙ call-lists (visitCall v) s k;
+      lists = λ k. r .lists k ∙ visit-lists v s k;
     }
 
 -- Once every line has been visited twice, no line is prepared and each is its settled line, the model's.

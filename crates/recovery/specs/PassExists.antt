@@ -3,18 +3,17 @@
 use Rattle.lists.specs.Basics.{_≡_, refl, sym, ap, _∙_, ℕ, suc, _+_, _≤_, Bool, true, false, not, _||_, cond, true≢false, List, [], _∷_, _++_, map}
 use Rattle.lists.specs.Basics.{arith, all, any, count, and-fst, and-snd, and-both}
 use Rattle.model.specs.Types.{Key, Record, Decision, Undecided, Committed, Aborted}
-use Rattle.model.specs.Records.{sameKey, lineOf}
+use Rattle.model.specs.Records.{keysIn, sameKey, lineOf}
 use Rattle.model.specs.Coordinator.{isUndecided, decision}
 use Rattle.model.specs.Images.{isPrepared, preparedBy, lineExpired}
 use Rattle.model.specs.Writes.{Sheets, Write, lineAfter, apply}
 use Rattle.model.specs.Visits.{ownerDecision, numberExpired, ownerExpired}
 use Rattle.model.specs.Histories.{written, after}
 use Rattle.model.specs.RecoveryPass.{Visit, visitCall, lineUndecided, timesVisited, Expiring, Closing, Readings}
-use Rattle.sheet_laws.specs.KeyOrder.{listsKey, has-line}
-use Rattle.call_laws.specs.Lines.{unlisted, lines-mapped}
+use Rattle.sheet_laws.specs.KeyOrder.{listsKey, has-line, unlisted}
+use Rattle.call_laws.specs.Lines.{lines-mapped}
 use Rattle.recovery.specs.View.{line-after}
-use Rattle.recovery.specs.Theorem.{keysIn}
-use Rattle.recovery.specs.Pass.{Visiting, undecided-before, visit-visiting, visiting-still, prepared-before, call-lists}
+use Rattle.recovery.specs.Pass.{Visiting, undecided-before, visit-visiting, visiting-shifts, visiting-linewise, prepared-before, visit-lists}
 
 -- a line that isn't prepared doesn't hinder a number
 plain-expired : (n now : ℕ) (r : Record) → isPrepared r ≡ false → (not (preparedBy n r) || lineExpired now r) ≡ true
@@ -49,12 +48,12 @@ same-next s s′ v x =
     let w = written (visitCall v) s′ in
     let y : Visiting w = visit-visiting (v .key) (v .clock) s′ in
     record {
-      lists = λ k. call-lists (visitCall v) s′ k ∙ x .lists k;
-      line = λ k h p. let l = line-after s′ w (visiting-still (s′ .lines) w y) k in
+      lists = λ k. visit-lists v s′ k ∙ x .lists k;
+      line = λ k h p. let l = line-after s′ w (visiting-linewise (s′ .lines) w y) k in
           let e = l ∙ prepared-before w y (lineOf k (s′ .lines)) (ap isPrepared (sym l) ∙ p) in
           e ∙ x .line k h (ap isPrepared (sym e) ∙ p);
       undecided = λ n u. x .undecided n (undecided-before w y s′ n u);
-      expired = λ now n h. ap (λ (rs : List Record). numberExpired now rs n) (lines-mapped w (s′ .lines)) ∙ expired-later w y now n (s′ .lines) (x .expired now n h);
+      expired = λ now n h. ap (λ (rs : List Record). numberExpired now rs n) (lines-mapped w (s′ .lines) (visiting-shifts y)) ∙ expired-later w y now n (s′ .lines) (x .expired now n h);
     }
 
 -- the visit of a key at the reading of the number that its line names on the first sheets

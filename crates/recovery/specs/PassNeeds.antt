@@ -17,7 +17,7 @@ use Rattle.call_laws.specs.Lines.{all-lines, lines-mapped}
 use Rattle.call_laws.specs.Sheets.{GoodSheets}
 use Rattle.recovery.specs.Settling.{decided-other, own-line, undecided-committed, undecided-aborted}
 use Rattle.recovery.specs.View.{line-after}
-use Rattle.recovery.specs.Pass.{visit-visiting, visiting-still}
+use Rattle.recovery.specs.Pass.{visit-visiting, visiting-shifts, visiting-linewise}
 use Rattle.recovery.specs.PassExists.{undecided-is}
 use Rattle.recovery.specs.Readings.{reading-tells}
 
@@ -103,7 +103,7 @@ module _ (s : Sheets) (v : Visit) (n : ℕ) (k : Key) (u : decision n (s .coordi
   still-prepared : preparedBy n (lineOf k (after (visitCall v) s .lines)) ≡ true
   unfolding after
   still-prepared =
-      ap (preparedBy n) (line-after s w (visiting-still (s .lines) w (visit-visiting (v .key) (v .clock) s)) k ∙ spared .lines (lineOf k (s .lines)) p) ∙ p
+      ap (preparedBy n) (line-after s w (visiting-linewise (s .lines) w (visit-visiting (v .key) (v .clock) s)) k ∙ spared .lines (lineOf k (s .lines)) p) ∙ p
 
   reading-before : Reading n (after (visitCall v) s) → Reading n s
   unfolding after apply
@@ -111,7 +111,7 @@ module _ (s : Sheets) (v : Visit) (n : ℕ) (k : Key) (u : decision n (s .coordi
       record {
         clock = x .clock;
         fits = x .fits;
-        expired = spared-expired n (x .clock) s w spared (s .lines) (ap (λ (rs : List Record). numberExpired (x .clock) rs n) (sym (lines-mapped w (s .lines))) ∙ x .expired);
+        expired = spared-expired n (x .clock) s w spared (s .lines) (ap (λ (rs : List Record). numberExpired (x .clock) rs n) (sym (lines-mapped w (s .lines) (visiting-shifts (visit-visiting (v .key) (v .clock) s)))) ∙ x .expired);
       }
 
   visited-later : (vs : List Visit) → 1 ≤ timesVisited k (v ∷ vs) → 1 ≤ timesVisited k vs

@@ -8,10 +8,9 @@ use Rattle.model.specs.Images.{isPrepared, preparedBy, elapsed, lineExpired}
 use Rattle.model.specs.Writes.{Sheets}
 use Rattle.model.specs.Visits.{numberExpired}
 use Rattle.model.specs.RecoveryPass.{lineUndecided, Readings, readingAfter, expiresAll, expirable, leavesReadings, readingIn, readingsOf}
-use Rattle.sheet_laws.specs.KeyOrder.{listsKey}
-use Rattle.call_laws.specs.Lines.{unlisted, all-lines, line-passes}
-use Rattle.call_laws.specs.Sheets.{GoodSheets}
-use Rattle.recovery.specs.View.{listed-good}
+use Rattle.sheet_laws.specs.KeyOrder.{listsKey, unlisted}
+use Rattle.call_laws.specs.Lines.{all-lines, line-passes}
+use Rattle.call_laws.specs.Sheets.{GoodSheets, listed-good}
 
 shifted : (now c d : ℕ) → now < 2 ^ 32 → c < 2 ^ 32 → d < 2 ^ 32 → 15000 ≤ (now + (2 ^ 32 - c)) % 2 ^ 32 → (now + (2 ^ 32 - c)) % 2 ^ 32 ≤ (now + (2 ^ 32 - d)) % 2 ^ 32 → (now + (2 ^ 32 - d)) % 2 ^ 32 ≤ 2147483647 → (15000 ≤ ((c + 15000) % 2 ^ 32 + (2 ^ 32 - d)) % 2 ^ 32) × (((c + 15000) % 2 ^ 32 + (2 ^ 32 - d)) % 2 ^ 32 ≤ 2147483647)
 shifted now c d a b e f g h = (omega arith, omega arith)

@@ -7,11 +7,11 @@ use Rattle.model.specs.Types.{Key, Record, Decision, Undecided, Committed, Abor
 use Rattle.model.specs.Records.{lineOf, stateRule}
 use Rattle.model.specs.Coordinator.{Coordinator, decisionNumber, decision, withDecision, withIssued}
 use Rattle.model.specs.Images.{isPrepared, preparedBy, prepared, rolledForward, rolledBack, byDecision, Change, changeOf}
-use Rattle.model.specs.Writes.{Sheets, Write, nothing, issue, decide, prepare, forward, back, entryFor, byEntry, isOf, lineAfter, decisionsAfter}
+use Rattle.model.specs.Writes.{Sheets, Write, nothing, issue, decide, prepare, forward, back, addLine, removeLine, entryFor, byEntry, isOf, lineAfter, decisionsAfter}
 use Rattle.model.specs.Visits.{ownerDecision}
 use Rattle.call_laws.specs.Images.{forward-plain, back-plain, back-is-before}
-use Rattle.call_laws.specs.Lines.{Still, still-nothing, still-issue, still-decide, still-forward, still-back}
-use Rattle.call_laws.specs.Sheets.{MayPutAll, still-prepare}
+use Rattle.call_laws.specs.Lines.{Linewise, nothing-linewise, issue-linewise, decide-linewise, forward-linewise, back-linewise}
+use Rattle.call_laws.specs.Sheets.{MayPutAll, prepare-linewise}
 
 unfoldable pub settle : Coordinator → Record → Record
 settle c r = cond (isPrepared r) (byDecision (ownerDecision r c) (rolledBack r) (rolledForward r) (rolledBack r)) r
@@ -41,6 +41,9 @@ pub data Gentle (s : Sheets) : Write → Type 0 where
   gentle-abort : (i : ℕ) → decision i (s .coordinator) ≡ Undecided → Gentle s (decide i Aborted)
   gentle-forward : (i : ℕ) (ks : List Key) → decision i (s .coordinator) ≡ Committed → Gentle s (forward i ks)
   gentle-back : (i : ℕ) (ks : List Key) → decision i (s .coordinator) ≡ Aborted → Gentle s (back i ks)
+  -- a line for a key that counts as it did without, and the other way round
+  gentle-add : (k : Key) → Linewise (s .lines) (addLine k) → Gentle s (addLine k)
+  gentle-remove : (k : Key) → Linewise (s .lines) (removeLine k) → Gentle s (removeLine k)
   gentle-prepare : (n now : ℕ) (es : List Entry) → (decision n (s .coordinator) ≡ Committed → ⊥) → MayPutAll s n es → Gentle s (prepare n now es)
 
 -- without a COMMITTED a prepared line counts as rolled back
@@ -137,17 +140,21 @@ gentle-settled s w gentle-issue r l g = issue-settled (s .coordinator .issued + 
 gentle-settled s w (gentle-abort i d) r l g = abort-settled (s .coordinator) i r d
 gentle-settled s w (gentle-forward i ks d) r l g = rolled-settled Committed (s .coordinator) i ks r (rolledForward r) (forward-plain r) refl d
 gentle-settled s w (gentle-back i ks d) r l g = rolled-settled Aborted (s .coordinator) i ks r (rolledBack r) (back-plain r) refl d
+gentle-settled s w (gentle-add k l) r h g = refl
+gentle-settled s w (gentle-remove k l) r h g = refl
 gentle-settled s w (gentle-prepare n now es d m) r l g = go (entryFor (r .key) es) refl
   where
     go : (o : Option Entry) → entryFor (r .key) es ≡ o → settle (s .coordinator) (byEntry o r (λ (e : Entry). prepared n now (changeOf e) r)) ≡ settle (s .coordinator) r
     go none e = refl
     go (some x) e = prepare-settled (s .coordinator) n now (changeOf x) r g (ap isPrepared (sym l) ∙ m (r .key) x e .1 .free) d
 
--- and leaves keys without a line as they are
-pub gentle-still : (s : Sheets) (w : Write) → Gentle s w → Still (s .lines) w
-gentle-still s w gentle-nothing = still-nothing (s .lines)
-gentle-still s w gentle-issue = still-issue (s .lines)
-gentle-still s w (gentle-abort i d) = still-decide (s .lines) i Aborted
-gentle-still s w (gentle-forward i ks d) = still-forward (s .lines) i ks
-gentle-still s w (gentle-back i ks d) = still-back (s .lines) i ks
-gentle-still s w (gentle-prepare n now es d m) = still-prepare s n now es m
+-- and goes line by line
+pub gentle-linewise : (s : Sheets) (w : Write) → Gentle s w → Linewise (s .lines) w
+gentle-linewise s w gentle-nothing = nothing-linewise (s .lines)
+gentle-linewise s w gentle-issue = issue-linewise (s .lines)
+gentle-linewise s w (gentle-abort i d) = decide-linewise (s .lines) i Aborted
+gentle-linewise s w (gentle-forward i ks d) = forward-linewise (s .lines) i ks
+gentle-linewise s w (gentle-back i ks d) = back-linewise (s .lines) i ks
+gentle-linewise s w (gentle-add k l) = l
+gentle-linewise s w (gentle-remove k l) = l
+gentle-linewise s w (gentle-prepare n now es d m) = prepare-linewise s n now es m

@@ -5,11 +5,10 @@ use Rattle.model.specs.Types.{Key, Record}
 use Rattle.model.specs.Records.{isZero, absentRule, stateRule, absentAt, lineOf}
 use Rattle.model.specs.Writes.{Sheets, Write, lineAfter, decisionsAfter, apply}
 use Rattle.model.specs.SequentialModel.{Model}
-use Rattle.call_laws.specs.Ranges.{GoodParts, fine, fine-parts}
-use Rattle.sheet_laws.specs.KeyOrder.{listsKey}
-use Rattle.call_laws.specs.Lines.{unlisted, Still, line-written, line-of-key, line-passes}
-use Rattle.call_laws.specs.Sheets.{GoodSheets}
-use Rattle.recovery.specs.Settling.{settle, Gentle, gentle-settled, gentle-still}
+use Rattle.sheet_laws.specs.KeyOrder.{listsKey, unlisted}
+use Rattle.call_laws.specs.Lines.{Linewise, line-of-key}
+use Rattle.call_laws.specs.Sheets.{GoodSheets, listed-good}
+use Rattle.recovery.specs.Settling.{settle, Gentle, gentle-settled, gentle-linewise}
 
 abbrev pub View : Sheets → Model → Type 0
 View s m = (k : Key) → settle (s .coordinator) (lineOf k (s .lines)) ≡ m .line k
@@ -28,11 +27,6 @@ by-line P k rs f a = go (listsKey k rs) refl
     go true h = f h
     go false h = subst P (sym (unlisted k rs h)) a
 
-pub listed-good : (s : Sheets) → GoodSheets s → (k : Key) → listsKey k (s .lines) ≡ true → GoodParts (s .coordinator .issued) (lineOf k (s .lines))
-listed-good s g k h =
-    fine-parts (s .coordinator .issued) (lineOf k (s .lines))
-    (line-passes (fine (s .coordinator .issued)) k (s .lines) (g .fine-lines) h)
-
 -- it keeps the rule of its state
 pub own-rule : (s : Sheets) → GoodSheets s → (k : Key) → stateRule (lineOf k (s .lines)) ≡ true
 unfolding absentRule isZero
@@ -42,13 +36,13 @@ own-rule s g k = by-line (λ (r : Record). stateRule r ≡ true) k (s .lines) (�
 pub own-txid : (s : Sheets) → GoodSheets s → (k : Key) → lineOf k (s .lines) .image .txid ≤ s .coordinator .issued
 own-txid s g k = by-line (λ (r : Record). r .image .txid ≤ s .coordinator .issued) k (s .lines) (λ h. listed-good s g k h .txid) (omega arith)
 
--- the line of a key after a write that leaves keys without a line as they are
-pub line-after : (s : Sheets) (w : Write) → Still (s .lines) w → (k : Key) → lineOf k (apply w s .lines) ≡ lineAfter w (lineOf k (s .lines))
+-- the line of a key after a write that goes line by line
+pub line-after : (s : Sheets) (w : Write) → Linewise (s .lines) w → (k : Key) → lineOf k (apply w s .lines) ≡ lineAfter w (lineOf k (s .lines))
 unfolding apply
-line-after s w still k = line-written (s .lines) w still k
+line-after s w by k = by k
 
 pub gentle-view : (s : Sheets) (m : Model) (w : Write) → GoodSheets s → Gentle s w → View s m → View (apply w s) m
 unfolding apply
 gentle-view s m w g f v k =
-    ap (settle (decisionsAfter w (s .coordinator))) (line-after s w (gentle-still s w f) k)
+    ap (settle (decisionsAfter w (s .coordinator))) (line-after s w (gentle-linewise s w f) k)
     ∙ (gentle-settled s w f (lineOf k (s .lines)) (own-key s k) (own-rule s g k) ∙ v k)

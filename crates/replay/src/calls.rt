@@ -25,6 +25,20 @@ fn lookup(n: [u32; 14], records: &[u8]) -> Reply
     calls::rank(sheets::lookup::rank_of(records, calls::key_at(n, 0)))
 }
 
+fn add(n: [u32; 14], records: &mut [u8], coordinator: &[u8]) -> Reply
+    ensures { λ r. ⌜ r .count ≤ 102 ⌝ }
+{
+    let refused = adding::add(calls::key_at(n, 0), records, coordinator);
+    reply::unless_refused(refused, calls::ok())
+}
+
+fn remove(n: [u32; 14], records: &mut [u8], coordinator: &[u8]) -> Reply
+    ensures { λ r. ⌜ r .count ≤ 102 ⌝ }
+{
+    let refused = adding::remove(calls::key_at(n, 0), records, coordinator);
+    reply::unless_refused(refused, calls::ok())
+}
+
 // What is printed after the reply: the part of the record sheet that the look-up hands back, and an empty part for a call that asks for none.
 pub fn part(c: Command, records: &[u8]) -> &[u8]
     ensures { λ r. ⌜ now r ≡ partAsked c (lookedUp (now (records .entry)) (keyFrom (c .numbers) 0)) ⌝ }
@@ -64,6 +78,14 @@ pub fn run(c: Command, slots: [Transaction; 16], records: &mut [u8], coordinator
         Kind::Lookup => Turn {
             slots,
             reply: lookup(n, records),
+        },
+        Kind::Add => Turn {
+            slots,
+            reply: add(n, records, coordinator),
+        },
+        Kind::Remove => Turn {
+            slots,
+            reply: remove(n, records, coordinator),
         },
         _ => perform(c, slots, records, coordinator),
     }

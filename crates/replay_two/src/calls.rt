@@ -26,6 +26,20 @@ fn lookup(n: [u32; 14], plain: &[u8], book: &[u8]) -> Reply
     calls::rank(two_engine::lookup::rank_of(plain, book, calls::key_at(n, 0)))
 }
 
+fn add(n: [u32; 14], plain: &mut [u8], book: &mut [u8], coordinator: &[u8]) -> Reply
+    ensures { λ r. ⌜ r .count ≤ 102 ⌝ }
+{
+    let refused = two_adding::add(calls::key_at(n, 0), plain, book, coordinator);
+    reply::unless_refused(refused, calls::ok())
+}
+
+fn remove(n: [u32; 14], plain: &mut [u8], book: &mut [u8], coordinator: &[u8]) -> Reply
+    ensures { λ r. ⌜ r .count ≤ 102 ⌝ }
+{
+    let refused = two_adding::remove(calls::key_at(n, 0), plain, book, coordinator);
+    reply::unless_refused(refused, calls::ok())
+}
+
 // What is printed after the reply: the part of the named sheet that the look-up hands back, and an empty part for a call that asks for none.
 pub fn part<'a>(c: Command, plain: &'a [u8], book: &'a [u8]) -> &'a [u8]
     ensures { λ r. ⌜ now r ≡ partAsked c (lookedUpTwo (now (plain .entry)) (now (book .entry)) (getD (c .numbers) 0 0) (keyFrom (c .numbers) 1)) ⌝ }
@@ -78,6 +92,14 @@ pub fn run(
         Kind::Lookup => Turn {
             slots,
             reply: lookup(n, plain, book),
+        },
+        Kind::Add => Turn {
+            slots,
+            reply: add(n, plain, book, coordinator),
+        },
+        Kind::Remove => Turn {
+            slots,
+            reply: remove(n, plain, book, coordinator),
         },
         _ => perform(c, slots, plain, book, coordinator),
     }

@@ -7,7 +7,7 @@ use Rattle.decimal.specs.declared.Scan.the-variants.{Blank, Number, Wrong}
 use Rattle.decimal.specs.Field.{figure}
 use Rattle.script.specs.declared.scan.Command.{Command}
 use Rattle.script.specs.declared.scan.Kind.{Kind}
-use Rattle.script.specs.declared.scan.Kind.the-variants.{Check, Begin, Read, Second, Put, Advance, Close, Abort, Visit, Lookup, Line, Show, Set, Entry, Sheets, BadLine}
+use Rattle.script.specs.declared.scan.Kind.the-variants.{Check, Begin, Read, Second, Put, Advance, Close, Abort, Visit, Lookup, Line, Add, Remove, Show, Set, Entry, Sheets, BadLine}
 use Rattle.script.specs.declared.scan.Numbers.{Numbers}
 
 -- The words.
@@ -42,10 +42,14 @@ unfoldable pub slotKind : List ℕ → Kind
 slotKind w =
     firstNamed (eqList w (bytes "begin")) Begin (eqList w (bytes "read")) Read (eqList w (bytes "put")) Put (eqList w (bytes "advance")) Advance (otherSlotKind w)
 
+-- adding and removing a line, or a call on a slot
+unfoldable pub shiftKind : List ℕ → Kind
+shiftKind w = cond (eqList w (bytes "add")) Add (cond (eqList w (bytes "remove")) Remove (slotKind w))
+
 -- any call
 unfoldable pub callKind : List ℕ → Kind
 callKind w =
-    firstNamed (eqList w (bytes "check")) Check (eqList w (bytes "visit")) Visit (eqList w (bytes "lookup")) Lookup (eqList w (bytes "line")) Line (slotKind w)
+    firstNamed (eqList w (bytes "check")) Check (eqList w (bytes "visit")) Visit (eqList w (bytes "lookup")) Lookup (eqList w (bytes "line")) Line (shiftKind w)
 
 -- a call, or all sheets; the second call of a read is there for two sheets only
 unfoldable pub kindOf : Bool → List ℕ → Kind
@@ -89,6 +93,8 @@ arity two Abort = 1
 arity two Visit = 6
 arity two Lookup = 5
 arity two Line = lineArity two
+arity two Add = 5
+arity two Remove = 5
 arity two Show = 1
 arity two Set = 7
 arity two Entry = 14

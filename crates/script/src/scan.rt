@@ -2,7 +2,7 @@
 ghost use mathlib.Core.Path.{_≡_};
 ghost use Prim.Native.Nat.{_+_, _≤_};
 ghost use lib.ListN.{length, drop};
-ghost use Rattle.script.specs.Lines.{closeKind, otherSlotKind, slotKind, callKind, kindOf, lineArity};
+ghost use Rattle.script.specs.Lines.{closeKind, otherSlotKind, slotKind, shiftKind, callKind, kindOf, lineArity};
 ghost use Rattle.script.specs.Lines.{noNumbers, withWord, withWords, wordsAfter, badCommand, called, said, upTo};
 ghost use Rattle.script.specs.Lines as model;
 use decimal::Scan;
@@ -20,6 +20,8 @@ pub enum Kind {
     Visit,
     Lookup,
     Line,
+    Add,
+    Remove,
     Show,
     Set,
     Entry,
@@ -105,6 +107,19 @@ fn slot_kind(word: &[u8]) -> Kind
     other_slot_kind(word)
 }
 
+// Adding and removing a line, or a call on a slot.
+fn shift_kind(word: &[u8]) -> Kind
+    ensures { λ r. ⌜ r ≡ shiftKind (now (word .entry)) ⌝ }
+{
+    if decimal::same(word, b"add") {
+        return Kind::Add;
+    }
+    if decimal::same(word, b"remove") {
+        return Kind::Remove;
+    }
+    slot_kind(word)
+}
+
 // The call that a word names.
 fn call_kind(word: &[u8]) -> Kind
     ensures { λ r. ⌜ r ≡ callKind (now (word .entry)) ⌝ }
@@ -121,7 +136,7 @@ fn call_kind(word: &[u8]) -> Kind
     if decimal::same(word, b"line") {
         return Kind::Line;
     }
-    slot_kind(word)
+    shift_kind(word)
 }
 
 // What a line with this first word asks for; the second call of a read is there for two sheets only.
@@ -163,6 +178,8 @@ fn arity(two: bool, kind: Kind) -> usize
         Kind::Visit => 6,
         Kind::Lookup => 5,
         Kind::Line => line_arity(two),
+        Kind::Add => 5,
+        Kind::Remove => 5,
         Kind::Show => 1,
         Kind::Set => 7,
         Kind::Entry => 14,

@@ -5,7 +5,7 @@ use Rattle.model.specs.Types.{Transaction}
 use Rattle.model.specs.Calls.{newTransaction}
 use Rattle.types.specs.declared.Request.the-variants as request
 use Rattle.script.specs.declared.scan.Kind.{Kind}
-use Rattle.script.specs.declared.scan.Kind.the-variants.{Check, Begin, Read, Second, Put, Advance, Close, Abort, Visit, Lookup, Line, Show, Set, Entry, Sheets, BadLine}
+use Rattle.script.specs.declared.scan.Kind.the-variants.{Check, Begin, Read, Second, Put, Advance, Close, Abort, Visit, Lookup, Line, Add, Remove, Show, Set, Entry, Sheets, BadLine}
 use Rattle.script_calls.specs.declared.calls.Asked.{Asked}
 use Rattle.script_calls.specs.declared.calls.Asked.the-variants.{Call, Nothing}
 use Rattle.script_calls.specs.Parts.{keyFrom, columnsFrom}
@@ -28,6 +28,8 @@ askedFor Abort n = onSlot (getD n 0 0) (Call request.Abort)
 askedFor Visit n = Call (request.Visit (keyFrom n 0) (getD n 5 0))
 askedFor Lookup n = Nothing
 askedFor Line n = Nothing
+askedFor Add n = Nothing
+askedFor Remove n = Nothing
 askedFor Show n = Nothing
 askedFor Set n = Nothing
 askedFor Entry n = Nothing

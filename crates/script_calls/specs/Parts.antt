@@ -3,7 +3,7 @@ use Rattle.lists.specs.Basics.{_≡_, sym, ap, ℕ, _+_, Bool, true, false, con
 use Rattle.model.specs.Types.{Key, Columns}
 use Rattle.script.specs.declared.scan.Command.{Command}
 use Rattle.script.specs.declared.scan.Kind.{Kind}
-use Rattle.script.specs.declared.scan.Kind.the-variants.{Check, Begin, Read, Second, Put, Advance, Close, Abort, Visit, Lookup, Line, Show, Set, Entry, Sheets, BadLine}
+use Rattle.script.specs.declared.scan.Kind.the-variants.{Check, Begin, Read, Second, Put, Advance, Close, Abort, Visit, Lookup, Line, Add, Remove, Show, Set, Entry, Sheets, BadLine}
 
 -- the key whose five numbers begin at number i
 abbrev pub keyFrom : List ℕ → ℕ → Key
@@ -32,6 +32,8 @@ asksLine Abort = false
 asksLine Visit = false
 asksLine Lookup = false
 asksLine Line = true
+asksLine Add = false
+asksLine Remove = false
 asksLine Show = false
 asksLine Set = false
 asksLine Entry = false

@@ -5,7 +5,7 @@ use Rattle.lists.specs.Members.{Mem, here, there}
 use Rattle.model.specs.Types.{Key, Transaction, Reading}
 use Rattle.model.specs.Transactions.{held, reading}
 use Rattle.model.specs.Writes.{Sheets, Write}
-use Rattle.model.specs.Results.{Call, begin, read, second, put, advance, abort, visit, Answer, turnedAway, returned, answered, visited, reported}
+use Rattle.model.specs.Results.{Call, begin, read, second, put, advance, abort, visit, add, remove, Answer, turnedAway, returned, answered, visited, reported, acknowledged}
 use Rattle.model.specs.Conditions.{isNew, heldEntry}
 use Rattle.model.specs.Histories.{Event, Available}
 use Rattle.model.specs.SequentialModel.{Model}
@@ -34,6 +34,7 @@ ToldRead es t k (returned t′) = Unit {0}
 ToldRead es t k (answered v t′) = countsAsRead v ≡ true → ReadHeld es t k v t′
 ToldRead es t k (visited v) = Unit {0}
 ToldRead es t k (reported n t′) = Unit {0}
+ToldRead es t k acknowledged = Unit {0}
 
 abbrev pub Told : List Event → Call → Answer → Type 0
 Told es (begin b) a = Unit {0}
@@ -43,6 +44,8 @@ Told es (put t k c) a = Unit {0}
 Told es (advance t now) a = Unit {0}
 Told es (abort t) a = Unit {0}
 Told es (visit k now) a = Unit {0}
+Told es (add k) a = Unit {0}
+Told es (remove k) a = Unit {0}
 
 -- of each call made
 abbrev pub EachTold : List Event → List Event → Type 0
@@ -61,6 +64,7 @@ module _ (es es′ : List Event) (still : (t′ : Transaction) (k : Key) → Sti
   read-later t k (answered v t′) h = λ d. let r = h d in record { number = r .number; answer = r .answer; holds = still t′ k (r .holds) }
   read-later t k (visited v) h = tt
   read-later t k (reported n t′) h = tt
+  read-later t k acknowledged h = tt
 
   told-later : (c : Call) (a : Answer) → Told es c a → Told es′ c a
   told-later (begin b) a h = tt
@@ -70,6 +74,8 @@ module _ (es es′ : List Event) (still : (t′ : Transaction) (k : Key) → Sti
   told-later (advance t now) a h = tt
   told-later (abort t) a h = tt
   told-later (visit k now) a h = tt
+  told-later (add k) a h = tt
+  told-later (remove k) a h = tt
 
   each-later : (xs : List Event) → EachTold es xs → EachTold es′ xs
   each-later [] h = tt

@@ -1,12 +1,11 @@
 -- Checked transactions are serializable, over bytes, which are a kind of sheets.
 use Rattle.lists.specs.Basics.{_≡_, true, List, [], map, all}
-use Rattle.model.specs.Types.{Record}
 use Rattle.model.specs.Spares.{sheetFor}
 use Rattle.model.specs.ByteHistories.{Bytes, saying, Passing, afterOn}
 use Rattle.model.specs.RecoveryPass.{Visit, nonePrepared, Closing}
 use Rattle.model.specs.Turns.{Turn, turnEventOn, turnAfterOn, turnsLeft, LegalTurns}
 use Rattle.model.specs.Kinds.{bytesKind}
-use Rattle.model.specs.Recovered.{modelOn, bytesRecovered}
+use Rattle.model.specs.Recovered.{modelOn, standingOn, bytesRecovered}
 use Rattle.model.specs.SerialOrder.{callsOn, begunChecked, serialOrder, serialLine, Serializable}
 use Rattle.turns.specs.Bytes.{bytes-faithful}
 use Rattle.serial.specs.Kinds.{checked-serializable-of, serial-bytes-of}
@@ -20,5 +19,5 @@ checked-serializable b p z xs legal checked = checked-serializable-of bytesKind 
 pub serial-bytes : (b : Bytes) → Passing b → nonePrepared (saying b .lines) ≡ true → (xs : List Turn) → LegalTurns turnAfterOn turnEventOn xs b []
     → all begunChecked (callsOn xs b) ≡ true → (vs : List Visit) → Closing saying afterOn vs (turnsLeft turnAfterOn xs b)
     → bytesRecovered vs xs b .records
-    ≡ sheetFor (map (λ (r : Record). serialLine (saying b .lines) (modelOn xs b) (serialOrder (callsOn xs b)) (r .key)) (saying b .lines)) (saying b .size)
+    ≡ sheetFor (map (serialLine (saying b .lines) (modelOn xs b) (serialOrder (callsOn xs b))) (standingOn xs b)) (saying b .size)
 serial-bytes b p z xs legal checked vs c = serial-bytes-of bytesKind bytes-faithful b p z xs legal checked vs c

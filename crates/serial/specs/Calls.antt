@@ -1,4 +1,4 @@
--- Every call keeps what is known of the order and of the answers so far: a refused call and a visit take no state, begin returns a new one, read, its second
+-- Every call keeps what is known of the order and of the answers so far: a refused call, a visit, adding and removing take no state, begin returns a new one, read, its second
 -- call and put return one in open, abort one past decide, and advance one of the step table. A new entry is what the visit of its line left, which is the
 -- model's line, but for columns that a second call brings.
 use Rattle.lists.specs.Basics.{_≡_, refl, sym, ap, ap₂, subst, _∙_, ℕ, _+_, _<_, eqb, leb, Bool, true, false, not, _&&_, cond, true≢false, List, _∷_, length, getD}
@@ -12,7 +12,7 @@ use Rattle.model.specs.Images.{isAbsent}
 use Rattle.model.specs.Transactions.{withdrawPhase, openPhase, isSerializable, held, reading, heldAt, noEntry, moved, withEntry, withPut}
 use Rattle.model.specs.Writes.{Sheets, Write, nothing, apply}
 use Rattle.model.specs.Visits.{ownerDecision, ownerExpired, meeting, isAgain, isBusy, recovered, recoveryWrite}
-use Rattle.model.specs.Results.{Call, begin, read, second, put, advance, abort, visit, Result, refused, made, writeOf, Answer, turnedAway, returned, answered, returns, answerOf}
+use Rattle.model.specs.Results.{Call, begin, read, second, put, advance, abort, visit, add, remove, Result, refused, made, writeOf, Answer, turnedAway, returned, answered, returns, answerOf}
 use Rattle.model.specs.Conditions.{isNew, takesTwo, heldEntry, busy, cannotAdvance, conditions}
 use Rattle.model.specs.Steps.{unitsOf, step}
 use Rattle.model.specs.Calls.{newTransaction, seenSecond, holding, wholeRead, afterPut, outcome, result}
@@ -22,8 +22,10 @@ use Rattle.model.specs.SerialOrder.{begunChecked}
 use Rattle.sheet_laws.specs.Search.{first-by}
 use Rattle.call_laws.specs.Choices.{unless-by, testOf, accepted, by-meeting, entryRead, by-whole}
 use Rattle.call_laws.specs.Lines.{line-of-key}
+use Rattle.call_laws.specs.Adding.{may-add, may-remove}
+use Rattle.call_laws.specs.Sheets.{added-linewise, removed-linewise}
 use Rattle.recovery.specs.Settling.{settled-plain, settled-by}
-use Rattle.recovery.specs.Memory.{Away, away-nothing, away-issue}
+use Rattle.recovery.specs.Memory.{Away, away-nothing, away-issue, away-add, away-remove}
 use Rattle.recovery.specs.Advance.{never-both, step-moves}
 use Rattle.recovery.specs.Calls.{visit-away}
 use Rattle.serial.specs.Runs.{Placing, NoNewer}
@@ -108,12 +110,26 @@ module _ {first : Key → Record} {s : Sheets} {es : List Event} {m : Model} {ps
       told-refused (advance t now) = tt
       told-refused (abort t) = tt
       told-refused (visit k now) = tt
+      told-refused (add k) = tt
+      told-refused (remove k) = tt
 
   visit-keeps : (k : Key) (now : ℕ) → Keeps (visit k now) (outcome (visit k now) s)
   unfolding outcome modelStep returns given
   visit-keeps k now f′ av =
       untaken
       (record { before = f; away = visit-away s now k; takes = refl; gives = λ t q. absurd (Option·none-ne-some t q); lines = refl; committed = refl }) tt
+
+  add-keeps : (k : Key) → refusalOf (conditions (add k) s) ≡ 0 → Keeps (add k) (outcome (add k) s)
+  unfolding outcome modelStep returns given
+  add-keeps k z f′ av =
+      untaken
+      (record { before = f; away = λ j. away-add k (added-linewise s (f .good) k (may-add k s z)); takes = refl; gives = λ t q. absurd (Option·none-ne-some t q); lines = refl; committed = refl }) tt
+
+  remove-keeps : (k : Key) → refusalOf (conditions (remove k) s) ≡ 0 → Keeps (remove k) (outcome (remove k) s)
+  unfolding outcome modelStep returns given
+  remove-keeps k z f′ av =
+      untaken
+      (record { before = f; away = λ j. away-remove k (removed-linewise s (f .good) k (may-remove k s z)); takes = refl; gives = λ t q. absurd (Option·none-ne-some t q); lines = refl; committed = refl }) tt
 
   -- "every transaction is begun as checked"
   begin-keeps : (b : Bool) → b ≡ true → Keeps (begin b) (outcome (begin b) s)
@@ -302,6 +318,8 @@ module _ {first : Key → Record} {s : Sheets} {es : List Event} {m : Model} {ps
   accepted-keeps (advance t now) z q = advance-keeps t now z
   accepted-keeps (abort t) z q = abort-keeps t
   accepted-keeps (visit k now) z q = visit-keeps k now
+  accepted-keeps (add k) z q = add-keeps k z
+  accepted-keeps (remove k) z q = remove-keeps k z
 
   pub result-keeps : (c : Call) → begunChecked (eventOf c (result c s)) ≡ true → Keeps c (result c s)
   unfolding result

@@ -2,7 +2,7 @@
 -- that its turns come to, answer by answer.
 use Rattle.lists.specs.Basics.{_≡_, refl, sym, ap, subst, _∙_, true, List, [], _∷_, map, all}
 use Rattle.lists.specs.All.{all-always, map-equal}
-use Rattle.model.specs.Types.{Record}
+use Rattle.model.specs.Types.{Key, Record}
 use Rattle.model.specs.Spares.{sheetFor}
 use Rattle.model.specs.Writes.{Sheets}
 use Rattle.model.specs.Results.{Call, Answer}
@@ -11,7 +11,7 @@ use Rattle.model.specs.SequentialModel.{firstModel, modelAfter}
 use Rattle.model.specs.RecoveryPass.{Visit, nonePrepared, Closing}
 use Rattle.model.specs.Turns.{Turn, turnsLeft, expanded, LegalTurns}
 use Rattle.model.specs.Kinds.{Kind}
-use Rattle.model.specs.Recovered.{historyModel, sheetsRecovered}
+use Rattle.model.specs.Recovered.{historyModel, historyKeys, sheetsRecovered}
 use Rattle.model.specs.SerialOrder.{callsMade, begunChecked, serialOrder, serialLine, Serializable}
 use Rattle.turns.specs.Reduction.{Reduced}
 use Rattle.turns.specs.Lift.{Faithful, Lifted, lift, demand-3-of}
@@ -50,9 +50,9 @@ module _ {S : Type 0} (kind : Kind S) (laws : Faithful kind) where
   pub serial-bytes-of : (b : S) → kind .passes b → nonePrepared (sheets b .lines) ≡ true → (xs : List Turn) → LegalTurns (kind .turned) (kind .events) xs b []
       → all begunChecked (callsMade kind xs b) ≡ true → (vs : List Visit) → Closing sheets (kind .leaves) vs (turnsLeft (kind .turned) xs b)
       → kind .text (sheetsRecovered kind vs xs b)
-      ≡ sheetFor (map (λ (r : Record). serialLine (sheets b .lines) (historyModel kind xs b) (serialOrder (callsMade kind xs b)) (r .key)) (sheets b .lines)) (sheets b .size)
+      ≡ sheetFor (map (serialLine (sheets b .lines) (historyModel kind xs b) (serialOrder (callsMade kind xs b))) (historyKeys kind xs b)) (sheets b .size)
   serial-bytes-of b p z xs legal checked vs c =
       demand-3-of kind laws b p z xs legal vs c .lines
       ∙ ap (λ (ls : List Record). sheetFor ls (sheets b .size))
-      (map-equal (λ (r : Record). true) (λ (r : Record). historyModel kind xs b .line (r .key)) _
-      (λ r t. sym (checked-serializable-of b p z xs legal checked .writes (r .key))) (sheets b .lines) (all-always (sheets b .lines)))
+      (map-equal (λ (k : Key). true) (historyModel kind xs b .line) _
+      (λ k t. sym (checked-serializable-of b p z xs legal checked .writes k)) (historyKeys kind xs b) (all-always (historyKeys kind xs b)))

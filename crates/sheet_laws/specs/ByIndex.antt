@@ -18,9 +18,9 @@ pub whole-lines : (s : List ℕ) → recordsAccepted s ≡ true → length s ≡
 unfolding recordsAccepted linesSet
 whole-lines s a = search tests
 
-pub length-lines : (s : List ℕ) → length (linesOf recordBytes s) ≡ length s / recordBytes
+pub length-lines : (w : ℕ) (s : List ℕ) → length (linesOf w s) ≡ length s / w
 unfolding linesOf
-length-lines s = length-pieces recordBytes (length s / recordBytes) s
+length-lines w s = length-pieces w (length s / w) s
 
 pub length-records : (s : List ℕ) → length (records s) ≡ length s / recordBytes
 unfolding records linesOf

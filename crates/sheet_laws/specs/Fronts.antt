@@ -1,10 +1,10 @@
 -- A sheet of whole lines is its front and spares behind it, and lines that are no spares, with spares behind them, have these as front and spares: the laws of `Ends` for
 -- lines, of which a sheet is the bytes. For any width.
 use Rattle.lists.specs.Basics.{ℕ, zero, suc, _+_, _-_, _*_, _/_, _≤_, _<_, _≡_, refl, sym, ap, ap₂, _∙_, Bool, true, false, not, true≢false, List, [], _∷_, _++_, arith}
-use Rattle.lists.specs.Basics.{length, take, drop, getD, getD-drop, length-append, replicate, all, and-fst, and-snd, and-both, joined, eqList-true, eqList-refl}
+use Rattle.lists.specs.Basics.{length, take, drop, drop-at, getD, getD-drop, length-append, replicate, all, and-fst, and-snd, and-both, joined, eqList-true, eqList-refl}
 use Rattle.lists.specs.Basics.{tests}
 use lib.ListN.{take-append-drop, length-replicate}
-use Rattle.lists.specs.Pieces.{AllOf, joined-pieces, length-pieces, getD-pieces, joined-append, all-join, all-pieces}
+use Rattle.lists.specs.Pieces.{AllOf, joined-pieces, getD-pieces, joined-append, all-join, all-pieces}
 use Rattle.model.specs.Types.{Column}
 use Rattle.model.specs.Lines.{linesOf, lineSet}
 use Rattle.model.specs.Spares.{spareLine, isSpare, trimmed, filledLines, front, sparesText, sized}
@@ -42,10 +42,6 @@ module _ (w : ℕ) (some : 0 < w) where
     pub bytes-lines : joined (linesOf w s) ≡ s
     unfolding linesOf
     bytes-lines = joined-pieces w (length s / w) s whole
-
-    pub length-lines : length (linesOf w s) ≡ length s / w
-    unfolding linesOf
-    length-lines = length-pieces w (length s / w) s
 
     pub filled-within : filledLines w s ≤ length s / w
     unfolding filledLines linesOf
@@ -99,6 +95,11 @@ module _ (w : ℕ) (some : 0 < w) where
     pub front-spares : front w s ++ sparesText w (length s / w - filledLines w s) ≡ s
     unfolding front filledLines linesOf
     front-spares = ends.front-spares w some (isSpare w) (spareLine w) length-spare passes only s whole
+
+    pub front-tail : drop (filledLines w s * w) s ≡ sparesText w (length s / w - filledLines w s)
+    front-tail =
+        ap (drop (filledLines w s * w)) (sym front-spares)
+        ∙ drop-at (front w s) (sparesText w (length s / w - filledLines w s)) (filledLines w s * w) front-length
 
   -- any whole lines with spares behind them
   pub lines-behind : (s : List ℕ) (n : ℕ) → length s ≡ length s / w * w → linesOf w (s ++ sparesText w n) ≡ linesOf w s ++ replicate n (spareLine w)

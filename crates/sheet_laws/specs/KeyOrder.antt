@@ -1,8 +1,8 @@
 -- Keys in order: keys compared as numbers are equal as keys, and on a sheet in order a later line has a higher key.
-use Rattle.lists.specs.Basics.{_≡_, refl, sym, ap, _∙_, Bool, true, false, true≢false, List, [], _∷_, any, eqList-true, eqList-refl, and-fst, and-snd, or-else}
+use Rattle.lists.specs.Basics.{_≡_, refl, sym, ap, _∙_, Bool, true, false, cond, true≢false, List, [], _∷_, any, eqList-true, eqList-refl, and-fst, and-snd, or-else, or-fst, or-snd}
 use Rattle.lists.specs.Order.{less-irrefl, less-trans}
 use Rattle.model.specs.Types.{Key, Record}
-use Rattle.model.specs.Records.{keyNumbers, keyOf, keyLess, inOrder, rising, sameKey, found, hasLine}
+use Rattle.model.specs.Records.{keyNumbers, keyOf, keyLess, inOrder, rising, sameKey, found, hasLine, absentAt, lineOf}
 use Rattle.sheet_laws.specs.Search.{some-found}
 
 pub same-key : (a b : Key) → sameKey a b ≡ true → a ≡ b
@@ -32,6 +32,14 @@ has-line k rs = some-found (λ (r : Record). sameKey (r .key) k) 0 rs
 pub key-trans : (a b c : Key) → keyLess a b ≡ true → keyLess b c ≡ true → keyLess a c ≡ true
 unfolding keyLess
 key-trans a b c f g = less-trans (keyNumbers a) (keyNumbers b) (keyNumbers c) f g
+
+-- a key without a line counts as an ABSENT line of version 0
+pub unlisted : (k : Key) (rs : List Record) → listsKey k rs ≡ false → lineOf k rs ≡ absentAt k
+unfolding lineOf any
+unlisted k [] h = refl
+unlisted k (r ∷ rs) h =
+    ap (λ (b : Bool). cond b r (lineOf k rs)) (or-fst (sameKey (r .key) k) (listsKey k rs) h)
+    ∙ unlisted k rs (or-snd (sameKey (r .key) k) (listsKey k rs) h)
 
 -- a key after the first of a sheet in order is higher, and so another
 pub key-later : (r : Record) (rs : List Record) (k : Key) → rising (r ∷ rs) ≡ true → listsKey k rs ≡ true → keyLess (r .key) k ≡ true

@@ -12,6 +12,7 @@ pub mod Numbers
 pub mod Keys
 pub mod KeyOrder
 pub mod Ranks
+pub mod AddedLines
 pub mod Changed
 pub mod Coordinator
 pub mod CoordinatorNumbers

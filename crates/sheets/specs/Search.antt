@@ -109,7 +109,7 @@ module _ (s text : List ℕ) (i : ℕ) (here : i < length s / recordBytes) (p : 
       let e : lineBytesAt s i ≡ getD (linesOf recordBytes s) i [] = sym (getD-pieces recordBytes i (length s / recordBytes) s here) in
       rw (add-one i)
       (rw (add-one i) at
-      (left-here (linesOf recordBytes s) (foundLine i text) [] (lineBytesAt s i) (foundLine 0 text (linesOf recordBytes s)) i (omega (arith, length-lines s)) e p))
+      (left-here (linesOf recordBytes s) (foundLine i text) [] (lineBytesAt s i) (foundLine 0 text (linesOf recordBytes s)) i (omega (arith, length-lines recordBytes s)) e p))
 
   pub pass-met : (f : ℕ) → f ≤ 0 → Agreed s text i f → At i ≡ foundLine 0 text (linesOf recordBytes s)
   unfolding edge
@@ -125,11 +125,11 @@ module _ (s text : List ℕ) (i : ℕ) (here : i < length s / recordBytes) (p : 
       let x : take keyBytes (lineBytesAt s i) ≡ take keyBytes text → ⊥ =
       agree-not (lineBytesAt s i) text (edge f) (edge (f + 1)) keyBytes (k .0) (k .1) (parts-compared s text i f false l d) in
       let m : eqList (take keyBytes (lineBytesAt s i)) (take keyBytes text) ≡ false = ne-eqList (take keyBytes (lineBytesAt s i)) (take keyBytes text) x in
-      record { reached = omega (arith, length-lines s); rest = rw m at from-here }
+      record { reached = omega (arith, length-lines recordBytes s); rest = rw m at from-here }
 
 pub pass-last : (s text : List ℕ) (i : ℕ) → length s / recordBytes ≤ i → Passed s text i → Nothing ≡ foundLine 0 text (linesOf recordBytes s)
 unfolding firstFrom
-pass-last s text i l p = left-last (linesOf recordBytes s) (foundLine i text) (foundLine 0 text (linesOf recordBytes s)) i (omega (arith, length-lines s)) p
+pass-last s text i l p = left-last (linesOf recordBytes s) (foundLine i text) (foundLine 0 text (linesOf recordBytes s)) i (omega (arith, length-lines recordBytes s)) p
 
 -- the line that begins as a key line does is the one that has the key
 pub search-is : (s : List ℕ) (k : Key) → recordsAccepted s ≡ true → keyInRange k ≡ true → foundLine 0 (keyLine k) (linesOf recordBytes s) ≡ found k (records s)

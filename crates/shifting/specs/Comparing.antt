@@ -23,6 +23,13 @@ spare-end w m l =
     let e : recordBytes - 1 - (recordBytes - w) ≡ w - 1 = omega arith in
     drop-spaces (recordBytes - w) (recordBytes - 1) (omega arith) ∙ ap spaced e
 
+-- and lent as such
+pub spare-lent : (line : List ℕ) (w : ℕ) → 1 ≤ w → w ≤ recordBytes → line ≡ spareLine recordBytes → take (recordBytes - (recordBytes - w)) (drop (recordBytes - w) line) ≡ spareLine w
+spare-lent line w m l e =
+    let n : length (spareLine w) ≡ w = length-spare w (omega arith) in
+    ap (take (recordBytes - (recordBytes - w))) (ap (drop (recordBytes - w)) e ∙ spare-end w m l)
+    ∙ take-all (recordBytes - (recordBytes - w)) (spareLine w) (omega arith)
+
 -- Two lists of the same length, compared in parts.
 module _ (x y : List ℕ) where
   -- a part that differs tells them apart

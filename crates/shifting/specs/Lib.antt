@@ -3,6 +3,4 @@ pub mod Shifted
 pub mod Moves
 pub mod Comparing
 pub mod Counting
-pub mod Keyed
-pub mod KeyLaws
 pub mod Spares

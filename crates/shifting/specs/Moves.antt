@@ -1,14 +1,60 @@
--- Laws of the loops that move bytes, and of the lines of a sheet that was moved. For any width.
+-- Laws of the loops that move bytes, so many at once, and of the lines of a sheet that was moved. For any width.
 use Rattle.lists.specs.Basics.{ℕ, zero, suc, _+_, _-_, _*_, _≤_, _<_, _≡_, refl, sym, ap, ap₂, _∙_, List, [], _∷_, _++_, append-assoc, append-nil, arith}
-use Rattle.lists.specs.Basics.{add-one, length, take, drop, getD, set, length-append, length-take, length-drop, drop-of-length-le, take-at, drop-at, take-add}
-use Rattle.lists.specs.Basics.{take-all, take-take, drop-cons, getD-take, getD-drop, joined, pieces}
+use Rattle.lists.specs.Basics.{add-one, length, take, drop, length-append, length-take, length-drop, drop-of-length-le, drop-drop, take-at, drop-at, take-add}
+use Rattle.lists.specs.Basics.{take-all, take-take, joined, pieces}
 use native.Mathlib.Nat.{suc-mul, zero-mul, add-mul}
-use lib.ListN.{List·getD-append}
-use lib.Seq.{set-at, take-suc, take-append-le, append-snoc, getD-append-add, paste, paste-zero, paste-suc, length-paste, length-paste-head, length-take-le}
-use Rattle.lists.specs.Pieces.{over, over-part, pieces-add, length-pieces}
+use lib.Seq.{take-append-le, length-take-le}
+use Rattle.lists.specs.Pieces.{over, over-same, over-part, over-next, take-drop-take, joined-append, pieces-add, length-pieces}
 use Rattle.lists.specs.Fill.{fill-room}
 use Rattle.decimal.specs.Word.{putWord, put-fits}
 use Rattle.shifting.specs.Shifted.{insertAt, removeAt, movedDown, movedUp}
+
+-- a word over a part of its length, from a up to e
+word-over : (m u t : List ℕ) (a e : ℕ) → e ≤ length m → length t ≡ e - a → u ≡ putWord (take (e - a) (drop a m)) t → take a m ++ (u ++ drop (e - a) (drop a m)) ≡ over m a t
+word-over m u t a e l n h =
+    let k : length (take (e - a) (drop a m)) ≡ length t = simp (length-take, length-drop) (omega arith) in
+    ap (λ (x : List ℕ). take a m ++ (x ++ drop (e - a) (drop a m))) (h ∙ put-fits (take (e - a) (drop a m)) t k) ∙ over-part m t a e n
+
+-- n bytes at `from` held in the first n of h, and written from there.
+module _ (s h u : List ℕ) (from n : ℕ) (within : from + n ≤ length s) (room : n ≤ length h) (put : u ≡ putWord (take n h) (take (from + n - from) (drop from s))) where
+  abbrev part : List ℕ
+  part = take n (drop from s)
+
+  part-length : length part ≡ n
+  part-length = simp (length-take, length-drop) (omega arith)
+
+  held : u ≡ part
+  held =
+      let i : from + n - from ≡ n = omega arith in
+      let k : length (take n h) ≡ length part = length-take-le n h room ∙ sym part-length in
+      put ∙ (ap (λ (m : ℕ). putWord (take n h) (take m (drop from s))) i ∙ put-fits (take n h) part k)
+
+  held-length : length u ≡ n
+  held-length = ap length held ∙ part-length
+
+  pub held-room : n ≤ length (u ++ drop n h)
+  held-room = let k = held-length in rw length-append (omega arith)
+
+  -- what is lent of h is n bytes
+  pub held-lent : n ≡ length (take n (u ++ drop n h))
+  held-lent = sym (length-take-le n (u ++ drop n h) held-room)
+
+  pub block-moved : (v : List ℕ) (to : ℕ) → to + n ≤ length s → v ≡ putWord (take (to + n - to) (drop to s)) (take n (u ++ drop n h)) → take to s ++ (v ++ drop (to + n - to) (drop to s)) ≡ over s to (take n (drop from s))
+  block-moved v to l e =
+      let x : take n (u ++ drop n h) ≡ part = take-at u (drop n h) n held-length ∙ held in
+      let k = part-length in
+      word-over s v part to (to + n) l (omega arith) (e ∙ ap (putWord (take (to + n - to) (drop to s))) x)
+
+-- what was written over a part that ends at e leaves what stands from there on
+drop-over : (s t : List ℕ) (a e n : ℕ) → a ≤ length s → e ≡ a + length t → drop (e + n) (over s a t) ≡ drop (e + n) s
+unfolding over
+drop-over s t a e n l h =
+    let p = take a s ++ t in
+    let r = drop (a + length t) s in
+    let k : length p ≡ e = simp (length-append, length-take) (omega arith) in
+    let x : drop e (take a s ++ (t ++ r)) ≡ drop e s =
+    ap (drop e) (sym (append-assoc (take a s) t r)) ∙ (drop-at p r e k ∙ ap (λ (m : ℕ). drop m s) (sym h)) in
+    sym (drop-drop n e (take a s ++ (t ++ r))) ∙ (ap (drop n) x ∙ drop-drop n e s)
 
 -- Down: what stands from i on is what stood w further up.
 
@@ -21,89 +67,77 @@ down-first w s =
     let z : length s - length s ≡ 0 = omega arith in
     rw (z, append-nil, take-all (length s) s (omega arith))
 
-pub length-down : (w i : ℕ) (s : List ℕ) → i ≤ length s → length (downTo w i s) ≡ length s
-unfolding downTo
-length-down w i s l = simp (length-append, length-take, length-drop) (omega arith)
+-- n more, which stood before all that was written
+pub down-more : (w j n : ℕ) (s t : List ℕ) → w ≤ j → j + n ≤ length s → t ≡ downTo w (j + n) s → over t j (take n (drop (j - w) t)) ≡ downTo w j s
+unfolding downTo over
+down-more w j n s t h l e =
+    let q = take (j + n) s in
+    let r = take (length s - (j + n)) (drop (j + n - w) s) in
+    let k : length q ≡ j + n = length-take-le (j + n) s l in
+    let x : take (j + n) t ≡ q = ap (take (j + n)) e ∙ take-at q r (j + n) k in
+    let y : take n (drop (j - w) t) ≡ take n (drop (j - w) s) =
+    sym (take-drop-take n (j - w) (j + n) t (omega arith))
+    ∙ (ap (λ (z : List ℕ). take n (drop (j - w) z)) x ∙ take-drop-take n (j - w) (j + n) s (omega arith)) in
+    let m : length (take n (drop (j - w) s)) ≡ n = simp (length-take, length-drop) (omega arith) in
+    let o : j + length (take n (drop (j - w) t)) ≡ j + n = ap (λ (z : List ℕ). j + length z) y ∙ omega arith in
+    let d : drop (j + length (take n (drop (j - w) t))) t ≡ r = ap₂ drop o e ∙ drop-at q r (j + n) k in
+    let f : take j t ≡ take j s =
+    sym (take-take j (j + n) t (omega arith)) ∙ (ap (take j) x ∙ take-take j (j + n) s (omega arith)) in
+    let u : length s - j ≡ n + (length s - (j + n)) = omega arith in
+    let v : j - w + n ≡ j + n - w = omega arith in
+    let g : take (length s - j) (drop (j - w) s) ≡ take n (drop (j - w) s) ++ r =
+    ap (λ (z : ℕ). take z (drop (j - w) s)) u
+    ∙ (take-add n (length s - (j + n)) (drop (j - w) s)
+    ∙ ap (λ (z : List ℕ). take n (drop (j - w) s) ++ take (length s - (j + n)) z) (drop-drop n (j - w) s ∙ ap (λ (z : ℕ). drop z s) v)) in
+    ap₂ _++_ f (ap₂ _++_ y d ∙ sym g)
 
-down-read : (w j : ℕ) (s : List ℕ) → j < length s → getD (downTo w (suc j) s) (j - w) 0 ≡ getD s (j - w) 0
-unfolding downTo
-down-read w j s l =
-    let n : length (take (suc j) s) ≡ suc j = length-take-le (suc j) s (omega arith) in
-    List·getD-append (take (suc j) s) (take (length s - suc j) (drop (suc j - w) s)) 0 (j - w) (omega arith)
-    ∙ getD-take (suc j) s (j - w) 0 (omega arith)
-
-pub down-next : (w j : ℕ) (s t : List ℕ) → w ≤ j → j < length s → t ≡ downTo w (suc j) s → set t j (getD t (j - w) 0) ≡ downTo w j s
-unfolding downTo
-down-next w j s t h l e =
-    let v = getD s (j - w) 0 in
-    let r = take (length s - suc j) (drop (suc j - w) s) in
-    let r1 : getD t (j - w) 0 ≡ v = ap (λ (x : List ℕ). getD x (j - w) 0) e ∙ down-read w j s l in
-    let p : t ≡ take j s ++ (getD s j 0 ∷ r) =
-    e ∙ (ap (λ (x : List ℕ). x ++ r) (take-suc s j 0 l) ∙ append-snoc (take j s) (getD s j 0) r) in
-    let k : length (take j s) ≡ j = length-take-le j s (omega arith) in
-    let a : length s - j ≡ suc (length s - suc j) = omega arith in
-    let b : suc j - w ≡ suc (j - w) = omega arith in
-    let d : drop (j - w) s ≡ v ∷ drop (suc (j - w)) s = drop-cons s (j - w) 0 (omega arith) in
-    let q : take (length s - j) (drop (j - w) s) ≡ v ∷ r =
-    ap₂ take a d ∙ ap (λ (m : ℕ). v ∷ take (length s - suc j) (drop m s)) (sym b) in
-    ap₂ (λ (x : List ℕ) (y : ℕ). set x j y) p r1
-    ∙ (set-at (take j s) (getD s j 0) r v j k ∙ ap (λ (x : List ℕ). take j s ++ x) (sym q))
-
-pub down-last : (w a i : ℕ) (s t : List ℕ) → i ≡ a + w → t ≡ downTo w i s → t ≡ movedDown w a s
+-- and all that is left
+pub down-last : (w a i : ℕ) (s t u : List ℕ) → a + w ≤ i → i ≤ length s → t ≡ downTo w i s → u ≡ over t (a + w) (take (i - (a + w)) (drop a t)) → u ≡ movedDown w a s
 unfolding downTo movedDown
-down-last w a i s t e h =
-    let z : i - w ≡ a = omega arith in
-    h ∙ ap₂ (λ (x y : ℕ). take x s ++ take (length s - x) (drop y s)) e z
+down-last w a i s t u l m e h =
+    let z : a + w - w ≡ a = omega arith in
+    let y : i ≡ a + w + (i - (a + w)) = omega arith in
+    h ∙ (ap (λ (k : ℕ). over t (a + w) (take (i - (a + w)) (drop k t))) (sym z)
+    ∙ (down-more w (a + w) (i - (a + w)) s t (omega arith) (omega arith) (e ∙ ap (λ (k : ℕ). downTo w k s) y)
+    ∙ ap (λ (k : ℕ). take (a + w) s ++ take (length s - (a + w)) (drop k s)) z))
 
 -- Up: what stands from a up to i is what stood w further down.
 
 abbrev pub upTo : ℕ → ℕ → ℕ → List ℕ → List ℕ
-upTo w a i s = paste s a (drop (a + w) s) (i - a)
+upTo w a i s = over s a (take (i - a) (drop (a + w) s))
 
-pub up-first : (w a : ℕ) (s : List ℕ) → s ≡ upTo w a a s
-up-first w a s =
+pub up-first : (w a : ℕ) (s : List ℕ) → a ≤ length s → s ≡ upTo w a a s
+up-first w a s l =
     let z : a - a ≡ 0 = omega arith in
-    rw z (paste-zero s a (drop (a + w) s))
+    rw z (sym (over-same s a 0 (omega arith)))
 
-pub length-up : (w a i : ℕ) (s : List ℕ) → a ≤ i → i + w ≤ length s → length (upTo w a i s) ≡ length s
-length-up w a i s l m = length-paste s a (drop (a + w) s) (i - a) (omega arith) (rw length-drop (omega arith))
-
-up-read : (w a i : ℕ) (s : List ℕ) → a ≤ i → i + w < length s → getD (upTo w a i s) (i + w) 0 ≡ getD (drop (a + w) s) (i - a) 0
-up-read w a i s l m =
-    let p = take a s ++ take (i - a) (drop (a + w) s) in
-    let n : length p ≡ a + (i - a) = length-paste-head s a (drop (a + w) s) (i - a) (omega arith) (rw length-drop (omega arith)) in
-    let e : i + w ≡ length p + w = omega arith in
-    let f : a + (i - a) + w ≡ a + w + (i - a) = omega arith in
-    ap (λ (k : ℕ). getD (upTo w a i s) k 0) e
-    ∙ (getD-append-add p (drop (a + (i - a)) s) w 0
-    ∙ (getD-drop (a + (i - a)) s w 0 ∙ (ap (λ (k : ℕ). getD s k 0) f ∙ sym (getD-drop (a + w) s (i - a) 0))))
-
-pub up-next : (w a i : ℕ) (s t : List ℕ) → a ≤ i → i + w < length s → t ≡ upTo w a i s → set t i (getD t (i + w) 0) ≡ upTo w a (i + 1) s
-up-next w a i s t l m e =
+-- n more, which stand behind all that was written
+pub up-more : (w a i n : ℕ) (s t : List ℕ) → a ≤ i → i + w + n ≤ length s → t ≡ upTo w a i s → over t i (take n (drop (i + w) t)) ≡ upTo w a (i + n) s
+up-more w a i n s t l m e =
     let u = drop (a + w) s in
-    let r : getD t (i + w) 0 ≡ getD u (i - a) 0 = ap (λ (x : List ℕ). getD x (i + w) 0) e ∙ up-read w a i s l m in
-    let k : i ≡ a + (i - a) = omega arith in
-    let q : i + 1 - a ≡ suc (i - a) = omega arith in
-    ap₂ (λ (x : List ℕ) (y : ℕ). set x i y) e r
-    ∙ (ap (λ (j : ℕ). set (upTo w a i s) j (getD u (i - a) 0)) k
-    ∙ (paste-suc s a u (i - a) 0 (omega arith) (rw length-drop (omega arith)) ∙ ap (paste s a u) (sym q)))
+    let x = take (i - a) u in
+    let k : length x ≡ i - a = simp (length-take, length-drop) (omega arith) in
+    let b : i ≡ a + length x = omega arith in
+    let r : drop (i + w) t ≡ drop (i + w) s = ap (drop (i + w)) e ∙ drop-over s x a i w (omega arith) b in
+    let c : a + w + (i - a) ≡ i + w = omega arith in
+    let f : i + n - a ≡ i - a + n = omega arith in
+    let g : take (i + n - a) u ≡ x ++ take n (drop (i + w) s) =
+    ap (λ (z : ℕ). take z u) f
+    ∙ (take-add (i - a) n u ∙ ap (λ (z : List ℕ). x ++ take n z) (drop-drop (i - a) (a + w) s ∙ ap (λ (z : ℕ). drop z s) c)) in
+    ap₂ (λ (y z : List ℕ). over y i (take n z)) e r
+    ∙ (over-next s x (take n (drop (i + w) s)) a i b (omega arith) ∙ ap (over s a) (sym g))
 
-pub up-last : (w a i : ℕ) (s t : List ℕ) → a + w ≤ length s → a ≤ i → i ≡ length s - w → t ≡ upTo w a i s → t ≡ movedUp w a s
-unfolding movedUp
-up-last w a i s t l m e h =
+-- and all that is left
+pub up-last : (w a i : ℕ) (s t v : List ℕ) → a ≤ i → i + w ≤ length s → t ≡ upTo w a i s → v ≡ over t i (take (length s - w - i) (drop (i + w) t)) → v ≡ movedUp w a s
+unfolding movedUp over
+up-last w a i s t v l m e h =
     let u = drop (a + w) s in
     let n : length u ≡ length s - (a + w) = length-drop (a + w) s in
-    let x : take (i - a) u ≡ u = take-all (i - a) u (omega arith) in
-    let y : a + (i - a) ≡ length s - w = omega arith in
-    h ∙ (append-assoc (take a s) (take (i - a) u) (drop (a + (i - a)) s)
-    ∙ ap₂ (λ (p : List ℕ) (k : ℕ). take a s ++ (p ++ drop k s)) x y)
+    let y : a + length u ≡ length s - w = omega arith in
+    h ∙ (up-more w a i (length s - w - i) s t l (omega arith) e
+    ∙ (ap (over s a) (take-all (i + (length s - w - i) - a) u (omega arith)) ∙ ap (λ (k : ℕ). take a s ++ (u ++ drop k s)) y))
 
 -- A sheet of lines of w bytes.
-
-joined-append {ℓ} : {A : Type ℓ} (xs ys : List (List A)) → joined (xs ++ ys) ≡ joined xs ++ joined ys
-unfolding joined
-joined-append [] ys = refl
-joined-append (x ∷ xs) ys = ap (λ (t : List _). x ++ t) (joined-append xs ys) ∙ sym (append-assoc x (joined xs) (joined ys))
 
 -- the first i lines are the first i * w bytes
 joined-first {ℓ} : {A : Type ℓ} (w i : ℕ) (s : List A) → joined (pieces w i s) ≡ take (i * w) s
@@ -199,20 +233,15 @@ length-moved-up : (w a : ℕ) (s : List ℕ) → a + w ≤ length s → length (
 unfolding movedUp
 length-moved-up w a s l = simp (length-append, length-take, length-drop) (omega arith)
 
--- a word over a part of its length, from a up to e
-word-over : (m u t : List ℕ) (a e : ℕ) → e ≤ length m → length t ≡ e - a → u ≡ putWord (take (e - a) (drop a m)) t → take a m ++ (u ++ drop (e - a) (drop a m)) ≡ over m a t
-word-over m u t a e l n h =
-    let k : length (take (e - a) (drop a m)) ≡ length t = simp (length-take, length-drop) (omega arith) in
-    ap (λ (x : List ℕ). take a m ++ (x ++ drop (e - a) (drop a m))) (h ∙ put-fits (take (e - a) (drop a m)) t k) ∙ over-part m t a e n
+-- a line stands within the sheet
+pub line-room : (w i n : ℕ) (s : List ℕ) → length s ≡ n * w → i < n → i * w + w ≤ length s
+line-room w i n s whole within = let r : i * w + w ≤ n * w = fill-room w n i within in omega arith
 
 module _ (w i n : ℕ) (s m t : List ℕ) (whole : length s ≡ n * w) (within : i < n) (wide : length t ≡ w) where
-  room : i * w + w ≤ length s
-  room = let r : i * w + w ≤ n * w = fill-room w n i within in omega arith
-
   -- the bytes moved down, and the line t where it goes: the line t put in
   pub insert-done : (u : List ℕ) → m ≡ movedDown w (i * w) s → u ≡ putWord (take (i * w + w - i * w) (drop (i * w) m)) t → take (i * w) m ++ (u ++ drop (i * w + w - i * w) (drop (i * w) m)) ≡ joined (insertAt i t (pieces w n s))
   insert-done u e h =
-      let r = room in
+      let r = line-room w i n s whole within in
       let k : length m ≡ length s = ap length e ∙ length-moved-down w (i * w) s r in
       word-over m u t (i * w) (i * w + w) (omega arith) (omega arith) h
       ∙ (ap (λ (x : List ℕ). over x (i * w) t) e
@@ -222,7 +251,7 @@ module _ (w i n : ℕ) (s m t : List ℕ) (whole : length s ≡ n * w) (within :
   pub remove-done : (u : List ℕ) → m ≡ movedUp w (i * w) s → u ≡ putWord (take (length m - (length m - w)) (drop (length m - w) m)) t → take (length m - w) m ++ (u ++ drop (length m - (length m - w)) (drop (length m - w) m)) ≡ joined (removeAt i t (pieces w n s))
   unfolding over
   remove-done u e h =
-      let r = room in
+      let r = line-room w i n s whole within in
       let k : length m ≡ length s = ap length e ∙ length-moved-up w (i * w) s r in
       let b = length m - w in
       let f : length m ≤ b + length t = omega arith in

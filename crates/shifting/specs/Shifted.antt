@@ -1,7 +1,5 @@
 -- A list with an element put in or taken out, the others shifting by one, and the same of bytes.
-use Rattle.lists.specs.Basics.{ℕ, _+_, _-_, _≡_, refl, List, [], _∷_, _++_, length, take, drop}
-use Rattle.model.specs.Layouts.{recordBytes}
-use Rattle.model.specs.Spares.{spareLine}
+use Rattle.lists.specs.Basics.{ℕ, _+_, _-_, List, [], _∷_, _++_, length, take, drop}
 
 -- x at index i; what stood there and below stands one further down, and the last goes
 unfoldable pub insertAt {ℓ} : {A : Type ℓ} → ℕ → A → List A → List A
@@ -19,7 +17,6 @@ movedDown w a s = take (a + w) s ++ take (length s - (a + w)) (drop a s)
 unfoldable pub movedUp : ℕ → ℕ → List ℕ → List ℕ
 movedUp w a s = take a s ++ (drop (a + w) s ++ drop (length s - w) s)
 
--- a spare is as wide as any line
-pub length-spare : length (spareLine recordBytes) ≡ recordBytes
-unfolding spareLine
-length-spare = refl
+-- bytes that are moved at once
+abbrev pub blockBytes : ℕ
+blockBytes = 1024

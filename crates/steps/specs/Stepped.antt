@@ -1,5 +1,5 @@
 -- What a step leaves: the transaction, and both sheets as its write leaves them. A sheet that the write does not change is the text of what it says.
-use Rattle.lists.specs.Basics.{_≡_, refl, sym, ap, _∙_, ℕ, _*_, true, cond, List}
+use Rattle.lists.specs.Basics.{_≡_, refl, sym, ap, _∙_, ℕ, _*_, true, false, cond, List}
 use Rattle.lists.specs.Pieces.{over}
 use Rattle.model.specs.Types.{Record, Decision, Transaction}
 use Rattle.model.specs.Layouts.{coordinatorBytes}
@@ -11,7 +11,7 @@ use Rattle.model.specs.ByteCalls.{sheetsOf}
 use Rattle.sheet_laws.specs.Records.{sheet-written-read}
 use Rattle.sheet_laws.specs.Coordinator.{decisionText, coordinator-written-read}
 use Rattle.sheet_laws.specs.Decisions.{numberHasLine}
-use Rattle.call_laws.specs.Lines.{lines-unmoved}
+use Rattle.call_laws.specs.Lines.{shifts, lines-unmoved}
 use Rattle.call_laws.specs.ByIndex.{decision-written}
 use Rattle.steps.specs.Ready.{Known}
 
@@ -25,15 +25,15 @@ pub record ByCoordinator (f : Sheets → Step) (cs : List ℕ) (t : Transaction)
   pub beside : (rs : List ℕ) → recordsAccepted rs ≡ true → Stepped (sheetsOf rs cs) (f (sheetsOf rs cs)) t rs cs′
 
 -- a write that changes no line
-lines-stay : (w : Write) (rs : List ℕ) → ((r : Record) → lineAfter w r ≡ r) → recordsAccepted rs ≡ true → rs ≡ recordsText (linesAfter w (records rs))
-lines-stay w rs h a = sym (ap recordsText (lines-unmoved w h (records rs)) ∙ sheet-written-read rs a)
+lines-stay : (w : Write) (rs : List ℕ) → shifts w ≡ false → ((r : Record) → lineAfter w r ≡ r) → recordsAccepted rs ≡ true → rs ≡ recordsText (linesAfter w (records rs))
+lines-stay w rs calm h a = sym (ap recordsText (lines-unmoved w calm h (records rs)) ∙ sheet-written-read rs a)
 
 module _ (rs cs : List ℕ) where
   -- nothing is written
   pub wrote-nothing : recordsAccepted rs ≡ true → coordinatorReadable cs ≡ true → (t u : Transaction) → u ≡ t → Stepped (sheetsOf rs cs) (record { transaction = t; write = nothing }) u rs cs
   unfolding apply lineAfter decisionsAfter
   wrote-nothing a b t u e =
-      record { transaction = e; records = lines-stay nothing rs (λ r. refl) a; coordinator = sym (coordinator-written-read cs b) }
+      record { transaction = e; records = lines-stay nothing rs refl (λ r. refl) a; coordinator = sym (coordinator-written-read cs b) }
 
   -- the lines of a group, by a write that leaves the coordinator alone
   pub wrote-lines : (w : Write) → decisionsAfter w (coordinatorOf cs) ≡ coordinatorOf cs → coordinatorReadable cs ≡ true → (t u : Transaction) (rs′ : List ℕ) → u ≡ t → rs′ ≡ recordsText (linesAfter w (records rs)) → Stepped (sheetsOf rs cs) (record { transaction = t; write = w }) u rs′ cs
@@ -46,6 +46,6 @@ module _ (rs cs : List ℕ) where
   wrote-decision t u v d cs′ a k e w =
       record {
         transaction = e;
-        records = lines-stay (decide (v .number) d) rs (λ r. refl) a;
+        records = lines-stay (decide (v .number) d) rs refl (λ r. refl) a;
         coordinator = w ∙ decision-written cs (v .number) d (k .accepted) (k .number) (k .issued);
       }

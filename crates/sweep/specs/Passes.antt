@@ -11,12 +11,13 @@ use Rattle.model.specs.Writes.{Sheets, apply}
 use Rattle.model.specs.Results.{visit}
 use Rattle.model.specs.Histories.{written, after}
 use Rattle.model.specs.ByteHistories.{Bytes, saying, Passing, afterOn}
-use Rattle.model.specs.Visitor.{visitedAll, keysIn, swept}
+use Rattle.model.specs.Visitor.{visitedAll, keysOn, swept}
 use Rattle.sheet_laws.specs.ByIndex.{length-records}
 use Rattle.sheet_laws.specs.Ends.{quotient}
 use Rattle.sheet_laws.specs.Spared.{count-front}
 use Rattle.model.specs.Calls.{result}
 use Rattle.model.specs.ByteCalls.{sheetsOf}
+use Rattle.call_laws.specs.SingleUnit.{written-shifts}
 use Rattle.call_laws.specs.Lines.{keys-after}
 use Rattle.call_laws.specs.ByIndex.{found-own}
 use Rattle.call_laws.specs.Lifting.{passing-parts, bytes-stay-passing}
@@ -37,7 +38,7 @@ pub record Lined (b : Bytes) (end : ℕ) : Type 0 where
   pub passing : Passing b
   pub at : end ≡ filledLines recordBytes (b .records) * recordBytes
 
-length-keys : (b : Bytes) → Passing b → length (keysIn b) ≡ filledLines recordBytes (b .records)
+length-keys : (b : Bytes) → Passing b → length (keysOn b) ≡ filledLines recordBytes (b .records)
 length-keys b h = length-map (records (recordLines (b .records))) (λ (r : Record). r .key) ∙ count-front (b .records) (passing-parts b h .0)
 
 -- a line of sheets that pass may be visited where it stands
@@ -51,14 +52,14 @@ line-stands rs cs end i h l =
 pub line-visited : (rs cs : List ℕ) (end i now : ℕ) {answer : Visited} {ls′ cs′ : List ℕ} → Lined (both rs cs) end → Outcome toVisited (result (visit (getD (records (take end rs)) i noRecord .key) now) (sheetsOf (take end rs) cs)) (take end rs) cs answer ls′ cs′ → both (ls′ ++ drop end rs) cs′ ≡ afterOn (visit (keyAt rs i) now) (both rs cs)
 unfolding afterOn front
 line-visited rs cs end i now h o =
-    let p = call-passed rs cs (h .passing) end (h .at) toVisited (visit (getD (records (take end rs)) i noRecord .key) now) o in
+    let p = call-passed rs cs (h .passing) end (h .at) toVisited (visit (getD (records (take end rs)) i noRecord .key) now) refl o in
     let k : getD (records (take end rs)) i noRecord .key ≡ keyAt rs i = ap (λ (n : ℕ). getD (records (take n rs)) i noRecord .key) (h .at) in
     (λ j. record { records = p .sheet j; coordinator = p .decisions j }) ∙ ap (λ (x : Key). afterOn (visit x now) (both rs cs)) k
 
 -- sheets that pass, and that have these keys
 pub record Kept (ks : List Key) (b : Bytes) : Type 0 where
   pub passing : Passing b
-  pub keys : keysIn b ≡ ks
+  pub keys : keysOn b ≡ ks
 
 kept-visit : (k : Key) (now : ℕ) (ks : List Key) (b : Bytes) → now < 2 ^ 32 → Kept ks b → Kept ks (afterOn (visit k now) b)
 unfolding after apply
@@ -68,7 +69,7 @@ kept-visit k now ks b l h =
       passing = q .1;
       keys =
           ap (λ (s : Sheets). map (λ (r : Record). r .key) (s .lines)) (q .0)
-          ∙ (keys-after (written (visit k now) (saying b)) (saying b .lines) ∙ h .keys);
+          ∙ (keys-after (written (visit k now) (saying b)) (saying b .lines) (written-shifts (visit k now) (saying b) refl) ∙ h .keys);
     }
 
 visited-kept : (now : ℕ) (ks ls : List Key) (b : Bytes) → now < 2 ^ 32 → Kept ls b → Kept ls (visitedAll now ks b)
@@ -83,70 +84,70 @@ visited-append now (k ∷ ks) ls b = visited-append now ks ls (afterOn (visit k 
 
 -- A pass that has visited the keys before line i.
 pub record VisitedTo (now : ℕ) (first b : Bytes) (i : ℕ) : Type 0 where
-  pub reached : i ≤ length (keysIn first)
-  pub kept : Kept (keysIn first) b
-  pub rest : visitedAll now (drop i (keysIn first)) b ≡ visitedAll now (keysIn first) first
+  pub reached : i ≤ length (keysOn first)
+  pub kept : Kept (keysOn first) b
+  pub rest : visitedAll now (drop i (keysOn first)) b ≡ visitedAll now (keysOn first) first
 
 pub pass-first : (now : ℕ) (first : Bytes) → Passing first → VisitedTo now first first 0
 pass-first now first h = record { reached = omega arith; kept = record { passing = h; keys = refl }; rest = refl }
 
 -- the spares begin where they began
-kept-end : (first b : Bytes) (end : ℕ) → Lined first end → Kept (keysIn first) b → end ≡ filledLines recordBytes (b .records) * recordBytes
+kept-end : (first b : Bytes) (end : ℕ) → Lined first end → Kept (keysOn first) b → end ≡ filledLines recordBytes (b .records) * recordBytes
 kept-end first b end h k =
     h .at
     ∙ ap (λ (n : ℕ). n * recordBytes) (sym (length-keys first (h .passing)) ∙ (ap length (sym (k .keys)) ∙ length-keys b (k .passing)))
 
-pub still-lined : (first b : Bytes) (end : ℕ) → Lined first end → Kept (keysIn first) b → Lined b end
+pub still-lined : (first b : Bytes) (end : ℕ) → Lined first end → Kept (keysOn first) b → Lined b end
 still-lined first b end h k = record { passing = k .passing; at = kept-end first b end h k }
 
-keys-within : (first : Bytes) (end i : ℕ) → Lined first end → (i < end / recordBytes → i < length (keysIn first)) × (end / recordBytes ≤ i → length (keysIn first) ≤ i)
+keys-within : (first : Bytes) (end i : ℕ) → Lined first end → (i < end / recordBytes → i < length (keysOn first)) × (end / recordBytes ≤ i → length (keysOn first) ≤ i)
 keys-within first end i h =
-    let n : end / recordBytes ≡ length (keysIn first) = ap (λ (m : ℕ). m / recordBytes) (h .at) ∙ (quotient recordBytes (omega arith) (filledLines recordBytes (first .records)) ∙ sym (length-keys first (h .passing))) in
+    let n : end / recordBytes ≡ length (keysOn first) = ap (λ (m : ℕ). m / recordBytes) (h .at) ∙ (quotient recordBytes (omega arith) (filledLines recordBytes (first .records)) ∙ sym (length-keys first (h .passing))) in
     (λ l. omega (arith, n, l), λ l. omega (arith, n, l))
 
 pub pass-next : (now : ℕ) (first b c : Bytes) (end i : ℕ) → now < 2 ^ 32 → Lined first end → i < end / recordBytes → VisitedTo now first b i → c ≡ afterOn (visit (keyAt (b .records) i) now) b → VisitedTo now first c (i + 1)
 unfolding visitedAll
 pass-next now first b c end i l h m v e =
-    let n : i < length (keysIn first) = keys-within first end i h .0 m in
-    let k : keyAt (b .records) i ≡ getD (keysIn first) i (noRecord .key) =
+    let n : i < length (keysOn first) = keys-within first end i h .0 m in
+    let k : keyAt (b .records) i ≡ getD (keysOn first) i (noRecord .key) =
     sym (List·getD-map (λ (r : Record). r .key) (records (recordLines (b .records))) i noRecord)
     ∙ ap (λ (ks : List Key). getD ks i (noRecord .key)) (v .kept .keys) in
-    let d : drop i (keysIn first) ≡ keyAt (b .records) i ∷ drop (i + 1) (keysIn first) =
-    drop-here (keysIn first) i (noRecord .key) (keyAt (b .records) i) n k in
+    let d : drop i (keysOn first) ≡ keyAt (b .records) i ∷ drop (i + 1) (keysOn first) =
+    drop-here (keysOn first) i (noRecord .key) (keyAt (b .records) i) n k in
     subst (λ (x : Bytes). VisitedTo now first x (i + 1)) (sym e)
     (record {
       reached = omega arith;
-      kept = kept-visit (keyAt (b .records) i) now (keysIn first) b l (v .kept);
+      kept = kept-visit (keyAt (b .records) i) now (keysOn first) b l (v .kept);
       rest = ap (λ (ks : List Key). visitedAll now ks b) (sym d) ∙ v .rest;
     })
 
-pub pass-last : (now : ℕ) (first b : Bytes) (end i : ℕ) → Lined first end → end / recordBytes ≤ i → VisitedTo now first b i → b ≡ visitedAll now (keysIn first) first
+pub pass-last : (now : ℕ) (first b : Bytes) (end i : ℕ) → Lined first end → end / recordBytes ≤ i → VisitedTo now first b i → b ≡ visitedAll now (keysOn first) first
 unfolding visitedAll
 pass-last now first b end i h m v =
-    let n : length (keysIn first) ≤ i = keys-within first end i h .1 m in
-    ap (λ (ks : List Key). visitedAll now ks b) (sym (drop-of-length-le (keysIn first) n)) ∙ v .rest
+    let n : length (keysOn first) ≤ i = keys-within first end i h .1 m in
+    ap (λ (ks : List Key). visitedAll now ks b) (sym (drop-of-length-le (keysOn first) n)) ∙ v .rest
 
 -- n passes, each over the keys of the sheets at first
 unfoldable pub passed : ℕ → ℕ → Bytes → Bytes
 passed now zero first = first
-passed now (suc n) first = visitedAll now (keysIn first) (passed now n first)
+passed now (suc n) first = visitedAll now (keysOn first) (passed now n first)
 
 -- A sweep that has made n passes.
 pub record PassedTo (now : ℕ) (first b : Bytes) (n : ℕ) : Type 0 where
   pub reached : n ≤ 2
-  pub kept : Kept (keysIn first) b
+  pub kept : Kept (keysOn first) b
   pub done : b ≡ passed now n first
 
 pub sweep-first : (now : ℕ) (first : Bytes) → Passing first → PassedTo now first first 0
 unfolding passed
 sweep-first now first h = record { reached = omega arith; kept = record { passing = h; keys = refl }; done = refl }
 
-pub sweep-next : (now : ℕ) (first b c : Bytes) (n : ℕ) → now < 2 ^ 32 → n < 2 → PassedTo now first b n → c ≡ visitedAll now (keysIn b) b → PassedTo now first c (n + 1)
+pub sweep-next : (now : ℕ) (first b c : Bytes) (n : ℕ) → now < 2 ^ 32 → n < 2 → PassedTo now first b n → c ≡ visitedAll now (keysOn b) b → PassedTo now first c (n + 1)
 unfolding passed
 sweep-next now first b c n l m v e =
     record {
       reached = omega arith;
-      kept = subst (Kept (keysIn first)) (sym e) (visited-kept now (keysIn b) (keysIn first) b l (v .kept));
+      kept = subst (Kept (keysOn first)) (sym e) (visited-kept now (keysOn b) (keysOn first) b l (v .kept));
       done = e ∙ (ap₂ (visitedAll now) (v .kept .keys) (v .done) ∙ ap (λ (i : ℕ). passed now i first) (sym (add-one n)));
     }
 
@@ -157,4 +158,4 @@ sweep-last now first b n m v =
     let p : n ≤ 2 = v .reached in
     let e : n ≡ 2 = omega arith in
     v .done
-    ∙ (ap (λ (i : ℕ). passed now i first) e ∙ sym (visited-append now (keysIn first) (keysIn first) first))
+    ∙ (ap (λ (i : ℕ). passed now i first) e ∙ sym (visited-append now (keysOn first) (keysOn first) first))

@@ -4,7 +4,7 @@ ghost use Prim.Native.Nat.{_/_, _<_};
 ghost use Rattle.model.specs.Layouts.{recordBytes};
 ghost use Rattle.model.specs.Results.{visit};
 ghost use Rattle.model.specs.ByteHistories.{Passing, afterOn};
-ghost use Rattle.model.specs.Visitor.{visitedAll, keysIn, swept};
+ghost use Rattle.model.specs.Visitor.{visitedAll, keysOn, swept};
 ghost use Rattle.sweep.specs.Passes.{both, keyAt, Lined};
 use types::RECORD_BYTES;
 
@@ -20,7 +20,7 @@ fn visit_line(i: usize, end: usize, clock: u32, records: &mut [u8], coordinator:
 // Every record line in order. A visit keeps the keys, so that the key of line i is the first sheet's.
 fn pass(end: usize, clock: u32, records: &mut [u8], coordinator: &mut [u8])
     requires { ⌜ Lined (both (now records) (now coordinator)) end ⌝ }
-    ensures { λ u. ⌜ both (now (records .exit)) (now (coordinator .exit)) ≡ visitedAll clock (keysIn (both (now (records .entry)) (now (coordinator .entry)))) (both (now (records .entry)) (now (coordinator .entry))) ⌝ }
+    ensures { λ u. ⌜ both (now (records .exit)) (now (coordinator .exit)) ≡ visitedAll clock (keysOn (both (now (records .entry)) (now (coordinator .entry)))) (both (now (records .entry)) (now (coordinator .entry))) ⌝ }
 {
     let n = end / RECORD_BYTES;
     for i in 0..n {

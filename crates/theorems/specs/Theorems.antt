@@ -1,6 +1,6 @@
 -- What is proved of the engine: every headline statement, in the words of the definitions of `model`, each by citing the law that proves it. Document 02, note 4, is in TwoTheorems.
 -- The engine's contracts cite the same definitions, so that what holds of `answerOn`, `afterOn`, `responseOn` and `responseAtOn` holds of the functions that run.
-use Rattle.lists.specs.Basics.{_≡_, ap, _∙_, ℕ, _+_, _*_, _/_, _%_, _^_, _≤_, _<_, true, false, cond, List, [], _∷_, map, length, take, drop, some, all, any, bytes}
+use Rattle.lists.specs.Basics.{_≡_, refl, ap, _∙_, ℕ, _+_, _*_, _/_, _%_, _^_, _≤_, _<_, true, false, cond, List, [], _∷_, map, length, take, drop, some, all, any, bytes}
 use Rattle.model.specs.Types.{Key, Record, Committed, At, Nothing, Transaction, Forward, Request}
 use Rattle.model.specs.Layouts.{recordBytes}
 use Rattle.model.specs.Lines.{text}
@@ -13,7 +13,7 @@ use Rattle.model.specs.Images.{isPrepared, rolledForward}
 use Rattle.model.specs.Visits.{ownerDecision}
 use Rattle.model.specs.WellFormed.{wellFormed}
 use Rattle.model.specs.Transactions.{donePhase, committedVerdict, puts, moved}
-use Rattle.model.specs.Results.{Call, read, advance, visit, visited, reported, refusalIn, returns, answerOf}
+use Rattle.model.specs.Results.{Call, read, advance, visit, add, remove, visited, reported, acknowledged, refusalIn, returns, answerOf}
 use Rattle.model.specs.Conditions.{isNew, refusals}
 use Rattle.model.specs.ByteCalls.{allConditions}
 use Rattle.model.specs.Operations.{close, writesOnce, allOperationConditions, responseOn, bytesLeft}
@@ -22,15 +22,16 @@ use Rattle.model.specs.Greatest.{greatestBytes, greatestTransaction}
 use Rattle.model.specs.CallByPlace.{operationAt, callAt, allConditionsAt, responseAtOn, listAfter}
 use Rattle.model.specs.Histories.{ClockFits}
 use Rattle.model.specs.ByteHistories.{Bytes, saying, Passing, answerOn, afterOn}
-use Rattle.model.specs.AtomicWrites.{OneUnit}
+use Rattle.model.specs.AtomicWrites.{WithinUnit, OneUnit}
 use Rattle.model.specs.Changes.{linesStored, toldOf, ToldAtomic}
 use Rattle.model.specs.RecoveryPass.{Visit, nonePrepared, Closing, Readings, leavesReadings, readingsOf}
-use Rattle.model.specs.Turns.{Turn, byPlace, turnCall, turnWritesOnce, turnEventOn, turnAfterOn, turnsLeft, LegalTurns}
+use Rattle.model.specs.Turns.{Turn, byPlace, turnCall, turnWritesOnce, turnShifts, turnEventOn, turnAfterOn, turnsLeft, LegalTurns}
 use Rattle.model.specs.Clients.{Act, World, Unused, turnsOf, clockFits}
-use Rattle.model.specs.Recovered.{Recovered, modelOn, bytesRecovered}
+use Rattle.model.specs.Kinds.{bytesKind}
+use Rattle.model.specs.Recovered.{Undoes, Recovered, modelOn, standingOn, bytesRecovered}
 use Rattle.model.specs.SerialOrder.{callsOn, begunChecked, serialOrder, serialLine, Serializable}
 use Rattle.model.specs.Cases.{Case, cases, twelve-cases}
-use Rattle.model.specs.Notes.{noteCases, note-cases, five-letters, rankAt, standing, shared-place}
+use Rattle.model.specs.Notes.{noteCases, note-cases, five-letters, rankAt, standing, shared-place, spareCases, spare-cases}
 use Rattle.sheet_laws.specs.Spared as SheetLaws
 use Rattle.sheet_laws.specs.Coordinator as CoordinatorLaws
 use Rattle.sheet_laws.specs.Decisions as DecisionLaws
@@ -47,6 +48,7 @@ use Rattle.turns.specs.Turns as TurnLaws
 use Rattle.turns.specs.Units as Units
 use Rattle.turns.specs.Told as Told
 use Rattle.turns.specs.Closes as Closes
+use Rattle.turns.specs.Undoing as Undoing
 use Rattle.turns.specs.Bytes as Recovery
 use Rattle.clients.specs.Clients as Clients
 use Rattle.recovery.specs.PassExists.{recoveryPass}
@@ -101,19 +103,19 @@ refused-unchanged-by-place list place q b l = ByPlace.refused-leaves list place 
 
 -- DEMAND 2: the answer, the transaction and the lines are the contracts' own equations. What holds of all of them:
 
--- "writes to at most one unit or the coordinator sheet"
+-- "writes to at most one unit or the coordinator sheet"; document 02, note 6: adding and removing write one line, and lines that shift don't count. By place neither is asked
 pub single-unit : (c : Call) (b : Bytes) → ClockFits c → Passing b → OneUnit b (afterOn c b)
 single-unit c b l p = ByteUnits.call-unit c b l p
 
-pub single-unit-by-place : (list : List Transaction) (place : ℕ) (q : Request) (b : Bytes) → writesOnce (operationAt list place q) ≡ true → ClockFits (callAt list place q) → Passing b → OneUnit b (turnAfterOn (byPlace list place q) b)
+pub single-unit-by-place : (list : List Transaction) (place : ℕ) (q : Request) (b : Bytes) → writesOnce (operationAt list place q) ≡ true → ClockFits (callAt list place q) → Passing b → WithinUnit b (turnAfterOn (byPlace list place q) b)
 unfolding turnWritesOnce turnEventOn turnCall
-single-unit-by-place list place q b w l p = Units.turn-unit (byPlace list place q) b w l p
+single-unit-by-place list place q b w l p = Units.turn-within (byPlace list place q) b w refl l p
 
--- and so is a client told that keeps both sheets from before a turn: nothing, the coordinator sheet, or a range of lines of which every one is of one unit,
+-- and so is a client told that keeps both sheets from before a turn in which no line shifts: nothing, the coordinator sheet, or a range of lines of which every one is of one unit,
 -- and never both sheets
-pub told-atomic : (x : Turn) (b : Bytes) (target : List ℕ) → length target ≡ 2 → turnWritesOnce x ≡ true → ClockFits (turnEventOn x b .call) → Passing b
+pub told-atomic : (x : Turn) (b : Bytes) (target : List ℕ) → length target ≡ 2 → turnWritesOnce x ≡ true → turnShifts x ≡ false → ClockFits (turnEventOn x b .call) → Passing b
     → ToldAtomic b (turnAfterOn x b) (toldOf b (turnAfterOn x b) target)
-told-atomic x b target n w l p = Told.told-of-turn x b target n w l p
+told-atomic x b target n w c l p = Told.told-of-turn x b target n w c l p
 
 -- storing the lines told over the record sheet from before gives the one after
 pub told-suffices : (before after : List ℕ) → length before ≡ length after → length before % recordBytes ≡ 0 → linesStored before after ≡ after
@@ -179,6 +181,17 @@ spare-stays = SpareSample.spare-left
 
 pub spares-on-two : SpareSample.sparedTwo ≡ 0 ∷ 13 ∷ 13 ∷ 13 ∷ []
 spares-on-two = SpareSample.two-checked
+
+-- adding and removing, each refusal of both among them
+pub spare-cases-hold : map (λ (c : Case). c .given) spareCases ≡ map (λ (c : Case). c .expected) spareCases
+spare-cases-hold = spare-cases
+
+-- removing what was added gives the sheets back, and adding what was removed
+pub added-removed : (k : Key) (b : Bytes) → Passing b → answerOn (add k) b ≡ acknowledged → Undoes bytesKind (add k) (remove k) b
+added-removed k b p e = Undoing.added-removed k b p e
+
+pub removed-added : (k : Key) (b : Bytes) → Passing b → answerOn (remove k) b ≡ acknowledged → Undoes bytesKind (remove k) (add k) b
+removed-added k b p e = Undoing.removed-added k b p e
 
 -- DOCUMENT 02, NOTE 1, for every input at a clock reading below 2^32, as every u32 is.
 
@@ -292,7 +305,7 @@ pub serial-bytes : (b : Bytes) → Passing b → nonePrepared (saying b .lines) 
     → LegalTurns turnAfterOn turnEventOn xs b [] → all begunChecked (callsOn xs b) ≡ true
     → (vs : List Visit) → Closing saying afterOn vs (turnsLeft turnAfterOn xs b)
     → bytesRecovered vs xs b .records
-    ≡ sheetFor (map (λ (r : Record). serialLine (saying b .lines) (modelOn xs b) (serialOrder (callsOn xs b)) (r .key)) (saying b .lines)) (saying b .size)
+    ≡ sheetFor (map (serialLine (saying b .lines) (modelOn xs b) (serialOrder (callsOn xs b))) (standingOn xs b)) (saying b .size)
 serial-bytes b p z xs legal checked vs c = Serial.serial-bytes b p z xs legal checked vs c
 
 -- a history that meets the hypotheses, the order in which its transactions count, and the order in which they committed, the last number first in both

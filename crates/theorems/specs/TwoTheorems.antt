@@ -2,7 +2,7 @@
 -- each by citing the law that proves it. The contracts of the operations on two sheets cite `responseTwo`, `plainLeft` and `bookkeepingLeft`, so that what holds of
 -- these holds of the functions that run.
 use Rattle.lists.specs.Basics.{_≡_, ℕ, _^_, _≤_, _<_, true, _&&_, false, List, [], _∷_, map, drop, some, all}
-use Rattle.model.specs.Types.{Key, Columns, Record, Transaction, Request}
+use Rattle.model.specs.Types.{Key, Columns, Transaction, Request}
 use Rattle.types.specs.declared.Reading.the-variants.{First}
 use Rattle.model.specs.Layouts.{recordBytes}
 use Rattle.model.specs.Spares.{sized, sheetFor}
@@ -10,7 +10,7 @@ use Rattle.model.specs.Refusals.{Condition, firstAsked}
 use Rattle.model.specs.Writes.{Sheets}
 use Rattle.model.specs.WellFormed.{wellFormed}
 use Rattle.model.specs.Steps.{unitsOf}
-use Rattle.model.specs.Results.{Call, read, second, answered, refusalIn, returns, answerOf}
+use Rattle.model.specs.Results.{Call, read, second, add, remove, answered, acknowledged, refusalIn, returns, answerOf}
 use Rattle.model.specs.Conditions.{takesTwo, refusals}
 use Rattle.model.specs.Calls.{result}
 use Rattle.model.specs.ByteCalls.{resultOn}
@@ -25,7 +25,8 @@ use Rattle.model.specs.TwoCalls.{TwoBytes, sayingTwo, PassingTwo, responseTwo, 
 use Rattle.model.specs.TwoCalls.{turnResponseTwo, turnEventTwo, turnAfterTwo}
 use Rattle.model.specs.AtomicWrites.{OneUnitTwo}
 use Rattle.model.specs.Closes.{NextLimitTwo}
-use Rattle.model.specs.Recovered.{RecoveredTwo, modelTwo, twoRecovered}
+use Rattle.model.specs.Kinds.{twoKind}
+use Rattle.model.specs.Recovered.{Undoes, RecoveredTwo, modelTwo, standingTwo, twoRecovered}
 use Rattle.model.specs.SerialOrder.{callsTwo, begunChecked, serialOrder, serialLine, Serializable}
 use Rattle.call_laws.specs.Lifting.{Capitals}
 use Rattle.recovery.specs.PassExists.{recoveryPass}
@@ -102,6 +103,13 @@ single-unit-call-two c b l p = TwoUnits.call-unit-two c b l p
 pub limit-by-limit-two : (t : Transaction) (now limit : ℕ) (b : TwoBytes) → now < 2 ^ 32 → NextLimitTwo t now limit b
 limit-by-limit-two t now limit b fits = TwoUnits.next-limit-two t now limit b fits
 
+-- NOTE 6: removing what was added gives both sheets back, and adding what was removed
+pub added-removed-two : (k : Key) (b : TwoBytes) → PassingTwo b → answerTwo (add k) b ≡ acknowledged → Undoes twoKind (add k) (remove k) b
+added-removed-two k b p e = History.added-removed-two k b p e
+
+pub removed-added-two : (k : Key) (b : TwoBytes) → PassingTwo b → answerTwo (remove k) b ≡ acknowledged → Undoes twoKind (remove k) (add k) b
+removed-added-two k b p e = History.removed-added-two k b p e
+
 -- THE FIRST CALL, where "a read of a new key takes two calls": it "answers the plain sheet's columns" and returns the transaction as it came ..
 pub first-answers : (t : Transaction) (k : Key) (now : ℕ) (b : TwoBytes) → takesTwo (unitsOf (sayingTwo b)) k t ≡ true → refusalIn (answerTwo (read t k now) b) ≡ 0
     → answerTwo (read t k now) b ≡ answered (First (plainColumns k (b .plain))) t
@@ -164,7 +172,7 @@ checked-serializable-two b p z xs legal checked = History.checked-serializable-t
 pub serial-bytes-two : (b : TwoBytes) → PassingTwo b → nonePrepared (sayingTwo b .lines) ≡ true → (xs : List Turn) → LegalTurns turnAfterTwo turnEventTwo xs b []
     → all begunChecked (callsTwo xs b) ≡ true → (vs : List Visit) → Closing sayingTwo afterTwo vs (turnsLeft turnAfterTwo xs b)
     → joinedSheet (twoRecovered vs xs b .plain) (twoRecovered vs xs b .bookkeeping)
-    ≡ sheetFor (map (λ (r : Record). serialLine (sayingTwo b .lines) (modelTwo xs b) (serialOrder (callsTwo xs b)) (r .key)) (sayingTwo b .lines)) (sayingTwo b .size)
+    ≡ sheetFor (map (serialLine (sayingTwo b .lines) (modelTwo xs b) (serialOrder (callsTwo xs b))) (standingTwo xs b)) (sayingTwo b .size)
 serial-bytes-two b p z xs legal checked vs c = History.serial-bytes-two b p z xs legal checked vs c
 
 -- a history that meets the hypotheses, the order in which its transactions count, and the order in which they committed, the last number first in both

@@ -14,7 +14,7 @@ use Rattle.model.specs.Steps.{step}
 use Rattle.model.specs.Histories.{answer, written, after, ClockFits}
 use Rattle.model.specs.Closing.{Run, stepWrites, stops, goesOn, turn, closing, starting, mostSteps, cannotClose, closeConditions}
 use Rattle.model.specs.ByteHistories.{Bytes, saying, Readable, Passing, answerOn, afterOn}
-use Rattle.model.specs.AtomicWrites.{OneUnit, coordinator-only}
+use Rattle.model.specs.AtomicWrites.{WithinUnit, coordinator-only}
 use Rattle.model.specs.Operations.{close, standsFor, closeRun, ended, response, responseOn, sheetLeft, coordinatorLeft, bytesLeft}
 use Rattle.model.specs.Closes.{closeAnswer, closeLeaves, Advances, no-advance, unwritten, written as wrote, NextWrite, nothing-more, one-write-more, NextLimit, EndsAt}
 use Rattle.model.specs.Changes.{ToldAtomic, toldOf}
@@ -23,7 +23,7 @@ use Rattle.call_laws.specs.Choices.{unless-of}
 use Rattle.call_laws.specs.Accepted.{unless-free}
 use Rattle.call_laws.specs.Transactions.{well-formed-parts}
 use Rattle.call_laws.specs.Lifting.{Capitals, passing-readable, readable-good, passing-good, encoded, encoded-readable, encoded-says, capitals-kept, passing-encoded, same-answer, same-bytes}
-use Rattle.call_laws.specs.SingleUnit.{Single}
+use Rattle.call_laws.specs.SingleUnit.{SingleUnit, unit-shifts}
 use Rattle.call_laws.specs.ByteUnits.{write-unit}
 use Rattle.closing_laws.specs.Steps.{Going, Sound, starts-sound, close-advance, may-go, sound-next, closing-every}
 use Rattle.closing_laws.specs.Advances.{advance-made}
@@ -224,27 +224,27 @@ module _ (t : Transaction) (now limit : ℕ) (b : Bytes) (fits : now < 2 ^ 32) w
   abbrev higher : Run
   higher = closeRun t now (limit + 1) (saying b)
 
-  pub run-next : Readable b → refusalOf (closeConditions t (saying b)) ≡ 0 → NextWrite OneUnit (answerOf (ended lower)) (answerOf (ended higher)) (encoded (lower .sheets)) (encoded (higher .sheets))
+  pub run-next : Readable b → refusalOf (closeConditions t (saying b)) ≡ 0 → NextWrite WithinUnit (answerOf (ended lower)) (answerOf (ended higher)) (encoded (lower .sheets)) (encoded (higher .sheets))
   run-next p z = go (limit-by-limit mostSteps now (starting t limit (saying b)))
     where
       good : sheetsGood (saying b) ≡ true
       good = readable-good b p
 
-      go : OneMore lower higher → NextWrite OneUnit (answerOf (ended lower)) (answerOf (ended higher)) (encoded (lower .sheets)) (encoded (higher .sheets))
+      go : OneMore lower higher → NextWrite WithinUnit (answerOf (ended lower)) (answerOf (ended higher)) (encoded (lower .sheets)) (encoded (higher .sheets))
       go (no-more e f g) = nothing-more (λ i. reported (g i) (e i)) (ap encoded f)
       go (one-more w one f g) =
           let x = encoded-readable (lower .sheets) (close-sound t now limit (saying b) fits good z .good) in
           let kept : sheetsGood (apply w (saying (encoded (lower .sheets)))) ≡ true =
           ap (λ (y : Sheets). sheetsGood (apply w y)) (x .0) ∙ (ap sheetsGood (sym f) ∙ close-sound t now (limit + 1) (saying b) fits good z .good) in
-          let single : Single (saying (encoded (lower .sheets))) w = subst (λ (y : Sheets). Single y w) (sym (x .0)) one in
+          let single : SingleUnit (saying (encoded (lower .sheets)) .coordinator .units) w = subst (λ (y : Sheets). SingleUnit (y .coordinator .units) w) (sym (x .0)) one in
           one-write-more g
-          (subst (OneUnit (encoded (lower .sheets))) (ap (λ (y : Sheets). encoded (apply w y)) (x .0) ∙ ap encoded (sym f))
-          (write-unit (encoded (lower .sheets)) (x .1) w kept single))
+          (subst (WithinUnit (encoded (lower .sheets))) (ap (λ (y : Sheets). encoded (apply w y)) (x .0) ∙ ap encoded (sym f))
+          (write-unit (encoded (lower .sheets)) (x .1) w (unit-shifts single) kept single))
 
   pub next-limit : NextLimit t now limit b
   unfolding responseOn sheetLeft coordinatorLeft
   next-limit =
-      next-by OneUnit (bytesLeft b) (checkConditions (b .records) (b .coordinator)) t now limit (saying b) (λ p z. run-next (passing-readable b p .0) z)
+      next-by WithinUnit (bytesLeft b) (checkConditions (b .records) (b .coordinator)) t now limit (saying b) (λ p z. run-next (passing-readable b p .0) z)
 
 -- what a client is told that keeps both sheets from before a limit
 pub told-of-limit : (t : Transaction) (now limit : ℕ) (b : Bytes) (target : List ℕ) → now < 2 ^ 32 → Passing b → length target ≡ 2
@@ -260,7 +260,7 @@ told-of-limit t now limit b target fits p n =
     readable : (x : Turn) → ClockFits (turnEventOn x b .call) → Readable (turnAfterOn x b)
     readable x l = passing-readable (turnAfterOn x b) (turn-stays-passing x b l p .1) .0
 
-    unit-of : NextLimit t now limit b → OneUnit (closeLeaves t now limit b) (closeLeaves t now (limit + 1) b)
+    unit-of : NextLimit t now limit b → WithinUnit (closeLeaves t now limit b) (closeLeaves t now (limit + 1) b)
     unit-of (nothing-more e f) = coordinator-only (ap (λ (c : Bytes). c .records) f)
     unit-of (one-write-more e u) = u
 

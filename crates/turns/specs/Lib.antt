@@ -7,3 +7,4 @@ pub mod Closes
 pub mod Reduction
 pub mod Lift
 pub mod Bytes
+pub mod Undoing

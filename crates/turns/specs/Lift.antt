@@ -1,7 +1,8 @@
 -- Demand 3 from decoded sheets to any kind of sheets that say them. A legal history there is a legal history on what they say, turn by turn, since accepted
 -- sheets stay accepted and say what the turn leaves; and accepted sheets have the text of what they say.
-use Rattle.lists.specs.Basics.{_≡_, refl, sym, ap, ap₂, subst, _∙_, ℕ, Bool, true, _||_, List, [], _∷_, map, some}
-use Rattle.model.specs.Types.{Record, Transaction}
+use Rattle.lists.specs.Basics.{_≡_, refl, sym, ap, ap₂, subst, _∙_, ℕ, Bool, true, _||_, List, [], _∷_, map, some, any}
+use Rattle.model.specs.Types.{Key, Transaction}
+use Rattle.model.specs.Records.{sameKey, keysIn}
 use Rattle.model.specs.Spares.{sheetFor}
 use Rattle.model.specs.ByteCalls.{sheetText}
 use Rattle.model.specs.Coordinator.{decision}
@@ -9,18 +10,18 @@ use Rattle.model.specs.Writes.{Sheets, sheetsGood}
 use Rattle.model.specs.Results.{Call, returns}
 use Rattle.model.specs.WellFormed.{wellFormed}
 use Rattle.model.specs.Histories.{Event, answer, after, ClockFits, Permitted, leftBy}
-use Rattle.model.specs.SequentialModel.{Model, firstModel, modelAfter, isCommitted}
+use Rattle.model.specs.SequentialModel.{Model, firstModel, modelAfter, isCommitted, keysAfter}
 use Rattle.model.specs.RecoveryPass.{Visit, visitCall, nonePrepared, Expiring, Closing, Readings, leavesReadings, readingsOf}
 use Rattle.model.specs.Turns.{Turn, turnEvent, turnAfter, turnOnePhase, turnsLeft, onePhaseTurn, turnEvents, LegalTurns}
 use Rattle.model.specs.Kinds.{Kind}
-use Rattle.model.specs.Recovered.{historyModel, sheetsRecovered, onePhaseMade, RecoveredOn}
+use Rattle.model.specs.Recovered.{historyModel, historyKeys, sheetsRecovered, onePhaseMade, RecoveredOn}
 use Rattle.call_laws.specs.Sheets.{good-parts}
 use Rattle.recovery.specs.Commits.{exactly-same}
 use Rattle.recovery.specs.PassExists.{recoveryPass, pass-exists}
 use Rattle.recovery.specs.PassNeeds.{pass-needs}
 use Rattle.recovery.specs.Readings.{readings-exist}
 use Rattle.turns.specs.Turns.{turn-returns-formed}
-use Rattle.turns.specs.Reduction.{recoveredAfter, modelOfTurns, RecoveredSheets, turns-recover}
+use Rattle.turns.specs.Reduction.{recoveredAfter, modelOfTurns, keysOfTurns, RecoveredSheets, turns-recover}
 
 -- What calls and turns do with accepted sheets of a kind is what they do with what the sheets say.
 pub record Faithful {S : Type 0} (kind : Kind S) : Type 0 where
@@ -95,6 +96,7 @@ module _ {S : Type 0} (kind : Kind S) (laws : Faithful kind) where
     pub says : sheets (visited vs (turnsLeft turned xs b)) ≡ recoveredAfter vs xs (sheets b)
     pub passes : kind .passes (visited vs (turnsLeft turned xs b))
     pub model : modelOfTurns xs (sheets b) ≡ historyModel kind xs b
+    pub keys : keysOfTurns xs (sheets b) ≡ historyKeys kind xs b
     pub ones : (n : ℕ) → onePhaseMade kind n xs b ≡ onePhaseTurn turnAfter turnOnePhase n xs (sheets b)
     pub recovered : RecoveredSheets vs xs (sheets b)
 
@@ -108,6 +110,7 @@ module _ {S : Type 0} (kind : Kind S) (laws : Faithful kind) where
         says = v .1 .0 ∙ ap (leftBy answer after (map visitCall vs)) (h .says);
         passes = v .1 .1;
         model = ap (λ (es : List Event). modelAfter es (firstModel (sheets b .lines))) (sym (h .told));
+        keys = ap (λ (es : List Event). keysAfter es (keysIn (sheets b .lines))) (sym (h .told));
         ones = h .ones;
         recovered = turns-recover (sheets b) (laws .good b p) z xs (h .legal) vs closing;
       }
@@ -122,7 +125,8 @@ module _ {S : Type 0} (kind : Kind S) (laws : Faithful kind) where
         lines =
             laws .text-is (sheetsRecovered kind vs xs b) (l .passes)
             ∙ (ap sheetText (l .says)
-            ∙ (ap₂ sheetFor (r .lines) (r .size) ∙ ap (λ (m : Model). sheetFor (map (λ (x : Record). m .line (x .key)) (sheets b .lines)) (sheets b .size)) (l .model)));
+            ∙ (ap₂ sheetFor (r .lines) (r .size) ∙ ap₂ (λ (m : Model) (ks : List Key). sheetFor (map (m .line) ks) (sheets b .size)) (l .model) (l .keys)));
+        missing = λ k h. ap (λ (m : Model). m .line k) (sym (l .model)) ∙ r .missing k (ap (any (λ (j : Key). sameKey j k)) (l .keys) ∙ h);
         committed = λ n new k x put.
             exactly-same (ap (isCommitted n) (l .model)) (sym (ap (λ (s : Sheets). decision n (s .coordinator)) (l .says))) (sym (l .ones n))
             (r .committed n new k x (ap (λ (m : Model). m .writes n k) (l .model) ∙ put));

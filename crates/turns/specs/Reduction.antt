@@ -1,8 +1,10 @@
 -- Histories of turns are histories of calls: a legal history of turns is a legal history of the calls that they come to, with the same sheets and the same
 -- model. So demand 3 over calls is demand 3 over turns. What a kind of turn owes for it is `Comes`.
-use Rattle.lists.specs.Basics.{_≡_, refl, sym, ap, subst, _∙_, ℕ, _<_, eqb, Bool, true, false, _||_, cond, List, [], _∷_, _++_, map, length, some}
-use Rattle.lists.specs.Basics.{Option·none-ne-some, Option·some-injective, inl, inr, eqb-true}
+use Rattle.lists.specs.Basics.{_≡_, refl, sym, ap, ap₂, subst, _∙_, ℕ, _<_, eqb, Bool, true, false, _||_, cond, List, [], _∷_, _++_, map, length, some}
+use Rattle.lists.specs.Basics.{Option·none-ne-some, Option·some-injective, inl, inr, eqb-true, any}
+use Rattle.lists.specs.Chosen.{any-map}
 use Rattle.model.specs.Types.{Key, Record, Transaction, Request}
+use Rattle.model.specs.Records.{sameKey, keysIn, absentAt}
 use Rattle.model.specs.Calls.{result}
 use Rattle.model.specs.Images.{Change}
 use Rattle.model.specs.Coordinator.{decision}
@@ -13,13 +15,15 @@ use Rattle.model.specs.Closing.{starting, closingCalls, mostSteps, closeConditi
 use Rattle.model.specs.Operations.{Operation, once, close, standsFor, settled, closeRun, ended, response, sheetsLeft, callsOf}
 use Rattle.model.specs.CallByPlace.{listed, operationAt, callAt, responseAt}
 use Rattle.model.specs.Histories.{Event, answer, written, after, given, Available, Permitted, event, eventsAfter, leftBy, Legal, onePhaseIn}
-use Rattle.model.specs.SequentialModel.{Model, firstModel, modelCall, modelStep, modelAfter, isCommitted}
+use Rattle.model.specs.SequentialModel.{Model, firstModel, modelCall, modelStep, modelAfter, isCommitted, keysStep, keysAfter}
 use Rattle.model.specs.RecoveryPass.{Visit, visitCall, nonePrepared, Closing}
 use Rattle.model.specs.Turns.{Turn, single, byPlace, turnCall, turnResponse, turnEvent, turnAfter, turnOnePhase, comesTo, expanded, turnsLeft, onePhaseTurn}
 use Rattle.model.specs.Turns.{turnEvents, LegalTurns}
 use Rattle.model.specs.Recovered.{modelAfterTurns, CommittedExactly}
+use Rattle.sheet_laws.specs.KeyOrder.{listsKey}
 use Rattle.call_laws.specs.Sheets.{parts-good}
-use Rattle.call_laws.specs.ByPlace.{named-response, unlisted-response}
+use Rattle.call_laws.specs.StandingKeys.{response-keys}
+use Rattle.call_laws.specs.ByPlace.{named-response, unlisted-response, by-place}
 use Rattle.recovery.specs.Invariant.{Inv}
 use Rattle.recovery.specs.History.{first-inv, onesAfter, history-kept}
 use Rattle.recovery.specs.Theorem.{recoveredBy, recovery-theorem}
@@ -204,9 +208,30 @@ recoveredAfter vs xs s = leftBy answer after (map visitCall vs) (turnsLeft turnA
 abbrev pub modelOfTurns : List Turn → Sheets → Model
 modelOfTurns xs s = modelAfterTurns (λ (y : Sheets). y) turnAfter turnEvent xs s
 
+-- the keys that have a line after a history
+abbrev pub keysOfTurns : List Turn → Sheets → List Key
+keysOfTurns xs s = keysAfter (turnEvents turnAfter turnEvent xs s []) (keysIn (s .lines))
+
+turn-keys : (x : Turn) (s : Sheets) → keysIn (turnAfter x s .lines) ≡ keysStep (turnEvent x s .call) (turnEvent x s .answer) (keysIn (s .lines))
+unfolding turnAfter turnEvent turnCall turnResponse keysStep
+turn-keys (single o) s = response-keys o s
+turn-keys (byPlace list place q) s =
+    by-place list place q s (λ (r : Response Answer Sheets). keysIn (sheetsLeft s r .lines) ≡ keysStep (callAt list place q) (answerOf r) (keysIn (s .lines)))
+    (response-keys (operationAt list place q) s) refl
+
+turns-keys : (xs : List Turn) (s : Sheets) (es : List Event) (ks : List Key) → keysIn (s .lines) ≡ keysAfter es ks → keysIn (turnsLeft turnAfter xs s .lines) ≡ keysAfter (turnEvents turnAfter turnEvent xs s es) ks
+unfolding turnsLeft turnEvents keysAfter
+turns-keys [] s es ks h = h
+turns-keys (x ∷ xs) s es ks h = turns-keys xs (turnAfter x s) (turnEvent x s ∷ es) ks (turn-keys x s ∙ ap (keysStep (turnEvent x s .call) (turnEvent x s .answer)) h)
+
+-- a key among them has a line
+keys-listed : (k : Key) (rs : List Record) → any (λ (j : Key). sameKey j k) (keysIn rs) ≡ listsKey k rs
+keys-listed k rs = any-map (λ (r : Record). r .key) (λ (j : Key). sameKey j k) rs
+
 pub record RecoveredSheets (vs : List Visit) (xs : List Turn) (s : Sheets) : Type 0 where
   pub unprepared : nonePrepared (recoveredAfter vs xs s .lines) ≡ true
-  pub lines : recoveredAfter vs xs s .lines ≡ map (λ (r : Record). modelOfTurns xs s .line (r .key)) (s .lines)
+  pub lines : recoveredAfter vs xs s .lines ≡ map (modelOfTurns xs s .line) (keysOfTurns xs s)
+  pub missing : (k : Key) → any (λ (j : Key). sameKey j k) (keysOfTurns xs s) ≡ false → modelOfTurns xs s .line k ≡ absentAt k
   pub size : recoveredAfter vs xs s .size ≡ s .size
   pub committed : (n : ℕ) → s .coordinator .issued < n → (k : Key) (c : Change) → modelOfTurns xs s .writes n k ≡ some c → CommittedExactly (isCommitted n (modelOfTurns xs s)) (decision n (recoveredAfter vs xs s .coordinator)) (onePhaseTurn turnAfter turnOnePhase n xs s)
 
@@ -217,17 +242,21 @@ size-left [] s = refl
 size-left (c ∷ cs) s = size-left cs (after c s)
 
 pub turns-recover : (s : Sheets) → sheetsGood s ≡ true → nonePrepared (s .lines) ≡ true → (xs : List Turn) → LegalTurns turnAfter turnEvent xs s [] → (vs : List Visit) → Closing (λ (y : Sheets). y) after vs (turnsLeft turnAfter xs s) → RecoveredSheets vs xs s
-unfolding modelAfter
+unfolding modelAfter keysAfter
 turns-recover s g z xs legal vs c =
     let r : Reduced xs s [] [] (firstModel (s .lines)) = reduce xs s [] [] (firstModel (s .lines)) (first-inv s g z) (λ t a. a) refl legal in
     let cs = expanded xs s in
     let t = recovery-theorem s g z cs (r .legal) vs (subst (Closing (λ (y : Sheets). y) after vs) (sym (r .left)) c) in
+    let keys : keysIn (leftBy answer after cs s .lines) ≡ keysOfTurns xs s = ap (λ (y : Sheets). keysIn (y .lines)) (r .left) ∙ turns-keys xs s [] (keysIn (s .lines)) refl in
     let e : recoveredBy vs cs s ≡ recoveredAfter vs xs s = ap (leftBy answer after (map visitCall vs)) (r .left) in
     record {
-      unprepared = ap (λ (y : Sheets). nonePrepared (y .lines)) (sym e) ∙ t .0;
+      unprepared = ap (λ (y : Sheets). nonePrepared (y .lines)) (sym e) ∙ t .unprepared;
       lines =
           ap (λ (y : Sheets). y .lines) (sym e)
-          ∙ (t .1 ∙ ap (λ (m : Model). map (λ (x : Record). m .line (x .key)) (s .lines)) (r .model));
+          ∙ (t .lines ∙ ap₂ (λ (m : Model) (ks : List Key). map (m .line) ks) (r .model) keys);
+      missing = λ k h.
+          ap (λ (m : Model). m .line k) (sym (r .model))
+          ∙ t .missing k (sym (keys-listed k (leftBy answer after cs s .lines)) ∙ (ap (any (λ (j : Key). sameKey j k)) keys ∙ h));
       size = ap (λ (y : Sheets). y .size) (sym e) ∙ (size-left (map visitCall vs) (leftBy answer after cs s) ∙ size-left cs s);
       committed = λ n new k x put. exactly-same (ap (isCommitted n) (r .model)) (ap (λ (y : Sheets). decision n (y .coordinator)) e) (r .ones n)
           (commits-exactly s g z cs (r .legal) vs n new k x (ap (λ (m : Model). m .writes n k) (r .model) ∙ put));

@@ -1,4 +1,4 @@
--- What is told of a turn on accepted sheets. Sheets keep their lengths, so that nothing is refused; lines that differ are of the one unit that the turn may
+-- What is told of a turn on accepted sheets that adds and removes no line. Sheets keep their lengths, so that nothing is refused; lines that differ are of the one unit that the turn may
 -- write, and then the coordinator sheet stays. Keys rise, so that every line between two of one unit is of it too: the range told begins and ends in lines
 -- that differ, and is of one unit throughout.
 use Rattle.lists.specs.Basics.{_≡_, refl, sym, ap, subst, _∙_, ℕ, zero, suc, _+_, _-_, _*_, _/_, _%_, _^_, _≤_, _<_, eqb, ltb, Bool, true, false, not}
@@ -13,12 +13,12 @@ use Rattle.model.specs.Spares.{filledLines, front, recordLines, sheetAccepted}
 use Rattle.model.specs.Coordinator.{Letter, Coordinator, coordinatorOf, coordinatorReadable, withDecision, withIssued}
 use Rattle.model.specs.Refusals.{refusalOf}
 use Rattle.model.specs.SheetCalls.{lineAt}
-use Rattle.model.specs.Writes.{Sheets, Write, nothing, issue, decide, commit, prepare, forward, back, decisionsAfter}
+use Rattle.model.specs.Writes.{Sheets, Write, nothing, issue, decide, commit, prepare, forward, back, addLine, removeLine, decisionsAfter}
 use Rattle.model.specs.Groups.{scope}
 use Rattle.model.specs.Histories.{ClockFits}
 use Rattle.model.specs.ByteHistories.{Bytes, saying, Readable, Passing}
-use Rattle.model.specs.AtomicWrites.{scopeAt, OneUnit, lines-of-one-unit, coordinator-only}
-use Rattle.model.specs.Turns.{Turn, turnCall, turnWritesOnce, turnAfter, turnEventOn, turnAfterOn}
+use Rattle.model.specs.AtomicWrites.{scopeAt, WithinUnit, lines-of-one-unit, coordinator-only}
+use Rattle.model.specs.Turns.{Turn, turnCall, turnWritesOnce, turnShifts, turnAfter, turnEventOn, turnAfterOn}
 use Rattle.model.specs.Changes.{differs, reachOf, lastReach, firstDiffering, lengthConditions, sheetsTold, writtenConditions, writtenNumber, toldOf}
 use Rattle.model.specs.Changes.{ToldAtomic, nothing-told, coordinator-told, lines-told}
 use Rattle.sheet_laws.specs.Records.{good-ranged}
@@ -31,7 +31,7 @@ use Rattle.call_laws.specs.ByIndex.{rising-at}
 use Rattle.call_laws.specs.Lifting.{readable-both, passing-readable, encoded}
 use Rattle.call_laws.specs.Told.{reach-within, told-ends, told-none}
 use Rattle.turns.specs.Turns.{turn-keeps, turn-bytes, turn-stays-readable, turn-stays-passing}
-use Rattle.turns.specs.Units.{readable-unit}
+use Rattle.turns.specs.Units.{readable-within}
 
 -- The sheets keep their lengths.
 
@@ -45,6 +45,8 @@ decisions-kept (commit n es) c = refl
 decisions-kept (prepare n now es) c = refl
 decisions-kept (forward n ks) c = refl
 decisions-kept (back n ks) c = refl
+decisions-kept (addLine k) c = refl
+decisions-kept (removeLine k) c = refl
 
 turn-keeps-decisions : (x : Turn) (s : Sheets) → length (turnAfter x s .coordinator .decisions) ≡ length (s .coordinator .decisions)
 turn-keeps-decisions x s = turn-keeps (λ (c : Coordinator). length (c .decisions) ≡ length (s .coordinator .decisions)) (λ w c e. decisions-kept w c ∙ e) x s refl
@@ -188,7 +190,7 @@ module _ (b a : Bytes) where
         line-between b accepted (firstDiffering rs rs′) i (lastReach rs rs′ - 1) p (omega arith) (omega arith)
         (f (firstDiffering rs rs′) (lastReach rs rs′ - 1) (ends .0) (ends .1))
 
-    told-by-unit : OneUnit b a → ToldAtomic b a (sheetsTold rs rs′ (b .coordinator) (a .coordinator))
+    told-by-unit : WithinUnit b a → ToldAtomic b a (sheetsTold rs rs′ (b .coordinator) (a .coordinator))
     told-by-unit (coordinator-only e) = go (eqList (b .coordinator) (a .coordinator)) refl
       where
         none : lastReach rs rs′ ≡ 0
@@ -208,12 +210,12 @@ module _ (b a : Bytes) where
             nothing-told (rw (stays, e)) (λ i. record { records = sym s i; coordinator = c i })
         go false e = lines-told (rw (stays, e)) c (range-of-unit (λ i j p q. of-unit unit f i p ∙ sym (of-unit unit f j q)))
 
-same-size : (b a : Bytes) → OneUnit b a → length (b .records) ≡ length (a .records)
+same-size : (b a : Bytes) → WithinUnit b a → length (b .records) ≡ length (a .records)
 same-size b a (lines-of-one-unit unit c n f) = sym n
 same-size b a (coordinator-only e) = sym (ap length e)
 
 -- between readable sheets that differ in one unit
-pub told-between : (b a : Bytes) (target : List ℕ) → length target ≡ 2 → Readable b → Readable a → OneUnit b a
+pub told-between : (b a : Bytes) (target : List ℕ) → length target ≡ 2 → Readable b → Readable a → WithinUnit b a
     → length (saying a .coordinator .decisions) ≡ length (saying b .coordinator .decisions) → ToldAtomic b a (toldOf b a target)
 unfolding writtenNumber
 told-between b a target t p q u d =
@@ -226,15 +228,15 @@ told-between b a target t p q u d =
     rw e (told-by-unit b a r u)
 
 -- and of a turn, on readable bytes with what it leaves on what they say, encoded
-pub told-of-readable : (x : Turn) (b : Bytes) (target : List ℕ) → length target ≡ 2 → turnWritesOnce x ≡ true → ClockFits (turnCall x) → Readable b
+pub told-of-readable : (x : Turn) (b : Bytes) (target : List ℕ) → length target ≡ 2 → turnWritesOnce x ≡ true → turnShifts x ≡ false → ClockFits (turnCall x) → Readable b
     → ToldAtomic b (encoded (turnAfter x (saying b))) (toldOf b (encoded (turnAfter x (saying b))) target)
-told-of-readable x b target t w l p =
+told-of-readable x b target t w n l p =
     let e = turn-stays-readable x b l p in
-    told-between b (encoded (turnAfter x (saying b))) target t p (e .1) (readable-unit x b w l p)
+    told-between b (encoded (turnAfter x (saying b))) target t p (e .1) (readable-within x b w n l p)
     (ap (λ (s : Sheets). length (s .coordinator .decisions)) (e .0) ∙ turn-keeps-decisions x (saying b))
 
-pub told-of-turn : (x : Turn) (b : Bytes) (target : List ℕ) → length target ≡ 2 → turnWritesOnce x ≡ true → ClockFits (turnEventOn x b .call) → Passing b
+pub told-of-turn : (x : Turn) (b : Bytes) (target : List ℕ) → length target ≡ 2 → turnWritesOnce x ≡ true → turnShifts x ≡ false → ClockFits (turnEventOn x b .call) → Passing b
     → ToldAtomic b (turnAfterOn x b) (toldOf b (turnAfterOn x b) target)
 unfolding turnEventOn
-told-of-turn x b target t w l p =
-    subst (λ (a : Bytes). ToldAtomic b a (toldOf b a target)) (sym (turn-bytes x b p)) (told-of-readable x b target t w l (passing-readable b p .0))
+told-of-turn x b target t w n l p =
+    subst (λ (a : Bytes). ToldAtomic b a (toldOf b a target)) (sym (turn-bytes x b p)) (told-of-readable x b target t w n l (passing-readable b p .0))

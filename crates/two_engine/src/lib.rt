@@ -48,7 +48,7 @@ fn unequal(plain: &[u8], book: &[u8], coordinator: &[u8]) -> u32
 }
 
 // 0 where both sheets have their size and as many lines, else the refusal.
-fn forms_refusal(plain: &[u8], book: &[u8], coordinator: &[u8]) -> u32
+pub fn forms_refusal(plain: &[u8], book: &[u8], coordinator: &[u8]) -> u32
     ensures { λ r. ⌜ Forms (now (plain .entry)) (now (book .entry)) (now (coordinator .entry)) r ⌝ }
 {
     if !is_sized(plain, PLAIN_BYTES) {

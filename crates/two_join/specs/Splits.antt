@@ -1,5 +1,5 @@
 -- What the loops keep that write a sheet line by line from another: the first i lines have been made of it and written. The law is one for all, by how a line is made.
-use Rattle.lists.specs.Basics.{ℕ, suc, _+_, _-_, _*_, _/_, _≤_, _<_, _≡_, sym, ap, ap₂, _∙_, List, [], _∷_, _++_, append-assoc, append-nil, map, arith}
+use Rattle.lists.specs.Basics.{ℕ, _+_, _-_, _*_, _/_, _≤_, _≡_, sym, ap, ap₂, _∙_, List, [], _∷_, _++_, append-assoc, append-nil, map, arith}
 use Rattle.lists.specs.Basics.{length, take, drop, set, length-take, length-drop, length-append, take-at, drop-drop, take-take, take-all, joined, pieces}
 use Rattle.lists.specs.Pieces.{over, over-next, length-over, pieces-add, take-drop-take}
 use Rattle.model.specs.Layouts.{recordBytes}

@@ -1,14 +1,15 @@
 -- A sheet alone is good exactly if it has whole lines and the sheet filled with fixed text is accepted.
 use Rattle.lists.specs.Basics.{ℕ, _*_, _/_, _≡_, refl, sym, ap, ap₂, _∙_, Bool, true, _&&_, and-assoc, List, [], _∷_, map, arith, length}
-use Rattle.lists.specs.Basics.{eqb, eqb-true, eq-eqb, and-fst, and-snd, all, joined, pieces}
+use Rattle.lists.specs.Basics.{eqb, eqb-true, eq-eqb, and-fst, and-snd, all, joined}
 use Rattle.lists.specs.Tests.{and-same}
 use Rattle.lists.specs.All.{all-map, all-of, map-map, map-equal, pieces-whole}
-use Rattle.lists.specs.Pieces.{AllOf, pieces-joined, length-joined}
+use Rattle.lists.specs.Pieces.{AllOf, length-joined}
 use Rattle.model.specs.Types.{Column, Record}
 use Rattle.model.specs.Layouts.{recordLayout, recordBytes}
 use Rattle.model.specs.Lines.{lineSet, linesOf, linesSet}
 use Rattle.model.specs.Records.{recordsGood, recordIn, records, recordsAccepted}
 use Rattle.model.specs.TwoSheets.{plainLayout, bookkeepingLayout, plainBytes, bookkeepingBytes, plainRecord, bookkeepingRecord, plainAlone, bookkeepingAlone}
+use Rattle.sheet_laws.specs.Fronts.{lines-joined}
 use Rattle.two_laws.specs.Deciding.{whole, fillPlain, fillBookkeeping, filledPlain, filledBookkeeping}
 use Rattle.two_laws.specs.TwoLines.{length-fillPlain, filled-plain-set, filled-plain-record, length-fillBookkeeping, filled-bookkeeping-set}
 use Rattle.two_laws.specs.TwoLines.{filled-bookkeeping-record}
@@ -19,11 +20,6 @@ unfolding all
 all-equal w p q e [] h = refl
 all-equal w p q e (x ∷ xs) h =
     ap₂ _&&_ (e x (and-fst (w x) (all w xs) h)) (all-equal w p q e xs (and-snd (w x) (all w xs) h))
-
--- lines of w bytes, joined, are the lines of their sheet
-pub lines-back : (w : ℕ) (xs : List (List ℕ)) → AllOf w xs → length (joined xs) / w ≡ length xs → linesOf w (joined xs) ≡ xs
-unfolding linesOf
-lines-back w xs h e = ap (λ (n : ℕ). pieces w n (joined xs)) e ∙ pieces-joined w xs h
 
 -- the lines of a sheet of whole lines have w bytes each
 pub lines-wide : (w : ℕ) (s : List ℕ) → whole w s ≡ true → all (λ (x : List ℕ). eqb (length x) w) (linesOf w s) ≡ true
@@ -36,7 +32,7 @@ record-lines xs h =
     let n : length (joined xs) ≡ length xs * recordBytes = length-joined recordBytes xs h in
     let e : length (joined xs) / recordBytes ≡ length xs = omega arith in
     let k : length (joined xs) ≡ length (joined xs) / recordBytes * recordBytes = omega arith in
-    (eq-eqb (length (joined xs)) (length (joined xs) / recordBytes * recordBytes) k, lines-back recordBytes xs h e)
+    (eq-eqb (length (joined xs)) (length (joined xs) / recordBytes * recordBytes) k, lines-joined recordBytes (omega arith) xs h)
 
 -- the rule of a sheet of record lines
 pub lines-accepted : (xs : List (List ℕ)) → AllOf recordBytes xs → recordsAccepted (joined xs) ≡ (all (lineSet recordLayout) xs && recordsGood (map recordIn xs))

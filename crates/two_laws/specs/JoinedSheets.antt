@@ -12,12 +12,13 @@ use Rattle.model.specs.Records.{stateNumber, keyNumbers, imageNumbers, recordNu
 use Rattle.model.specs.Coordinator.{namesIssued}
 use Rattle.model.specs.TwoSheets.{plainLayout, bookkeepingLayout, plainBytes, bookkeepingBytes, joinLine, plainLine, bookkeepingLine, joinLines, joinedSheet}
 use Rattle.model.specs.TwoSheets.{plainPart, bookkeepingPart, plainRecord, bookkeepingRecord, plainAlone, bookkeepingAlone}
+use Rattle.sheet_laws.specs.Fronts.{lines-joined}
 use Rattle.two_laws.specs.Deciding.{whole, keysAgree, linesAgree}
 use Rattle.two_laws.specs.Parts.{good-append}
 use Rattle.two_laws.specs.TwoLines.{stateLayout, restLayout, plainOf, bookkeepingOf, length-joinLine, joined-bookkeeping-record, joined-bookkeeping-set}
 use Rattle.two_laws.specs.TwoLines.{joined-plain-record, joined-plain-set, plain-back, bookkeeping-back, join-back, parts-agree, length-plainLine}
 use Rattle.two_laws.specs.TwoLines.{length-bookkeepingLine}
-use Rattle.two_laws.specs.FilledSheets.{lines-back, lines-wide, record-lines, lines-accepted}
+use Rattle.two_laws.specs.FilledSheets.{lines-wide, record-lines, lines-accepted}
 
 -- lines of both sheets, pair by pair
 pub data Pairs : List (List ℕ) → List (List ℕ) → Type 0 where
@@ -244,16 +245,13 @@ isWide x = eqb (length x) recordBytes
 plains : (ls : List (List ℕ)) → all isWide ls ≡ true → linesOf plainBytes (joined (map plainLine ls)) ≡ map plainLine ls
 plains ls w =
     let o : AllOf plainBytes (map plainLine ls) = all-of plainBytes isWide plainLine (λ x e. length-plainLine x (eqb-true (length x) recordBytes e)) ls w in
-    let n : length (joined (map plainLine ls)) ≡ length (map plainLine ls) * plainBytes = length-joined plainBytes (map plainLine ls) o in
-    lines-back plainBytes (map plainLine ls) o (omega arith)
+    lines-joined plainBytes (omega arith) (map plainLine ls) o
 
 bookkeepings : (ls : List (List ℕ)) → all isWide ls ≡ true → linesOf bookkeepingBytes (joined (map bookkeepingLine ls)) ≡ map bookkeepingLine ls
 bookkeepings ls w =
     let o : AllOf bookkeepingBytes (map bookkeepingLine ls) =
     all-of bookkeepingBytes isWide bookkeepingLine (λ x e. length-bookkeepingLine x (eqb-true (length x) recordBytes e)) ls w in
-    let n : length (joined (map bookkeepingLine ls)) ≡ length (map bookkeepingLine ls) * bookkeepingBytes =
-    length-joined bookkeepingBytes (map bookkeepingLine ls) o in
-    lines-back bookkeepingBytes (map bookkeepingLine ls) o (omega arith)
+    lines-joined bookkeepingBytes (omega arith) (map bookkeepingLine ls) o
 
 joins : (ls : List (List ℕ)) → all isWide ls ≡ true → joinLines (map plainLine ls) (map bookkeepingLine ls) ≡ ls
 unfolding joinLines all

@@ -10,7 +10,8 @@ use Rattle.model.specs.Spares.{spareLine, isSpare, trimmed, filledLines, front,
 use Rattle.model.specs.TwoSheets.{plainBytes, bookkeepingBytes, joinLine, plainLine, bookkeepingLine, joinLines, joinedSheet}
 use Rattle.model.specs.TwoSpares.{plainLines, bookkeepingLines, joinedLines}
 use Rattle.sheet_laws.specs.Trimmed.{trimmed-more}
-use Rattle.sheet_laws.specs.Fronts.{wide-lines, length-lines, filled-within, front-count, front-whole, front-filled, lines-spared, spares-wide, lines-joined}
+use Rattle.sheet_laws.specs.ByIndex.{length-lines}
+use Rattle.sheet_laws.specs.Fronts.{wide-lines, filled-within, front-count, front-whole, front-filled, lines-spared, spares-wide, lines-joined}
 use Rattle.sheet_laws.specs.Ends.{quotient}
 use Rattle.two_laws.specs.TwoLines.{length-joinLine, bookkeeping-back}
 
@@ -100,11 +101,11 @@ module _ (ps bs : List ℕ) (wp : length ps ≡ length ps / plainBytes * plainBy
   books = linesOf bookkeepingBytes (bookkeepingLines bs)
 
   plains-count : length plains ≡ filledLines plainBytes ps
-  plains-count = length-lines plainBytes (omega arith) (plainLines ps) (front-whole plainBytes (omega arith) ps wp) ∙ front-count plainBytes (omega arith) ps wp
+  plains-count = length-lines plainBytes (plainLines ps) ∙ front-count plainBytes (omega arith) ps wp
 
   books-count : length books ≡ filledLines bookkeepingBytes bs
   books-count =
-      length-lines bookkeepingBytes (omega arith) (bookkeepingLines bs) (front-whole bookkeepingBytes (omega arith) bs wb) ∙ front-count bookkeepingBytes (omega arith) bs wb
+      length-lines bookkeepingBytes (bookkeepingLines bs) ∙ front-count bookkeepingBytes (omega arith) bs wb
 
   as-many : length plains ≡ length books
   as-many = plains-count ∙ (same ∙ sym books-count)

@@ -20,7 +20,8 @@ use Rattle.model.specs.TwoSheets.{linesConditions, coordinatorFits, fullConditi
 use Rattle.model.specs.TwoSpares.{plainLines, bookkeepingLines, joinedLines, asMany, keysMatch, formConditions, twoConditions}
 use Rattle.model.specs.FullCalls.{TwoBytes, PassingFull}
 use Rattle.model.specs.TwoCalls.{sayingTwo, PassingTwo, onTwo, plainLeft, bookkeepingLeft, twoLeft}
-use Rattle.sheet_laws.specs.Fronts.{sized-whole, length-lines, front-whole, front-count, front-spares, spared-front, spared-length, spared-count, set-no-spares, wide-lines, bytes-lines}
+use Rattle.sheet_laws.specs.ByIndex.{length-lines}
+use Rattle.sheet_laws.specs.Fronts.{sized-whole, front-whole, front-count, front-spares, spared-front, spared-length, spared-count, set-no-spares, wide-lines, bytes-lines}
 use Rattle.sheet_laws.specs.Records.{records-read-written, sheet-written-read}
 use Rattle.sheet_laws.specs.Spared.{accepted-lines, count-front}
 use Rattle.sheet_laws.specs.Coordinator.{coordinator-written-read}
@@ -65,9 +66,9 @@ module _ (b : TwoBytes) (j : JoinableTwo b) where
   pub same-filled : filledLines plainBytes ps ≡ filledLines bookkeepingBytes bs
   same-filled =
       sym (front-count plainBytes (omega arith) ps (j .plain))
-      ∙ (sym (length-lines plainBytes (omega arith) (plainLines ps) (front-whole plainBytes (omega arith) ps (j .plain)))
+      ∙ (sym (length-lines plainBytes (plainLines ps))
       ∙ (agree-count (linesOf plainBytes (plainLines ps)) (linesOf bookkeepingBytes (bookkeepingLines bs)) (j .lines .agree)
-      ∙ (length-lines bookkeepingBytes (omega arith) (bookkeepingLines bs) (front-whole bookkeepingBytes (omega arith) bs (j .bookkeeping))
+      ∙ (length-lines bookkeepingBytes (bookkeepingLines bs)
       ∙ front-count bookkeepingBytes (omega arith) bs (j .bookkeeping))))
 
   pub front-joined : recordLines (joinedSheet ps bs) ≡ joinedLines ps bs
@@ -258,13 +259,13 @@ module _ (w : ℕ) (some : 0 < w) (layout : List Column) (bad : lineSet layout (
   pub set-count : length (s ++ sparesText w n) / w ≡ length s / w + n
   set-count =
       ap (λ (t : List ℕ). length (t ++ sparesText w n) / w) (sym lines-are)
-      ∙ (spared-count w some (linesOf w s) n (wide-lines w some s whole-set) none-spare ∙ ap (λ (m : ℕ). m + n) (length-lines w some s whole-set))
+      ∙ (spared-count w some (linesOf w s) n (wide-lines w some s whole-set) none-spare ∙ ap (λ (m : ℕ). m + n) (length-lines w s))
 
   pub set-whole : length (s ++ sparesText w n) ≡ length (s ++ sparesText w n) / w * w
   set-whole =
       ap (λ (t : List ℕ). length (t ++ sparesText w n)) (sym lines-are)
       ∙ (spared-length w some (linesOf w s) n (wide-lines w some s whole-set) none-spare
-      ∙ ap (λ (m : ℕ). m * w) (ap (λ (m : ℕ). m + n) (length-lines w some s whole-set) ∙ sym set-count))
+      ∙ ap (λ (m : ℕ). m * w) (ap (λ (m : ℕ). m + n) (length-lines w s) ∙ sym set-count))
 
 module _ (s : Sheets) (good : sheetsGood s ≡ true) where
   abbrev text : List ℕ
@@ -307,10 +308,9 @@ module _ (s : Sheets) (good : sheetsGood s ≡ true) where
   -- either part has as many lines as the text
   same-lines : length (plainPart text) / plainBytes ≡ length (bookkeepingPart text) / bookkeepingBytes
   same-lines =
-      sym (length-lines plainBytes (omega arith) (plainPart text) (whole-set plainBytes (omega arith) plainLayout spare-unread-plain (plainPart text) spares plain-set))
+      sym (length-lines plainBytes (plainPart text))
       ∙ (agree-count (linesOf plainBytes (plainPart text)) (linesOf bookkeepingBytes (bookkeepingPart text)) (split-agrees text (accepted-whole text accepted))
-      ∙ length-lines bookkeepingBytes (omega arith) (bookkeepingPart text)
-      (whole-set bookkeepingBytes (omega arith) bookkeepingLayout spare-unread-bookkeeping (bookkeepingPart text) spares bookkeeping-set))
+      ∙ length-lines bookkeepingBytes (bookkeepingPart text))
 
   encoded-joinable : JoinableTwo (encodedTwo s)
   encoded-joinable =

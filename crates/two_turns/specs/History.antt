@@ -1,24 +1,25 @@
 -- Demand 3 and the serial order over a plain sheet and a bookkeeping sheet: they are a kind of sheets, and the joined sheet of two that pass is the text of what
 -- they say.
-use Rattle.lists.specs.Basics.{_≡_, sym, ap, ℕ, true, List, [], map, some, all}
-use Rattle.model.specs.Types.{Record, Transaction}
+use Rattle.lists.specs.Basics.{_≡_, sym, ap, _∙_, ℕ, true, List, [], map, some, all}
+use Rattle.model.specs.Types.{Key, Transaction}
 use Rattle.model.specs.Spares.{sheetFor}
 use Rattle.model.specs.ByteHistories.{Bytes}
-use Rattle.model.specs.Results.{returns}
+use Rattle.model.specs.Results.{add, remove, acknowledged, returns}
 use Rattle.model.specs.WellFormed.{wellFormed}
 use Rattle.model.specs.Histories.{ClockFits}
 use Rattle.model.specs.RecoveryPass.{Visit, nonePrepared, Closing, Readings, leavesReadings, readingsOf}
 use Rattle.model.specs.Turns.{Turn, turnsLeft, LegalTurns}
 use Rattle.model.specs.TwoSheets.{joinedSheet}
-use Rattle.model.specs.TwoCalls.{TwoBytes, sayingTwo, PassingTwo, afterTwo, turnEventTwo, turnAfterTwo}
+use Rattle.model.specs.TwoCalls.{TwoBytes, sayingTwo, PassingTwo, answerTwo, afterTwo, turnEventTwo, turnAfterTwo}
 use Rattle.model.specs.Kinds.{twoKind}
-use Rattle.model.specs.Recovered.{modelTwo, twoRecovered, RecoveredTwo}
+use Rattle.model.specs.Recovered.{Undoes, modelTwo, standingTwo, twoRecovered, RecoveredTwo}
 use Rattle.model.specs.SerialOrder.{callsTwo, begunChecked, serialOrder, serialLine, Serializable}
 use Rattle.call_laws.specs.Lifting.{readable-encoded}
 use Rattle.recovery.specs.PassExists.{recoveryPass}
 use Rattle.turns.specs.Lift.{Faithful, returns-formed-of, demand-3-of, pass-exists-on, pass-told-on, pass-needs-on}
+use Rattle.turns.specs.Undoing.{added-removed-of, removed-added-of}
 use Rattle.serial.specs.Kinds.{checked-serializable-of, serial-bytes-of}
-use Rattle.two_laws.specs.TwoEncoding.{joinedBytes, passing-two, passing-two-good}
+use Rattle.two_laws.specs.TwoEncoding.{joinedBytes, passing-two, passing-two-good, encodedTwo, passing-encoded-two}
 use Rattle.two_turns.specs.Turns.{same-event, turn-stays, same-answer, call-stays}
 
 pub two-faithful : Faithful twoKind
@@ -65,5 +66,16 @@ checked-serializable-two b p z xs legal checked = checked-serializable-of twoKin
 pub serial-bytes-two : (b : TwoBytes) → PassingTwo b → nonePrepared (sayingTwo b .lines) ≡ true → (xs : List Turn) → LegalTurns turnAfterTwo turnEventTwo xs b []
     → all begunChecked (callsTwo xs b) ≡ true → (vs : List Visit) → Closing sayingTwo afterTwo vs (turnsLeft turnAfterTwo xs b)
     → joinedSheet (twoRecovered vs xs b .plain) (twoRecovered vs xs b .bookkeeping)
-    ≡ sheetFor (map (λ (r : Record). serialLine (sayingTwo b .lines) (modelTwo xs b) (serialOrder (callsTwo xs b)) (r .key)) (sayingTwo b .lines)) (sayingTwo b .size)
+    ≡ sheetFor (map (serialLine (sayingTwo b .lines) (modelTwo xs b) (serialOrder (callsTwo xs b))) (standingTwo xs b)) (sayingTwo b .size)
 serial-bytes-two b p z xs legal checked vs c = serial-bytes-of twoKind two-faithful b p z xs legal checked vs c
+
+-- Removing what was added gives both sheets back, and adding what was removed.
+
+same-two-said : (a b : TwoBytes) → PassingTwo a → PassingTwo b → sayingTwo a ≡ sayingTwo b → a ≡ b
+same-two-said a b p q e = sym (passing-encoded-two a p) ∙ (ap encodedTwo e ∙ passing-encoded-two b q)
+
+pub added-removed-two : (k : Key) (b : TwoBytes) → PassingTwo b → answerTwo (add k) b ≡ acknowledged → Undoes twoKind (add k) (remove k) b
+added-removed-two k b p e = added-removed-of twoKind two-faithful same-two-said k b p e
+
+pub removed-added-two : (k : Key) (b : TwoBytes) → PassingTwo b → answerTwo (remove k) b ≡ acknowledged → Undoes twoKind (remove k) (add k) b
+removed-added-two k b p e = removed-added-of twoKind two-faithful same-two-said k b p e

@@ -5,7 +5,7 @@ use Rattle.model.specs.Types.{Transaction, Request}
 use Rattle.types.specs.declared.Request.the-variants as asked
 use Rattle.model.specs.Refusals.{Condition, refusalOf, countBefore, firstAsked}
 use Rattle.model.specs.Writes.{Sheets}
-use Rattle.model.specs.Results.{Call, begin, read, second, put, advance, abort, visit, Answer, refusalIn, Response, answerOf}
+use Rattle.model.specs.Results.{Call, begin, read, second, put, advance, abort, visit, add, remove, Answer, refusalIn, Response, answerOf}
 use Rattle.model.specs.Conditions.{conditions, refusals}
 use Rattle.model.specs.Closing.{closeConditions}
 use Rattle.model.specs.Operations.{Operation, once, close, operationConditions, response, coordinatorLeft}
@@ -41,6 +41,8 @@ conditions-first (once (put t k c)) b = row-first (allConditionsTwo (once (put t
 conditions-first (once (advance t now)) b = row-first (allConditionsTwo (once (advance t now)) b) refl
 conditions-first (once (abort t)) b = row-first (allConditionsTwo (once (abort t)) b) refl
 conditions-first (once (visit k now)) b = row-first (allConditionsTwo (once (visit k now)) b) refl
+conditions-first (once (add k)) b = row-first (allConditionsTwo (once (add k)) b) refl
+conditions-first (once (remove k)) b = row-first (allConditionsTwo (once (remove k)) b) refl
 conditions-first (close t now limit) b = row-first (allConditionsTwo (close t now limit) b) refl
 
 conditions-first-at : (list : List Transaction) (place : ℕ) (q : Request) (b : TwoBytes) → firstAsked (refusalOf (allConditionsAtTwo list place q b)) (allConditionsAtTwo list place q b) ≡ true
@@ -70,6 +72,8 @@ numbers-two (put t k c) b = refl
 numbers-two (advance t now) b = refl
 numbers-two (abort t) b = refl
 numbers-two (visit k now) b = refl
+numbers-two (add k) b = refl
+numbers-two (remove k) b = refl
 
 -- After a refusal.
 

@@ -27,7 +27,8 @@ use Rattle.model.specs.TwoSpares.{joinedLines}
 use Rattle.model.specs.TwoCalls.{TwoBytes, sayingTwo, conditionsOf, PassingTwo, responseTwo, plainLeft, bookkeepingLeft, twoLeft, afterTwo, turnResponseTwo}
 use Rattle.model.specs.TwoCalls.{turnAfterTwo}
 use Rattle.model.specs.Closes.{NextWrite, nothing-more, one-write-more, NextLimitTwo}
-use Rattle.model.specs.AtomicWrites.{OneUnit, lines-of-one-unit, coordinator-only, KeepsOthers, OneUnitTwo, lines-of-one-unit-two, coordinator-only-two}
+use Rattle.model.specs.AtomicWrites.{WithinUnit, lines-of-one-unit, coordinator-only, LinePutIn, OneUnit, within-unit, line-added, line-removed, KeepsOthers, WithinUnitTwo}
+use Rattle.model.specs.AtomicWrites.{lines-of-one-unit-two, coordinator-only-two, BothPutIn, OneUnitTwo, within-unit-two, line-added-two, line-removed-two}
 use Rattle.call_laws.specs.Lifting.{readable-both, readable-good, encoded, encoded-readable, readable-encoded, good-records}
 use Rattle.turns.specs.Operations.{close-sound}
 use Rattle.turns.specs.Turns.{turn-stays-good, turn-stays-readable}
@@ -39,7 +40,7 @@ use Rattle.two_laws.specs.TwoLines.{plainOf, bookkeepingOf, joined-plain-record
 use Rattle.two_laws.specs.TwoLines.{length-bookkeepingLine}
 use Rattle.sheet_laws.specs.Records.{records-read-written}
 use Rattle.sheet_laws.specs.ByIndex.{whole-lines}
-use Rattle.sheet_laws.specs.Fronts.{lines-behind, front-spares}
+use Rattle.sheet_laws.specs.Fronts.{lines-joined, lines-behind, front-spares}
 use Rattle.sheet_laws.specs.Spared.{accepted-whole}
 use Rattle.two_laws.specs.Encoding.{split-join}
 use Rattle.two_laws.specs.SparedJoin.{plain-spare, bookkeeping-spare, joined-spared}
@@ -125,19 +126,51 @@ module _ (w : ℕ) (part : List ℕ → List ℕ) (keyIn : List ℕ → Key)
           let l : length s / recordBytes ≤ i = ltb-false i (length s / recordBytes) e in
           line-past s′ h′ i (omega (arith, n)) ∙ sym (line-past s h i l)
 
+  -- a line put in goes to the parts, at the same index
+  put-in : part (spareLine recordBytes) ≡ spareLine w → 0 < w → (i : ℕ) (s s′ : List ℕ) → whole recordBytes s ≡ true → whole recordBytes s′ ≡ true
+      → LinePutIn recordBytes i s s′ → LinePutIn w i (parts s) (parts s′)
+  put-in spare some i s s′ h h′ x =
+      record {
+        above = map part (x .above);
+        below = map part (x .below);
+        line = part (x .line);
+        index = length-map (x .above) part ∙ x .index;
+        size = size-of s′ h′ ∙ (ap (λ (k : ℕ). k / recordBytes * w) (x .size) ∙ sym (size-of s h));
+        was =
+            lines-joined w some (map part (linesOf recordBytes s)) (all-wide s h)
+            ∙ (ap (map part) (x .was)
+            ∙ (map-append part (x .above) (x .below ++ (spareLine recordBytes ∷ []))
+            ∙ ap (λ (ls : List (List ℕ)). map part (x .above) ++ ls) (map-append part (x .below) (spareLine recordBytes ∷ []) ∙ ap (λ (l : List ℕ). map part (x .below) ++ (l ∷ [])) spare)));
+        is =
+            lines-joined w some (map part (linesOf recordBytes s′)) (all-wide s′ h′)
+            ∙ (ap (map part) (x .is) ∙ map-append part (x .above) (x .line ∷ x .below));
+      }
+
 -- both parts of a record sheet, beside the coordinator sheet
 abbrev apart : Bytes → TwoBytes
 apart b = record { plain = plainPart (b .records); bookkeeping = bookkeepingPart (b .records); coordinator = b .coordinator }
 
 -- a write in one unit goes to both parts in that unit
-unit-apart : (b a : Bytes) → whole recordBytes (b .records) ≡ true → whole recordBytes (a .records) ≡ true → OneUnit b a → OneUnitTwo (apart b) (apart a)
+within-apart : (b a : Bytes) → whole recordBytes (b .records) ≡ true → whole recordBytes (a .records) ≡ true → WithinUnit b a → WithinUnitTwo (apart b) (apart a)
 unfolding plainPart bookkeepingPart
-unit-apart b a h h′ (lines-of-one-unit unit c n f) =
+within-apart b a h h′ (lines-of-one-unit unit c n f) =
     let us = coordinatorOf (b .coordinator) .units in
     lines-of-one-unit-two unit c
     (keeps plainBytes plainLine (λ (l : List ℕ). plainRecord l .key) length-plainLine plain-key us unit (b .records) (a .records) h h′ n f)
     (keeps bookkeepingBytes bookkeepingLine (λ (l : List ℕ). bookkeepingRecord l .key) length-bookkeepingLine bookkeeping-key us unit (b .records) (a .records) h h′ n f)
-unit-apart b a h h′ (coordinator-only e) = coordinator-only-two (ap plainPart e) (ap bookkeepingPart e)
+within-apart b a h h′ (coordinator-only e) = coordinator-only-two (ap plainPart e) (ap bookkeepingPart e)
+
+both-put-in : (i : ℕ) (b a : Bytes) → whole recordBytes (b .records) ≡ true → whole recordBytes (a .records) ≡ true → LinePutIn recordBytes i (b .records) (a .records) → BothPutIn i (apart b) (apart a)
+unfolding plainPart bookkeepingPart
+both-put-in i b a h h′ x = (
+  put-in plainBytes plainLine (λ (l : List ℕ). plainRecord l .key) length-plainLine plain-key plain-spare (omega arith) i (b .records) (a .records) h h′ x,
+  put-in bookkeepingBytes bookkeepingLine (λ (l : List ℕ). bookkeepingRecord l .key) length-bookkeepingLine bookkeeping-key bookkeeping-spare (omega arith) i (b .records) (a .records) h h′ x,
+)
+
+unit-apart : (b a : Bytes) → whole recordBytes (b .records) ≡ true → whole recordBytes (a .records) ≡ true → OneUnit b a → OneUnitTwo (apart b) (apart a)
+unit-apart b a h h′ (within-unit u) = within-unit-two (within-apart b a h h′ u)
+unit-apart b a h h′ (line-added i c x) = line-added-two i c (both-put-in i b a h h′ x)
+unit-apart b a h h′ (line-removed i c x) = line-removed-two i c (both-put-in i a b h′ h x)
 
 pub readable-whole : (b : Bytes) → Readable b → whole recordBytes (b .records) ≡ true
 readable-whole b h = eq-eqb (length (b .records)) (length (b .records) / recordBytes * recordBytes) (accepted-whole (b .records) (readable-both b h .0))
@@ -210,7 +243,7 @@ call-unit-two c b l h = turn-unit-two (single (once c)) b refl l h
 -- A close, "from one limit to the next"
 pub next-limit-two : (t : Transaction) (now limit : ℕ) (b : TwoBytes) → now < 2 ^ 32 → NextLimitTwo t now limit b
 unfolding responseTwo plainLeft bookkeepingLeft coordinatorLeft
-next-limit-two t now limit b fits = next-by OneUnitTwo (twoLeft b) (conditionsOf b) t now limit s (λ h z. go h z (run-next t now limit (joinedBytes b) fits (passing-two b h .readable) z))
+next-limit-two t now limit b fits = next-by WithinUnitTwo (twoLeft b) (conditionsOf b) t now limit s (λ h z. go h z (run-next t now limit (joinedBytes b) fits (passing-two b h .readable) z))
   where
     s : Sheets
     s = sayingTwo b
@@ -226,12 +259,12 @@ next-limit-two t now limit b fits = next-by OneUnitTwo (twoLeft b) (conditionsOf
     whole-at h z m = readable-whole (encoded (run m .sheets)) (encoded-readable (run m .sheets) (good-at h z m) .1)
 
     go : PassingTwo b → refusalOf (closeConditions t s) ≡ 0
-        → NextWrite OneUnit (answerOf (ended (run limit))) (answerOf (ended (run (limit + 1)))) (encoded (run limit .sheets)) (encoded (run (limit + 1) .sheets))
-        → NextWrite OneUnitTwo (answerOf (ended (run limit))) (answerOf (ended (run (limit + 1)))) (twoLeft b (ended (run limit))) (twoLeft b (ended (run (limit + 1))))
+        → NextWrite WithinUnit (answerOf (ended (run limit))) (answerOf (ended (run (limit + 1)))) (encoded (run limit .sheets)) (encoded (run (limit + 1) .sheets))
+        → NextWrite WithinUnitTwo (answerOf (ended (run limit))) (answerOf (ended (run (limit + 1)))) (twoLeft b (ended (run limit))) (twoLeft b (ended (run (limit + 1))))
     go h z (nothing-more e f) =
         nothing-more e (sym (apart-encoded (run (limit + 1) .sheets) (good-at h z (limit + 1))) ∙ (ap apart f ∙ apart-encoded (run limit .sheets) (good-at h z limit)))
     go h z (one-write-more e u) =
         one-write-more e
-        (subst (λ (x : TwoBytes). OneUnitTwo x (encodedTwo (run (limit + 1) .sheets))) (apart-encoded (run limit .sheets) (good-at h z limit))
-        (subst (OneUnitTwo (apart (encoded (run limit .sheets)))) (apart-encoded (run (limit + 1) .sheets) (good-at h z (limit + 1)))
-        (unit-apart (encoded (run limit .sheets)) (encoded (run (limit + 1) .sheets)) (whole-at h z limit) (whole-at h z (limit + 1)) u)))
+        (subst (λ (x : TwoBytes). WithinUnitTwo x (encodedTwo (run (limit + 1) .sheets))) (apart-encoded (run limit .sheets) (good-at h z limit))
+        (subst (WithinUnitTwo (apart (encoded (run limit .sheets)))) (apart-encoded (run (limit + 1) .sheets) (good-at h z (limit + 1)))
+        (within-apart (encoded (run limit .sheets)) (encoded (run (limit + 1) .sheets)) (whole-at h z limit) (whole-at h z (limit + 1)) u)))

@@ -5,7 +5,9 @@ use crate::make::bad_lines::bad_input;
 use crate::make::clients::clients;
 use crate::make::random::Random;
 use crate::make::script::Script;
-use crate::make::scripts::{closed, crowded, damaged, free, halfway, legal, read_in_two, Extent};
+use crate::make::scripts::{
+    added, closed, crowded, damaged, free, halfway, legal, read_in_two, Extent,
+};
 use crate::make::{exports, visits};
 use crate::replay::Layout::{self, Joined, Two};
 use crate::seen::Seen;
@@ -124,7 +126,8 @@ impl Tally {
 
     fn crowded(&mut self, random: &mut Random, layout: Layout) -> Vec<Case> {
         let mut case = || {
-            let script = match random.below(7) {
+            let script = match random.below(9) {
+                7 | 8 => added(random, &mut self.seen, layout),
                 0 | 3 | 4 if layout == Two => read_in_two(random, &mut self.seen),
                 0 => halfway(random, &mut self.seen, layout),
                 1..=3 => closed(random, &mut self.seen, layout),

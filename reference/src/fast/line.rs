@@ -6,7 +6,7 @@ use crate::plain::transaction::Entry;
 use crate::plain::writes::EXPIRED;
 
 /// The columns from the state word on of a line without a record.
-const ABSENT: &[u8; 77] =
+pub const ABSENT: &[u8; 77] =
     b"    ABSENT     0   0        0        0     0   0        0        0          0";
 /// The before fields and the clock of a settled line.
 const SETTLED: &[u8; 39] = b"     0   0        0        0          0";
@@ -15,6 +15,11 @@ const SETTLED: &[u8; 39] = b"     0   0        0        0          0";
 #[inline(always)]
 pub fn is_prepared(line: &[u8; LINE]) -> bool {
     line[24] == b'E'
+}
+
+#[inline(always)]
+pub fn is_absent(line: &[u8; LINE]) -> bool {
+    line[24] == b'A'
 }
 
 #[inline(always)]

@@ -3,6 +3,7 @@
 //! Every call checks both sheets in one pass, finds lines by halves and writes only the columns that change. Where the spares
 //! begin is found from the end, and what is below isn't looked at again.
 
+mod adding;
 mod coordinator;
 mod held;
 mod line;
@@ -11,6 +12,8 @@ mod search;
 mod steps;
 mod tables;
 mod text;
+
+pub use adding::{add, remove};
 
 use crate::plain::coordinator::Decision;
 use crate::plain::key::Key;

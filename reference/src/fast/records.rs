@@ -7,7 +7,7 @@ const MOST_LINES: usize = 500;
 const LANES: usize = 16;
 
 /// A spare, compared as a whole.
-const SPARE: [u8; LINE] = {
+pub const SPARE: [u8; LINE] = {
     let mut line = [b' '; LINE];
     line[LINE - 1] = b'\n';
     line

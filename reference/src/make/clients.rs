@@ -1,6 +1,7 @@
 //! Histories of clients that keep lists of transactions: calls by place, crashes that lose a list, and closing visits. On two
 //! sheets a client keeps beside its list what the first call of a read was answered.
 
+use super::adding::add_or_remove;
 use super::arguments::close_keys;
 use super::closing::{close, own_close};
 use super::expiry::{without_reading, Stop};
@@ -58,9 +59,12 @@ pub fn clients(
     clients.turns(random, seen, calls);
     let inside = clients.close(random, seen);
     seen.clients.note(layout, &clients.model);
-    if inside && clients.sheets.joined().records != clients.model.sheet() {
+    let difference = clients.model.difference(&clients.store.records);
+    if let (true, Some(key)) = (inside, difference) {
         let sheets = &clients.sheets;
-        return Err(format!("not the sequential model's sheet\n{sheets}"));
+        return Err(format!(
+            "not the sequential model's line of {key:?}\n{sheets}"
+        ));
     }
     Ok(ClientHistory {
         sheets: LaidOut::of(layout, sheets),
@@ -87,7 +91,7 @@ fn first(random: &mut Random, extent: Extent) -> (Sheets, usize) {
     if random.once_in(3) {
         sheets.part_units();
     }
-    end_in_spares(random, 4, &mut sheets);
+    end_in_spares(random, 2, &mut sheets);
     (sheets, calls)
 }
 
@@ -125,6 +129,14 @@ impl Clients {
             self.firsts.retain(|(other, _), _| *other != client);
             return self.turns.push(Turn::Crash { client });
         }
+        if random.once_in(10) {
+            let call = match add_or_remove(random, &self.held(), &self.store) {
+                Request::Add { key } => Call::Add { key },
+                Request::Remove { key } => Call::Remove { key },
+                request => panic!("{request:?}"),
+            };
+            return self.make(seen, client, call);
+        }
         let list = &self.lists[client];
         let place = some_place(random, list.len());
         let named = list.get(place).copied().unwrap_or(unused());
@@ -135,6 +147,13 @@ impl Clients {
             asked = no_call(random, self.sheets.layout(), asked);
         }
         self.make(seen, client, Call::At { place, asked });
+    }
+
+    /// The keys that the lists' transactions hold.
+    fn held(&self) -> Vec<Key> {
+        let at_work = self.lists.iter().flatten().filter(|t| t.phase != DONE);
+        let held = at_work.flat_map(|t| t.held());
+        held.map(|entry| entry.key).collect()
     }
 
     /// The close of this number in the list that still has it, if there is one.
@@ -174,7 +193,7 @@ impl Clients {
             list: before.clone(),
         };
         let answer = by_plain(&call, &mut lent);
-        seen.note_call(&call, &before, answer, &lent);
+        seen.note_call(&call, &self.sheets, &before, answer, &lent);
         let Lent { sheets, list } = lent;
         let written = Written::told(&self.sheets, &sheets, written_by_plain);
         if let Some(written) = written {
@@ -204,7 +223,7 @@ impl Clients {
         }
     }
 
-    /// Tells the model of an accepted call by place. Of a visit it needn't know.
+    /// Tells the model of an accepted call by place. Of the others it needn't know.
     fn note(&mut self, asked: &Asked, taken: &Transaction, returned: &Transaction) {
         let request = asked.request(self.sheets.layout(), *taken);
         let request = request.expect("it was accepted");

@@ -1,5 +1,6 @@
 //! Exported calls out of random histories or from nowhere, at times on damaged or forged sheets.
 
+use super::adding::{self, add_or_remove};
 use super::arguments::{sought_key, target};
 use super::closes;
 use super::expiry::clock_for_step;
@@ -29,7 +30,7 @@ const MANY_LINES: Size = Size {
     issued: 0,
 };
 
-/// The history's next call, by place unless it is a visit, and what it is lent.
+/// The history's next call, by place if it takes a transaction, and what it is lent.
 pub fn next(random: &mut Random, layout: Layout, history: &mut History) -> (Call, Lent) {
     let Event {
         request, before, ..
@@ -39,11 +40,12 @@ pub fn next(random: &mut Random, layout: Layout, history: &mut History) -> (Call
 }
 
 /// A call with a transaction that was forged for sheets of its own, a close of an order there, among others such, or a call
-/// that comes upon an order half-way.
+/// that comes upon an order half-way, or one of an order that has lost a key.
 pub fn from_nowhere(random: &mut Random, layout: Layout) -> (Call, Lent) {
-    let (request, sheets) = match random.below(10) {
+    let (request, sheets) = match random.below(12) {
         0 | 1 => closes::of_order(random, layout),
         2 => on_halfway(random, layout),
+        3 => too_late(random, layout),
         _ => on_crowded(random, layout),
     };
     let call = exported(random, layout, &request, &[], sheets);
@@ -70,7 +72,7 @@ fn on_crowded(random: &mut Random, layout: Layout) -> (Request, Sheets) {
             }
         }
         6 | 7 => closes::of_forged(random, &sheets),
-        8 if layout == Layout::Two => crossed(random, &store),
+        8 | 9 if layout == Layout::Two => crossed(random, &store),
         _ => stray(random, &[], &store),
     };
     (request, sheets)
@@ -83,6 +85,22 @@ fn on_halfway(random: &mut Random, layout: Layout) -> (Request, Sheets) {
     (halfway::asking(random, &sheets), sheets)
 }
 
+/// A step of an order that has lost a key, or any call where none may go.
+fn too_late(random: &mut Random, layout: Layout) -> (Request, Sheets) {
+    let mut sheets = adding::roomy(random);
+    letters(random, layout, &mut sheets);
+    let mut before = sheets.clone();
+    let calls = adding::too_late(random, &mut sheets);
+    let Some((step, others)) = calls.split_last() else {
+        return (stray(random, &[], &before.store()), before);
+    };
+    for call in others {
+        // An order may have no other line to prepare.
+        before.ask_either_case(*call).ok();
+    }
+    (*step, before)
+}
+
 /// A check of sheets of every kind.
 pub fn check(random: &mut Random, layout: Layout) -> (Call, Lent) {
     let sheets = any_sheets(random, layout);
@@ -93,6 +111,15 @@ pub fn check(random: &mut Random, layout: Layout) -> (Call, Lent) {
 pub fn lookup(random: &mut Random, layout: Layout) -> (Call, Lent) {
     let (key, sheets) = sought(random, layout);
     (Call::Lookup { key }, without_list(sheets))
+}
+
+/// An adding or a removing, at times on damaged sheets.
+pub fn added(random: &mut Random, layout: Layout) -> (Call, Lent) {
+    let mut sheets = adding::with_room(random);
+    letters(random, layout, &mut sheets);
+    let request = add_or_remove(random, &[], &sheets.store());
+    let call = exported(random, layout, &request, &[], sheets);
+    spoilt(random, 5, call)
 }
 
 pub fn rank(random: &mut Random, layout: Layout) -> Ranked {
@@ -157,6 +184,8 @@ fn exported(
             key: *key,
             now: *now,
         },
+        Request::Add { key } => Call::Add { key: *key },
+        Request::Remove { key } => Call::Remove { key: *key },
         Request::Begin { .. } if layout == Layout::Joined && random.once_in(3) => Call::Begin,
         _ => {
             let asked = asked(random, request, &store.records);

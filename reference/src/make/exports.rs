@@ -2,7 +2,7 @@
 
 use super::any;
 use super::conversions::conversion;
-use super::exported::{check, from_nowhere, lookup, next, rank, without_list};
+use super::exported::{added, check, from_nowhere, lookup, next, rank, without_list};
 use super::history::{History, Rule};
 use super::random::Random;
 use super::sheets::{of_size, Mix, Size};
@@ -20,12 +20,13 @@ const FULL: Size = Size {
     issued: 950,
 };
 
-/// Calls from nowhere, the calls of a history, checks of sheets of every kind and look-ups, and what has a function for the
-/// joined sheet only: sheets to numbers and back, what was written, and the version.
+/// Calls from nowhere, the calls of a history, checks of sheets of every kind, look-ups, adding and removing, and what has a
+/// function for the joined sheet only: sheets to numbers and back, what was written, and the version.
 pub fn cases(random: &mut Random, seen: &mut Seen, layout: Layout) -> Vec<Case> {
     let mut cases = by_place(random, layout, 250, 150);
     cases.extend((0..300).map(|_| case(check(random, layout))));
     cases.extend(looked_up(random, layout));
+    cases.extend((0..80).map(|_| case(added(random, layout))));
     if layout == Layout::Joined {
         cases.extend((0..250).map(|_| {
             let (conversion, lent) = conversion(random);
@@ -40,6 +41,7 @@ pub fn cases(random: &mut Random, seen: &mut Seen, layout: Layout) -> Vec<Case> 
 pub fn cases_by_place(random: &mut Random, seen: &mut Seen, layout: Layout) -> Vec<Case> {
     let mut cases = by_place(random, layout, 900, 200);
     cases.extend(looked_up(random, layout));
+    cases.extend((0..40).map(|_| case(added(random, layout))));
     if layout == Layout::Joined {
         cases.extend(told(random));
     }

@@ -1,5 +1,6 @@
 //! Random histories: several clients that take turns on the same sheets, stop at any time and send strange requests.
 
+use super::adding::add_or_remove;
 use super::arguments::close_keys;
 use super::closing::own_close;
 use super::random::Random;
@@ -7,6 +8,7 @@ use super::requests::{begin, stray, Client};
 use super::sheets::{with_keys, Mix, Size};
 use super::spares::end_in_spares;
 use super::Sheets;
+use crate::plain::key::Key;
 use crate::plain::request::{Answer, Request};
 use crate::plain::transaction::{Reading, Transaction, DONE, OPEN};
 
@@ -66,7 +68,7 @@ impl History {
         if random.once_in(3) {
             sheets.part_units();
         }
-        end_in_spares(random, 4, &mut sheets);
+        end_in_spares(random, 2, &mut sheets);
         History::on(random, rule, sheets)
     }
 
@@ -83,6 +85,15 @@ impl History {
     /// States that calls returned, the last ones last.
     pub fn states(&self) -> &[Transaction] {
         &self.old
+    }
+
+    /// The keys that clients at work hold.
+    fn held(&self) -> Vec<Key> {
+        let clients = self.clients.iter().flatten();
+        let transactions = clients.map(|client| &client.transaction);
+        let at_work = transactions.filter(|t| t.phase != DONE);
+        let held = at_work.flat_map(|t| t.held());
+        held.map(|entry| entry.key).collect()
     }
 
     /// Makes the next call that the rule allows.
@@ -149,6 +160,9 @@ impl History {
 
     fn request(&mut self, random: &mut Random) -> Request {
         let store = self.sheets.store();
+        if random.once_in(10) {
+            return add_or_remove(random, &self.held(), &store);
+        }
         let place = random.below(self.clients.len());
         // In a free history most calls come from nowhere: each tries a state that clients seldom reach.
         let strays = match self.rule {

@@ -82,12 +82,16 @@ pub fn asked(random: &mut Random, request: &Request, records: &[Record]) -> Aske
         Request::Put { key, columns, .. } => (asked.key, asked.columns) = (key, columns),
         Request::Advance { now, .. } => asked.now = now,
         Request::Close { now, limit, .. } => (asked.now, asked.limit) = (now, limit),
-        Request::Begin { .. } | Request::Abort { .. } | Request::Visit { .. } => {}
+        Request::Begin { .. }
+        | Request::Abort { .. }
+        | Request::Visit { .. }
+        | Request::Add { .. }
+        | Request::Remove { .. } => {}
     }
     asked
 }
 
-/// The number of a request's call; any of a visit, which isn't by place.
+/// The number of a request's call; any of one that isn't by place.
 fn number_of(request: &Request) -> u32 {
     match request {
         Request::Begin {
@@ -97,7 +101,10 @@ fn number_of(request: &Request) -> u32 {
         Request::Read { .. } => by_place::READ,
         Request::Put { .. } => by_place::PUT,
         Request::Advance { .. } => by_place::ADVANCE,
-        Request::Abort { .. } | Request::Visit { .. } => by_place::ABORT,
+        Request::Abort { .. }
+        | Request::Visit { .. }
+        | Request::Add { .. }
+        | Request::Remove { .. } => by_place::ABORT,
         Request::Close { .. } => by_place::CLOSE,
         Request::Second { .. } => by_place::SECOND,
     }

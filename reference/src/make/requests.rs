@@ -1,5 +1,6 @@
 //! What clients ask for: the next call of a transaction, or one that comes from nowhere.
 
+use super::adding::add_or_remove;
 use super::arguments::{any_key, clock_for, columns, first_columns, limit, prepared};
 use super::expiry::clock_for_step;
 use super::random::Random;
@@ -98,11 +99,13 @@ pub fn begin(random: &mut Random) -> Request {
     }
 }
 
-/// A visit, or a call with a transaction made of one of these, which nobody may hand on now.
+/// A visit, an adding or a removing, or a call with a transaction made of one of these, which nobody may hand on now.
 pub fn stray(random: &mut Random, old: &[Transaction], store: &Store) -> Request {
     let records = &store.records;
-    if random.once_in(3) {
-        return visit(random, records);
+    match random.below(12) {
+        0..=3 => return visit(random, records),
+        4 => return add_or_remove(random, &[], store),
+        _ => {}
     }
     let old = match old.len() {
         0 => Transaction::begun(1, true),

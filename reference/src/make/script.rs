@@ -7,7 +7,7 @@ use crate::plain::{coordinator, record};
 use crate::replay::laid_out::LaidOut;
 use crate::replay::line::{Line, SLOTS};
 use crate::replay::{self, state::ReplayState, Layout, MOST_BYTES};
-use crate::seen::Seen;
+use crate::seen::{Removed, Seen};
 
 /// Slots from here on are for forged transactions, those below for begun ones.
 const FORGED: usize = 12;
@@ -18,6 +18,8 @@ pub struct Script {
     /// How many lines are calls.
     pub calls: u64,
     answers: Vec<u8>,
+    /// Keys that slots held while they were removed.
+    pub removed: Removed,
     begun: usize,
     forged: usize,
 }
@@ -39,6 +41,7 @@ impl Script {
             state: ReplayState::new(sheets),
             calls: 0,
             answers: Vec::new(),
+            removed: Removed::default(),
             begun: 0,
             forged: 0,
         }
@@ -69,8 +72,13 @@ impl Script {
         let before = self.state.sheets.clone();
         let request = line.and_then(|line| self.state.request(&line));
         let taken = request.as_ref().and_then(|(_, request)| request.taken());
+        let slot = request.as_ref().and_then(|(slot, _)| *slot);
         let reply = replay::reply(&mut self.state, text);
-        self.calls += u64::from(seen.note(line.as_ref(), taken, &reply, &before));
+        let removed = self.removed.of(slot);
+        self.calls += u64::from(seen.note(line.as_ref(), taken, &removed, &reply, &before));
+        if let Some(line) = &line {
+            self.removed.note(line, &reply, &self.state.slots);
+        }
         self.input.extend(text);
         self.input.push(b'\n');
         self.answers.extend(reply.printed());
@@ -105,6 +113,8 @@ impl Script {
             Request::Abort { .. } => Line::Abort { slot },
             Request::Close { now, limit, .. } => Line::Close { slot, now, limit },
             Request::Visit { key, now } => Line::Visit { key, now },
+            Request::Add { key } => Line::Add { key },
+            Request::Remove { key } => Line::Remove { key },
         };
         self.add(seen, line);
     }

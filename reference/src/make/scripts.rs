@@ -1,7 +1,8 @@
 //! Scripts of several kinds: demand 3's lists with the sequential model, lists of any calls, orders closed write by write,
-//! orders that stopped half-way, and calls on damaged sheets.
+//! orders that stopped half-way or whose keys come and go, and calls on damaged sheets.
 
-use super::arguments::{any_key, clock, limit, sought_key};
+use super::adding;
+use super::arguments::{any_key, clock, key_of, limit, sought_key};
 use super::bad_lines::bad_line;
 use super::closes;
 use super::closing::close;
@@ -85,6 +86,7 @@ pub fn legal(
 ) -> Result<Script, String> {
     let (mut history, calls) = history(random, Rule::Legal, extent);
     letters(random, layout, &mut history.sheets);
+    let first = history.sheets.store();
     let mut list = LegalList::new(layout, history);
     list.steps(random, seen, calls);
     let inside = list.close(random, seen);
@@ -92,8 +94,14 @@ pub fn legal(
         mut script, model, ..
     } = list;
     let joined = script.joined();
-    if inside && joined.records != model.sheet() {
-        return Err(format!("not the sequential model's sheet\n{joined}"));
+    if inside {
+        if let Some(key) = model.difference(&joined.store().records) {
+            return Err(format!(
+                "not the sequential model's line of {key:?}\n{joined}"
+            ));
+        }
+        seen.lists
+            .note_keys(&first, &joined.store(), &script.removed);
     }
     script.show_all(seen, random.once_in(3));
     Ok(script)
@@ -191,6 +199,35 @@ pub fn crowded(random: &mut Random, seen: &mut Seen, layout: Layout) -> Script {
     script
 }
 
+/// Orders whose keys come and go, or only that, on sheets of every kind.
+pub fn added(random: &mut Random, seen: &mut Seen, layout: Layout) -> Script {
+    let with_orders = random.once_in(2);
+    let mut sheets = match with_orders {
+        true => adding::roomy(random),
+        false => adding::with_room(random),
+    };
+    if random.once_in(2) {
+        letters(random, layout, &mut sheets);
+    }
+    let mut script = Script::new(layout, &sheets);
+    for _ in 0..3 {
+        let requests = match with_orders {
+            true => adding::calls(random, &mut sheets),
+            false => adding::alone(random, &mut sheets),
+        };
+        for request in requests {
+            script.ask(seen, &request);
+        }
+        if with_orders {
+            for request in adding::too_late(random, &mut sheets) {
+                script.ask(seen, &request);
+            }
+        }
+    }
+    script.show_all(seen, false);
+    script
+}
+
 /// Orders of many groups, each closed by some writes at a time, with other calls between. The first is under way already.
 pub fn closed(random: &mut Random, seen: &mut Seen, layout: Layout) -> Script {
     let mut sheets = sheets::spread(random);
@@ -252,6 +289,11 @@ fn beside(random: &mut Random, seen: &mut Seen, script: &mut Script, history: &H
             return unfit(random, seen, script, &good);
         }
         14 => Line::Sheets,
+        16 | 17 => {
+            let key = any_key(random, &history.sheets.store().records);
+            let good = random.pick(&[Line::Add { key }, Line::Remove { key }]);
+            return unfit(random, seen, script, &good);
+        }
         15 => {
             let line = foreign(random, script.layout(), &history.sheets.store().records);
             return script.say(seen, line.to_string().as_bytes());
@@ -321,7 +363,7 @@ pub fn damaged(random: &mut Random, seen: &mut Seen, layout: Layout) -> Script {
         let key = any_key(random, records);
         let now = clock(random, records);
         let limit = limit(random);
-        match random.below(12) {
+        match random.below(14) {
             0 => script.add(seen, random.pick(&[Line::Check, Line::Sheets])),
             1 => script.add(seen, looked_up(random, 4, layout, records)),
             2 => script.add(seen, Line::Visit { key, now }),
@@ -330,6 +372,17 @@ pub fn damaged(random: &mut Random, seen: &mut Seen, layout: Layout) -> Script {
             5 => any_line(random, seen, &mut script, &Line::Abort { slot }),
             6 => any_line(random, seen, &mut script, &Line::Sheets),
             7 => any_line(random, seen, &mut script, &Line::Close { slot, now, limit }),
+            8 => {
+                let key = key_of(random, 4, records);
+                script.add(
+                    seen,
+                    random.pick(&[Line::Add { key }, Line::Remove { key }]),
+                );
+            }
+            9 => {
+                let line = random.pick(&[Line::Add { key }, Line::Remove { key }]);
+                any_line(random, seen, &mut script, &line);
+            }
             _ => script.ask(seen, &stray(random, &[], &store)),
         }
     }

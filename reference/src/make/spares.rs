@@ -59,7 +59,7 @@ pub fn misplace(random: &mut Random, sheet: &mut Vec<u8>, width: usize) {
         return;
     }
     let start = random.below(lines) * width;
-    match random.below(12) {
+    match random.below(16) {
         0..=2 => drop(sheet.splice(start..start, spare(width))),
         3 => sheet[start..start + width].copy_from_slice(&spare(width)),
         4..=8 => {
@@ -68,7 +68,7 @@ pub fn misplace(random: &mut Random, sheet: &mut Vec<u8>, width: usize) {
         }
         9 => sheet.extend(spare(width)),
         10 => blank_all(sheet, width),
-        _ => fill_up(sheet, width, MOST_LINES + random.below(2)),
+        _ => fill_up(sheet, width, MOST_LINES + random.pick(&[0, 1, 1, 1])),
     }
 }
 

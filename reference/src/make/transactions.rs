@@ -87,7 +87,7 @@ fn places(random: &mut Random, t: &Transaction, store: &Store) -> usize {
 }
 
 /// A number that the phase goes with, most often one that has prepared a line.
-fn number_for(random: &mut Random, phase: u32, store: &Store) -> Option<u32> {
+pub fn number_for(random: &mut Random, phase: u32, store: &Store) -> Option<u32> {
     let fits = |number: &u32| match phase {
         FINISH => store.decision(*number) == Decision::Committed,
         UNDO => store.decision(*number) == Decision::Aborted,

@@ -81,6 +81,9 @@ impl Run<'_> {
     /// Reads a line in one call or two. The second brings the columns that the first found, most often.
     fn read(&mut self, random: &mut Random) {
         let records = self.sheets.store().records;
+        if records.is_empty() {
+            return;
+        }
         let line = random.pick(&records);
         let (key, now) = (line.key, random.figure(0, u32::MAX));
         if !random.once_in(4) {

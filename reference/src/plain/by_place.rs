@@ -144,7 +144,7 @@ fn number_of(answer: &Answer) -> u64 {
     match answer {
         Answer::Read(_, reading) => number_of_reading(reading),
         Answer::Closed(_, writes) => u64::from(*writes),
-        Answer::Returned(_) | Answer::Visited(_) => 0,
+        Answer::Returned(_) | Answer::Visited(_) | Answer::Done => 0,
     }
 }
 

@@ -1,6 +1,7 @@
-//! The calls on the records of accepted sheets; of these `close` stands apart. Refusals come in the order of their table, and
-//! a refused call's changes to the records are dropped.
+//! The calls on the records of accepted sheets; of these `close`, `add` and `remove` stand apart. Refusals come in the order of
+//! their table, and a refused call's changes to the records are dropped.
 
+pub use super::adding::{add, remove};
 pub use super::close::close;
 
 use super::key::Key;

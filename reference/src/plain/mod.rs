@@ -1,5 +1,6 @@
 //! The paper read field by field, without regard to speed.
 
+pub mod adding;
 pub mod by_place;
 pub mod calls;
 pub mod close;
@@ -60,10 +61,16 @@ pub const VERSION_SPENT: u32 = 11;
 pub const BUSY: u32 = 12;
 /// The two sheets differ in number of lines or in a key, or a spare stands beside a record line.
 pub const SHEETS_DIFFER: u32 = 13;
+/// A key to be added has a line.
+pub const KEY_HAS_LINE: u32 = 14;
+/// No spare is left for a line to be added.
+pub const NO_SPARE: u32 = 15;
+/// A line to be removed isn't ABSENT of version 0.
+pub const NOT_REMOVABLE: u32 = 16;
 
-/// The version of the functions for C: 2.2.0.
+/// The version of the functions for C: 2.3.0.
 pub fn version() -> u32 {
-    20_200
+    20_300
 }
 
 /// 0 where both sheets are accepted, else the refusal.

@@ -62,6 +62,17 @@ impl Image {
 }
 
 impl Record {
+    /// The line of a key under which nothing was ever written. A key without a line counts as this one.
+    pub fn absent(key: Key) -> Record {
+        Record {
+            key,
+            state: State::Absent,
+            image: NOTHING,
+            before: NOTHING,
+            prepare_clock: 0,
+        }
+    }
+
     /// Whether the line could stand alone in a sheet: its ranges and the rule of its state.
     pub fn keeps_rules(&self) -> bool {
         self.in_range() && self.keeps_state_rule()

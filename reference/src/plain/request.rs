@@ -44,6 +44,12 @@ pub enum Request {
         key: Key,
         now: u32,
     },
+    Add {
+        key: Key,
+    },
+    Remove {
+        key: Key,
+    },
 }
 
 #[derive(Clone, Copy, Debug, PartialEq, Eq)]
@@ -52,6 +58,8 @@ pub enum Answer {
     Returned(Transaction),
     Read(Transaction, Reading),
     Visited(Visit),
+    /// Of add and remove, which have nothing to tell.
+    Done,
     /// With the number of writes made.
     Closed(Transaction, u32),
 }
@@ -114,6 +122,8 @@ impl Request {
             } => calls::close(store, transaction, now, limit)
                 .map(|(transaction, writes)| Answer::Closed(transaction, writes)),
             Request::Visit { key, now } => calls::visit(store, key, now).map(Answer::Visited),
+            Request::Add { key } => calls::add(store, key).map(|()| Answer::Done),
+            Request::Remove { key } => calls::remove(store, key).map(|()| Answer::Done),
         }
     }
 
@@ -126,7 +136,10 @@ impl Request {
             | Request::Advance { transaction, .. }
             | Request::Abort { transaction }
             | Request::Close { transaction, .. } => Some(transaction),
-            Request::Begin { .. } | Request::Visit { .. } => None,
+            Request::Begin { .. }
+            | Request::Visit { .. }
+            | Request::Add { .. }
+            | Request::Remove { .. } => None,
         }
     }
 }
@@ -138,7 +151,7 @@ impl Answer {
             Answer::Returned(transaction)
             | Answer::Read(transaction, _)
             | Answer::Closed(transaction, _) => Some(transaction),
-            Answer::Visited(_) => None,
+            Answer::Visited(_) | Answer::Done => None,
         }
     }
 }

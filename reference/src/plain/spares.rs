@@ -1,5 +1,5 @@
-//! Spares: the blank lines that a sheet of records may end in, so that a line can be added later. They count among its lines,
-//! stand for no record, and every call leaves them where they are.
+//! Spares: the blank lines that a sheet of records may end in, so that a line can be added later. They count among its lines and
+//! stand for no record. Adding uses one up, removing makes one, and every other call leaves them where they are.
 
 use super::record::MOST_LINES;
 

@@ -33,7 +33,7 @@ pub fn to_validate(t: &Transaction, coordinator: &Coordinator) -> Vec<Entry> {
 
 /// Whether the entry's line is there and still as it was read. Its columns tell more than its version where both were read
 /// apart.
-fn condition(store: &Store, entry: &Entry) -> bool {
+pub fn condition(store: &Store, entry: &Entry) -> bool {
     if !store.has_line(&entry.key) {
         return false;
     }

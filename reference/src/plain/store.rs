@@ -11,6 +11,8 @@ use super::{require, BAD_COORDINATOR, BAD_RECORDS, BUSY, SHEETS_DIFFER};
 pub struct Store {
     /// The record lines. What the sheet has below them is spares.
     pub records: Vec<Record>,
+    /// How many lines the sheet has, spares counted.
+    pub lines: usize,
     pub coordinator: Coordinator,
 }
 
@@ -35,16 +37,18 @@ impl Store {
 
     /// The same with small letters, as two sheets join to it.
     pub fn read_either_case(records: &[u8], coordinator: &[u8]) -> Result<Store, u32> {
+        let lines = records.len() / record::LINE;
         let records = record::read_sheet(records).ok_or(BAD_RECORDS)?;
-        Store::with(records, coordinator)
+        Store::with(records, lines, coordinator)
     }
 
-    /// These records and the coordinator's of a sheet, or refusal 2.
-    fn with(records: Vec<Record>, coordinator: &[u8]) -> Result<Store, u32> {
+    /// These records of so many lines and the coordinator's of a sheet, or refusal 2.
+    fn with(records: Vec<Record>, lines: usize, coordinator: &[u8]) -> Result<Store, u32> {
         let coordinator = coordinator::read_either_case(coordinator);
         let coordinator = coordinator.ok_or(BAD_COORDINATOR)?;
         let store = Store {
             records,
+            lines,
             coordinator,
         };
         require(store.names_issued_only(), BAD_COORDINATOR)?;
@@ -54,8 +58,9 @@ impl Store {
     /// The joined records of two accepted sheets and the coordinator's, or refusal 1, 2 or 13. Where the sheets don't join,
     /// the numbers that the bookkeeping sheet names are asked for all the same.
     pub fn read_two(plain: &[u8], bookkeeping: &[u8], coordinator: &[u8]) -> Result<Store, u32> {
+        let lines = plain.len() / two_sheets::PLAIN_LINE;
         let (records, join) = two_sheets::read(plain, bookkeeping).ok_or(BAD_RECORDS)?;
-        let store = Store::with(records, coordinator)?;
+        let store = Store::with(records, lines, coordinator)?;
         require(join, SHEETS_DIFFER)?;
         Ok(store)
     }
@@ -77,6 +82,11 @@ impl Store {
     pub fn write_two(&self, plain: &mut [u8], bookkeeping: &mut [u8], coordinator: &mut [u8]) {
         two_sheets::write(plain, bookkeeping, &self.records);
         coordinator::write_sheet(coordinator, &self.coordinator);
+    }
+
+    /// How many spares the sheet has.
+    pub fn spares(&self) -> usize {
+        self.lines - self.records.len()
     }
 
     /// The place of the key's line, or refusal 5 or 6.

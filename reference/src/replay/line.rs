@@ -48,6 +48,12 @@ pub enum Line {
         key: Key,
         now: u32,
     },
+    Add {
+        key: Key,
+    },
+    Remove {
+        key: Key,
+    },
     /// Where a key stands.
     Lookup {
         key: Key,
@@ -101,6 +107,8 @@ impl Line {
                 key: key_of(key)?,
                 now: *now,
             },
+            (b"add", key) => Line::Add { key: key_of(key)? },
+            (b"remove", key) => Line::Remove { key: key_of(key)? },
             (b"lookup", key) => Line::Lookup { key: key_of(key)? },
             (b"line", [sheet, key @ ..]) if key.len() == 5 => Line::LineOf {
                 sheet: Some(*sheet),
@@ -216,6 +224,8 @@ impl fmt::Display for Line {
             Line::Abort { slot } => write!(out, "abort {slot}"),
             Line::Close { slot, now, limit } => write!(out, "close {slot} {now} {limit}"),
             Line::Visit { key: k, now } => write!(out, "visit {} {now}", key(k)),
+            Line::Add { key: k } => write!(out, "add {}", key(k)),
+            Line::Remove { key: k } => write!(out, "remove {}", key(k)),
             Line::Lookup { key: k } => write!(out, "lookup {}", key(k)),
             Line::LineOf { sheet, key: k } => match sheet {
                 Some(sheet) => write!(out, "line {sheet} {}", key(k)),

@@ -87,7 +87,7 @@ impl ReplayState {
             (_, Answer::Closed(t, writes)) => Reply::Closed(t, writes),
             (Request::Begin { .. }, Answer::Returned(t)) => Reply::Begun(t.number),
             (Request::Advance { .. }, Answer::Returned(t)) => Reply::Advanced(t),
-            (_, Answer::Returned(_)) => Reply::Done,
+            (_, Answer::Returned(_) | Answer::Done) => Reply::Done,
         }
     }
 
@@ -96,6 +96,8 @@ impl ReplayState {
         Some(match *line {
             Line::Begin { slot, serializable } => (Some(slot), Request::Begin { serializable }),
             Line::Visit { key, now } => (None, Request::Visit { key, now }),
+            Line::Add { key } => (None, Request::Add { key }),
+            Line::Remove { key } => (None, Request::Remove { key }),
             Line::Read { slot, .. }
             | Line::Second { slot, .. }
             | Line::Put { slot, .. }

@@ -1,21 +1,25 @@
 //! How often each call gave each answer.
 
+use std::collections::BTreeSet;
 use std::fmt;
 
 /// A call and the refusals that it can give, 0 among them where it can be accepted.
 pub type Row = (&'static str, &'static [usize]);
 
+/// Acceptance and the numbers of all refusals.
+const NUMBERS: usize = 17;
+
 pub struct Answers {
     rows: &'static [Row],
     /// Accepted calls at 0, refused ones at the number of the refusal.
-    counts: Vec<[u64; 14]>,
+    counts: Vec<[u64; NUMBERS]>,
 }
 
 impl Answers {
     pub fn new(rows: &'static [Row]) -> Answers {
         Answers {
             rows,
-            counts: vec![[0; 14]; rows.len()],
+            counts: vec![[0; NUMBERS]; rows.len()],
         }
     }
 
@@ -55,15 +59,17 @@ impl fmt::Display for Answers {
         let widest = self.rows.iter().map(|(call, _)| call.len()).max();
         let width = widest.unwrap_or(0).max(7) + 2;
         write!(out, "{:<width$}{:>9}", "refusal", "none")?;
-        let most = self.rows.iter().flat_map(|(_, refusals)| *refusals).max();
-        let most = most.copied().unwrap_or(0);
-        for number in 1..=most {
+        // The numbers that some call of the table can be refused with.
+        let numbers = self.rows.iter().flat_map(|(_, refusals)| *refusals);
+        let mut numbers: BTreeSet<usize> = numbers.copied().collect();
+        numbers.remove(&0);
+        for number in &numbers {
             write!(out, "{number:>8}")?;
         }
         for ((call, _), counts) in self.rows.iter().zip(&self.counts) {
             write!(out, "\n{call:<width$}{:>9}", count(counts[0]))?;
-            for number in &counts[1..=most] {
-                write!(out, "{:>8}", count(*number))?;
+            for number in &numbers {
+                write!(out, "{:>8}", count(counts[*number]))?;
             }
         }
         Ok(())

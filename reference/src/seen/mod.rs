@@ -1,6 +1,8 @@
 //! What a comparison has seen: every refusal of every call, every step from phase to phase, every report of a close, where
-//! keys stood, which sheets had spares, and where it mattered that a number has several lines, counted.
+//! keys stood, which sheets had spares, where lines were added and removed, and where it mattered that a number has several
+//! lines, counted.
 
+mod adding;
 mod answers;
 mod by_place;
 mod clients;
@@ -17,12 +19,17 @@ use crate::compare::ranked::Ranked;
 use crate::compare::Case;
 use crate::conversions::Conversion;
 use crate::exported::{refusal_of, Call, Lent};
+use crate::plain::by_place::ADVANCE;
+use crate::plain::key::Key;
 use crate::plain::transaction::Transaction;
 use crate::plain::visitor;
 use crate::replay::laid_out::LaidOut;
 use crate::replay::line::Line;
 use crate::replay::reply::Reply;
 use crate::replay::Layout;
+pub use adding::Removed;
+
+use adding::{Adding, Change};
 use answers::{count, Answers, Row};
 use by_place::ByPlace;
 use clients::Clients;
@@ -47,6 +54,8 @@ const LINES: &[Row] = &[
     ("visit", &[0, 1, 2, 5, 6, 12]),
     ("lookup", &[0, 1, 5]),
     ("line", &[0]),
+    ("add", &[0, 1, 2, 5, 14, 15]),
+    ("remove", &[0, 1, 2, 5, 6, 16]),
 ];
 
 /// The functions for C but those by place.
@@ -55,6 +64,8 @@ const EXPORTED: &[Row] = &[
     ("visit", &[0, 1, 2, 5, 6, 12]),
     ("lookup", &[0, 1, 5, 6]),
     ("rank", &[0, 1, 5]),
+    ("add", &[0, 1, 2, 5, 14, 15]),
+    ("remove", &[0, 1, 2, 5, 6, 16]),
     ("begin", &[0, 1, 2, 8]),
     ("version", &[0]),
     ("read_records", &[0, 1]),
@@ -64,7 +75,7 @@ const EXPORTED: &[Row] = &[
     ("written", &[0, 1, 2]),
 ];
 const RANK: usize = 3;
-const WRITTEN: usize = 10;
+const WRITTEN: usize = 12;
 
 /// The same on two sheets, as far as they have them.
 const EXPORTED_ON_TWO: &[Row] = &[
@@ -72,6 +83,8 @@ const EXPORTED_ON_TWO: &[Row] = &[
     ("visit", &[0, 1, 2, 13, 5, 6, 12]),
     ("lookup", &[0, 1, 13, 5, 6]),
     ("rank", &[0, 1, 13, 5]),
+    ("add", &[0, 1, 2, 13, 5, 14, 15]),
+    ("remove", &[0, 1, 2, 13, 5, 6, 16]),
 ];
 
 const VISITOR: &[Row] = &[("visiting program", &[0, 1, 2])];
@@ -90,6 +103,7 @@ pub struct Seen {
     closes: Closes,
     ranks: Ranks,
     spares: Spares,
+    adding: Adding,
     changes: [u64; 4],
     /// How often it was told beside a call what it has written. It isn't counted as a call.
     pub told_beside: u64,
@@ -114,6 +128,7 @@ impl Default for Seen {
             closes: Closes::default(),
             ranks: Ranks::default(),
             spares: Spares::default(),
+            adding: Adding::default(),
             changes: [0; 4],
             told_beside: 0,
             clients: Clients::default(),
@@ -146,26 +161,30 @@ fn call_of(line: &Line) -> Option<usize> {
         Line::Visit { .. } => 7,
         Line::Lookup { .. } => 8,
         Line::LineOf { .. } => 9,
-        Line::Second { .. } => 10,
+        Line::Add { .. } => 10,
+        Line::Remove { .. } => 11,
+        Line::Second { .. } => 12,
         Line::Show { .. } | Line::Set { .. } | Line::Entry { .. } | Line::Sheets => return None,
     })
 }
 
 fn conversion_of(conversion: Conversion) -> usize {
     match conversion {
-        Conversion::ReadRecords => 6,
-        Conversion::WriteRecords => 7,
-        Conversion::ReadCoordinator => 8,
-        Conversion::WriteCoordinator => 9,
+        Conversion::ReadRecords => 8,
+        Conversion::WriteRecords => 9,
+        Conversion::ReadCoordinator => 10,
+        Conversion::WriteCoordinator => 11,
     }
 }
 
 impl Seen {
-    /// Notes the reply to a line, the transaction that its call took and the sheets before it; answers whether it is a call.
+    /// Notes the reply to a line, the transaction that its call took, which of its keys were removed while it held them, and
+    /// the sheets before it; answers whether it is a call.
     pub fn note(
         &mut self,
         line: Option<&Line>,
         taken: Option<&Transaction>,
+        removed: &[Key],
         reply: &Reply,
         before: &LaidOut,
     ) -> bool {
@@ -178,6 +197,7 @@ impl Seen {
             _ => 0,
         };
         self.ranks.note(reply, before);
+        self.adding.note(line, taken, removed, reply, before);
         // A line handed back, or none, tells no refusal.
         if !matches!(line, Line::LineOf { .. }) {
             self.spares.note(REPLAY, refusal, before);
@@ -211,7 +231,7 @@ impl Seen {
                 lent,
                 answer,
                 after,
-            } => self.note_call(call, &lent.list, *answer, after),
+            } => self.note_call(call, &lent.sheets, &lent.list, *answer, after),
             Case::Convert {
                 conversion,
                 lent,
@@ -241,8 +261,15 @@ impl Seen {
         exported.note(RANK, ranked.answer.saturating_sub(1_000));
     }
 
-    /// Notes a call of a function for C, the list before it, and what it was lent afterwards.
-    pub fn note_call(&mut self, call: &Call, before: &[Transaction], answer: u64, lent: &Lent) {
+    /// Notes a call of a function for C, the sheets and the list before it, and what it was lent afterwards.
+    pub fn note_call(
+        &mut self,
+        call: &Call,
+        sheets: &LaidOut,
+        before: &[Transaction],
+        answer: u64,
+        lent: &Lent,
+    ) {
         let (exported, by_place) = match &lent.sheets {
             LaidOut::Joined(sheets) => {
                 let found = Found::for_c(call, answer);
@@ -259,13 +286,24 @@ impl Seen {
             Call::Check => exported.note(0, refusal),
             Call::Visit { .. } => exported.note(1, refusal),
             Call::Lookup { .. } => exported.note(2, refusal),
-            Call::Begin => exported.note(4, refusal),
-            Call::Version => exported.note(5, refusal),
+            Call::Add { key } => {
+                exported.note(4, refusal);
+                self.adding.note_for_c(Change::Add, key, refusal, sheets);
+            }
+            Call::Remove { key } => {
+                exported.note(5, refusal);
+                self.adding.note_for_c(Change::Remove, key, refusal, sheets);
+            }
+            Call::Begin => exported.note(6, refusal),
+            Call::Version => exported.note(7, refusal),
             Call::At { place, asked } => {
                 by_place.note(asked, refusal);
                 if refusal == 0 {
                     let (taken, returned) = (&before[*place], &lent.list[*place]);
                     by_place.note_accepted(asked, answer, taken, returned);
+                    if asked.call == ADVANCE {
+                        self.adding.note_by_place(taken, returned, sheets);
+                    }
                 }
             }
         }
@@ -332,6 +370,7 @@ impl Seen {
         amiss.extend(self.closes.amiss("close"));
         amiss.extend(self.ranks.amiss());
         amiss.extend(self.spares.amiss());
+        amiss.extend(self.adding.amiss());
         amiss.extend(self.by_place.amiss());
         amiss.extend(unseen("written", &CHANGES, &self.changes));
         amiss.extend(self.expiry.amiss());
@@ -368,15 +407,15 @@ fn named(names: &[&str], counts: &[u64]) -> String {
 }
 
 impl fmt::Display for Seen {
-    /// The answers of each call in a replay, the steps from phase to phase, how closes ended, where keys stood and which sheets
-    /// had spares, the same of the functions for C, the answers of the visiting program, where several lines of a number mattered, and the same on
-    /// two sheets.
+    /// The answers of each call in a replay, the steps from phase to phase, how closes ended, where keys stood, which sheets
+    /// had spares and what was added and removed, the same of the functions for C, the answers of the visiting program, where
+    /// several lines of a number mattered, and the same on two sheets.
     fn fmt(&self, out: &mut fmt::Formatter) -> fmt::Result {
         writeln!(out, "{}\n\n{}\n", self.lines, self.steps)?;
         writeln!(
             out,
-            "{}\n\n{}\n\n{}\n",
-            self.closes, self.ranks, self.spares
+            "{}\n\n{}\n\n{}\n\n{}\n",
+            self.closes, self.ranks, self.spares, self.adding
         )?;
         writeln!(out, "for C\n{}\n", self.exported)?;
         writeln!(out, "for C, by place\n{}", self.by_place)?;

@@ -1,5 +1,5 @@
 -- Refused by the check, or the call on the lines of records of accepted sheets.
-use Rattle.lists.specs.Basics.{sym, _∙_, length-take, arith, needs}
+use Rattle.lists.specs.Basics.{refl, sym, _∙_, length-take, arith, needs}
 use Rattle.call_laws.specs.Lifting.{passing-parts}
 use Rattle.model.specs.Results as model
 use Rattle.call_laws.specs.Accepted.{turned-away}
@@ -37,7 +37,7 @@ advance-requires c κs =
 returns-2 : tie.Need-returns-2
 returns-2 c =
     let a = c .before .before .before .before .before .before .before .before .before .before .before .before .before .before .before .args in
-    let o = call-passed (a .records .now) (a .coordinator .now) (sym (c .before .before .before .before .before .before .before .before .before .before .check .ensures) ∙ c .before .before .before .before .before .before .before .before .before .if1 .left) _ (c .before .before .before .before .before .before .before .lines-end .ensures .0) (toReturned (a .t)) (model.advance (a .t) (a .clock)) (c .before .before .before .before .advance .ensures) in (o .said, (o .sheet, o .decisions))
+    let o = call-passed (a .records .now) (a .coordinator .now) (sym (c .before .before .before .before .before .before .before .before .before .before .check .ensures) ∙ c .before .before .before .before .before .before .before .before .before .if1 .left) _ (c .before .before .before .before .before .before .before .lines-end .ensures .0) (toReturned (a .t)) (model.advance (a .t) (a .clock)) refl (c .before .before .before .before .advance .ensures) in (o .said, (o .sheet, o .decisions))
 
 pub advance-spec : {M : Type 1} → statement M
 advance-spec =

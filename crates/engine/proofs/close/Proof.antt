@@ -1,5 +1,5 @@
 -- Refused by the check, or the call on the lines of records of accepted sheets.
-use Rattle.lists.specs.Basics.{sym, _∙_, length-take, arith, needs}
+use Rattle.lists.specs.Basics.{refl, sym, _∙_, length-take, arith, needs}
 use Rattle.call_laws.specs.Lifting.{passing-parts}
 use Rattle.model.specs.Operations as operations
 use Rattle.engine.specs.Fronts.{front-within, accepted-front, operation-passed}
@@ -38,7 +38,7 @@ close-requires c κs =
 returns-2 : tie.Need-returns-2
 returns-2 c =
     let a = c .before .before .before .before .before .before .before .before .before .before .before .before .before .before .before .args in
-    operation-passed (a .records .now) (a .coordinator .now) (sym (c .before .before .before .before .before .before .before .before .before .before .check .ensures) ∙ c .before .before .before .before .before .before .before .before .before .if1 .left) _ (c .before .before .before .before .before .before .before .lines-end .ensures .0) (toClosed (a .t)) (λ n r. closed-blind (a .t) n r) (operations.close (a .t) (a .clock) (a .limit)) (c .before .before .before .before .close .ensures)
+    operation-passed (a .records .now) (a .coordinator .now) (sym (c .before .before .before .before .before .before .before .before .before .before .check .ensures) ∙ c .before .before .before .before .before .before .before .before .before .if1 .left) _ (c .before .before .before .before .before .before .before .lines-end .ensures .0) (toClosed (a .t)) (λ n r. closed-blind (a .t) n r) (operations.close (a .t) (a .clock) (a .limit)) refl (c .before .before .before .before .close .ensures)
 
 pub close-spec : {M : Type 1} → statement M
 close-spec =

@@ -24,7 +24,7 @@ returns-2 : tie.Need-returns-2
 returns-2 c =
     let a = c .before .before .before .before .before .before .before .before .before .args in
     let passed : refusalOf (checkConditions (a .records .now) (a .coordinator .now)) ≡ 0 = sym (c .before .before .before .before .before .check .ensures) ∙ c .before .before .before .before .if1 .left in
-    issues-on (λ b. let-pass toIssued (begin b) (a .records .now) (a .coordinator .now) passed
+    issues-on (λ b. let-pass toIssued (begin b) (a .records .now) (a .coordinator .now) refl passed
     (c .before .before .issue .ensures .beside b (recordLines (a .records .now)) (accepted (a .records .now) (a .coordinator .now) passed)))
 
 pub issue-spec : {M : Type 1} → statement M

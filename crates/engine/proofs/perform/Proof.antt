@@ -3,6 +3,7 @@ use Rattle.lists.specs.Basics.{sym, _∙_, length-take, arith, needs}
 use Rattle.call_laws.specs.Lifting.{passing-parts}
 use Rattle.model.specs.Operations as operations
 use Rattle.model.specs.Requests.{operationOf}
+use Rattle.call_laws.specs.ByPlace.{request-calm}
 use Rattle.engine.specs.Fronts.{front-within, accepted-front, operation-passed}
 use Rattle.engine.specs.Responses.{turned-away-as}
 use Rattle.answers.specs.Answers.{toPerformed}
@@ -39,7 +40,7 @@ perform-requires c κs =
 returns-2 : tie.Need-returns-2
 returns-2 c =
     let a = c .before .before .before .before .before .before .before .before .before .before .before .before .before .before .before .args in
-    operation-passed (a .records .now) (a .coordinator .now) (sym (c .before .before .before .before .before .before .before .before .before .before .check .ensures) ∙ c .before .before .before .before .before .before .before .before .before .if1 .left) _ (c .before .before .before .before .before .before .before .lines-end .ensures .0) (toPerformed (a .t)) (λ n r. performed-blind (a .t) n r) (operationOf (a .request) (a .t)) (c .before .before .before .before .perform .ensures)
+    operation-passed (a .records .now) (a .coordinator .now) (sym (c .before .before .before .before .before .before .before .before .before .before .check .ensures) ∙ c .before .before .before .before .before .before .before .before .before .if1 .left) _ (c .before .before .before .before .before .before .before .lines-end .ensures .0) (toPerformed (a .t)) (λ n r. performed-blind (a .t) n r) (operationOf (a .request) (a .t)) (request-calm (a .request) (a .t)) (c .before .before .before .before .perform .ensures)
 
 pub perform-spec : {M : Type 1} → statement M
 perform-spec =

@@ -1,5 +1,5 @@
 -- Refused by the check, or the call on the lines of records of accepted sheets.
-use Rattle.lists.specs.Basics.{sym, _∙_, length-take, arith, needs}
+use Rattle.lists.specs.Basics.{refl, sym, _∙_, length-take, arith, needs}
 use Rattle.call_laws.specs.Lifting.{passing-parts}
 use Rattle.model.specs.Results as model
 use Rattle.call_laws.specs.Accepted.{turned-away}
@@ -32,7 +32,7 @@ put-requires c κs =
 returns-2 : tie.Need-returns-2
 returns-2 c =
     let a = c .before .before .before .before .before .before .before .args in
-    answer-passed (a .records .now) (a .coordinator .now) (sym (c .before .before .before .before .check .ensures) ∙ c .before .before .before .if1 .left) _ (c .before .before .lines-end .ensures .0) (toReturned (a .t)) (model.put (a .t) (a .key) (a .columns)) (c .put .ensures)
+    answer-passed (a .records .now) (a .coordinator .now) (sym (c .before .before .before .before .check .ensures) ∙ c .before .before .before .if1 .left) _ (c .before .before .lines-end .ensures .0) (toReturned (a .t)) (model.put (a .t) (a .key) (a .columns)) refl (c .put .ensures)
 
 pub put-spec : {M : Type 1} → statement M
 put-spec = tie.close (tie.spec (λ c κs. search needs) (λ c κs. search needs) returns lines-end-requires slice-aggregate-put put-requires returns-2)

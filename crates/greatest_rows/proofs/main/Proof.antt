@@ -1,5 +1,5 @@
 -- Before row n the size is that of n - 1 lines, so that it never passes eight.
-use Rattle.lists.specs.Basics.{_≡_, _+_, _-_, _*_, _≤_, arith, needs}
+use Rattle.lists.specs.Basics.{_≡_, _+_, _-_, _*_, _≤_, needs}
 use Rattle.greatest_rows.proofs.main.Statement.{statement}
 use Rattle.greatest_rows.proofs.main.Tie as tie
 

@@ -1,5 +1,5 @@
 -- An index that is none of a line fails the condition; else, by whether the letter is a capital, the line alone decides, or its columns too.
-use Rattle.lists.specs.Basics.{_≡_, _<_, _≤_, sym, ap, ap₂, _∙_, _&&_, List, length, arith, not-true, not-false}
+use Rattle.lists.specs.Basics.{sym, ap, ap₂, _∙_, _&&_, List, arith, not-true, not-false}
 use Rattle.model.specs.Records.{records}
 use Rattle.model.specs.Coordinator.{Letter}
 use Rattle.model.specs.Groups.{isLower}

@@ -8,6 +8,7 @@ use Rattle.model.specs.Requests.{operationOf}
 use Rattle.answers.specs.Answers.{toPerformed}
 use Rattle.engine.specs.Fronts.{performed-blind}
 use Rattle.two_engine.specs.Forms.{front-plain, front-bookkeeping}
+use Rattle.call_laws.specs.ByPlace.{request-calm}
 use Rattle.two_engine.specs.Performing.{forms-refused, forms-passed}
 use borrow.Author.Needs.{needs}
 use Rattle.two_engine.proofs.perform.Statement.{statement}
@@ -51,7 +52,7 @@ slice-aggregate-perform-2 c =
 returns-2 : tie.Need-returns-2
 returns-2 c =
     let a = c .before .before .before .before .before .before .before .before .before .before .before .before .before .before .before .before .before .before .before .before .before .before .args in
-    forms-passed (a .plain .now) (a .book .now) (a .coordinator .now) ((c .before .before .before .before .before .before .before .before .before .before .before .before .before .before .before .forms-refusal .ensures .fit (c .before .before .before .before .before .before .before .before .before .before .before .before .before .before .if1 .left))) (operationOf (a .request) (a .t)) (toPerformed (a .t)) (performed-blind (a .t)) _ _ (c .before .before .before .before .before .before .before .before .before .before .before .before .front-end .ensures) (c .before .before .before .before .before .before .before .before .before .before .front-end2 .ensures) (c .before .before .before .before .before .before .perform .ensures)
+    forms-passed (a .plain .now) (a .book .now) (a .coordinator .now) ((c .before .before .before .before .before .before .before .before .before .before .before .before .before .before .before .forms-refusal .ensures .fit (c .before .before .before .before .before .before .before .before .before .before .before .before .before .before .if1 .left))) (operationOf (a .request) (a .t)) (request-calm (a .request) (a .t)) (toPerformed (a .t)) (performed-blind (a .t)) _ _ (c .before .before .before .before .before .before .before .before .before .before .before .before .front-end .ensures) (c .before .before .before .before .before .before .before .before .before .before .front-end2 .ensures) (c .before .before .before .before .before .before .perform .ensures)
 
 pub perform-spec : {M : Type 1} → statement M
 perform-spec =

@@ -1,5 +1,5 @@
 -- Refused first, or the call on the lines before the spares.
-use Rattle.lists.specs.Basics.{length-take, _-_, arith, needs}
+use Rattle.lists.specs.Basics.{refl, length-take, _-_, arith, needs}
 use Rattle.model.specs.TwoSheets.{plainBytes, bookkeepingBytes}
 use Rattle.sheet_laws.specs.Fronts.{sized-whole}
 use Rattle.lists.specs.Basics.{[]}
@@ -50,7 +50,7 @@ slice-aggregate-visit-2 c =
 returns-2 : tie.Need-returns-2
 returns-2 c =
     let a = c .before .before .before .before .before .before .before .before .before .before .before .before .before .before .before .before .before .before .before .before .before .before .args in
-    forms-passed (a .plain .now) (a .book .now) (a .coordinator .now) ((c .before .before .before .before .before .before .before .before .before .before .before .before .before .before .before .forms-refusal .ensures .fit (c .before .before .before .before .before .before .before .before .before .before .before .before .before .before .if1 .left))) (once (model.visit (a .key) (a .clock))) (visitedIn) (visited-blind) _ _ (c .before .before .before .before .before .before .before .before .before .before .before .before .front-end .ensures) (c .before .before .before .before .before .before .before .before .before .before .front-end2 .ensures) (c .before .before .before .before .before .before .visit .ensures)
+    forms-passed (a .plain .now) (a .book .now) (a .coordinator .now) ((c .before .before .before .before .before .before .before .before .before .before .before .before .before .before .before .forms-refusal .ensures .fit (c .before .before .before .before .before .before .before .before .before .before .before .before .before .before .if1 .left))) (once (model.visit (a .key) (a .clock))) refl (visitedIn) (visited-blind) _ _ (c .before .before .before .before .before .before .before .before .before .before .before .before .front-end .ensures) (c .before .before .before .before .before .before .before .before .before .before .front-end2 .ensures) (c .before .before .before .before .before .before .visit .ensures)
 
 pub visit-spec : {M : Type 1} → statement M
 visit-spec =

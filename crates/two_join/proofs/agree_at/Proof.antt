@@ -1,5 +1,4 @@
 -- Ten bytes of both keys, ten more, and the last byte, as the definition compares them.
-use Rattle.lists.specs.Basics.{_≡_}
 use Rattle.two_join.specs.Agrees.{line-agrees}
 use borrow.Author.Needs.{needs}
 use Rattle.two_join.proofs.agree_at.Statement.{statement}

@@ -1,18 +1,19 @@
 //! What is timed, and on which sheets.
 
-use reference::exported::{Call, Lent};
+use reference::exported::{by_fast, Call, Lent};
 use reference::make::random::Random;
 use reference::make::sheets::{of_size, Mix, Size};
+use reference::make::spares::fill_up;
 use reference::plain::by_place::{self, Asked};
 use reference::plain::coordinator::{Decision, Unit};
 use reference::plain::key::Key;
-use reference::plain::record::{Image, Record, State, NOTHING};
+use reference::plain::record::{Image, Record, State, LINE, NOTHING};
 use reference::plain::store::Store;
 use reference::plain::transaction::*;
 use reference::replay::laid_out::LaidOut;
 
-/// The numbers of record lines at which each call is timed. At 51 and 251 the calls on two sheets take the next larger
-/// area.
+/// The numbers of lines at which each call is timed: record lines, but for a few cases that have spares among them. At 51 and
+/// 251 the calls on two sheets take the next larger area.
 pub const LINES: [usize; 9] = [10, 50, 51, 100, 200, 251, 300, 400, 500];
 
 const NOW: u32 = 20_000;
@@ -26,6 +27,8 @@ pub enum Case {
     /// The check where every line, but for a few, has this state.
     CheckCommitted,
     CheckPrepared,
+    /// The check where every second line is a spare.
+    CheckSpares,
     Begin,
     BeginByPlace,
     VisitStays,
@@ -34,6 +37,11 @@ pub enum Case {
     VisitAgain,
     /// No line has the key.
     VisitMissing,
+    /// Before all lines, so that all shift.
+    Add,
+    Remove,
+    /// Both, one after the other: the sheet is as before.
+    AddAndRemove,
     Lookup,
     LookupMissing,
     /// One step in prepare, with 8 puts in 8 groups.
@@ -47,7 +55,7 @@ pub enum Case {
 }
 
 /// In the order printed.
-pub const CASES: [(Case, &str); 10] = [
+pub const CASES: [(Case, &str); 14] = [
     (Case::Check, "check"),
     (Case::Begin, "begin"),
     (Case::VisitStays, "visit, line stays"),
@@ -58,6 +66,16 @@ pub const CASES: [(Case, &str); 10] = [
     (Case::Transaction, "whole transaction, 8 puts, 19 calls"),
     (Case::CheckCommitted, "check, all COMMITTED"),
     (Case::CheckPrepared, "check, all PREPARED"),
+    (Case::CheckSpares, "check, half spares"),
+    (Case::Add, "add at the front"),
+    (Case::Remove, "remove at the front"),
+    (Case::AddAndRemove, "add and remove at the front"),
+];
+
+/// Those that are held beside the least that they can take.
+pub const BESIDE_MOVE: [(Case, &str); 2] = [
+    (Case::Add, "add at the front"),
+    (Case::Remove, "remove at the front"),
 ];
 
 /// Those that are held on two sheets beside the joined sheet.
@@ -77,7 +95,9 @@ impl Case {
     pub fn run(self, make: Make, lent: &mut Lent) -> u64 {
         let key = middle_key(lent);
         match self {
-            Case::Check | Case::CheckCommitted | Case::CheckPrepared => make(&Call::Check, lent),
+            Case::Check | Case::CheckCommitted | Case::CheckPrepared | Case::CheckSpares => {
+                make(&Call::Check, lent)
+            }
             Case::Begin => make(&Call::Begin, lent),
             Case::BeginByPlace => make(&BEGIN, lent),
             Case::VisitStays | Case::VisitBack | Case::VisitAgain => {
@@ -86,6 +106,12 @@ impl Case {
             Case::VisitMissing => {
                 let key = beside(key);
                 make(&Call::Visit { key, now: NOW }, lent)
+            }
+            Case::Add => make(&ADD, lent),
+            Case::Remove => make(&REMOVE, lent),
+            Case::AddAndRemove => {
+                assert_eq!(make(&ADD, lent), 0, "a spare is left");
+                make(&REMOVE, lent)
             }
             Case::Lookup => make(&Call::Lookup { key }, lent),
             Case::LookupMissing => make(&Call::Lookup { key: beside(key) }, lent),
@@ -113,26 +139,42 @@ impl Case {
         }
     }
 
-    /// What the call answers with that is refused.
-    pub fn refusal(self) -> Option<u64> {
-        matches!(self, Case::VisitMissing | Case::LookupMissing).then_some(1_006)
+    /// What the call answers with that is refused, or that answers 0 or the refusal itself.
+    pub fn answer(self) -> Option<u64> {
+        match self {
+            Case::VisitMissing | Case::LookupMissing => Some(1_006),
+            Case::Check | Case::CheckCommitted | Case::CheckPrepared | Case::CheckSpares => Some(0),
+            Case::Add | Case::Remove | Case::AddAndRemove => Some(0),
+            _ => None,
+        }
+    }
+
+    /// How many of so many lines are spares.
+    fn spares(self, lines: usize) -> usize {
+        match self {
+            Case::CheckSpares => lines / 2,
+            Case::Add | Case::Remove | Case::AddAndRemove => 2,
+            _ => 0,
+        }
     }
 
     pub fn has_every_state(self) -> bool {
         matches!(self.mix(), Mix::Thirds)
     }
 
-    /// Sheets of so many record lines and a list for the call. A third of the lines each is ABSENT, COMMITTED and
+    /// Sheets of so many lines and a list for the call. A third of the lines each is ABSENT, COMMITTED and
     /// PREPARED unless the case says otherwise, and eight are set up for the call.
     pub fn lent(self, random: &mut Random, lines: usize) -> Lent {
         let decisions = (2 * lines).min(999);
         let size = Size {
-            records: lines,
+            records: lines - self.spares(lines),
             decisions,
             issued: decisions - 1,
         };
         let mut sheets = of_size(random, size, self.mix());
+        fill_up(&mut sheets.records, LINE, lines);
         let mut store = sheets.store();
+        let lines = store.records.len();
         store.coordinator.units = [Unit::Record; 9];
         store.coordinator.decisions[0] = Decision::Aborted;
         for place in places(lines) {
@@ -141,6 +183,8 @@ impl Case {
         match self {
             Case::VisitBack => prepare(&mut store.records[lines / 2], 1, NOW),
             Case::VisitAgain => halfway(&mut store),
+            Case::Remove => store.records[0] = Record::absent(FRONT),
+            Case::Add | Case::AddAndRemove => store.records.retain(|line| line.key != FRONT),
             _ => {}
         }
         store.write(&mut sheets.records, &mut sheets.coordinator);
@@ -167,6 +211,32 @@ const fn at_place_0(call: u32) -> Call {
             limit: 17,
         },
     }
+}
+
+/// The least key there is.
+const FRONT: Key = Key {
+    storage: 1,
+    namespace: 1,
+    table: 1,
+    partition: 0,
+    clustering: 0,
+};
+const ADD: Call = Call::Add { key: FRONT };
+const REMOVE: Call = Call::Remove { key: FRONT };
+
+/// The least that adding or removing at the front can take: the baseline's check, and a move of all lines by one. It leaves
+/// no good sheet.
+pub fn check_and_move(call: &Call, lent: &mut Lent) -> u64 {
+    let answer = by_fast(&Call::Check, lent);
+    let LaidOut::Joined(sheets) = &mut lent.sheets else {
+        panic!("the baseline has no calls on two sheets");
+    };
+    let last = sheets.records.len() - LINE;
+    match call {
+        Call::Add { .. } => sheets.records.copy_within(..last, LINE),
+        _ => sheets.records.copy_within(LINE.., 0),
+    }
+    answer
 }
 
 const NO_KEY: Key = Key {

@@ -1,5 +1,6 @@
 //! Times the engine beside `fast`, on the same sheets in one run, and how each call grows with the sheets; beside itself in
-//! other calls for the same order, and on two sheets beside the joined one.
+//! other calls for the same order, and on two sheets beside the joined one. Adding and removing stand beside the check of
+//! `fast` and a move of the sheet's bytes too: they are to take at most twice that.
 //!
 //! `bench [file]` prints nanoseconds and ratios and draws them to the file if one is named. Times aren't judged.
 
@@ -9,7 +10,7 @@ mod engine;
 mod plot;
 mod timing;
 
-use cases::{Case, Make, CASES, LINES, ON_TWO};
+use cases::{check_and_move, Case, Make, BESIDE_MOVE, CASES, LINES, ON_TWO};
 use engine::calls::by_engine;
 use reference::exported::by_fast;
 use reference::make::random::Random;
@@ -19,6 +20,7 @@ use timing::{Cell, Side, Times};
 
 const ENGINE: Make = by_engine;
 const BASELINE: Make = by_fast;
+const MOVE: Make = check_and_move;
 const RUNS: usize = 101;
 
 /// The name of what the baseline took.
@@ -30,10 +32,12 @@ struct Row {
     engine: Side,
     beside: &'static str,
     other: Side,
+    /// Whether both sides do the same work.
+    alike: bool,
 }
 
-/// Each case beside the baseline; the close beside the engine's own calls for the same order; and calls on two sheets beside
-/// the same on the joined sheet.
+/// Each case beside the baseline; adding and removing beside the least that they can take; the close beside the engine's own
+/// calls for the same order; and calls on two sheets beside the same on the joined sheet.
 fn rows() -> Vec<Row> {
     let side = |case, make, layout| Side { case, make, layout };
     let beside_baseline = |(case, name): &(Case, &'static str)| Row {
@@ -41,20 +45,31 @@ fn rows() -> Vec<Row> {
         engine: side(*case, ENGINE, Layout::Joined),
         beside: BESIDE_BASELINE,
         other: side(*case, BASELINE, Layout::Joined),
+        alike: true,
+    };
+    let beside_move = |(case, name): &(Case, &'static str)| Row {
+        beside: "move",
+        other: side(*case, MOVE, Layout::Joined),
+        alike: false,
+        ..beside_baseline(&(*case, *name))
     };
     let close = Row {
         name: "whole transaction, begin, close",
         engine: side(Case::Close, ENGINE, Layout::Joined),
         beside: "19 calls",
         other: side(Case::Transaction, ENGINE, Layout::Joined),
+        alike: true,
     };
     let on_two = |(case, name): &(Case, &'static str)| Row {
         name,
         engine: side(*case, ENGINE, Layout::Two),
         beside: "joined",
         other: side(*case, ENGINE, Layout::Joined),
+        alike: true,
     };
-    let rows = CASES.iter().map(beside_baseline).chain([close]);
+    let rows = CASES.iter().map(beside_baseline);
+    let rows = rows.chain(BESIDE_MOVE.iter().map(beside_move));
+    let rows = rows.chain([close]);
     rows.chain(ON_TWO.iter().map(on_two)).collect()
 }
 
@@ -65,7 +80,7 @@ impl Row {
         let sides = [self.engine, self.other];
         let cell = |lines: &usize| {
             let lent = self.engine.case.lent(&mut random, *lines);
-            Cell::new(sides, &lent)
+            Cell::new(sides, self.alike, &lent)
         };
         LINES.iter().map(cell).collect()
     }

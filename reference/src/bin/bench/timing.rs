@@ -78,8 +78,8 @@ pub struct Times {
 }
 
 impl Cell {
-    /// Both sides must do the same work, on these sheets or on the two that they join.
-    pub fn new(sides: [Side; 2], lent: &Lent) -> Cell {
+    /// Sides that are alike must do the same work, on these sheets or on the two that they join; others answer the same.
+    pub fn new(sides: [Side; 2], alike: bool, lent: &Lent) -> Cell {
         let mut layouts = sides.map(|side| side.layout).to_vec();
         layouts.dedup();
         let fresh = layouts.iter().map(|layout| Fresh::new(*layout, lent));
@@ -89,11 +89,12 @@ impl Cell {
             times: [Vec::new(), Vec::new()],
         };
         let [one, other] = [0, 1].map(|side| cell.left(side));
-        match sides[0].case.refusal() {
-            Some(refusal) => assert_eq!(one.0, refusal, "refused otherwise"),
+        match sides[0].case.answer() {
+            Some(answer) => assert_eq!(one.0, answer, "refused, or otherwise"),
             None => assert!(one.0 < 1_000, "refused: {}", one.0),
         }
-        assert!(one == other, "the sides differ");
+        assert_eq!(one.0, other.0, "the sides' answers differ");
+        assert!(!alike || one == other, "the sides differ");
         cell
     }
 

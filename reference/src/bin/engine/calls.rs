@@ -21,6 +21,8 @@ fn on_joined(call: &Call, list: &mut [Transaction], sheets: &mut Sheets) -> u32 
         Call::Check => super::check(records, coordinator),
         Call::Begin => super::begin(records, coordinator),
         Call::Visit { key, now } => super::visit(records, coordinator, *key, *now),
+        Call::Add { key } => super::add(records, coordinator, *key),
+        Call::Remove { key } => super::remove(records, coordinator, *key),
         Call::At { place, asked } => super::call_at(list, *place, records, coordinator, asked),
         Call::Lookup { key } => super::lookup(records, *key),
         Call::Version => super::version(),
@@ -31,6 +33,8 @@ fn on_two(call: &Call, list: &mut [Transaction], sheets: &mut TwoSheets) -> u64 
     match call {
         Call::Check => two::check(sheets).into(),
         Call::Visit { key, now } => two::visit(sheets, *key, *now).into(),
+        Call::Add { key } => two::add(sheets, *key).into(),
+        Call::Remove { key } => two::remove(sheets, *key).into(),
         Call::At { place, asked } => two::call_at(list, *place, sheets, asked),
         Call::Lookup { key } => two::lookup(sheets, *key).into(),
         Call::Begin | Call::Version => panic!("not a call on two sheets: {call:?}"),

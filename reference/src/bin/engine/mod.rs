@@ -1,8 +1,8 @@
 //! The engine's functions for C, from its static archive. Beside `two`, `conversions`, `rank` and `written` the only calls in
 //! this folder that the compiler can't vouch for.
 //!
-//! A slice is lent as its first element and its length. Answers are 0 or the refusal from the check, and from the
-//! others what an accepted call gives or 1000 and the refusal.
+//! A slice is lent as its first element and its length. Answers are 0 or the refusal from check, add and remove, and from
+//! the others what an accepted call gives or 1000 and the refusal.
 
 pub mod calls;
 mod two;
@@ -35,6 +35,28 @@ extern "C" {
         partition: u32,
         clustering: u32,
         clock: u32,
+    ) -> u32;
+    fn rapyheo_add(
+        records: *mut u8,
+        records_length: usize,
+        coordinator: *const u8,
+        coordinator_length: usize,
+        storage: u32,
+        namespace: u32,
+        table: u32,
+        partition: u32,
+        clustering: u32,
+    ) -> u32;
+    fn rapyheo_remove(
+        records: *mut u8,
+        records_length: usize,
+        coordinator: *const u8,
+        coordinator_length: usize,
+        storage: u32,
+        namespace: u32,
+        table: u32,
+        partition: u32,
+        clustering: u32,
     ) -> u32;
     fn rapyheo_call_at(
         list: *mut Transaction,
@@ -107,6 +129,42 @@ fn visit(records: &mut [u8], coordinator: &mut [u8], key: Key, clock: u32) -> u3
             key.partition,
             key.clustering,
             clock,
+        )
+    }
+}
+
+/// 0, and the key has an ABSENT line; or the refusal.
+fn add(records: &mut [u8], coordinator: &[u8], key: Key) -> u32 {
+    // SAFETY: both slices live as long as the call, which stays inside them and writes the records only.
+    unsafe {
+        rapyheo_add(
+            records.as_mut_ptr(),
+            records.len(),
+            coordinator.as_ptr(),
+            coordinator.len(),
+            key.storage,
+            key.namespace,
+            key.table,
+            key.partition,
+            key.clustering,
+        )
+    }
+}
+
+/// 0, and the key has no line; or the refusal.
+fn remove(records: &mut [u8], coordinator: &[u8], key: Key) -> u32 {
+    // SAFETY: both slices live as long as the call, which stays inside them and writes the records only.
+    unsafe {
+        rapyheo_remove(
+            records.as_mut_ptr(),
+            records.len(),
+            coordinator.as_ptr(),
+            coordinator.len(),
+            key.storage,
+            key.namespace,
+            key.table,
+            key.partition,
+            key.clustering,
         )
     }
 }

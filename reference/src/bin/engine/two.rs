@@ -28,6 +28,32 @@ extern "C" {
         clustering: u32,
         clock: u32,
     ) -> u32;
+    fn rapyheo_two_add(
+        plain: *mut u8,
+        plain_length: usize,
+        book: *mut u8,
+        book_length: usize,
+        coordinator: *const u8,
+        coordinator_length: usize,
+        storage: u32,
+        namespace: u32,
+        table: u32,
+        partition: u32,
+        clustering: u32,
+    ) -> u32;
+    fn rapyheo_two_remove(
+        plain: *mut u8,
+        plain_length: usize,
+        book: *mut u8,
+        book_length: usize,
+        coordinator: *const u8,
+        coordinator_length: usize,
+        storage: u32,
+        namespace: u32,
+        table: u32,
+        partition: u32,
+        clustering: u32,
+    ) -> u32;
     fn rapyheo_two_lookup(
         plain: *const u8,
         plain_length: usize,
@@ -95,6 +121,48 @@ pub fn visit(sheets: &mut TwoSheets, key: Key, clock: u32) -> u32 {
             key.partition,
             key.clustering,
             clock,
+        )
+    }
+}
+
+/// 0, and the key has an ABSENT line; or the refusal.
+pub fn add(sheets: &mut TwoSheets, key: Key) -> u32 {
+    let (plain, book) = (&mut sheets.plain, &mut sheets.bookkeeping);
+    // SAFETY: the slices live as long as the call, which stays inside them and writes no byte of the coordinator.
+    unsafe {
+        rapyheo_two_add(
+            plain.as_mut_ptr(),
+            plain.len(),
+            book.as_mut_ptr(),
+            book.len(),
+            sheets.coordinator.as_ptr(),
+            sheets.coordinator.len(),
+            key.storage,
+            key.namespace,
+            key.table,
+            key.partition,
+            key.clustering,
+        )
+    }
+}
+
+/// 0, and the key has no line; or the refusal.
+pub fn remove(sheets: &mut TwoSheets, key: Key) -> u32 {
+    let (plain, book) = (&mut sheets.plain, &mut sheets.bookkeeping);
+    // SAFETY: the slices live as long as the call, which stays inside them and writes no byte of the coordinator.
+    unsafe {
+        rapyheo_two_remove(
+            plain.as_mut_ptr(),
+            plain.len(),
+            book.as_mut_ptr(),
+            book.len(),
+            sheets.coordinator.as_ptr(),
+            sheets.coordinator.len(),
+            key.storage,
+            key.namespace,
+            key.table,
+            key.partition,
+            key.clustering,
         )
     }
 }

@@ -18,7 +18,7 @@ returns-4 c = fourth-named _ _ _ _ _ _ _ _ _ (sym (c .before .before .before .be
 
 returns-5 : tie.Need-returns-5
 unfolding callKind bytes
-returns-5 c = c .slot-kind .ensures ∙ none-named _ _ _ _ _ _ _ _ _ (sym (c .before .before .before .before .before .before .before .before .before .before .before .same .ensures) ∙ c .before .before .before .before .before .before .before .before .before .before .if1 .left) (sym (c .before .before .before .before .before .before .before .before .same2 .ensures) ∙ c .before .before .before .before .before .before .before .if2 .left) (sym (c .before .before .before .before .before .same3 .ensures) ∙ c .before .before .before .before .if3 .left) (sym (c .before .before .same4 .ensures) ∙ c .before .if4 .left)
+returns-5 c = c .shift-kind .ensures ∙ none-named _ _ _ _ _ _ _ _ _ (sym (c .before .before .before .before .before .before .before .before .before .before .before .same .ensures) ∙ c .before .before .before .before .before .before .before .before .before .before .if1 .left) (sym (c .before .before .before .before .before .before .before .before .same2 .ensures) ∙ c .before .before .before .before .before .before .before .if2 .left) (sym (c .before .before .before .before .before .same3 .ensures) ∙ c .before .before .before .before .if3 .left) (sym (c .before .before .same4 .ensures) ∙ c .before .if4 .left)
 
 pub call-kind-spec : {M : Type 1} → statement M
 unfolding bytes callKind

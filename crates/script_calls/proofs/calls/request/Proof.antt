@@ -1,7 +1,10 @@
 -- By the kind of the line, each with its own numbers.
-use Rattle.lists.specs.Basics.{needs}
+use borrow.Author.Needs.{needs}
 use Rattle.script_calls.proofs.calls.request.Statement.{statement}
 use Rattle.script_calls.proofs.calls.request.Tie as tie
+
+returns : tie.Need-returns
+returns c = rw (c .enum-told .given .1)
 
 returns-2 : tie.Need-returns-2
 returns-2 c = rw (c .before .before .enum-told2 .given .1, c .on-slot .ensures, c .before .begun .ensures)
@@ -29,6 +32,33 @@ returns-8 c = rw (c .before .enum-told8 .given .1, c .on-slot7 .ensures)
 returns-9 : tie.Need-returns-9
 returns-9 c = rw (c .before .enum-told9 .given .1, c .key-at4 .ensures)
 
+returns-10 : tie.Need-returns-10
+returns-10 c = rw (c .enum-told10 .given .1)
+
+returns-11 : tie.Need-returns-11
+returns-11 c = rw (c .enum-told11 .given .1)
+
+returns-12 : tie.Need-returns-12
+returns-12 c = rw (c .enum-told12 .given .1)
+
+returns-13 : tie.Need-returns-13
+returns-13 c = rw (c .enum-told13 .given .1)
+
+returns-14 : tie.Need-returns-14
+returns-14 c = rw (c .enum-told14 .given .1)
+
+returns-15 : tie.Need-returns-15
+returns-15 c = rw (c .enum-told15 .given .1)
+
+returns-16 : tie.Need-returns-16
+returns-16 c = rw (c .enum-told16 .given .1)
+
+returns-17 : tie.Need-returns-17
+returns-17 c = rw (c .enum-told17 .given .1)
+
+returns-18 : tie.Need-returns-18
+returns-18 c = rw (c .enum-told18 .given .1)
+
 pub request-spec : {M : Type 1} → statement M
 request-spec =
     tie.close
@@ -38,6 +68,6 @@ request-spec =
     (λ c κs. search needs) (λ c κs. search needs) (λ c κs. search needs) (λ c. search needs) (λ c. search needs) (λ c. search needs)
     (λ c κs. search needs) (λ c. search needs) (λ c. search needs) (λ c. search needs) (λ c. search needs) (λ c κs. search needs) (λ c. search needs)
     (λ c. search needs) (λ c κs. search needs) (λ c. search needs) (λ c κs. search needs) (λ c. search needs) (λ c. search needs) (λ c. search needs)
-    (λ c. search needs) (λ c. search needs) (λ c. search needs) (λ c. search needs) (λ c. search needs) (λ c. search needs) returns-2 returns-3
-    returns-4 returns-5 returns-6 returns-7 returns-8 returns-9 (λ c. search needs) (λ c. search needs) (λ c. search needs) (λ c. search needs)
-    (λ c. search needs) (λ c. search needs) (λ c. search needs))
+    (λ c. search needs) (λ c. search needs) (λ c. search needs) (λ c. search needs) (λ c. search needs) (λ c. search needs) (λ c. search needs)
+    returns returns-2 returns-3 returns-4 returns-5 returns-6 returns-7 returns-8 returns-9 returns-10 returns-11 returns-12 returns-13 returns-14
+    returns-15 returns-16 returns-17 returns-18)

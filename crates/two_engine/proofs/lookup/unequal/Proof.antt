@@ -1,5 +1,5 @@
 -- Each sheet without its spares, beside an empty one.
-use Rattle.lists.specs.Basics.{_≡_, refl, sym, ap, _∙_, [], ℕ, length-take, take, arith, not-true, not-false, needs}
+use Rattle.lists.specs.Basics.{ap, _∙_, [], ℕ, length-take, take, arith, needs}
 use Rattle.model.specs.TwoSheets.{plainBytes, bookkeepingBytes}
 use Rattle.sheet_laws.specs.Fronts.{sized-whole}
 use Rattle.model.specs.Spares.{front}

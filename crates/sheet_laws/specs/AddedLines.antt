@@ -1,13 +1,13 @@
--- Laws of `inserted` and `without`: order, lines by key, lengths, one undoes the other, indices.
+-- A key's line put in and taken out: order, lines by key, lengths, one undoes the other, indices. By induction on the lines, the test of the first one by cases.
 use Rattle.lists.specs.Basics.{ℕ, suc, _<_, _≡_, refl, sym, ap, _∙_, Bool, true, false, _||_, cond, true≢false, List, [], _∷_, _++_, length, take, drop}
 use Rattle.lists.specs.Basics.{all, any, count, and-fst, and-snd, and-both, choose-by, or-fst, or-snd}
 use Rattle.lists.specs.Order.{less-irrefl, less-total}
 use Rattle.model.specs.Types.{Key, Record, At}
 use Rattle.model.specs.Records.{keyNumbers, keyOf, keyLess, inOrder, rising, sameKey, absentAt, lineOf, noRecord, found, rank}
-use Rattle.sheet_laws.specs.KeyOrder.{same-key, same-key-refl, other-key, listsKey, has-line, apart, key-trans, key-later}
+use Rattle.sheet_laws.specs.KeyOrder.{same-key, same-key-refl, other-key, listsKey, has-line, unlisted, apart, key-trans, key-later}
 use Rattle.sheet_laws.specs.Search.{first-at}
 use Rattle.sheet_laws.specs.Ranks.{no-rank, found-by-rank}
-use Rattle.shifting.specs.Keyed.{inserted, without}
+use Rattle.model.specs.Writes.{inserted, without}
 
 -- The order of keys.
 
@@ -85,14 +85,6 @@ module _ (k : Key) where
       (λ e. ap (λ (b : Bool). cond b r (lineOf k (inserted k rs))) (or-fst (sameKey (r .key) k) (listsKey k rs) n)
       ∙ line-inserted rs (or-snd (sameKey (r .key) k) (listsKey k rs) n))
 
-  -- a key without a line counts as ABSENT of version 0
-  pub line-missing : (rs : List Record) → listsKey k rs ≡ false → lineOf k rs ≡ absentAt k
-  unfolding lineOf any
-  line-missing [] n = refl
-  line-missing (r ∷ rs) n =
-      ap (λ (b : Bool). cond b r (lineOf k rs)) (or-fst (sameKey (r .key) k) (listsKey k rs) n)
-      ∙ line-missing rs (or-snd (sameKey (r .key) k) (listsKey k rs) n)
-
   -- adding changes the line of no key, the added one included
   pub line-after-adding : (j : Key) (rs : List Record) → listsKey k rs ≡ false → lineOf j (inserted k rs) ≡ lineOf j rs
   line-after-adding j rs n = go (sameKey k j) refl
@@ -101,7 +93,7 @@ module _ (k : Key) where
       go true e =
           let q : k ≡ j = same-key k j e in
           ap (λ (x : Key). lineOf x (inserted k rs)) (sym q)
-          ∙ (line-inserted rs n ∙ (sym (line-missing rs n) ∙ ap (λ (x : Key). lineOf x rs) q))
+          ∙ (line-inserted rs n ∙ (sym (unlisted k rs n) ∙ ap (λ (x : Key). lineOf x rs) q))
       go false e = line-inserted-other j rs e
 
   -- the keys that have lines
@@ -172,14 +164,6 @@ module _ (k : Key) where
       go true m f = refl
       go false m f = ap suc (f m)
 
-  -- nothing is taken away where nothing stands
-  pub without-missing : (rs : List Record) → listsKey k rs ≡ false → without k rs ≡ rs
-  unfolding without any
-  without-missing [] n = refl
-  without-missing (r ∷ rs) n =
-      ap (λ (b : Bool). cond b rs (r ∷ without k rs)) (or-fst (sameKey (r .key) k) (listsKey k rs) n)
-      ∙ ap (λ (xs : List Record). r ∷ xs) (without-missing rs (or-snd (sameKey (r .key) k) (listsKey k rs) n))
-
   -- other keys keep their lines
   pub line-without-other : (j : Key) (rs : List Record) → sameKey k j ≡ false → lineOf j (without k rs) ≡ lineOf j rs
   unfolding without lineOf
@@ -205,16 +189,8 @@ module _ (k : Key) where
       (λ e. only-first r rs h e)
       (λ e. ap (λ (b : Bool). b || listsKey k (without k rs)) e ∙ lists-without rs (and-snd (inOrder r rs) (rising rs) h))
 
-  pub lists-without-other : (j : Key) (rs : List Record) → sameKey k j ≡ false → listsKey j (without k rs) ≡ listsKey j rs
-  unfolding without any
-  lists-without-other j [] d = refl
-  lists-without-other j (r ∷ rs) d =
-      choose-by (λ (xs : List Record). listsKey j xs ≡ listsKey j (r ∷ rs)) (sameKey (r .key) k)
-      (λ e. ap (λ (b : Bool). b || listsKey j rs) (sym (ap (λ (x : Key). sameKey x j) (same-key (r .key) k e) ∙ d)))
-      (λ e. ap (λ (b : Bool). sameKey (r .key) j || b) (lists-without-other j rs d))
-
   pub line-without : (rs : List Record) → rising rs ≡ true → lineOf k (without k rs) ≡ absentAt k
-  line-without rs h = line-missing k (without k rs) (lists-without rs h)
+  line-without rs h = unlisted k (without k rs) (lists-without rs h)
 
   -- removing an ABSENT line of version 0 changes the line of no key
   pub line-after-removing : (j : Key) (rs : List Record) → rising rs ≡ true → lineOf k rs ≡ absentAt k → lineOf j (without k rs) ≡ lineOf j rs

@@ -1,0 +1,4 @@
+-- Laws of adding and removing a line on a plain sheet and a bookkeeping sheet.
+pub mod Placing
+pub mod Parts
+pub mod Calls
