@@ -1,39 +1,36 @@
 -- Adding and removing on both sheets: refused by what is told of them first, by what is told of the place, or accepted and the line put in or taken out of both.
-use Rattle.lists.specs.Basics.{_≡_, refl, sym, ap, ap₂, _∙_, ℕ, _-_, _*_, _/_, _≤_, _<_, eqb, leb, Bool, true, false, cond, List, _++_, length, take, arith, all, joined, tests, eqb-true, eqb-false, eq-eqb}
-use Rattle.lists.specs.Basics.{ne-eqb, leb-true, leb-false}
+use Rattle.lists.specs.Basics.{_≡_, refl, sym, ap, _∙_, ℕ, _-_, _<_, eqb, Bool, true, false, List, _++_, length, arith, all, joined, tests, eqb-true, eqb-false}
 use Rattle.lists.specs.All.{all-weaken}
 use Rattle.model.specs.Types.{Key, Record, Rank, Ranked}
 use Rattle.model.specs.Lines.{linesOf}
-use Rattle.model.specs.Records.{records, recordText, recordsText, recordsGood, goodAlone, rank, ranked, absentAt, keyInRange}
-use Rattle.model.specs.Spares.{spareLine, sparesText, filledLines, front}
+use Rattle.model.specs.Records.{recordText, recordsText, recordsGood, goodAlone, rank, ranked, absentAt, keyInRange}
+use Rattle.model.specs.Spares.{spareLine, sparesText}
 use Rattle.model.specs.Refusals.{Condition, refusalOf}
 use Rattle.model.specs.Writes.{Sheets, Write, addLine, removeLine, apply}
 use Rattle.model.specs.Results.{Call, add, remove, acknowledged, refusalIn, Answer, Response, refused, made, answerOf}
-use Rattle.model.specs.Conditions.{noSpare, conditions, addConditions, removeConditions}
+use Rattle.model.specs.Conditions.{conditions}
 use Rattle.model.specs.Calls.{outcome, result}
 use Rattle.model.specs.Operations.{once, settled, response}
-use Rattle.model.specs.TwoSheets.{plainBytes, bookkeepingBytes, joinedSheet, plainLine, bookkeepingLine, plainPart, bookkeepingPart, fullConditions}
-use Rattle.model.specs.TwoSpares.{plainLines, bookkeepingLines, twoConditions}
+use Rattle.model.specs.TwoSheets.{plainBytes, bookkeepingBytes, plainLine, bookkeepingLine, plainPart, bookkeepingPart}
+use Rattle.model.specs.TwoSpares.{formConditions, twoConditions}
 use Rattle.model.specs.FullCalls.{TwoBytes}
 use Rattle.model.specs.TwoCalls.{sayingTwo, PassingTwo, responseTwo, plainLeft, bookkeepingLeft}
 use Rattle.sheet_laws.specs.Records.{ranged, good-ranged}
 use Rattle.sheet_laws.specs.Ranks.{rank-within}
-use Rattle.sheet_laws.specs.Fronts.{sized-whole}
 use Rattle.sheet_laws.specs.AddedLines.{rank-inside}
 use Rattle.call_laws.specs.Lines.{lines-added, lines-removed}
 use Rattle.call_laws.specs.Ranges.{absent-ranged}
 use Rattle.call_laws.specs.Adding.{MayAdd, may-add, MayRemove, may-remove}
 use Rattle.call_laws.specs.Sheets.{GoodSheets, good-parts}
 use Rattle.call_laws.specs.Lifting.{good-records}
-use Rattle.call_laws.specs.Accepted.{unless-held, unless-free, refusal-front}
+use Rattle.call_laws.specs.Accepted.{unless-held, unless-free, refusal-front, refusal-past}
 use Rattle.shifting.specs.Shifted.{insertAt, removeAt}
 use Rattle.adding.specs.Placing.{told-refused, told-free}
 use Rattle.two_laws.specs.TwoLines.{length-plainLine, length-bookkeepingLine}
-use Rattle.two_laws.specs.TwoEncoding.{passing-two-good, passing-encoded-two}
+use Rattle.two_laws.specs.TwoEncoding.{passing-two, count-joined, passing-two-good, passing-encoded-two}
 use Rattle.two_check.specs.Areas.{two}
-use Rattle.two_engine.specs.Forms.{Whole, refusal-cut}
-use Rattle.two_engine.specs.Performing.{size, passed, said, kept}
-use Rattle.two_adding.specs.Placing.{placeConditions, placeFull, own-refusal}
+use Rattle.two_engine.specs.Performing.{size, said}
+use Rattle.two_adding.specs.Placing.{placeTwo, callOf}
 use Rattle.two_adding.specs.Parts.{Shiftable, part-added, part-removed}
 
 -- what is answered and left: the refusal, or 0, and both sheets
@@ -78,81 +75,45 @@ module _ (c : Call) (ps bs cs : List ℕ) where
         by-response (made acknowledged (apply w saying))
         (on-said ∙ ap (settled saying) (unless-free (conditions c saying) (outcome c saying) z ∙ made-so)) refl p b
 
--- the call that adds or removes
-abbrev pub callOf : Bool → Key → Call
-callOf adds k = cond adds (add k) (remove k)
-
--- Sheets that have their size and as many lines, and where their spares begin; and what is told of a place on their lines.
-module _ (adds : Bool) (k : Key) (ps bs cs : List ℕ) (w : Whole ps bs) (p q : ℕ) (atP : p ≡ filledLines plainBytes ps * plainBytes) (atB : q ≡ filledLines bookkeepingBytes bs * bookkeepingBytes)
-    (full : Bool) (is-full : full ≡ eqb q (length bs)) (r : Ranked) (told : r ≡ placeFull adds full k (take p ps) (take q bs) cs) where
+-- What is told of a place on both sheets.
+module _ (adds : Bool) (k : Key) (ps bs cs : List ℕ) (r : Ranked) (told : r ≡ placeTwo adds k ps bs cs) where
   abbrev both : TwoBytes
   both = two ps bs cs
 
   abbrev rows : List Record
   rows = sayingTwo both .lines
 
-  abbrev js : List Record
-  js = records (joinedSheet (plainLines ps) (bookkeepingLines bs))
-
   abbrev asked : List Condition
-  asked = fullConditions (plainLines ps) (bookkeepingLines bs) cs
+  asked = twoConditions ps bs cs
 
   abbrev own : List Condition
-  own = placeConditions adds full k js
+  own = conditions (callOf adds k) (sayingTwo both)
 
-  told-cut : r ≡ placeFull adds full k (plainLines ps) (bookkeepingLines bs) cs
-  unfolding front
-  told-cut = told ∙ ap₂ (λ (x y : List ℕ). placeFull adds full k x y cs) (ap (λ (n : ℕ). take n ps) atP) (ap (λ (n : ℕ). take n bs) atB)
-
-  same-rows : PassingTwo both → rows ≡ js
-  same-rows h = ap (λ (s : Sheets). s .lines) (said ps bs cs w h)
-
-  full-is : PassingTwo both → full ≡ noSpare (sayingTwo both)
-  full-is h =
-      let m = size ps bs cs w in
-      let x = kept ps bs cs w h in
-      let l : length bs ≡ length bs / bookkeepingBytes * bookkeepingBytes = sized-whole bookkeepingBytes bs (w .bookkeeping) in
-      let f : length rows ≤ m = good-parts (sayingTwo both) (passing-two-good both h) .few-lines in
-      is-full ∙ go (leb m (length rows)) refl l f (ap length (same-rows h) ∙ x .lines) (x .many)
-    where
-      go : (b : Bool) → leb (size ps bs cs w) (length rows) ≡ b → length bs ≡ length bs / bookkeepingBytes * bookkeepingBytes → length rows ≤ size ps bs cs w → length rows ≡ filledLines bookkeepingBytes bs → size ps bs cs w ≡ length bs / bookkeepingBytes → eqb q (length bs) ≡ b
-      go true h l f c m = let y = leb-true (size ps bs cs w) (length rows) h in eq-eqb q (length bs) (omega (arith, atB, l, f, c, m, y))
-      go false h l f c m = let y = leb-false (size ps bs cs w) (length rows) h in ne-eqb q (length bs) (λ e. omega (arith, atB, l, c, m, y, e))
-
-  own-conditions : PassingTwo both → conditions (callOf adds k) (sayingTwo both) ≡ own
-  unfolding conditions
-  own-conditions h = go adds
-    where
-      go : (x : Bool) → conditions (callOf x k) (sayingTwo both) ≡ placeConditions x full k js
-      go true = ap₂ (λ (b : Bool) (ls : List Record). addConditions b k ls) (sym (full-is h)) (same-rows h)
-      go false = ap (removeConditions k) (same-rows h)
+  own-refusal : PassingTwo both → refusalOf (asked ++ own) ≡ refusalOf own
+  unfolding twoConditions formConditions all
+  own-refusal h = refusal-past asked own refl h
 
   pub place-refuses : (r .refusal ≡ 0 → ⊥) → ShiftedTwo (callOf adds k) ps bs cs (r .refusal) ps bs
-  unfolding placeFull
+  unfolding placeTwo
   place-refuses z = go (eqb (refusalOf asked) 0) refl
     where
       whole : r .refusal ≡ refusalOf (asked ++ own)
-      whole = told-refused (asked ++ own) (ranked k js) r told-cut z
+      whole = told-refused (asked ++ own) (ranked k rows) r told z
 
       go : (x : Bool) → eqb (refusalOf asked) 0 ≡ x → ShiftedTwo (callOf adds k) ps bs cs (r .refusal) ps bs
-      go true e =
-          let free = eqb-true (refusalOf asked) 0 e in
-          let h : PassingTwo both = passed ps bs cs w free in
-          call-refuses (callOf adds k) ps bs cs h (r .refusal)
-          (whole ∙ (own-refusal adds full k (plainLines ps) (bookkeepingLines bs) cs free ∙ ap refusalOf (sym (own-conditions h)))) z
+      go true e = let h = eqb-true (refusalOf asked) 0 e in call-refuses (callOf adds k) ps bs cs h (r .refusal) (whole ∙ own-refusal h) z
       go false e =
           let n = refusalOf asked in
-          let f : n ≡ refusalOf (asked ++ own) = refusal-front asked own n refl (eqb-false n 0 e) in
-          forms-refuse (callOf adds k) ps bs cs (r .refusal) (whole ∙ (sym f ∙ refusal-cut ps bs w cs)) z
+          forms-refuse (callOf adds k) ps bs cs (r .refusal) (whole ∙ sym (refusal-front asked own n refl (eqb-false n 0 e))) z
 
   -- None of the conditions holds.
   module _ (free : r .refusal ≡ 0) where
-    clear : (refusalOf (asked ++ own) ≡ 0) × (r .rank ≡ ranked k js)
-    unfolding placeFull
-    clear = told-free (asked ++ own) (ranked k js) r told-cut free
+    clear : (refusalOf (asked ++ own) ≡ 0) × (r .rank ≡ ranked k rows)
+    unfolding placeTwo
+    clear = told-free (asked ++ own) (ranked k rows) r told free
 
-    asked-clear : refusalOf asked ≡ 0
-    asked-clear = go (eqb (refusalOf asked) 0) refl
+    passes : PassingTwo both
+    passes = go (eqb (refusalOf asked) 0) refl
       where
         go : (x : Bool) → eqb (refusalOf asked) 0 ≡ x → refusalOf asked ≡ 0
         go true e = eqb-true (refusalOf asked) 0 e
@@ -160,14 +121,11 @@ module _ (adds : Bool) (k : Key) (ps bs cs : List ℕ) (w : Whole ps bs) (p q : 
             let n = refusalOf asked in
             refusal-front asked own n refl (eqb-false n 0 e) ∙ clear .0
 
-    passes : PassingTwo both
-    passes = passed ps bs cs w asked-clear
-
-    own-clear : refusalOf (conditions (callOf adds k) (sayingTwo both)) ≡ 0
-    own-clear = ap refusalOf (own-conditions passes) ∙ (sym (own-refusal adds full k (plainLines ps) (bookkeepingLines bs) cs asked-clear) ∙ clear .0)
+    own-clear : refusalOf own ≡ 0
+    own-clear = sym (own-refusal passes) ∙ clear .0
 
     place-is : r .rank .below ≡ rank k rows
-    place-is = ap (λ (x : Rank). x .below) (clear .1) ∙ ap (rank k) (sym (same-rows passes))
+    place-is = ap (λ (x : Rank). x .below) (clear .1)
 
     good : GoodSheets (sayingTwo both)
     good = good-parts (sayingTwo both) (passing-two-good both passes)
@@ -179,50 +137,44 @@ module _ (adds : Bool) (k : Key) (ps bs cs : List ℕ) (w : Whole ps bs) (p q : 
         let h : all goodAlone rows ≡ true = search (tests, g) in
         all-weaken goodAlone ranged good-ranged rows h
 
-    shiftable : r .rank .below < size ps bs cs w → Shiftable ps bs (r .rank .below)
+    shiftable : r .rank .below < sayingTwo both .size → Shiftable ps bs (r .rank .below)
     shiftable l =
-        let x = kept ps bs cs w passes in
-        let m = x .many in
-        let n = w .many in
-        record {
-          plain = sized-whole plainBytes ps (w .plain);
-          bookkeeping = sized-whole bookkeepingBytes bs (w .bookkeeping);
-          in-plain = omega (arith, l, m, n);
-          in-bookkeeping = omega (arith, l, m);
-        }
+        let j = passing-two both passes .lines in
+        let m = count-joined both j in
+        let n = j .many in
+        record { plain = j .plain; bookkeeping = j .bookkeeping; in-plain = omega (arith, l, m, n); in-bookkeeping = omega (arith, l, m) }
 
 -- Adding.
-module _ (k : Key) (ps bs cs : List ℕ) (w : Whole ps bs) (p q : ℕ) (atP : p ≡ filledLines plainBytes ps * plainBytes) (atB : q ≡ filledLines bookkeepingBytes bs * bookkeepingBytes)
-    (full : Bool) (is-full : full ≡ eqb q (length bs)) (r : Ranked) (told : r ≡ placeFull true full k (take p ps) (take q bs) cs) (free : r .refusal ≡ 0) where
+module _ (k : Key) (ps bs cs : List ℕ) (r : Ranked) (told : r ≡ placeTwo true k ps bs cs) (free : r .refusal ≡ 0) where
   abbrev here : Sheets
   here = sayingTwo (two ps bs cs)
 
   pass : PassingTwo (two ps bs cs)
-  pass = passes true k ps bs cs w p q atP atB full is-full r told free
+  pass = passes true k ps bs cs r told free
 
   parts-good : GoodSheets here
-  parts-good = good true k ps bs cs w p q atP atB full is-full r told free
+  parts-good = good true k ps bs cs r told free
 
   may : MayAdd k here
-  may = may-add k here (own-clear true k ps bs cs w p q atP atB full is-full r told free)
+  may = may-add k here (own-clear true k ps bs cs r told free)
 
   at-rank : r .rank .below ≡ rank k (here .lines)
-  at-rank = place-is true k ps bs cs w p q atP atB full is-full r told free
+  at-rank = place-is true k ps bs cs r told free
 
   pub add-shiftable : Shiftable ps bs (r .rank .below) × (keyInRange k ≡ true)
   add-shiftable =
       let l = rank-within k (here .lines) in
       let m = may .room in
-      (shiftable true k ps bs cs w p q atP atB full is-full r told free (omega (arith, at-rank, l, m)), may .in-range)
+      (shiftable true k ps bs cs r told free (omega (arith, at-rank, l, m)), may .in-range)
 
   pub add-made : (ps′ bs′ : List ℕ) → ps′ ≡ joined (insertAt (r .rank .below) (plainLine (recordText (absentAt k))) (linesOf plainBytes ps))
       → bs′ ≡ joined (insertAt (r .rank .below) (bookkeepingLine (recordText (absentAt k))) (linesOf bookkeepingBytes bs)) → ShiftedTwo (add k) ps bs cs 0 ps′ bs′
   unfolding outcome apply plainLeft bookkeepingLeft plainPart bookkeepingPart
   add-made ps′ bs′ e f =
-      let fit = fits true k ps bs cs w p q atP atB full is-full r told free in
+      let fit = fits true k ps bs cs r told free in
       let new = absent-ranged k (may .in-range) in
       let lines = lines-added k (here .lines) in
-      call-made (add k) ps bs cs pass (addLine k) refl (own-clear true k ps bs cs w p q atP atB full is-full r told free)
+      call-made (add k) ps bs cs pass (addLine k) refl (own-clear true k ps bs cs r told free)
       (e
       ∙ (ap (λ (i : ℕ). joined (insertAt i (plainLine (recordText (absentAt k))) (linesOf plainBytes ps))) at-rank
       ∙ (part-added plainBytes (omega arith) plainLine length-plainLine k (here .lines) (here .size) ps (sym (ap (λ (x : TwoBytes). x .plain) (passing-encoded-two (two ps bs cs) pass)))
@@ -235,36 +187,35 @@ module _ (k : Key) (ps bs cs : List ℕ) (w : Whole ps bs) (p q : ℕ) (atP : p 
       ∙ ap (λ (ls : List Record). bookkeepingPart (recordsText ls) ++ sparesText bookkeepingBytes (here .size - length ls)) (sym lines))))
 
 -- Removing.
-module _ (k : Key) (ps bs cs : List ℕ) (w : Whole ps bs) (p q : ℕ) (atP : p ≡ filledLines plainBytes ps * plainBytes) (atB : q ≡ filledLines bookkeepingBytes bs * bookkeepingBytes)
-    (full : Bool) (is-full : full ≡ eqb q (length bs)) (r : Ranked) (told : r ≡ placeFull false full k (take p ps) (take q bs) cs) (free : r .refusal ≡ 0) where
+module _ (k : Key) (ps bs cs : List ℕ) (r : Ranked) (told : r ≡ placeTwo false k ps bs cs) (free : r .refusal ≡ 0) where
   abbrev there : Sheets
   there = sayingTwo (two ps bs cs)
 
   let-pass : PassingTwo (two ps bs cs)
-  let-pass = passes false k ps bs cs w p q atP atB full is-full r told free
+  let-pass = passes false k ps bs cs r told free
 
   there-good : GoodSheets there
-  there-good = good false k ps bs cs w p q atP atB full is-full r told free
+  there-good = good false k ps bs cs r told free
 
   may-go : MayRemove k there
-  may-go = may-remove k there (own-clear false k ps bs cs w p q atP atB full is-full r told free)
+  may-go = may-remove k there (own-clear false k ps bs cs r told free)
 
   from-rank : r .rank .below ≡ rank k (there .lines)
-  from-rank = place-is false k ps bs cs w p q atP atB full is-full r told free
+  from-rank = place-is false k ps bs cs r told free
 
   pub remove-shiftable : Shiftable ps bs (r .rank .below)
   remove-shiftable =
       let l = rank-inside k (there .lines) (there-good .order) (may-go .listed) in
       let m = there-good .few-lines in
-      shiftable false k ps bs cs w p q atP atB full is-full r told free (omega (arith, from-rank, l, m))
+      shiftable false k ps bs cs r told free (omega (arith, from-rank, l, m))
 
   pub remove-made : (ps′ bs′ : List ℕ) → ps′ ≡ joined (removeAt (r .rank .below) (spareLine plainBytes) (linesOf plainBytes ps))
       → bs′ ≡ joined (removeAt (r .rank .below) (spareLine bookkeepingBytes) (linesOf bookkeepingBytes bs)) → ShiftedTwo (remove k) ps bs cs 0 ps′ bs′
   unfolding outcome apply plainLeft bookkeepingLeft plainPart bookkeepingPart
   remove-made ps′ bs′ e f =
-      let fit = fits false k ps bs cs w p q atP atB full is-full r told free in
+      let fit = fits false k ps bs cs r told free in
       let lines = lines-removed k (there .lines) in
-      call-made (remove k) ps bs cs let-pass (removeLine k) refl (own-clear false k ps bs cs w p q atP atB full is-full r told free)
+      call-made (remove k) ps bs cs let-pass (removeLine k) refl (own-clear false k ps bs cs r told free)
       (e
       ∙ (ap (λ (i : ℕ). joined (removeAt i (spareLine plainBytes) (linesOf plainBytes ps))) from-rank
       ∙ (part-removed plainBytes (omega arith) plainLine length-plainLine k (there .lines) (there .size) ps (sym (ap (λ (x : TwoBytes). x .plain) (passing-encoded-two (two ps bs cs) let-pass)))

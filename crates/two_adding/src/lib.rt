@@ -14,7 +14,7 @@ ghost use Rattle.model.specs.TwoSheets.{plainBytes, bookkeepingBytes, plainLine
 ghost use Rattle.model.specs.TwoCalls.{responseTwo, plainLeft, bookkeepingLeft};
 ghost use Rattle.shifting.specs.Shifted.{insertAt, removeAt};
 ghost use Rattle.two_check.specs.Areas.{two, Rooms};
-ghost use Rattle.two_adding.specs.Placing.{placeFull};
+ghost use Rattle.two_adding.specs.Placing.{placeFull, placeTwo};
 ghost use Rattle.two_adding.specs.Parts.{Shiftable};
 use sheets::lookup::no_rank;
 use shifting::front_end;
@@ -84,6 +84,20 @@ fn place(add: bool, full: bool, key: Key, plain: &[u8], book: &[u8], coordinator
     place_in_area(add, full, key, plain, book, coordinator)
 }
 
+// The same of both sheets with their spares.
+fn place_on(add: bool, key: Key, plain: &[u8], book: &[u8], coordinator: &[u8]) -> Ranked
+    ensures { λ r. ⌜ r ≡ placeTwo add key (now (plain .entry)) (now (book .entry)) (now (coordinator .entry)) ⌝ }
+{
+    let refused = two_engine::forms_refusal(plain, book, coordinator);
+    if refused != 0 {
+        return no_rank(refused);
+    }
+    let p = front_end(plain, PLAIN_BYTES);
+    let b = front_end(book, BOOKKEEPING_BYTES);
+    let full = b == book.len();
+    place(add, full, key, &plain[..p], &book[..b], coordinator)
+}
+
 // The key's line, ABSENT of version 0, at an index of both sheets.
 fn put_in(key: Key, at: usize, plain: &mut [u8], book: &mut [u8])
     requires { ⌜ Shiftable (now plain) (now book) at ⌝ }
@@ -116,14 +130,7 @@ pub fn add(key: Key, plain: &mut [u8], book: &mut [u8], coordinator: &[u8]) -> u
     ensures plain { λ r. ⌜ now (plain .exit) ≡ plainLeft (now (plain .entry)) (responseTwo (once (calls.add key)) (two (now (plain .entry)) (now (book .entry)) (now (coordinator .entry)))) ⌝ }
     ensures bookkeeping { λ r. ⌜ now (book .exit) ≡ bookkeepingLeft (now (book .entry)) (responseTwo (once (calls.add key)) (two (now (plain .entry)) (now (book .entry)) (now (coordinator .entry)))) ⌝ }
 {
-    let refused = two_engine::forms_refusal(plain, book, coordinator);
-    if refused != 0 {
-        return refused;
-    }
-    let p = front_end(plain, PLAIN_BYTES);
-    let b = front_end(book, BOOKKEEPING_BYTES);
-    let full = b == book.len();
-    let told = place(true, full, key, &plain[..p], &book[..b], coordinator);
+    let told = place_on(true, key, plain, book, coordinator);
     if told.refusal != 0 {
         return told.refusal;
     }
@@ -137,14 +144,7 @@ pub fn remove(key: Key, plain: &mut [u8], book: &mut [u8], coordinator: &[u8]) -
     ensures plain { λ r. ⌜ now (plain .exit) ≡ plainLeft (now (plain .entry)) (responseTwo (once (calls.remove key)) (two (now (plain .entry)) (now (book .entry)) (now (coordinator .entry)))) ⌝ }
     ensures bookkeeping { λ r. ⌜ now (book .exit) ≡ bookkeepingLeft (now (book .entry)) (responseTwo (once (calls.remove key)) (two (now (plain .entry)) (now (book .entry)) (now (coordinator .entry)))) ⌝ }
 {
-    let refused = two_engine::forms_refusal(plain, book, coordinator);
-    if refused != 0 {
-        return refused;
-    }
-    let p = front_end(plain, PLAIN_BYTES);
-    let b = front_end(book, BOOKKEEPING_BYTES);
-    let full = b == book.len();
-    let told = place(false, full, key, &plain[..p], &book[..b], coordinator);
+    let told = place_on(false, key, plain, book, coordinator);
     if told.refusal != 0 {
         return told.refusal;
     }
