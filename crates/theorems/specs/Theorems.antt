@@ -1,6 +1,6 @@
 -- What is proved of the engine: every headline statement, in the words of the definitions of `model`, each by citing the law that proves it. Document 02, note 4, is in TwoTheorems.
 -- The engine's contracts cite the same definitions, so that what holds of `answerOn`, `afterOn`, `responseOn` and `responseAtOn` holds of the functions that run.
-use Rattle.lists.specs.Basics.{_≡_, refl, ap, _∙_, ℕ, _+_, _*_, _/_, _%_, _^_, _≤_, _<_, true, false, cond, List, [], _∷_, map, length, take, drop, some, all, any, bytes}
+use Rattle.lists.specs.Basics.{_≡_, refl, sym, ap, subst, _∙_, ℕ, _+_, _*_, _/_, _%_, _^_, _≤_, _<_, true, false, cond, List, [], _∷_, map, length, take, drop, some, all, any, bytes}
 use Rattle.model.specs.Types.{Key, Record, Committed, At, Nothing, Transaction, Forward, Request}
 use Rattle.model.specs.Layouts.{recordBytes}
 use Rattle.model.specs.Lines.{text}
@@ -13,7 +13,7 @@ use Rattle.model.specs.Images.{isPrepared, rolledForward}
 use Rattle.model.specs.Visits.{ownerDecision}
 use Rattle.model.specs.WellFormed.{wellFormed}
 use Rattle.model.specs.Transactions.{donePhase, committedVerdict, puts, moved}
-use Rattle.model.specs.Results.{Call, read, advance, visit, add, remove, visited, reported, acknowledged, refusalIn, returns, answerOf}
+use Rattle.model.specs.Results.{Call, read, advance, visit, add, remove, shiftsLines, visited, reported, acknowledged, refusalIn, returns, answerOf}
 use Rattle.model.specs.Conditions.{isNew, refusals}
 use Rattle.model.specs.ByteCalls.{allConditions}
 use Rattle.model.specs.Operations.{close, writesOnce, allOperationConditions, responseOn, bytesLeft}
@@ -41,6 +41,7 @@ use Rattle.call_laws.specs.Sheets.{good-parts}
 use Rattle.call_laws.specs.Lifting.{passing-good}
 use Rattle.call_laws.specs.Operations as Operations
 use Rattle.call_laws.specs.ByPlace as ByPlace
+use Rattle.call_laws.specs.Lifting as Lifting
 use Rattle.call_laws.specs.ByteUnits as ByteUnits
 use Rattle.call_laws.specs.Told as ToldLines
 use Rattle.closing_laws.specs.Greatest as Greatest
@@ -106,6 +107,10 @@ refused-unchanged-by-place list place q b l = ByPlace.refused-leaves list place 
 -- "writes to at most one unit or the coordinator sheet"; document 02, note 6: adding and removing write one line, and lines that shift don't count. By place neither is asked
 pub single-unit : (c : Call) (b : Bytes) → ClockFits c → Passing b → OneUnit b (afterOn c b)
 single-unit c b l p = ByteUnits.call-unit c b l p
+
+-- and every other call puts in and takes out none: it stays within one unit, or the coordinator sheet
+pub within-one-unit : (c : Call) (b : Bytes) → shiftsLines c ≡ false → ClockFits c → Passing b → WithinUnit b (afterOn c b)
+within-one-unit c b n l p = subst (WithinUnit b) (sym (Lifting.same-bytes c b p)) (ByteUnits.readable-within c b n l (Lifting.passing-readable b p .0))
 
 pub single-unit-by-place : (list : List Transaction) (place : ℕ) (q : Request) (b : Bytes) → writesOnce (operationAt list place q) ≡ true → ClockFits (callAt list place q) → Passing b → WithinUnit b (turnAfterOn (byPlace list place q) b)
 unfolding turnWritesOnce turnEventOn turnCall

@@ -18,12 +18,12 @@ use Rattle.model.specs.Histories.{ClockFits}
 use Rattle.model.specs.Operations.{Operation, once, responseOn, bytesLeft}
 use Rattle.model.specs.CallByPlace.{listAfter}
 use Rattle.model.specs.RecoveryPass.{Visit, nonePrepared, Closing, Readings, leavesReadings}
-use Rattle.model.specs.Turns.{Turn, single, turnCall, turnWritesOnce, turnEvent, turnAfter, turnResponseOn, turnAfterOn, turnsLeft, LegalTurns}
+use Rattle.model.specs.Turns.{Turn, single, turnCall, turnWritesOnce, turnShifts, turnEvent, turnAfter, turnResponseOn, turnAfterOn, turnsLeft, LegalTurns}
 use Rattle.model.specs.TwoSheets.{bookkeepingBytes, plainBytes, joinedSheet, plainPart, bookkeepingPart, plainAlone, bookkeepingAlone}
 use Rattle.model.specs.TwoSpares.{plainLines, bookkeepingLines, keysMatch}
 use Rattle.model.specs.TwoCalls.{TwoBytes, sayingTwo, PassingTwo, responseTwo, responseAtTwo, allConditionsTwo, allConditionsAtTwo, answerTwo, afterTwo}
 use Rattle.model.specs.TwoCalls.{turnResponseTwo, turnEventTwo, turnAfterTwo}
-use Rattle.model.specs.AtomicWrites.{OneUnitTwo}
+use Rattle.model.specs.AtomicWrites.{WithinUnitTwo, OneUnitTwo}
 use Rattle.model.specs.Closes.{NextLimitTwo}
 use Rattle.model.specs.Kinds.{twoKind}
 use Rattle.model.specs.Recovered.{Undoes, RecoveredTwo, modelTwo, standingTwo, twoRecovered}
@@ -96,6 +96,10 @@ returned-well-formed-two x b t l p e = History.turn-returns-formed-two x b t l p
 -- "An atomic write goes to both, within one unit": every turn that writes once, and a close from one limit to the next
 pub single-unit-two : (x : Turn) (b : TwoBytes) → turnWritesOnce x ≡ true → ClockFits (turnCall x) → PassingTwo b → OneUnitTwo b (turnAfterTwo x b)
 single-unit-two x b w l p = TwoUnits.turn-unit-two x b w l p
+
+-- a turn that adds and removes no line puts in and takes out none
+pub within-one-unit-two : (x : Turn) (b : TwoBytes) → turnWritesOnce x ≡ true → turnShifts x ≡ false → ClockFits (turnCall x) → PassingTwo b → WithinUnitTwo b (turnAfterTwo x b)
+within-one-unit-two x b w n l p = TwoUnits.turn-within-two x b w n l p
 
 pub single-unit-call-two : (c : Call) (b : TwoBytes) → ClockFits c → PassingTwo b → OneUnitTwo b (afterTwo c b)
 single-unit-call-two c b l p = TwoUnits.call-unit-two c b l p

@@ -21,7 +21,7 @@ use Rattle.model.specs.Histories.{ClockFits}
 use Rattle.model.specs.ByteHistories.{Bytes, Readable}
 use Rattle.model.specs.Closing.{Run, closeConditions}
 use Rattle.model.specs.Operations.{once, writesOnce, standsFor, closeRun, ended, coordinatorLeft}
-use Rattle.model.specs.Turns.{Turn, single, turnCall, turnWritesOnce, turnEvent, turnAfter}
+use Rattle.model.specs.Turns.{Turn, single, turnCall, turnWritesOnce, turnShifts, turnEvent, turnAfter}
 use Rattle.model.specs.TwoSheets.{plainBytes, bookkeepingBytes, joinedSheet, plainLine, bookkeepingLine, plainPart, bookkeepingPart, plainRecord, bookkeepingRecord, lineOfSheet}
 use Rattle.model.specs.TwoSpares.{joinedLines}
 use Rattle.model.specs.TwoCalls.{TwoBytes, sayingTwo, conditionsOf, PassingTwo, responseTwo, plainLeft, bookkeepingLeft, twoLeft, afterTwo, turnResponseTwo}
@@ -32,7 +32,7 @@ use Rattle.model.specs.AtomicWrites.{lines-of-one-unit-two, coordinator-only-tw
 use Rattle.call_laws.specs.Lifting.{readable-both, readable-good, encoded, encoded-readable, readable-encoded, good-records}
 use Rattle.turns.specs.Operations.{close-sound}
 use Rattle.turns.specs.Turns.{turn-stays-good, turn-stays-readable}
-use Rattle.turns.specs.Units.{readable-unit}
+use Rattle.turns.specs.Units.{readable-within, readable-unit}
 use Rattle.turns.specs.Closes.{next-by, run-next}
 use Rattle.two_laws.specs.Deciding.{whole}
 use Rattle.two_laws.specs.FilledSheets.{lines-wide}
@@ -225,16 +225,23 @@ passing-apart b h =
     ap apart (sym (readable-encoded (joinedBytes b) (passing-two b h .readable)))
     ∙ (apart-encoded (sayingTwo b) (passing-two-good b h) ∙ passing-encoded-two b h)
 
--- "An atomic write goes to both, within one unit."
-pub turn-unit-two : (x : Turn) (b : TwoBytes) → turnWritesOnce x ≡ true → ClockFits (turnCall x) → PassingTwo b → OneUnitTwo b (turnAfterTwo x b)
+-- what holds of the joined sheet before and after a turn, and of the parts if of the whole
+turn-apart : (R : Bytes → Bytes → Type 0) (S : TwoBytes → TwoBytes → Type 0) → ((b a : Bytes) → whole recordBytes (b .records) ≡ true → whole recordBytes (a .records) ≡ true → R b a → S (apart b) (apart a)) → (x : Turn) (b : TwoBytes) → ClockFits (turnCall x) → PassingTwo b → R (joinedBytes b) (encoded (turnAfter x (sayingTwo b))) → S b (turnAfterTwo x b)
 unfolding turnEvent
-turn-unit-two x b w l h =
+turn-apart R S parts x b l h u =
     let r = passing-two b h .readable in
     let g : sheetsGood (turnAfter x (sayingTwo b)) ≡ true = turn-stays-good x (sayingTwo b) l (passing-two-good b h) in
-    subst (λ (a : TwoBytes). OneUnitTwo a (turnAfterTwo x b)) (passing-apart b h)
-    (subst (OneUnitTwo (apart (joinedBytes b))) (apart-encoded (turnAfter x (sayingTwo b)) g ∙ sym (turn-two x b h))
-    (unit-apart (joinedBytes b) (encoded (turnAfter x (sayingTwo b))) (readable-whole (joinedBytes b) r)
-    (readable-whole (encoded (turnAfter x (sayingTwo b))) (turn-stays-readable x (joinedBytes b) l r .1)) (readable-unit x (joinedBytes b) w l r)))
+    subst (λ (a : TwoBytes). S a (turnAfterTwo x b)) (passing-apart b h)
+    (subst (S (apart (joinedBytes b))) (apart-encoded (turnAfter x (sayingTwo b)) g ∙ sym (turn-two x b h))
+    (parts (joinedBytes b) (encoded (turnAfter x (sayingTwo b))) (readable-whole (joinedBytes b) r)
+    (readable-whole (encoded (turnAfter x (sayingTwo b))) (turn-stays-readable x (joinedBytes b) l r .1)) u))
+
+-- "An atomic write goes to both, within one unit": unless the turn adds or removes a line
+pub turn-within-two : (x : Turn) (b : TwoBytes) → turnWritesOnce x ≡ true → turnShifts x ≡ false → ClockFits (turnCall x) → PassingTwo b → WithinUnitTwo b (turnAfterTwo x b)
+turn-within-two x b w n l h = turn-apart WithinUnit WithinUnitTwo within-apart x b l h (readable-within x (joinedBytes b) w n l (passing-two b h .readable))
+
+pub turn-unit-two : (x : Turn) (b : TwoBytes) → turnWritesOnce x ≡ true → ClockFits (turnCall x) → PassingTwo b → OneUnitTwo b (turnAfterTwo x b)
+turn-unit-two x b w l h = turn-apart OneUnit OneUnitTwo unit-apart x b l h (readable-unit x (joinedBytes b) w l (passing-two b h .readable))
 
 pub call-unit-two : (c : Call) (b : TwoBytes) → ClockFits c → PassingTwo b → OneUnitTwo b (afterTwo c b)
 unfolding afterTwo turnAfterTwo turnResponseTwo turnWritesOnce writesOnce turnCall standsFor
