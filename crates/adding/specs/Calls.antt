@@ -128,8 +128,12 @@ module _ (k : Key) (rs cs : List ℕ) (passed : refusalOf (checkConditions rs cs
       place : r .rank .below ≡ rank k rows
       place = ap (λ (x : Rank). x .below) (clear .1)
 
-      pub add-within : r .rank .below < length rs / recordBytes
-      add-within = let l = rank-within k rows in let m = may .room in omega (arith, place, l, m)
+      -- the place is not below the last record, and there is a spare behind that
+      pub add-within : (r .rank .below ≤ end / recordBytes) × (end / recordBytes < length rs / recordBytes)
+      add-within =
+          let l = rank-within k rows in
+          let m = may .room in
+          let c : length rows ≡ filledLines recordBytes rs = count-front rs (passing-parts both passed .0) in (omega (arith, at, place, l, c), omega (arith, at, c, m))
 
       pub add-wide : length (recordText (absentAt k)) ≡ recordBytes
       add-wide = absent-wide k (may .in-range)

@@ -12,11 +12,11 @@ use Rattle.model.specs.Spares.{sparesText, recordLines, sheetFor, sheetAccepted
 use Rattle.model.specs.Coordinator.{coordinatorText}
 use Rattle.model.specs.SheetCalls.{lineAt}
 use Rattle.model.specs.Writes.{Write, sheetsGood, addLine, removeLine, lineAfter, decisionsAfter, without, linesAfter, apply}
-use Rattle.model.specs.Results.{Call, shiftsLines}
+use Rattle.model.specs.Results.{Call, add, remove, shiftsLines}
 use Rattle.model.specs.Histories.{written, after, ClockFits}
 use Rattle.model.specs.ByteCalls.{sheetText}
 use Rattle.model.specs.ByteHistories.{Bytes, saying, Readable, Passing, afterOn}
-use Rattle.model.specs.AtomicWrites.{WithinUnit, lines-of-one-unit, coordinator-only, LinePutIn, OneUnit, within-unit}
+use Rattle.model.specs.AtomicWrites.{WithinUnit, lines-of-one-unit, coordinator-only, LinePutIn, lineFor, OneUnit, within-unit}
 use Rattle.model.specs.AtomicWrites as Atomic
 use Rattle.sheet_laws.specs.Records.{ranged, good-ranged, length-recordText, record-written-read, records-read-written, sheet-written-read}
 use Rattle.sheet_laws.specs.Spared.{accepted-lines, sheet-said}
@@ -192,27 +192,27 @@ module _ (b : Bytes) (readable : Readable b) where
   sheet-is : sheetFor rows size ≡ b .records
   sheet-is = sheet-said (b .records) (readable-both b readable .0)
 
-  added-unit : (k : Key) → MayAdd k (saying b) → OneUnit b (encoded (apply (addLine k) (saying b)))
+  added-unit : (k : Key) → MayAdd k (saying b) → OneUnit b (encoded (apply (addLine k) (saying b))) (add k)
   unfolding apply decisionsAfter sheetFor recordsText
   added-unit k m =
-      Atomic.line-added (rank k rows) decisions-stay
-      (subst (λ (t : List ℕ). LinePutIn recordBytes (rank k rows) t (sheetFor (linesAfter (addLine k) rows) size)) sheet-is
-      (subst (λ (ls : List Record). LinePutIn recordBytes (rank k rows) (sheetFor rows size) (sheetFor ls size)) (sym (lines-added k rows))
+      Atomic.line-added k (rank k rows) decisions-stay
+      (subst (λ (t : List ℕ). LinePutIn recordBytes (lineFor k) (rank k rows) t (sheetFor (linesAfter (addLine k) rows) size)) sheet-is
+      (subst (λ (ls : List Record). LinePutIn recordBytes (lineFor k) (rank k rows) (sheetFor rows size) (sheetFor ls size)) (sym (lines-added k rows))
       (added-in recordBytes (omega arith) recordText ranged length-recordText k rows size (parts .order) (m .unlisted) all-ranged (absent-ranged k (m .in-range)) (m .room))))
 
-  removed-unit : (k : Key) → MayRemove k (saying b) → OneUnit b (encoded (apply (removeLine k) (saying b)))
+  removed-unit : (k : Key) → MayRemove k (saying b) → OneUnit b (encoded (apply (removeLine k) (saying b))) (remove k)
   unfolding apply decisionsAfter sheetFor recordsText
   removed-unit k m =
-      Atomic.line-removed (rank k (without k rows)) decisions-stay
-      (subst (λ (t : List ℕ). LinePutIn recordBytes (rank k (without k rows)) (sheetFor (linesAfter (removeLine k) rows) size) t) sheet-is
-      (subst (λ (ls : List Record). LinePutIn recordBytes (rank k (without k rows)) (sheetFor ls size) (sheetFor rows size)) (sym (lines-removed k rows))
+      Atomic.line-removed k (rank k (without k rows)) decisions-stay
+      (subst (λ (t : List ℕ). LinePutIn recordBytes (lineFor k) (rank k (without k rows)) (sheetFor (linesAfter (removeLine k) rows) size) t) sheet-is
+      (subst (λ (ls : List Record). LinePutIn recordBytes (lineFor k) (rank k (without k rows)) (sheetFor ls size) (sheetFor rows size)) (sym (lines-removed k rows))
       (removed-in recordBytes (omega arith) recordText ranged length-recordText k rows size (parts .order) (m .listed) (removed-line (saying b) parts k m) all-ranged
       (absent-ranged k (listed-range (saying b) parts k (m .listed))) (parts .few-lines))))
 
-  pub any-unit : (w : Write) → sheetsGood (apply w (saying b)) ≡ true → Single (saying b) w → OneUnit b (encoded (apply w (saying b)))
-  any-unit w good (in-unit u) = within-unit (write-unit b readable w (unit-shifts u) good u)
-  any-unit w good (line-added k m) = added-unit k m
-  any-unit w good (line-removed k m) = removed-unit k m
+  pub any-unit : (c : Call) (w : Write) → sheetsGood (apply w (saying b)) ≡ true → Single (saying b) c w → OneUnit b (encoded (apply w (saying b))) c
+  any-unit c w good (in-unit u) = within-unit (write-unit b readable w (unit-shifts u) good u)
+  any-unit c w good (line-added k m) = added-unit k m
+  any-unit c w good (line-removed k m) = removed-unit k m
 
 -- what a call on what readable bytes say writes, encoded: within one unit, unless it adds or removes a line
 pub readable-within : (c : Call) (b : Bytes) → shiftsLines c ≡ false → ClockFits c → Readable b → WithinUnit b (encoded (after c (saying b)))
@@ -221,10 +221,10 @@ readable-within c b n l p =
     let u = written-unit c (saying b) n in
     write-unit b p (written c (saying b)) (unit-shifts u) (sheets-stay-good c (saying b) l (readable-good b p)) u
 
-pub readable-unit : (c : Call) (b : Bytes) → ClockFits c → Readable b → OneUnit b (encoded (after c (saying b)))
+pub readable-unit : (c : Call) (b : Bytes) → ClockFits c → Readable b → OneUnit b (encoded (after c (saying b))) c
 unfolding after
-readable-unit c b l p = any-unit b p (written c (saying b)) (sheets-stay-good c (saying b) l (readable-good b p)) (single-unit c (saying b))
+readable-unit c b l p = any-unit b p c (written c (saying b)) (sheets-stay-good c (saying b) l (readable-good b p)) (single-unit c (saying b))
 
 -- "writes to at most one unit or the coordinator sheet"
-pub call-unit : (c : Call) (b : Bytes) → ClockFits c → Passing b → OneUnit b (afterOn c b)
-call-unit c b l p = subst (OneUnit b) (sym (same-bytes c b p)) (readable-unit c b l (passing-readable b p .0))
+pub call-unit : (c : Call) (b : Bytes) → ClockFits c → Passing b → OneUnit b (afterOn c b) c
+call-unit c b l p = subst (λ (a : Bytes). OneUnit b a c) (sym (same-bytes c b p)) (readable-unit c b l (passing-readable b p .0))

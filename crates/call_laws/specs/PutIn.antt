@@ -45,7 +45,7 @@ module _ (w : ℕ) (some : 0 < w) (f : Record → List ℕ) (p : Record → Bool
         ap length sheet-joined ∙ (length-joined w (map f rs ++ spares) all-wide ∙ ap (λ (m : ℕ). m * w) c)
 
   pub added-in : (k : Key) (rs : List Record) (n : ℕ) → rising rs ≡ true → listsKey k rs ≡ false → all p rs ≡ true → p (absentAt k) ≡ true → length rs < n
-      → LinePutIn w (rank k rs) (linesFor rs n) (linesFor (inserted k rs) n)
+      → LinePutIn w (f (absentAt k)) (rank k rs) (linesFor rs n) (linesFor (inserted k rs) n)
   added-in k rs n order none pass new room =
       let i = rank k rs in
       let sp = spareLine w in
@@ -59,7 +59,6 @@ module _ (w : ℕ) (some : 0 < w) (f : Record → List ℕ) (p : Record → Bool
       record {
         above = above;
         below = below;
-        line = f (absentAt k);
         index = length-map (take i rs) f ∙ length-take-le i rs (rank-within k rs);
         size = sheet-bytes (inserted k rs) n (all-inserted k p rs new pass) (omega arith) ∙ sym (sheet-bytes rs n pass (omega arith));
         was =
@@ -74,8 +73,8 @@ module _ (w : ℕ) (some : 0 < w) (f : Record → List ℕ) (p : Record → Bool
       }
 
   pub removed-in : (k : Key) (rs : List Record) (n : ℕ) → rising rs ≡ true → listsKey k rs ≡ true → lineOf k rs ≡ absentAt k → all p rs ≡ true → p (absentAt k) ≡ true → length rs ≤ n
-      → LinePutIn w (rank k (without k rs)) (linesFor (without k rs) n) (linesFor rs n)
+      → LinePutIn w (f (absentAt k)) (rank k (without k rs)) (linesFor (without k rs) n) (linesFor rs n)
   removed-in k rs n order has blank pass new room =
       let l : suc (length (without k rs)) ≡ length rs = length-without k rs has in
-      subst (λ (ls : List Record). LinePutIn w (rank k (without k rs)) (linesFor (without k rs) n) (linesFor ls n)) (inserted-without k rs order has blank)
+      subst (λ (ls : List Record). LinePutIn w (f (absentAt k)) (rank k (without k rs)) (linesFor (without k rs) n) (linesFor ls n)) (inserted-without k rs order has blank)
       (added-in k (without k rs) n (rising-without k rs order) (lists-without k rs order) (all-without k p rs pass) new (omega arith))

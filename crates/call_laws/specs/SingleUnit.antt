@@ -203,13 +203,13 @@ pub made-shifts : (c : Call) (s : Sheets) → shiftsLines c ≡ false → shifts
 unfolding written
 made-shifts c s h = written-shifts c s h
 
--- What a call may write: to one unit, or to the coordinator sheet, or a line for a key that has none, or a key's line taken away.
-pub data Single (s : Sheets) : Write → Type 0 where
-  in-unit : {w : Write} → InUnit s w → Single s w
-  line-added : (k : Key) → MayAdd k s → Single s (addLine k)
-  line-removed : (k : Key) → MayRemove k s → Single s (removeLine k)
+-- What a call may write: to one unit, or to the coordinator sheet, or a line for its key, which has none, or its key's line taken away.
+pub data Single (s : Sheets) : Call → Write → Type 0 where
+  in-unit : {c : Call} {w : Write} → InUnit s w → Single s c w
+  line-added : (k : Key) → MayAdd k s → Single s (add k) (addLine k)
+  line-removed : (k : Key) → MayRemove k s → Single s (remove k) (removeLine k)
 
-outcome-single : (c : Call) (s : Sheets) → refusalOf (conditions c s) ≡ 0 → Single s (writeOf (outcome c s))
+outcome-single : (c : Call) (s : Sheets) → refusalOf (conditions c s) ≡ 0 → Single s c (writeOf (outcome c s))
 unfolding outcome
 outcome-single (begin b) s z = in-unit (outcome-unit (begin b) s refl)
 outcome-single (read t k now) s z = in-unit (outcome-unit (read t k now) s refl)
@@ -222,5 +222,5 @@ outcome-single (add k) s z = line-added k (may-add k s z)
 outcome-single (remove k) s z = line-removed k (may-remove k s z)
 
 -- "writes to at most one unit or the coordinator sheet", whatever the call, its arguments and the sheets
-pub single-unit : (c : Call) (s : Sheets) → Single s (written c s)
-single-unit c s = by-written (Single s) c s (in-unit (nothing-unit (unitsOf s))) (λ z. outcome-single c s z)
+pub single-unit : (c : Call) (s : Sheets) → Single s c (written c s)
+single-unit c s = by-written (Single s c) c s (in-unit (nothing-unit (unitsOf s))) (λ z. outcome-single c s z)

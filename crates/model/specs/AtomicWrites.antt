@@ -3,13 +3,14 @@ use Rattle.lists.specs.Basics.{_≡_, ℕ, List, [], _∷_, _++_, length}
 use Rattle.model.specs.Types.{Key, At}
 use Rattle.model.specs.Layouts.{recordBytes}
 use Rattle.model.specs.Lines.{linesOf}
-use Rattle.model.specs.Records.{recordIn}
+use Rattle.model.specs.Records.{recordIn, recordText, absentAt}
 use Rattle.model.specs.Spares.{spareLine}
 use Rattle.model.specs.Coordinator.{Letter, coordinatorOf}
 use Rattle.model.specs.SheetCalls.{lineAt}
 use Rattle.model.specs.Groups.{scope}
+use Rattle.model.specs.Results.{Call, add, remove}
 use Rattle.model.specs.ByteHistories.{Bytes}
-use Rattle.model.specs.TwoSheets.{plainBytes, bookkeepingBytes, plainRecord, bookkeepingRecord, lineOfSheet}
+use Rattle.model.specs.TwoSheets.{plainBytes, bookkeepingBytes, plainLine, bookkeepingLine, plainRecord, bookkeepingRecord, lineOfSheet}
 use Rattle.model.specs.TwoCalls.{TwoBytes}
 
 -- the fields of the key of line i that the unit of its storage compares
@@ -24,20 +25,23 @@ pub data WithinUnit (before after : Bytes) : Type 0 where
 
 -- Document 02, note 6: "Each is one atomic write, of that line only: lines that shift by it don't count as written." A sheet before and after a line is put in at index i: it keeps its length, the lines from there on stand one further down, and of the spares at the end one is used up. The
 -- other way round it is a line taken out, those below it one further up and a spare more.
-pub record LinePutIn (width i : ℕ) (before after : List ℕ) : Type 0 where
+pub record LinePutIn (width : ℕ) (line : List ℕ) (i : ℕ) (before after : List ℕ) : Type 0 where
   pub above : List (List ℕ)
   pub below : List (List ℕ)
-  pub line : List ℕ
   pub index : length above ≡ i
   pub size : length after ≡ length before
   pub was : linesOf width before ≡ above ++ (below ++ (spareLine width ∷ []))
   pub is : linesOf width after ≡ above ++ (line ∷ below)
 
--- what a call may write: within one unit, or the coordinator sheet, or one line put in or taken out
-pub data OneUnit (before after : Bytes) : Type 0 where
-  within-unit : WithinUnit before after → OneUnit before after
-  line-added : (i : ℕ) → after .coordinator ≡ before .coordinator → LinePutIn recordBytes i (before .records) (after .records) → OneUnit before after
-  line-removed : (i : ℕ) → after .coordinator ≡ before .coordinator → LinePutIn recordBytes i (after .records) (before .records) → OneUnit before after
+-- the line that a key gets, and that is all that can be taken out: ABSENT, of version 0
+abbrev pub lineFor : Key → List ℕ
+lineFor k = recordText (absentAt k)
+
+-- What a call may write: within one unit, or the coordinator sheet, or its key's line put in or taken out. At which index that line stands follows from the order of keys, since what is left is accepted.
+pub data OneUnit (before after : Bytes) : Call → Type 0 where
+  within-unit : {c : Call} → WithinUnit before after → OneUnit before after c
+  line-added : (k : Key) (i : ℕ) → after .coordinator ≡ before .coordinator → LinePutIn recordBytes (lineFor k) i (before .records) (after .records) → OneUnit before after (add k)
+  line-removed : (k : Key) (i : ℕ) → after .coordinator ≡ before .coordinator → LinePutIn recordBytes (lineFor k) i (after .records) (before .records) → OneUnit before after (remove k)
 
 -- Of a plain sheet and a bookkeeping sheet. Document 02, note 4: "An atomic write goes to both, within one unit."
 
@@ -56,11 +60,11 @@ pub data WithinUnitTwo (before after : TwoBytes) : Type 0 where
   lines-of-one-unit-two : (unit : List ℕ) → after .coordinator ≡ before .coordinator → PlainKeeps unit before after → BookkeepingKeeps unit before after → WithinUnitTwo before after
   coordinator-only-two : after .plain ≡ before .plain → after .bookkeeping ≡ before .bookkeeping → WithinUnitTwo before after
 
--- a line put in goes to both, at the same index
-abbrev pub BothPutIn : ℕ → TwoBytes → TwoBytes → Type 0
-BothPutIn i b a = LinePutIn plainBytes i (b .plain) (a .plain) × LinePutIn bookkeepingBytes i (b .bookkeeping) (a .bookkeeping)
+-- the parts of a line put in go to both, at the same index
+abbrev pub BothPutIn : List ℕ → ℕ → TwoBytes → TwoBytes → Type 0
+BothPutIn line i b a = LinePutIn plainBytes (plainLine line) i (b .plain) (a .plain) × LinePutIn bookkeepingBytes (bookkeepingLine line) i (b .bookkeeping) (a .bookkeeping)
 
-pub data OneUnitTwo (before after : TwoBytes) : Type 0 where
-  within-unit-two : WithinUnitTwo before after → OneUnitTwo before after
-  line-added-two : (i : ℕ) → after .coordinator ≡ before .coordinator → BothPutIn i before after → OneUnitTwo before after
-  line-removed-two : (i : ℕ) → after .coordinator ≡ before .coordinator → BothPutIn i after before → OneUnitTwo before after
+pub data OneUnitTwo (before after : TwoBytes) : Call → Type 0 where
+  within-unit-two : {c : Call} → WithinUnitTwo before after → OneUnitTwo before after c
+  line-added-two : (k : Key) (i : ℕ) → after .coordinator ≡ before .coordinator → BothPutIn (lineFor k) i before after → OneUnitTwo before after (add k)
+  line-removed-two : (k : Key) (i : ℕ) → after .coordinator ≡ before .coordinator → BothPutIn (lineFor k) i after before → OneUnitTwo before after (remove k)

@@ -105,7 +105,7 @@ refused-unchanged-by-place list place q b l = ByPlace.refused-leaves list place 
 -- DEMAND 2: the answer, the transaction and the lines are the contracts' own equations. What holds of all of them:
 
 -- "writes to at most one unit or the coordinator sheet"; document 02, note 6: adding and removing write one line, and lines that shift don't count. By place neither is asked
-pub single-unit : (c : Call) (b : Bytes) → ClockFits c → Passing b → OneUnit b (afterOn c b)
+pub single-unit : (c : Call) (b : Bytes) → ClockFits c → Passing b → OneUnit b (afterOn c b) c
 single-unit c b l p = ByteUnits.call-unit c b l p
 
 -- and every other call puts in and takes out none: it stays within one unit, or the coordinator sheet

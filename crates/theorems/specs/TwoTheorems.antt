@@ -94,14 +94,14 @@ pub returned-well-formed-two : (x : Turn) (b : TwoBytes) (t : Transaction) → C
 returned-well-formed-two x b t l p e = History.turn-returns-formed-two x b t l p e
 
 -- "An atomic write goes to both, within one unit": every turn that writes once, and a close from one limit to the next
-pub single-unit-two : (x : Turn) (b : TwoBytes) → turnWritesOnce x ≡ true → ClockFits (turnCall x) → PassingTwo b → OneUnitTwo b (turnAfterTwo x b)
+pub single-unit-two : (x : Turn) (b : TwoBytes) → turnWritesOnce x ≡ true → ClockFits (turnCall x) → PassingTwo b → OneUnitTwo b (turnAfterTwo x b) (turnCall x)
 single-unit-two x b w l p = TwoUnits.turn-unit-two x b w l p
 
 -- a turn that adds and removes no line puts in and takes out none
 pub within-one-unit-two : (x : Turn) (b : TwoBytes) → turnWritesOnce x ≡ true → turnShifts x ≡ false → ClockFits (turnCall x) → PassingTwo b → WithinUnitTwo b (turnAfterTwo x b)
 within-one-unit-two x b w n l p = TwoUnits.turn-within-two x b w n l p
 
-pub single-unit-call-two : (c : Call) (b : TwoBytes) → ClockFits c → PassingTwo b → OneUnitTwo b (afterTwo c b)
+pub single-unit-call-two : (c : Call) (b : TwoBytes) → ClockFits c → PassingTwo b → OneUnitTwo b (afterTwo c b) c
 single-unit-call-two c b l p = TwoUnits.call-unit-two c b l p
 
 pub limit-by-limit-two : (t : Transaction) (now limit : ℕ) (b : TwoBytes) → now < 2 ^ 32 → NextLimitTwo t now limit b

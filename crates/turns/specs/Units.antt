@@ -42,8 +42,9 @@ module _ (o : Operation) (b : Bytes) (w : writesOnce o ≡ true) (l : ClockFits 
   unfolding standsFor
   clock c e = subst (λ (x : Operation). ClockFits (standsFor x)) e l
 
-  operation-unit : OneUnit b (encoded (sheetsLeft (saying b) (response o (saying b))))
-  operation-unit = operation-by (OneUnit b) o b w (λ c e. call-unit c b (clock c e) p)
+  operation-unit : OneUnit b (encoded (sheetsLeft (saying b) (response o (saying b)))) (standsFor o)
+  unfolding standsFor
+  operation-unit = operation-by (λ (a : Bytes). OneUnit b a (standsFor o)) o b w (λ c e. subst (OneUnit b (encoded (after c (saying b)))) (ap standsFor (sym e)) (call-unit c b (clock c e) p))
 
   operation-within : operationShifts o ≡ false → WithinUnit b (encoded (sheetsLeft (saying b) (response o (saying b))))
   operation-within n = operation-by (WithinUnit b) o b w (λ c e. call-within c b (ap operationShifts (sym e) ∙ n) (clock c e) p)
@@ -56,7 +57,7 @@ readable-within (byPlace list place q) b w n l p =
     by-place list place q (saying b) (λ (r : Response Answer Sheets). WithinUnit b (encoded (sheetsLeft (saying b) r)))
     (operation-within (operationAt list place q) b w l p (request-calm q (named list place))) (coordinator-only (ap (λ (x : Bytes). x .records) (readable-encoded b p)))
 
-pub readable-unit : (x : Turn) (b : Bytes) → turnWritesOnce x ≡ true → ClockFits (turnCall x) → Readable b → OneUnit b (encoded (turnAfter x (saying b)))
+pub readable-unit : (x : Turn) (b : Bytes) → turnWritesOnce x ≡ true → ClockFits (turnCall x) → Readable b → OneUnit b (encoded (turnAfter x (saying b))) (turnCall x)
 unfolding turnWritesOnce turnCall turnAfter turnResponse
 readable-unit (single o) b w l p = operation-unit o b w l p
 readable-unit (byPlace list place q) b w l p = within-unit (readable-within (byPlace list place q) b w refl l p)
@@ -66,6 +67,6 @@ unfolding turnEventOn
 turn-within x b w n l p = subst (WithinUnit b) (sym (turn-bytes x b p)) (readable-within x b w n l (passing-readable b p .0))
 
 -- "writes to at most one unit or the coordinator sheet"
-pub turn-unit : (x : Turn) (b : Bytes) → turnWritesOnce x ≡ true → ClockFits (turnEventOn x b .call) → Passing b → OneUnit b (turnAfterOn x b)
+pub turn-unit : (x : Turn) (b : Bytes) → turnWritesOnce x ≡ true → ClockFits (turnEventOn x b .call) → Passing b → OneUnit b (turnAfterOn x b) (turnCall x)
 unfolding turnEventOn
-turn-unit x b w l p = subst (OneUnit b) (sym (turn-bytes x b p)) (readable-unit x b w l (passing-readable b p .0))
+turn-unit x b w l p = subst (λ (a : Bytes). OneUnit b a (turnCall x)) (sym (turn-bytes x b p)) (readable-unit x b w l (passing-readable b p .0))

@@ -27,7 +27,7 @@ use Rattle.model.specs.TwoSpares.{joinedLines}
 use Rattle.model.specs.TwoCalls.{TwoBytes, sayingTwo, conditionsOf, PassingTwo, responseTwo, plainLeft, bookkeepingLeft, twoLeft, afterTwo, turnResponseTwo}
 use Rattle.model.specs.TwoCalls.{turnAfterTwo}
 use Rattle.model.specs.Closes.{NextWrite, nothing-more, one-write-more, NextLimitTwo}
-use Rattle.model.specs.AtomicWrites.{WithinUnit, lines-of-one-unit, coordinator-only, LinePutIn, OneUnit, within-unit, line-added, line-removed, KeepsOthers, WithinUnitTwo}
+use Rattle.model.specs.AtomicWrites.{WithinUnit, lines-of-one-unit, coordinator-only, LinePutIn, lineFor, OneUnit, within-unit, line-added, line-removed, KeepsOthers, WithinUnitTwo}
 use Rattle.model.specs.AtomicWrites.{lines-of-one-unit-two, coordinator-only-two, BothPutIn, OneUnitTwo, within-unit-two, line-added-two, line-removed-two}
 use Rattle.call_laws.specs.Lifting.{readable-both, readable-good, encoded, encoded-readable, readable-encoded, good-records}
 use Rattle.turns.specs.Operations.{close-sound}
@@ -127,13 +127,12 @@ module _ (w : ℕ) (part : List ℕ → List ℕ) (keyIn : List ℕ → Key)
           line-past s′ h′ i (omega (arith, n)) ∙ sym (line-past s h i l)
 
   -- a line put in goes to the parts, at the same index
-  put-in : part (spareLine recordBytes) ≡ spareLine w → 0 < w → (i : ℕ) (s s′ : List ℕ) → whole recordBytes s ≡ true → whole recordBytes s′ ≡ true
-      → LinePutIn recordBytes i s s′ → LinePutIn w i (parts s) (parts s′)
-  put-in spare some i s s′ h h′ x =
+  put-in : part (spareLine recordBytes) ≡ spareLine w → 0 < w → (line : List ℕ) (i : ℕ) (s s′ : List ℕ) → whole recordBytes s ≡ true → whole recordBytes s′ ≡ true
+      → LinePutIn recordBytes line i s s′ → LinePutIn w (part line) i (parts s) (parts s′)
+  put-in spare some line i s s′ h h′ x =
       record {
         above = map part (x .above);
         below = map part (x .below);
-        line = part (x .line);
         index = length-map (x .above) part ∙ x .index;
         size = size-of s′ h′ ∙ (ap (λ (k : ℕ). k / recordBytes * w) (x .size) ∙ sym (size-of s h));
         was =
@@ -143,7 +142,7 @@ module _ (w : ℕ) (part : List ℕ → List ℕ) (keyIn : List ℕ → Key)
             ∙ ap (λ (ls : List (List ℕ)). map part (x .above) ++ ls) (map-append part (x .below) (spareLine recordBytes ∷ []) ∙ ap (λ (l : List ℕ). map part (x .below) ++ (l ∷ [])) spare)));
         is =
             lines-joined w some (map part (linesOf recordBytes s′)) (all-wide s′ h′)
-            ∙ (ap (map part) (x .is) ∙ map-append part (x .above) (x .line ∷ x .below));
+            ∙ (ap (map part) (x .is) ∙ map-append part (x .above) (line ∷ x .below));
       }
 
 -- both parts of a record sheet, beside the coordinator sheet
@@ -160,17 +159,17 @@ within-apart b a h h′ (lines-of-one-unit unit c n f) =
     (keeps bookkeepingBytes bookkeepingLine (λ (l : List ℕ). bookkeepingRecord l .key) length-bookkeepingLine bookkeeping-key us unit (b .records) (a .records) h h′ n f)
 within-apart b a h h′ (coordinator-only e) = coordinator-only-two (ap plainPart e) (ap bookkeepingPart e)
 
-both-put-in : (i : ℕ) (b a : Bytes) → whole recordBytes (b .records) ≡ true → whole recordBytes (a .records) ≡ true → LinePutIn recordBytes i (b .records) (a .records) → BothPutIn i (apart b) (apart a)
+both-put-in : (line : List ℕ) (i : ℕ) (b a : Bytes) → whole recordBytes (b .records) ≡ true → whole recordBytes (a .records) ≡ true → LinePutIn recordBytes line i (b .records) (a .records) → BothPutIn line i (apart b) (apart a)
 unfolding plainPart bookkeepingPart
-both-put-in i b a h h′ x = (
-  put-in plainBytes plainLine (λ (l : List ℕ). plainRecord l .key) length-plainLine plain-key plain-spare (omega arith) i (b .records) (a .records) h h′ x,
-  put-in bookkeepingBytes bookkeepingLine (λ (l : List ℕ). bookkeepingRecord l .key) length-bookkeepingLine bookkeeping-key bookkeeping-spare (omega arith) i (b .records) (a .records) h h′ x,
+both-put-in line i b a h h′ x = (
+  put-in plainBytes plainLine (λ (l : List ℕ). plainRecord l .key) length-plainLine plain-key plain-spare (omega arith) line i (b .records) (a .records) h h′ x,
+  put-in bookkeepingBytes bookkeepingLine (λ (l : List ℕ). bookkeepingRecord l .key) length-bookkeepingLine bookkeeping-key bookkeeping-spare (omega arith) line i (b .records) (a .records) h h′ x,
 )
 
-unit-apart : (b a : Bytes) → whole recordBytes (b .records) ≡ true → whole recordBytes (a .records) ≡ true → OneUnit b a → OneUnitTwo (apart b) (apart a)
-unit-apart b a h h′ (within-unit u) = within-unit-two (within-apart b a h h′ u)
-unit-apart b a h h′ (line-added i c x) = line-added-two i c (both-put-in i b a h h′ x)
-unit-apart b a h h′ (line-removed i c x) = line-removed-two i c (both-put-in i a b h′ h x)
+unit-apart : (c : Call) (b a : Bytes) → whole recordBytes (b .records) ≡ true → whole recordBytes (a .records) ≡ true → OneUnit b a c → OneUnitTwo (apart b) (apart a) c
+unit-apart c b a h h′ (within-unit u) = within-unit-two (within-apart b a h h′ u)
+unit-apart c b a h h′ (line-added k i e x) = line-added-two k i e (both-put-in (lineFor k) i b a h h′ x)
+unit-apart c b a h h′ (line-removed k i e x) = line-removed-two k i e (both-put-in (lineFor k) i a b h′ h x)
 
 pub readable-whole : (b : Bytes) → Readable b → whole recordBytes (b .records) ≡ true
 readable-whole b h = eq-eqb (length (b .records)) (length (b .records) / recordBytes * recordBytes) (accepted-whole (b .records) (readable-both b h .0))
@@ -240,10 +239,10 @@ turn-apart R S parts x b l h u =
 pub turn-within-two : (x : Turn) (b : TwoBytes) → turnWritesOnce x ≡ true → turnShifts x ≡ false → ClockFits (turnCall x) → PassingTwo b → WithinUnitTwo b (turnAfterTwo x b)
 turn-within-two x b w n l h = turn-apart WithinUnit WithinUnitTwo within-apart x b l h (readable-within x (joinedBytes b) w n l (passing-two b h .readable))
 
-pub turn-unit-two : (x : Turn) (b : TwoBytes) → turnWritesOnce x ≡ true → ClockFits (turnCall x) → PassingTwo b → OneUnitTwo b (turnAfterTwo x b)
-turn-unit-two x b w l h = turn-apart OneUnit OneUnitTwo unit-apart x b l h (readable-unit x (joinedBytes b) w l (passing-two b h .readable))
+pub turn-unit-two : (x : Turn) (b : TwoBytes) → turnWritesOnce x ≡ true → ClockFits (turnCall x) → PassingTwo b → OneUnitTwo b (turnAfterTwo x b) (turnCall x)
+turn-unit-two x b w l h = turn-apart (λ (b a : Bytes). OneUnit b a (turnCall x)) (λ (b a : TwoBytes). OneUnitTwo b a (turnCall x)) (unit-apart (turnCall x)) x b l h (readable-unit x (joinedBytes b) w l (passing-two b h .readable))
 
-pub call-unit-two : (c : Call) (b : TwoBytes) → ClockFits c → PassingTwo b → OneUnitTwo b (afterTwo c b)
+pub call-unit-two : (c : Call) (b : TwoBytes) → ClockFits c → PassingTwo b → OneUnitTwo b (afterTwo c b) c
 unfolding afterTwo turnAfterTwo turnResponseTwo turnWritesOnce writesOnce turnCall standsFor
 call-unit-two c b l h = turn-unit-two (single (once c)) b refl l h
 

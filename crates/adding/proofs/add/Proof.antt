@@ -37,7 +37,8 @@ returns-2 c =
 insert-line-requires : tie.Need-insert-line-requires
 insert-line-requires c κs =
     let a = c .before .before .before .before .before .before .before .before .before .before .before .before .before .before .args in
-    (accepted-whole (a .records .now) (passing-parts (record { records = a .records .now; coordinator = a .coordinator .now }) (sym (c .before .before .before .before .before .before .before .before .before .before .check .ensures) ∙ c .before .before .before .before .before .before .before .before .before .if1 .left) .0), (add-within (a .key) (a .records .now) (a .coordinator .now) (sym (c .before .before .before .before .before .before .before .before .before .before .check .ensures) ∙ c .before .before .before .before .before .before .before .before .before .if1 .left) _ (c .before .before .before .before .before .before .before .lines-end .ensures .0) _ refl _ (c .before .before .before .before .before .to-add .ensures) (c .before .before .before .if2 .left), ap length (c .before .before .absent-line .ensures) ∙ add-wide (a .key) (a .records .now) (a .coordinator .now) (sym (c .before .before .before .before .before .before .before .before .before .before .check .ensures) ∙ c .before .before .before .before .before .before .before .before .before .if1 .left) _ (c .before .before .before .before .before .before .before .lines-end .ensures .0) _ refl _ (c .before .before .before .before .before .to-add .ensures) (c .before .before .before .if2 .left)))
+    let within = add-within (a .key) (a .records .now) (a .coordinator .now) (sym (c .before .before .before .before .before .before .before .before .before .before .check .ensures) ∙ c .before .before .before .before .before .before .before .before .before .if1 .left) _ (c .before .before .before .before .before .before .before .lines-end .ensures .0) _ refl _ (c .before .before .before .before .before .to-add .ensures) (c .before .before .before .if2 .left) in
+    (accepted-whole (a .records .now) (passing-parts (record { records = a .records .now; coordinator = a .coordinator .now }) (sym (c .before .before .before .before .before .before .before .before .before .before .check .ensures) ∙ c .before .before .before .before .before .before .before .before .before .if1 .left) .0), (omega (arith, within .0, within .1), ap length (c .before .before .absent-line .ensures) ∙ add-wide (a .key) (a .records .now) (a .coordinator .now) (sym (c .before .before .before .before .before .before .before .before .before .before .check .ensures) ∙ c .before .before .before .before .before .before .before .before .before .if1 .left) _ (c .before .before .before .before .before .before .before .lines-end .ensures .0) _ refl _ (c .before .before .before .before .before .to-add .ensures) (c .before .before .before .if2 .left)))
 
 returns-3 : tie.Need-returns-3
 returns-3 c =

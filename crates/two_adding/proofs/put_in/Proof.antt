@@ -28,7 +28,7 @@ split-bookkeeping-requires c κs =
 insert-line-requires-2 : tie.Need-insert-line-requires-2
 insert-line-requires-2 c κs =
     let a = c .before .before .before .before .before .before .before .before .before .before .before .before .before .before .before .before .before .before .args in
-    (c .before .before .before .before .before .before .before .before .before .before .before .before .before .before .before .before .before .before .pre .0 .bookkeeping, (c .before .before .before .before .before .before .before .before .before .before .before .before .before .before .before .before .before .before .pre .0 .in-bookkeeping, ap length (c .before .before .before .split-bookkeeping .ensures ∙ bookkeeping-alone _ (ap length (c .before .before .before .before .before .before .before .before .before .before .before .before .before .before .before .absent-line .ensures) ∙ absent-wide (a .key) (c .before .before .before .before .before .before .before .before .before .before .before .before .before .before .before .before .before .before .pre .1))) ∙ length-bookkeepingLine _ (ap length (c .before .before .before .before .before .before .before .before .before .before .before .before .before .before .before .absent-line .ensures) ∙ absent-wide (a .key) (c .before .before .before .before .before .before .before .before .before .before .before .before .before .before .before .before .before .before .pre .1))))
+    (c .before .before .before .before .before .before .before .before .before .before .before .before .before .before .before .before .before .before .pre .0 .bookkeeping, (omega (arith, c .before .before .before .before .before .before .before .before .before .before .before .before .before .before .before .before .before .before .pre .0 .in-bookkeeping), ap length (c .before .before .before .split-bookkeeping .ensures ∙ bookkeeping-alone _ (ap length (c .before .before .before .before .before .before .before .before .before .before .before .before .before .before .before .absent-line .ensures) ∙ absent-wide (a .key) (c .before .before .before .before .before .before .before .before .before .before .before .before .before .before .before .before .before .before .pre .1))) ∙ length-bookkeepingLine _ (ap length (c .before .before .before .before .before .before .before .before .before .before .before .before .before .before .before .absent-line .ensures) ∙ absent-wide (a .key) (c .before .before .before .before .before .before .before .before .before .before .before .before .before .before .before .before .before .before .pre .1))))
 
 returns : tie.Need-returns
 returns c =
