@@ -13,9 +13,9 @@ enum { ROWS = LINES * RAPYHEO_RECORD_NUMBERS, DECISIONS = RAPYHEO_HEAD_NUMBERS +
 
 /* Stock, account, and a delivery note that does not exist yet. A store is written as a whole (unit S), so an order over both has two groups. */
 static uint8_t records[LINES * RAPYHEO_RECORD_BYTES + 1] =
-    " 1  1  1     1     1 COMMITTED     1   0      500      250     0   0        0        0          0\n"
-    " 2  1  1     1     1 COMMITTED     4   0      900        0     0   0        0        0          0\n"
-    " 2  1  1     1     2    ABSENT     0   0        0        0     0   0        0        0          0\n";
+    " 1  1  1     1     1 COMMITTED     1   0      500      250         -     0   0        0        0          0\n"
+    " 2  1  1     1     1 COMMITTED     4   0      900        0         -     0   0        0        0          0\n"
+    " 2  1  1     1     2    ABSENT     0   0        0        0         -     0   0        0        0          0\n";
 
 static uint8_t coordinator[(1 + NUMBERS) * RAPYHEO_COORDINATOR_BYTES + 1] =
     "   0 SSSSSSSSS\n"

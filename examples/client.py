@@ -31,9 +31,9 @@ REFUSALS = {
 KEYS = {"stock": (1, 1, 1, 1, 1), "account": (2, 1, 1, 1, 1), "note": (2, 1, 1, 1, 2), "nothing": (2, 1, 1, 1, 3)}
 
 RECORDS = b"""\
- 1  1  1     1     1 COMMITTED     1   0      500      250     0   0        0        0          0
- 2  1  1     1     1 COMMITTED     4   0      900        0     0   0        0        0          0
- 2  1  1     1     2    ABSENT     0   0        0        0     0   0        0        0          0
+ 1  1  1     1     1 COMMITTED     1   0      500      250         -     0   0        0        0          0
+ 2  1  1     1     1 COMMITTED     4   0      900        0         -     0   0        0        0          0
+ 2  1  1     1     2    ABSENT     0   0        0        0         -     0   0        0        0          0
 """
 COORDINATOR = b"   0 SSSSSSSSS\n" + b"".join(b"%4d         -\n" % number for number in range(1, 8))
 
@@ -57,7 +57,7 @@ def written(before):
     if wrote == 1:
         return "; wrote the coordinator sheet\n" + bytes(coordinator).decode()
     first, end = lines[0], lines[0] + lines[1]
-    return f"; wrote lines {first} to {end - 1}\n" + bytes(records)[98 * first : 98 * end].decode()
+    return f"; wrote lines {first} to {end - 1}\n" + bytes(records)[108 * first : 108 * end].decode()
 
 
 def report(words, call, answered):
@@ -125,7 +125,7 @@ def die():
 
 
 def show():
-    print(f"version {library.rapyheo_version()} with header 20300, check {library.rapyheo_check(*lent(records), *lent(coordinator))}")
+    print(f"version {library.rapyheo_version()} with header 30000, check {library.rapyheo_check(*lent(records), *lent(coordinator))}")
     print((bytes(coordinator) + bytes(records)).decode(), end="")
 
 
@@ -208,11 +208,11 @@ def dies_decided():
 
 
 def as_numbers():
-    rows, decisions = (U32 * 45)(), (U32 * 17)()
+    rows, decisions = (U32 * 48)(), (U32 * 17)()
     line = library.rapyheo_lookup(*lent(records), *map(U32, KEYS["note"]))
     answers = library.rapyheo_read_records(*lent(records), *lent(rows)), library.rapyheo_read_coordinator(*lent(coordinator), *lent(decisions))
     print("\nsheets as numbers\nnote is line {}, both sheets to numbers: {} {}".format(line, *answers))
-    print("", *rows[15 * line : 15 * line + 15])
+    print("", *rows[16 * line : 16 * line + 16])
     print("", *decisions)
     others = type(records)(), type(coordinator)()
     answers = library.rapyheo_write_records(*lent(rows), *lent(others[0])), library.rapyheo_write_coordinator(*lent(decisions), *lent(others[1]))

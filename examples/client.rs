@@ -45,10 +45,10 @@ const PHASES: [&str; 8] = ["open", "prepare", "check", "decide", "withdraw", "fi
 const VERDICTS: [&str; 3] = ["none", "committed", "aborted"];
 const VISITS: [&str; 4] = ["stays", "forward", "back", "again"];
 
-const RECORDS: &[u8; 294] = b"\
-\x201  1  1     1     1 COMMITTED     1   0      500      250     0   0        0        0          0
- 2  1  1     1     1 COMMITTED     4   0      900        0     0   0        0        0          0
- 2  1  1     1     2    ABSENT     0   0        0        0     0   0        0        0          0
+const RECORDS: &[u8; 324] = b"\
+\x201  1  1     1     1 COMMITTED     1   0      500      250         -     0   0        0        0          0
+ 2  1  1     1     1 COMMITTED     4   0      900        0         -     0   0        0        0          0
+ 2  1  1     1     2    ABSENT     0   0        0        0         -     0   0        0        0          0
 ";
 const COORDINATOR: &[u8; 120] = b"\
 \x20  0 SSSSSSSSS
@@ -77,7 +77,7 @@ enum Ask {
 #[derive(Clone, Copy)]
 struct Desk {
     list: [Transaction; 2],
-    records: [u8; 294],
+    records: [u8; 324],
     coordinator: [u8; 120],
 }
 
@@ -139,7 +139,7 @@ impl Desk {
         match wrote {
             0 => "; wrote nothing\n".to_string(),
             1 => format!("; wrote the coordinator sheet\n{}", text(d)),
-            _ => format!("; wrote lines {} to {}\n{}", first, end - 1, text(&r[98 * first..98 * end])),
+            _ => format!("; wrote lines {} to {}\n{}", first, end - 1, text(&r[108 * first..108 * end])),
         }
     }
 
@@ -219,7 +219,7 @@ impl Desk {
     fn show(&self) {
         let (r, d) = (&self.records, &self.coordinator);
         let check = unsafe { rapyheo_check(r.as_ptr(), r.len(), d.as_ptr(), d.len()) };
-        println!("version {} with header 20300, check {check}", unsafe { rapyheo_version() });
+        println!("version {} with header 30000, check {check}", unsafe { rapyheo_version() });
         print!("{}{}", text(d), text(r));
     }
 
@@ -308,8 +308,8 @@ impl Desk {
     }
 
     fn as_numbers(&self) {
-        let (mut other, k) = (Desk { list: self.list, records: [0; 294], coordinator: [0; 120] }, key("note"));
-        let (r, d, mut rows, mut decisions) = (&self.records, &self.coordinator, [0u32; 45], [0u32; 17]);
+        let (mut other, k) = (Desk { list: self.list, records: [0; 324], coordinator: [0; 120] }, key("note"));
+        let (r, d, mut rows, mut decisions) = (&self.records, &self.coordinator, [0u32; 48], [0u32; 17]);
         let line = unsafe { rapyheo_lookup(r.as_ptr(), r.len(), k[0], k[1], k[2], k[3], k[4]) } as usize;
         let (first, second) = unsafe {
             (
@@ -318,7 +318,7 @@ impl Desk {
             )
         };
         println!("\nsheets as numbers\nnote is line {line}, both sheets to numbers: {first} {second}");
-        for numbers in [&rows[15 * line..15 * line + 15], &decisions] {
+        for numbers in [&rows[16 * line..16 * line + 16], &decisions] {
             println!("{}", numbers.iter().map(|n| format!(" {n}")).collect::<String>());
         }
         let (r, d) = (&mut other.records, &mut other.coordinator);

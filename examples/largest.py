@@ -18,8 +18,8 @@ def record(i):
     key = figures((2, 1), (3, 1), (3, 1), (6, 0), (6, i))
     owner = OWNERS[i % 4]
     if owner is None:
-        return key + "COMMITTED".rjust(10) + image(3, 1, 600, 300) + image(0, 0, 0, 0) + figures((11, 0))
-    return key + "PREPARED".rjust(10) + image(4, owner, 700, 350) + image(3, 1, 600, 300) + figures((11, 1000))
+        return key + "COMMITTED".rjust(10) + image(3, 1, 600, 300) + "-".rjust(10) + image(0, 0, 0, 0) + figures((11, 0))
+    return key + "PREPARED".rjust(10) + image(4, owner, 700, 350) + "COMMITTED".rjust(10) + image(3, 1, 600, 300) + figures((11, 1000))
 
 
 print(figures((4, RECORDS), (4, NUMBERS), (11, CLOCK)))

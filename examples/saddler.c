@@ -14,8 +14,8 @@ static uint8_t plain[LINES * RAPYHEO_PLAIN_BYTES + 1] =
     " 1  1  1     1     1      500      250\n"
     " 2  1  1     1     1       40        0\n";
 static uint8_t bookkeeping[LINES * RAPYHEO_BOOKKEEPING_BYTES + 1] =
-    " 1  1  1     1     1 COMMITTED     3   0     0   0        0        0          0\n"
-    " 2  1  1     1     1 COMMITTED     1   0     0   0        0        0          0\n";
+    " 1  1  1     1     1 COMMITTED     3   0         -     0   0        0        0          0\n"
+    " 2  1  1     1     1 COMMITTED     1   0         -     0   0        0        0          0\n";
 static uint8_t coordinator[(1 + NUMBERS) * RAPYHEO_COORDINATOR_BYTES + 1] =
     "   0 sSSSSSSSS\n"
     "   1         -\n"

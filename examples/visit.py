@@ -13,4 +13,4 @@ first, *before = text.splitlines()
 print("record lines, coordinator lines, clock:", *first.split(), "\n")
 for old, new in zip(before, after.splitlines(), strict=True):
     mark = " " if old == new else "*"
-    print(f"{' '.join(old.split()):<52}{mark} {' '.join(new.split())}")
+    print(f"{' '.join(old.split()):<60}{mark} {' '.join(new.split())}")

@@ -32,21 +32,22 @@
  *   - one caller at a time for one pair of sheets, whoever has the list: there is no lock. Calls on different sheets and lists are independent,
  *     in any threads, since the library holds no data of its own;
  *   - a call finds RAPYHEO_STACK_BYTES of stack, and one on two sheets RAPYHEO_TWO_STACK_BYTES, since it joins them in an area of its own.
- *     `make stack` measures what each needs, its arguments among it: 8928 at most, and 100728 on two sheets, to which some 2000 come where
+ *     `make stack` measures what each needs, its arguments among it: 8928 at most, and 111152 on two sheets, to which some 2000 come where
  *     the loader binds memcpy or memset in the middle of the first call (not so with -Wl,-z,now). A call allocates nothing.
  *
- * Record sheet: 1 to 500 lines of 98 bytes, the last byte LF. Figures are decimal, right-justified, filled with spaces, without leading zeros.
+ * Record sheet: 1 to 500 lines of 108 bytes, the last byte LF. Figures are decimal, right-justified, filled with spaces, without leading zeros.
  *
  *   bytes  0- 1  storage, 1-9                 bytes 40-48  column 1, 0-99999999
  *          2- 4  namespace, 1-99                    49-57  column 2
- *          5- 7  table, 1-99                        58-63  before version
- *          8-13  partition, 0-99999                 64-67  before TxID
- *         14-19  clustering, 0-99999                68-76  before column 1
- *         20-29  ABSENT, COMMITTED or PREPARED      77-85  before column 2
- *         30-35  version, 0-99999                   86-96  prepare clock, 0-4294967295
- *         36-39  TxID, 0-999                           97  LF
+ *          5- 7  table, 1-99                        58-67  before state: ABSENT, COMMITTED or `-`
+ *          8-13  partition, 0-99999                 68-73  before version
+ *         14-19  clustering, 0-99999                74-77  before TxID
+ *         20-29  ABSENT, COMMITTED or PREPARED      78-86  before column 1
+ *         30-35  version, 0-99999                   87-95  before column 2
+ *         36-39  TxID, 0-999                       96-106  prepare clock, 0-4294967295
+ *                                                     107  LF
  *
- * Keys, the first five fields, rise strictly down the sheet. It may end in spare lines, 97 spaces and LF, counted in the 500, or be all spares.
+ * Keys, the first five fields, rise strictly down the sheet. It may end in spare lines, 107 spaces and LF, counted in the 500, or be all spares.
  * rapyheo_add uses one up and rapyheo_remove makes one; every other call leaves them where they are. A key without a line counts as an ABSENT line
  * of version 0, except that it can't be read, put or visited (6); a transaction may hold one whose line was removed.
  *
@@ -58,21 +59,22 @@
  * would get; what was said of the record sheet holds of the two, an atomic write going to both within one unit. A spare is spaces to each width
  * and LF; one beside a record line on the other sheet, or different numbers of lines, is 13.
  *
- *   plain, 39 bytes a line                    bookkeeping, 80 bytes a line
+ *   plain, 39 bytes a line                    bookkeeping, 90 bytes a line
  *          0-19  key, as bytes 0-19 above            0-39  key, state, version, TxID, as bytes 0-39 above
- *         20-28  column 1                           40-45  before version
- *         29-37  column 2                           46-49  before TxID
- *            38  LF                                 50-58  before column 1
- *                                                   59-67  before column 2
- *                                                   68-78  prepare clock
- *                                                      79  LF
+ *         20-28  column 1                           40-49  before state
+ *         29-37  column 2                           50-55  before version
+ *            38  LF                                 56-59  before TxID
+ *                                                   60-68  before column 1
+ *                                                   69-77  before column 2
+ *                                                   78-88  prepare clock
+ *                                                      89  LF
  *
  * On two sheets only, a small unit letter (r, p, t, n or s) marks a storage that can't be read consistently: its columns may be from before a
  * change and its bookkeeping from after it. There a read of a new key takes two calls. The first answers the columns of the plain sheet and
  * changes nothing, not even the list; the second is handed these columns and holds them with the version that it finds then. Whether they belong
  * together is checked before they are relied on. A client that stops between the two leaves nothing behind.
  *
- * As numbers, a record is fifteen in the order of its columns, the state among them; a coordinator is its count, the nine units and one number
+ * As numbers, a record is sixteen in the order of its columns, both states among them; a coordinator is its count, the nine units and one number
  * for each line, whose own number is its place. Words and letters have the numbers of RAPYHEO_STATE_.., RAPYHEO_UNIT_.. and RAPYHEO_DECISION_..
  */
 #ifndef RAPYHEO_H
@@ -86,8 +88,8 @@ extern "C" {
 #endif
 
 /* Version of this header. rapyheo_version() is the library's: the same major and at least the same minor will do. */
-#define RAPYHEO_VERSION_MAJOR 2
-#define RAPYHEO_VERSION_MINOR 3
+#define RAPYHEO_VERSION_MAJOR 3
+#define RAPYHEO_VERSION_MINOR 0
 #define RAPYHEO_VERSION_PATCH 0
 #define RAPYHEO_VERSION (10000 * RAPYHEO_VERSION_MAJOR + 100 * RAPYHEO_VERSION_MINOR + RAPYHEO_VERSION_PATCH)
 
@@ -103,11 +105,11 @@ extern "C" {
 #endif
 
 enum {
-    RAPYHEO_RECORD_BYTES = 98,
+    RAPYHEO_RECORD_BYTES = 108,
     RAPYHEO_PLAIN_BYTES = 39,
-    RAPYHEO_BOOKKEEPING_BYTES = 80,
+    RAPYHEO_BOOKKEEPING_BYTES = 90,
     RAPYHEO_COORDINATOR_BYTES = 15,
-    RAPYHEO_RECORD_NUMBERS = 15, /* numbers of one record */
+    RAPYHEO_RECORD_NUMBERS = 16, /* numbers of one record */
     RAPYHEO_HEAD_NUMBERS = 10,   /* numbers of a coordinator before those of its lines */
     RAPYHEO_ENTRIES = 8,         /* entries of a transaction */
     RAPYHEO_LIST = 16,           /* transactions in a list */
@@ -322,10 +324,10 @@ RAPYHEO_ANSWER uint32_t rapyheo_written(const uint8_t *records_before, size_t re
 /* Sheets to numbers and back. Each answers 0, or the refusal itself, as the check does; which numbers records name is not looked at. A target is
  * exactly as long as whole lines or records need, else 1 is answered, before 2. A refused one stays as it was. */
 
-/* Record sheet to numbers, 15 for each line, all 0 for a spare: 0 or 1. */
+/* Record sheet to numbers, 16 for each line, all 0 for a spare: 0 or 1. */
 RAPYHEO_ANSWER uint32_t rapyheo_read_records(const uint8_t *records, size_t records_length, uint32_t *numbers, size_t numbers_length);
 
-/* Numbers to record sheet, 98 bytes for each record; records of zeros, which stand last, are spares: 0 or 1. */
+/* Numbers to record sheet, 108 bytes for each record; records of zeros, which stand last, are spares: 0 or 1. */
 RAPYHEO_ANSWER uint32_t rapyheo_write_records(const uint32_t *numbers, size_t numbers_length, uint8_t *records, size_t records_length);
 
 /* Coordinator sheet to numbers, 10 for the head and one for each line: 0, 1 or 2. */

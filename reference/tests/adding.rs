@@ -15,17 +15,17 @@ use reference::replay::laid_out::LaidOut;
 use reference::replay::{replay, Layout};
 use reference::sequential_model::SequentialModel;
 
-const LINE: usize = 98;
+const LINE: usize = 108;
 const COORDINATOR: &str = "   2 RRRRRRRRR\n   1         -\n   2         -\n   3         -\n";
 /// The lines of keys (1,1,1,1,1), (1,1,1,1,3), (1,1,1,2,0) and (2,1,1,0,0), and some beside them.
-const ONE: &str = " 1  1  1     1     1 COMMITTED     1   0      500      250     0   0        0        0          0\n";
-const THREE: &str = " 1  1  1     1     3    ABSENT     0   0        0        0     0   0        0        0          0\n";
-const NEXT: &str = " 1  1  1     2     0  PREPARED     1   1      500      250     0   0        0        0       5000\n";
-const LAST: &str = " 2  1  1     0     0  PREPARED     8   1      500      250     7   0        1        2       5000\n";
-const NEW_FIRST: &str = " 1  1  1     0 99999    ABSENT     0   0        0        0     0   0        0        0          0\n";
-const NEW_TWO: &str = " 1  1  1     1     2    ABSENT     0   0        0        0     0   0        0        0          0\n";
-const NEW_FOUR: &str = " 1  1  1     1     4    ABSENT     0   0        0        0     0   0        0        0          0\n";
-const NEW_LAST: &str = " 9 99 99 99999 99999    ABSENT     0   0        0        0     0   0        0        0          0\n";
+const ONE: &str = " 1  1  1     1     1 COMMITTED     1   0      500      250         -     0   0        0        0          0\n";
+const THREE: &str = " 1  1  1     1     3    ABSENT     0   0        0        0         -     0   0        0        0          0\n";
+const NEXT: &str = " 1  1  1     2     0  PREPARED     1   1      500      250    ABSENT     0   0        0        0       5000\n";
+const LAST: &str = " 2  1  1     0     0  PREPARED     8   1      500      250 COMMITTED     7   0        1        2       5000\n";
+const NEW_FIRST: &str = " 1  1  1     0 99999    ABSENT     0   0        0        0         -     0   0        0        0          0\n";
+const NEW_TWO: &str = " 1  1  1     1     2    ABSENT     0   0        0        0         -     0   0        0        0          0\n";
+const NEW_FOUR: &str = " 1  1  1     1     4    ABSENT     0   0        0        0         -     0   0        0        0          0\n";
+const NEW_LAST: &str = " 9 99 99 99999 99999    ABSENT     0   0        0        0         -     0   0        0        0          0\n";
 
 const FIRST_KEY: [u32; 5] = [1, 1, 1, 0, 99_999];
 const ONE_KEY: [u32; 5] = [1, 1, 1, 1, 1];
@@ -251,7 +251,7 @@ fn the_sheets_go_first() {
     let mut spare_beside_line = two.clone();
     spare_beside_line.plain[39..78].copy_from_slice(&spare(39));
     let mut longer = two.clone();
-    longer.bookkeeping.extend(spare(80));
+    longer.bookkeeping.extend(spare(90));
     // On two sheets 2 goes before 13.
     let mut both = longer.clone();
     both.coordinator.pop();
@@ -298,9 +298,9 @@ fn both_of_two_sheets_change_alike() {
     };
     let plain = b" 1  1  1     1     2        0        0\n";
     let bookkeeping =
-        b" 1  1  1     1     2    ABSENT     0   0     0   0        0        0          0\n";
+        b" 1  1  1     1     2    ABSENT     0   0         -     0   0        0        0          0\n";
     assert_eq!(after.plain[39..], plain[..]);
-    assert_eq!(after.bookkeeping[80..], bookkeeping[..]);
+    assert_eq!(after.bookkeeping[90..], bookkeeping[..]);
 }
 
 #[test]

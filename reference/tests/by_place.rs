@@ -9,9 +9,9 @@ use reference::replay::laid_out::LaidOut;
 use reference::replay::Layout;
 
 const LAID_OUT: &str =
-    " 1  1  1     1     1 COMMITTED     3   0        5        6     0   0        0        0          0\n \
-     1  1  1     1     2    ABSENT     0   0        0        0     0   0        0        0          0\n \
-     2  1  1     1     1  PREPARED     1   1      500      250     0   0        0        0       5000\n";
+    " 1  1  1     1     1 COMMITTED     3   0        5        6         -     0   0        0        0          0\n \
+     1  1  1     1     2    ABSENT     0   0        0        0         -     0   0        0        0          0\n \
+     2  1  1     1     1  PREPARED     1   1      500      250    ABSENT     0   0        0        0       5000\n";
 
 const COORDINATOR: &str = "   1 RRRRRRRRR\n   1         -\n   2         -\n   3         -\n";
 

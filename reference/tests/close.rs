@@ -16,7 +16,8 @@ const NOW: u32 = 5_000;
 
 /// So many ABSENT lines, and one number whose own line has this word. The letter is that of every storage.
 fn sheets(lines: u32, letter: &str, own: &str) -> Sheets {
-    let rest = "    ABSENT     0   0        0        0     0   0        0        0          0\n";
+    let rest =
+        "    ABSENT     0   0        0        0         -     0   0        0        0          0\n";
     let line = |clustering| format!(" 1  1  1     0{clustering:>6}{rest}");
     let records: String = (1..=lines).map(line).collect();
     Sheets {

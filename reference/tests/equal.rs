@@ -40,14 +40,14 @@ fn on_accepted_sheets() {
 }
 
 /// Lines of every kind, their figures narrow, wide and of several widths.
-const LINES: [&[u8; 98]; 7] = [
-    b" 1  1  1     0     0    ABSENT     0   0        0        0     0   0        0        0          0\n",
-    b" 1  1  1     0     0 COMMITTED     1   0        0        0     0   0        0        0          0\n",
-    b" 9 99 99 99999 99999 COMMITTED 99999 999 99999999 99999999     0   0        0        0          0\n",
-    b" 5 10  7   100 20304  PREPARED     1   1      500    10000     0   0        0        0 4294967295\n",
-    b" 5 10  7   100 20304  PREPARED    10  12      500    10000     9   0     3000        7       5000\n",
-    b" 5 10  7   100 20304  PREPARED 99999 999 99999999 99999999 99998 999 99999999 99999999 4294967295\n",
-    b" 5 10  7   100 20304  PREPARED     2   1        0        0     1   0        0        0          0\n",
+const LINES: [&[u8; 108]; 7] = [
+    b" 1  1  1     0     0    ABSENT     0   0        0        0         -     0   0        0        0          0\n",
+    b" 1  1  1     0     0 COMMITTED     1   0        0        0         -     0   0        0        0          0\n",
+    b" 9 99 99 99999 99999 COMMITTED 99999 999 99999999 99999999         -     0   0        0        0          0\n",
+    b" 5 10  7   100 20304  PREPARED     1   1      500    10000    ABSENT     0   0        0        0 4294967295\n",
+    b" 5 10  7   100 20304  PREPARED    10  12      500    10000 COMMITTED     9   0     3000        7       5000\n",
+    b" 5 10  7   100 20304  PREPARED 99999 999 99999999 99999999 COMMITTED 99998 999 99999999 99999999 4294967295\n",
+    b" 5 10  7   100 20304  PREPARED     2   1        0        0 COMMITTED     1   0        0        0          0\n",
 ];
 
 const COORDINATOR: &[u8] = b"   3 RPTNSRPTN\n   1 COMMITTED\n   2   ABORTED\n   3         -\n";
@@ -65,7 +65,7 @@ fn on_every_byte_at_every_place() {
     for line in LINES {
         // Refusal 1 goes first, so a coordinator refused at once is enough for most.
         assert_eq!(agreed(line, &coordinator), 0);
-        for place in 0..98 {
+        for place in 0..108 {
             for byte in 0..=255 {
                 let mut line = *line;
                 line[place] = byte;
@@ -88,7 +88,7 @@ const TELLING: &[u8] = b" 0123459/:!\nACDEMOPRT-\0\x10\x80\xff";
 #[test]
 fn on_two_neighbouring_bytes() {
     for line in LINES {
-        for place in 0..97 {
+        for place in 0..107 {
             for (one, other) in TELLING
                 .iter()
                 .flat_map(|a| TELLING.iter().map(move |b| (*a, *b)))
@@ -105,7 +105,7 @@ fn on_two_neighbouring_bytes() {
 fn on_every_version() {
     let mut line = *LINES[5];
     for before in 0..=99_999u32 {
-        line[58..64].copy_from_slice(format!("{before:>6}").as_bytes());
+        line[68..74].copy_from_slice(format!("{before:>6}").as_bytes());
         for version in [before, before + 1, before + 2, before + 11, before / 10] {
             line[30..36].copy_from_slice(format!("{version:>6}").as_bytes());
             agreed(&line, b"");
@@ -117,7 +117,7 @@ fn on_every_version() {
 fn on_clocks_near_the_limit() {
     let mut line = *LINES[5];
     for clock in (4_294_960_000u64..4_294_980_000).chain((0..99).map(|i| 101_010_101 * i)) {
-        line[86..97].copy_from_slice(format!("{clock:>11}").as_bytes());
+        line[96..107].copy_from_slice(format!("{clock:>11}").as_bytes());
         agreed(&line, b"");
     }
 }
@@ -148,7 +148,7 @@ fn on_every_tx_id_beside_some_counts() {
             line[36..40].copy_from_slice(text.as_bytes());
             assert_eq!(agreed(&line, &sheet), if tx_id > count { 2 } else { 0 });
             let mut line = *LINES[6];
-            line[64..68].copy_from_slice(text.as_bytes());
+            line[74..78].copy_from_slice(text.as_bytes());
             agreed(&line, &sheet);
         }
     }
@@ -184,7 +184,7 @@ fn on_pairs_of_keys() {
     }
 }
 
-fn line_with([storage, namespace, table, partition, clustering]: &[u32; 5]) -> [u8; 98] {
+fn line_with([storage, namespace, table, partition, clustering]: &[u32; 5]) -> [u8; 108] {
     let key = format!("{storage:>2}{namespace:>3}{table:>3}{partition:>6}{clustering:>6}");
     let mut line = *LINES[0];
     line[..20].copy_from_slice(key.as_bytes());

@@ -26,7 +26,7 @@ fn line(storage: u32, rest: &str) -> String {
 /// A line prepared by a number at this clock, over version 1.
 fn prepared(storage: u32, number: u32, clock: u32) -> String {
     let image = format!("     2{number:>4}      500      250");
-    let before = "     1   0       40        3";
+    let before = " COMMITTED     1   0       40        3";
     line(storage, &format!("  PREPARED{image}{before}{clock:>11}"))
 }
 
@@ -35,7 +35,7 @@ fn back(storage: u32) -> String {
     let image = "     1   0       40        3";
     line(
         storage,
-        &format!(" COMMITTED{image}     0   0        0        0          0"),
+        &format!(" COMMITTED{image}         -     0   0        0        0          0"),
     )
 }
 
@@ -43,7 +43,7 @@ fn committed(storage: u32, number: u32) -> String {
     let image = format!("     2{number:>4}      500      250");
     line(
         storage,
-        &format!(" COMMITTED{image}     0   0        0        0          0"),
+        &format!(" COMMITTED{image}         -     0   0        0        0          0"),
     )
 }
 
@@ -272,7 +272,7 @@ fn readings_from_either_end() {
 
 /// The visiting program's output at this reading.
 fn swept(sheets: &Sheets, now: u32) -> String {
-    let records = sheets.records.len() / 98;
+    let records = sheets.records.len() / 108;
     let first = format!("{records:>4}   3{now:>11}\n").into_bytes();
     let input = [first, sheets.coordinator.clone(), sheets.records.clone()].concat();
     String::from_utf8(output(&input)).unwrap()

@@ -10,7 +10,7 @@ const MARK: u32 = 77;
 
 /// The numbers of an accepted record sheet.
 fn record_numbers(sheet: &[u8]) -> Vec<u32> {
-    let mut numbers = vec![MARK; sheet.len() / 98 * 15];
+    let mut numbers = vec![MARK; sheet.len() / 108 * 16];
     assert_eq!(records_to_numbers(sheet, &mut numbers), 0);
     numbers
 }
@@ -69,14 +69,14 @@ fn sheets_come_back() {
     }
 }
 
-const LINE: &[u8; 98] = b" 3  4 15     6    17  PREPARED    10   8      500      250     9   7       11       12       5000\n";
-const ROW: [u32; 15] = [3, 4, 15, 6, 17, 2, 10, 8, 500, 250, 9, 7, 11, 12, 5000];
+const LINE: &[u8; 108] = b" 3  4 15     6    17  PREPARED    10   8      500      250 COMMITTED     9   7       11       12       5000\n";
+const ROW: [u32; 16] = [3, 4, 15, 6, 17, 2, 10, 8, 500, 250, 2, 9, 7, 11, 12, 5000];
 
 #[test]
 fn a_record_in_numbers() {
     assert_eq!(record_numbers(LINE), ROW);
-    let committed = b" 9 99 99 99999     0 COMMITTED     1   0        0        0     0   0        0        0          0\n";
-    let row = [9, 99, 99, 99_999, 0, 1, 1, 0, 0, 0, 0, 0, 0, 0, 0];
+    let committed = b" 9 99 99 99999     0 COMMITTED     1   0        0        0         -     0   0        0        0          0\n";
+    let row = [9, 99, 99, 99_999, 0, 1, 1, 0, 0, 0, 0, 0, 0, 0, 0, 0];
     assert_eq!(record_numbers(committed), row);
 }
 
@@ -95,9 +95,9 @@ fn records_that_break_a_rule() {
     for (place, most) in highest.into_iter().enumerate() {
         let mut row = ROW;
         row[place] = most + 1;
-        assert_eq!(write_records(&row, 98), 1, "{row:?}");
+        assert_eq!(write_records(&row, 108), 1, "{row:?}");
         row[place] = u32::MAX;
-        assert_eq!(write_records(&row, 98), 1, "{row:?}");
+        assert_eq!(write_records(&row, 108), 1, "{row:?}");
     }
     for (place, value) in [
         (0, 0),
@@ -108,33 +108,37 @@ fn records_that_break_a_rule() {
         (6, 11),
         (7, 0),
         (10, 0),
+        (10, 1),
+        (10, 3),
         (10, u32::MAX),
-        (11, 1_000),
-        (13, 100_000_000),
+        (11, 0),
+        (11, u32::MAX),
+        (12, 1_000),
+        (14, 100_000_000),
     ] {
         let mut row = ROW;
         row[place] = value;
-        assert_eq!(write_records(&row, 98), 1, "{row:?}");
+        assert_eq!(write_records(&row, 108), 1, "{row:?}");
     }
-    assert_eq!(write_records(&[ROW, ROW].concat(), 196), 1);
+    assert_eq!(write_records(&[ROW, ROW].concat(), 216), 1);
     let mut row = ROW;
-    row[14] = u32::MAX;
-    assert_eq!(write_records(&row, 98), 0);
+    row[15] = u32::MAX;
+    assert_eq!(write_records(&row, 108), 0);
 }
 
 #[test]
 fn record_lengths() {
-    assert_eq!(write_records(&ROW, 98), 0);
-    assert_eq!(write_records(&ROW, 97), 1);
-    assert_eq!(write_records(&ROW, 99), 1);
-    assert_eq!(write_records(&ROW, 196), 1);
-    assert_eq!(write_records(&ROW[..14], 0), 1);
+    assert_eq!(write_records(&ROW, 108), 0);
+    assert_eq!(write_records(&ROW, 107), 1);
+    assert_eq!(write_records(&ROW, 109), 1);
+    assert_eq!(write_records(&ROW, 216), 1);
+    assert_eq!(write_records(&ROW[..15], 0), 1);
     assert_eq!(write_records(&[], 0), 1);
-    assert_eq!(read_records(LINE, 15), 0);
-    assert_eq!(read_records(LINE, 14), 1);
-    assert_eq!(read_records(LINE, 30), 1);
+    assert_eq!(read_records(LINE, 16), 0);
+    assert_eq!(read_records(LINE, 15), 1);
+    assert_eq!(read_records(LINE, 32), 1);
     assert_eq!(read_records(b"", 0), 1);
-    assert_eq!(read_records(&LINE[..97], 0), 1);
+    assert_eq!(read_records(&LINE[..107], 0), 1);
 }
 
 #[test]

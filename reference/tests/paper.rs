@@ -5,11 +5,11 @@ use reference::{fast, plain};
 /// The visiting program's example.
 const HEAD: &str = "   1 SSSSSSSSS\n";
 const UNDECIDED: &str = "   1         -\n";
-const PREPARED: &str = " 1  1  1     1     1  PREPARED     1   1      500      250     0   0        0        0       5000\n";
+const PREPARED: &str = " 1  1  1     1     1  PREPARED     1   1      500      250    ABSENT     0   0        0        0       5000\n";
 const ABORTED: &str = "   1   ABORTED\n";
-const ABSENT: &str = " 1  1  1     1     1    ABSENT     0   0        0        0     0   0        0        0          0\n";
-const COMMITTED: &str = " 1  1  1     1     1 COMMITTED     1   0      500      250     0   0        0        0          0\n";
-const LATER: &str = " 1  1  1     1     1  PREPARED 99999   1 99999999        0 99998   1        0 99999999 4294967295\n";
+const ABSENT: &str = " 1  1  1     1     1    ABSENT     0   0        0        0         -     0   0        0        0          0\n";
+const COMMITTED: &str = " 1  1  1     1     1 COMMITTED     1   0      500      250         -     0   0        0        0          0\n";
+const LATER: &str = " 1  1  1     1     1  PREPARED 99999   1 99999999        0 COMMITTED 99998   1        0 99999999 4294967295\n";
 
 fn check(records: &str, coordinator: &str) -> u32 {
     let refusal = plain::check(records.as_bytes(), coordinator.as_bytes());
@@ -48,7 +48,7 @@ fn lines_of_each_state_are_accepted() {
 
 #[test]
 fn lengths() {
-    assert_eq!(check_line(&PREPARED[..97]), 1);
+    assert_eq!(check_line(&PREPARED[..107]), 1);
     assert_eq!(check_line(""), 1);
     assert_eq!(check_line(&format!("{PREPARED}\n")), 1);
     assert_eq!(check_coordinator(""), 2);
@@ -100,9 +100,9 @@ fn unissued_numbers() {
     assert_eq!(check(&with(COMMITTED, 36, "   1"), none), 2);
     assert_eq!(check(COMMITTED, none), 0);
     // The before TxID counts too.
-    assert_eq!(check_line(&with(LATER, 64, "   2")), 2);
+    assert_eq!(check_line(&with(LATER, 74, "   2")), 2);
     assert_eq!(check_line(&with(LATER, 36, "   2")), 2);
-    assert_eq!(check_line(&with(LATER, 64, "   0")), 0);
+    assert_eq!(check_line(&with(LATER, 74, "   0")), 0);
 }
 
 #[test]
@@ -187,13 +187,13 @@ fn state_words() {
 #[test]
 fn rules_of_the_states() {
     // ABSENT: every field after the word is 0.
-    for column in [35, 39, 48, 57, 63, 67, 76, 85, 96] {
+    for column in [35, 39, 48, 57, 73, 77, 86, 95, 106] {
         assert_eq!(check_line(&with(ABSENT, column, "1")), 1, "{column}");
     }
     // COMMITTED: version at least 1, before fields and clock 0.
     assert_eq!(check_line(&with(COMMITTED, 35, "0")), 1);
     assert_eq!(check_line(&with(COMMITTED, 48, "00")), 1);
-    for column in [63, 67, 76, 85, 96] {
+    for column in [73, 77, 86, 95, 106] {
         assert_eq!(check_line(&with(COMMITTED, column, "1")), 1, "{column}");
     }
     // PREPARED: TxID at least 1, version = before version + 1.
@@ -201,9 +201,9 @@ fn rules_of_the_states() {
     assert_eq!(check_line(&with(PREPARED, 35, "2")), 1);
     assert_eq!(check_line(&with(PREPARED, 35, "0")), 1);
     assert_eq!(check_line(&with(LATER, 30, " 99998")), 1);
-    assert_eq!(check_line(&with(LATER, 58, " 99999")), 1);
+    assert_eq!(check_line(&with(LATER, 68, " 99999")), 1);
     // Over before version 0 the other before fields are 0.
-    for column in [67, 76, 85] {
+    for column in [77, 86, 95] {
         assert_eq!(check_line(&with(PREPARED, column, "1")), 1, "{column}");
     }
 }
@@ -223,7 +223,7 @@ fn versions_of_other_widths() {
         ("     1", "     9", 1),
         ("100000", " 99999", 1),
     ] {
-        let line = with(&with(LATER, 30, version), 58, before);
+        let line = with(&with(LATER, 30, version), 68, before);
         assert_eq!(check_line(&line), refusal, "{version} {before}");
     }
 }
@@ -243,7 +243,7 @@ fn the_prepare_clock() {
         ("  999999999", 0),
         ("           ", 1),
     ] {
-        assert_eq!(check_line(&with(PREPARED, 86, clock)), refusal, "{clock}");
+        assert_eq!(check_line(&with(PREPARED, 96, clock)), refusal, "{clock}");
     }
 }
 

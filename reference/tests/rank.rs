@@ -15,10 +15,10 @@ use reference::replay::laid_out::LaidOut;
 use reference::replay::Layout;
 
 const RECORDS: &str = concat!(
-    " 1  1  1     1     1 COMMITTED     1   0      500      250     0   0        0        0          0\n",
-    " 1  1  1     1     3 COMMITTED     1   0      500      250     0   0        0        0          0\n",
-    " 1  1 10     0     0 COMMITTED     1   0      500      250     0   0        0        0          0\n",
-    " 2  1  1     1     1 COMMITTED     1   0      500      250     0   0        0        0          0\n",
+    " 1  1  1     1     1 COMMITTED     1   0      500      250         -     0   0        0        0          0\n",
+    " 1  1  1     1     3 COMMITTED     1   0      500      250         -     0   0        0        0          0\n",
+    " 1  1 10     0     0 COMMITTED     1   0      500      250         -     0   0        0        0          0\n",
+    " 2  1  1     1     1 COMMITTED     1   0      500      250         -     0   0        0        0          0\n",
 );
 const COORDINATOR: &str = "   1 RRRRRRRRR\n   1         -\n";
 
@@ -91,7 +91,7 @@ fn as_the_text_of_a_sheet_orders() {
         let random = &mut Random::new(seed);
         let (sheets, others) = (accepted(random), accepted(random));
         let sheet = &sheets.records;
-        let lines = sheet.chunks(98).filter(|line| !is_spare(line));
+        let lines = sheet.chunks(108).filter(|line| !is_spare(line));
         let texts: Vec<&[u8]> = lines.map(|line| &line[..20]).collect();
         let lines = [sheets.store().records, others.store().records];
         for line in lines.iter().flat_map(|lines| lines.iter().take(20)) {

@@ -10,12 +10,12 @@ fn sheets() -> Sheets {
     let key = |clustering| format!(" 1  1  1     1{clustering:>6}");
     let line = |clustering, version| {
         let key = key(clustering);
-        format!("{key} COMMITTED{version:>6}   0        5        6     0   0        0        0          0\n")
+        format!("{key} COMMITTED{version:>6}   0        5        6         -     0   0        0        0          0\n")
     };
     let mut records: String = (1..=7).map(|clustering| line(clustering, 1)).collect();
     records += &line(8, 99_999);
     records += &format!(
-        "{}  PREPARED     1   2        5        6     0   0        0        0          0\n",
+        "{}  PREPARED     1   2        5        6    ABSENT     0   0        0        0          0\n",
         key(9)
     );
     let coordinator = "   2 RRRRRRRRR\n   1         -\n   2         -\n   3         -\n";

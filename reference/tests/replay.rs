@@ -10,8 +10,8 @@ use reference::replay::{self, Layout};
 use reference::seen::Seen;
 
 const COORDINATOR: &str = "   0 SSSSSSSSS\n   1         -\n   2         -\n";
-const ABSENT: &str = " 1  1  1     1     1    ABSENT     0   0        0        0     0   0        0        0          0\n";
-const COMMITTED: &str = " 1  1  1     1     1 COMMITTED     1   1      500      250     0   0        0        0          0\n";
+const ABSENT: &str = " 1  1  1     1     1    ABSENT     0   0        0        0         -     0   0        0        0          0\n";
+const COMMITTED: &str = " 1  1  1     1     1 COMMITTED     1   1      500      250         -     0   0        0        0          0\n";
 
 /// The replay of joined sheets.
 fn replay(input: &[u8]) -> Vec<u8> {
@@ -73,7 +73,7 @@ fn sheets_are_printed_where_they_are_asked_for() {
     let output = String::from_utf8(replay(input.as_bytes())).unwrap();
     assert_eq!(output, format!("{at_first}ok 1\n{begun}bad line\n{begun}"));
     // Damaged ones too, byte for byte.
-    let damaged = [COORDINATOR.as_bytes(), &[255; 98]].concat();
+    let damaged = [COORDINATOR.as_bytes(), &[255; 108]].concat();
     let input = [b"   1   2\n", &damaged[..], b"sheets"].concat();
     let printed = [b"sheets\n", &damaged[..]].concat();
     assert_eq!(replay(&input), printed.repeat(2));
@@ -160,7 +160,7 @@ fn two_sheets_are_read_in_two_calls() {
     let coordinator = "   0 sSSSSSSSS\n   1         -\n   2         -\n";
     let plain = " 1  1  1     1     1       40        3\n";
     let bookkeeping =
-        " 1  1  1     1     1 COMMITTED     4   0     0   0        0        0          0\n";
+        " 1  1  1     1     1 COMMITTED     4   0         -     0   0        0        0          0\n";
     let calls = "begin 3 0\nread 3 1 1 1 1 1 7\nsecond 3 1 1 1 1 1 7 40 4\nread 3 1 1 1 1 1 7\nshow 3\nadvance 3 0\nadvance 3 0\n\
                  lookup 1 1 1 1 1\nlookup 1 1 1 1 0\nlookup 1 1 1 1 100000\nline 1 1 1 1 1\nsheets\n\
                  line 0 1 1 1 1 1\nline 1 1 1 1 1 1\nline 2 1 1 1 1 1\nline 0 1 1 1 1 2\n";
@@ -195,7 +195,7 @@ fn two_sheets_are_read_in_two_calls() {
 #[test]
 fn the_visiting_program() {
     let coordinator = "   1 SSSSSSSSS\n   1         -\n";
-    let prepared = " 1  1  1     1     1  PREPARED     1   1      500      250     0   0        0        0       5000\n";
+    let prepared = " 1  1  1     1     1  PREPARED     1   1      500      250    ABSENT     0   0        0        0       5000\n";
     let visited = |first: &str, coordinator: &str| {
         let input = format!("{first}\n{coordinator}{prepared}");
         String::from_utf8(output(input.as_bytes())).unwrap()

@@ -18,12 +18,12 @@ use reference::plain::visitor::output;
 use reference::replay::laid_out::LaidOut;
 use reference::replay::{replay, Layout};
 
-const LINE: usize = 98;
+const LINE: usize = 108;
 const COORDINATOR: &str = "   1 SSSSSSSSS\n   1         -\n   2         -\n";
-const ABSENT: &str = " 1  1  1     1     1    ABSENT     0   0        0        0     0   0        0        0          0\n";
-const COMMITTED: &str = " 2  1  1     1     1 COMMITTED     3   1      500      250     0   0        0        0          0\n";
-const PREPARED: &str = " 2  1  1     1     1  PREPARED     1   1      500      250     0   0        0        0       5000\n";
-const ROLLED_BACK: &str = " 2  1  1     1     1    ABSENT     0   0        0        0     0   0        0        0          0\n";
+const ABSENT: &str = " 1  1  1     1     1    ABSENT     0   0        0        0         -     0   0        0        0          0\n";
+const COMMITTED: &str = " 2  1  1     1     1 COMMITTED     3   1      500      250         -     0   0        0        0          0\n";
+const PREPARED: &str = " 2  1  1     1     1  PREPARED     1   1      500      250    ABSENT     0   0        0        0       5000\n";
+const ROLLED_BACK: &str = " 2  1  1     1     1    ABSENT     0   0        0        0         -     0   0        0        0          0\n";
 const KEY: [u32; 5] = [2, 1, 1, 1, 1];
 
 /// So many spares of the joined sheet.
@@ -199,28 +199,28 @@ fn the_joined_sheet_is_asked_for_only_where_no_spare_differs() {
 
 /// The numbers of an accepted sheet.
 fn numbers_of(sheet: &str) -> Vec<u32> {
-    let mut numbers = vec![77; sheet.len() / LINE * 15];
+    let mut numbers = vec![77; sheet.len() / LINE * 16];
     assert_eq!(records_to_numbers(sheet.as_bytes(), &mut numbers), 0);
     numbers
 }
 
 /// What writing these numbers answers, and the target afterwards.
 fn written(numbers: &[u32]) -> (u32, Vec<u8>) {
-    let mut target = vec![b'x'; numbers.len() / 15 * LINE];
+    let mut target = vec![b'x'; numbers.len() / 16 * LINE];
     (numbers_to_records(numbers, &mut target), target)
 }
 
 #[test]
-fn a_spare_is_fifteen_zeros_both_ways() {
+fn a_spare_is_sixteen_zeros_both_ways() {
     for sheet in [
         spares(1),
         spares(500),
         format!("{ABSENT}{COMMITTED}{}", spares(2)),
     ] {
         let numbers = numbers_of(&sheet);
-        let rows = numbers.chunks(15).zip(sheet.as_bytes().chunks(LINE));
+        let rows = numbers.chunks(16).zip(sheet.as_bytes().chunks(LINE));
         for (row, line) in rows {
-            assert_eq!(*row == [0; 15], *line == spare(LINE));
+            assert_eq!(*row == [0; 16], *line == spare(LINE));
         }
         assert_eq!(written(&numbers), (0, sheet.into_bytes()));
     }
@@ -235,27 +235,27 @@ fn numbers_have_their_spares_last_and_whole() {
         assert!(refusal == 0 || target.iter().all(|byte| *byte == b'x'));
         refusal
     };
-    for place in 0..15 {
+    for place in 0..16 {
         for number in [1, 2, u32::MAX] {
             let mut numbers = good.clone();
-            numbers[30 + place] = number;
+            numbers[32 + place] = number;
             assert_eq!(refused(&numbers), 1, "{place}");
         }
     }
-    let above = [&[0; 15], &good[..15]].concat();
-    let between = [&good[..15], &[0; 15], &good[15..]].concat();
+    let above = [&[0; 16], &good[..16]].concat();
+    let between = [&good[..16], &[0; 16], &good[16..]].concat();
     assert_eq!([refused(&above), refused(&between)], [1, 1]);
     for rows in [0, 501] {
-        assert_eq!(refused(&vec![0; rows * 15]), 1);
+        assert_eq!(refused(&vec![0; rows * 16]), 1);
     }
     let mut many = good.clone();
-    many.resize(500 * 15, 0);
+    many.resize(500 * 16, 0);
     assert_eq!(refused(&many), 0);
-    many.resize(501 * 15, 0);
+    many.resize(501 * 16, 0);
     assert_eq!(refused(&many), 1);
     // The spares count for the target's length.
     let sheet = format!("{ABSENT}{spare}");
-    assert_eq!(records_to_numbers(sheet.as_bytes(), &mut [0; 15]), 1);
+    assert_eq!(records_to_numbers(sheet.as_bytes(), &mut [0; 16]), 1);
     assert_eq!(numbers_to_records(&good, &mut [0; 2 * LINE]), 1);
 }
 

@@ -19,16 +19,16 @@ const TWO: Key = Key {
 };
 
 /// The first line, and as the first transaction prepares it and leaves it.
-const ONE_FIRST: &str = " 1  1  1     1     1 COMMITTED     9   0      500      250     0   0        0        0          0\n";
-const ONE_PREPARED: &str = " 1  1  1     1     1  PREPARED    10   1      600      240     9   0      500      250       5000\n";
-const ONE_LAST: &str = " 1  1  1     1     1 COMMITTED    10   1      600      240     0   0        0        0          0\n";
+const ONE_FIRST: &str = " 1  1  1     1     1 COMMITTED     9   0      500      250         -     0   0        0        0          0\n";
+const ONE_PREPARED: &str = " 1  1  1     1     1  PREPARED    10   1      600      240 COMMITTED     9   0      500      250       5000\n";
+const ONE_LAST: &str = " 1  1  1     1     1 COMMITTED    10   1      600      240         -     0   0        0        0          0\n";
 /// The second line, likewise.
-const TWO_FIRST: &str = " 1  1  1     1     2    ABSENT     0   0        0        0     0   0        0        0          0\n";
-const TWO_PREPARED: &str = " 1  1  1     1     2  PREPARED     1   1        7 99999999     0   0        0        0 4294967295\n";
-const TWO_LAST: &str = " 1  1  1     1     2 COMMITTED     1   1        7 99999999     0   0        0        0          0\n";
+const TWO_FIRST: &str = " 1  1  1     1     2    ABSENT     0   0        0        0         -     0   0        0        0          0\n";
+const TWO_PREPARED: &str = " 1  1  1     1     2  PREPARED     1   1        7 99999999    ABSENT     0   0        0        0 4294967295\n";
+const TWO_LAST: &str = " 1  1  1     1     2 COMMITTED     1   1        7 99999999         -     0   0        0        0          0\n";
 /// The second line as the second transaction leaves it, or prepares it.
-const TWO_TAKEN: &str = " 1  1  1     1     2 COMMITTED     1   2        8        9     0   0        0        0          0\n";
-const TWO_HELD: &str = " 1  1  1     1     2  PREPARED     2   2        8        9     1   1        7 99999999       5002\n";
+const TWO_TAKEN: &str = " 1  1  1     1     2 COMMITTED     1   2        8        9         -     0   0        0        0          0\n";
+const TWO_HELD: &str = " 1  1  1     1     2  PREPARED     2   2        8        9 COMMITTED     1   1        7 99999999       5002\n";
 
 /// Two records and two numbers, none issued; the letter is that of every storage.
 fn first_sheets(letter: &str) -> Sheets {

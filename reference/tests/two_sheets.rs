@@ -132,7 +132,7 @@ fn look_up_as_joined(random: &mut Random, two: &TwoSheets, joined: &Sheets) {
 }
 
 const PLAIN: &str = " 1  1  1     0     1       40        3\n 2  1  1     0     1        5        6\n 3  1  1     0     1        0        0\n";
-const BOOKKEEPING: &str = " 1  1  1     0     1 COMMITTED     4   1     0   0        0        0          0\n 2  1  1     0     1 COMMITTED     7   0     0   0        0        0          0\n 3  1  1     0     1    ABSENT     0   0     0   0        0        0          0\n";
+const BOOKKEEPING: &str = " 1  1  1     0     1 COMMITTED     4   1         -     0   0        0        0          0\n 2  1  1     0     1 COMMITTED     7   0         -     0   0        0        0          0\n 3  1  1     0     1    ABSENT     0   0         -     0   0        0        0          0\n";
 const LINES: &str = "   1         -\n   2         -\n   3         -\n   4         -\n";
 
 /// Lines in three storages under these letters, and four numbers, of which three are issued.
@@ -215,7 +215,7 @@ fn what_is_refused() {
         sheets.plain.truncate(cut);
         assert_eq!(check(&sheets), 1, "{cut}");
     }
-    for cut in [0, 1, 79, 81, 3 * 80 - 1] {
+    for cut in [0, 1, 89, 91, 3 * 90 - 1] {
         let mut sheets = good.clone();
         sheets.bookkeeping.truncate(cut);
         assert_eq!(check(&sheets), 1, "{cut}");

@@ -13,12 +13,12 @@ use reference::plain::BUSY;
 const COORDINATOR: &str = "   1 SSSSSSSSS\n   1         -\n";
 const ABORTED: &str = "   1 SSSSSSSSS\n   1   ABORTED\n";
 const COMMITTED: &str = "   1 SSSSSSSSS\n   1 COMMITTED\n";
-const PREPARED: &str = " 1  1  1     1     1  PREPARED     1   1      500      250     0   0        0        0       5000\n";
-const ABSENT: &str = " 1  1  1     1     1    ABSENT     0   0        0        0     0   0        0        0          0\n";
-const FORWARD: &str = " 1  1  1     1     1 COMMITTED     1   1      500      250     0   0        0        0          0\n";
+const PREPARED: &str = " 1  1  1     1     1  PREPARED     1   1      500      250    ABSENT     0   0        0        0       5000\n";
+const ABSENT: &str = " 1  1  1     1     1    ABSENT     0   0        0        0         -     0   0        0        0          0\n";
+const FORWARD: &str = " 1  1  1     1     1 COMMITTED     1   1      500      250         -     0   0        0        0          0\n";
 /// Prepared over a version, shortly before the clock wraps.
-const LATE: &str = " 1  1  1     1     1  PREPARED    10   1      500      250     9   0       40        3 4294967000\n";
-const BACK: &str = " 1  1  1     1     1 COMMITTED     9   0       40        3     0   0        0        0          0\n";
+const LATE: &str = " 1  1  1     1     1  PREPARED    10   1      500      250 COMMITTED     9   0       40        3 4294967000\n";
+const BACK: &str = " 1  1  1     1     1 COMMITTED     9   0       40        3         -     0   0        0        0          0\n";
 
 const KEY: Key = Key {
     storage: 1,

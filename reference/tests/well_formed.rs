@@ -7,9 +7,9 @@ use reference::plain::transaction::*;
 use reference::plain::ILL_FORMED;
 
 const RECORDS: &str = concat!(
-    " 1  1  1     1     1 COMMITTED     2   1      500      250     0   0        0        0          0\n",
-    " 1  1  1     1     2 COMMITTED     7   0        1        2     0   0        0        0          0\n",
-    " 1  1  1     1     3  PREPARED     3   2        1        2     2   1        3        4          0\n",
+    " 1  1  1     1     1 COMMITTED     2   1      500      250         -     0   0        0        0          0\n",
+    " 1  1  1     1     2 COMMITTED     7   0        1        2         -     0   0        0        0          0\n",
+    " 1  1  1     1     3  PREPARED     3   2        1        2 COMMITTED     2   1        3        4          0\n",
 );
 const COORDINATOR: &str =
     "   3 RRRRRRRRR\n   1 COMMITTED\n   2         -\n   3         -\n   4         -\n";

@@ -5,7 +5,7 @@ use reference::make::Sheets;
 
 /// Lines of one letter each, and a coordinator sheet of any bytes.
 fn sheets(lines: &str, coordinator: &str) -> Sheets {
-    let lines = lines.bytes().flat_map(|letter| [letter; 98]);
+    let lines = lines.bytes().flat_map(|letter| [letter; 108]);
     Sheets {
         records: lines.collect(),
         coordinator: coordinator.into(),
@@ -41,10 +41,10 @@ fn what_differs() {
 #[test]
 fn one_byte_is_enough() {
     let before = sheets("abc", "xyz");
-    for place in 0..3 * 98 {
+    for place in 0..3 * 108 {
         let mut after = before.clone();
         after.records[place] ^= 1;
-        assert_eq!(told(&before, &after), (2, [place as u32 / 98, 1]));
+        assert_eq!(told(&before, &after), (2, [place as u32 / 108, 1]));
     }
     for place in 0..3 {
         let mut after = before.clone();

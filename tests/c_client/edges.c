@@ -1,5 +1,5 @@
-/* What the clients of examples/ don't meet: refusals of lists, places and calls, of the look-up and of what a call wrote, and the header's own
- * texts, numbers and versions. Prints each that is otherwise, and how many there are. */
+/* What the clients of examples/ don't meet: refusals of lists, places and calls, of the look-up and of what a call wrote, of sheets whose lines have
+ * no before state, and the header's own texts, numbers and versions. Prints each that is otherwise, and how many there are. */
 #include <inttypes.h>
 #include <stdio.h>
 #include <string.h>
@@ -9,8 +9,8 @@
 enum { LINES = 2, NUMBERS = 1, RECORDS = LINES * RAPYHEO_RECORD_BYTES, COORDINATOR = (1 + NUMBERS) * RAPYHEO_COORDINATOR_BYTES };
 
 static uint8_t records[RECORDS + 1] =
-    " 1  1  1     1     1 COMMITTED 99999   0      500      250     0   0        0        0          0\n"
-    " 2  1  1     1     1    ABSENT     0   0        0        0     0   0        0        0          0\n";
+    " 1  1  1     1     1 COMMITTED 99999   0      500      250         -     0   0        0        0          0\n"
+    " 2  1  1     1     1    ABSENT     0   0        0        0         -     0   0        0        0          0\n";
 static uint8_t coordinator[COORDINATOR + 1] = "   0 SSSSSSSSS\n   1         -\n";
 static rapyheo_transaction list[RAPYHEO_LIST + 1];
 static int cases, wrong;
@@ -136,7 +136,7 @@ static void sheets(void) {
     lines[0] = 9;
     expect("other lengths", wrote(same_records, RECORDS - RAPYHEO_RECORD_BYTES, same_coordinator, 15), RAPYHEO_REFUSED + RAPYHEO_BAD_RECORDS);
     expect("other decisions", wrote(same_records, RECORDS, same_coordinator, 15), RAPYHEO_REFUSED + RAPYHEO_BAD_COORDINATOR);
-    expect("no whole lines", rapyheo_written(records, 97, same_records, 97, coordinator, COORDINATOR, same_coordinator, 15, lines, 2),
+    expect("no whole lines", rapyheo_written(records, 107, same_records, 107, coordinator, COORDINATOR, same_coordinator, 15, lines, 2),
            RAPYHEO_REFUSED + RAPYHEO_BAD_RECORDS);
     expect("one number", rapyheo_written(records, RECORDS, same_records, RECORDS, coordinator, COORDINATOR, same_coordinator, 15, lines, 1),
            RAPYHEO_REFUSED + RAPYHEO_BAD_RECORDS);
@@ -154,7 +154,7 @@ static uint32_t remove_line(uint8_t *sheet, size_t length, uint32_t storage, uin
 
 static void lines_come_and_go(void) {
     uint8_t sheet[RECORDS], first[RECORDS], spared[RECORDS];
-    const uint8_t *added = (const uint8_t *)" 2  1  1     1     0    ABSENT     0   0        0        0     0   0        0        0          0\n";
+    const uint8_t *added = (const uint8_t *)" 2  1  1     1     0    ABSENT     0   0        0        0         -     0   0        0        0          0\n";
     memcpy(sheet, records, RECORDS);
     memcpy(first, records, RECORDS);
     memcpy(spared, records, RECORDS);
@@ -177,6 +177,20 @@ static void lines_come_and_go(void) {
     expect("the other stays", (uint32_t)memcmp(spared, first, RAPYHEO_RECORD_BYTES), 0);
 }
 
+/* Sheets as they were before lines had a before state: 54 of those lines are as long as 49 of today's. */
+static void lines_of_98_bytes(void) {
+    enum { OLD = 98, OLD_LINES = 54 };
+    static uint8_t old[OLD * OLD_LINES];
+    for (int i = 0; i < OLD_LINES; i++) {
+        char line[OLD + 1];
+        snprintf(line, sizeof line, " 1  1  1     1%6d    ABSENT     0   0        0        0     0   0        0        0          0\n", i);
+        memcpy(old + i * OLD, line, OLD);
+    }
+    expect("of a length that fits", sizeof old, 49 * RAPYHEO_RECORD_BYTES);
+    expect("are refused", rapyheo_check(old, sizeof old, coordinator, COORDINATOR), RAPYHEO_BAD_RECORDS);
+    expect("one of them too", rapyheo_check(old, OLD, coordinator, COORDINATOR), RAPYHEO_BAD_RECORDS);
+}
+
 static void header(void) {
     const char *none = rapyheo_refusal_text(0);
     expect("version", rapyheo_version(), RAPYHEO_VERSION);
@@ -193,6 +207,7 @@ static void header(void) {
 }
 
 int main(void) {
+    lines_of_98_bytes();
     lines_come_and_go();
     by_place();
     closes();

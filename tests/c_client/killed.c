@@ -19,9 +19,9 @@ enum { NOW = 1000, LATER = NOW + 15000, NEVER = -1, STATE = 5, COLUMN1 = 8 };
 enum { OLD, NEW, MIXED, OUTCOMES, KILLED, FAILED };
 
 static const char first_sheets[RECORDS + COORDINATOR + 1] =
-    " 1  1  1     1     1 COMMITTED     1   0      500      250     0   0        0        0          0\n"
-    " 2  1  1     1     1 COMMITTED     4   0      900        0     0   0        0        0          0\n"
-    " 2  1  1     1     2    ABSENT     0   0        0        0     0   0        0        0          0\n"
+    " 1  1  1     1     1 COMMITTED     1   0      500      250         -     0   0        0        0          0\n"
+    " 2  1  1     1     1 COMMITTED     4   0      900        0         -     0   0        0        0          0\n"
+    " 2  1  1     1     2    ABSENT     0   0        0        0         -     0   0        0        0          0\n"
     "   0 SSSSSSSSS\n"
     "   1         -\n"
     "   2         -\n";

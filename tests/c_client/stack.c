@@ -146,7 +146,7 @@ static uint32_t ask(uint32_t call) {
 static void lay_out(void) {
     for (uint32_t i = 0; i < LINES; i++) {
         const uint32_t there = i > 0 && i + 1 < LINES;
-        const uint32_t row[RAPYHEO_RECORD_NUMBERS] = {1 + i * 9 / LINES, 99, 99, 99000 + i, 99999, there, there, 0, there, 5 * there, 0, 0, 0, 0, 0};
+        const uint32_t row[RAPYHEO_RECORD_NUMBERS] = {1 + i * 9 / LINES, 99, 99, 99000 + i, 99999, there, there, 0, there, 5 * there, 0, 0, 0, 0, 0, 0};
         memcpy(rows + i * RAPYHEO_RECORD_NUMBERS, row, sizeof row);
     }
     memset(decisions, 0, sizeof decisions);
@@ -165,7 +165,7 @@ static void split(void) {
         memcpy(columns + 20, line + 40, 18);
         columns[38] = '\n';
         memcpy(rest, line, 40);
-        memcpy(rest + 40, line + 58, 40);
+        memcpy(rest + 40, line + 58, 50);
     }
     call_by_place = two_call_at;
     visit_line = two_visit;

@@ -14,8 +14,8 @@ static uint8_t plain[PLAIN + 1] =
     " 1  1  1     1     1 99999999       25\n"
     " 2  1  1     1     1        0        0\n";
 static uint8_t bookkeeping[BOOKKEEPING + 1] =
-    " 1  1  1     1     1 COMMITTED     7   0     0   0        0        0          0\n"
-    " 2  1  1     1     1    ABSENT     0   0     0   0        0        0          0\n";
+    " 1  1  1     1     1 COMMITTED     7   0         -     0   0        0        0          0\n"
+    " 2  1  1     1     1    ABSENT     0   0         -     0   0        0        0          0\n";
 static uint8_t coordinator[COORDINATOR + 1] = "   0 sSSSSSSSS\n   1         -\n";
 static rapyheo_transaction list[RAPYHEO_LIST + 1];
 static const rapyheo_two_sheets sheets = {plain, PLAIN, bookkeeping, BOOKKEEPING, coordinator, COORDINATOR};

@@ -38,15 +38,21 @@ def records(lines, issued):
         key = (b"%2d%3d%3d%6d%6d" % (1 + i // 100, 1 + i // 50 % 2, 7, i // 10, i)).ljust(20)
         clock = 20000 - (14999, 15000, 3)[i % 3]
         if i % 5 == 0:
-            fields = (b"ABSENT", 0, 0, 0, 0, 0, 0, 0, 0, 0)
+            fields = (b"ABSENT", 0, 0, 0, 0, b"-", 0, 0, 0, 0, 0)
         elif i % 5 == 1:
-            fields = (b"COMMITTED", version + 1, txid, i, 2 * i, 0, 0, 0, 0, 0)
+            fields = (b"COMMITTED", version + 1, txid, i, 2 * i, b"-", 0, 0, 0, 0, 0)
         elif version == 0:
-            fields = (b"PREPARED", 1, txid, i, 5, 0, 0, 0, 0, clock)
+            fields = (b"PREPARED", 1, txid, i, 5, b"ABSENT", 0, 0, 0, 0, clock)
         else:
-            fields = (b"PREPARED", version + 1, txid, i, 5, version, txid - 1, 99999999, 4, clock)
-        text.append(key + b"%10s%6d%4d%9d%9d%6d%4d%9d%9d%11d\n" % fields)
+            fields = (b"PREPARED", version + 1, txid, i, 5, b"COMMITTED", version, txid - 1, 99999999, 4, clock)
+        text.append(key + b"%10s%6d%4d%9d%9d%10s%6d%4d%9d%9d%11d\n" % fields)
     return b"".join(text)
+
+
+def without_before_state(sheet):
+    """The same lines of 98 bytes, as they were before the field came."""
+    lines = sheet.split(b"\n")[:-1]
+    return b"".join(line[:58] + line[68:] + b"\n" for line in lines)
 
 
 def sheets(lines, decisions, issued=None):
@@ -56,10 +62,11 @@ def sheets(lines, decisions, issued=None):
 
 # name, input, the whole output or its digest
 LARGE = [
-    ("500 record lines", sheets(500, 30), "229659745043bc58f5522cc5c4d643f0c1233c14d3816d32e716eba296b265c9"),
+    ("500 record lines", sheets(500, 30), "b0f5ce026f297192981285bc836d408bbac67641fe530a7ffef5d47363c5e178"),
     ("501 record lines", sheets(501, 30), FIRST),
-    ("999 coordinator lines", sheets(6, 999), "bc5078f4ad5fb66bf7b05093d180b828d8aef95269328b336faae3f969f67c5d"),
-    ("both at their largest", sheets(500, 999), "c23509be19e0c231349fd3472df82ba0038cc015187776a53bea3710af66510e"),
+    ("54 lines of 98 bytes, as long as 49 record lines", head(49, 30, 20000) + coordinator(30, 30) + without_before_state(records(54, 30)), FIRST),
+    ("999 coordinator lines", sheets(6, 999), "7964f5cc903370de6ad5e47ba96dbbe4bd010fe2a40855b9e45e599d1c630c88"),
+    ("both at their largest", sheets(500, 999), "03028cc405ad32be1e45c8bf238fee21fc724057507d720d82332b8a80c64de0"),
     ("1,000 coordinator lines", sheets(6, 1000), SECOND),
     ("1,500 coordinator lines", sheets(6, 1500), SECOND),
     ("9,999 coordinator lines and 500 record lines", sheets(500, 9999), SECOND),

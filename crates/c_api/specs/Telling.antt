@@ -2,10 +2,10 @@
 use Rattle.lists.specs.Basics.{ℕ, _+_, _*_}
 
 abbrev pub major : ℕ
-major = 2
+major = 3
 
 abbrev pub minor : ℕ
-minor = 3
+minor = 0
 
 abbrev pub patch : ℕ
 patch = 0

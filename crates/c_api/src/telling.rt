@@ -81,5 +81,5 @@ pub extern "C" fn rapyheo_rank(
 pub extern "C" fn rapyheo_version() -> u32
     ensures { λ r. ⌜ r ≡ version ⌝ }
 {
-    20300
+    30000
 }

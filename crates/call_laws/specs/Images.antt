@@ -1,11 +1,12 @@
 -- A record that keeps the rules keeps them when it is prepared, committed in one phase, rolled forward or back; and what rolling a prepared record gives.
 -- Each goes part by part, the rule of the new state from that of the old.
-use Rattle.lists.specs.Basics.{_≡_, refl, sym, ap, _∙_, ℕ, _+_, _≤_, eqb, leb, Bool, true, false, _||_, cond, true≢false, arith, eqb-true, eqb-false, leb-true}
-use Rattle.lists.specs.Basics.{eq-eqb, ne-eqb, le-leb, and-fst, and-both, choose-by, tests, or-else, or-right}
-use Rattle.model.specs.Types.{Key, Image, Record, State}
+use Rattle.lists.specs.Basics.{_≡_, refl, sym, ℕ, _+_, _≤_, eqb, leb, true, false, _||_, true≢false, arith}
+use Rattle.lists.specs.Basics.{eq-eqb, le-leb, and-fst, and-both, tests, or-right}
+use Rattle.model.specs.Types.{Key, Image, Record, State, Before}
 use Rattle.types.specs.declared.State.the-variants.{Absent, Committed, Prepared}
-use Rattle.model.specs.Records.{byState, isZero, absentRule, committedRule, preparedRule, stateRule, noImage, absentAt}
-use Rattle.model.specs.Images.{isAbsent, isPrepared, Change, writtenImage, prepared, committed, rolledForward, beforeState, rolledBack}
+use Rattle.types.specs.declared.Before.the-variants as Was
+use Rattle.model.specs.Records.{byState, byBefore, isZero, noBefore, beforeRule, absentRule, committedRule, preparedRule, stateRule, noImage, absentAt}
+use Rattle.model.specs.Images.{isAbsent, isPrepared, Change, writtenImage, prepared, committed, stateKept, rolledForward, stateBack, rolledBack}
 use Rattle.model.specs.WellFormed.{imageInRange, columnsInRange}
 use Rattle.model.specs.Conditions.{isBlank}
 use Rattle.call_laws.specs.Ranges.{GoodParts, image-ranged, zeros-ranged}
@@ -44,28 +45,30 @@ when-settled r = go (r .state)
         rw z
     go Prepared p h = absurd (true≢false p)
 
-zeros : isZero noImage ≡ true
-unfolding isZero
-zeros = refl
+-- its image, kept as a before image beside its state, keeps the rule of before images
+kept-rule : (r : Record) → isPrepared r ≡ false → stateRule r ≡ true → byBefore (stateKept (r .state)) false (isZero (r .image)) (leb 1 (r .image .version)) ≡ true
+unfolding absentRule committedRule
+kept-rule r = go (r .state)
+  where
+    go : (x : State) → byState x false false true ≡ false → byState x (absentRule r) (committedRule r) (preparedRule r) ≡ true → byBefore (stateKept x) false (isZero (r .image)) (leb 1 (r .image .version)) ≡ true
+    go Absent p h = search tests
+    go Committed p h = search tests
+    go Prepared p h = absurd (true≢false p)
 
--- a before image put back
-abbrev restored : Key → Image → Record
-restored k m = record { key = k; state = beforeState m; image = m; before = noImage; clock = 0 }
+-- a settled record has nothing before it
+nothing-before : (k : Key) (s : State) (m : Image) → noBefore (record { key = k; state = s; image = m; prior = Was.Nothing; before = noImage; clock = 0 }) ≡ true
+unfolding noBefore isZero
+nothing-before k s m = refl
 
 -- a before image rolled back keeps the rule of its state
-back-rule : (k : Key) (m : Image) → (leb 1 (m .version) || isZero m) ≡ true → stateRule (restored k m) ≡ true
-unfolding absentRule committedRule
-back-rule k m h = go (eqb (m .version) 0) refl
+back-rule : (r : Record) → beforeRule r ≡ true → stateRule (rolledBack r) ≡ true
+unfolding rolledBack beforeRule absentRule committedRule
+back-rule r = go (r .prior)
   where
-    nothing-there : m .version ≡ 0 → isZero m ≡ true
-    nothing-there z =
-        or-else (leb 1 (m .version)) (isZero m) h
-        (λ l. let p : 1 ≤ m .version = leb-true 1 (m .version) l in absurd (omega (arith, p, z)))
-        (λ l g. g)
-
-    go : (x : Bool) → eqb (m .version) 0 ≡ x → byState (cond x Absent Committed) (absentRule (restored k m)) (committedRule (restored k m)) (preparedRule (restored k m)) ≡ true
-    go true e = and-both (and-both (nothing-there (eqb-true (m .version) 0 e)) zeros) refl
-    go false e = and-both (and-both (le-leb 1 (m .version) (omega (arith, eqb-false (m .version) 0 e))) zeros) refl
+    go : (b : Before) → byBefore b false (isZero (r .before)) (leb 1 (r .before .version)) ≡ true → byState (stateBack b) (absentRule (rolledBack r)) (committedRule (rolledBack r)) (preparedRule (rolledBack r)) ≡ true
+    go Was.Nothing h = absurd (true≢false (sym h))
+    go Was.Absent h = and-both h (nothing-before (r .key) _ _)
+    go Was.Committed h = and-both h (nothing-before (r .key) _ _)
 
 -- What a put may be written over: a record that isn't prepared, under an issued number.
 pub record MayPut (issued n : ℕ) (c : Change) (r : Record) : Type 0 where
@@ -90,13 +93,13 @@ module _ (issued n : ℕ) (c : Change) (r : Record) (good : GoodParts issued r) 
         image = put-ranged;
         before = zeros-ranged;
         clock = omega arith;
-        rule = and-both (and-both (le-leb 1 (r .image .version + 1) (omega arith)) zeros) refl;
+        rule = and-both (le-leb 1 (r .image .version + 1) (omega arith)) (nothing-before (r .key) _ _);
         txid = may .known;
         before-txid = omega arith;
       }
 
   pub prepared-fine : (now : ℕ) → now ≤ 4294967295 → GoodParts issued (prepared n now c r)
-  unfolding prepared preparedRule
+  unfolding prepared preparedRule beforeRule
   prepared-fine now l =
       record {
         key = good .key;
@@ -105,7 +108,7 @@ module _ (issued n : ℕ) (c : Change) (r : Record) (good : GoodParts issued r) 
         clock = l;
         rule =
             and-both (and-both (le-leb 1 n (may .number)) (eq-eqb (r .image .version + 1) (r .image .version + 1) refl))
-            (when-settled r (may .free) (good .rule));
+            (kept-rule r (may .free) (good .rule));
         txid = may .known;
         before-txid = good .txid;
       }
@@ -121,7 +124,7 @@ module _ (issued : ℕ) (r : Record) (good : GoodParts issued r) (pending : isPr
         image = good .image;
         before = zeros-ranged;
         clock = omega arith;
-        rule = and-both (and-both (le-leb 1 (r .image .version) (omega arith)) zeros) refl;
+        rule = and-both (le-leb 1 (r .image .version) (omega arith)) (nothing-before (r .key) _ _);
         txid = good .txid;
         before-txid = omega arith;
       }
@@ -130,13 +133,13 @@ module _ (issued : ℕ) (r : Record) (good : GoodParts issued r) (pending : isPr
   unfolding rolledBack preparedRule
   back-fine =
       let h : preparedRule r ≡ true = when-prepared r pending (good .rule) in
-      let b : (leb 1 (r .before .version) || isZero (r .before)) ≡ true = search (tests, h) in
+      let b : beforeRule r ≡ true = search (tests, h) in
       record {
         key = good .key;
         image = good .before;
         before = zeros-ranged;
         clock = omega arith;
-        rule = back-rule (r .key) (r .before) b;
+        rule = back-rule r b;
         txid = good .before-txid;
         before-txid = omega arith;
       }
@@ -157,6 +160,25 @@ zero-is m h =
     let b : m .column2 ≡ 0 = search tests in
     λ i. record { version = v i; txid = n i; column1 = a i; column2 = b i }
 
+nothing-is : (b : Before) → byBefore b true false false ≡ true → b ≡ Was.Nothing
+nothing-is Was.Nothing h = refl
+nothing-is Was.Absent h = absurd (true≢false (sym h))
+nothing-is Was.Committed h = absurd (true≢false (sym h))
+
+-- a record that has nothing before it
+record Nothing (r : Record) : Type 0 where
+  prior : r .prior ≡ Was.Nothing
+  before : r .before ≡ noImage
+  clock : r .clock ≡ 0
+
+no-before : (r : Record) → noBefore r ≡ true → Nothing r
+unfolding noBefore
+no-before r h =
+    let n : byBefore (r .prior) true false false ≡ true = search tests in
+    let z : isZero (r .before) ≡ true = search tests in
+    let c : r .clock ≡ 0 = search tests in
+    record { prior = nothing-is (r .prior) n; before = zero-is (r .before) z; clock = c }
+
 -- a blank record is the ABSENT line of its key
 pub blank-is : (r : Record) → stateRule r ≡ true → isBlank r ≡ true → r ≡ absentAt (r .key)
 unfolding isBlank absentRule
@@ -165,43 +187,29 @@ blank-is r = λ h b. go (r .state) refl h (and-fst (isAbsent r) (eqb (r .image .
     go : (x : State) → r .state ≡ x → byState x (absentRule r) (committedRule r) (preparedRule r) ≡ true → byState x true false false ≡ true → r ≡ absentAt (r .key)
     go Absent e h a =
         let m : isZero (r .image) ≡ true = search tests in
-        let z : isZero (r .before) ≡ true = search tests in
-        let c : r .clock ≡ 0 = search tests in
-        λ i. record { key = r .key; state = e i; image = zero-is (r .image) m i; before = zero-is (r .before) z i; clock = c i }
+        let z : noBefore r ≡ true = search tests in
+        let n = no-before r z in
+        λ i. record { key = r .key; state = e i; image = zero-is (r .image) m i; prior = n .prior i; before = n .before i; clock = n .clock i }
     go Committed e h a = absurd (true≢false (sym a))
     go Prepared e h a = absurd (true≢false (sym a))
 
--- a record that isn't prepared has no before image and no clock, and its state tells whether it has a version
-record Settled (r : Record) : Type 0 where
-  state : beforeState (r .image) ≡ r .state
-  before : r .before ≡ noImage
-  clock : r .clock ≡ 0
-
-settled : (r : Record) → isPrepared r ≡ false → stateRule r ≡ true → Settled r
-unfolding absentRule committedRule isZero
-settled r = go (r .state) refl
+-- a record that isn't prepared has nothing before it, and kept beside its image its state comes back
+settled : (r : Record) → isPrepared r ≡ false → stateRule r ≡ true → (stateBack (stateKept (r .state)) ≡ r .state) × (noBefore r ≡ true)
+unfolding absentRule committedRule
+settled r = go (r .state)
   where
-    go : (x : State) → r .state ≡ x → byState x false false true ≡ false → byState x (absentRule r) (committedRule r) (preparedRule r) ≡ true → Settled r
-    go Absent e p h =
-        let z : isZero (r .before) ≡ true = search tests in
-        let c : r .clock ≡ 0 = search tests in
-        let v : eqb (r .image .version) 0 ≡ true = search tests in
-        record { state = ap (λ (b : Bool). cond b Absent Committed) v ∙ sym e; before = zero-is (r .before) z; clock = c }
-    go Committed e p h =
-        let z : isZero (r .before) ≡ true = search tests in
-        let c : r .clock ≡ 0 = search tests in
-        let l : leb 1 (r .image .version) ≡ true = search tests in
-        let m : 1 ≤ r .image .version = leb-true 1 (r .image .version) l in
-        let v : eqb (r .image .version) 0 ≡ false = ne-eqb (r .image .version) 0 (λ q. omega (arith, m, q)) in
-        record { state = ap (λ (b : Bool). cond b Absent Committed) v ∙ sym e; before = zero-is (r .before) z; clock = c }
-    go Prepared e p h = absurd (true≢false p)
+    go : (x : State) → byState x false false true ≡ false → byState x (absentRule r) (committedRule r) (preparedRule r) ≡ true → (stateBack (stateKept x) ≡ x) × (noBefore r ≡ true)
+    go Absent p h = (refl, search tests)
+    go Committed p h = (refl, search tests)
+    go Prepared p h = absurd (true≢false p)
 
 -- rolling it back gives the record that was there
 pub back-is-before : (n now : ℕ) (c : Change) (r : Record) → isPrepared r ≡ false → stateRule r ≡ true → rolledBack (prepared n now c r) ≡ r
 unfolding rolledBack prepared
 back-is-before n now c r p h =
-    let s : Settled r = settled r p h in
-    λ i. record { key = r .key; state = s .state i; image = r .image; before = sym (s .before) i; clock = sym (s .clock) i }
+    let s = settled r p h in
+    let n = no-before r (s .1) in
+    λ i. record { key = r .key; state = s .0 i; image = r .image; prior = sym (n .prior) i; before = sym (n .before) i; clock = sym (n .clock) i }
 
 -- a rolled record isn't prepared
 pub forward-plain : (r : Record) → isPrepared (rolledForward r) ≡ false
@@ -210,4 +218,9 @@ forward-plain r = refl
 
 pub back-plain : (r : Record) → isPrepared (rolledBack r) ≡ false
 unfolding rolledBack
-back-plain r = choose-by (λ (x : State). byState x false false true ≡ false) (eqb (r .before .version) 0) (λ e. refl) (λ e. refl)
+back-plain r = go (r .prior)
+  where
+    go : (b : Before) → byState (stateBack b) false false true ≡ false
+    go Was.Nothing = refl
+    go Was.Absent = refl
+    go Was.Committed = refl

@@ -1,11 +1,12 @@
--- A record's ranges in parts: key, image, before image and clock. The layout is those of its parts one after another.
+-- A record's ranges in parts: key, state, image, before state, before image and clock. The layout is those of its parts one after another.
 use Rattle.lists.specs.Basics.{_≡_, refl, sym, ap, _∙_, ℕ, _≤_, leb, Bool, true, _&&_, and-assoc, List, [], _∷_, _++_, length, arith, le-leb, and-fst, and-snd}
 use Rattle.lists.specs.Basics.{and-both, tests}
-use Rattle.model.specs.Types.{Key, Image, Record, State, Column, StateWord}
+use Rattle.model.specs.Types.{Key, Image, Record, State, Before, Column, StateWord, BeforeWord}
 use Rattle.types.specs.declared.State.the-variants.{Absent, Committed, Prepared}
+use Rattle.types.specs.declared.Before.the-variants as Was
 use Rattle.model.specs.Layouts.{figures, word, recordLayout, keyLayout, imageLayout, columnsLayout, wordBytes}
 use Rattle.model.specs.Lines.{inRange, rowGood}
-use Rattle.model.specs.Records.{stateNumber, keyNumbers, imageNumbers, recordNumbers, keyInRange, stateRule, absentRule, isZero, goodAlone, noImage, absentAt}
+use Rattle.model.specs.Records.{stateNumber, beforeNumber, keyNumbers, imageNumbers, recordNumbers, keyInRange, stateRule, noBefore, absentRule, isZero, goodAlone, noImage, absentAt}
 use Rattle.model.specs.Coordinator.{namesIssued}
 use Rattle.model.specs.WellFormed.{imageInRange, columnsInRange}
 use Rattle.sheet_laws.specs.Records.{ranged, good-ranged}
@@ -22,10 +23,20 @@ row-append (c ∷ cs) ds (v ∷ vs) ws e =
 abbrev stateColumn : Column
 stateColumn = word wordBytes StateWord 2
 
+abbrev beforeColumn : Column
+beforeColumn = word wordBytes BeforeWord 2
+
 abbrev clockColumn : Column
 clockColumn = figures 11 0 4294967295
 
-layout-parts : recordLayout ≡ keyLayout ++ (stateColumn ∷ (imageLayout ++ (imageLayout ++ (clockColumn ∷ []))))
+-- the columns behind the image, and the numbers there
+abbrev behindImage : List Column
+behindImage = beforeColumn ∷ (imageLayout ++ (clockColumn ∷ []))
+
+abbrev numbersBehind : Record → List ℕ
+numbersBehind r = beforeNumber (r .prior) ∷ (imageNumbers (r .before) ++ (r .clock ∷ []))
+
+layout-parts : recordLayout ≡ keyLayout ++ (stateColumn ∷ (imageLayout ++ behindImage))
 unfolding recordLayout keyLayout imageLayout
 layout-parts = refl
 
@@ -33,21 +44,21 @@ layout-parts = refl
 abbrev afterKey : Record → Bool
 afterKey r =
     inRange stateColumn (stateNumber (r .state))
-    && (imageInRange (r .image) && (imageInRange (r .before) && (inRange clockColumn (r .clock) && true)))
+    && (imageInRange (r .image) && (inRange beforeColumn (beforeNumber (r .prior)) && (imageInRange (r .before) && (inRange clockColumn (r .clock) && true))))
 
-after-key : (r : Record) → rowGood (stateColumn ∷ (imageLayout ++ (imageLayout ++ (clockColumn ∷ [])))) (stateNumber (r .state) ∷ (imageNumbers (r .image) ++ (imageNumbers (r .before) ++ (r .clock ∷ [])))) ≡ afterKey r
+after-key : (r : Record) → rowGood (stateColumn ∷ (imageLayout ++ behindImage)) (stateNumber (r .state) ∷ (imageNumbers (r .image) ++ numbersBehind r)) ≡ afterKey r
 unfolding rowGood imageInRange imageNumbers imageLayout recordLayout
 after-key r =
     ap (λ (b : Bool). inRange stateColumn (stateNumber (r .state)) && b)
-    (row-append imageLayout (imageLayout ++ (clockColumn ∷ [])) (imageNumbers (r .image)) (imageNumbers (r .before) ++ (r .clock ∷ [])) refl
-    ∙ ap (λ (b : Bool). imageInRange (r .image) && b)
+    (row-append imageLayout behindImage (imageNumbers (r .image)) (numbersBehind r) refl
+    ∙ ap (λ (b : Bool). imageInRange (r .image) && (inRange beforeColumn (beforeNumber (r .prior)) && b))
     (row-append imageLayout (clockColumn ∷ []) (imageNumbers (r .before)) (r .clock ∷ []) refl))
 
 range-parts : (r : Record) → rowGood recordLayout (recordNumbers r) ≡ (keyInRange (r .key) && afterKey r)
 unfolding recordNumbers keyInRange keyNumbers imageNumbers keyLayout imageLayout recordLayout
 range-parts r =
     ap (λ (cs : List Column). rowGood cs (recordNumbers r)) layout-parts
-    ∙ (row-append keyLayout (stateColumn ∷ (imageLayout ++ (imageLayout ++ (clockColumn ∷ [])))) (keyNumbers (r .key)) _ refl
+    ∙ (row-append keyLayout (stateColumn ∷ (imageLayout ++ behindImage)) (keyNumbers (r .key)) _ refl
     ∙ ap (λ (b : Bool). keyInRange (r .key) && b) (after-key r))
 
 from-zero : (v h : ℕ) → v ≤ h → (leb 0 v && leb v h) ≡ true
@@ -89,11 +100,17 @@ state-ranged Absent = refl
 state-ranged Committed = refl
 state-ranged Prepared = refl
 
+before-ranged : (x : Before) → inRange beforeColumn (beforeNumber x) ≡ true
+unfolding inRange beforeNumber
+before-ranged Was.Nothing = refl
+before-ranged Was.Absent = refl
+before-ranged Was.Committed = refl
+
 pub parts-fine : (issued : ℕ) (r : Record) → GoodParts issued r → fine issued r ≡ true
 unfolding goodAlone namesIssued inRange
 parts-fine issued r g =
     let c : (keyInRange (r .key) && afterKey r) ≡ true =
-    and-both (g .key) (and-both (state-ranged (r .state)) (and-both (g .image) (and-both (g .before) (and-both (from-zero (r .clock) 4294967295 (g .clock)) refl)))) in
+    and-both (g .key) (and-both (state-ranged (r .state)) (and-both (g .image) (and-both (before-ranged (r .prior)) (and-both (g .before) (and-both (from-zero (r .clock) 4294967295 (g .clock)) refl))))) in
     and-both (and-both (range-parts r ∙ c) (g .rule))
     (and-both (le-leb (r .image .txid) issued (g .txid)) (le-leb (r .before .txid) issued (g .before-txid)))
 
@@ -109,7 +126,7 @@ zeros-ranged = refl
 
 -- a key without a line counts as an ABSENT line of version 0, which keeps the rules
 pub absent-good : (issued : ℕ) (k : Key) → keyInRange k ≡ true → GoodParts issued (absentAt k)
-unfolding absentRule isZero
+unfolding absentRule noBefore isZero
 absent-good issued k h =
     record { key = h; image = zeros-ranged; before = zeros-ranged; clock = omega arith; rule = refl; txid = omega arith; before-txid = omega arith }
 

@@ -1,15 +1,16 @@
 -- Cases by computation: three lines of spaces, and a coordinator sheet of two bytes, before and after.
-use Rattle.lists.specs.Basics.{_≡_, refl, ℕ, List, [], _∷_, set, take, replicate, eqList}
+use Rattle.lists.specs.Basics.{_≡_, refl, ℕ, _-_, _*_, List, [], _∷_, set, take, replicate, eqList}
+use Rattle.model.specs.Layouts.{recordBytes}
 use Rattle.model.specs.Refusals.{refusalOf}
 use Rattle.model.specs.SheetCalls.{lineAt}
 use Rattle.model.specs.Changes.{reachOf, firstOf, lengthConditions, writtenNumber, writtenLines}
 
 abbrev blank : List ℕ
-blank = replicate 294 32
+blank = replicate (3 * recordBytes) 32
 
 -- a byte of the second line and one of the third differ
 abbrev filled : List ℕ
-filled = set (set blank 98 65) 293 65
+filled = set (set blank recordBytes 65) (3 * recordBytes - 1) 65
 
 abbrev decisions : List ℕ
 decisions = 1 ∷ 2 ∷ []
@@ -44,7 +45,7 @@ records-refused : Tells blank (take 196 blank) decisions [] 1001 target
 unfolding writtenNumber writtenLines lengthConditions refusalOf
 records-refused = (refl, refl)
 
-line-refused : Tells (take 97 blank) (take 97 blank) decisions decisions 1001 target
+line-refused : Tells (take (recordBytes - 1) blank) (take (recordBytes - 1) blank) decisions decisions 1001 target
 unfolding writtenNumber writtenLines lengthConditions refusalOf
 line-refused = (refl, refl)
 

@@ -3,14 +3,15 @@ use Rattle.lists.specs.Basics.{_≡_, refl, sym, ap, _∙_, ℕ, zero, suc, _+_
 use Rattle.lists.specs.Basics.{_++_, length, take, drop, getD, length-take, length-drop, List·getD-eq-default, take-all, arith, leb-true, leb-false, le-leb}
 use Rattle.lists.specs.Basics.{lt-ltb, eqList, and-snd, tests}
 use Rattle.lists.specs.Pieces.{over, over-part, over-zero}
-use Rattle.model.specs.Types.{Record, Undecided, Committed, Aborted, DecisionWord}
+use Rattle.model.specs.Types.{Record, Before, Undecided, Committed, Aborted, DecisionWord}
 use Rattle.types.specs.declared.State.the-variants.{Prepared}
+use Rattle.types.specs.declared.Before.the-variants as Was
 use Rattle.decimal.specs.Field.{number, figure, fieldText}
 use Rattle.decimal.specs.Laws.{length-fieldText}
 use Rattle.decimal.specs.Word.{putWord, put-fits}
 use Rattle.model.specs.Layouts.{recordLayout, wordAt, recordBytes, coordinatorBytes}
 use Rattle.model.specs.Lines.{rowOf, lineSet}
-use Rattle.model.specs.Records.{stateOf, recordOf, recordIn, recordText, records, recordsAccepted, noRecord}
+use Rattle.model.specs.Records.{stateOf, beforeOf, recordOf, recordIn, recordText, records, recordsAccepted, noRecord}
 use Rattle.model.specs.Coordinator.{decisionNumber, decision, coordinatorOf}
 use Rattle.sheet_laws.specs.Records.{Readable, readable}
 use Rattle.sheet_laws.specs.ByIndex.{changedAt, record-at, line-set}
@@ -23,6 +24,13 @@ unfolding stateOf
 state-else zero z o = absurd (z refl)
 state-else (suc zero) z o = absurd (o refl)
 state-else (suc (suc n)) z o = refl
+
+-- the last of the three before states
+pub before-else : (n : ℕ) → (n ≡ 0 → ⊥) → (n ≡ 1 → ⊥) → Was.Committed ≡ beforeOf n
+unfolding beforeOf
+before-else zero z o = absurd (z refl)
+before-else (suc zero) z o = absurd (o refl)
+before-else (suc (suc n)) z o = refl
 
 -- the row read from the part that is line i is that of the record there
 pub record-part : (s row : List ℕ) (i : ℕ) → i < length s / recordBytes → row ≡ rowOf recordLayout (take (i * recordBytes + recordBytes - i * recordBytes) (drop (i * recordBytes) s)) → recordOf row ≡ getD (records s) i noRecord

@@ -6,7 +6,7 @@ use Rattle.decimal.specs.declared.Scan.{Scan}
 use Rattle.decimal.specs.declared.Scan.the-variants.{Number, Wrong}
 use Rattle.decimal.specs.Field.{figure, fieldText}
 use Rattle.decimal.specs.Word.{putWord, put-fits}
-use Rattle.model.specs.Types.{Column, Kind, Figure, StateWord, DecisionWord, UnitLetter}
+use Rattle.model.specs.Types.{Column, Kind, Figure, StateWord, BeforeWord, DecisionWord, UnitLetter}
 use Rattle.model.specs.Layouts.{words, wordAt, wordBytes}
 use Rattle.model.specs.Lines.{lastBytes, wordFrom, byKind, fieldValue, fieldBytes}
 use Rattle.sheet_laws.specs.Fields.{wideEnough, length-wordAt}
@@ -25,6 +25,7 @@ isWord k = byKind k false true
 is-word {ℓ} : {A : Type ℓ} (k : Kind) (a b : A) → isWord k ≡ true → byKind k a b ≡ b
 is-word Figure a b w = absurd (true≢false (sym w))
 is-word StateWord a b w = refl
+is-word BeforeWord a b w = refl
 is-word DecisionWord a b w = refl
 is-word UnitLetter a b w = refl
 

@@ -66,6 +66,7 @@ pub fn read_field(c: Column, s: &[u8]) -> Scan
         Kind::StateWord => read_word(kind, c.width, s),
         Kind::DecisionWord => read_word(kind, c.width, s),
         Kind::UnitLetter => read_word(kind, c.width, s),
+        Kind::BeforeWord => read_word(kind, c.width, s),
     }
 }
 
@@ -101,6 +102,7 @@ pub fn write_field(c: Column, v: u32, s: &mut [u8])
         Kind::StateWord => write_word(kind, v, s),
         Kind::DecisionWord => write_word(kind, v, s),
         Kind::UnitLetter => write_word(kind, v, s),
+        Kind::BeforeWord => write_word(kind, v, s),
     }
 }
 

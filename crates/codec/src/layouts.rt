@@ -48,6 +48,13 @@ const STATE: Column = Column {
     high: 2,
 };
 
+const BEFORE_STATE: Column = Column {
+    width: WORD_BYTES,
+    kind: Kind::BeforeWord,
+    low: 0,
+    high: 2,
+};
+
 const VERSION: Column = Column {
     width: VERSION_BYTES,
     kind: Kind::Figure,
@@ -126,11 +133,12 @@ fn record_column(i: usize) -> Column
         7 => TXID,
         8 => AMOUNT,
         9 => AMOUNT,
-        10 => VERSION,
-        11 => TXID,
-        12 => AMOUNT,
+        10 => BEFORE_STATE,
+        11 => VERSION,
+        12 => TXID,
         13 => AMOUNT,
-        14 => CLOCK,
+        14 => AMOUNT,
+        15 => CLOCK,
         _ => NO_COLUMN,
     }
 }
@@ -217,6 +225,12 @@ pub fn word(kind: Kind, n: u32) -> [u8; 10]
             9 => *b"         s",
             _ => *b"          ",
         },
+        Kind::BeforeWord => match n {
+            0 => *b"         -",
+            1 => *b"    ABSENT",
+            2 => *b" COMMITTED",
+            _ => *b"          ",
+        },
         Kind::Figure => *b"          ",
     }
 }
@@ -229,6 +243,7 @@ pub fn count(kind: Kind) -> u32
         Kind::StateWord => 3,
         Kind::DecisionWord => 3,
         Kind::UnitLetter => 10,
+        Kind::BeforeWord => 3,
         Kind::Figure => 0,
     }
 }

@@ -5,10 +5,12 @@ ghost use lib.ListN.{length};
 ghost use Rattle.lists.specs.Pieces.{over};
 ghost use Rattle.decimal.specs.Field.{fieldText};
 ghost use Rattle.model.specs.Layouts.{recordBytes, imageBytes};
-ghost use Rattle.sheet_laws.specs.Changed.{imageText, nothingText, stateOver, imageOver, beforeOver, imageOffset, imageIn};
+ghost use Rattle.sheet_laws.specs.Changed.{imageText, nothingText, stateOver, imageOver, priorOver, settledOver, imageOffset, imageIn};
 use crate::layouts;
 use crate::records;
 use types::BEFORE_AT;
+use types::BEFORE_STATE_AT;
+use types::Before;
 use types::CLOCK_BYTES;
 use types::COLUMN_BYTES;
 use types::COLUMN1_AT;
@@ -22,12 +24,13 @@ use types::TXID_AT;
 use types::TXID_BYTES;
 use types::VERSION_AT;
 use types::VERSION_BYTES;
+use types::WORD_BYTES;
 
-// Bytes from the image before on: that image and the clock.
-const REST_BYTES: usize = IMAGE_BYTES + CLOCK_BYTES;
+// Bytes from the before state on: that word, the image before and the clock.
+const REST_BYTES: usize = WORD_BYTES + IMAGE_BYTES + CLOCK_BYTES;
 
-// An image of zeros and a clock of 0.
-const NOTHING: [u8; REST_BYTES] = *b"     0   0        0        0          0";
+// Before state `-`, an image of zeros and a clock of 0.
+const NOTHING: [u8; REST_BYTES] = *b"         -     0   0        0        0          0";
 
 // A text over the line from `at` on.
 pub fn put_at(line: &mut [u8], at: usize, text: &[u8])
@@ -79,6 +82,15 @@ pub fn put_state(line: &mut [u8], state: State)
     put_at(line, STATE_AT, &word);
 }
 
+// Another before state.
+pub fn put_prior(line: &mut [u8], prior: Before)
+    requires { ⌜ length (now line) ≡ recordBytes ⌝ }
+    ensures { λ u. ⌜ now (line .exit) ≡ priorOver prior (now (line .entry)) ⌝ }
+{
+    let word = layouts::word(Kind::BeforeWord, records::before_number(prior));
+    put_at(line, BEFORE_STATE_AT, &word);
+}
+
 // The figures of another image.
 pub fn write_image(line: &mut [u8], m: Image)
     requires { ⌜ length (now line) ≡ recordBytes ⌝ }
@@ -90,11 +102,11 @@ pub fn write_image(line: &mut [u8], m: Image)
     write_at(line, COLUMN2_AT, COLUMN_BYTES, m.column2);
 }
 
-// No image before, and a clock of 0.
+// Nothing before, and a clock of 0.
 pub fn put_nothing(line: &mut [u8])
     requires { ⌜ length (now line) ≡ recordBytes ⌝ }
-    ensures { λ u. ⌜ now (line .exit) ≡ beforeOver nothingText (now (line .entry)) ⌝ }
+    ensures { λ u. ⌜ now (line .exit) ≡ settledOver nothingText (now (line .entry)) ⌝ }
 {
     let nothing = NOTHING;
-    put_at(line, BEFORE_AT, &nothing);
+    put_at(line, BEFORE_STATE_AT, &nothing);
 }

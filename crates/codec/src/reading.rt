@@ -8,10 +8,11 @@ ghost use Rattle.decimal.specs.Digits.{figureAt};
 ghost use Rattle.model.specs.Layouts.{recordBytes};
 ghost use Rattle.model.specs.Records.{noRecord, recordsAccepted};
 ghost use Rattle.model.specs.Records as model;
-ghost use Rattle.model.specs.Images.{isPrepared, beforeState, columnsOf};
+ghost use Rattle.model.specs.Images.{isPrepared, stateBack, columnsOf};
 use crate::fields;
 use crate::records;
-use types::BEFORE_AT;
+use types::BEFORE_STATE_AT;
+use types::Before;
 use types::CLOCK_AT;
 use types::CLOCK_BYTES;
 use types::CLUSTERING_AT;
@@ -112,13 +113,16 @@ pub fn clock(records: &[u8], i: usize) -> u32
     figure(records, i, CLOCK_AT, CLOCK_BYTES) as u32
 }
 
-// The state of its before image: ABSENT if the version there is 0.
+// The state that its before state gives back.
 pub fn before_state(records: &[u8], i: usize) -> State
-    requires { ⌜ recordsAccepted (now records) ≡ true ⌝ }
-    ensures { λ r. ⌜ r ≡ beforeState (getD (model.records (now (records .entry))) i noRecord .before) ⌝ }
+    ensures { λ r. ⌜ r ≡ stateBack (getD (model.records (now (records .entry))) i noRecord .prior) ⌝ }
 {
-    if figure(records, i, BEFORE_AT, VERSION_BYTES) == 0 {
-        return State::Absent;
+    if i < records.len() / RECORD_BYTES {
+        let at = i * RECORD_BYTES + BEFORE_STATE_AT;
+        let committed = records::before_number(Before::Committed);
+        if fields::is_word_at(records, at, Kind::BeforeWord, committed) {
+            return State::Committed;
+        }
     }
-    State::Committed
+    State::Absent
 }

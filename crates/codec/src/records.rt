@@ -3,9 +3,10 @@ ghost use mathlib.Core.Path.{_≡_};
 ghost use Prim.Native.Nat.{_*_, _/_};
 ghost use lib.ListN.{length, getD};
 ghost use Rattle.model.specs.Layouts.{recordBytes, recordFields};
-ghost use Rattle.model.specs.Records.{stateOf, stateNumber, recordOf, noRecord};
+ghost use Rattle.model.specs.Records.{stateOf, stateNumber, beforeOf, beforeNumber, recordOf, noRecord};
 ghost use Rattle.model.specs.Records as model;
 use crate::lines;
+use types::Before;
 use types::Image;
 use types::Key;
 use types::Layout;
@@ -20,6 +21,7 @@ const NO_RECORD: Record = Record {
     key: NO_KEY,
     state: State::Absent,
     image: NO_IMAGE,
+    prior: Before::Nothing,
     before: NO_IMAGE,
     clock: 0,
 };
@@ -46,6 +48,28 @@ pub fn state_number(s: State) -> u32
     }
 }
 
+// The before state of its number.
+fn before_of(n: u32) -> Before
+    ensures { λ r. ⌜ r ≡ beforeOf n ⌝ }
+{
+    match n {
+        0 => Before::Nothing,
+        1 => Before::Absent,
+        _ => Before::Committed,
+    }
+}
+
+// The number of a before state.
+pub fn before_number(b: Before) -> u32
+    ensures { λ r. ⌜ r ≡ beforeNumber b ⌝ }
+{
+    match b {
+        Before::Nothing => 0,
+        Before::Absent => 1,
+        Before::Committed => 2,
+    }
+}
+
 // The record of its numbers.
 pub fn record_of(v: &[u32]) -> Record
     requires { ⌜ length (now v) ≡ recordFields ⌝ }
@@ -66,13 +90,14 @@ pub fn record_of(v: &[u32]) -> Record
             column1: v[8],
             column2: v[9],
         },
+        prior: before_of(v[10]),
         before: Image {
-            version: v[10],
-            txid: v[11],
-            column1: v[12],
-            column2: v[13],
+            version: v[11],
+            txid: v[12],
+            column1: v[13],
+            column2: v[14],
         },
-        clock: v[14],
+        clock: v[15],
     }
 }
 

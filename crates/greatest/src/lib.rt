@@ -49,7 +49,7 @@ fn fill_lines(count: u32, records: &mut [u8])
     for i in 0..count {
         let at = (i as usize) * RECORD_BYTES;
         let end = at + RECORD_BYTES;
-        let row = [1, 1, 1, 0, i + 1, 0, 0, 0, 0, 0, 0, 0, 0, 0, 0];
+        let row = [1, 1, 1, 0, i + 1, 0, 0, 0, 0, 0, 0, 0, 0, 0, 0, 0];
         codec::lines::write_row(Layout::RecordLine, &row, &mut records[at..end]);
     }
 }

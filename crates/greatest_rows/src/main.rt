@@ -35,7 +35,7 @@ fn close(count: u32, records: &mut [u8], coordinator: &mut [u8]) {
 
 // One row: `size` is what so many lines take.
 fn row(count: u32, size: usize)
-    requires { ⌜ size ≤ 784 ⌝ }
+    requires { ⌜ size ≤ 864 ⌝ }
 {
     let mut records = [0u8; MOST_BYTES];
     let mut coordinator = [0u8; LEAST_COORDINATOR_BYTES];

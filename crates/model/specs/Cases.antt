@@ -42,13 +42,13 @@ pub record Case : Type 0 where
 -- The line of the examples, in its states.
 
 abbrev pub committedLine : List ℕ
-committedLine = bytes " 1  1  1     1     1 COMMITTED     3   1      500      250     0   0        0        0          0"
+committedLine = bytes " 1  1  1     1     1 COMMITTED     3   1      500      250         -     0   0        0        0          0"
 
 abbrev pub preparedLine : List ℕ
-preparedLine = bytes " 1  1  1     1     1  PREPARED     4   2      600      300     3   1      500      250       7000"
+preparedLine = bytes " 1  1  1     1     1  PREPARED     4   2      600      300 COMMITTED     3   1      500      250       7000"
 
 abbrev pub writtenLine : List ℕ
-writtenLine = bytes " 1  1  1     1     1 COMMITTED     4   2      600      300     0   0        0        0          0"
+writtenLine = bytes " 1  1  1     1     1 COMMITTED     4   2      600      300         -     0   0        0        0          0"
 
 -- the coordinator sheet, with the line of number 2
 abbrev pub coordinatorWith : List ℕ → List ℕ
@@ -73,7 +73,7 @@ expiryCase now expected =
           (lineExpired now
           (recordIn
           (text
-          (bytes " 1  1  1     1     1  PREPARED     1   1      500      250     0   0        0        0       5000" ∷ []))))
+          (bytes " 1  1  1     1     1  PREPARED     1   1      500      250    ABSENT     0   0        0        0       5000" ∷ []))))
           1 0
           ∷ [];
       expected = expected ∷ [];
@@ -135,7 +135,7 @@ advanceCase t line own line′ own′ answer =
     }
 
 unfoldable pub cases : List Case
-unfolding Bytes.bytes Bytes.eqList Each.all Each.any Each.filter Each.count Each.joined Each.pieces Each.less Field.stepped Field.scanned Field.within Field.figure Field.number Field.isNumber Field.ahead Field.fieldText Layouts.words Layouts.recordLayout Layouts.keyLayout Layouts.imageLayout Layouts.columnsLayout Layouts.headLayout Layouts.lineLayout Lines.wordFrom Lines.fieldValue Lines.fieldBytes Lines.inRange Lines.rowOf Lines.lineSet Lines.lineText Lines.rowGood Lines.linesOf Lines.linesSet Records.stateNumber Records.stateOf Records.keyNumbers Records.imageNumbers Records.keyOf Records.imageFrom Records.recordOf Records.recordNumbers Records.isZero Records.absentRule Records.committedRule Records.preparedRule Records.goodAlone Records.keyLess Records.inOrder Records.rising Records.recordsGood Records.recordIn Records.recordText Records.records Records.recordsText Records.recordsAccepted Spares.spareLine Spares.trimmed Spares.filledLines Spares.front Spares.sized Spares.sheetFor Spares.sheetAccepted Records.keyInRange Records.sameKey Search.firstFrom Records.found Records.isMissing Records.lineOf Coordinator.decisionNumber Coordinator.decisionOf Coordinator.unitNumber Coordinator.unitOf Coordinator.letterNumber Coordinator.letterOf Coordinator.isUndecided Coordinator.decision Coordinator.withDecision Coordinator.coordinatorGood Coordinator.decisionIn Coordinator.coordinatorOf Coordinator.numbered Coordinator.coordinatorReadable Coordinator.allCapitals Coordinator.coordinatorAccepted Coordinator.namesIssued Coordinator.decisionTexts Coordinator.headNumbers Coordinator.coordinatorText Refusals.refusalOf SheetCalls.allIssued SheetCalls.checkConditions Transactions.held Transactions.puts Transactions.toValidate Groups.unitFields Groups.letterFor Groups.scope Groups.addScope Groups.scopes Groups.groupCount Groups.groupPlace Groups.group Images.preparedBy Images.unchanged Images.sameColumns Images.prepared Images.committed Images.rolledForward Images.rolledBack Images.elapsed Images.lineExpired Images.recovery Writes.entryFor Writes.isOf Writes.lineAfter Writes.shifted Writes.linesAfter Writes.decisionsAfter Writes.apply WellFormed.imageInRange WellFormed.columnsInRange WellFormed.putFits WellFormed.entryFormed WellFormed.distinctKeys WellFormed.placeFormed WellFormed.verdictFormed WellFormed.formed WellFormed.wellFormed Visits.numberExpired Visits.meeting Visits.recoveryWrite Conditions.cannotAdvance Conditions.conditions Steps.holds Steps.onePhaseAllowed Steps.onePhase Steps.openStep Steps.nextGroup Steps.prepareStep Steps.decideStep Steps.finishStep Steps.undoStep Steps.step Calls.outcome Calls.result ByteCalls.resultOn ByteCalls.sheetAfter ByteCalls.coordinatorAfter ByteHistories.afterOn Visitor.firstLayout Visitor.inputFits Visitor.inputConditions Visitor.visitedAll Visitor.swept Visitor.visitorOutput
+unfolding Bytes.bytes Bytes.eqList Each.all Each.any Each.filter Each.count Each.joined Each.pieces Each.less Field.stepped Field.scanned Field.within Field.figure Field.number Field.isNumber Field.ahead Field.fieldText Layouts.words Layouts.recordLayout Layouts.keyLayout Layouts.imageLayout Layouts.columnsLayout Layouts.headLayout Layouts.lineLayout Lines.wordFrom Lines.fieldValue Lines.fieldBytes Lines.inRange Lines.rowOf Lines.lineSet Lines.lineText Lines.rowGood Lines.linesOf Lines.linesSet Records.stateNumber Records.stateOf Records.beforeNumber Records.beforeOf Records.keyNumbers Records.imageNumbers Records.keyOf Records.imageFrom Records.recordOf Records.recordNumbers Records.isZero Records.noBefore Records.beforeRule Records.absentRule Records.committedRule Records.preparedRule Records.goodAlone Records.keyLess Records.inOrder Records.rising Records.recordsGood Records.recordIn Records.recordText Records.records Records.recordsText Records.recordsAccepted Spares.spareLine Spares.trimmed Spares.filledLines Spares.front Spares.sized Spares.sheetFor Spares.sheetAccepted Records.keyInRange Records.sameKey Search.firstFrom Records.found Records.isMissing Records.lineOf Coordinator.decisionNumber Coordinator.decisionOf Coordinator.unitNumber Coordinator.unitOf Coordinator.letterNumber Coordinator.letterOf Coordinator.isUndecided Coordinator.decision Coordinator.withDecision Coordinator.coordinatorGood Coordinator.decisionIn Coordinator.coordinatorOf Coordinator.numbered Coordinator.coordinatorReadable Coordinator.allCapitals Coordinator.coordinatorAccepted Coordinator.namesIssued Coordinator.decisionTexts Coordinator.headNumbers Coordinator.coordinatorText Refusals.refusalOf SheetCalls.allIssued SheetCalls.checkConditions Transactions.held Transactions.puts Transactions.toValidate Groups.unitFields Groups.letterFor Groups.scope Groups.addScope Groups.scopes Groups.groupCount Groups.groupPlace Groups.group Images.preparedBy Images.unchanged Images.sameColumns Images.prepared Images.committed Images.rolledForward Images.rolledBack Images.elapsed Images.lineExpired Images.recovery Writes.entryFor Writes.isOf Writes.lineAfter Writes.shifted Writes.linesAfter Writes.decisionsAfter Writes.apply WellFormed.imageInRange WellFormed.columnsInRange WellFormed.putFits WellFormed.entryFormed WellFormed.distinctKeys WellFormed.placeFormed WellFormed.verdictFormed WellFormed.formed WellFormed.wellFormed Visits.numberExpired Visits.meeting Visits.recoveryWrite Conditions.cannotAdvance Conditions.conditions Steps.holds Steps.onePhaseAllowed Steps.onePhase Steps.openStep Steps.nextGroup Steps.prepareStep Steps.decideStep Steps.finishStep Steps.undoStep Steps.step Calls.outcome Calls.result ByteCalls.resultOn ByteCalls.sheetAfter ByteCalls.coordinatorAfter ByteHistories.afterOn Visitor.firstLayout Visitor.inputFits Visitor.inputConditions Visitor.visitedAll Visitor.swept Visitor.visitorOutput
 cases =
     -- the four clock edges: 14999, 15000, 2147483647 and 2147483648 ticks
     expiryCase 19999 0
@@ -153,13 +153,13 @@ cases =
           (bytes "   1   1      20000"
           ∷ bytes "   1 SSSSSSSSS"
           ∷ bytes "   1         -"
-          ∷ bytes " 1  1  1     1     1  PREPARED     1   1      500      250     0   0        0        0       5000"
+          ∷ bytes " 1  1  1     1     1  PREPARED     1   1      500      250    ABSENT     0   0        0        0       5000"
           ∷ []));
       expected =
           text
           (bytes "   1 SSSSSSSSS"
           ∷ bytes "   1   ABORTED"
-          ∷ bytes " 1  1  1     1     1    ABSENT     0   0        0        0     0   0        0        0          0"
+          ∷ bytes " 1  1  1     1     1    ABSENT     0   0        0        0         -     0   0        0        0          0"
           ∷ []);
     }
     -- prepare: to decide

@@ -1,9 +1,10 @@
 -- What becomes of one record: prepared, committed in one phase, rolled forward or back; and what a visit comes to. Document 01, "Transaction".
 use Rattle.lists.specs.Basics.{ℕ, _+_, _-_, _%_, _^_, eqb, leb, Bool, true, false, not, _&&_, cond}
-use Rattle.model.specs.Types.{Image, Record, State, Decision, Columns, Entry, Recovery, Stays, Forward, Back, Again, Busy}
+use Rattle.model.specs.Types.{Image, Record, State, Before, Decision, Columns, Entry, Recovery, Stays, Forward, Back, Again, Busy}
 use Rattle.types.specs.declared.State.the-variants.{Absent, Committed, Prepared}
+use Rattle.types.specs.declared.Before.the-variants as Was
 use Rattle.types.specs.declared.Decision.the-variants as Decided
-use Rattle.model.specs.Records.{byState, noImage}
+use Rattle.model.specs.Records.{byState, byBefore, noImage}
 
 abbrev pub isAbsent : Record → Bool
 isAbsent r = byState (r .state) true false false
@@ -47,25 +48,31 @@ abbrev pub writtenImage : ℕ → Change → Record → Image
 writtenImage n c r =
     record { version = r .image .version + 1; txid = n; column1 = c .column1; column2 = c .column2 }
 
+-- the before state of a line that is prepared; a pending one is not prepared again, so that what is said of it doesn't matter
+abbrev pub stateKept : State → Before
+stateKept s = byState s Was.Absent Was.Committed Was.Absent
+
 -- "write its lines PREPARED, old values to the before fields, version + 1, clock = now"
 unfoldable pub prepared : ℕ → ℕ → Change → Record → Record
-prepared n now c r = record { key = r .key; state = Prepared; image = writtenImage n c r; before = r .image; clock = now }
+prepared n now c r =
+    record { key = r .key; state = Prepared; image = writtenImage n c r; prior = stateKept (r .state); before = r .image; clock = now }
 
 -- one-phase: "write the puts as COMMITTED under this number, version + 1"
 unfoldable pub committed : ℕ → Change → Record → Record
-committed n c r = record { key = r .key; state = Committed; image = writtenImage n c r; before = noImage; clock = 0 }
+committed n c r = record { key = r .key; state = Committed; image = writtenImage n c r; prior = Was.Nothing; before = noImage; clock = 0 }
 
 -- "Forward: COMMITTED, before fields and clock 0."
 unfoldable pub rolledForward : Record → Record
-rolledForward r = record { key = r .key; state = Committed; image = r .image; before = noImage; clock = 0 }
+rolledForward r = record { key = r .key; state = Committed; image = r .image; prior = Was.Nothing; before = noImage; clock = 0 }
 
--- the state of a before image: ABSENT if its version is 0
-abbrev pub beforeState : Image → State
-beforeState m = cond (eqb (m .version) 0) Absent Committed
+-- the state that a before state gives back; there is none where nothing is before
+abbrev pub stateBack : Before → State
+stateBack b = byBefore b Absent Absent Committed
 
--- "Back: the before image as COMMITTED, or ABSENT if its version is 0."
+-- "Back: the before image", "rolling back follows the before state"
 unfoldable pub rolledBack : Record → Record
-rolledBack r = record { key = r .key; state = beforeState (r .before); image = r .before; before = noImage; clock = 0 }
+rolledBack r =
+    record { key = r .key; state = stateBack (r .prior); image = r .before; prior = Was.Nothing; before = noImage; clock = 0 }
 
 -- "the clock minus its prepare clock, modulo 4294967296"
 unfoldable pub elapsed : ℕ → ℕ → ℕ

@@ -1,6 +1,6 @@
 -- The layout of every line, as data: widths, kinds and ranges of its fields, in the order of document 01's tables.
 use Rattle.lists.specs.Basics.{ℕ, zero, suc, _+_, _-_, _*_, List, [], _∷_, take, drop, getD, bytes}
-use Rattle.model.specs.Types.{Layout, RecordLine, KeyLine, CoordinatorHead, CoordinatorLine, Column, Kind, Figure, StateWord, DecisionWord, UnitLetter}
+use Rattle.model.specs.Types.{Layout, RecordLine, KeyLine, CoordinatorHead, CoordinatorLine, Column, Kind, Figure, StateWord, BeforeWord, DecisionWord, UnitLetter}
 
 -- bytes of a word
 abbrev pub wordBytes : ℕ
@@ -10,6 +10,7 @@ wordBytes = 10
 unfoldable pub words : Kind → List (List ℕ)
 words Figure = []
 words StateWord = bytes "    ABSENT" ∷ bytes " COMMITTED" ∷ bytes "  PREPARED" ∷ []
+words BeforeWord = bytes "         -" ∷ bytes "    ABSENT" ∷ bytes " COMMITTED" ∷ []
 words DecisionWord = bytes "         -" ∷ bytes " COMMITTED" ∷ bytes "   ABORTED" ∷ []
 -- capitals, and then the small letters of storages that can't be read consistently
 words UnitLetter =
@@ -41,7 +42,7 @@ word w kind high = record { width = w; kind = kind; low = 0; high = high }
 abbrev pub noColumn : Column
 noColumn = figures 0 0 0
 
--- document 01, "Record sheet"
+-- document 01, "Record sheet", with "a before state of 10 columns between column 2 and before version" (document 02, note 7)
 unfoldable pub recordLayout : List Column
 recordLayout =
     figures 2 1 9  -- storage
@@ -54,6 +55,7 @@ recordLayout =
     ∷ figures 4 0 999  -- TxID
     ∷ figures 9 0 99999999  -- column 1
     ∷ figures 9 0 99999999  -- column 2
+    ∷ word wordBytes BeforeWord 2  -- before state
     ∷ figures 6 0 99999  -- before version
     ∷ figures 4 0 999  -- before TxID
     ∷ figures 9 0 99999999  -- before column 1
@@ -65,7 +67,7 @@ recordLayout =
 abbrev pub imageFields : ℕ
 imageFields = 4
 
--- The fields of a record line by their indices: after the key the state word, then the image, the image before it, the clock.
+-- The fields of a record line by their indices: after the key the state word, then the image, the before state, the image before, the clock.
 abbrev pub stateField : ℕ
 stateField = 5
 
@@ -75,8 +77,11 @@ imageField = stateField + 1
 abbrev pub txidField : ℕ
 txidField = imageField + 1
 
+abbrev pub beforeStateField : ℕ
+beforeStateField = imageField + imageFields
+
 abbrev pub beforeField : ℕ
-beforeField = imageField + imageFields
+beforeField = beforeStateField + 1
 
 abbrev pub beforeTxidField : ℕ
 beforeTxidField = beforeField + 1
@@ -149,7 +154,7 @@ keyBytes = 20
 
 -- bytes of a record line, and of a coordinator line, LF included
 abbrev pub recordBytes : ℕ
-recordBytes = 98
+recordBytes = 108
 
 abbrev pub coordinatorBytes : ℕ
 coordinatorBytes = 15
@@ -170,7 +175,7 @@ mostCoordinatorBytes = coordinatorBytes * 1000
 
 -- numbers of a record, and of a coordinator's head
 abbrev pub recordFields : ℕ
-recordFields = 15
+recordFields = 16
 
 abbrev pub headFields : ℕ
 headFields = 10

@@ -5,7 +5,7 @@ use Rattle.lists.specs.Basics.{eqList}
 use Rattle.decimal.specs.declared.Scan.{Scan}
 use Rattle.decimal.specs.declared.Scan.the-variants.{Number, Wrong}
 use Rattle.decimal.specs.Field.{figure, fieldText, number, isNumber}
-use Rattle.model.specs.Types.{Column, Kind, Figure, StateWord, DecisionWord, UnitLetter}
+use Rattle.model.specs.Types.{Column, Kind, Figure, StateWord, BeforeWord, DecisionWord, UnitLetter}
 use Rattle.model.specs.Layouts.{words, wordAt, wordBytes}
 
 -- the word t of ten bytes in a field of w columns
@@ -21,6 +21,7 @@ wordFrom w (t ∷ ts) n s = cond (eqList s (lastBytes w t)) (Number n) (wordFrom
 abbrev pub byKind {ℓ} : {A : Type ℓ} → Kind → A → A → A
 byKind Figure a b = a
 byKind StateWord a b = b
+byKind BeforeWord a b = b
 byKind DecisionWord a b = b
 byKind UnitLetter a b = b
 

@@ -55,16 +55,16 @@ closeCase serializable phase verdict limit line own line′ own′ answer =
 -- NOTE 2: an order, number 1, with a line prepared at 0 and another at 10000, and a line of number 2.
 
 abbrev pub firstLine : List ℕ
-firstLine = bytes " 1  1  1     1     1  PREPARED     1   1      500      250     0   0        0        0          0"
+firstLine = bytes " 1  1  1     1     1  PREPARED     1   1      500      250    ABSENT     0   0        0        0          0"
 
 abbrev pub freshLine : List ℕ
-freshLine = bytes " 1  1  1     1     2  PREPARED     1   2       70       80     0   0        0        0      24000"
+freshLine = bytes " 1  1  1     1     2  PREPARED     1   2       70       80    ABSENT     0   0        0        0      24000"
 
 abbrev pub lastLine : List ℕ
-lastLine = bytes " 1  1  1     1     3  PREPARED     1   1      600      300     0   0        0        0      10000"
+lastLine = bytes " 1  1  1     1     3  PREPARED     1   1      600      300    ABSENT     0   0        0        0      10000"
 
 abbrev pub firstForward : List ℕ
-firstForward = bytes " 1  1  1     1     1 COMMITTED     1   1      500      250     0   0        0        0          0"
+firstForward = bytes " 1  1  1     1     1 COMMITTED     1   1      500      250         -     0   0        0        0          0"
 
 abbrev pub ordersWith : List ℕ → List ℕ
 ordersWith own = text (bytes "   2 SSSSSSSSS" ∷ own ∷ bytes "   2         -" ∷ [])
@@ -109,10 +109,10 @@ five-letters = refl
 -- NOTE 5: "Two keys without lines may share a place." Of a sheet with lines of clustering 1 and 4 the keys of clustering 0 to 5: 2 and 3 share a place.
 
 abbrev pub lineOne : List ℕ
-lineOne = bytes " 1  1  1     1     1 COMMITTED     1   0      500      250     0   0        0        0          0"
+lineOne = bytes " 1  1  1     1     1 COMMITTED     1   0      500      250         -     0   0        0        0          0"
 
 abbrev pub lineFour : List ℕ
-lineFour = bytes " 1  1  1     1     4 COMMITTED     1   0      600      300     0   0        0        0          0"
+lineFour = bytes " 1  1  1     1     4 COMMITTED     1   0      600      300         -     0   0        0        0          0"
 
 abbrev pub rankAt : ℕ → Ranked
 rankAt clustering = rankOn (text (lineOne ∷ lineFour ∷ [])) (keyAt clustering)
@@ -127,10 +127,10 @@ shared-place = refl
 -- NOTE 6: "Adding puts an ABSENT line in key order and uses up a spare; removing takes away an ABSENT line of version 0 and makes a spare".
 
 abbrev pub spare : List ℕ
-spare = replicate 97 32
+spare = replicate 107 32
 
 abbrev pub absentTwo : List ℕ
-absentTwo = bytes " 1  1  1     1     2    ABSENT     0   0        0        0     0   0        0        0          0"
+absentTwo = bytes " 1  1  1     1     2    ABSENT     0   0        0        0         -     0   0        0        0          0"
 
 abbrev pub keyCase : Operation → (lines lines′ : List (List ℕ)) (answer : List ℕ) → Case
 keyCase o lines lines′ answer = operationCase o lines (coordinatorWith undecidedLine) lines′ (coordinatorWith undecidedLine) answer

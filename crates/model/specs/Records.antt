@@ -1,9 +1,10 @@
 -- The record sheet: a line as a record, and the rules that records keep. Document 01, "Record sheet".
-use Rattle.lists.specs.Basics.{ℕ, zero, suc, _+_, _*_, _/_, eqb, leb, Bool, true, false, not, _&&_, _||_, cond, List, [], _∷_, _++_, map, length, getD, all}
+use Rattle.lists.specs.Basics.{ℕ, zero, suc, _+_, _*_, _/_, eqb, leb, Bool, true, false, not, _&&_, cond, List, [], _∷_, _++_, map, length, getD, all}
 use Rattle.lists.specs.Basics.{count, joined, pieces, less, eqList}
-use Rattle.model.specs.Types.{Key, Image, Record, State, Rank, Found, At, Nothing}
+use Rattle.model.specs.Types.{Key, Image, Record, State, Before, Rank, Found, At, Nothing}
 use Rattle.types.specs.declared.State.the-variants.{Absent, Committed, Prepared}
-use Rattle.model.specs.Layouts.{recordLayout, keyLayout, stateField, imageField, beforeField, clockField, recordBytes, recordFields}
+use Rattle.types.specs.declared.Before.the-variants as Was
+use Rattle.model.specs.Layouts.{recordLayout, keyLayout, stateField, imageField, beforeStateField, beforeField, clockField, recordBytes, recordFields}
 use Rattle.model.specs.Lines.{rowOf, lineText, rowGood, linesOf, linesSet}
 use Rattle.model.specs.Search.{firstFrom}
 
@@ -23,6 +24,23 @@ abbrev pub byState {ℓ} : {A : Type ℓ} → State → A → A → A → A
 byState Absent a c p = a
 byState Committed a c p = c
 byState Prepared a c p = p
+
+-- Before states by their index among their words: `-`, ABSENT, COMMITTED.
+
+unfoldable pub beforeNumber : Before → ℕ
+beforeNumber Was.Nothing = 0
+beforeNumber Was.Absent = 1
+beforeNumber Was.Committed = 2
+
+unfoldable pub beforeOf : ℕ → Before
+beforeOf zero = Was.Nothing
+beforeOf (suc zero) = Was.Absent
+beforeOf (suc (suc n)) = Was.Committed
+
+abbrev pub byBefore {ℓ} : {A : Type ℓ} → Before → A → A → A → A
+byBefore Was.Nothing n a c = n
+byBefore Was.Absent n a c = a
+byBefore Was.Committed n a c = c
 
 -- A row of numbers as a record, and back.
 
@@ -47,6 +65,7 @@ recordOf v =
       key = keyOf v;
       state = stateOf (getD v stateField 0);
       image = imageFrom imageField v;
+      prior = beforeOf (getD v beforeStateField 0);
       before = imageFrom beforeField v;
       clock = getD v clockField 0;
     }
@@ -54,7 +73,7 @@ recordOf v =
 unfoldable pub recordNumbers : Record → List ℕ
 recordNumbers r =
     keyNumbers (r .key)
-    ++ (stateNumber (r .state) ∷ imageNumbers (r .image) ++ imageNumbers (r .before) ++ (r .clock ∷ []))
+    ++ (stateNumber (r .state) ∷ imageNumbers (r .image) ++ (beforeNumber (r .prior) ∷ imageNumbers (r .before) ++ (r .clock ∷ [])))
 
 -- what stands past the last record: absent, of no key
 abbrev pub noImage : Image
@@ -66,30 +85,39 @@ noRecord =
       key = record { storage = 0; namespace = 0; table = 0; partition = 0; clustering = 0 };
       state = Absent;
       image = noImage;
+      prior = Was.Nothing;
       before = noImage;
       clock = 0;
     }
 
--- The rules.
+-- The rules. Document 02, note 7: "The before state is ABSENT or COMMITTED when the line is PREPARED .., and `-` otherwise."
 
 -- every field of the image is 0
 unfoldable pub isZero : Image → Bool
 isZero m = eqb (m .version) 0 && eqb (m .txid) 0 && eqb (m .column1) 0 && eqb (m .column2) 0
 
+-- nothing before: before state `-`, "before fields and clock 0"
+unfoldable pub noBefore : Record → Bool
+noBefore r = byBefore (r .prior) true false false && isZero (r .before) && eqb (r .clock) 0
+
 -- "ABSENT: every field after the state word is 0."
 unfoldable pub absentRule : Record → Bool
-absentRule r = isZero (r .image) && isZero (r .before) && eqb (r .clock) 0
+absentRule r = isZero (r .image) && noBefore r
 
 -- "COMMITTED: version at least 1, before fields and clock 0; TxID 0 marks a line loaded at layout."
 unfoldable pub committedRule : Record → Bool
-committedRule r = leb 1 (r .image .version) && isZero (r .before) && eqb (r .clock) 0
+committedRule r = leb 1 (r .image .version) && noBefore r
 
--- "PREPARED: TxID at least 1, version = before version + 1; if before version is 0, the other before fields are 0."
+-- a before image by its state: an ABSENT one is 0, "a COMMITTED one has version at least 1"
+unfoldable pub beforeRule : Record → Bool
+beforeRule r = byBefore (r .prior) false (isZero (r .before)) (leb 1 (r .before .version))
+
+-- "PREPARED: TxID at least 1, version = before version + 1"
 unfoldable pub preparedRule : Record → Bool
 preparedRule r =
     leb 1 (r .image .txid)
     && eqb (r .image .version) (r .before .version + 1)
-    && (leb 1 (r .before .version) || isZero (r .before))
+    && beforeRule r
 
 -- the record keeps the rule of its state
 abbrev pub stateRule : Record → Bool
@@ -196,7 +224,7 @@ keysIn rs = map (λ (r : Record). r .key) rs
 
 -- a key without a line counts as an ABSENT line of version 0
 abbrev pub absentAt : Key → Record
-absentAt k = record { key = k; state = Absent; image = noImage; before = noImage; clock = 0 }
+absentAt k = record { key = k; state = Absent; image = noImage; prior = Was.Nothing; before = noImage; clock = 0 }
 
 -- the line of a key
 unfoldable pub lineOf : Key → List Record → Record

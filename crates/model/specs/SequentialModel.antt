@@ -2,6 +2,7 @@
 -- its answer, and never sees the sheets.
 use Rattle.lists.specs.Basics.{ℕ, eqb, Bool, false, _&&_, cond, List, [], _∷_, Option, none, some, any}
 use Rattle.types.specs.declared.State.the-variants.{Committed}
+use Rattle.types.specs.declared.Before.the-variants as Was
 use Rattle.model.specs.Types.{Key, Record, Transaction}
 use Rattle.model.specs.Records.{noImage, keyLess, sameKey, lineOf}
 use Rattle.model.specs.Images.{Change, writtenImage}
@@ -40,7 +41,7 @@ modelPut n k c m =
 -- "the book's line becomes COMMITTED, version + 1, TxID its number, the page's columns, before fields and clock 0"
 unfoldable pub overwritten : ℕ → Option Change → Record → Record
 overwritten n none r = r
-overwritten n (some c) r = record { key = r .key; state = Committed; image = writtenImage n c r; before = noImage; clock = 0 }
+overwritten n (some c) r = record { key = r .key; state = Committed; image = writtenImage n c r; prior = Was.Nothing; before = noImage; clock = 0 }
 
 -- "the transaction is committed", for each key on its page
 unfoldable pub modelCommit : ℕ → Model → Model

@@ -1,4 +1,4 @@
--- Spare lines at the end of a sheet. Document 02, note 6: "A sheet may end in spare lines, 97 spaces and LF, counted in the 500, or be all spares. On note 4's sheets a
+-- Spare lines at the end of a sheet. Document 02, note 6: "A sheet may end in spare lines, .. spaces and LF, counted in the 500, or be all spares", note 7: "a spare is 107 spaces and LF"; note 6: "On note 4's sheets a
 -- spare is spaces to each width". The lines before them are its front: a spare above a record line stands in the front, where it can't be read.
 use Rattle.lists.specs.Basics.{ℕ, suc, _-_, _*_, _/_, eqb, leb, Bool, _&&_, cond, List, [], _∷_, _++_, length, take, replicate, eqList, joined}
 use Rattle.model.specs.Types.{Record}

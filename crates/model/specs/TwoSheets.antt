@@ -2,10 +2,11 @@
 -- column 1 and column 2, and a bookkeeping sheet with key and the remaining fields, as in source document 000's decoupling."
 use Rattle.lists.specs.Basics.{ℕ, _+_, _*_, Bool, true, false, _&&_, not, List, [], _∷_, _++_, map, take, drop, getD, all, joined}
 use Rattle.types.specs.declared.State.the-variants.{Committed}
+use Rattle.types.specs.declared.Before.the-variants as Was
 use Rattle.model.specs.Types.{Key, Column, Record, Ranked, Found, At, Nothing}
-use Rattle.model.specs.Layouts.{recordLayout, imageField, beforeField, keyLayout, columnsLayout, keyBytes, recordBytes}
+use Rattle.model.specs.Layouts.{recordLayout, imageField, beforeStateField, keyLayout, columnsLayout, keyBytes, recordBytes}
 use Rattle.model.specs.Lines.{rowOf, linesOf, linesSet}
-use Rattle.model.specs.Records.{stateOf, keyOf, imageFrom, noImage, recordsGood, records, recordsAccepted, sameKey, keyInRange, found, isMissing, ranked}
+use Rattle.model.specs.Records.{stateOf, beforeOf, keyOf, imageFrom, noImage, recordsGood, records, recordsAccepted, sameKey, keyInRange, found, isMissing, ranked}
 use Rattle.model.specs.Coordinator.{coordinatorOf, coordinatorReadable, namesIssued}
 use Rattle.model.specs.Refusals.{Condition, refuse}
 use Rattle.model.specs.SheetCalls.{toldRank}
@@ -15,19 +16,19 @@ use Rattle.model.specs.SheetCalls.{toldRank}
 unfoldable pub plainLayout : List Column
 plainLayout = keyLayout ++ columnsLayout
 
--- the columns stand between TxID and the image before
+-- the columns stand between TxID and the before state
 abbrev pub columnField : ℕ
 columnField = imageField + 2
 
 unfoldable pub bookkeepingLayout : List Column
-bookkeepingLayout = take columnField recordLayout ++ drop beforeField recordLayout
+bookkeepingLayout = take columnField recordLayout ++ drop beforeStateField recordLayout
 
 -- bytes of a plain line, and of a bookkeeping line, LF included
 abbrev pub plainBytes : ℕ
 plainBytes = 39
 
 abbrev pub bookkeepingBytes : ℕ
-bookkeepingBytes = 80
+bookkeepingBytes = 90
 
 -- bytes of state, version and TxID, and of the two columns
 abbrev pub stateBytes : ℕ
@@ -81,6 +82,7 @@ plainSaid v =
       key = keyOf v;
       state = Committed;
       image = record { version = 1; txid = 0; column1 = getD v 5 0; column2 = getD v 6 0 };
+      prior = Was.Nothing;
       before = noImage;
       clock = 0;
     }
@@ -92,8 +94,9 @@ bookkeepingSaid v =
       key = keyOf v;
       state = stateOf (getD v 5 0);
       image = record { version = getD v 6 0; txid = getD v 7 0; column1 = 0; column2 = 0 };
-      before = imageFrom 8 v;
-      clock = getD v 12 0;
+      prior = beforeOf (getD v 8 0);
+      before = imageFrom 9 v;
+      clock = getD v 13 0;
     }
 
 unfoldable pub plainRecord : List ℕ → Record

@@ -1,4 +1,4 @@
-// Record sheets to lent lists of numbers and back: fifteen numbers for each record, and fifteen zeros for each spare.
+// Record sheets to lent lists of numbers and back: sixteen numbers for each record, and sixteen zeros for each spare.
 ghost use mathlib.Core.Path.{_≡_};
 ghost use mathlib.Core.List.{map};
 ghost use Prim.Native.Nat.{_*_, _/_};

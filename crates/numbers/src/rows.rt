@@ -1,4 +1,4 @@
-// Records as a lent list of numbers, fifteen to a record: whether they keep the rules of a record sheet, and how many there are before the spares at its end.
+// Records as a lent list of numbers, sixteen to a record: whether they keep the rules of a record sheet, and how many there are before the spares at its end.
 ghost use mathlib.Core.Path.{_≡_};
 ghost use Prim.Native.Nat.{_+_, _/_, _<_};
 ghost use lib.ListN.{length, drop};

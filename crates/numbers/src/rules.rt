@@ -1,6 +1,8 @@
 // The rules of records, by value.
 ghost use mathlib.Core.Path.{_≡_};
-ghost use Rattle.model.specs.Records.{isZero, absentRule, committedRule, preparedRule, stateRule};
+ghost use mathlib.Core.Bool.{true, false};
+ghost use Rattle.model.specs.Records.{byBefore, isZero, noBefore, absentRule, committedRule, beforeRule, preparedRule, stateRule};
+use types::Before;
 use types::Image;
 use types::Record;
 use types::State;
@@ -12,16 +14,46 @@ pub fn is_zero(m: Image) -> bool
     (m.version == 0) & (m.txid == 0) & (m.column1 == 0) & (m.column2 == 0)
 }
 
+// The before state is `-`.
+fn is_nothing(prior: Before) -> bool
+    ensures { λ r. ⌜ r ≡ byBefore prior true false false ⌝ }
+{
+    match prior {
+        Before::Nothing => true,
+        Before::Absent => false,
+        Before::Committed => false,
+    }
+}
+
+fn no_before(r: Record) -> bool
+    ensures { λ b. ⌜ b ≡ noBefore r ⌝ }
+{
+    let prior = r.prior;
+    is_nothing(prior) & is_zero(r.before) & (r.clock == 0)
+}
+
 fn absent_rule(r: Record) -> bool
     ensures { λ b. ⌜ b ≡ absentRule r ⌝ }
 {
-    is_zero(r.image) & is_zero(r.before) & (r.clock == 0)
+    is_zero(r.image) & no_before(r)
 }
 
 fn committed_rule(r: Record) -> bool
     ensures { λ b. ⌜ b ≡ committedRule r ⌝ }
 {
-    (1 <= r.image.version) & is_zero(r.before) & (r.clock == 0)
+    (1 <= r.image.version) & no_before(r)
+}
+
+// The image before is one of its state.
+fn before_rule(r: Record) -> bool
+    ensures { λ b. ⌜ b ≡ beforeRule r ⌝ }
+{
+    let prior = r.prior;
+    match prior {
+        Before::Nothing => false,
+        Before::Absent => is_zero(r.before),
+        Before::Committed => 1 <= r.before.version,
+    }
 }
 
 // The version is compared from its own side, so that nothing can wrap.
@@ -29,7 +61,7 @@ fn prepared_rule(r: Record) -> bool
     ensures { λ b. ⌜ b ≡ preparedRule r ⌝ }
 {
     let follows = (r.image.version as u64) == (r.before.version as u64) + 1;
-    (1 <= r.image.txid) & follows & ((1 <= r.before.version) | is_zero(r.before))
+    (1 <= r.image.txid) & follows & before_rule(r)
 }
 
 // The record keeps the rule of its state.

@@ -6,7 +6,7 @@ use Rattle.lists.specs.Basics.{same-test, choose-by, tests}
 use Rattle.decimal.specs.declared.Scan.the-variants.{Number}
 use Rattle.decimal.specs.Field.{number, isNumber}
 use Rattle.decimal.specs.Laws.{isNumber-number}
-use Rattle.model.specs.Types.{Column, Kind, Figure, StateWord, DecisionWord, UnitLetter}
+use Rattle.model.specs.Types.{Column, Kind, Figure, StateWord, BeforeWord, DecisionWord, UnitLetter}
 use Rattle.model.specs.Layouts.{words}
 use Rattle.model.specs.Lines.{byKind, fieldValue, fieldBytes, inRange}
 use Rattle.sheet_laws.specs.Fields.{columnOk, field-read-written, field-written-read}
@@ -92,6 +92,7 @@ numbers-held c t = go (c .kind) (c .width) (c .low) (c .high)
         let h : high ≡ most w = eqb-true high (most w) b in
         rw (eq-eqb (length t) w l, h) (figure-held low (most w) (most w) t (omega arith))
     go StateWord w low high b l = absurd (true≢false (sym b))
+    go BeforeWord w low high b l = absurd (true≢false (sym b))
     go DecisionWord w low high b l = absurd (true≢false (sym b))
     go UnitLetter w low high b l = absurd (true≢false (sym b))
 

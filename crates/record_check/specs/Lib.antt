@@ -3,7 +3,6 @@ pub mod Ranges
 pub mod LayoutParts
 pub mod Limits
 pub mod Relations
-pub mod Before
 pub mod States
 pub mod Line
 pub mod Tables

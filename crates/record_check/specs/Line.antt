@@ -1,42 +1,49 @@
--- A line of the record sheet, as the code judges it: the parts of its kind, how its images stand to each other, and the clock. Both this and the plain
+-- A line of the record sheet, as the code judges it: the parts of its kind, how its versions stand to each other, and the clock. Both this and the plain
 -- rule are the line read by the widest ranges, with limits on its numbers. In a line that can be read, the bytes that tell its kind are those of its
--- state.
-use Rattle.lists.specs.Basics.{_≡_, refl, sym, ap, _∙_, ℕ, _+_, _-_, _≤_, _<_, Bool, true, false, _&&_, cond, true≢false, and-assoc, List}
-use Rattle.lists.specs.Basics.{map, length, take, drop, getD, length-take, length-drop, take-take, arith, all, eqList, bytes}
-use Rattle.lists.specs.Basics.{eqList-refl, and-fst, same-test, tests}
+-- state and its before state.
+use Rattle.lists.specs.Basics.{_≡_, refl, sym, ap, ap₂, _∙_, ℕ, _+_, _-_, _≤_, _<_, Bool, true, false, _&&_, cond, true≢false, and-assoc, List}
+use Rattle.lists.specs.Basics.{map, length, take, drop, getD, length-take, length-drop, take-take, getD-take, getD-drop, arith, all, eqList, bytes}
+use Rattle.lists.specs.Basics.{eqList-refl, and-fst, and-snd, and-both, same-test, tests}
+use Rattle.lists.specs.All.{all-at}
 use Rattle.lists.specs.Tests.{and-same, and-move}
-use Rattle.model.specs.Types.{StateWord}
-use Rattle.model.specs.Layouts.{recordLayout, words, wordAt, noColumn, recordBytes, offset, recordOffset, stateField}
+use Rattle.model.specs.Types.{StateWord, BeforeWord}
+use Rattle.model.specs.Layouts.{recordLayout, words, wordAt, noColumn, wordBytes, offset, recordOffset, stateField, beforeStateField}
 use Rattle.model.specs.Lines.{fieldValue, fieldBytes, wordFrom, inRange, rowOf, lineSet, rowGood}
-use Rattle.model.specs.Records.{recordOf, goodAlone, recordIn}
+use Rattle.model.specs.Records.{stateNumber, beforeNumber, recordOf, goodAlone, recordIn}
 use Rattle.sheet_laws.specs.Fields.{columnOk, allBelow, wordOk, isThe, field-written-read}
-use Rattle.sheet_laws.specs.Lines.{lineBytes, line-length, line-written-read, fieldAt, field-at}
+use Rattle.sheet_laws.specs.Lines.{line-length, line-written-read, fieldAt, field-at, field-within}
 use Rattle.sheet_laws.specs.Records.{record-layout-ok, line-numbers}
 use Rattle.line_bytes.specs.Parts.{partsOk}
 use Rattle.line_bytes.specs.Loads.{loaded}
 use Rattle.record_check.specs.Ranges.{opened, lineHeld, set-is-held, same-row}
 use Rattle.record_check.specs.Limits.{keeps, limited-line, limited-parts}
 use Rattle.record_check.specs.States.{kinds, kindAt, kindLimits, openLayout, clockLimit, kindParts, kind-says, record-opens, clock-narrow, clock-limited}
-use Rattle.record_check.specs.States.{kindWord, kind-word, stateTold, word-told, told-few, rule, kind-rule}
-use Rattle.record_check.specs.Relations.{clockAt, clockFits, widest, clock-fits, clock-low}
-use Rattle.record_check.specs.Before.{related, related-is}
+use Rattle.record_check.specs.States.{kindWord, priorWord, kindTold, told-few, kindFor, rule, kind-rule}
+use Rattle.record_check.specs.Relations.{follows, follows-is, clockAt, clockFits, widest, clock-fits, clock-low}
 
 -- the line can be read, and its record is good alone
 unfoldable pub lineGood : List ℕ → Bool
 lineGood line = lineSet recordLayout line && goodAlone (recordIn line)
 
--- the kind that the line is of, if it is good: the state that the first bytes of its word tell
+-- the bytes that tell the kind of a line: the front of its state word, and one byte of its before state
+abbrev frontOf : List ℕ → ℕ
+frontOf line = loaded (take 8 (drop (recordOffset stateField) line))
+
+abbrev markOf : List ℕ → ℕ
+markOf line = getD line (recordOffset beforeStateField + 3) 0
+
+-- the kind that the line is of, if it is good
 unfoldable pub kindOf : List ℕ → ℕ
-kindOf line = stateTold (loaded (take 8 (drop (recordOffset stateField) line)))
+kindOf line = kindTold (frontOf line) (markOf line)
 
 -- it is in the table of kinds
 pub kind-known : (line : List ℕ) → kindOf line < length kinds
 unfolding kindOf
-kind-known line = told-few (loaded (take 8 (drop (recordOffset stateField) line)))
+kind-known line = told-few (frontOf line) (markOf line)
 
--- the line has the state word of its kind
-abbrev pub wordHeld : List ℕ → Bool
-wordHeld line = eqList (fieldAt stateField recordLayout line) (kindWord (kindOf line))
+-- the line has the words of kind k
+unfoldable pub wordsHeld : ℕ → List ℕ → Bool
+wordsHeld k line = eqList (fieldAt stateField recordLayout line) (kindWord k) && eqList (fieldAt beforeStateField recordLayout line) (priorWord k)
 
 module _ (line : List ℕ) (of-bytes : (i : ℕ) → getD line i 0 < 256) where
   row : List ℕ
@@ -54,35 +61,39 @@ module _ (line : List ℕ) (of-bytes : (i : ℕ) → getD line i 0 < 256) where
           rw (line-numbers line h, line-written-read recordLayout line record-layout-ok h .1)
           (unfold recordIn recordOf in ap rule (sym (same-row recordLayout line record-opens h)))
 
-  -- the state word of a line that can be read
-  state-word : lineSet widest line ≡ true
-      → (fieldAt stateField recordLayout line ≡ wordAt StateWord (getD row stateField 0)) × (getD row stateField 0 < length kinds)
-  unfolding row fieldAt offset fieldBytes inRange opened recordLayout lineBytes columnOk kinds words allBelow wordOk isThe fieldValue wordFrom bytes eqList
+  -- a field of a line that can be read has the bytes of its number
+  field-read : (i : ℕ) → i < length widest → lineSet widest line ≡ true
+      → (fieldAt i widest line ≡ fieldBytes (getD widest i noColumn) (getD row i 0)) × (inRange (getD widest i noColumn) (getD row i 0) ≡ true)
+  unfolding row fieldAt all opened recordLayout columnOk words allBelow wordOk isThe fieldValue fieldBytes wordFrom bytes eqList
+  field-read i l h =
+      let whole = line-length widest line h in
+      let within = field-within i widest l in
+      let long : length (fieldAt i widest line) ≡ getD widest i noColumn .width = simp (length-take, length-drop) (omega arith) in
+      field-written-read (getD widest i noColumn) (fieldAt i widest line) (getD row i 0) (all-at columnOk widest noColumn i refl l) long (field-at i widest line l h)
+
+  -- and its words are those of two numbers
+  state-word : lineSet widest line ≡ true → (fieldAt stateField recordLayout line ≡ wordAt StateWord (getD row stateField 0)) × (getD row stateField 0 < length (words StateWord))
+  unfolding fieldAt offset fieldBytes inRange opened recordLayout words
   state-word h =
-      let whole : length line ≡ recordBytes = line-length widest line h in
-      let t = fieldAt stateField recordLayout line in
-      let long : length t ≡ 10 = simp (length-take, length-drop) (omega arith) in
-      let r = field-written-read (getD widest stateField noColumn) t (getD row stateField 0) refl long (field-at stateField widest line (omega arith) h) in
-      let few : getD row stateField 0 ≤ getD widest stateField noColumn .high = search (tests, r .1) in
+      let r = field-read stateField (omega arith) h in
+      let few : getD row stateField 0 ≤ 2 = search (tests, r .1) in
       (r .0, omega arith)
 
-  kind-is : lineSet widest line ≡ true → kindOf line ≡ getD row stateField 0
-  unfolding kindOf fieldAt recordLayout
-  kind-is h =
-      ap (λ (t : List ℕ). stateTold (loaded t)) (sym (take-take 8 10 (drop (recordOffset stateField) line) (omega arith)) ∙ ap (take 8) (state-word h .0))
-      ∙ word-told (getD row stateField 0) (state-word h .1)
+  prior-word : lineSet widest line ≡ true
+      → (fieldAt beforeStateField recordLayout line ≡ wordAt BeforeWord (getD row beforeStateField 0)) × (getD row beforeStateField 0 < length (words BeforeWord))
+  unfolding fieldAt offset fieldBytes inRange opened recordLayout words
+  prior-word h =
+      let r = field-read beforeStateField (omega arith) h in
+      let few : getD row beforeStateField 0 ≤ 2 = search (tests, r .1) in
+      (r .0, omega arith)
 
-  -- a good line has it
-  pub wordless : wordHeld line ≡ false → lineGood line ≡ false
-  unfolding row
-  wordless e =
-      same-test (lineGood line) false
-      (λ g. let f = sym good-held ∙ g in
-      let h = and-fst (lineSet widest line) (rowGood recordLayout row) (and-fst (lineHeld recordLayout line) (rule row) f) in
-      let w : kindWord (kindOf line) ≡ fieldAt stateField recordLayout line =
-      ap kindWord (kind-is h) ∙ (kind-word (getD row stateField 0) (state-word h .1) ∙ sym (state-word h .0)) in
-      sym e ∙ rw w (eqList-refl (fieldAt stateField recordLayout line)))
-      (λ g. absurd (true≢false (sym g)))
+  kind-is : lineSet widest line ≡ true → kindOf line ≡ kindFor (getD row stateField 0) (getD row beforeStateField 0)
+  unfolding kindOf kindFor fieldAt recordLayout
+  kind-is h =
+      ap₂ (λ (t : List ℕ) (m : ℕ). kindTold (loaded t) m)
+      (sym (take-take 8 wordBytes (drop (recordOffset stateField) line) (omega arith)) ∙ ap (take 8) (state-word h .0))
+      (sym (getD-take wordBytes (drop (recordOffset beforeStateField) line) 3 0 (omega arith) ∙ getD-drop (recordOffset beforeStateField) line 3 0)
+      ∙ ap (λ (t : List ℕ). getD t 3 0) (prior-word h .0))
 
   -- the line with the clock up to the widest figure
   held : Bool
@@ -96,6 +107,22 @@ module _ (line : List ℕ) (of-bytes : (i : ℕ) → getD line i 0 < 256) where
   unfolding kindParts row held
   said k l = rw same-widest at (limited-parts (kindLimits (kindAt k)) openLayout line (kind-says k l))
 
+  -- a line that stands in them has its words
+  words-said : (k : ℕ) → k < length kinds → partsOk (kindParts (kindAt k)) line ≡ true → wordsHeld k line ≡ true
+  unfolding wordsHeld held all keeps kindLimits
+  words-said k l g =
+      let r = kindAt k in
+      let f = sym (said k l) ∙ g in
+      let h = and-fst (lineSet widest line) (rowGood openLayout row) (and-fst held (all (keeps row) (kindLimits r)) f) in
+      let limits : all (keeps row) (kindLimits r) ≡ true = and-snd held (all (keeps row) (kindLimits r)) f in
+      let a : stateNumber (r .state) ≤ getD row stateField 0 = search (tests, limits) in
+      let b : getD row stateField 0 ≤ stateNumber (r .state) = search (tests, limits) in
+      let c : beforeNumber (r .prior) ≤ getD row beforeStateField 0 = search (tests, limits) in
+      let d : getD row beforeStateField 0 ≤ beforeNumber (r .prior) = search (tests, limits) in
+      let s : getD row stateField 0 ≡ stateNumber (r .state) = omega arith in
+      let p : getD row beforeStateField 0 ≡ beforeNumber (r .prior) = omega arith in
+      rw (state-word h .0, s, prior-word h .0, p) (and-both (eqList-refl (kindWord k)) (eqList-refl (priorWord k)))
+
   -- by its tables, and with a clock that begins below the highest one
   pub low-clock : (k : ℕ) → k < length kinds → partsOk (kindParts (kindAt k)) line ≡ true → getD line (clockAt + 1) 0 < 52 → clockFits line ≡ true
   unfolding held
@@ -104,7 +131,7 @@ module _ (line : List ℕ) (of-bytes : (i : ℕ) → getD line i 0 < 256) where
 
   -- the law: a line is good where it stands in the parts of its kind, and the relations hold
   pub line-is : lineGood line
-      ≡ (partsOk (kindParts (kindAt (kindOf line))) line && (cond (kindAt (kindOf line) .follows) (related line) true && clockFits line))
+      ≡ (partsOk (kindParts (kindAt (kindOf line))) line && (cond (kindAt (kindOf line) .follows) (follows line) true && clockFits line))
   unfolding row held
   line-is =
       good-held
@@ -113,12 +140,20 @@ module _ (line : List ℕ) (of-bytes : (i : ℕ) → getD line i 0 < 256) where
       ∙ (and-assoc held (rule row) (all (keeps row) clockLimit)
       ∙ (and-same held (rule row && all (keeps row) clockLimit) (all (keeps row) (kindLimits (kindAt (kindOf line))) && fits)
       (λ g. let h = and-fst (lineSet widest line) (rowGood openLayout row) g in
-      rw (kind-is h, related-is line of-bytes h, clock-fits line h) (kind-rule row (state-word h .1)))
+      rw (kind-is h, follows-is line of-bytes h, clock-fits line h) (kind-rule row (state-word h .1) (prior-word h .1)))
       ∙ (sym (and-assoc held (all (keeps row) (kindLimits (kindAt (kindOf line)))) fits)
       ∙ ap (λ (x : Bool). x && fits) (sym (said (kindOf line) (kind-known line))))))))
     where
       fits : Bool
-      fits = cond (kindAt (kindOf line) .follows) (related line) true && clockFits line
+      fits = cond (kindAt (kindOf line) .follows) (follows line) true && clockFits line
 
       bounded : lineHeld recordLayout line ≡ (held && all (keeps row) clockLimit)
       bounded = rw (clock-limited, same-widest) at (limited-line clockLimit openLayout line clock-narrow)
+
+  -- so that a line without the words of its kind is not good
+  pub wordless : wordsHeld (kindOf line) line ≡ false → lineGood line ≡ false
+  wordless e =
+      let k = kindOf line in
+      same-test (lineGood line) false
+      (λ g. sym e ∙ words-said k (kind-known line) (and-fst (partsOk (kindParts (kindAt k)) line) (cond (kindAt k .follows) (follows line) true && clockFits line) (sym line-is ∙ g)))
+      (λ g. absurd (true≢false (sym g)))

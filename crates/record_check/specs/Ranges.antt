@@ -9,7 +9,7 @@ use Rattle.decimal.specs.declared.Scan.{Scan}
 use Rattle.decimal.specs.declared.Scan.the-variants.{Blank, Number, Wrong}
 use Rattle.decimal.specs.Field.{scanned, within, figure, number, isNumber}
 use Rattle.decimal.specs.Laws.{isNumber-number, figure-scan}
-use Rattle.model.specs.Types.{Column, Kind, Figure, StateWord, DecisionWord, UnitLetter}
+use Rattle.model.specs.Types.{Column, Kind, Figure, StateWord, BeforeWord, DecisionWord, UnitLetter}
 use Rattle.model.specs.Layouts.{words}
 use Rattle.model.specs.Lines.{byKind, fieldValue, inRange, rowOf, lineSet, rowGood}
 use Rattle.sheet_laws.specs.Fields.{columnOk, field-written-read}
@@ -128,6 +128,7 @@ set-held c t = go (c .kind) (c .width) (c .low) (c .high)
         let h : high ≤ most w = search tests in
         unfold held inRange in figure-held low high (most w) t h
     go StateWord w low high o l = words-held (column StateWord w low high) t refl o l
+    go BeforeWord w low high o l = words-held (column BeforeWord w low high) t refl o l
     go DecisionWord w low high o l = words-held (column DecisionWord w low high) t refl o l
     go UnitLetter w low high o l = words-held (column UnitLetter w low high) t refl o l
 
@@ -160,6 +161,7 @@ same-number c t = go (c .kind) (c .width) (c .low) (c .high)
         → number (fieldValue (opened (column k w low high)) t) ≡ number (fieldValue (column k w low high) t)
     go Figure w low high o g = let h : high ≤ most w = search tests in figures low high (most w) h g
     go StateWord w low high o g = refl
+    go BeforeWord w low high o g = refl
     go DecisionWord w low high o g = refl
     go UnitLetter w low high o g = refl
 

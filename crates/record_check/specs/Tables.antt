@@ -2,9 +2,9 @@
 -- three rows of a kind: that they stand where the code reads them, and that the kind's parts are such that it does, is computed for every kind.
 use Rattle.lists.specs.Basics.{_≡_, refl, sym, ap, _∙_, ℕ, _+_, _-_, _*_, _<_, eqb, ltb, Bool, true, _&&_, List, [], _∷_, _++_, map, length, take, drop, getD}
 use Rattle.lists.specs.Basics.{List·getD-map, all, joined, eqList, bytes, eqList-true, tests}
-use Rattle.model.specs.Layouts.{recordLayout, words, recordBytes, offset, recordOffset, stateField, wordBytes}
+use Rattle.model.specs.Layouts.{recordLayout, words, recordBytes, offset, recordOffset, stateField, beforeStateField, wordBytes}
 use Rattle.model.specs.Lines.{fieldBytes}
-use Rattle.model.specs.Records.{stateNumber}
+use Rattle.model.specs.Records.{stateNumber, beforeNumber}
 use Rattle.sheet_laws.specs.Fields.{allBelow, below}
 use Rattle.decimal.specs.Field.{fieldText, ahead}
 use Rattle.line_bytes.specs.Parts.{partsOk}
@@ -13,7 +13,7 @@ use Rattle.line_bytes.specs.Laws.{framed-is, room-is}
 use Rattle.record_check.specs.Ranges.{opened}
 use Rattle.record_check.specs.LayoutParts.{columnPart, layoutParts}
 use Rattle.record_check.specs.Limits.{narrowed, limited}
-use Rattle.record_check.specs.States.{LineKind, kinds, zeros, noKind, kindAt, kindLimits, openLayout, kindParts, kindWord}
+use Rattle.record_check.specs.States.{LineKind, kinds, zeros, nothingBefore, noKind, kindAt, kindLimits, openLayout, kindParts, kindWord, priorWord}
 
 -- bytes of a row, one for each column but LF, and of the three rows of a kind
 abbrev pub rowBytes : ℕ
@@ -38,7 +38,11 @@ tables = joined (map (λ (r : LineKind). lows (body r) ++ (highs (body r) ++ als
 abbrev pub row : ℕ → List ℕ
 row at = take rowBytes (drop at tables)
 
--- what is computed of kind k: its parts can be said by tables, which have room and stand where the code reads them, as does its word
+-- and a word there
+abbrev pub word : ℕ → List ℕ
+word at = take wordBytes (drop at tables)
+
+-- what is computed of kind k: its parts can be said by tables, which have room and stand where the code reads them, as do its words
 fits : ℕ → Bool
 fits k =
     setWell (kindParts (kindAt k))
@@ -47,19 +51,20 @@ fits k =
     && (eqList (row (k * tableBytes)) (lows (body (kindAt k)))
     && eqList (row (k * tableBytes + rowBytes)) (highs (body (kindAt k)))
     && eqList (row (k * tableBytes + rowBytes + rowBytes)) (alsos (body (kindAt k)))
-    && eqList (take wordBytes (drop (k * tableBytes + recordOffset stateField) tables)) (kindWord k))
+    && eqList (word (k * tableBytes + recordOffset stateField)) (kindWord k)
+    && eqList (word (k * tableBytes + recordOffset beforeStateField)) (priorWord k))
 
 fit : (k : ℕ) → k < length kinds → fits k ≡ true
-unfolding offset all allBelow eqList joined fits tables setWell partSetWell middle lows highs alsos kindParts kindLimits kinds zeros stateNumber layoutParts columnPart limited narrowed openLayout opened recordLayout fieldBytes fieldText ahead words bytes layoutColumns partColumns columns
+unfolding offset all allBelow eqList joined fits tables setWell partSetWell middle lows highs alsos kindParts kindLimits kinds zeros nothingBefore stateNumber beforeNumber layoutParts columnPart limited narrowed openLayout opened recordLayout fieldBytes fieldText ahead words bytes layoutColumns partColumns columns
 fit k l = below (length kinds) fits refl k l
 
 -- the columns of every kind are its body and LF
 frames : map (λ (r : LineKind). layoutColumns (kindParts r)) (noKind ∷ kinds) ≡ map (λ (r : LineKind). body r ++ (fixed 10 ∷ [])) (noKind ∷ kinds)
-unfolding middle kindParts kindLimits kinds zeros stateNumber layoutParts columnPart limited narrowed openLayout opened recordLayout fieldBytes fieldText ahead words bytes layoutColumns partColumns columns
+unfolding middle kindParts kindLimits kinds zeros nothingBefore stateNumber beforeNumber layoutParts columnPart limited narrowed openLayout opened recordLayout fieldBytes fieldText ahead words bytes layoutColumns partColumns columns
 frames = refl
 
 pub tables-length : length tables ≡ length kinds * tableBytes
-unfolding joined tables middle lows highs alsos kindParts kindLimits kinds zeros stateNumber layoutParts columnPart limited narrowed openLayout opened recordLayout fieldBytes fieldText ahead words bytes layoutColumns partColumns columns
+unfolding joined tables middle lows highs alsos kindParts kindLimits kinds zeros nothingBefore stateNumber beforeNumber layoutParts columnPart limited narrowed openLayout opened recordLayout fieldBytes fieldText ahead words bytes layoutColumns partColumns columns
 tables-length = refl
 
 module _ (k : ℕ) (l : k < length kinds) where
@@ -71,10 +76,14 @@ module _ (k : ℕ) (l : k < length kinds) where
   unfolding fits
   tables-room i = let h = fit k l in rw low (room-is (lows (body (kindAt k))) (search tests) i)
 
-  -- the state word of a kind stands in its first row
-  pub table-word : take wordBytes (drop (k * tableBytes + recordOffset stateField) tables) ≡ kindWord k
+  -- the words of a kind stand in its first row
+  pub table-state : word (k * tableBytes + recordOffset stateField) ≡ kindWord k
   unfolding fits
-  table-word = let h = fit k l in eqList-true _ (kindWord k) (search tests)
+  table-state = let h = fit k l in eqList-true _ (kindWord k) (search tests)
+
+  pub table-prior : word (k * tableBytes + recordOffset beforeStateField) ≡ priorWord k
+  unfolding fits
+  table-prior = let h = fit k l in eqList-true _ (priorWord k) (search tests)
 
   -- the line stands in the parts of a kind as the code judges it
   pub tables-are : (line : List ℕ) → length line ≡ recordBytes

@@ -1,4 +1,4 @@
-// The fast check of a record sheet: each line's state word compared with that of its kind, the line by one pass over the kind's tables, and the keys of
+// The fast check of a record sheet: each line's two words compared with those of its kind, the line by one pass over the kind's tables, and the keys of
 // neighbours as bytes.
 
 ghost use mathlib.Core.Path.{_≡_};
@@ -11,25 +11,22 @@ ghost use Rattle.model.specs.Spares.{sized, filledLines, sheetAccepted};
 ghost use Rattle.line_bytes.specs.Parts.{partsOk};
 ghost use Rattle.record_check.specs.States.{kinds, kindAt, kindParts};
 ghost use Rattle.record_check.specs.Relations.{highestClock, follows};
-ghost use Rattle.record_check.specs.Before.{zeroUpTo, beforeWhole, related};
-ghost use Rattle.record_check.specs.Line.{lineGood, kindOf};
+ghost use Rattle.record_check.specs.Line.{lineGood, kindOf, wordsHeld};
 ghost use Rattle.record_check.specs.Sheet.{keyBefore, linesPass};
 ghost use Rattle.record_check.specs.Tables.{tables};
 use types::BEFORE_AT;
-use types::BEFORE_TXID_AT;
+use types::BEFORE_STATE_AT;
 use types::CLOCK_AT;
-use types::COLUMN_BYTES;
 use types::RECORD_BYTES;
 use types::STATE_AT;
-use types::TXID_BYTES;
 use types::VERSION_AT;
 use types::VERSION_BYTES;
 
-// The kinds of line: ABSENT, COMMITTED and PREPARED. Each is a row of `kinds` (specs/States.antt), of which its tables are computed, and has a number in
-// `kind`.
-const KINDS: usize = 3;
+// The kinds of line: ABSENT, COMMITTED, PREPARED over ABSENT and PREPARED over COMMITTED. Each is a row of `kinds` (specs/States.antt), of which its tables
+// are computed, and has a number in `kind`.
+const KINDS: usize = 4;
 
-// The kind whose image must be seen to follow the one before it.
+// From this kind on, versions must be seen to follow the ones before.
 const FOLLOWING: usize = 2;
 
 // The first eight bytes of the words COMMITTED and PREPARED, each as one number.
@@ -37,12 +34,11 @@ const COMMITTED_FRONT: u64 = 0x5454_494d_4d4f_4320;
 
 const PREPARED_FRONT: u64 = 0x5241_5045_5250_2020;
 
-// The last column of before version, where both before columns begin, and the clock's second column.
+// The column of a before state where COMMITTED has an M, and the other words a space.
+const BEFORE_MARK: usize = BEFORE_STATE_AT + 3;
+
+// The last column of before version, and the clock's second column.
 const BEFORE_LAST: usize = BEFORE_AT + VERSION_BYTES - 1;
-
-const BEFORE_COLUMN1_AT: usize = BEFORE_TXID_AT + TXID_BYTES;
-
-const BEFORE_COLUMN2_AT: usize = BEFORE_COLUMN1_AT + COLUMN_BYTES;
 
 const CLOCK_HEAD: usize = CLOCK_AT + 1;
 
@@ -52,21 +48,25 @@ const ROW: usize = RECORD_BYTES - 1;
 const TABLE: usize = 3 * ROW;
 
 // The tables of each kind of line, in three rows: for each column but LF the lowest byte, which may not follow a space, the highest, and one
-// more that may follow a space. A fixed byte is all three, so zeros and blank columns are judged in the same pass as the figures, and the kind's state
-// word stands in each row.
+// more that may follow a space. A fixed byte is all three, so zeros and blank columns are judged in the same pass as the figures, and the kind's two
+// words stand in each row.
 const TABLES: [u8; KINDS * TABLE] = *b"\
-\x200 00 00 00000 00000    ABSENT     0   0        0        0     0   0        0        0          0\
-\x209 99 99 99999 99999    ABSENT     0   0        0        0     0   0        0        0          0\
-\x209  9  9     0     0    ABSENT     0   0        0        0     0   0        0        0          0\
-\x200 00 00 00000 00000 COMMITTED 00000 000 00000000 00000000     0   0        0        0          0\
-\x209 99 99 99999 99999 COMMITTED 99999 999 99999999 99999999     0   0        0        0          0\
-\x209  9  9     0     0 COMMITTED     9   0        0        0     0   0        0        0          0\
-\x200 00 00 00000 00000  PREPARED 00000 000 00000000 00000000 00000 000 00000000 00000000 0000000000\
-\x209 99 99 99999 99999  PREPARED 99999 999 99999999 99999999 99999 999 99999999 99999999 9999999999\
-\x209  9  9     0     0  PREPARED     0   9        0        0     0   0        0        0          0";
+\x200 00 00 00000 00000    ABSENT     0   0        0        0         -     0   0        0        0          0\
+\x209 99 99 99999 99999    ABSENT     0   0        0        0         -     0   0        0        0          0\
+\x209  9  9     0     0    ABSENT     0   0        0        0         -     0   0        0        0          0\
+\x200 00 00 00000 00000 COMMITTED 00000 000 00000000 00000000         -     0   0        0        0          0\
+\x209 99 99 99999 99999 COMMITTED 99999 999 99999999 99999999         -     0   0        0        0          0\
+\x209  9  9     0     0 COMMITTED     9   0        0        0         -     0   0        0        0          0\
+\x200 00 00 00000 00000  PREPARED 00000 000 00000000 00000000    ABSENT     0   0        0        0 0000000000\
+\x209 99 99 99999 99999  PREPARED 99999 999 99999999 99999999    ABSENT     0   0        0        0 9999999999\
+\x209  9  9     0     0  PREPARED     0   9        0        0    ABSENT     0   0        0        0          0\
+\x200 00 00 00000 00000  PREPARED 00000 000 00000000 00000000 COMMITTED 00000 000 00000000 00000000 0000000000\
+\x209 99 99 99999 99999  PREPARED 99999 999 99999999 99999999 COMMITTED 99999 999 99999999 99999999 9999999999\
+\x209  9  9     0     0  PREPARED     0   9        0        0 COMMITTED     9   0        0        0          0";
 
-// The number of the line's kind, if it is good: the first eight bytes of its state word tell the words apart. It is counted, so that the tables are found
-// without a branch on what the line says.
+// The number of the line's kind, if it is good: the first eight bytes of its state word tell the words apart, and one byte of its before state. It is
+// counted, so that the tables are found without a branch on what the line says. A line with any other two words gets the number of a kind that has not both
+// of them.
 fn kind(line: &[u8]) -> usize
     requires { ⌜ length (now line) ≡ recordBytes ⌝ }
     ensures { λ r. ⌜ r ≡ kindOf (now (line .entry)) ⌝ }
@@ -75,7 +75,21 @@ fn kind(line: &[u8]) -> usize
     let front = line_bytes::load_eight(line, STATE_AT);
     let committed = line_bytes::bit(front == COMMITTED_FRONT);
     let prepared = line_bytes::bit(front == PREPARED_FRONT);
-    (committed + prepared * 2) as usize
+    let over_committed = line_bytes::bit(line[BEFORE_MARK] == b'M');
+    (committed + prepared * 2 + over_committed) as usize
+}
+
+// Whether the ten bytes of the line's state word and those of its before state are the words of its kind. They stand in the kind's tables.
+fn words_equal(line: &[u8], lent: &[u8], kind: usize) -> bool
+    requires { ⌜ length (now line) ≡ recordBytes ⌝ }
+    requires { ⌜ now lent ≡ tables ⌝ }
+    requires { ⌜ kind < length kinds ⌝ }
+    ensures { λ r. ⌜ r ≡ wordsHeld kind (now (line .entry)) ⌝ }
+{
+    let at = kind * TABLE;
+    let state = line_bytes::ten_equal(line, STATE_AT, lent, at + STATE_AT);
+    let before = line_bytes::ten_equal(line, BEFORE_STATE_AT, lent, at + BEFORE_STATE_AT);
+    state & before
 }
 
 // Whether each byte of the line may stand in its column by the tables of its kind.
@@ -113,44 +127,21 @@ fn version_follows(line: &[u8]) -> bool
         == line_bytes::load_six(line, BEFORE_AT) + 0x0100_0000_0000
 }
 
-// Whether the figure whose columns end before byte `end` is 0: it ends in ` 0` then, and no other does.
-fn is_zero(line: &[u8], end: usize) -> bool
-    requires { ⌜ 2 ≤ end ⌝ }
-    requires { ⌜ end ≤ length (now line) ⌝ }
-    ensures { λ r. ⌜ r ≡ zeroUpTo end (now (line .entry)) ⌝ }
-{
-    line_bytes::load_two(line, end - 2) == 0x3020
-}
-
-// Whether the other before fields are 0, if before version is.
-fn before_whole(line: &[u8]) -> bool
-    requires { ⌜ length (now line) ≡ recordBytes ⌝ }
-    ensures { λ r. ⌜ r ≡ beforeWhole (now (line .entry)) ⌝ }
-{
-    let txid = is_zero(line, BEFORE_COLUMN1_AT);
-    let column1 = is_zero(line, BEFORE_COLUMN2_AT);
-    let column2 = is_zero(line, CLOCK_AT);
-    !is_zero(line, BEFORE_TXID_AT) | (txid & column1 & column2)
-}
-
-// Whether the image of a line that stands by its tables follows the one before it, if it is of the kind that asks for it.
+// Whether the image of a line that stands by its tables follows the one before it, if it is of a kind that asks for it.
 fn image_follows(line: &[u8], kind: usize) -> bool
     requires { ⌜ length (now line) ≡ recordBytes ⌝ }
     requires { ⌜ kind < length kinds ⌝ }
-    ensures { λ r. ⌜ r ≡ cond (kindAt kind .follows) (related (now (line .entry))) true ⌝ }
+    ensures { λ r. ⌜ r ≡ cond (kindAt kind .follows) (follows (now (line .entry))) true ⌝ }
 {
-    if kind != FOLLOWING {
+    if kind < FOLLOWING {
         return true;
     }
-    if !version_follows(line) {
-        return false;
-    }
-    before_whole(line)
+    version_follows(line)
 }
 
-// Whether the line can be read and its record is good alone. Its ten bytes of state word are compared with the word of its kind, so that a line with none
-// of the words is refused. The tables say all else but how the image of a PREPARED line stands to the one before it, and that the clock is at most
-// 4294967295. The end of the line, LF included, orders as the clock does.
+// Whether the line can be read and its record is good alone. Its words are compared with those of its kind, so that a line without such words is refused.
+// The tables say all else but that the version of a PREPARED line follows the one before it, and that the clock is at most 4294967295. The end of the line, LF
+// included, orders as the clock does.
 fn line_good(line: &[u8], lent: &[u8], highest: &[u8]) -> bool
     requires { ⌜ length (now line) ≡ recordBytes ⌝ }
     requires { ⌜ now lent ≡ tables ⌝ }
@@ -158,7 +149,7 @@ fn line_good(line: &[u8], lent: &[u8], highest: &[u8]) -> bool
     ensures { λ r. ⌜ r ≡ lineGood (now (line .entry)) ⌝ }
 {
     let kind = kind(line);
-    if !line_bytes::ten_equal(line, STATE_AT, lent, kind * TABLE + STATE_AT) {
+    if !words_equal(line, lent, kind) {
         return false;
     }
     if !stands(line, lent, kind) {

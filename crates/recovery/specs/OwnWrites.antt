@@ -3,6 +3,7 @@
 use Rattle.lists.specs.Basics.{_≡_, refl, sym, ap, ap₂, _∙_, ℕ, _+_, _≤_, _<_, eqb, ltb, Bool, true, false, _&&_, cond, List, length, Option, none, some, arith}
 use Rattle.lists.specs.Basics.{eqb-true, eqb-false, ltb-true, ltb-false, eq-eqb, lt-ltb, le-ltb, choose-by, tests}
 use Rattle.types.specs.declared.State.the-variants as State
+use Rattle.types.specs.declared.Before.the-variants as Was
 use Rattle.model.specs.Types.{Key, Record, Undecided, Committed, Entry, Transaction}
 use Rattle.model.specs.Records.{lineOf, preparedRule, noImage}
 use Rattle.model.specs.Coordinator.{Letter, Coordinator, decision, withDecision}
@@ -80,6 +81,7 @@ forward-overwrites n r h o =
       key = r .key;
       state = State.Committed;
       image = record { version = v i; txid = o i; column1 = r .image .column1; column2 = r .image .column2 };
+      prior = Was.Nothing;
       before = noImage;
       clock = 0;
     }

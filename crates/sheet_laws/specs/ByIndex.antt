@@ -9,7 +9,7 @@ use Rattle.lists.specs.Pieces.{over, length-pieces, pieces-over, getD-pieces, l
 use Rattle.model.specs.Types.{Key, Record}
 use Rattle.model.specs.Layouts.{recordLayout, words, recordBytes}
 use Rattle.model.specs.Lines.{fieldValue, wordFrom, rowOf, lineSet, linesOf, linesSet}
-use Rattle.model.specs.Records.{noRecord, recordOf, keyOf, imageFrom, stateOf, goodAlone, keyLess, inOrder, rising, recordsGood, recordIn, recordText, records}
+use Rattle.model.specs.Records.{noRecord, recordOf, keyOf, imageFrom, stateOf, beforeOf, goodAlone, keyLess, inOrder, rising, recordsGood, recordIn, recordText, records}
 use Rattle.model.specs.Records.{recordsAccepted}
 use Rattle.sheet_laws.specs.Records.{ranged, good-ranged, record-read-written, record-text-set, length-recordText}
 
@@ -28,13 +28,13 @@ length-records s = length-map (pieces recordBytes (length s / recordBytes) s) re
 
 -- no bytes say nothing
 no-record : recordIn [] ≡ noRecord
-unfolding recordIn recordOf keyOf imageFrom stateOf rowOf recordLayout fieldValue wordFrom words bytes eqList number figure scanned within
+unfolding recordIn recordOf keyOf imageFrom stateOf beforeOf rowOf recordLayout fieldValue wordFrom words bytes eqList number figure scanned within
 no-record = refl
 
 pub record-past : (s : List ℕ) (i : ℕ) → length s / recordBytes ≤ i → getD (records s) i noRecord ≡ noRecord
 record-past s i l = let n : length (records s) ≤ i = omega (arith, length-records s) in List·getD-eq-default (records s) noRecord n
 
--- the record at an index is what the 98 bytes there say
+-- the record at an index is what the 108 bytes there say
 pub record-at : (s : List ℕ) (i : ℕ) → i < length s / recordBytes → getD (records s) i noRecord ≡ recordIn (take recordBytes (drop (i * recordBytes) s))
 unfolding records linesOf
 record-at s i l =

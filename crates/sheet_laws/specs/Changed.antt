@@ -1,17 +1,18 @@
--- A record line changed in its bytes: other text over the state word, the image, the image before it or the clock, each where its fields begin. A line
+-- A record line changed in its bytes: other text over the state word, the image, the before state, the image before or the clock, each where its fields begin. A line
 -- that can be read is the text of its record, and that text with a part written over is the text of the record with that part, whatever its numbers.
 use Rattle.lists.specs.Basics.{_≡_, refl, sym, ap, ap₂, _∙_, ℕ, _+_, _≤_, Bool, true, false, cond, List, [], _∷_, _++_, append-nil, append-assoc, length, take}
 use Rattle.lists.specs.Basics.{drop, length-append, arith}
 use Rattle.lists.specs.Pieces.{over, over-next}
 use Rattle.decimal.specs.Field.{fieldText}
 use Rattle.decimal.specs.Laws.{length-fieldText}
-use Rattle.model.specs.Types.{Image, Record, State, StateWord}
+use Rattle.model.specs.Types.{Image, Record, State, Before, StateWord, BeforeWord}
 use Rattle.types.specs.declared.State.the-variants.{Committed, Prepared}
-use Rattle.model.specs.Layouts.{recordLayout, imageLayout, wordAt, stateField, imageField, beforeField, clockField, imageFields, recordOffset, recordWidth}
+use Rattle.types.specs.declared.Before.the-variants as Was
+use Rattle.model.specs.Layouts.{recordLayout, imageLayout, wordAt, stateField, imageField, beforeStateField, beforeField, clockField, imageFields, recordOffset, recordWidth}
 use Rattle.model.specs.Layouts.{imageBytes, offset}
 use Rattle.model.specs.Lines.{fieldBytes, lineSet}
-use Rattle.model.specs.Records.{noImage, stateNumber, keyNumbers, imageNumbers, recordNumbers, recordIn, recordText}
-use Rattle.model.specs.Images.{Change, writtenImage, prepared, committed}
+use Rattle.model.specs.Records.{noImage, stateNumber, beforeNumber, keyNumbers, imageNumbers, recordNumbers, recordIn, recordText}
+use Rattle.model.specs.Images.{Change, writtenImage, stateKept, prepared, committed}
 use Rattle.sheet_laws.specs.Spans.{fieldsText, span-there, span-over, field-over}
 use Rattle.sheet_laws.specs.Records.{record-wide, record-written-read}
 
@@ -19,9 +20,9 @@ use Rattle.sheet_laws.specs.Records.{record-wide, record-written-read}
 abbrev pub imageText : Image → List ℕ
 imageText m = fieldsText imageLayout (imageNumbers m)
 
--- the text of no image before, and a clock of 0: what stands behind the image of a line that isn't pending
+-- the text of nothing before, and a clock of 0: what stands behind the image of a line that isn't pending
 abbrev pub nothingText : List ℕ
-nothingText = fieldsText (drop beforeField recordLayout) (imageNumbers noImage ++ (0 ∷ []))
+nothingText = fieldsText (drop beforeStateField recordLayout) (beforeNumber Was.Nothing ∷ imageNumbers noImage ++ (0 ∷ []))
 
 -- A line with other text over a part.
 
@@ -31,9 +32,15 @@ stateOver s line = over line (recordOffset stateField) (wordAt StateWord (stateN
 abbrev pub imageOver : List ℕ → List ℕ → List ℕ
 imageOver t line = over line (recordOffset imageField) t
 
--- from the image before on
+abbrev pub priorOver : Before → List ℕ → List ℕ
+priorOver b line = over line (recordOffset beforeStateField) (wordAt BeforeWord (beforeNumber b))
+
 abbrev pub beforeOver : List ℕ → List ℕ → List ℕ
 beforeOver t line = over line (recordOffset beforeField) t
+
+-- from the before state on
+abbrev pub settledOver : List ℕ → List ℕ → List ℕ
+settledOver t line = over line (recordOffset beforeStateField) t
 
 -- the figure v over field k
 abbrev pub figureOver : ℕ → ℕ → List ℕ → List ℕ
@@ -50,34 +57,38 @@ abbrev pub imageIn : Bool → List ℕ → List ℕ
 imageIn before line = take imageBytes (drop (imageOffset before) line)
 
 -- a record's key with other parts behind it
-abbrev behind : Record → State → Image → Image → ℕ → Record
-behind r s m b clock = record { key = r .key; state = s; image = m; before = b; clock = clock }
+abbrev behind : Record → State → Image → Before → Image → ℕ → Record
+behind r s m was b clock = record { key = r .key; state = s; image = m; prior = was; before = b; clock = clock }
 
 -- the record with a state, one of its images and nothing before it
 abbrev pub settledAs : State → Bool → Record → Record
-settledAs state before r = behind r state (imageOf before r) noImage 0
+settledAs state before r = behind r state (imageOf before r) Was.Nothing noImage 0
 
 -- The text of a record, and of the record with another part.
 module _ (r : Record) where
-  state-over : (s : State) → stateOver s (recordText r) ≡ recordText (behind r s (r .image) (r .before) (r .clock))
+  state-over : (s : State) → stateOver s (recordText r) ≡ recordText (behind r s (r .image) (r .prior) (r .before) (r .clock))
   unfolding recordText recordLayout recordNumbers keyNumbers imageNumbers fieldBytes over
   state-over s = field-over stateField (stateNumber s) recordLayout (recordNumbers r) record-wide (omega arith) refl
 
-  image-over : (m : Image) → imageOver (imageText m) (recordText r) ≡ recordText (behind r (r .state) m (r .before) (r .clock))
+  image-over : (m : Image) → imageOver (imageText m) (recordText r) ≡ recordText (behind r (r .state) m (r .prior) (r .before) (r .clock))
   unfolding recordText recordLayout recordNumbers keyNumbers imageLayout imageNumbers over
   image-over m = span-over imageField recordLayout (imageNumbers m) (recordNumbers r) record-wide (omega arith) refl
 
-  before-over : (m : Image) → beforeOver (imageText m) (recordText r) ≡ recordText (behind r (r .state) (r .image) m (r .clock))
+  prior-over : (b : Before) → priorOver b (recordText r) ≡ recordText (behind r (r .state) (r .image) b (r .before) (r .clock))
+  unfolding recordText recordLayout recordNumbers keyNumbers imageNumbers fieldBytes over
+  prior-over b = field-over beforeStateField (beforeNumber b) recordLayout (recordNumbers r) record-wide (omega arith) refl
+
+  before-over : (m : Image) → beforeOver (imageText m) (recordText r) ≡ recordText (behind r (r .state) (r .image) (r .prior) m (r .clock))
   unfolding recordText recordLayout recordNumbers keyNumbers imageLayout imageNumbers over
   before-over m = span-over beforeField recordLayout (imageNumbers m) (recordNumbers r) record-wide (omega arith) refl
 
-  clock-over : (v : ℕ) → figureOver clockField v (recordText r) ≡ recordText (behind r (r .state) (r .image) (r .before) v)
+  clock-over : (v : ℕ) → figureOver clockField v (recordText r) ≡ recordText (behind r (r .state) (r .image) (r .prior) (r .before) v)
   unfolding recordText recordLayout recordNumbers keyNumbers imageNumbers fieldBytes over
   clock-over v = field-over clockField v recordLayout (recordNumbers r) record-wide (omega arith) refl
 
-  nothing-over : beforeOver nothingText (recordText r) ≡ recordText (behind r (r .state) (r .image) noImage 0)
+  nothing-over : settledOver nothingText (recordText r) ≡ recordText (behind r (r .state) (r .image) Was.Nothing noImage 0)
   unfolding recordText recordLayout recordNumbers keyNumbers imageNumbers over
-  nothing-over = span-over beforeField recordLayout (imageNumbers noImage ++ (0 ∷ [])) (recordNumbers r) record-wide (omega arith) refl
+  nothing-over = span-over beforeStateField recordLayout (beforeNumber Was.Nothing ∷ imageNumbers noImage ++ (0 ∷ [])) (recordNumbers r) record-wide (omega arith) refl
 
   image-there : (before : Bool) → imageIn before (recordText r) ≡ imageText (imageOf before r)
   unfolding recordText recordLayout recordNumbers keyNumbers imageLayout imageNumbers fieldsText offset
@@ -111,37 +122,39 @@ module _ (line : List ℕ) (set : lineSet recordLayout line ≡ true) where
 
   -- a state, one of the line's images and nothing behind it
   pub line-settled : (state : State) (before : Bool)
-      → beforeOver nothingText (stateOver state (imageOver (imageIn before line) line)) ≡ recordText (settledAs state before (recordIn line))
+      → settledOver nothingText (stateOver state (imageOver (imageIn before line) line)) ≡ recordText (settledAs state before (recordIn line))
   line-settled state before =
       let r = recordIn line in
       let m = imageOf before r in
       let t = ap₂ imageOver (ap (imageIn before) said ∙ image-there r before) said ∙ image-over r m in
-      ap (λ (x : List ℕ). beforeOver nothingText (stateOver state x)) t
-      ∙ (ap (beforeOver nothingText) (state-over (behind r (r .state) m (r .before) (r .clock)) state)
-      ∙ nothing-over (behind r state m (r .before) (r .clock)))
+      ap (λ (x : List ℕ). settledOver nothingText (stateOver state x)) t
+      ∙ (ap (settledOver nothingText) (state-over (behind r (r .state) m (r .prior) (r .before) (r .clock)) state)
+      ∙ nothing-over (behind r state m (r .prior) (r .before) (r .clock)))
 
   -- a new image behind the state word, and nothing behind it
   pub line-committed : (n : ℕ) (c : Change)
-      → beforeOver nothingText (imageOver (imageText (writtenImage n c (recordIn line))) (stateOver Committed line)) ≡ recordText (committed n c (recordIn line))
+      → settledOver nothingText (imageOver (imageText (writtenImage n c (recordIn line))) (stateOver Committed line)) ≡ recordText (committed n c (recordIn line))
   unfolding committed
   line-committed n c =
       let r = recordIn line in
       let m = writtenImage n c r in
       let t = ap (stateOver Committed) said ∙ state-over r Committed in
-      ap (λ (x : List ℕ). beforeOver nothingText (imageOver (imageText m) x)) t
-      ∙ (ap (beforeOver nothingText) (image-over (behind r Committed (r .image) (r .before) (r .clock)) m)
-      ∙ nothing-over (behind r Committed m (r .before) (r .clock)))
+      ap (λ (x : List ℕ). settledOver nothingText (imageOver (imageText m) x)) t
+      ∙ (ap (settledOver nothingText) (image-over (behind r Committed (r .image) (r .prior) (r .before) (r .clock)) m)
+      ∙ nothing-over (behind r Committed m (r .prior) (r .before) (r .clock)))
 
-  -- the line's image moved, a new one where it stood, and a clock
+  -- the line's image moved, its state before it, a new image where it stood, and a clock
   pub line-prepared : (n now : ℕ) (c : Change)
-      → figureOver clockField now (imageOver (imageText (writtenImage n c (recordIn line))) (stateOver Prepared (beforeOver (imageIn false line) line)))
+      → figureOver clockField now (imageOver (imageText (writtenImage n c (recordIn line))) (stateOver Prepared (priorOver (stateKept (recordIn line .state)) (beforeOver (imageIn false line) line))))
       ≡ recordText (prepared n now c (recordIn line))
   unfolding prepared
   line-prepared n now c =
       let r = recordIn line in
       let m = writtenImage n c r in
       let t = ap₂ beforeOver (ap (imageIn false) said ∙ image-there r false) said ∙ before-over r (r .image) in
-      ap (λ (x : List ℕ). figureOver clockField now (imageOver (imageText m) (stateOver Prepared x))) t
-      ∙ (ap (λ (x : List ℕ). figureOver clockField now (imageOver (imageText m) x)) (state-over (behind r (r .state) (r .image) (r .image) (r .clock)) Prepared)
-      ∙ (ap (figureOver clockField now) (image-over (behind r Prepared (r .image) (r .image) (r .clock)) m)
-      ∙ clock-over (behind r Prepared m (r .image) (r .clock)) now))
+      let b = stateKept (r .state) in
+      ap (λ (x : List ℕ). figureOver clockField now (imageOver (imageText m) (stateOver Prepared (priorOver b x)))) t
+      ∙ (ap (λ (x : List ℕ). figureOver clockField now (imageOver (imageText m) (stateOver Prepared x))) (prior-over (behind r (r .state) (r .image) (r .prior) (r .image) (r .clock)) b)
+      ∙ (ap (λ (x : List ℕ). figureOver clockField now (imageOver (imageText m) x)) (state-over (behind r (r .state) (r .image) b (r .image) (r .clock)) Prepared)
+      ∙ (ap (figureOver clockField now) (image-over (behind r Prepared (r .image) b (r .image) (r .clock)) m)
+      ∙ clock-over (behind r Prepared m b (r .image) (r .clock)) now)))

@@ -8,7 +8,7 @@ use Rattle.decimal.specs.declared.Scan.{Scan}
 use Rattle.decimal.specs.declared.Scan.the-variants.{Blank, Number, Wrong}
 use Rattle.decimal.specs.Field.{figure, scanned, fieldText}
 use Rattle.decimal.specs.Laws.{read-written, written-read, figure-scan, length-fieldText}
-use Rattle.model.specs.Types.{Column, Kind, Figure, StateWord, DecisionWord, UnitLetter}
+use Rattle.model.specs.Types.{Column, Kind, Figure, StateWord, BeforeWord, DecisionWord, UnitLetter}
 use Rattle.model.specs.Layouts.{words, wordAt, wordBytes}
 use Rattle.model.specs.Lines.{lastBytes, wordFrom, byKind, fieldValue, fieldBytes, inRange}
 
@@ -109,6 +109,7 @@ field-read-written c v = go (c .kind) (c .width) (c .low) (c .high)
     go : (k : Kind) (w low high : ℕ) → columnOk (column k w low high) ≡ true → inRange (column k w low high) v ≡ true → (fieldValue (column k w low high) (fieldBytes (column k w low high) v) ≡ Number v) × (length (fieldBytes (column k w low high) v) ≡ w)
     go Figure w low high h r = unfold fieldValue fieldBytes inRange in figures w low high h r
     go StateWord w low high h r = words-read-written (column StateWord w low high) v h r
+    go BeforeWord w low high h r = words-read-written (column BeforeWord w low high) v h r
     go DecisionWord w low high h r = words-read-written (column DecisionWord w low high) v h r
     go UnitLetter w low high h r = words-read-written (column UnitLetter w low high) v h r
 
@@ -121,6 +122,7 @@ field-written-read c s v = go (c .kind) (c .width) (c .low) (c .high)
         let r = written-read low high s v e in
         unfold inRange in (r .0 ∙ ap (λ (n : ℕ). fieldText n v) l, and-both (le-leb low v (r .1 .1 .0)) (le-leb v high (r .1 .1 .1)))
     go StateWord w low high h l e = words-written-read (column StateWord w low high) s v h e
+    go BeforeWord w low high h l e = words-written-read (column BeforeWord w low high) s v h e
     go DecisionWord w low high h l e = words-written-read (column DecisionWord w low high) s v h e
     go UnitLetter w low high h l e = words-written-read (column UnitLetter w low high) s v h e
 
@@ -146,6 +148,7 @@ pub length-wordAt : (k : Kind) (n : ℕ) → length (wordAt k n) ≡ wordBytes
 unfolding words bytes all
 length-wordAt Figure n = refl
 length-wordAt StateWord n = of-ten (words StateWord) n refl
+length-wordAt BeforeWord n = of-ten (words BeforeWord) n refl
 length-wordAt DecisionWord n = of-ten (words DecisionWord) n refl
 length-wordAt UnitLetter n = of-ten (words UnitLetter) n refl
 
@@ -167,6 +170,7 @@ length-fieldBytes c v = go (c .kind)
     go : (k : Kind) → byKind k true (leb (c .width) wordBytes) ≡ true → length (byKind k (fieldText (c .width) v) (lastBytes (c .width) (wordAt k v))) ≡ c .width
     go Figure n = length-fieldText (c .width) v
     go StateWord n = words-part StateWord n
+    go BeforeWord n = words-part BeforeWord n
     go DecisionWord n = words-part DecisionWord n
     go UnitLetter n = words-part UnitLetter n
 
@@ -182,5 +186,6 @@ scan-of c t v = go (c .kind) (c .width) (c .low) (c .high)
         → byKind k true false ≡ true → fieldValue (column k w low high) t ≡ Number v → scanned Blank t ≡ Number v
     go Figure w low high f e = figure-scan low high t v e .0
     go StateWord w low high f e = absurd (true≢false (sym f))
+    go BeforeWord w low high f e = absurd (true≢false (sym f))
     go DecisionWord w low high f e = absurd (true≢false (sym f))
     go UnitLetter w low high f e = absurd (true≢false (sym f))

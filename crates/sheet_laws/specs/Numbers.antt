@@ -8,7 +8,7 @@ use Rattle.model.specs.Layouts.{recordLayout, recordBytes, recordFields}
 use Rattle.model.specs.Lines.{rowOf, lineText, lineSet, linesOf, linesSet, rowGood}
 use Rattle.model.specs.Records.{recordOf, recordNumbers, recordIn, recordText, recordsText, records, recordsAccepted, goodAlone, recordsGood, rows, allNumbers}
 use Rattle.model.specs.Records.{rowsAccepted}
-use Rattle.sheet_laws.specs.Records.{ranged, good-ranged, length-numbers, record-of-numbers, numbers-of-record, state-ranged, line-numbers}
+use Rattle.sheet_laws.specs.Records.{ranged, good-ranged, length-numbers, record-of-numbers, numbers-of-record, state-ranged, before-ranged, line-numbers}
 
 pub length-rows : (v : List ℕ) → length (rows v) ≡ length v / recordFields
 unfolding rows
@@ -44,7 +44,7 @@ numbers-read-written rs h =
 pub row-same : (x : List ℕ) → (rowGood recordLayout x && eqb (length x) recordFields) ≡ true → recordNumbers (recordOf x) ≡ x
 row-same x h =
     numbers-of-record x (eqb-true (length x) recordFields (and-snd (rowGood recordLayout x) (eqb (length x) recordFields) h))
-    (state-ranged x (and-fst (rowGood recordLayout x) (eqb (length x) recordFields) h))
+    (state-ranged x (and-fst (rowGood recordLayout x) (eqb (length x) recordFields) h)) (before-ranged x (and-fst (rowGood recordLayout x) (eqb (length x) recordFields) h))
 
 -- accepted numbers are whole rows, each in range
 whole-rows : (v : List ℕ) → rowsAccepted v ≡ true → length v ≡ length v / recordFields * recordFields

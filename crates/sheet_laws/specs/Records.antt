@@ -1,14 +1,15 @@
 -- The record sheet: an accepted sheet is the text of its records, and rule-keeping records are those of their text.
 -- A line goes by the round trips of `recordLayout`, a sheet line by line; replacing a line is replacing a record.
-use Rattle.lists.specs.Basics.{_≡_, refl, ap, _∙_, ℕ, zero, suc, _*_, _/_, _≤_, leb, Bool, true, List, map, length, getD, length-map, arith, leb-true, eq-eqb}
+use Rattle.lists.specs.Basics.{_≡_, refl, ap, ap₂, _∙_, ℕ, zero, suc, _*_, _/_, _≤_, leb, Bool, true, List, map, length, getD, length-map, arith, leb-true, eq-eqb}
 use Rattle.lists.specs.Basics.{all, joined, pieces, listed, eqList, bytes, and-snd, and-both, tests}
 use Rattle.lists.specs.All.{all-map, all-weaken, all-of, map-same, map-map, listed-is}
 use Rattle.lists.specs.Pieces.{joined-pieces, pieces-joined, length-joined}
-use Rattle.model.specs.Types.{Record, State}
+use Rattle.model.specs.Types.{Record, State, Before}
 use Rattle.types.specs.declared.State.the-variants.{Absent, Committed, Prepared}
-use Rattle.model.specs.Layouts.{recordLayout, words, noColumn, stateField, recordBytes, recordFields, offset, recordOffset, keyBytes}
+use Rattle.types.specs.declared.Before.the-variants as Was
+use Rattle.model.specs.Layouts.{recordLayout, words, noColumn, stateField, beforeStateField, recordBytes, recordFields, offset, recordOffset, keyBytes}
 use Rattle.model.specs.Lines.{fieldValue, fieldBytes, wordFrom, rowOf, lineSet, lineText, rowGood, inRange, linesOf, linesSet}
-use Rattle.model.specs.Records.{stateNumber, stateOf, keyNumbers, imageNumbers, keyOf, imageFrom, recordOf, recordNumbers, goodAlone, recordsGood, recordIn}
+use Rattle.model.specs.Records.{stateNumber, stateOf, beforeNumber, beforeOf, keyNumbers, imageNumbers, keyOf, imageFrom, recordOf, recordNumbers, goodAlone, recordsGood, recordIn}
 use Rattle.model.specs.Records.{recordText, records, recordsText, recordsAccepted}
 use Rattle.sheet_laws.specs.Fields.{columnOk, allBelow, isThe, wordOk}
 use Rattle.sheet_laws.specs.Spans.{layoutWide}
@@ -27,22 +28,35 @@ number-of-state (suc zero) l = refl
 number-of-state (suc (suc zero)) l = refl
 number-of-state (suc (suc (suc n))) l = absurd (omega arith)
 
+before-of-number : (b : Before) → beforeOf (beforeNumber b) ≡ b
+unfolding beforeOf beforeNumber
+before-of-number Was.Nothing = refl
+before-of-number Was.Absent = refl
+before-of-number Was.Committed = refl
+
+number-of-before : (n : ℕ) → n ≤ 2 → beforeNumber (beforeOf n) ≡ n
+unfolding beforeOf beforeNumber
+number-of-before zero l = refl
+number-of-before (suc zero) l = refl
+number-of-before (suc (suc zero)) l = refl
+number-of-before (suc (suc (suc n))) l = absurd (omega arith)
+
 -- a record is that of its numbers
 pub record-of-numbers : (r : Record) → recordOf (recordNumbers r) ≡ r
 unfolding recordOf recordNumbers keyOf keyNumbers imageFrom imageNumbers
 record-of-numbers r =
-    ap
-    (λ (s : State). record { key = r .key; state = s; image = r .image; before = r .before; clock = r .clock })
-    (state-of-number (r .state))
+    ap₂
+    (λ (s : State) (b : Before). record { key = r .key; state = s; image = r .image; prior = b; before = r .before; clock = r .clock })
+    (state-of-number (r .state)) (before-of-number (r .prior))
 
--- fifteen numbers whose sixth is a state's are those of their record
-pub numbers-of-record : (v : List ℕ) → length v ≡ recordFields → getD v stateField 0 ≤ 2 → recordNumbers (recordOf v) ≡ v
+-- sixteen numbers whose sixth is a state's and whose eleventh a before state's are those of their record
+pub numbers-of-record : (v : List ℕ) → length v ≡ recordFields → getD v stateField 0 ≤ 2 → getD v beforeStateField 0 ≤ 2 → recordNumbers (recordOf v) ≡ v
 unfolding recordOf recordNumbers keyOf keyNumbers imageFrom imageNumbers listed
-numbers-of-record v n l =
+numbers-of-record v n l m =
     let e : listed 0 recordFields v ≡ v = listed-is 0 recordFields v n in
-    rw (number-of-state (getD v stateField 0) l) e
+    rw (number-of-state (getD v stateField 0) l, number-of-before (getD v beforeStateField 0) m) e
 
--- `recordLayout` passes the test of layouts, and its lines have 98 bytes
+-- `recordLayout` passes the test of layouts, and its lines have 108 bytes
 pub record-layout-ok : layoutOk recordLayout ≡ true
 unfolding all columnOk recordLayout words allBelow wordOk isThe fieldValue fieldBytes wordFrom bytes eqList
 record-layout-ok = refl
@@ -75,12 +89,18 @@ pub record Readable (line : List ℕ) : Type 0 where
 pub readable : (line : List ℕ) → lineSet recordLayout line ≡ true → Readable line
 readable line h = record { set = h; whole = line-whole line h }
 
--- the sixth number of a row in range is a state's
+-- in a row in range the sixth number is a state's, the eleventh a before state's
 pub state-ranged : (v : List ℕ) → rowGood recordLayout v ≡ true → getD v stateField 0 ≤ 2
 unfolding recordLayout inRange
 state-ranged v g =
     let i = row-in-range recordLayout v noColumn stateField g (omega arith) in
     leb-true (getD v stateField 0) 2 (and-snd (leb 0 (getD v stateField 0)) (leb (getD v stateField 0) 2) i)
+
+pub before-ranged : (v : List ℕ) → rowGood recordLayout v ≡ true → getD v beforeStateField 0 ≤ 2
+unfolding recordLayout inRange
+before-ranged v g =
+    let i = row-in-range recordLayout v noColumn beforeStateField g (omega arith) in
+    leb-true (getD v beforeStateField 0) 2 (and-snd (leb 0 (getD v beforeStateField 0)) (leb (getD v beforeStateField 0) 2) i)
 
 -- the numbers of a line that can be read are those of its record
 pub line-numbers : (line : List ℕ) → lineSet recordLayout line ≡ true → recordNumbers (recordIn line) ≡ rowOf recordLayout line
@@ -88,7 +108,7 @@ unfolding recordIn
 line-numbers line h =
     let v = rowOf recordLayout line in
     let g : rowGood recordLayout v ≡ true = line-written-read recordLayout line record-layout-ok h .1 in
-    numbers-of-record v (unfold recordLayout in length-rowOf recordLayout line) (state-ranged v g)
+    numbers-of-record v (unfold recordLayout in length-rowOf recordLayout line) (state-ranged v g) (before-ranged v g)
 
 -- a line that can be read is the text of its record
 pub record-written-read : (line : List ℕ) → lineSet recordLayout line ≡ true → recordText (recordIn line) ≡ line

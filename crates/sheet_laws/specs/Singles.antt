@@ -1,20 +1,22 @@
 -- Single fields of a line by its index, each read without the others: a figure of an accepted record sheet by its digits, and a word of any sheet by
 -- its bytes. The bytes at a field's offset are those of the field, and past the last line every number is 0.
 use Rattle.lists.specs.Basics.{_≡_, refl, sym, ap, ap₂, subst, _∙_, ℕ, zero, suc, _+_, _*_, _/_, _^_, _≤_, _<_, eqb, leb, ltb, Bool, true, false, cond, List}
-use Rattle.lists.specs.Basics.{length, take, drop, getD, length-take, length-drop, arith, eqb-true, leb-true, ltb-true, ltb-false, all, eqList, and-snd}
+use Rattle.lists.specs.Basics.{length, take, drop, getD, length-take, length-drop, take-all, arith, eqb-true, ne-eqb, leb-true, ltb-true, ltb-false, all, eqList, and-snd}
 use Rattle.lists.specs.Basics.{choose-by}
 use Rattle.lists.specs.All.{all-at}
 use Rattle.decimal.specs.declared.Scan.{Scan}
 use Rattle.decimal.specs.declared.Scan.the-variants.{Blank, Number, Wrong}
 use Rattle.decimal.specs.Field.{number}
 use Rattle.decimal.specs.Digits.{digits, figureAt}
-use Rattle.model.specs.Types.{Record, Undecided, Committed, Aborted, Column, StateWord, DecisionWord}
+use Rattle.model.specs.Types.{Record, Undecided, Committed, Aborted, Column, StateWord, BeforeWord, DecisionWord}
 use Rattle.types.specs.declared.State.the-variants.{Prepared}
-use Rattle.model.specs.Layouts.{recordLayout, lineLayout, decisionColumn, noColumn, wordAt, word, stateField, decisionField, offset, recordOffset, recordWidth}
+use Rattle.types.specs.declared.State.the-variants as InState
+use Rattle.types.specs.declared.Before.the-variants as Was
+use Rattle.model.specs.Layouts.{recordLayout, lineLayout, decisionColumn, noColumn, wordAt, word, stateField, beforeStateField, decisionField, offset, recordOffset, recordWidth}
 use Rattle.model.specs.Layouts.{recordBytes, recordFields, coordinatorBytes, wordBytes}
 use Rattle.model.specs.Lines.{inRange, fieldValue, fieldBytes, lineSet}
-use Rattle.model.specs.Records.{noRecord, byState, stateNumber, stateOf, keyNumbers, imageNumbers, recordNumbers, recordOf, recordIn, records, recordsAccepted}
-use Rattle.model.specs.Images.{isPrepared}
+use Rattle.model.specs.Records.{noRecord, byState, stateNumber, beforeNumber, stateOf, beforeOf, keyNumbers, imageNumbers, recordNumbers, recordOf, recordIn, records, recordsAccepted}
+use Rattle.model.specs.Images.{isPrepared, stateKept, stateBack}
 use Rattle.model.specs.Coordinator.{decisionNumber, decisionOf, decision, decisionIn, coordinatorOf}
 use Rattle.sheet_laws.specs.Fields.{allBelow, below, columnOk, field-written-read, field-is, isThe, isFigure}
 use Rattle.sheet_laws.specs.Lines.{layoutOk, row-in-range, fieldAt, row-at, field-there, field-within, digits-at}
@@ -26,7 +28,7 @@ use Rattle.sheet_laws.specs.Decisions.{decision-at}
 
 -- every number past the last line is 0
 no-number : (k : ℕ) → k < recordFields → getD (recordNumbers noRecord) k 0 ≡ 0
-unfolding allBelow recordNumbers keyNumbers imageNumbers stateNumber
+unfolding allBelow recordNumbers keyNumbers imageNumbers stateNumber beforeNumber
 no-number k l = eqb-true (getD (recordNumbers noRecord) k 0) 0 (below recordFields (λ (j : ℕ). eqb (getD (recordNumbers noRecord) j 0) 0) refl k l)
 
 -- no column holds more
@@ -121,6 +123,47 @@ prepared-told s i inside =
     ∙ (state-told x (number-ranged stateField recordBytes (i * recordBytes) recordLayout s record-layout-ok (omega arith) (omega arith) room)
     ∙ (ap (λ (n : ℕ). byState (stateOf n) false false true) (sym (row-at stateField recordLayout line (omega arith)))
     ∙ ap isPrepared (sym (record-at s i inside))))
+
+-- what a line leaves as its before state, and the state that one gives back, are told by the word COMMITTED
+kept-from : (x : Scan) → cond (isThe 1 x) Was.Committed Was.Absent ≡ stateKept (stateOf (number x))
+unfolding isThe number stateOf
+kept-from Blank = refl
+kept-from Wrong = refl
+kept-from (Number zero) = refl
+kept-from (Number (suc zero)) = refl
+kept-from (Number (suc (suc v))) = ap (λ (b : Bool). cond b Was.Committed Was.Absent) (ne-eqb (suc (suc v)) 1 (λ e. omega (arith, e)))
+
+pub kept-told : (line : List ℕ) → length line ≡ recordBytes
+    → cond (eqList (take wordBytes (drop (recordOffset stateField) line)) (wordAt StateWord (stateNumber InState.Committed))) Was.Committed Was.Absent ≡ stateKept (recordIn line .state)
+unfolding recordIn recordOf recordLayout offset fieldBytes stateNumber inRange
+kept-told line n =
+    let all-of-it : take recordBytes line ≡ line = take-all recordBytes line (omega arith) in
+    let x = fieldValue (getD recordLayout stateField noColumn) (fieldAt stateField recordLayout line) in
+    let told = word-there stateField recordBytes 0 recordLayout line record-layout-ok (omega arith) (omega arith) (omega arith) 1 refl in
+    ap (λ (b : Bool). cond b Was.Committed Was.Absent) (told ∙ ap (λ (l : List ℕ). isThe 1 (fieldValue (getD recordLayout stateField noColumn) (fieldAt stateField recordLayout l))) all-of-it)
+    ∙ (kept-from x ∙ ap (λ (v : ℕ). stateKept (stateOf v)) (sym (row-at stateField recordLayout line (omega arith))))
+
+back-from : (x : Scan) → ((v : ℕ) → x ≡ Number v → inRange (word wordBytes BeforeWord 2) v ≡ true) → cond (isThe 2 x) InState.Committed InState.Absent ≡ stateBack (beforeOf (number x))
+unfolding isThe number beforeOf inRange
+back-from Blank b = refl
+back-from Wrong b = refl
+back-from (Number zero) b = refl
+back-from (Number (suc zero)) b = refl
+back-from (Number (suc (suc zero))) b = refl
+back-from (Number (suc (suc (suc v)))) b =
+    let l : suc (suc (suc v)) ≤ 2 = leb-true (suc (suc (suc v))) 2 (and-snd (leb 0 (suc (suc (suc v)))) _ (b (suc (suc (suc v))) refl)) in absurd (omega arith)
+
+pub back-told : (s : List ℕ) (i : ℕ) → i < length s / recordBytes
+    → cond (eqList (take (recordWidth beforeStateField) (drop (i * recordBytes + recordOffset beforeStateField) s)) (wordAt BeforeWord (beforeNumber Was.Committed))) InState.Committed InState.Absent ≡ stateBack (getD (records s) i noRecord .prior)
+unfolding recordIn recordOf recordLayout offset fieldBytes beforeNumber inRange
+back-told s i inside =
+    let line = take recordBytes (drop (i * recordBytes) s) in
+    let x = fieldValue (getD recordLayout beforeStateField noColumn) (fieldAt beforeStateField recordLayout line) in
+    let room : i * recordBytes + recordBytes ≤ length s = omega arith in
+    ap (λ (b : Bool). cond b InState.Committed InState.Absent) (word-there beforeStateField recordBytes (i * recordBytes) recordLayout s record-layout-ok (omega arith) (omega arith) room 2 refl)
+    ∙ (back-from x (number-ranged beforeStateField recordBytes (i * recordBytes) recordLayout s record-layout-ok (omega arith) (omega arith) room)
+    ∙ (ap (λ (n : ℕ). stateBack (beforeOf n)) (sym (row-at beforeStateField recordLayout line (omega arith)))
+    ∙ ap (λ (r : Record). stateBack (r .prior)) (sym (record-at s i inside))))
 
 -- a decision is told by the words COMMITTED and ABORTED
 decision-from : (x : Scan) → ((v : ℕ) → x ≡ Number v → inRange decisionColumn v ≡ true) → decisionOf (number x) ≡ cond (isThe 1 x) Committed (cond (isThe 2 x) Aborted Undecided)

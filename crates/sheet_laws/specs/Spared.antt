@@ -8,7 +8,7 @@ use Rattle.decimal.specs.Field.{number, figure, scanned, stepped, within, isNum
 use Rattle.model.specs.Types.{Record}
 use Rattle.model.specs.Layouts.{recordLayout, recordBytes, words}
 use Rattle.model.specs.Lines.{rowOf, lineSet, rowGood, inRange, fieldValue, wordFrom}
-use Rattle.model.specs.Records.{noRecord, recordOf, keyOf, imageFrom, stateOf, keyNumbers, imageNumbers, recordNumbers, recordIn, goodAlone, recordsGood, records, recordText, recordsText, recordsAccepted}
+use Rattle.model.specs.Records.{noRecord, recordOf, keyOf, imageFrom, stateOf, beforeOf, keyNumbers, imageNumbers, recordNumbers, recordIn, goodAlone, recordsGood, records, recordText, recordsText, recordsAccepted}
 use Rattle.model.specs.Spares.{spareLine, isSpare, filledLines, sparesText, sized, recordLines, sheetFor, sheetAccepted}
 use Rattle.sheet_laws.specs.Records.{ranged, good-ranged, length-recordText, record-text-set, records-read-written, sheet-written-read}
 use Rattle.sheet_laws.specs.ByIndex.{length-records}
@@ -26,7 +26,7 @@ storage-some r h = search tests
 
 -- but it reads as zeros
 pub spare-record : recordIn (spareLine recordBytes) ≡ noRecord
-unfolding spareLine recordIn recordOf keyOf imageFrom stateOf rowOf recordLayout fieldValue wordFrom words bytes eqList number figure scanned stepped within
+unfolding spareLine recordIn recordOf keyOf imageFrom stateOf beforeOf rowOf recordLayout fieldValue wordFrom words bytes eqList number figure scanned stepped within
 spare-record = refl
 
 -- The sheet for good records.

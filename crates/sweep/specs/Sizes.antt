@@ -15,7 +15,7 @@ use Rattle.sheet_laws.specs.Decisions.{length-decisions, readable-parts, accept
 use Rattle.call_laws.specs.Lifting.{passing-parts}
 use Rattle.sweep.specs.FirstLine.{firstOf, recordsFrom, first-small, fit, unfit-refused, fit-refused, accepted-input, records-within}
 
--- 1 to 500 lines of 98 bytes
+-- 1 to 500 lines of 108 bytes
 records-few : (s : List ℕ) → sheetAccepted s ≡ true → length s ≤ mostRecordBytes
 records-few s h =
     let w : length s ≡ length s / recordBytes * recordBytes = accepted-whole s h in

@@ -46,19 +46,19 @@ abbrev secondAborted : List ℕ
 secondAborted = bytes "   2   ABORTED"
 
 abbrev firstA : List ℕ
-firstA = bytes " 1  1  1     1     1 COMMITTED     3   0      500      250     0   0        0        0          0"
+firstA = bytes " 1  1  1     1     1 COMMITTED     3   0      500      250         -     0   0        0        0          0"
 
 abbrev writtenA : List ℕ
-writtenA = bytes " 1  1  1     1     1 COMMITTED     4   1      600      300     0   0        0        0          0"
+writtenA = bytes " 1  1  1     1     1 COMMITTED     4   1      600      300         -     0   0        0        0          0"
 
 abbrev firstB : List ℕ
-firstB = bytes " 2  1  1     1     1 COMMITTED     1   0       40        7     0   0        0        0          0"
+firstB = bytes " 2  1  1     1     1 COMMITTED     1   0       40        7         -     0   0        0        0          0"
 
 abbrev pendingB : List ℕ
-pendingB = bytes " 2  1  1     1     1  PREPARED     2   1       41        8     1   0       40        7        102"
+pendingB = bytes " 2  1  1     1     1  PREPARED     2   1       41        8 COMMITTED     1   0       40        7        102"
 
 abbrev writtenB : List ℕ
-writtenB = bytes " 2  1  1     1     1 COMMITTED     2   1       41        8     0   0        0        0          0"
+writtenB = bytes " 2  1  1     1     1 COMMITTED     2   1       41        8         -     0   0        0        0          0"
 
 -- every client has a list of two unused transactions
 abbrev pub clientWorld : World

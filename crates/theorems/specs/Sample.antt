@@ -59,31 +59,31 @@ abbrev fourthAborted : List ℕ
 fourthAborted = bytes "   4   ABORTED"
 
 abbrev firstA : List ℕ
-firstA = bytes " 1  1  1     1     1 COMMITTED     3   1      500      250     0   0        0        0          0"
+firstA = bytes " 1  1  1     1     1 COMMITTED     3   1      500      250         -     0   0        0        0          0"
 
 abbrev writtenA : List ℕ
-writtenA = bytes " 1  1  1     1     1 COMMITTED     4   2      600      300     0   0        0        0          0"
+writtenA = bytes " 1  1  1     1     1 COMMITTED     4   2      600      300         -     0   0        0        0          0"
 
 abbrev pendingA : List ℕ
-pendingA = bytes " 1  1  1     1     1  PREPARED     5   4        1        2     4   2      600      300 2147483653"
+pendingA = bytes " 1  1  1     1     1  PREPARED     5   4        1        2 COMMITTED     4   2      600      300 2147483653"
 
 abbrev firstB : List ℕ
-firstB = bytes " 2  1  1     1     1 COMMITTED     1   0       40        7     0   0        0        0          0"
+firstB = bytes " 2  1  1     1     1 COMMITTED     1   0       40        7         -     0   0        0        0          0"
 
 abbrev pendingB : List ℕ
-pendingB = bytes " 2  1  1     1     1  PREPARED     2   3       41        8     1   0       40        7 2147483650"
+pendingB = bytes " 2  1  1     1     1  PREPARED     2   3       41        8 COMMITTED     1   0       40        7 2147483650"
 
 abbrev writtenB : List ℕ
-writtenB = bytes " 2  1  1     1     1 COMMITTED     2   3       41        8     0   0        0        0          0"
+writtenB = bytes " 2  1  1     1     1 COMMITTED     2   3       41        8         -     0   0        0        0          0"
 
 abbrev firstC : List ℕ
-firstC = bytes " 2  1  1     1     2    ABSENT     0   0        0        0     0   0        0        0          0"
+firstC = bytes " 2  1  1     1     2    ABSENT     0   0        0        0         -     0   0        0        0          0"
 
 abbrev pendingC : List ℕ
-pendingC = bytes " 2  1  1     1     2  PREPARED     1   3        5        6     0   0        0        0 2147483651"
+pendingC = bytes " 2  1  1     1     2  PREPARED     1   3        5        6    ABSENT     0   0        0        0 2147483651"
 
 abbrev writtenC : List ℕ
-writtenC = bytes " 2  1  1     1     2 COMMITTED     1   3        5        6     0   0        0        0          0"
+writtenC = bytes " 2  1  1     1     2 COMMITTED     1   3        5        6         -     0   0        0        0          0"
 
 abbrev pub sampleBytes : Bytes
 sampleBytes = sheets issued1 third fourth firstA firstB firstC

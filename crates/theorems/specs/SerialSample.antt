@@ -27,7 +27,7 @@ use Rattle.theorems.specs.Tables.{keyA, keyB, keyC, image, columns, Row,
 abbrev sheets : List ℕ → List ℕ → List ℕ → List ℕ → List ℕ → Bytes
 sheets head one three a b =
     record {
-      records = text (a ∷ b ∷ bytes " 2  1  1     1     2    ABSENT     0   0        0        0     0   0        0        0          0" ∷ []);
+      records = text (a ∷ b ∷ bytes " 2  1  1     1     2    ABSENT     0   0        0        0         -     0   0        0        0          0" ∷ []);
       coordinator = text (head ∷ one ∷ bytes "   2         -" ∷ three ∷ []);
     }
 
@@ -56,22 +56,22 @@ abbrev thirdCommitted : List ℕ
 thirdCommitted = bytes "   3 COMMITTED"
 
 abbrev firstA : List ℕ
-firstA = bytes " 1  1  1     1     1 COMMITTED     3   0      500      250     0   0        0        0          0"
+firstA = bytes " 1  1  1     1     1 COMMITTED     3   0      500      250         -     0   0        0        0          0"
 
 abbrev pendingA : List ℕ
-pendingA = bytes " 1  1  1     1     1  PREPARED     4   1      600      300     3   0      500      250        101"
+pendingA = bytes " 1  1  1     1     1  PREPARED     4   1      600      300 COMMITTED     3   0      500      250        101"
 
 abbrev writtenA : List ℕ
-writtenA = bytes " 1  1  1     1     1 COMMITTED     4   1      600      300     0   0        0        0          0"
+writtenA = bytes " 1  1  1     1     1 COMMITTED     4   1      600      300         -     0   0        0        0          0"
 
 abbrev firstB : List ℕ
-firstB = bytes " 2  1  1     1     1 COMMITTED     1   0       40        7     0   0        0        0          0"
+firstB = bytes " 2  1  1     1     1 COMMITTED     1   0       40        7         -     0   0        0        0          0"
 
 abbrev pendingB : List ℕ
-pendingB = bytes " 2  1  1     1     1  PREPARED     2   3       41        8     1   0       40        7        102"
+pendingB = bytes " 2  1  1     1     1  PREPARED     2   3       41        8 COMMITTED     1   0       40        7        102"
 
 abbrev writtenB : List ℕ
-writtenB = bytes " 2  1  1     1     1 COMMITTED     2   3       41        8     0   0        0        0          0"
+writtenB = bytes " 2  1  1     1     1 COMMITTED     2   3       41        8         -     0   0        0        0          0"
 
 abbrev pub serialBytes : Bytes
 serialBytes = sheets issued0 first third firstA firstB

@@ -1,5 +1,5 @@
 -- Spares by computation: which sheets are accepted, and a visit that leaves them. Document 02, note 6.
-use Rattle.lists.specs.Basics.{_≡_, refl, ℕ, List, [], _∷_, map, bytes}
+use Rattle.lists.specs.Basics.{replicate, _≡_, refl, ℕ, List, [], _∷_, map, bytes}
 use Rattle.model.specs.Lines.{text}
 use Rattle.model.specs.Refusals.{refusalOf}
 use Rattle.model.specs.SheetCalls.{checkConditions}
@@ -12,13 +12,13 @@ abbrev coordinator : List ℕ
 coordinator = text (bytes "   1 SRSSSSSSS" ∷ bytes "   1 COMMITTED" ∷ [])
 
 abbrev spare : List ℕ
-spare = bytes "                                                                                                 "
+spare = replicate 107 32
 
 abbrev pending : List ℕ
-pending = bytes " 1  1  1     1     1  PREPARED     4   1      600      300     3   0      500      250       7000"
+pending = bytes " 1  1  1     1     1  PREPARED     4   1      600      300 COMMITTED     3   0      500      250       7000"
 
 abbrev finished : List ℕ
-finished = bytes " 1  1  1     1     1 COMMITTED     4   1      600      300     0   0        0        0          0"
+finished = bytes " 1  1  1     1     1 COMMITTED     4   1      600      300         -     0   0        0        0          0"
 
 abbrev pub refusedWith : List (List ℕ) → ℕ
 refusedWith lines = refusalOf (checkConditions (text lines) coordinator)
@@ -43,13 +43,13 @@ abbrev plainOfA : List ℕ
 plainOfA = bytes " 1  1  1     1     1      600      300"
 
 abbrev sparePlain : List ℕ
-sparePlain = bytes "                                      "
+sparePlain = replicate 38 32
 
 abbrev bookkeepingOfA : List ℕ
-bookkeepingOfA = bytes " 1  1  1     1     1 COMMITTED     4   1     0   0        0        0          0"
+bookkeepingOfA = bytes " 1  1  1     1     1 COMMITTED     4   1         -     0   0        0        0          0"
 
 abbrev spareBookkeeping : List ℕ
-spareBookkeeping = bytes "                                                                               "
+spareBookkeeping = replicate 89 32
 
 abbrev pub refusedTwo : List (List ℕ) → List (List ℕ) → ℕ
 refusedTwo plain bookkeeping = refusalOf (twoConditions (text plain) (text bookkeeping) coordinator)

@@ -79,35 +79,35 @@ abbrev firstA : Line
 firstA =
     record {
       plain = bytes " 1  1  1     1     1       40        7";
-      bookkeeping = bytes " 1  1  1     1     1 COMMITTED     3   0     0   0        0        0          0";
+      bookkeeping = bytes " 1  1  1     1     1 COMMITTED     3   0         -     0   0        0        0          0";
     }
 
 abbrev pendingA : Line
 pendingA =
     record {
       plain = bytes " 1  1  1     1     1       99        7";
-      bookkeeping = bytes " 1  1  1     1     1  PREPARED     4   1     3   0       40        7         13";
+      bookkeeping = bytes " 1  1  1     1     1  PREPARED     4   1 COMMITTED     3   0       40        7         13";
     }
 
 abbrev firstB : Line
 firstB =
     record {
       plain = bytes " 2  1  1     1     1        8        9";
-      bookkeeping = bytes " 2  1  1     1     1 COMMITTED     1   0     0   0        0        0          0";
+      bookkeeping = bytes " 2  1  1     1     1 COMMITTED     1   0         -     0   0        0        0          0";
     }
 
 abbrev pendingB : Line
 pendingB =
     record {
       plain = bytes " 2  1  1     1     1       10       11";
-      bookkeeping = bytes " 2  1  1     1     1  PREPARED     2   3     1   0        8        9      15022";
+      bookkeeping = bytes " 2  1  1     1     1  PREPARED     2   3 COMMITTED     1   0        8        9      15022";
     }
 
 abbrev writtenB : Line
 writtenB =
     record {
       plain = bytes " 2  1  1     1     1       10       11";
-      bookkeeping = bytes " 2  1  1     1     1 COMMITTED     2   3     0   0        0        0          0";
+      bookkeeping = bytes " 2  1  1     1     1 COMMITTED     2   3         -     0   0        0        0          0";
     }
 
 abbrev pub twoSheets : TwoBytes
@@ -286,14 +286,14 @@ abbrev writtenA : Line
 writtenA =
     record {
       plain = bytes " 1  1  1     1     1       41        8";
-      bookkeeping = bytes " 1  1  1     1     1 COMMITTED     4   1     0   0        0        0          0";
+      bookkeeping = bytes " 1  1  1     1     1 COMMITTED     4   1         -     0   0        0        0          0";
     }
 
 abbrev preparedA : Line
 preparedA =
     record {
       plain = bytes " 1  1  1     1     1       41        8";
-      bookkeeping = bytes " 1  1  1     1     1  PREPARED     4   1     3   0       40        7         19";
+      bookkeeping = bytes " 1  1  1     1     1  PREPARED     4   1 COMMITTED     3   0       40        7         19";
     }
 
 abbrev oneCommitted : List ℕ

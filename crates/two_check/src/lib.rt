@@ -15,30 +15,39 @@ use two_join::BOOKKEEPING_BYTES;
 use two_join::PLAIN_BYTES;
 use types::RECORD_BYTES;
 
+// Bytes of so many lines joined.
+const BYTES_50: usize = 50 * RECORD_BYTES;
+
+const BYTES_100: usize = 100 * RECORD_BYTES;
+
+const BYTES_250: usize = 250 * RECORD_BYTES;
+
+const BYTES_500: usize = 500 * RECORD_BYTES;
+
 // Areas for so many lines. A call makes each, since the check would count the bytes of a local array one by one; there are several, since to set the largest to zero
 // takes longer than a call on a few lines.
-pub fn blank_50() -> [u8; 4900]
-    ensures { λ r. ⌜ r ≡ replicate 4900 0 ⌝ }
+pub fn blank_50() -> [u8; BYTES_50]
+    ensures { λ r. ⌜ r ≡ replicate (50 * recordBytes) 0 ⌝ }
 {
-    [0u8; 4900]
+    [0u8; BYTES_50]
 }
 
-pub fn blank_100() -> [u8; 9800]
-    ensures { λ r. ⌜ r ≡ replicate 9800 0 ⌝ }
+pub fn blank_100() -> [u8; BYTES_100]
+    ensures { λ r. ⌜ r ≡ replicate (100 * recordBytes) 0 ⌝ }
 {
-    [0u8; 9800]
+    [0u8; BYTES_100]
 }
 
-pub fn blank_250() -> [u8; 24500]
-    ensures { λ r. ⌜ r ≡ replicate 24500 0 ⌝ }
+pub fn blank_250() -> [u8; BYTES_250]
+    ensures { λ r. ⌜ r ≡ replicate (250 * recordBytes) 0 ⌝ }
 {
-    [0u8; 24500]
+    [0u8; BYTES_250]
 }
 
-pub fn blank_500() -> [u8; 49000]
-    ensures { λ r. ⌜ r ≡ replicate 49000 0 ⌝ }
+pub fn blank_500() -> [u8; BYTES_500]
+    ensures { λ r. ⌜ r ≡ replicate (500 * recordBytes) 0 ⌝ }
 {
-    [0u8; 49000]
+    [0u8; BYTES_500]
 }
 
 // Whether neither sheet has more bytes than so many lines.

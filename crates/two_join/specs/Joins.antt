@@ -11,6 +11,10 @@ use Rattle.model.specs.Lines.{linesOf}
 use Rattle.model.specs.TwoSheets.{joinLine, joinLines, joinedSheet, plainBytes, bookkeepingBytes}
 use Rattle.model.specs.Layouts.{recordBytes}
 
+-- bytes of a bookkeeping line behind state, version and TxID, which stand behind the columns of a joined line, LF counted
+abbrev pub restBytes : ℕ
+restBytes = bookkeepingBytes - 40
+
 -- a part lent and come back as n bytes of another list
 pub part-over : (s f u : List ℕ) (a b n : ℕ) → a + n ≤ length s → b + n ≤ length f → u ≡ putWord (take (a + n - a) (drop a s)) (take (b + n - b) (drop b f)) → take a s ++ (u ++ drop (a + n - a) (drop a s)) ≡ over s a (take n (drop b f))
 part-over s f u a b n l m h =
@@ -89,7 +93,7 @@ module _ (s f : List ℕ) (at start : ℕ) where
       ∙ (written-more (n / 8 * 8) (n - n / 8 * 8) (omega arith) (omega arith) ∙ ap written q)
 
 -- the parts of line i of either sheet, as bytes of the sheet
-pub join-bytes : (p b : List ℕ) (i : ℕ) → take 40 (drop (i * bookkeepingBytes) b) ++ (take 18 (drop (i * plainBytes + 20) p) ++ take 40 (drop (i * bookkeepingBytes + 40) b)) ≡ joinLine (take plainBytes (drop (i * plainBytes) p)) (take bookkeepingBytes (drop (i * bookkeepingBytes) b))
+pub join-bytes : (p b : List ℕ) (i : ℕ) → take 40 (drop (i * bookkeepingBytes) b) ++ (take 18 (drop (i * plainBytes + 20) p) ++ take restBytes (drop (i * bookkeepingBytes + 40) b)) ≡ joinLine (take plainBytes (drop (i * plainBytes) p)) (take bookkeepingBytes (drop (i * bookkeepingBytes) b))
 unfolding joinLine
 join-bytes p b i =
     let q = drop (i * plainBytes) p in
@@ -97,22 +101,22 @@ join-bytes p b i =
     let x : take 40 (take bookkeepingBytes c) ≡ take 40 c = take-take 40 bookkeepingBytes c (omega arith) in
     let y : take 18 (drop 20 (take plainBytes q)) ≡ take 18 (drop (i * plainBytes + 20) p) =
     take-drop-take 18 20 plainBytes q (omega arith) ∙ ap (take 18) (drop-drop 20 (i * plainBytes) p) in
-    let z : drop 40 (take bookkeepingBytes c) ≡ take 40 (drop (i * bookkeepingBytes + 40) b) =
-    drop-take c ∙ ap (take 40) (drop-drop 40 (i * bookkeepingBytes) b) in
-    sym (ap₂ (λ (u v : List ℕ). u ++ (take 18 (drop 20 (take plainBytes q)) ++ v)) x z ∙ ap (λ (u : List ℕ). take 40 c ++ (u ++ take 40 (drop (i * bookkeepingBytes + 40) b))) y)
+    let z : drop 40 (take bookkeepingBytes c) ≡ take restBytes (drop (i * bookkeepingBytes + 40) b) =
+    drop-take c ∙ ap (take restBytes) (drop-drop 40 (i * bookkeepingBytes) b) in
+    sym (ap₂ (λ (u v : List ℕ). u ++ (take 18 (drop 20 (take plainBytes q)) ++ v)) x z ∙ ap (λ (u : List ℕ). take 40 c ++ (u ++ take restBytes (drop (i * bookkeepingBytes + 40) b))) y)
   where
-    drop-take : (l : List ℕ) → drop 40 (take bookkeepingBytes l) ≡ take 40 (drop 40 l)
+    drop-take : (l : List ℕ) → drop 40 (take bookkeepingBytes l) ≡ take restBytes (drop 40 l)
     drop-take l =
-        let e : take 40 (drop 40 (take bookkeepingBytes l)) ≡ take 40 (drop 40 l) = take-drop-take 40 40 bookkeepingBytes l (omega arith) in
-        let m : length (drop 40 (take bookkeepingBytes l)) ≤ 40 = simp (length-drop, length-take) (omega arith) in
-        sym (take-all 40 (drop 40 (take bookkeepingBytes l)) m) ∙ e
+        let e : take restBytes (drop 40 (take bookkeepingBytes l)) ≡ take restBytes (drop 40 l) = take-drop-take restBytes 40 bookkeepingBytes l (omega arith) in
+        let m : length (drop 40 (take bookkeepingBytes l)) ≤ restBytes = simp (length-drop, length-take) (omega arith) in
+        sym (take-all restBytes (drop 40 (take bookkeepingBytes l)) m) ∙ e
 
 -- three parts, one after another, are the line joined
-pub three-parts : (s p b : List ℕ) (i : ℕ) → i * plainBytes + plainBytes ≤ length p → i * bookkeepingBytes + bookkeepingBytes ≤ length b → i * recordBytes + recordBytes ≤ length s → over (over (over s (i * recordBytes) (take 40 (drop (i * bookkeepingBytes) b))) (i * recordBytes + 40) (take 18 (drop (i * plainBytes + 20) p))) (i * recordBytes + 58) (take 40 (drop (i * bookkeepingBytes + 40) b)) ≡ over s (i * recordBytes) (joinLine (take plainBytes (drop (i * plainBytes) p)) (take bookkeepingBytes (drop (i * bookkeepingBytes) b)))
+pub three-parts : (s p b : List ℕ) (i : ℕ) → i * plainBytes + plainBytes ≤ length p → i * bookkeepingBytes + bookkeepingBytes ≤ length b → i * recordBytes + recordBytes ≤ length s → over (over (over s (i * recordBytes) (take 40 (drop (i * bookkeepingBytes) b))) (i * recordBytes + 40) (take 18 (drop (i * plainBytes + 20) p))) (i * recordBytes + 58) (take restBytes (drop (i * bookkeepingBytes + 40) b)) ≡ over s (i * recordBytes) (joinLine (take plainBytes (drop (i * plainBytes) p)) (take bookkeepingBytes (drop (i * bookkeepingBytes) b)))
 three-parts s p b i l m n =
     let x = take 40 (drop (i * bookkeepingBytes) b) in
     let y = take 18 (drop (i * plainBytes + 20) p) in
-    let z = take 40 (drop (i * bookkeepingBytes + 40) b) in
+    let z = take restBytes (drop (i * bookkeepingBytes + 40) b) in
     let u : length x ≡ 40 = simp (length-take, length-drop) (omega arith) in
     let v : length y ≡ 18 = simp (length-take, length-drop) (omega arith) in
     let w : i * recordBytes + 58 ≡ i * recordBytes + length (x ++ y) = simp length-append (omega arith) in

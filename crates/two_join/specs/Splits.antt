@@ -5,7 +5,7 @@ use Rattle.lists.specs.Pieces.{over, over-next, length-over, pieces-add, take-d
 use Rattle.model.specs.Layouts.{recordBytes}
 use Rattle.model.specs.Lines.{linesOf}
 use Rattle.model.specs.TwoSheets.{plainBytes, bookkeepingBytes, plainLine, bookkeepingLine}
-use Rattle.two_join.specs.Joins.{set-over}
+use Rattle.two_join.specs.Joins.{restBytes, set-over}
 
 -- line i of a sheet whose lines have w bytes, and of a joined sheet
 abbrev pub lineIn : ℕ → List ℕ → ℕ → List ℕ
@@ -94,20 +94,20 @@ module _ (a : List ℕ) (i : ℕ) (whole : i * recordBytes + recordBytes ≤ len
       ∙ (over-next s (x ++ y) (10 ∷ []) (i * plainBytes) (i * plainBytes + 38) w (omega arith)
       ∙ ap (over s (i * plainBytes)) (append-assoc x y (10 ∷ []) ∙ plain-bytes))))
 
-  bookkeeping-bytes : take 40 (drop (i * recordBytes) a) ++ take 40 (drop (i * recordBytes + 58) a) ≡ bookkeepingLine (lineAt a i)
+  bookkeeping-bytes : take 40 (drop (i * recordBytes) a) ++ take restBytes (drop (i * recordBytes + 58) a) ≡ bookkeepingLine (lineAt a i)
   unfolding bookkeepingLine
   bookkeeping-bytes =
       let x : take 40 (take recordBytes rest) ≡ take 40 rest = take-take 40 recordBytes rest (omega arith) in
-      let m : length (drop 58 (take recordBytes rest)) ≤ 40 = simp (length-drop, length-take) (omega arith) in
-      let y : drop 58 (take recordBytes rest) ≡ take 40 (drop (i * recordBytes + 58) a) =
-      sym (take-all 40 (drop 58 (take recordBytes rest)) m) ∙ (take-drop-take 40 58 recordBytes rest (omega arith) ∙ ap (take 40) (drop-drop 58 (i * recordBytes) a)) in
+      let m : length (drop 58 (take recordBytes rest)) ≤ restBytes = simp (length-drop, length-take) (omega arith) in
+      let y : drop 58 (take recordBytes rest) ≡ take restBytes (drop (i * recordBytes + 58) a) =
+      sym (take-all restBytes (drop 58 (take recordBytes rest)) m) ∙ (take-drop-take restBytes 58 recordBytes rest (omega arith) ∙ ap (take restBytes) (drop-drop 58 (i * recordBytes) a)) in
       sym (ap₂ (λ (u v : List ℕ). u ++ v) x y)
 
   pub bookkeeping-parts : (s u : List ℕ) → i * bookkeepingBytes + bookkeepingBytes ≤ length s
-      → u ≡ over (over s (i * bookkeepingBytes) (take 40 (drop (i * recordBytes) a))) (i * bookkeepingBytes + 40) (take 40 (drop (i * recordBytes + 58) a))
+      → u ≡ over (over s (i * bookkeepingBytes) (take 40 (drop (i * recordBytes) a))) (i * bookkeepingBytes + 40) (take restBytes (drop (i * recordBytes + 58) a))
       → u ≡ over s (i * bookkeepingBytes) (bookkeepingLine (lineAt a i))
   bookkeeping-parts s u l h =
       let x = take 40 (drop (i * recordBytes) a) in
-      let y = take 40 (drop (i * recordBytes + 58) a) in
+      let y = take restBytes (drop (i * recordBytes + 58) a) in
       let p : length x ≡ 40 = simp (length-take, length-drop) (omega arith) in
       h ∙ (over-next s x y (i * bookkeepingBytes) (i * bookkeepingBytes + 40) (omega arith) (omega arith) ∙ ap (over s (i * bookkeepingBytes)) bookkeeping-bytes)

@@ -13,21 +13,23 @@ use crate::PLAIN_BYTES;
 use crate::PLAIN_END;
 use crate::REST_BYTES;
 use crate::copy_part;
-use types::BEFORE_AT;
+use types::BEFORE_STATE_AT;
 use types::COLUMN1_AT;
 use types::RECORD_BYTES;
 use types::STATE_AT;
 
+// Where LF stands in a line of a joined sheet, and in the part of it behind the columns.
+const RECORD_END: usize = RECORD_BYTES - 1;
+
+const REST_END: usize = REST_BYTES - 1;
+
 // What stands beside a plain line: COMMITTED of version 1, loaded at layout, and nothing before it.
 const STATE: [u8; 20] = *b" COMMITTED     1   0";
 
-const REST: [u8; 39] = *b"     0   0        0        0          0";
+const REST: [u8; REST_END] = *b"         -     0   0        0        0          0";
 
 // What stands beside a bookkeeping line: columns 0.
 const COLUMNS: [u8; 18] = *b"        0        0";
-
-// Where LF stands in a line of a joined sheet.
-const RECORD_END: usize = RECORD_BYTES - 1;
 
 // Line i of the plain sheet, filled, over line i of the target.
 fn plain_at(plain: &[u8], i: usize, target: &mut [u8])
@@ -42,7 +44,7 @@ fn plain_at(plain: &[u8], i: usize, target: &mut [u8])
     copy_part(target, t, plain, p, STATE_AT);
     copy_part(target, t + STATE_AT, &state, 0, 20);
     copy_part(target, t + COLUMN1_AT, plain, p + STATE_AT, COLUMNS_BYTES);
-    copy_part(target, t + BEFORE_AT, &rest, 0, 39);
+    copy_part(target, t + BEFORE_STATE_AT, &rest, 0, REST_END);
     copy_part(target, t + RECORD_END, plain, p + PLAIN_END, 1);
 }
 
@@ -68,7 +70,13 @@ fn bookkeeping_at(book: &[u8], i: usize, target: &mut [u8])
     let columns = COLUMNS;
     copy_part(target, t, book, b, COLUMN1_AT);
     copy_part(target, t + COLUMN1_AT, &columns, 0, COLUMNS_BYTES);
-    copy_part(target, t + BEFORE_AT, book, b + COLUMN1_AT, REST_BYTES);
+    copy_part(
+        target,
+        t + BEFORE_STATE_AT,
+        book,
+        b + COLUMN1_AT,
+        REST_BYTES,
+    );
 }
 
 // The bookkeeping sheet filled.

@@ -12,7 +12,7 @@ ghost use Rattle.model.specs.Lines.{linesOf};
 
 pub mod fill;
 
-use types::BEFORE_AT;
+use types::BEFORE_STATE_AT;
 use types::COLUMN_BYTES;
 use types::COLUMN1_AT;
 use types::RECORD_BYTES;
@@ -91,7 +91,13 @@ fn join_at(plain: &[u8], book: &[u8], i: usize, target: &mut [u8])
     let t = i * RECORD_BYTES;
     copy_part(target, t, book, b, COLUMN1_AT);
     copy_part(target, t + COLUMN1_AT, plain, p + STATE_AT, COLUMNS_BYTES);
-    copy_part(target, t + BEFORE_AT, book, b + COLUMN1_AT, REST_BYTES);
+    copy_part(
+        target,
+        t + BEFORE_STATE_AT,
+        book,
+        b + COLUMN1_AT,
+        REST_BYTES,
+    );
 }
 
 // Both sheets joined over the target.
@@ -175,7 +181,7 @@ fn bookkeeping_at(area: &[u8], i: usize, book: &mut [u8])
     let b = i * BOOKKEEPING_BYTES;
     let t = i * RECORD_BYTES;
     copy_part(book, b, area, t, COLUMN1_AT);
-    copy_part(book, b + COLUMN1_AT, area, t + BEFORE_AT, REST_BYTES);
+    copy_part(book, b + COLUMN1_AT, area, t + BEFORE_STATE_AT, REST_BYTES);
 }
 
 // The bookkeeping part of a joined sheet over the bookkeeping sheet.

@@ -31,7 +31,7 @@ unfoldable pub fixedColumns : List ℕ
 fixedColumns = bytes "        0        0"
 
 unfoldable pub fixedRest : List ℕ
-fixedRest = bytes "     0   0        0        0          0"
+fixedRest = bytes "         -     0   0        0        0          0"
 
 -- a plain line with fixed text for the remaining fields
 unfoldable pub fillPlain : List ℕ → List ℕ

@@ -7,15 +7,15 @@ use Rattle.model.specs.Types.{State, Record}
 use Rattle.types.specs.declared.State.the-variants.{Absent, Committed, Prepared}
 use Rattle.model.specs.Layouts.{recordLayout, keyLayout, imageLayout, columnsLayout, recordBytes}
 use Rattle.model.specs.Lines.{lineSet, linesOf, linesSet, rowGood, inRange}
-use Rattle.model.specs.Records.{recordsGood, recordIn, records, recordsAccepted, goodAlone, stateRule, isZero, absentRule, committedRule, preparedRule, byState}
-use Rattle.model.specs.Records.{stateNumber, keyNumbers, imageNumbers, recordNumbers, inOrder, rising, keyLess}
+use Rattle.model.specs.Records.{recordsGood, recordIn, records, recordsAccepted, goodAlone, stateRule, isZero, noBefore, beforeRule, absentRule, committedRule, preparedRule, byState}
+use Rattle.model.specs.Records.{stateNumber, beforeNumber, keyNumbers, imageNumbers, recordNumbers, inOrder, rising, keyLess}
 use Rattle.model.specs.Coordinator.{namesIssued}
 use Rattle.model.specs.TwoSheets.{plainLayout, bookkeepingLayout, plainBytes, bookkeepingBytes, joinLine, plainLine, bookkeepingLine, joinLines, joinedSheet}
 use Rattle.model.specs.TwoSheets.{plainPart, bookkeepingPart, plainRecord, bookkeepingRecord, plainAlone, bookkeepingAlone}
 use Rattle.sheet_laws.specs.Fronts.{lines-joined}
 use Rattle.two_laws.specs.Deciding.{whole, keysAgree, linesAgree}
 use Rattle.two_laws.specs.Parts.{good-append}
-use Rattle.two_laws.specs.TwoLines.{stateLayout, restLayout, plainOf, bookkeepingOf, length-joinLine, joined-bookkeeping-record, joined-bookkeeping-set}
+use Rattle.two_laws.specs.TwoLines.{stateLayout, restLayout, noRest, plainOf, bookkeepingOf, length-joinLine, joined-bookkeeping-record, joined-bookkeeping-set}
 use Rattle.two_laws.specs.TwoLines.{joined-plain-record, joined-plain-set, plain-back, bookkeeping-back, join-back, parts-agree, length-plainLine}
 use Rattle.two_laws.specs.TwoLines.{length-bookkeepingLine}
 use Rattle.two_laws.specs.FilledSheets.{lines-wide, record-lines, lines-accepted}
@@ -97,17 +97,21 @@ module _ (f : Record → Record) (keys : (r : Record) → f r .key ≡ r .key) (
       (and-both (ap (λ (k : ℕ). leb k 500) n ∙ b) x)
       (rising-map rs ∙ o)
 
+-- the numbers behind the columns
+abbrev restNumbers : Record → List ℕ
+restNumbers r = beforeNumber (r .prior) ∷ imageNumbers (r .before) ++ (r .clock ∷ [])
+
 -- the ranges of a record's numbers, part by part
 ranged-parts : (r : Record)
     → rowGood recordLayout (recordNumbers r)
     ≡ (rowGood keyLayout (keyNumbers (r .key))
     && (rowGood stateLayout (stateNumber (r .state) ∷ r .image .version ∷ r .image .txid ∷ [])
-    && (rowGood columnsLayout (r .image .column1 ∷ r .image .column2 ∷ []) && rowGood restLayout (imageNumbers (r .before) ++ (r .clock ∷ [])))))
+    && (rowGood columnsLayout (r .image .column1 ∷ r .image .column2 ∷ []) && rowGood restLayout (restNumbers r))))
 unfolding recordNumbers keyNumbers imageNumbers recordLayout keyLayout columnsLayout imageLayout
 ranged-parts r =
     let m = stateNumber (r .state) ∷ r .image .version ∷ r .image .txid ∷ [] in
     let c = r .image .column1 ∷ r .image .column2 ∷ [] in
-    let e = imageNumbers (r .before) ++ (r .clock ∷ []) in
+    let e = restNumbers r in
     good-append keyLayout (stateLayout ++ (columnsLayout ++ restLayout)) (keyNumbers (r .key)) (m ++ (c ++ e)) refl
     ∙ ap (λ (x : Bool). rowGood keyLayout (keyNumbers (r .key)) && x)
     (good-append stateLayout (columnsLayout ++ restLayout) m (c ++ e) refl
@@ -121,18 +125,18 @@ fixed-columns-good : rowGood columnsLayout (0 ∷ 0 ∷ []) ≡ true
 unfolding rowGood inRange recordLayout imageLayout columnsLayout
 fixed-columns-good = refl
 
-fixed-rest-good : rowGood restLayout (0 ∷ 0 ∷ 0 ∷ 0 ∷ 0 ∷ []) ≡ true
+fixed-rest-good : rowGood restLayout noRest ≡ true
 unfolding rowGood inRange recordLayout
 fixed-rest-good = refl
 
 -- a good record is good as either sheet has it
 plain-good : (r : Record) → goodAlone r ≡ true → goodAlone (plainOf r) ≡ true
-unfolding goodAlone committedRule isZero stateNumber imageNumbers
+unfolding goodAlone committedRule noBefore isZero stateNumber beforeNumber imageNumbers
 plain-good r h =
     let k = rowGood keyLayout (keyNumbers (r .key)) in
     let m = rowGood stateLayout (stateNumber (r .state) ∷ r .image .version ∷ r .image .txid ∷ []) in
     let c = rowGood columnsLayout (r .image .column1 ∷ r .image .column2 ∷ []) in
-    let e = rowGood restLayout (imageNumbers (r .before) ++ (r .clock ∷ [])) in
+    let e = rowGood restLayout (restNumbers r) in
     let g : (k && (m && (c && e))) ≡ true =
     sym (ranged-parts r) ∙ and-fst (rowGood recordLayout (recordNumbers r)) (stateRule r) h in
     let x : c ≡ true = and-fst c e (and-snd m (c && e) (and-snd k (m && (c && e)) g)) in
@@ -146,7 +150,7 @@ bookkeeping-good r h =
     let k = rowGood keyLayout (keyNumbers (r .key)) in
     let m = rowGood stateLayout (stateNumber (r .state) ∷ r .image .version ∷ r .image .txid ∷ []) in
     let c = rowGood columnsLayout (r .image .column1 ∷ r .image .column2 ∷ []) in
-    let e = rowGood restLayout (imageNumbers (r .before) ++ (r .clock ∷ [])) in
+    let e = rowGood restLayout (restNumbers r) in
     let g : (k && (m && (c && e))) ≡ true =
     sym (ranged-parts r) ∙ and-fst (rowGood recordLayout (recordNumbers r)) (stateRule r) h in
     let y : rowGood recordLayout (recordNumbers (bookkeepingOf r)) ≡ true =
@@ -156,19 +160,21 @@ bookkeeping-good r h =
     (and-both fixed-columns-good (and-snd c e (and-snd m (c && e) (and-snd k (m && (c && e)) g))))) in
     and-both y (rule (r .state) (and-snd (rowGood recordLayout (recordNumbers r)) (stateRule r) h))
   where
+    same-before : noBefore (bookkeepingOf r) ≡ noBefore r
+    same-before = unfold noBefore in refl
+
     absent : absentRule r ≡ true → absentRule (bookkeepingOf r) ≡ true
     absent x =
         unfold absentRule isZero in
         let v : eqb (r .image .version) 0 ≡ true = search tests in
         let t : eqb (r .image .txid) 0 ≡ true = search tests in
-        let b : isZero (r .before) ≡ true = search tests in
-        let c : eqb (r .clock) 0 ≡ true = search tests in
-        and-both (and-both (and-both (and-both (and-both v t) refl) refl) b) c
+        let b : noBefore r ≡ true = search tests in
+        and-both (and-both (and-both (and-both v t) refl) refl) (same-before ∙ b)
 
     rule : (s : State) → byState s (absentRule r) (committedRule r) (preparedRule r) ≡ true → byState s (absentRule (bookkeepingOf r)) (committedRule (bookkeepingOf r)) (preparedRule (bookkeepingOf r)) ≡ true
     rule Absent x = absent x
-    rule Committed x = unfold committedRule in x
-    rule Prepared x = unfold preparedRule in x
+    rule Committed x = unfold committedRule noBefore in x
+    rule Prepared x = unfold preparedRule beforeRule in x
 
 -- Two sheets of whole lines whose keys agree.
 module _ (ps bs : List ℕ) (wp : whole plainBytes ps ≡ true) (wb : whole bookkeepingBytes bs ≡ true)

@@ -6,10 +6,11 @@ use Rattle.lists.specs.Basics.{eqList-true, eqList-refl}
 use lib.ListN.{take-append-drop}
 use Rattle.decimal.specs.Field.{figure, within, scanned, stepped, number, isNumber}
 use Rattle.types.specs.declared.State.the-variants.{Committed}
+use Rattle.types.specs.declared.Before.the-variants as Was
 use Rattle.model.specs.Types.{Column, Record}
-use Rattle.model.specs.Layouts.{recordLayout, keyLayout, imageLayout, columnsLayout, recordBytes, words, keyBytes}
+use Rattle.model.specs.Layouts.{recordLayout, keyLayout, imageLayout, columnsLayout, beforeStateField, recordBytes, words, keyBytes}
 use Rattle.model.specs.Lines.{fieldValue, wordFrom, rowOf, lineSet}
-use Rattle.model.specs.Records.{stateOf, keyOf, imageFrom, noImage, recordIn, recordOf}
+use Rattle.model.specs.Records.{stateOf, beforeOf, keyOf, imageFrom, noImage, recordIn, recordOf}
 use Rattle.model.specs.TwoSheets.{plainLayout, bookkeepingLayout, plainBytes, bookkeepingBytes, stateBytes, columnsBytes, columnsIn, endOf, joinLine, plainLine}
 use Rattle.model.specs.TwoSheets.{bookkeepingLine, plainSaid, bookkeepingSaid, plainRecord, bookkeepingRecord}
 use Rattle.two_laws.specs.Deciding.{keysAgree, fixedState, fixedColumns, fixedRest, fillPlain, fillBookkeeping}
@@ -20,7 +21,7 @@ abbrev pub stateLayout : List Column
 stateLayout = take 3 (drop 5 recordLayout)
 
 abbrev pub restLayout : List Column
-restLayout = drop 10 recordLayout
+restLayout = drop beforeStateField recordLayout
 
 -- what the rows of a line's parts say
 unfoldable pub partsSaid : List ℕ → List ℕ → List ℕ → List ℕ → Record
@@ -29,8 +30,9 @@ partsSaid k m c r =
       key = keyOf k;
       state = stateOf (getD m 0 0);
       image = record { version = getD m 1 0; txid = getD m 2 0; column1 = getD c 0 0; column2 = getD c 1 0 };
-      before = imageFrom 0 r;
-      clock = getD r 4 0;
+      prior = beforeOf (getD r 0 0);
+      before = imageFrom 1 r;
+      clock = getD r 5 0;
     }
 
 abbrev pub partsRecord : List ℕ → List ℕ → List ℕ → List ℕ → Record
@@ -43,6 +45,7 @@ plainOf r =
       key = r .key;
       state = Committed;
       image = record { version = 1; txid = 0; column1 = r .image .column1; column2 = r .image .column2 };
+      prior = Was.Nothing;
       before = noImage;
       clock = 0;
     }
@@ -53,6 +56,7 @@ bookkeepingOf r =
       key = r .key;
       state = r .state;
       image = record { version = r .image .version; txid = r .image .txid; column1 = 0; column2 = 0 };
+      prior = r .prior;
       before = r .before;
       clock = r .clock;
     }
@@ -121,11 +125,15 @@ unfolding fixedState rowOf recordLayout fieldValue wordFrom words bytes eqList f
 state-fixed-row = refl
 
 rest-fixed : fieldsSet restLayout fixedRest ≡ true
-unfolding fixedRest fieldsSet recordLayout fieldValue bytes figure within scanned stepped isNumber
+unfolding fixedRest fieldsSet recordLayout fieldValue wordFrom words bytes eqList figure within scanned stepped isNumber
 rest-fixed = refl
 
-rest-fixed-row : rowOf restLayout fixedRest ≡ 0 ∷ 0 ∷ 0 ∷ 0 ∷ 0 ∷ []
-unfolding fixedRest rowOf recordLayout fieldValue bytes figure within scanned stepped number
+-- nothing before: every number is 0
+abbrev pub noRest : List ℕ
+noRest = 0 ∷ 0 ∷ 0 ∷ 0 ∷ 0 ∷ 0 ∷ []
+
+rest-fixed-row : rowOf restLayout fixedRest ≡ noRest
+unfolding fixedRest rowOf recordLayout fieldValue wordFrom words bytes eqList figure within scanned stepped number
 rest-fixed-row = refl
 
 rest-fixed-set : (e : List ℕ) → lineSet restLayout (fixedRest ++ e) ≡ lineSet [] e
@@ -133,7 +141,7 @@ unfolding fixedRest recordLayout fieldsBytes bytes
 rest-fixed-set e =
     set-append restLayout [] fixedRest e refl ∙ ap (λ (y : Bool). y && lineSet [] e) rest-fixed
 
-rest-fixed-all : (e : List ℕ) → rowOf restLayout (fixedRest ++ e) ≡ 0 ∷ 0 ∷ 0 ∷ 0 ∷ 0 ∷ []
+rest-fixed-all : (e : List ℕ) → rowOf restLayout (fixedRest ++ e) ≡ noRest
 unfolding fixedRest recordLayout fieldsBytes bytes rowOf
 rest-fixed-all e =
     row-append restLayout [] fixedRest e refl ∙ ap (λ (y : List ℕ). y ++ []) rest-fixed-row
@@ -209,9 +217,9 @@ module _ (p : List ℕ) (h : length p ≡ plainBytes) where
       ∙ (fixed k c (r ++ e) (rest-fixed-all e)
       ∙ (sym (plain-of-parts k m c (r ++ e) e key-wide n columns-wide) ∙ ap plainRecord (plain-cut p)))
     where
-      fixed : (k c t : List ℕ) → rowOf restLayout t ≡ 0 ∷ 0 ∷ 0 ∷ 0 ∷ 0 ∷ [] → partsRecord k fixedState c t ≡ plainOf (partsRecord k fixedState c t)
+      fixed : (k c t : List ℕ) → rowOf restLayout t ≡ noRest → partsRecord k fixedState c t ≡ plainOf (partsRecord k fixedState c t)
       fixed k c t x =
-          unfold partsSaid imageFrom stateOf in
+          unfold partsSaid imageFrom stateOf beforeOf in
           ap₂ (λ (v w : List ℕ). partsSaid (rowOf keyLayout k) v (rowOf columnsLayout c) w) state-fixed-row x
 
 -- A bookkeeping line, filled: likewise.

@@ -7,6 +7,13 @@ pub enum State {
     Prepared,
 }
 
+// The before state of a record line: the state word that its before image had. `-` is Nothing.
+pub enum Before {
+    Nothing,
+    Absent,
+    Committed,
+}
+
 // The state of a coordinator line; `-` is Undecided.
 pub enum Decision {
     Undecided,
@@ -56,11 +63,12 @@ pub const NO_IMAGE: Image = Image {
     column2: 0,
 };
 
-// A line of the record sheet. `before` is document 01's before fields, `clock` its prepare clock.
+// A line of the record sheet. `prior` is document 02's before state, `before` document 01's before fields, `clock` its prepare clock.
 pub struct Record {
     pub key: Key,
     pub state: State,
     pub image: Image,
+    pub prior: Before,
     pub before: Image,
     pub clock: u32,
 }
@@ -69,6 +77,7 @@ pub struct Record {
 pub enum Kind {
     Figure,
     StateWord,
+    BeforeWord,
     DecisionWord,
     UnitLetter,
 }
@@ -82,7 +91,7 @@ pub struct Column {
 }
 
 // Bytes of a record line and of a coordinator line, LF counted.
-pub const RECORD_BYTES: usize = 98;
+pub const RECORD_BYTES: usize = 108;
 
 pub const COORDINATOR_BYTES: usize = 15;
 
@@ -97,7 +106,7 @@ pub const MOST_COORDINATOR_BYTES: usize = COORDINATOR_BYTES * 1000;
 pub const LINE_END: usize = COORDINATOR_BYTES - 1;
 
 // Fields of a record line, and of a coordinator's head.
-pub const RECORD_FIELDS: usize = 15;
+pub const RECORD_FIELDS: usize = 16;
 
 pub const HEAD_FIELDS: usize = 10;
 
@@ -108,7 +117,7 @@ pub const TABLE_BYTES: usize = 3;
 
 pub const PARTITION_BYTES: usize = 6;
 
-// Columns of a state or decision word, of the number of a coordinator line, and of a record's version, TxID, column and clock.
+// Columns of a state word, a before state or a decision, of the number of a coordinator line, and of a record's version, TxID, column and clock.
 pub const WORD_BYTES: usize = 10;
 
 pub const NUMBER_BYTES: usize = 4;
@@ -124,7 +133,7 @@ pub const CLOCK_BYTES: usize = 11;
 // Bytes of an image: version, TxID and both columns.
 pub const IMAGE_BYTES: usize = VERSION_BYTES + TXID_BYTES + COLUMN_BYTES + COLUMN_BYTES;
 
-// Where the fields of a record line begin: the key's, its state word, the image, the image before it, the clock.
+// Where the fields of a record line begin: the key's, its state word, the image, the before state, the image before, the clock.
 pub const NAMESPACE_AT: usize = STORAGE_BYTES;
 
 pub const TABLE_AT: usize = NAMESPACE_AT + TABLE_BYTES;
@@ -143,7 +152,9 @@ pub const COLUMN1_AT: usize = TXID_AT + TXID_BYTES;
 
 pub const COLUMN2_AT: usize = COLUMN1_AT + COLUMN_BYTES;
 
-pub const BEFORE_AT: usize = COLUMN2_AT + COLUMN_BYTES;
+pub const BEFORE_STATE_AT: usize = COLUMN2_AT + COLUMN_BYTES;
+
+pub const BEFORE_AT: usize = BEFORE_STATE_AT + WORD_BYTES;
 
 pub const BEFORE_TXID_AT: usize = BEFORE_AT + VERSION_BYTES;
 

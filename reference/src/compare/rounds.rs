@@ -144,7 +144,7 @@ impl Tally {
             self.replay(random, script)
         };
         let scripts = match layout {
-            Joined => 10,
+            Joined => 24,
             Two => 40,
         };
         (0..scripts).map(|_| case()).collect()

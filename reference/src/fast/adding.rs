@@ -21,7 +21,7 @@ pub fn add(records: &mut [u8], coordinator: &[u8], key: Key) -> Result<(), u32> 
     lines.copy_within(place..count, place + 1);
     let line = &mut lines[place];
     write_key(line, &key);
-    line[20..97].copy_from_slice(ABSENT);
+    line[20..107].copy_from_slice(ABSENT);
     // The line that stood here or the spare has its LF already.
     Ok(())
 }

@@ -6,10 +6,10 @@ use crate::plain::transaction::Entry;
 use crate::plain::writes::EXPIRED;
 
 /// The columns from the state word on of a line without a record.
-pub const ABSENT: &[u8; 77] =
-    b"    ABSENT     0   0        0        0     0   0        0        0          0";
-/// The before fields and the clock of a settled line.
-const SETTLED: &[u8; 39] = b"     0   0        0        0          0";
+pub const ABSENT: &[u8; 87] =
+    b"    ABSENT     0   0        0        0         -     0   0        0        0          0";
+/// The before state, the before fields and the clock of a settled line.
+const SETTLED: &[u8; 49] = b"         -     0   0        0        0          0";
 
 /// The words' fifth columns are A, M and E.
 #[inline(always)]
@@ -44,7 +44,7 @@ pub fn owner_has_expired(lines: &[[u8; LINE]], place: usize, now: u32) -> bool {
 /// Whether a prepared line has expired at this reading of the clock.
 fn has_expired(line: &[u8; LINE], now: u32) -> bool {
     // Ten digits are enough for a clock, the first column being blank.
-    EXPIRED.contains(&now.wrapping_sub(figure(&line[87..97])))
+    EXPIRED.contains(&now.wrapping_sub(figure(&line[97..107])))
 }
 
 /// Whether the line is still as the entry has read it.
@@ -72,24 +72,21 @@ pub fn commit(line: &mut [u8; LINE], number: u32, entry: &Entry) {
 
 /// A settled line with a put prepared.
 pub fn prepare(line: &mut [u8; LINE], number: u32, entry: &Entry, now: u32) {
+    // The before fields are set as the line's own, their words too.
+    line.copy_within(20..58, 58);
     line[20..30].copy_from_slice(b"  PREPARED");
-    line.copy_within(30..58, 58);
     put(line, number, entry);
-    set_figure(&mut line[86..97], now);
+    set_figure(&mut line[96..107], now);
 }
 
 /// A prepared line rolled forward.
 pub fn forward(line: &mut [u8; LINE]) {
     line[20..30].copy_from_slice(b" COMMITTED");
-    line[58..97].copy_from_slice(SETTLED);
+    line[58..107].copy_from_slice(SETTLED);
 }
 
 /// A prepared line rolled back.
 pub fn back(line: &mut [u8; LINE]) {
-    if line[58..64] == *b"     0" {
-        line[20..97].copy_from_slice(ABSENT);
-    } else {
-        line.copy_within(58..86, 30);
-        forward(line);
-    }
+    line.copy_within(58..96, 20);
+    line[58..107].copy_from_slice(SETTLED);
 }

@@ -82,8 +82,8 @@ impl Findings {
         judge(&mut self.bad, line, &KINDS[kind]);
         // Worked out for every line: a branch that depends on the state is often guessed wrong.
         self.leaps |= leap(line) * u64::from(kind == PREPARED);
-        self.tx_id = self.tx_id.max(half(line, 36)).max(half(line, 64));
-        self.clock = self.clock.max(word(line, 87));
+        self.tx_id = self.tx_id.max(half(line, 36)).max(half(line, 74));
+        self.clock = self.clock.max(word(line, 97));
     }
 
     fn none(&self) -> bool {
@@ -122,10 +122,13 @@ impl KeyText {
     }
 }
 
+/// Where the lanes start. The last ones judge some bytes a second time, so that none are left over.
+const STARTS: [usize; 7] = [0, 16, 32, 48, 64, 80, PLACES - LANES];
+
 /// Judges each byte by its place. Lanes of 16 bytes become one register, and no lane waits for another.
 #[inline(always)]
 fn judge(bad: &mut [u8; LANES], line: &[u8; LINE], places: &Places) {
-    for start in (0..PLACES).step_by(LANES) {
+    for start in STARTS {
         for (lane, bad) in bad.iter_mut().enumerate() {
             let i = start + lane;
             let byte = line[FIRST + i];
@@ -153,7 +156,7 @@ fn mask(holds: bool) -> u8 {
 fn leap(line: &[u8; LINE]) -> u64 {
     const DIGITS: u64 = 0x0f0f_0f0f_0f0f;
     let version = word(line, 28) & DIGITS;
-    let before = word(line, 56) & DIGITS;
+    let before = word(line, 66) & DIGITS;
     let raised = before + 0xf6f6_f6f6_f6f6 + 1;
     // The bytes that no carry has left still have the 0xf6.
     let kept = (raised >> 4) & 0x0101_0101_0101;
@@ -171,6 +174,6 @@ fn storages_fit(lines: &[[u8; LINE]]) -> bool {
 /// Whether no clock is above 4294967295. Only clocks that begin like that number need a second look.
 fn clocks_fit(lines: &[[u8; LINE]], greatest: u64) -> bool {
     let limit = u64::from_be_bytes(*b"42949672");
-    let fits = |line: &[u8; LINE]| word(line, 87) < limit || [line[95], line[96]] <= *b"95";
+    let fits = |line: &[u8; LINE]| word(line, 97) < limit || [line[105], line[106]] <= *b"95";
     greatest < limit || (greatest == limit && lines.iter().all(fits))
 }

@@ -1,8 +1,8 @@
 //! What may stand at each place of a record line, for each kind of line.
 
 /// Bytes of a record line.
-pub const LINE: usize = 98;
-/// Bytes 0 and 1, a blank and the storage, are judged apart: 96 places are left.
+pub const LINE: usize = 108;
+/// Bytes 0 and 1, a blank and the storage, are judged apart: 106 places are left.
 pub const FIRST: usize = 2;
 pub const PLACES: usize = LINE - FIRST;
 
@@ -20,24 +20,24 @@ pub struct Places {
 const NEVER: u8 = 0xff;
 
 /// The kinds of line in text. `.` is a column of a figure before its last, `d` its last, `n` the last of a figure that
-/// isn't 0, and any other byte stands for itself. A PREPARED line over version 0 is fixed in version and before fields.
+/// isn't 0, and any other byte stands for itself. A PREPARED line over ABSENT is fixed in version and before fields.
 #[rustfmt::skip]
 mod text {
     pub const ABSENT: &[u8; super::LINE] =
-        b" n .n .n ....d ....d    ABSENT     0   0        0        0     0   0        0        0          0\n";
+        b" n .n .n ....d ....d    ABSENT     0   0        0        0         -     0   0        0        0          0\n";
     pub const COMMITTED: &[u8; super::LINE] =
-        b" n .n .n ....d ....d COMMITTED ....n ..d .......d .......d     0   0        0        0          0\n";
-    pub const PREPARED_OVER_NOTHING: &[u8; super::LINE] =
-        b" n .n .n ....d ....d  PREPARED     1 ..n .......d .......d     0   0        0        0 .........d\n";
+        b" n .n .n ....d ....d COMMITTED ....n ..d .......d .......d         -     0   0        0        0          0\n";
+    pub const PREPARED_OVER_ABSENT: &[u8; super::LINE] =
+        b" n .n .n ....d ....d  PREPARED     1 ..n .......d .......d    ABSENT     0   0        0        0 .........d\n";
     pub const PREPARED: &[u8; super::LINE] =
-        b" n .n .n ....d ....d  PREPARED ....n ..n .......d .......d ....n ..d .......d .......d .........d\n";
+        b" n .n .n ....d ....d  PREPARED ....n ..n .......d .......d COMMITTED ....n ..d .......d .......d .........d\n";
 }
 
 /// By `kind`. No good line comes upon the two left over, nor upon the second ABSENT or COMMITTED.
 pub static KINDS: [Places; 8] = [
     places(text::ABSENT),
     places(text::ABSENT),
-    places(text::PREPARED_OVER_NOTHING),
+    places(text::PREPARED_OVER_ABSENT),
     places(text::PREPARED),
     places(text::ABSENT),
     places(text::ABSENT),
@@ -48,11 +48,10 @@ pub static KINDS: [Places; 8] = [
 /// The kind whose version must follow its before version.
 pub const PREPARED: usize = 3;
 
-/// The kind that a line is of if it is good: its word's fifth column is A, E or M, its before version 0 or not.
+/// The kind that a line is of if it is good: its word's fifth column is A, E or M, and that of its before state M or not.
 #[inline(always)]
 pub fn kind(line: &[u8; LINE]) -> usize {
-    let over_a_version = [line[62], line[63]] != *b" 0";
-    usize::from(line[24] & 0b1100) / 2 + usize::from(over_a_version)
+    usize::from(line[24] & 0b1100) / 2 + usize::from(line[62] == b'M')
 }
 
 /// Top, span, open and also of the place that a byte of the text describes.

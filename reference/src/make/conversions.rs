@@ -137,7 +137,7 @@ fn change_rows(random: &mut Random, numbers: &mut Vec<u32>) {
     let row = random.below(rows) * RECORD_NUMBERS;
     let other = random.below(rows) * RECORD_NUMBERS;
     let place = row + random.below(RECORD_NUMBERS);
-    match random.below(16) {
+    match random.below(22) {
         0 | 10 => length(random, numbers, RECORD_NUMBERS),
         1 => numbers.copy_within(row..row + 5, other),
         2 => (0..RECORD_NUMBERS).for_each(|i| numbers.swap(row + i, other + i)),
@@ -147,8 +147,42 @@ fn change_rows(random: &mut Random, numbers: &mut Vec<u32>) {
         13 => drop(numbers.splice(row..row, [0; RECORD_NUMBERS])),
         14 | 15 => spare_row(random, numbers),
         5 | 11 => numbers[row + 5] = random.pick(&[0, 1, 2, 3, 3]),
+        16..=19 => {
+            let row = prepared_row(random, numbers) * RECORD_NUMBERS;
+            numbers[row + 10] = random.pick(&[0, 1, 2, 3, 3]);
+        }
+        20 => without_before_states(random, numbers),
         _ => numbers[place] = random.pick(&EDGES),
     }
+}
+
+/// A row whose state is PREPARED, or any where there is none.
+fn prepared_row(random: &mut Random, numbers: &[u32]) -> usize {
+    let rows = numbers.chunks(RECORD_NUMBERS).enumerate();
+    let prepared = rows.filter(|(_, row)| row.get(5) == Some(&2));
+    let places: Vec<usize> = prepared.map(|(place, _)| place).collect();
+    match places.is_empty() {
+        true => random.below(numbers.len() / RECORD_NUMBERS),
+        false => random.pick(&places),
+    }
+}
+
+/// Rows of 15 numbers, as records were before they had a before state. Sixteen are as long as fifteen of today.
+fn without_before_states(random: &mut Random, numbers: &mut Vec<u32>) {
+    let size = Size {
+        records: random.pick(&[1, 15, 16, 16, 16, 32]),
+        decisions: 3,
+        issued: 2,
+    };
+    let sheet = of_size(random, size, Mix::Thirds).records;
+    let rows = said(
+        Conversion::ReadRecords,
+        sheet,
+        size.records * RECORD_NUMBERS,
+    );
+    let rows = rows.chunks(RECORD_NUMBERS);
+    let narrowed = rows.flat_map(|row| [&row[..10], &row[11..]].concat());
+    *numbers = narrowed.collect();
 }
 
 /// Spares below the others, at times with a number in the last, up to as many rows as there may be or one more.

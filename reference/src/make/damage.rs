@@ -1,11 +1,12 @@
 //! One thing wrong with sheets that were accepted. At times the damage does none: the check decides.
 
+use super::old_lines::{self, old_records, Width};
 use super::random::Random;
 use super::sheets::{self, Mix, Size};
 use super::spares::{is_spare, misplace};
 use super::Sheets;
 
-pub const RECORD_LINE: usize = 98;
+pub const RECORD_LINE: usize = 108;
 pub const COORDINATOR_LINE: usize = 15;
 
 /// A figure of the record line: its first column, the column after it, its range.
@@ -37,16 +38,16 @@ const FIGURES: [Figure; 14] = [
     figure(49, 58, 0, 99_999_999),
     BEFORE_VERSION,
     BEFORE_TX_ID,
-    figure(68, 77, 0, 99_999_999),
-    figure(77, 86, 0, 99_999_999),
+    figure(78, 87, 0, 99_999_999),
+    figure(87, 96, 0, 99_999_999),
     CLOCK,
 ];
 
 const VERSION: Figure = figure(30, 36, 0, 99_999);
 const TX_ID: Figure = figure(36, 40, 0, 999);
-const BEFORE_VERSION: Figure = figure(58, 64, 0, 99_999);
-const BEFORE_TX_ID: Figure = figure(64, 68, 0, 999);
-const CLOCK: Figure = figure(86, 97, 0, 4_294_967_295);
+const BEFORE_VERSION: Figure = figure(68, 74, 0, 99_999);
+const BEFORE_TX_ID: Figure = figure(74, 78, 0, 999);
+const CLOCK: Figure = figure(96, 107, 0, 4_294_967_295);
 
 /// Bytes that a rule names, and bytes beside them.
 pub const TELLING: &[u8] =
@@ -72,12 +73,20 @@ const WORDS: [[u8; 10]; 16] = [
     *b"          ",
 ];
 
+/// Words set as others are that no before state has.
+const SET: [[u8; 10]; 4] = [
+    *b"  PREPARED",
+    *b"   DELETED",
+    *b"   ABORTED",
+    *b"          ",
+];
+
 /// Damages one of the sheets, or what ties them.
 pub fn damage(random: &mut Random, sheets: &mut Sheets) {
     if sheets.records.len() < RECORD_LINE || sheets.coordinator.len() < 2 * COORDINATOR_LINE {
         return; // An earlier damage left nothing to work on.
     }
-    match random.below(31) {
+    match random.below(39) {
         0..=2 => any_byte(random, &mut sheets.records),
         3 => any_byte(random, &mut sheets.coordinator),
         4 => length(random, &mut sheets.records, RECORD_LINE),
@@ -85,7 +94,7 @@ pub fn damage(random: &mut Random, sheets: &mut Sheets) {
         6..=8 => figure_text(random, &mut sheets.records),
         9..=11 => figure_value(random, &mut sheets.records),
         12 | 13 => key_order(random, &mut sheets.records),
-        14 => state_word(random, &mut sheets.records),
+        14 | 36 | 37 => state_word(random, &mut sheets.records),
         15 => state_rule(random, &mut sheets.records),
         16..=18 => lone_field(random, &mut sheets.records),
         19 => line_end(random, &mut sheets.records, RECORD_LINE),
@@ -95,6 +104,8 @@ pub fn damage(random: &mut Random, sheets: &mut Sheets) {
         25 => decision(random, &mut sheets.coordinator),
         26 => above_the_count(random, &mut sheets.coordinator),
         27..=29 => misplace(random, &mut sheets.records, RECORD_LINE),
+        30..=34 => before_state(random, &mut sheets.records, old_lines::RECORDS),
+        35 => *sheets = old_records(random),
         _ => size(random, sheets),
     }
 }
@@ -118,6 +129,17 @@ fn some_start(random: &mut Random, sheet: &[u8], line: usize) -> usize {
 fn some_line<'a>(random: &mut Random, sheet: &'a mut [u8], line: usize) -> &'a mut [u8] {
     let start = some_start(random, sheet, line);
     &mut sheet[start..start + line]
+}
+
+/// The same of a line that is PREPARED, if there is one.
+fn prepared_line<'a>(random: &mut Random, sheet: &'a mut [u8], line: usize) -> &'a mut [u8] {
+    let lines = sheet.chunks_exact(line).enumerate();
+    let prepared = lines.filter(|(_, line)| line[20..30] == *b"  PREPARED");
+    let places: Vec<usize> = prepared.map(|(place, _)| place).collect();
+    match places.is_empty() {
+        true => some_line(random, sheet, line),
+        false => &mut sheet[random.pick(&places) * line..][..line],
+    }
 }
 
 /// Sets a figure; one too wide loses its first digits.
@@ -214,14 +236,39 @@ fn swap(sheet: &mut [u8], one: usize, other: usize, length: usize) {
     }
 }
 
+/// Another word for the state or for what the line was before.
 fn state_word(random: &mut Random, sheet: &mut [u8]) {
-    let word = &mut some_line(random, sheet, RECORD_LINE)[20..30];
-    match random.below(5) {
+    let line = prepared_line(random, sheet, RECORD_LINE);
+    let word = match random.once_in(2) {
+        true => &mut line[20..30],
+        false => &mut line[58..68],
+    };
+    match random.below(8) {
         0 => word.make_ascii_lowercase(),
         1 => word.rotate_left(word.iter().take_while(|b| **b == b' ').count()),
         2 => word[0] = random.pick(TELLING),
-        _ => word.copy_from_slice(&random.pick(&WORDS)),
+        3 => word.copy_from_slice(&random.pick(&WORDS)),
+        _ => word.copy_from_slice(&random.pick(&SET)),
     }
+}
+
+/// Another before state, whatever the state is and the before fields are; at times a word that is none.
+pub fn before_state(random: &mut Random, sheet: &mut [u8], width: Width) {
+    if sheet.len() < width.line {
+        return;
+    }
+    let line = match random.once_in(3) {
+        true => prepared_line(random, sheet, width.line),
+        false => some_line(random, sheet, width.line),
+    };
+    let word = &mut line[width.before_state..][..10];
+    let mut others = vec![*b"         -", *b"    ABSENT", *b" COMMITTED"];
+    others.retain(|other| word != *other);
+    let other = match random.once_in(3) {
+        true => random.pick(&SET),
+        false => random.pick(&others),
+    };
+    word.copy_from_slice(&other);
 }
 
 /// A line that ends in another byte.
@@ -250,17 +297,21 @@ fn state_rule(random: &mut Random, sheet: &mut [u8]) {
 /// The least line of a state, with one field more than it may have or one less.
 fn lone_field(random: &mut Random, sheet: &mut [u8]) {
     let line = some_line(random, sheet, RECORD_LINE);
-    let (word, version, tx_id) = random.pick(&[
-        (b"    ABSENT", 0, 0),
-        (b" COMMITTED", 1, 0),
-        (b"  PREPARED", 1, 1),
+    let (words, [version, tx_id, before_version]) = random.pick(&[
+        ([b"    ABSENT", b"         -"], [0, 0, 0]),
+        ([b" COMMITTED", b"         -"], [1, 0, 0]),
+        ([b"  PREPARED", b"    ABSENT"], [1, 1, 0]),
+        ([b"  PREPARED", b" COMMITTED"], [2, 1, 1]),
     ]);
-    line[20..30].copy_from_slice(word);
+    line[20..30].copy_from_slice(words[0]);
+    line[58..68].copy_from_slice(words[1]);
     for figure in &FIGURES[5..] {
         set_figure(&mut line[figure.start..figure.end], 0);
     }
     set_figure(&mut line[VERSION.start..VERSION.end], version);
     set_figure(&mut line[TX_ID.start..TX_ID.end], tx_id);
+    let columns = &mut line[BEFORE_VERSION.start..BEFORE_VERSION.end];
+    set_figure(columns, before_version);
     let figure = &FIGURES[5 + random.below(9)];
     let columns = &mut line[figure.start..figure.end];
     let changed = 1 - figure_of(columns).min(1);

@@ -15,6 +15,7 @@ pub mod forge;
 pub mod halfway;
 pub mod history;
 pub mod lists;
+pub mod old_lines;
 pub mod orders;
 pub mod random;
 pub mod requests;

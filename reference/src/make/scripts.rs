@@ -346,8 +346,8 @@ fn unfit(random: &mut Random, seen: &mut Seen, script: &mut Script, good: &Line)
     }
 }
 
-/// Calls of every kind on sheets that are damaged or forged, and lines of any form. On two sheets they are few, since there
-/// is more to be damaged.
+/// Calls of every kind on sheets that are damaged or forged, and lines of any form. They are few, since there is much that can
+/// be damaged, and more of it on two sheets.
 pub fn damaged(random: &mut Random, seen: &mut Seen, layout: Layout) -> Script {
     let mut sheets = accepted(random);
     letters(random, layout, &mut sheets);
@@ -355,7 +355,7 @@ pub fn damaged(random: &mut Random, seen: &mut Seen, layout: Layout) -> Script {
     let records = &store.records;
     let mut script = Script::on(damaged_sheets(random, layout, sheets));
     let calls = match layout {
-        Layout::Joined => 12,
+        Layout::Joined => 5,
         Layout::Two => 4,
     };
     for _ in 0..calls {

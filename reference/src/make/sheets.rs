@@ -1,6 +1,7 @@
 //! Accepted sheets of every size, written by the standard library's formatting and not by `plain`.
 
 use super::arguments::close_keys;
+use super::damage::RECORD_LINE;
 use super::expiry::apart;
 use super::random::Random;
 use super::spares::{end_in_any_spares, end_in_spares, is_spare};
@@ -73,7 +74,8 @@ pub fn crowded(random: &mut Random) -> Sheets {
 pub fn of_several_storages(random: &mut Random) -> Sheets {
     loop {
         let sheets = crowded(random);
-        let lines = sheets.records.chunks(98).filter(|line| !is_spare(line));
+        let lines = sheets.records.chunks(RECORD_LINE);
+        let lines = lines.filter(|line| !is_spare(line));
         let storages: BTreeSet<&[u8]> = lines.map(|line| &line[..2]).collect();
         if storages.len() > 1 {
             return sheets;
@@ -119,7 +121,7 @@ fn record_sheet(
     issued: usize,
     mix: Mix,
 ) -> Vec<u8> {
-    let mut text = String::with_capacity(keys.len() * 98);
+    let mut text = String::with_capacity(keys.len() * RECORD_LINE);
     // In half the sheets clocks lie near one another, so that of a number's lines some have expired and some haven't.
     let near = random.figure(0, u32::MAX);
     let near = random.once_in(2).then_some(near);
@@ -161,20 +163,24 @@ fn after_key(random: &mut Random, issued: u32, mix: Mix, near: Option<u32>) -> S
         Mix::Thirds => random.below(3),
     };
     match state {
-        0 => fields("ABSENT", [0; 4], [0; 4], 0),
+        0 => settled("ABSENT", [0; 4]),
         2 if issued > 0 => prepared(random, issued, near),
         // Without an issued number no line can be PREPARED.
-        _ => fields("COMMITTED", image(random, issued), [0; 4], 0),
+        _ => settled("COMMITTED", image(random, issued)),
     }
 }
 
+fn settled(state: &str, image: [u32; 4]) -> String {
+    fields(state, image, "-", [0; 4], 0)
+}
+
 fn prepared(random: &mut Random, issued: u32, near: Option<u32>) -> String {
-    let before = if random.once_in(4) {
-        [0; 4]
+    let (before_state, before) = if random.once_in(3) {
+        ("ABSENT", [0; 4])
     } else {
         let mut image = image(random, issued);
         image[0] = image[0].min(99_998);
-        image
+        ("COMMITTED", image)
     };
     let mut image = image(random, issued);
     image[0] = before[0] + 1;
@@ -184,7 +190,7 @@ fn prepared(random: &mut Random, issued: u32, near: Option<u32>) -> String {
         None if random.once_in(8) => 4_294_967_000 + random.below(296) as u32,
         None => random.figure(0, u32::MAX),
     };
-    fields("PREPARED", image, before, clock)
+    fields("PREPARED", image, before_state, before, clock)
 }
 
 /// Version from 1, TxID, column 1, column 2.
@@ -197,10 +203,16 @@ fn image(random: &mut Random, issued: u32) -> [u32; 4] {
     ]
 }
 
-fn fields(state: &str, image: [u32; 4], before: [u32; 4], clock: u32) -> String {
+fn fields(
+    state: &str,
+    image: [u32; 4],
+    before_state: &str,
+    before: [u32; 4],
+    clock: u32,
+) -> String {
     let image = image_text(image);
     let before = image_text(before);
-    format!("{state:>10}{image}{before}{clock:>11}")
+    format!("{state:>10}{image}{before_state:>10}{before}{clock:>11}")
 }
 
 fn image_text([version, tx_id, column_1, column_2]: [u32; 4]) -> String {

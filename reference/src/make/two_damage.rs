@@ -1,6 +1,7 @@
 //! Two sheets of which one is damaged, or both alike, or that don't join. At times the damage does none: the check decides.
 
-use super::damage::damage_coordinator;
+use super::damage::{before_state, damage_coordinator};
+use super::old_lines::{self, old_bookkeeping};
 use super::random::Random;
 use super::scripts::damaged_or_forged;
 use super::sheets::{of_size, Mix, Size};
@@ -58,7 +59,7 @@ pub fn damaged_two(random: &mut Random, sheets: &Sheets) -> TwoSheets {
 /// Something wrong with one of the sheets alone.
 fn spoil_one(random: &mut Random, sheets: &Sheets, two: &mut TwoSheets) {
     let part = Part::any(random);
-    match random.below(11) {
+    match random.below(13) {
         0 => twice(random, part, two),
         1 => other_size(random, part, two),
         2 => key_beyond(random, part, two),
@@ -69,6 +70,8 @@ fn spoil_one(random: &mut Random, sheets: &Sheets, two: &mut TwoSheets) {
             let (sheet, line) = part.of(two);
             misplace(random, sheet, line);
         }
+        8 => *two = old_bookkeeping(random),
+        9 => before_state(random, &mut two.bookkeeping, old_lines::BOOKKEEPING),
         _ => {
             let mut damaged = TwoSheets::of(&damaged_or_forged(random, sheets.clone()));
             *part.of(two).0 = part.of(&mut damaged).0.clone();
@@ -158,8 +161,8 @@ fn columns_beyond(random: &mut Random, two: &mut TwoSheets) {
 /// Where nothing is left of a line but its columns, each sheet may stand alone and the joined one may not.
 fn absent_with_columns(random: &mut Random, two: &mut TwoSheets) {
     let line = random.below(two.bookkeeping.len() / BOOKKEEPING_LINE);
-    let rest = b"    ABSENT     0   0     0   0        0        0          0\n";
-    two.bookkeeping[line * BOOKKEEPING_LINE + 20..][..60].copy_from_slice(rest);
+    let rest = b"    ABSENT     0   0         -     0   0        0        0          0\n";
+    two.bookkeeping[line * BOOKKEEPING_LINE + 20..][..70].copy_from_slice(rest);
     if random.once_in(2) {
         let columns = random.pick(&[b"        0        1", b"        1        0"]);
         two.plain[line * PLAIN_LINE + 20..][..18].copy_from_slice(columns);

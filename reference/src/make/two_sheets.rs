@@ -9,7 +9,7 @@ use std::fmt;
 
 /// Bytes of a line of each sheet, LF counted.
 pub const PLAIN_LINE: usize = 39;
-pub const BOOKKEEPING_LINE: usize = 80;
+pub const BOOKKEEPING_LINE: usize = 90;
 
 /// What a call on two sheets is called with.
 #[derive(Clone, Debug, PartialEq, Eq)]
@@ -25,7 +25,7 @@ impl TwoSheets {
         let mut plain = Vec::new();
         let mut bookkeeping = Vec::new();
         for line in sheets.records.chunks_exact(RECORD_LINE) {
-            plain.extend([&line[..20], &line[40..58], &line[97..]].concat());
+            plain.extend([&line[..20], &line[40..58], &line[107..]].concat());
             bookkeeping.extend([&line[..40], &line[58..]].concat());
         }
         TwoSheets {

@@ -1,8 +1,9 @@
 //! Inputs of the visiting program, good ones and damaged ones.
 
 use super::arguments::clock;
-use super::damage::TELLING;
+use super::damage::{before_state, TELLING};
 use super::halfway::halfway;
+use super::old_lines::{self, old_records};
 use super::random::Random;
 use super::sheets::{accepted, crowded, of_size, spread, Mix, Size};
 use super::spares::fill_up;
@@ -25,7 +26,7 @@ pub fn cases(random: &mut Random, seen: &mut Seen) -> Vec<Case> {
 }
 
 fn input(random: &mut Random) -> Vec<u8> {
-    match random.below(9) {
+    match random.below(10) {
         0..=2 | 8 => {
             let sheets = match random.below(6) {
                 0 | 1 => accepted(random),
@@ -47,11 +48,22 @@ fn input(random: &mut Random) -> Vec<u8> {
             text(&sheets, random.pick(&[0, 4_294_967_295, 4_294_967_296]))
         }
         5 => text(&any(random), random.draw() % 4_294_967_296),
+        9 => text(&of_another_form(random), 20_000),
         _ => {
             let sheets = accepted(random);
             damaged_text(random, text(&sheets, 20_000))
         }
     }
+}
+
+/// A line's before state is any, or no line has one.
+fn of_another_form(random: &mut Random) -> Sheets {
+    if random.once_in(6) {
+        return old_records(random);
+    }
+    let mut sheets = crowded(random);
+    before_state(random, &mut sheets.records, old_lines::RECORDS);
+    sheets
 }
 
 /// A first line that fits, as far as the sheets have whole lines, and both sheets.

@@ -19,6 +19,7 @@ pub mod transaction;
 pub mod two_sheets;
 pub mod visitor;
 pub mod well_formed;
+pub mod words;
 pub mod writes;
 pub mod written;
 
@@ -68,9 +69,9 @@ pub const NO_SPARE: u32 = 15;
 /// A line to be removed isn't ABSENT of version 0.
 pub const NOT_REMOVABLE: u32 = 16;
 
-/// The version of the functions for C: 2.3.0.
+/// The version of the functions for C: 3.0.0.
 pub fn version() -> u32 {
-    20_300
+    30_000
 }
 
 /// 0 where both sheets are accepted, else the refusal.

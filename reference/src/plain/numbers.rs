@@ -1,18 +1,19 @@
 //! Sheets to rows of numbers and back, as they are lent from C.
 //!
-//! A record is 15 numbers in the order of its fields, the state as ABSENT 0, COMMITTED 1, PREPARED 2. A coordinator is
-//! the issued count, nine units (R 0, P 1, T 2, N 3, S 4) and for each line `-` 0, COMMITTED 1, ABORTED 2. A spare is a
-//! record whose numbers are all 0, and stands last, as its line does.
+//! A record is 16 numbers in the order of its fields, the state as ABSENT 0, COMMITTED 1, PREPARED 2, and the before state as
+//! `-` 0, ABSENT 1, COMMITTED 2. A coordinator is the issued count, nine units (R 0, P 1, T 2, N 3, S 4) and for each line
+//! `-` 0, COMMITTED 1, ABORTED 2. A spare is a record whose numbers are all 0, and stands last, as its line does.
 //! A refusal leaves the target as it was.
 
 use super::coordinator::{self, Coordinator, Decision, Unit};
 use super::key::Key;
-use super::record::{self, Image, Record, STATES};
+use super::record::{self, Image, Record};
 use super::spares::{above_spares, is_spare_row};
+use super::words::{BEFORES, STATES};
 use super::{ACCEPTED, BAD_COORDINATOR, BAD_RECORDS};
 
 /// Numbers of one record.
-pub const RECORD_NUMBERS: usize = 15;
+pub const RECORD_NUMBERS: usize = 16;
 /// Numbers of a coordinator before its decisions.
 pub const HEAD_NUMBERS: usize = 10;
 
@@ -52,8 +53,9 @@ fn write_record_numbers(target: &mut [u32], record: &Record) {
     target[0..5].copy_from_slice(&record.key.numbers());
     target[5] = number_of(&STATES, record.state);
     target[6..10].copy_from_slice(&image_numbers(&record.image));
-    target[10..14].copy_from_slice(&image_numbers(&record.before));
-    target[14] = record.prepare_clock;
+    target[10] = number_of(&BEFORES, record.before_state);
+    target[11..15].copy_from_slice(&image_numbers(&record.before));
+    target[15] = record.prepare_clock;
 }
 
 fn record_from(n: &[u32]) -> Option<Record> {
@@ -61,8 +63,9 @@ fn record_from(n: &[u32]) -> Option<Record> {
         key: Key::from_numbers([n[0], n[1], n[2], n[3], n[4]]),
         state: chosen(&STATES, n[5])?,
         image: image_from(&n[6..10]),
-        before: image_from(&n[10..14]),
-        prepare_clock: n[14],
+        before_state: chosen(&BEFORES, n[10])?,
+        before: image_from(&n[11..15]),
+        prepare_clock: n[15],
     })
 }
 
@@ -73,7 +76,7 @@ fn records_from(numbers: &[u32]) -> Option<Vec<Record>> {
     records.filter(|r| record::keep_rules(r))
 }
 
-/// Record sheet to records: 15 numbers for each whole line.
+/// Record sheet to records: 16 numbers for each whole line.
 pub fn records_to_numbers(sheet: &[u8], target: &mut [u32]) -> u32 {
     if target.len() != sheet.len() / record::LINE * RECORD_NUMBERS {
         return BAD_RECORDS;
@@ -89,7 +92,7 @@ pub fn records_to_numbers(sheet: &[u8], target: &mut [u32]) -> u32 {
     ACCEPTED
 }
 
-/// Records to record sheet: 98 bytes for each whole record.
+/// Records to record sheet: 108 bytes for each whole record.
 pub fn numbers_to_records(numbers: &[u32], target: &mut [u8]) -> u32 {
     if target.len() != numbers.len() / RECORD_NUMBERS * record::LINE {
         return BAD_RECORDS;

@@ -1,20 +1,14 @@
 //! The record sheet: its lines, the rules of each state and the order of keys.
 
-use super::field::{is_word, read_figure, write_figure, write_word};
+use super::field::{read_figure, write_figure, write_word};
 use super::key::Key;
 use super::spares::{above_spares, is_spare_line, write_spare_line};
+pub use super::words::{Before, State};
 
 /// Bytes of a record line, LF counted.
-pub const LINE: usize = 98;
+pub const LINE: usize = 108;
 /// The most lines a record sheet may have, spares counted.
 pub const MOST_LINES: usize = 500;
-
-#[derive(Clone, Copy, Debug, PartialEq, Eq)]
-pub enum State {
-    Absent,
-    Committed,
-    Prepared,
-}
 
 /// What a line says of its record at one version; the before fields are a second image.
 #[derive(Clone, Copy, Debug, PartialEq, Eq)]
@@ -31,6 +25,7 @@ pub struct Record {
     pub key: Key,
     pub state: State,
     pub image: Image,
+    pub before_state: Before,
     pub before: Image,
     pub prepare_clock: u32,
 }
@@ -68,6 +63,7 @@ impl Record {
             key,
             state: State::Absent,
             image: NOTHING,
+            before_state: Before::Nothing,
             before: NOTHING,
             prepare_clock: 0,
         }
@@ -84,35 +80,30 @@ impl Record {
     }
 
     fn keeps_state_rule(&self) -> bool {
-        let unprepared = self.before == NOTHING && self.prepare_clock == 0;
         match self.state {
-            State::Absent => self.image == NOTHING && unprepared,
-            State::Committed => self.image.version >= 1 && unprepared,
+            State::Absent => self.image == NOTHING && self.is_unprepared(),
+            State::Committed => self.image.version >= 1 && self.is_unprepared(),
             State::Prepared => {
                 self.image.tx_id >= 1
                     && self.image.version == self.before.version + 1
-                    && (self.before.version >= 1 || self.before == NOTHING)
+                    && self.before_fits()
             }
         }
     }
-}
 
-/// The word for each state.
-pub fn state_word(state: State) -> &'static str {
-    match state {
-        State::Absent => "ABSENT",
-        State::Committed => "COMMITTED",
-        State::Prepared => "PREPARED",
+    /// Whether there is nothing that only a prepared line has.
+    fn is_unprepared(&self) -> bool {
+        self.before_state == Before::Nothing && self.before == NOTHING && self.prepare_clock == 0
     }
-}
 
-/// In the order of their numbers.
-pub const STATES: [State; 3] = [State::Absent, State::Committed, State::Prepared];
-
-pub(super) fn read_state(columns: &[u8]) -> Option<State> {
-    STATES
-        .into_iter()
-        .find(|s| is_word(columns, state_word(*s)))
+    /// Whether a prepared line can come back to what its before fields say.
+    fn before_fits(&self) -> bool {
+        match self.before_state {
+            Before::Nothing => false,
+            Before::Absent => self.before == NOTHING,
+            Before::Committed => self.before.version >= 1,
+        }
+    }
 }
 
 pub(super) fn read_key(columns: &[u8]) -> Option<Key> {
@@ -134,17 +125,18 @@ pub(super) fn read_image(columns: &[u8]) -> Option<Image> {
     })
 }
 
-/// The fields of one line of 98 bytes, if each is well set; ranges and rules are not looked at.
+/// The fields of one line of 108 bytes, if each is well set; ranges and rules are not looked at.
 fn read_line(line: &[u8]) -> Option<Record> {
-    if line[97] != b'\n' {
+    if line[107] != b'\n' {
         return None;
     }
     Some(Record {
         key: read_key(&line[0..20])?,
-        state: read_state(&line[20..30])?,
+        state: State::read(&line[20..30])?,
         image: read_image(&line[30..58])?,
-        before: read_image(&line[58..86])?,
-        prepare_clock: read_figure(&line[86..97])?,
+        before_state: Before::read(&line[58..68])?,
+        before: read_image(&line[68..96])?,
+        prepare_clock: read_figure(&line[96..107])?,
     })
 }
 
@@ -176,14 +168,15 @@ pub(super) fn write_image(columns: &mut [u8], image: &Image) {
     write_figure(&mut columns[19..28], image.column_2);
 }
 
-/// Writes a record that keeps the rules as one line of 98 bytes.
+/// Writes a record that keeps the rules as one line of 108 bytes.
 fn write_line(line: &mut [u8], record: &Record) {
     write_key(&mut line[0..20], &record.key);
-    write_word(&mut line[20..30], state_word(record.state));
+    write_word(&mut line[20..30], record.state.word());
     write_image(&mut line[30..58], &record.image);
-    write_image(&mut line[58..86], &record.before);
-    write_figure(&mut line[86..97], record.prepare_clock);
-    line[97] = b'\n';
+    write_word(&mut line[58..68], record.before_state.word());
+    write_image(&mut line[68..96], &record.before);
+    write_figure(&mut line[96..107], record.prepare_clock);
+    line[107] = b'\n';
 }
 
 /// Writes records that keep the rules to a sheet of at least as many lines, and spares below them.

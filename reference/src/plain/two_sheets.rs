@@ -4,14 +4,14 @@
 use super::field::{read_figure, write_figure, write_word};
 use super::key::Key;
 use super::rank::Rank;
-use super::record::{self, state_word, Image, Record};
+use super::record::{self, Before, Image, Record, State};
 use super::spares::{above_spares, is_spare_line, write_spare_line};
 use super::store::Store;
 use super::{require, ACCEPTED, BAD_RECORDS, SHEETS_DIFFER};
 
 /// Bytes of a line of each sheet, LF counted.
 pub const PLAIN_LINE: usize = 39;
-pub const BOOKKEEPING_LINE: usize = 80;
+pub const BOOKKEEPING_LINE: usize = 90;
 
 /// The sheets by the numbers that name them.
 pub const PLAIN: u32 = 0;
@@ -43,12 +43,13 @@ fn read_bookkeeping_line(line: &[u8]) -> Option<Record> {
     };
     let read = Record {
         key: record::read_key(&line[0..20])?,
-        state: record::read_state(&line[20..30])?,
+        state: State::read(&line[20..30])?,
         image,
-        before: record::read_image(&line[40..68])?,
-        prepare_clock: read_figure(&line[68..79])?,
+        before_state: Before::read(&line[40..50])?,
+        before: record::read_image(&line[50..78])?,
+        prepare_clock: read_figure(&line[78..89])?,
     };
-    (line[79] == b'\n').then_some(read)
+    (line[89] == b'\n').then_some(read)
 }
 
 /// The lines of a plain sheet that refusal 1 lets pass alone, its spares left away.
@@ -111,12 +112,13 @@ fn write_plain_line(line: &mut [u8], record: &Record) {
 
 fn write_bookkeeping_line(line: &mut [u8], record: &Record) {
     record::write_key(&mut line[0..20], &record.key);
-    write_word(&mut line[20..30], state_word(record.state));
+    write_word(&mut line[20..30], record.state.word());
     write_figure(&mut line[30..36], record.image.version);
     write_figure(&mut line[36..40], record.image.tx_id);
-    record::write_image(&mut line[40..68], &record.before);
-    write_figure(&mut line[68..79], record.prepare_clock);
-    line[79] = b'\n';
+    write_word(&mut line[40..50], record.before_state.word());
+    record::write_image(&mut line[50..78], &record.before);
+    write_figure(&mut line[78..89], record.prepare_clock);
+    line[89] = b'\n';
 }
 
 /// Writes records that keep the rules to two sheets of at least as many lines, and spares below them.

@@ -1,6 +1,6 @@
 //! What a write makes of a line, and when a prepared line has expired.
 
-use super::record::{Image, Record, State, NOTHING};
+use super::record::{Before, Image, Record, State, NOTHING};
 
 /// Ticks after which a prepared line has expired, and the last at which it counts so: beyond, the clock has gone back.
 pub const EXPIRED: std::ops::RangeInclusive<u32> = 15_000..=2_147_483_647;
@@ -18,15 +18,12 @@ impl Image {
 }
 
 impl Record {
-    /// The line settled at an image; at version 0 there is no record.
-    fn settled(self, image: Image) -> Record {
-        let state = match image.version {
-            0 => State::Absent,
-            _ => State::Committed,
-        };
+    /// The line in a state that isn't prepared, with this image.
+    fn settled(self, state: State, image: Image) -> Record {
         Record {
             state,
             image,
+            before_state: Before::Nothing,
             before: NOTHING,
             prepare_clock: 0,
             ..self
@@ -35,7 +32,7 @@ impl Record {
 
     /// The line with a put committed at once.
     pub fn committed(self, number: u32, columns: [u32; 2]) -> Record {
-        self.settled(self.image.after_put(number, columns))
+        self.settled(State::Committed, self.image.after_put(number, columns))
     }
 
     /// The line with a put prepared. What the line holds, and not what was read, becomes the before image.
@@ -43,6 +40,7 @@ impl Record {
         Record {
             state: State::Prepared,
             image: self.image.after_put(number, columns),
+            before_state: Before::of(self.state),
             before: self.image,
             prepare_clock: now,
             ..self
@@ -51,12 +49,12 @@ impl Record {
 
     /// A prepared line rolled forward.
     pub fn forward(self) -> Record {
-        self.settled(self.image)
+        self.settled(State::Committed, self.image)
     }
 
-    /// A prepared line rolled back.
+    /// A prepared line rolled back: its before image in its before state.
     pub fn back(self) -> Record {
-        self.settled(self.before)
+        self.settled(self.before_state.state(), self.before)
     }
 
     pub fn is_prepared_by(&self, number: u32) -> bool {

@@ -1,9 +1,10 @@
 //! What a comparison has seen: every refusal of every call, every step from phase to phase, every report of a close, where
-//! keys stood, which sheets had spares, where lines were added and removed, and where it mattered that a number has several
-//! lines, counted.
+//! keys stood, which sheets had spares, which before states lines had, where lines were added and removed, and where it
+//! mattered that a number has several lines, counted.
 
 mod adding;
 mod answers;
+mod before_states;
 mod by_place;
 mod clients;
 mod closes;
@@ -17,7 +18,7 @@ mod two_sheets;
 
 use crate::compare::ranked::Ranked;
 use crate::compare::Case;
-use crate::conversions::Conversion;
+use crate::conversions::{self, Conversion};
 use crate::exported::{refusal_of, Call, Lent};
 use crate::plain::by_place::ADVANCE;
 use crate::plain::key::Key;
@@ -31,6 +32,7 @@ pub use adding::Removed;
 
 use adding::{Adding, Change};
 use answers::{count, Answers, Row};
+use before_states::BeforeStates;
 use by_place::ByPlace;
 use clients::Clients;
 use closes::Closes;
@@ -103,6 +105,7 @@ pub struct Seen {
     closes: Closes,
     ranks: Ranks,
     spares: Spares,
+    before_states: BeforeStates,
     adding: Adding,
     changes: [u64; 4],
     /// How often it was told beside a call what it has written. It isn't counted as a call.
@@ -128,6 +131,7 @@ impl Default for Seen {
             closes: Closes::default(),
             ranks: Ranks::default(),
             spares: Spares::default(),
+            before_states: BeforeStates::default(),
             adding: Adding::default(),
             changes: [0; 4],
             told_beside: 0,
@@ -201,6 +205,8 @@ impl Seen {
         // A line handed back, or none, tells no refusal.
         if !matches!(line, Line::LineOf { .. }) {
             self.spares.note(REPLAY, refusal, before);
+            self.before_states
+                .note(before_states::REPLAY, refusal, before);
         }
         let sheets = match before {
             LaidOut::Joined(sheets) => sheets,
@@ -239,9 +245,7 @@ impl Seen {
                 ..
             } => {
                 self.exported.note(conversion_of(*conversion), *answer);
-                if *conversion == Conversion::ReadRecords {
-                    self.spares.note_joined(TO_NUMBERS, *answer, &lent.sheet);
-                }
+                self.note_conversion(*conversion, lent, *answer);
             }
             Case::Written { answer, .. } => {
                 self.exported.note(WRITTEN, answer.saturating_sub(1_000));
@@ -249,6 +253,19 @@ impl Seen {
             }
             Case::Rank(ranked) => self.note_rank(ranked),
             _ => {}
+        }
+    }
+
+    /// Notes what stood in records that were converted, by the length of the target too.
+    fn note_conversion(&mut self, conversion: Conversion, lent: &conversions::Lent, answer: u32) {
+        let states = &mut self.before_states;
+        match conversion {
+            Conversion::ReadRecords => {
+                self.spares.note_joined(TO_NUMBERS, answer, &lent.sheet);
+                states.note_joined(before_states::TO_NUMBERS, answer, &lent.sheet);
+            }
+            Conversion::WriteRecords => states.note_numbers(answer, &lent.numbers),
+            Conversion::ReadCoordinator | Conversion::WriteCoordinator => {}
         }
     }
 
@@ -281,6 +298,8 @@ impl Seen {
         let refusal = refusal_of(call, answer);
         if *call != Call::Version {
             self.spares.note(FOR_C, refusal, &lent.sheets);
+            self.before_states
+                .note(before_states::FOR_C, refusal, &lent.sheets);
         }
         match call {
             Call::Check => exported.note(0, refusal),
@@ -333,6 +352,8 @@ impl Seen {
             self.visitor.note(0, refusal);
             if let Some((_, records, _)) = visitor::parts(input) {
                 self.spares.note_joined(ON_VISITS, refusal, &records);
+                self.before_states
+                    .note_joined(before_states::ON_VISITS, refusal, &records);
             }
         }
     }
@@ -370,6 +391,7 @@ impl Seen {
         amiss.extend(self.closes.amiss("close"));
         amiss.extend(self.ranks.amiss());
         amiss.extend(self.spares.amiss());
+        amiss.extend(self.before_states.amiss());
         amiss.extend(self.adding.amiss());
         amiss.extend(self.by_place.amiss());
         amiss.extend(unseen("written", &CHANGES, &self.changes));
@@ -408,14 +430,14 @@ fn named(names: &[&str], counts: &[u64]) -> String {
 
 impl fmt::Display for Seen {
     /// The answers of each call in a replay, the steps from phase to phase, how closes ended, where keys stood, which sheets
-    /// had spares and what was added and removed, the same of the functions for C, the answers of the visiting program, where
-    /// several lines of a number mattered, and the same on two sheets.
+    /// had spares, which before states lines had and what was added and removed, the same of the functions for C, the answers
+    /// of the visiting program, where several lines of a number mattered, and the same on two sheets.
     fn fmt(&self, out: &mut fmt::Formatter) -> fmt::Result {
         writeln!(out, "{}\n\n{}\n", self.lines, self.steps)?;
         writeln!(
             out,
-            "{}\n\n{}\n\n{}\n\n{}\n",
-            self.closes, self.ranks, self.spares, self.adding
+            "{}\n\n{}\n\n{}\n\n{}\n\n{}\n",
+            self.closes, self.ranks, self.spares, self.before_states, self.adding
         )?;
         writeln!(out, "for C\n{}\n", self.exported)?;
         writeln!(out, "for C, by place\n{}", self.by_place)?;

@@ -1,7 +1,7 @@
 -- One turn writes line i: those before it are in the target.
 use Rattle.lists.specs.Basics.{_≡_, refl, _∙_, _+_, _-_, _*_, length, length-take, length-drop, arith, needs}
 use Rattle.model.specs.Layouts.{layout, recordLayout, recordBytes}
-use Rattle.model.specs.Records.{stateNumber, keyNumbers, imageNumbers, recordNumbers, recordText}
+use Rattle.model.specs.Records.{stateNumber, beforeNumber, keyNumbers, imageNumbers, recordNumbers, recordText}
 use Rattle.sheet_laws.specs.Lines.{lineBytes}
 use Rattle.greatest.specs.Filling.{LaidTo, laid-first, laid-next, laid-last}
 use Rattle.greatest.proofs.fill_lines.Statement.{statement}
@@ -21,7 +21,7 @@ unfolding layout recordLayout lineBytes
 write-row-requires c κs = (refl, simp (length-take, length-drop) (omega arith))
 
 loop-again : tie.Need-loop-again Inv-loop μ-loop
-unfolding layout stateNumber keyNumbers imageNumbers recordNumbers recordText
+unfolding layout stateNumber beforeNumber keyNumbers imageNumbers recordNumbers recordText
 loop-again c =
     let a = c .before .before .before .before .before .before .before .before .args in
     let k : length (c .before .before .write-row .last .1 .1 .0) ≡ c .before .before .before .before .before .before .loop .i * recordBytes + recordBytes - c .before .before .before .before .before .before .loop .i * recordBytes =

@@ -4,7 +4,7 @@ use Rattle.greatest_rows.proofs.main.Statement.{statement}
 use Rattle.greatest_rows.proofs.main.Tie as tie
 
 abbrev Inv-loop : tie.InvT-loop
-Inv-loop size₀ count₀ size count = (count ≤ 9) × (size + 98 ≡ count * 98)
+Inv-loop size₀ count₀ size count = (count ≤ 9) × (size + 108 ≡ count * 108)
 
 abbrev μ-loop : tie.MeasureT-loop
 μ-loop size₀ count₀ size count = 9 - count

@@ -1,4 +1,4 @@
--- The last line has no next key; of any other, the next line's key stands 98 bytes on.
+-- The last line has no next key; of any other, the next line's key stands a line's bytes on.
 use Rattle.lists.specs.Basics.{_≡_, suc, _+_, _-_, _*_, drop-drop, arith, needs}
 use Rattle.record_check.specs.Sheet.{keyBefore}
 use Rattle.record_check.proofs.key_rises.Statement.{statement}

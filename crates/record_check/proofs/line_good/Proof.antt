@@ -1,42 +1,26 @@
--- The law on a line, test by test: a line that has not the word of its kind is not good, each later test that fails makes the answer false, and past them
+-- The law on a line, test by test: a line that has not the words of its kind is not good, each later test that fails makes the answer false, and past them
 -- the clock is the answer, by its first digit where that is enough.
 use Rattle.lists.specs.Basics.{_≡_, sym, ap, _∙_, true, _&&_, cond, and-false, length, arith, not-true, not-false, needs, bytes}
 use Rattle.model.specs.Layouts.{recordLayout, offset}
-use Rattle.sheet_laws.specs.Lines.{fieldAt}
 use Rattle.line_bytes.specs.Parts.{partsOk}
-use Rattle.record_check.specs.States.{kinds, kindAt, kindParts}
-use Rattle.record_check.specs.Relations.{highestClock, clockFits}
-use Rattle.record_check.specs.Before.{related}
-use Rattle.record_check.specs.Line.{lineGood, wordHeld, wordless, low-clock, line-is}
-use Rattle.record_check.specs.Tables.{tables-length, table-word}
+use Rattle.record_check.specs.States.{kindAt, kindParts}
+use Rattle.record_check.specs.Relations.{highestClock, follows, clockFits}
+use Rattle.record_check.specs.Line.{lineGood, wordless, low-clock, line-is}
 use Rattle.record_check.proofs.line_good.Statement.{statement}
 use Rattle.record_check.proofs.line_good.Tie as tie
-
-ten-equal-requires : tie.Need-ten-equal-requires
-unfolding kinds
-ten-equal-requires c κs =
-    let l = ap length (c .before .before .before .before .pre .1 .0) ∙ tables-length in
-    let few = c .kind .ensures .1 in
-    (omega arith, omega arith)
-
--- the word compared is that of the line's kind
-held : (c : tie.After-ten-equal) → c .ten-equal .result ≡ wordHeld (c .before .before .before .before .before .args .line .now)
-unfolding fieldAt offset recordLayout
-held c =
-    let kind = c .before .kind in
-    rw (c .before .before .before .before .before .pre .1 .0, table-word (kind .result) (kind .ensures .1), kind .ensures .0) at (c .ten-equal .ensures)
 
 returns : tie.Need-returns
 returns c =
     let k = c .before .before .before .before .before in
-    let f = sym (held (c .before)) ∙ not-true (c .before .ten-equal .result) (c .if1 .taken) in
-    sym (wordless (k .before .args .line .now) (λ i. k .shared-slice-known .given i .fits) f)
+    let kind = c .before .before .kind in
+    let f = sym (c .before .words-equal .ensures) ∙ not-true (c .before .words-equal .result) (c .if1 .taken) in
+    sym (wordless (k .before .args .line .now) (λ i. k .shared-slice-known .given i .fits) (rw (kind .ensures .0) at f))
 
 -- the law on a line, of the kind that was found
 law : (c : tie.After-kind)
     → let line = c .before .before .before .before .args .line .now in
     let k = c .kind .result in
-    lineGood line ≡ (partsOk (kindParts (kindAt k)) line && (cond (kindAt k .follows) (related line) true && clockFits line))
+    lineGood line ≡ (partsOk (kindParts (kindAt k)) line && (cond (kindAt k .follows) (follows line) true && clockFits line))
 law c =
     let k = c .before .before .before in
     rw (c .kind .ensures .0) (line-is (k .before .args .line .now) (λ i. k .shared-slice-known .given i .fits))
@@ -82,7 +66,6 @@ unfolding clockFits highestClock bytes offset recordLayout
 returns-5 c = rw (passed (c .before .before) .1, c .twelve-less .ensures, c .before .before .before .before .before .before .before .before .before .before .before .before .before .pre .1 .1)
 
 pub line-good-spec : {M : Type 1} → statement M
-unfolding kinds
 line-good-spec =
-    tie.close (tie.spec (λ c κs. search needs) (λ c. search needs) (λ c. search needs) ten-equal-requires returns (λ c κs. search needs) returns-2 (λ c κs. search needs)
+    tie.close (tie.spec (λ c κs. search needs) (λ c κs. search needs) returns (λ c κs. search needs) returns-2 (λ c κs. search needs)
     returns-3 (λ c. search needs) returns-4 twelve-less-requires returns-5)

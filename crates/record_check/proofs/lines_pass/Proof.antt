@@ -18,7 +18,7 @@ loop-holds c =
     let e : a .n - 0 ≡ a .n = omega arith in
     (omega arith, rw e)
 
--- the answer for a line is that for its 98 bytes
+-- the answer for a line is that for its bytes
 judged : (c : tie.After-line-good Inv-loop μ-loop)
     → c .line-good .result ≡ lineGood (take recordBytes (drop (c .before .before .before .loop .i * recordBytes) (c .before .before .before .before .before .before .before .args .s .now)))
 judged c =

@@ -3,12 +3,12 @@ use Rattle.lists.specs.Basics.{refl, sym, _*_, _/_, and-false, length, arith, e
 use Rattle.decimal.specs.Field.{fieldText, ahead}
 use Rattle.model.specs.Layouts.{recordLayout, words, recordBytes}
 use Rattle.model.specs.Lines.{fieldBytes}
-use Rattle.model.specs.Records.{stateNumber}
+use Rattle.model.specs.Records.{stateNumber, beforeNumber}
 use Rattle.line_bytes.specs.Tables.{columns, partColumns, layoutColumns, lows, highs, alsos}
 use Rattle.record_check.specs.Ranges.{opened}
 use Rattle.record_check.specs.LayoutParts.{columnPart, layoutParts}
 use Rattle.record_check.specs.Limits.{narrowed, limited}
-use Rattle.record_check.specs.States.{kinds, zeros, kindLimits, openLayout, kindParts}
+use Rattle.record_check.specs.States.{kinds, zeros, nothingBefore, kindLimits, openLayout, kindParts}
 use Rattle.record_check.specs.Relations.{highestClock}
 use Rattle.record_check.specs.Tables.{middle, tables}
 use Rattle.record_check.specs.Sheet.{linesSized, accepted-is}
@@ -28,7 +28,7 @@ returns-2 c =
     rw (accepted-is s, lt-leb (length s / recordBytes) 500 (c .if2 .taken), and-false)
 
 lines-pass-requires : tie.Need-lines-pass-requires
-unfolding tables joined lows highs alsos middle layoutColumns partColumns columns kindParts kindLimits layoutParts columnPart limited narrowed kinds zeros stateNumber openLayout opened recordLayout fieldBytes fieldText ahead words bytes highestClock
+unfolding tables joined lows highs alsos middle layoutColumns partColumns columns kindParts kindLimits layoutParts columnPart limited narrowed kinds zeros nothingBefore stateNumber beforeNumber openLayout opened recordLayout fieldBytes fieldText ahead words bytes highestClock
 lines-pass-requires c κs = (sym (c .before .before .before .if1 .left), (refl, refl))
 
 returns-3 : tie.Need-returns-3

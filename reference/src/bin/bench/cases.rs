@@ -7,7 +7,7 @@ use reference::make::spares::fill_up;
 use reference::plain::by_place::{self, Asked};
 use reference::plain::coordinator::{Decision, Unit};
 use reference::plain::key::Key;
-use reference::plain::record::{Image, Record, State, LINE, NOTHING};
+use reference::plain::record::{Image, Record, State, LINE};
 use reference::plain::store::Store;
 use reference::plain::transaction::*;
 use reference::replay::laid_out::LaidOut;
@@ -263,7 +263,6 @@ fn places(lines: usize) -> impl Iterator<Item = usize> {
 
 fn settled(key: Key) -> Record {
     Record {
-        key,
         state: State::Committed,
         image: Image {
             version: 41,
@@ -271,8 +270,7 @@ fn settled(key: Key) -> Record {
             column_1: 500,
             column_2: 12_345,
         },
-        before: NOTHING,
-        prepare_clock: 0,
+        ..Record::absent(key)
     }
 }
 

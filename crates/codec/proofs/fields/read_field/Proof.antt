@@ -24,7 +24,12 @@ returns-4 c =
     let a = c .before .before .before .before .args in
     c .read-word3 .ensures ∙ read-a-word (a .c) (a .s .now) _ refl (c .before .enum-told4 .given .1)
 
+returns-5 : tie.Need-returns-5
+returns-5 c =
+    let a = c .before .before .before .before .args in
+    c .read-word4 .ensures ∙ read-a-word (a .c) (a .s .now) _ refl (c .before .enum-told5 .given .1)
+
 pub read-field-spec : {M : Type 1} → statement M
 read-field-spec =
     tie.close (tie.spec (λ c. search needs) (λ c κs. search needs) (λ c. search needs) (λ c κs. search needs) (λ c. search needs)
-    (λ c κs. search needs) (λ c. search needs) (λ c κs. search needs) returns returns-2 returns-3 returns-4)
+    (λ c κs. search needs) (λ c. search needs) (λ c κs. search needs) (λ c. search needs) (λ c κs. search needs) returns returns-2 returns-3 returns-4 returns-5)

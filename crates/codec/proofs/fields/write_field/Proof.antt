@@ -27,8 +27,14 @@ returns-4 c =
     c .before .before .write-word3 .ensures
     ∙ write-a-word (a .c) (a .v) (a .s .now) _ (c .before .before .before .before .before .before .before .pre .0) (c .before .before .before .before .before .before .before .pre .1) refl (c .before .before .before .before .enum-told4 .given .1)
 
+returns-5 : tie.Need-returns-5
+returns-5 c =
+    let a = c .before .before .before .before .before .before .before .args in
+    c .before .before .write-word4 .ensures
+    ∙ write-a-word (a .c) (a .v) (a .s .now) _ (c .before .before .before .before .before .before .before .pre .0) (c .before .before .before .before .before .before .before .pre .1) refl (c .before .before .before .before .enum-told5 .given .1)
+
 pub write-field-spec : {M : Type 1} → statement M
 write-field-spec =
     tie.close (tie.spec (λ c. search needs) (λ c κs. search needs) (λ c. search needs) (λ c κs. search needs) (λ c. search needs)
-    (λ c κs. search needs) (λ c. search needs) (λ c κs. search needs) (λ c. search needs) returns (λ c. search needs) returns-2 (λ c. search needs)
-    returns-3 (λ c. search needs) returns-4)
+    (λ c κs. search needs) (λ c. search needs) (λ c κs. search needs) (λ c. search needs) (λ c κs. search needs) (λ c. search needs) returns (λ c. search needs) returns-2 (λ c. search needs)
+    returns-3 (λ c. search needs) returns-4 (λ c. search needs) returns-5)

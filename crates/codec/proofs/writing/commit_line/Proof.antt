@@ -1,7 +1,7 @@
 -- State word, image and nothing are written, which is the text of the committed record.
 use Rattle.lists.specs.Basics.{ap, ap₂, _∙_, ℕ, List, needs}
 use Rattle.model.specs.Types.{Image}
-use Rattle.sheet_laws.specs.Changed.{imageText, nothingText, imageOver, beforeOver, line-committed}
+use Rattle.sheet_laws.specs.Changed.{imageText, nothingText, imageOver, settledOver, line-committed}
 use Rattle.codec.proofs.writing.commit_line.Statement.{statement}
 use Rattle.codec.proofs.writing.commit_line.Tie as tie
 
@@ -14,7 +14,7 @@ returns c =
     let a = start .args in
     let i = image .write-image .ensures
     ∙ ap₂ (λ (m : Image) (t : List ℕ). imageOver (imageText m) t) (word .before .before .written-image .ensures) (word .put-state .ensures) in
-    nothing .put-nothing .ensures ∙ (ap (beforeOver nothingText) i ∙ line-committed (a .line .now) (start .pre .set) (a .n) (a .columns))
+    nothing .put-nothing .ensures ∙ (ap (settledOver nothingText) i ∙ line-committed (a .line .now) (start .pre .set) (a .n) (a .columns))
 
 pub commit-line-spec : {M : Type 1} → statement M
 commit-line-spec =

@@ -4,6 +4,7 @@ use Rattle.lists.specs.Pieces.{over}
 use Rattle.model.specs.Layouts.{recordBytes}
 use Rattle.model.specs.TwoSheets.{bookkeepingBytes}
 use Rattle.two_laws.specs.Deciding.{fixedColumns}
+use Rattle.two_join.specs.Joins.{restBytes}
 use Rattle.two_join.specs.Fills.{bookkeeping-filled}
 use Rattle.two_join.proofs.fill.bookkeeping_at.Statement.{statement}
 use Rattle.two_join.proofs.fill.bookkeeping_at.Tie as tie
@@ -17,7 +18,7 @@ returns c =
     let b = a .book .now in
     bookkeeping-filled b (a .i) (q .0) (a .target .now) _ (q .1)
     (c .before .before .copy-part3 .ensures
-    ∙ ap (λ (s : List ℕ). over s (t + 58) (take 40 (drop (a .i * bookkeepingBytes + 40) b)))
+    ∙ ap (λ (s : List ℕ). over s (t + 58) (take restBytes (drop (a .i * bookkeepingBytes + 40) b)))
     (c .before .before .before .before .before .before .copy-part2 .ensures
     ∙ ap (λ (s : List ℕ). over s (t + 40) fixedColumns) (c .before .before .before .before .before .before .before .before .before .before .before .copy-part .ensures)))
 

@@ -4,7 +4,7 @@ use Rattle.lists.specs.Pieces.{over}
 use Rattle.model.specs.Layouts.{recordBytes}
 use Rattle.model.specs.TwoSheets.{plainBytes}
 use Rattle.two_laws.specs.Deciding.{fixedState, fixedRest}
-use Rattle.two_join.specs.Fills.{plain-filled}
+use Rattle.two_join.specs.Fills.{recordEnd, plain-filled}
 use Rattle.two_join.proofs.fill.plain_at.Statement.{statement}
 use Rattle.two_join.proofs.fill.plain_at.Tie as tie
 
@@ -17,7 +17,7 @@ returns c =
     let p = a .plain .now in
     plain-filled p (a .i) (q .0) (a .target .now) _ (q .1)
     (c .before .before .copy-part5 .ensures
-    ∙ ap (λ (s : List ℕ). over s (t + 97) (take 1 (drop (a .i * plainBytes + 38) p)))
+    ∙ ap (λ (s : List ℕ). over s (t + recordEnd) (take 1 (drop (a .i * plainBytes + 38) p)))
     (c .before .before .before .before .before .before .copy-part4 .ensures
     ∙ ap (λ (s : List ℕ). over s (t + 58) fixedRest)
     (c .before .before .before .before .before .before .before .before .before .before .before .copy-part3 .ensures
