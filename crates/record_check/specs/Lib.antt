@@ -5,6 +5,7 @@ pub mod Limits
 pub mod Relations
 pub mod States
 pub mod Line
+pub mod Overlap
 pub mod Tables
 pub mod Keys
 pub mod Sheet

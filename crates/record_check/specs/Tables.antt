@@ -1,7 +1,9 @@
 -- The tables of the kinds of line as the code holds them, three rows for each kind one after another. The law of the pass over tables applies to the
--- three rows of a kind: that they stand where the code reads them, and that the kind's parts are such that it does, is computed for every kind.
-use Rattle.lists.specs.Basics.{_≡_, refl, sym, ap, _∙_, ℕ, _+_, _-_, _*_, _<_, eqb, ltb, Bool, true, _&&_, List, [], _∷_, _++_, map, length, take, drop, getD}
-use Rattle.lists.specs.Basics.{List·getD-map, all, joined, eqList, bytes, eqList-true, tests}
+-- three rows of a kind: that they stand where the code reads them, and that the kind's parts are such that it does, is computed for every kind. The code goes
+-- over a line in two parts.
+use Rattle.lists.specs.Basics.{_≡_, refl, sym, ap, ap₂, _∙_, ℕ, _+_, _-_, _*_, _<_, eqb, ltb, Bool, true, _&&_, List, [], _∷_, _++_, map, length, take, drop, getD}
+use Rattle.lists.specs.Basics.{_≤_, List·getD-map, length-take, length-drop, drop-drop, arith, all, joined, eqList, bytes, eqList-true, tests}
+use Rattle.lists.specs.Pieces.{take-drop-take}
 use Rattle.model.specs.Layouts.{recordLayout, words, recordBytes, offset, recordOffset, stateField, beforeStateField, wordBytes}
 use Rattle.model.specs.Lines.{fieldBytes}
 use Rattle.model.specs.Records.{stateNumber, beforeNumber}
@@ -10,9 +12,11 @@ use Rattle.decimal.specs.Field.{fieldText, ahead}
 use Rattle.line_bytes.specs.Parts.{partsOk}
 use Rattle.line_bytes.specs.Tables.{Room, ColumnBytes, lineOk, fixed, columns, partColumns, layoutColumns, lows, highs, alsos, partSetWell, setWell}
 use Rattle.line_bytes.specs.Laws.{framed-is, room-is}
+use Rattle.line_bytes.specs.Order.{bytesAt}
 use Rattle.record_check.specs.Ranges.{opened}
 use Rattle.record_check.specs.LayoutParts.{columnPart, layoutParts}
 use Rattle.record_check.specs.Limits.{narrowed, limited}
+use Rattle.record_check.specs.Overlap.{part-room, two-parts}
 use Rattle.record_check.specs.States.{LineKind, kinds, zeros, nothingBefore, noKind, kindAt, kindLimits, openLayout, kindParts, kindWord, priorWord}
 
 -- bytes of a row, one for each column but LF, and of the three rows of a kind
@@ -41,6 +45,22 @@ row at = take rowBytes (drop at tables)
 -- and a word there
 abbrev pub word : ℕ → List ℕ
 word at = take wordBytes (drop at tables)
+
+-- the n columns of a line from a on, as the code judges them by the rows of kind k
+unfoldable pub partStands : (k a n : ℕ) (line : List ℕ) → Bool
+partStands k a n line =
+    lineOk
+    (bytesAt line n a)
+    (bytesAt tables n (k * tableBytes + a))
+    (bytesAt tables n (k * tableBytes + rowBytes + a))
+    (bytesAt tables n (k * tableBytes + rowBytes + rowBytes + a))
+
+-- the bytes of the first part of a line, and the column where the second begins
+abbrev pub frontBytes : ℕ
+frontBytes = 97
+
+abbrev pub backAt : ℕ
+backAt = rowBytes - 17
 
 -- what is computed of kind k: its parts can be said by tables, which have room and stand where the code reads them, as do its words
 fits : ℕ → Bool
@@ -72,9 +92,9 @@ module _ (k : ℕ) (l : k < length kinds) where
   unfolding fits
   low = let h = fit k l in eqList-true (row (k * tableBytes)) (lows (body (kindAt k))) (search tests)
 
-  pub tables-room : Room (row (k * tableBytes))
+  room : Room (row (k * tableBytes))
   unfolding fits
-  tables-room i = let h = fit k l in rw low (room-is (lows (body (kindAt k))) (search tests) i)
+  room i = let h = fit k l in rw low (room-is (lows (body (kindAt k))) (search tests) i)
 
   -- the words of a kind stand in its first row
   pub table-state : word (k * tableBytes + recordOffset stateField) ≡ kindWord k
@@ -85,10 +105,47 @@ module _ (k : ℕ) (l : k < length kinds) where
   unfolding fits
   table-prior = let h = fit k l in eqList-true _ (priorWord k) (search tests)
 
+  -- a part of a row
+  row-part : (at a n : ℕ) → a + n ≤ rowBytes → bytesAt tables n (at + a) ≡ bytesAt (row at) n a
+  row-part at a n f = sym (take-drop-take n a rowBytes (drop at tables) f ∙ ap (take n) (drop-drop a at tables))
+
+  pub tables-room : (a n : ℕ) → a + n ≤ rowBytes → Room (bytesAt tables n (k * tableBytes + a))
+  tables-room a n f = rw (row-part (k * tableBytes) a n f) (part-room (row (k * tableBytes)) n a room)
+
+  -- a part of a line is judged by parts of the rows
+  part-is : (line : List ℕ) (a n : ℕ) → a + n ≤ rowBytes
+      → partStands k a n line
+      ≡ lineOk
+      (bytesAt (take rowBytes line) n a)
+      (bytesAt (row (k * tableBytes)) n a)
+      (bytesAt (row (k * tableBytes + rowBytes)) n a)
+      (bytesAt (row (k * tableBytes + rowBytes + rowBytes)) n a)
+  unfolding partStands
+  part-is line a n f =
+      rw (
+        take-drop-take n a rowBytes line f,
+        row-part (k * tableBytes) a n f,
+        row-part (k * tableBytes + rowBytes) a n f,
+        row-part (k * tableBytes + rowBytes + rowBytes) a n f,
+      )
+
+  -- and both parts are the whole
+  both-parts : (line : List ℕ) → length line ≡ recordBytes
+      → (partStands k 0 frontBytes line && partStands k backAt (rowBytes - backAt) line)
+      ≡ lineOk (take rowBytes line) (row (k * tableBytes)) (row (k * tableBytes + rowBytes)) (row (k * tableBytes + rowBytes + rowBytes))
+  unfolding kinds
+  both-parts line n =
+      let at = k * tableBytes in
+      let long : length (take rowBytes line) ≡ rowBytes = simp length-take (omega arith) in
+      let low : length (row at) ≡ length (take rowBytes line) = simp (length-take, length-drop) (omega (arith, tables-length)) in
+      let high : length (row (at + rowBytes)) ≡ length (take rowBytes line) = simp (length-take, length-drop) (omega (arith, tables-length)) in
+      let also : length (row (at + rowBytes + rowBytes)) ≡ length (take rowBytes line) = simp (length-take, length-drop) (omega (arith, tables-length)) in
+      ap₂ _&&_ (part-is line 0 frontBytes (omega arith)) (part-is line backAt (rowBytes - backAt) (omega arith))
+      ∙ two-parts (take rowBytes line) (row at) (row (at + rowBytes)) (row (at + rowBytes + rowBytes)) low high also backAt 6 10 long
+
   -- the line stands in the parts of a kind as the code judges it
   pub tables-are : (line : List ℕ) → length line ≡ recordBytes
-      → (lineOk (take rowBytes line) (row (k * tableBytes)) (row (k * tableBytes + rowBytes)) (row (k * tableBytes + rowBytes + rowBytes))
-      && (eqb (getD line 0 0) 32 && eqb (getD line rowBytes 0) 10))
+      → (partStands k 0 frontBytes line && partStands k backAt (rowBytes - backAt) line && (eqb (getD line 0 0) 32 && eqb (getD line rowBytes 0) 10))
       ≡ partsOk (kindParts (kindAt k)) line
   unfolding fits
   tables-are line n =
@@ -102,4 +159,4 @@ module _ (k : ℕ) (l : k < length kinds) where
       sym (List·getD-map (λ (q : LineKind). layoutColumns (kindParts q)) kinds k noKind)
       ∙ (ap (λ (ps : List (List ColumnBytes)). getD (drop 1 ps) k (getD ps 0 [])) frames
       ∙ List·getD-map (λ (q : LineKind). body q ++ (fixed 10 ∷ [])) kinds k noKind) in
-      rw (low, high, also) (rw long at (framed-is (kindParts r) (middle r) 32 10 line well frame (rw long n)))
+      rw (both-parts line n, low, high, also) (rw long at (framed-is (kindParts r) (middle r) 32 10 line well frame (rw long n)))
