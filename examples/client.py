@@ -7,7 +7,7 @@ U32 = ctypes.c_uint32
 
 
 class Entry(ctypes.Structure):
-    _fields_ = [("key", U32 * 5), ("version", U32), ("txid", U32), ("seen", U32 * 2), ("wrote", U32), ("put", U32 * 2)]
+    _fields_ = [("key", U32 * 5), ("version", U32), ("txid", U32), ("seen", U32 * 2), ("absent", U32), ("wrote", U32), ("put", U32 * 2)]
 
 
 class Transaction(ctypes.Structure):

@@ -8,6 +8,7 @@ struct Entry {
     version: u32,
     txid: u32,
     seen: [u32; 2],
+    absent: u32,
     wrote: u32,
     put: [u32; 2],
 }

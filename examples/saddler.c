@@ -114,7 +114,7 @@ static void visit(const char *name, rapyheo_key key, uint32_t clock) {
 
 /* A list is never saved: after a crash the client has one of zeros. */
 static void crash(void) {
-    const rapyheo_transaction unused = {0, 0, 0, 0, 0, 0, {{{0, 0, 0, 0, 0}, {0, 0, 0, 0}, 0, {0, 0}}}};
+    const rapyheo_transaction unused = {0, 0, 0, 0, 0, 0, {{{0, 0, 0, 0, 0}, {0, 0, 0, 0}, 0, 0, {0, 0}}}};
     list[0] = unused;
     puts("the client dies");
 }

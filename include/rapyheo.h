@@ -32,7 +32,7 @@
  *   - one caller at a time for one pair of sheets, whoever has the list: there is no lock. Calls on different sheets and lists are independent,
  *     in any threads, since the library holds no data of its own;
  *   - a call finds RAPYHEO_STACK_BYTES of stack, and one on two sheets RAPYHEO_TWO_STACK_BYTES, since it joins them in an area of its own.
- *     `make stack` measures what each needs, its arguments among it: 8928 at most, and 111152 on two sheets, to which some 2000 come where
+ *     `make stack` measures what each needs, its arguments among it: 9520 at most, and 111248 on two sheets, to which some 2000 come where
  *     the loader binds memcpy or memset in the middle of the first call (not so with -Wl,-z,now). A call allocates nothing.
  *
  * Record sheet: 1 to 500 lines of 108 bytes, the last byte LF. Figures are decimal, right-justified, filled with spaces, without leading zeros.
@@ -215,10 +215,11 @@ typedef struct rapyheo_columns {
     uint32_t column2;
 } rapyheo_columns;
 
-/* A record that a transaction holds: what was read (all 0 of an ABSENT line), and what is put if `wrote` is 1. */
+/* A record that a transaction holds: what was read (columns 0 of an ABSENT line), whether it was ABSENT (1 or 0), and what is put if `wrote` is 1. */
 typedef struct rapyheo_entry {
     rapyheo_key key;
     rapyheo_image seen;
+    uint32_t absent;
     uint32_t wrote;
     rapyheo_columns put;
 } rapyheo_entry;
@@ -258,12 +259,13 @@ RAPYHEO_AT(rapyheo_image, column2, 12);
 RAPYHEO_SIZE(rapyheo_columns, 8);
 RAPYHEO_AT(rapyheo_columns, column1, 0);
 RAPYHEO_AT(rapyheo_columns, column2, 4);
-RAPYHEO_SIZE(rapyheo_entry, 48);
+RAPYHEO_SIZE(rapyheo_entry, 52);
 RAPYHEO_AT(rapyheo_entry, key, 0);
 RAPYHEO_AT(rapyheo_entry, seen, 20);
-RAPYHEO_AT(rapyheo_entry, wrote, 36);
-RAPYHEO_AT(rapyheo_entry, put, 40);
-RAPYHEO_SIZE(rapyheo_transaction, 408);
+RAPYHEO_AT(rapyheo_entry, absent, 36);
+RAPYHEO_AT(rapyheo_entry, wrote, 40);
+RAPYHEO_AT(rapyheo_entry, put, 44);
+RAPYHEO_SIZE(rapyheo_transaction, 440);
 RAPYHEO_AT(rapyheo_transaction, number, 0);
 RAPYHEO_AT(rapyheo_transaction, serializable, 4);
 RAPYHEO_AT(rapyheo_transaction, phase, 8);

@@ -47,7 +47,7 @@ const PREPARED_KEY: [u32; 5] = [2, 1, 1, 1, 1];
 /// A number in every field, so that one that changes is seen.
 fn marked(number: u32) -> Transaction {
     let mut transaction = Transaction::begun(number, true).with_fields([number; 6]);
-    transaction.entries.fill(Entry::from_numbers([number; 12]));
+    transaction.entries.fill(Entry::from_numbers([number; 13]));
     transaction
 }
 

@@ -6,7 +6,7 @@ use reference::make::sheets::{crowded, spread};
 use reference::make::Sheets;
 use reference::plain::coordinator::Decision;
 use reference::plain::key::Key;
-use reference::plain::record::{State, NOTHING};
+use reference::plain::record::{Record, State};
 use reference::plain::request::{Answer, Request};
 use reference::plain::transaction::*;
 use reference::plain::WRONG_PHASE;
@@ -35,7 +35,7 @@ fn order(checked: bool, puts: u32, only_read: u32) -> Transaction {
     let mut order = Transaction::begun(1, checked);
     order.count = puts + only_read;
     for (entry, clustering) in order.entries.iter_mut().zip(1..=order.count) {
-        *entry = Entry::read(key(clustering), NOTHING);
+        *entry = Entry::read(&Record::absent(key(clustering)));
         entry.wrote = u32::from(clustering <= puts);
         [entry.put_1, entry.put_2] = [clustering, 99_999_999];
     }
@@ -174,7 +174,7 @@ fn an_order_that_was_aborted_beside() {
     assert_eq!(now, sheets(3, "R", "ABORTED"));
     // The last condition fails: two prepared, one ABORTED written, two rolled back, one skipped.
     let mut stale = order(true, 3, 0);
-    stale.entries[2].seen.version = 1;
+    (stale.entries[2].seen.version, stale.entries[2].absent) = (1, 0);
     let mut now = sheets(3, "R", "-");
     assert_eq!(closed(&mut now, stale, 17), [DONE, 0, ABORTED, 5]);
     assert_eq!(now, sheets(3, "R", "ABORTED"));

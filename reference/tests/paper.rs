@@ -186,9 +186,14 @@ fn state_words() {
 
 #[test]
 fn rules_of_the_states() {
-    // ABSENT: every field after the word is 0.
+    // ABSENT: version and TxID each 0 or each at least 1, columns, before fields and clock 0.
     for column in [35, 39, 48, 57, 73, 77, 86, 95, 106] {
         assert_eq!(check_line(&with(ABSENT, column, "1")), 1, "{column}");
+    }
+    let written = with(&with(ABSENT, 35, "7"), 39, "1");
+    assert_eq!(check_line(&written), 0);
+    for column in [48, 57, 73, 77, 86, 95, 106] {
+        assert_eq!(check_line(&with(&written, column, "1")), 1, "{column}");
     }
     // COMMITTED: version at least 1, before fields and clock 0.
     assert_eq!(check_line(&with(COMMITTED, 35, "0")), 1);
@@ -202,9 +207,16 @@ fn rules_of_the_states() {
     assert_eq!(check_line(&with(PREPARED, 35, "0")), 1);
     assert_eq!(check_line(&with(LATER, 30, " 99998")), 1);
     assert_eq!(check_line(&with(LATER, 68, " 99999")), 1);
-    // Over before version 0 the other before fields are 0.
+    // Over ABSENT before version and TxID are each 0 or each at least 1, and the before columns 0.
     for column in [77, 86, 95] {
         assert_eq!(check_line(&with(PREPARED, column, "1")), 1, "{column}");
+    }
+    let over = with(&with(PREPARED, 35, "8"), 73, "7");
+    assert_eq!(check_line(&over), 1);
+    let over = with(&over, 77, "1");
+    assert_eq!(check_line(&over), 0);
+    for column in [86, 95] {
+        assert_eq!(check_line(&with(&over, column, "1")), 1, "{column}");
     }
 }
 

@@ -167,7 +167,8 @@ fn a_missing_key_has_no_line_and_no_place() {
 /// A transaction that holds the key as if the first line had it.
 fn holding(key: Key) -> Transaction {
     let mut transaction = Transaction::begun(1, false);
-    transaction.entries[0] = Entry::read(key, sheets().store().records[0].image);
+    let first = Entry::read(&sheets().store().records[0]);
+    transaction.entries[0] = Entry { key, ..first };
     transaction.count = 1;
     transaction
 }

@@ -39,7 +39,7 @@ fn holding(clusterings: &[u32]) -> Transaction {
     let store = sheets().store();
     let mut transaction = Transaction::begun(1, true);
     for (entry, clustering) in transaction.entries.iter_mut().zip(clusterings) {
-        *entry = Entry::read(key(*clustering), store.record(&key(*clustering)).image);
+        *entry = Entry::read(store.record(&key(*clustering)));
         transaction.count += 1;
     }
     transaction

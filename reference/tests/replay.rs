@@ -31,7 +31,7 @@ fn a_transaction_is_answered_line_by_line() {
     let calls = "check\nbegin 3 0\nread 3 1 1 1 1 1 7\nput 3 1 1 1 1 1 500 250\nread 3 1 1 1 1 1 7\nshow 3\n\
                  advance 3 9\nadvance 3 9\nabort 3\nvisit 1 1 1 1 1 0\nlookup 1 1 1 1 1\nlookup 1 1 1 1 2\n";
     let answers =
-        "ok\nok 1\nok absent\nok\nok columns 500 250\nok 1 0 0 0 0 1 1 1 1 1 1 0 0 0 0 1 500 250\n\
+        "ok\nok 1\nok absent\nok\nok columns 500 250\nok 1 0 0 0 0 1 1 1 1 1 1 1 0 0 0 0 1 500 250\n\
                    ok 7 0 1\nrefused 4\nrefused 4\nok stays\nok 0 1\nok 1 0\n";
     let sheets = format!("{}{COMMITTED}", COORDINATOR.replacen('0', "1", 1));
     assert_eq!(replayed(calls), (answers.into(), sheets));
@@ -82,19 +82,19 @@ fn sheets_are_printed_where_they_are_asked_for() {
 #[test]
 fn transactions_are_forged_field_by_field() {
     let calls =
-        "begin 0 1\nset 0 1 1 6 0 2 1\nentry 0 0 1 1 1 1 1 0 0 0 0 1 5 6\nshow 0\nadvance 0 0\n\
+        "begin 0 1\nset 0 1 1 6 0 2 1\nentry 0 0 1 1 1 1 1 1 0 0 0 0 1 5 6\nshow 0\nadvance 0 0\n\
                  set 15 4294967295 2 3 4 5 9\nshow 15";
-    let answers = "ok 1\nok\nok\nok 1 1 6 0 2 1 1 1 1 1 1 0 0 0 0 1 5 6\nrefused 4\nok\n";
-    let zeros = " 0".repeat(96);
+    let answers = "ok 1\nok\nok\nok 1 1 6 0 2 1 1 1 1 1 1 1 0 0 0 0 1 5 6\nrefused 4\nok\n";
+    let zeros = " 0".repeat(104);
     let answers = format!("{answers}ok 4294967295 2 3 4 5 9{zeros}\n");
     assert_eq!(replayed(calls).0, answers);
 }
 
 #[test]
 fn begin_clears_its_slot_and_a_refused_call_leaves_it() {
-    let calls = "begin 0 1\nset 0 7 1 6 0 2 1\nentry 0 7 1 1 1 1 1 0 0 0 0 1 5 6\nbegin 0 0\nset 0 9 9 9 9 9 8\n\
+    let calls = "begin 0 1\nset 0 7 1 6 0 2 1\nentry 0 7 1 1 1 1 1 1 0 0 0 0 1 5 6\nbegin 0 0\nset 0 9 9 9 9 9 8\n\
                  begin 0 0\nshow 0\n";
-    let zeros = " 0".repeat(96);
+    let zeros = " 0".repeat(104);
     let answers = format!("ok 1\nok\nok\nok 2\nok\nrefused 8\nok 9 9 9 9 9 8{zeros}\n");
     assert_eq!(replayed(calls).0, answers);
 }
@@ -123,8 +123,9 @@ fn lines_of_another_form_are_bad_lines() {
         "close 16 1 2",
         "close 0 4294967296 17",
         "close 0 0 4294967296",
-        "entry 0 8 1 1 1 1 1 0 0 0 0 1 5 6",
-        "entry 0 0 1 1 1 1 1 0 0 0 0 1 5",
+        "entry 0 8 1 1 1 1 1 1 0 0 0 0 1 5 6",
+        "entry 0 0 1 1 1 1 1 1 0 0 0 0 1 5",
+        "entry 0 0 1 1 1 1 1 1 0 0 0 0 1 5 6 7",
         "set 0 1 1 1 1 1",
         "visit 1 1 1 1 1",
         "lookup 1 1 1 1 1 1",
@@ -169,7 +170,7 @@ fn two_sheets_are_read_in_two_calls() {
     let coordinator = coordinator.replacen('0', "1", 1);
     let sheets = format!("sheets\n{coordinator}{plain}{bookkeeping}");
     let answers = format!(
-        "ok 1\nok first 40 3\nok columns 40 4\nok columns 40 4\nok 1 0 0 0 0 1 1 1 1 1 1 4 0 40 4 0 0 0\nok 2 0 0\nok 4 0 0\n\
+        "ok 1\nok first 40 3\nok columns 40 4\nok columns 40 4\nok 1 0 0 0 0 1 1 1 1 1 1 0 4 0 40 4 0 0 0\nok 2 0 0\nok 4 0 0\n\
          ok 0 1\nok 0 0\nrefused 5\nbad line\n{sheets}ok {plain}ok {bookkeeping}ok\nok\n{sheets}"
     );
     assert_eq!(String::from_utf8(output).unwrap(), answers);
@@ -244,7 +245,7 @@ fn scripts_expect_what_a_replay_answers() {
 #[test]
 fn a_line_is_read_as_it_is_written() {
     let key = Key::from_numbers([1, 2, 3, 4, u32::MAX]);
-    let numbers = [0, 1, 2, 3, 4, 5, 6, 7, 8, 9, 10, u32::MAX];
+    let numbers = [0, 1, 2, 3, 4, 5, 6, 7, 8, 9, 10, 11, u32::MAX];
     let fields = [0, 1, 10, 99, 100, u32::MAX];
     for line in [
         Line::Check,

@@ -4,7 +4,7 @@ use reference::make::Sheets;
 use reference::plain::coordinator::{read_sheet, Unit};
 use reference::plain::groups::groups;
 use reference::plain::key::Key;
-use reference::plain::record::NOTHING;
+use reference::plain::record::Record;
 use reference::plain::request::{Answer, Request};
 use reference::plain::store::Visit;
 use reference::plain::transaction::{Entry, Reading, Transaction};
@@ -120,10 +120,9 @@ fn reading_rolls_the_line_and_holds_what_is_left() {
     ] {
         let (answer, left) = read(line, coordinator, 0);
         assert_eq!(left, sheets(after, coordinator));
-        let image = left.store().records[0].image;
         let mut holding = Transaction::begun(1, false);
         holding.count = 1;
-        holding.entries[0] = Entry::read(KEY, image);
+        holding.entries[0] = Entry::read(&left.store().records[0]);
         assert_eq!(answer, Ok(Answer::Read(holding, seen)));
     }
 }
@@ -132,7 +131,7 @@ fn reading_rolls_the_line_and_holds_what_is_left() {
 fn grouped(keys: &[[u32; 5]], letter: &str) -> Vec<Vec<[u32; 5]>> {
     let mut transaction = Transaction::begun(1, false);
     for (entry, key) in transaction.entries.iter_mut().zip(keys) {
-        *entry = Entry::read(Key::from_numbers(*key), NOTHING);
+        *entry = Entry::read(&Record::absent(Key::from_numbers(*key)));
         entry.wrote = 1;
         transaction.count += 1;
     }

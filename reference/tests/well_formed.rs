@@ -2,6 +2,7 @@
 
 use reference::make::Sheets;
 use reference::plain::key::Key;
+use reference::plain::record::{Image, NOTHING};
 use reference::plain::request::{Answer, Request};
 use reference::plain::transaction::*;
 use reference::plain::ILL_FORMED;
@@ -30,10 +31,20 @@ fn good() -> Transaction {
     let records = sheets().store().records;
     let mut transaction = Transaction::begun(3, true);
     transaction.count = 2;
-    transaction.entries[0] = Entry::read(key(1), records[0].image);
+    transaction.entries[0] = Entry::read(&records[0]);
     transaction.entries[0].wrote = 1;
-    transaction.entries[1] = Entry::read(key(2), records[1].image);
+    transaction.entries[1] = Entry::read(&records[1]);
     transaction
+}
+
+/// As if an ABSENT line had been read.
+fn absent(entry: &mut Entry, version: u32, tx_id: u32) {
+    entry.absent = 1;
+    entry.seen = Image {
+        version,
+        tx_id,
+        ..NOTHING
+    };
 }
 
 /// Whether refusal 3 lets the transaction pass, as abort shows: it asks for nothing else than the phase.
@@ -46,7 +57,7 @@ type Change = fn(&mut Transaction);
 
 #[test]
 fn what_is_let_pass() {
-    let changes: [Change; 18] = [
+    let changes: [Change; 24] = [
         |_| {},
         |t| t.number = 1,
         |t| t.serializable = 0,
@@ -56,6 +67,13 @@ fn what_is_let_pass() {
         |t| t.entries[0].seen.tx_id = 0,
         |t| t.entries[0].seen.tx_id = 3,
         |t| t.entries[0].put_2 = 99_999_999,
+        // Absence is told apart from version 0, and no line is asked for it.
+        |t| absent(&mut t.entries[1], 0, 0),
+        |t| absent(&mut t.entries[1], 7, 3),
+        |t| absent(&mut t.entries[1], 99_999, 1),
+        |t| absent(&mut t.entries[0], 99_998, 1),
+        |t| (t.entries[1].seen.column_1, t.entries[1].seen.column_2) = (0, 0),
+        |t| t.entries[2].absent = 77,
         // A key need not have a line, but be in range.
         |t| t.entries[1].key = key(4),
         |t| t.entries[0].key.storage = 9,
@@ -77,7 +95,7 @@ fn what_is_let_pass() {
 
 #[test]
 fn what_is_turned_away() {
-    let changes: [Change; 36] = [
+    let changes: [Change; 45] = [
         |t| t.number = 0,
         |t| t.number = 4,
         |t| t.serializable = 2,
@@ -97,6 +115,21 @@ fn what_is_turned_away() {
         |t| t.entries[1].seen.version = 0,
         |t| t.entries[0].seen.version = 0,
         |t| t.entries[0].seen.version = 99_999,
+        |t| t.entries[1].absent = 1,
+        |t| t.entries[1].absent = 2,
+        |t| t.entries[1].absent = u32::MAX,
+        |t| absent(&mut t.entries[1], 7, 0),
+        |t| absent(&mut t.entries[1], 0, 1),
+        |t| absent(&mut t.entries[1], 7, 4),
+        |t| absent(&mut t.entries[0], 99_999, 1),
+        |t| {
+            absent(&mut t.entries[1], 7, 1);
+            t.entries[1].seen.column_2 = 1;
+        },
+        |t| {
+            absent(&mut t.entries[1], 0, 0);
+            t.entries[1].absent = 0;
+        },
         |t| t.entries[0].put_1 = 100_000_000,
         |t| t.entries[0].put_2 = 100_000_000,
         |t| t.entries[0].wrote = 2,

@@ -60,6 +60,8 @@ static void by_place(void) {
     expect("is not put", put_key(full), RAPYHEO_REFUSED + RAPYHEO_VERSIONS_SPENT);
     expect("an absent line", read_key(absent), RAPYHEO_READ_ABSENT);
     expect("has no columns", rapyheo_columns_held(&list[last], absent).column2, 0);
+    expect("is held as absent", list[last].entries[1].absent, 1);
+    expect("the other is not", list[last].entries[0].absent, 0);
     expect("is put", put_key(absent), 0);
     expect("and read as put", rapyheo_columns_held(&list[last], absent).column2, 8);
     expect("a key that is not held", rapyheo_columns_held(&list[last], outside).column1, 0);

@@ -6,7 +6,7 @@ use Rattle.types.specs.declared.Reading.the-variants as readings
 use Rattle.model.specs.Records.{lineOf}
 use Rattle.model.specs.Refusals.{Condition, refuse, refusalOf}
 use Rattle.model.specs.Transactions.{byPhase, reading, entryAs}
-use Rattle.model.specs.Images.{isPrepared, byDecision, recovery}
+use Rattle.model.specs.Images.{isAbsent, isPrepared, byDecision, recovery}
 use Rattle.model.specs.Writes.{Sheets, Write, nothing}
 use Rattle.model.specs.Visits.{meeting, isAgain, recovered, recoveryWrite}
 use Rattle.model.specs.Results.{Call, begin, read, second, put, advance, abort, visit, add, remove, Answer, answered, Response, Result, refused, made, unless, writeOf}
@@ -119,7 +119,7 @@ module _ (sees : Record → Image) (t : Transaction) (k : Key) (now : ℕ) (s : 
 
   -- the entry of a new key
   abbrev pub entryRead : Entry
-  entryRead = entryAs (line .key) (sees (recovered met line))
+  entryRead = entryAs (line .key) (isAbsent (recovered met line)) (sees (recovered met line))
 
   pub by-whole {κ} : (P : Result Answer → Type κ)
       → (isNew k t ≡ true → isAgain met ≡ true → P (made (answered readings.Again t) (recoveryWrite met line)))

@@ -1,15 +1,15 @@
 -- T4: after an accepted call the sheets are good and the transaction that it returns is well formed; after a refused one nothing has changed.
-use Rattle.lists.specs.Basics.{_≡_, refl, sym, ap, ap₂, _∙_, ℕ, suc, _+_, _^_, _≤_, _<_, eqb, leb, Bool, true, false, not, _&&_, _||_, true≢false, List, length}
+use Rattle.lists.specs.Basics.{cond, _≡_, refl, sym, ap, ap₂, _∙_, ℕ, suc, _+_, _^_, _≤_, _<_, eqb, leb, Bool, true, false, not, _&&_, true≢false, List, length}
 use Rattle.lists.specs.Basics.{take, getD, set, some, Option·none-ne-some, arith, add-one, eqb-true, leb-false, le-leb, not-true, not-false, all, and-fst, and-snd, and-both, choose-by}
 use Rattle.lists.specs.Basics.{tests}
 use Rattle.lists.specs.All.{all-at}
 use Rattle.model.specs.Types.{Key, Image, Record, Found, Columns, Entry, Transaction, Recovery, Stays, Forward, Back, Again, Busy}
 use Rattle.model.specs.Layouts.{recordLayout, imageLayout, columnsLayout}
 use Rattle.model.specs.Lines.{inRange, rowGood}
-use Rattle.model.specs.Records.{imageNumbers, isZero, keyInRange, sameKey, hasLine, lineOf, byFound}
+use Rattle.model.specs.Records.{imageNumbers, absence, keyInRange, sameKey, hasLine, lineOf, byFound}
 use Rattle.model.specs.Coordinator.{Letter, withIssued}
 use Rattle.model.specs.Groups.{isLower}
-use Rattle.model.specs.Transactions.{withdrawPhase, noVerdict, held, noEntry, heldAt, entryAs, withPut, moved, withEntry}
+use Rattle.model.specs.Transactions.{withdrawPhase, noVerdict, held, noEntry, heldAt, wasAbsent, entryAs, withPut, moved, withEntry}
 use Rattle.model.specs.Images.{isAbsent, isPrepared, rolledForward}
 use Rattle.model.specs.Writes.{Sheets, sheetsGood, Write, nothing, issue, addLine, removeLine, decisionsAfter, apply}
 use Rattle.model.specs.WellFormed.{columnsInRange, imageInRange, putFits, entryFormed, distinctKeys, placeFormed, verdictFormed, wellFormed}
@@ -25,7 +25,7 @@ use Rattle.sheet_laws.specs.Coordinator.{bounds}
 use Rattle.call_laws.specs.Choices.{by-phase-of, unless-by, testOf, accepted, by-meeting, entryRead, by-whole}
 use Rattle.call_laws.specs.Keys.{hasKey}
 use Rattle.call_laws.specs.Ranges.{GoodParts}
-use Rattle.call_laws.specs.Images.{back-plain, version-some, when-settled, forward-fine, back-fine}
+use Rattle.call_laws.specs.Images.{flag-says, back-plain, version-some, when-settled, forward-fine, back-fine}
 use Rattle.call_laws.specs.Lines.{line-of-key}
 use Rattle.call_laws.specs.Sheets.{GoodSheets, good-parts, parts-good, Fit, fit-nothing, fit-issue, fit-decide, fit-forward, fit-back, fit-add, fit-remove, write-closed}
 use Rattle.call_laws.specs.Adding.{may-add, may-remove}
@@ -142,23 +142,28 @@ module _ (s : Sheets) (good : GoodSheets s) where
       let rest = and-snd v _ h in
       and-both (and-fst v _ h) (and-both (and-fst n _ rest) g)
 
-  -- the entry of a good line that isn't prepared is well formed
-  entry-of-line : (k : Key) (r : Record) → keyInRange k ≡ true → GoodParts (s .coordinator .issued) r → isPrepared r ≡ false → entryFormed (s .coordinator .issued) (entryAs k (r .image)) ≡ true
+  -- an image read of a record, absent or not
+  flag-fits : (a : Bool) → leb (cond a 1 0) 1 ≡ true
+  flag-fits true = refl
+  flag-fits false = refl
+
+  entry-fits : (k : Key) (a : Bool) (m : Image) → keyInRange k ≡ true → imageInRange m ≡ true → leb (m .txid) (s .coordinator .issued) ≡ true → cond a (absence m) (leb 1 (m .version)) ≡ true → entryFormed (s .coordinator .issued) (entryAs k a m) ≡ true
   unfolding entryFormed putFits
-  entry-of-line k r i g p =
-      and-both
-      (and-both (and-both (and-both (and-both refl (g .image)) (le-leb (r .image .txid) (s .coordinator .issued) (g .txid))) (when-settled r p (g .rule))) refl) i
+  entry-fits k a m i g n h =
+      and-both (and-both (and-both (and-both (and-both (and-both (flag-fits a) refl) g) n) (ap (λ (b : Bool). cond b (absence m) (leb 1 (m .version))) (flag-says a) ∙ h)) refl) i
+
+  -- the entry of a good line that isn't prepared is well formed
+  entry-of-line : (k : Key) (r : Record) → keyInRange k ≡ true → GoodParts (s .coordinator .issued) r → isPrepared r ≡ false → entryFormed (s .coordinator .issued) (entryAs k (isAbsent r) (r .image)) ≡ true
+  entry-of-line k r i g p = entry-fits k (isAbsent r) (r .image) i (g .image) (le-leb (r .image .txid) (s .coordinator .issued) (g .txid)) (when-settled r p (g .rule))
 
   -- and so is that of a second call, whose columns are in range where they count
-  entry-of-second : (lower : Bool) (c : Columns) (k : Key) (r : Record) → keyInRange k ≡ true → (lower ≡ true → columnsInRange c ≡ true) → GoodParts (s .coordinator .issued) r → isPrepared r ≡ false → entryFormed (s .coordinator .issued) (entryAs k (seenSecond lower c r)) ≡ true
-  unfolding entryFormed putFits seenSecond
+  entry-of-second : (lower : Bool) (c : Columns) (k : Key) (r : Record) → keyInRange k ≡ true → (lower ≡ true → columnsInRange c ≡ true) → GoodParts (s .coordinator .issued) r → isPrepared r ≡ false → entryFormed (s .coordinator .issued) (entryAs k (isAbsent r) (seenSecond lower c r)) ≡ true
+  unfolding seenSecond
   entry-of-second lower c k r i h g p =
-      choose-by (λ (m : Image). entryFormed (s .coordinator .issued) (entryAs k m) ≡ true) (lower && not (isAbsent r))
-      (λ e. let v : leb 1 (r .image .version) ≡ true = version-some r p (not-true (isAbsent r) (and-snd lower (not (isAbsent r)) e)) (g .rule) in
-      and-both
-      (and-both
-      (and-both (and-both (and-both refl (columns-ranged (r .image) c (g .image) (h (and-fst lower (not (isAbsent r)) e)))) (le-leb (r .image .txid) (s .coordinator .issued) (g .txid)))
-      (rw v)) refl) i)
+      choose-by (λ (m : Image). entryFormed (s .coordinator .issued) (entryAs k (isAbsent r) m) ≡ true) (lower && not (isAbsent r))
+      (λ e. let a : isAbsent r ≡ false = not-true (isAbsent r) (and-snd lower (not (isAbsent r)) e) in
+      let v : leb 1 (r .image .version) ≡ true = version-some r p a (g .rule) in
+      entry-fits k (isAbsent r) _ i (columns-ranged (r .image) c (g .image) (h (and-fst lower (not (isAbsent r)) e))) (le-leb (r .image .txid) (s .coordinator .issued) (g .txid)) (rw a v))
       (λ e. entry-of-line k r i g p)
 
   module _ (t : Transaction) (b : Body s t) where
@@ -188,7 +193,7 @@ module _ (s : Sheets) (good : GoodSheets s) where
     met = meeting now s line
 
     whole-keeps : (isNew k t && leb 8 (t .count)) ≡ false → (isNew k t ≡ true → isBusy met ≡ false)
-        → ((r : Record) → isNew k t ≡ true → GoodParts (s .coordinator .issued) r → isPrepared r ≡ false → entryFormed (s .coordinator .issued) (entryAs (line .key) (sees r)) ≡ true)
+        → ((r : Record) → isNew k t ≡ true → GoodParts (s .coordinator .issued) r → isPrepared r ≡ false → entryFormed (s .coordinator .issued) (entryAs (line .key) (isAbsent r) (sees r)) ≡ true)
         → Keeps s (wholeRead sees t k now s)
     unfolding returns
     whole-keeps few free formed =
@@ -246,9 +251,10 @@ module _ (s : Sheets) (good : GoodSheets s) where
       let a : leb (y .seen .version) 99998 ≡ true = le-leb (y .seen .version) 99998 (omega arith) in
       let b : imageInRange (y .seen) ≡ true = search (tests, f) in
       let d : leb (y .seen .txid) (s .coordinator .issued) ≡ true = search (tests, f) in
-      let e : (leb 1 (y .seen .version) || isZero (y .seen)) ≡ true = search (tests, f) in
+      let e : cond (wasAbsent y) (absence (y .seen)) (leb 1 (y .seen .version)) ≡ true = search (tests, f) in
       let i : keyInRange (y .key) ≡ true = search (tests, f) in
-      and-both (and-both (and-both (and-both (and-both refl b) d) e) (and-both a r)) i
+      let n : leb (y .absent) 1 ≡ true = search (tests, f) in
+      and-both (and-both (and-both (and-both (and-both (and-both n refl) b) d) e) (and-both a r)) i
 
   module _ (t : Transaction) (b : Body s t) (c : Columns) where
     -- the entry at an index replaced by one with a put

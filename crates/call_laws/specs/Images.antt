@@ -1,15 +1,20 @@
 -- A record that keeps the rules keeps them when it is prepared, committed in one phase, rolled forward or back; and what rolling a prepared record gives.
 -- Each goes part by part, the rule of the new state from that of the old.
-use Rattle.lists.specs.Basics.{_≡_, refl, sym, ℕ, _+_, _≤_, eqb, leb, true, false, _||_, true≢false, arith}
-use Rattle.lists.specs.Basics.{eq-eqb, le-leb, and-fst, and-both, tests, or-right}
+use Rattle.lists.specs.Basics.{_≡_, refl, sym, ℕ, _+_, _≤_, eqb, leb, Bool, true, false, cond, true≢false, arith}
+use Rattle.lists.specs.Basics.{eq-eqb, le-leb, and-fst, and-snd, and-both, tests}
 use Rattle.model.specs.Types.{Key, Image, Record, State, Before}
 use Rattle.types.specs.declared.State.the-variants.{Absent, Committed, Prepared}
 use Rattle.types.specs.declared.Before.the-variants as Was
-use Rattle.model.specs.Records.{byState, byBefore, isZero, noBefore, beforeRule, absentRule, committedRule, preparedRule, stateRule, noImage, absentAt}
+use Rattle.model.specs.Records.{byState, byBefore, isZero, absence, noBefore, beforeRule, absentRule, committedRule, preparedRule, stateRule, noImage, absentAt}
 use Rattle.model.specs.Images.{isAbsent, isPrepared, Change, writtenImage, prepared, committed, stateKept, rolledForward, stateBack, rolledBack}
 use Rattle.model.specs.WellFormed.{imageInRange, columnsInRange}
 use Rattle.model.specs.Conditions.{isBlank}
 use Rattle.call_laws.specs.Ranges.{GoodParts, image-ranged, zeros-ranged}
+
+-- absence as a number, and back
+pub flag-says : (a : Bool) → eqb (cond a 1 0) 1 ≡ a
+flag-says true = refl
+flag-says false = refl
 
 -- The rule of a state, from the record's.
 
@@ -31,26 +36,22 @@ version-some r = go (r .state)
     go Committed p a h = search tests
     go Prepared p a h = absurd (true≢false p)
 
--- a record that isn't prepared has version 1 or more, or holds nothing
-pub when-settled : (r : Record) → isPrepared r ≡ false → stateRule r ≡ true → (leb 1 (r .image .version) || isZero (r .image)) ≡ true
+-- a record that isn't prepared has the image of an absence, or version 1 or more
+pub when-settled : (r : Record) → isPrepared r ≡ false → stateRule r ≡ true → cond (isAbsent r) (absence (r .image)) (leb 1 (r .image .version)) ≡ true
 unfolding absentRule committedRule
 when-settled r = go (r .state)
   where
-    go : (x : State) → byState x false false true ≡ false → byState x (absentRule r) (committedRule r) (preparedRule r) ≡ true → (leb 1 (r .image .version) || isZero (r .image)) ≡ true
-    go Absent p h =
-        let z : isZero (r .image) ≡ true = search tests in
-        or-right (leb 1 (r .image .version)) (isZero (r .image)) z
-    go Committed p h =
-        let z : leb 1 (r .image .version) ≡ true = search tests in
-        rw z
+    go : (x : State) → byState x false false true ≡ false → byState x (absentRule r) (committedRule r) (preparedRule r) ≡ true → cond (byState x true false false) (absence (r .image)) (leb 1 (r .image .version)) ≡ true
+    go Absent p h = search tests
+    go Committed p h = search tests
     go Prepared p h = absurd (true≢false p)
 
 -- its image, kept as a before image beside its state, keeps the rule of before images
-kept-rule : (r : Record) → isPrepared r ≡ false → stateRule r ≡ true → byBefore (stateKept (r .state)) false (isZero (r .image)) (leb 1 (r .image .version)) ≡ true
+kept-rule : (r : Record) → isPrepared r ≡ false → stateRule r ≡ true → byBefore (stateKept (r .state)) false (absence (r .image)) (leb 1 (r .image .version)) ≡ true
 unfolding absentRule committedRule
 kept-rule r = go (r .state)
   where
-    go : (x : State) → byState x false false true ≡ false → byState x (absentRule r) (committedRule r) (preparedRule r) ≡ true → byBefore (stateKept x) false (isZero (r .image)) (leb 1 (r .image .version)) ≡ true
+    go : (x : State) → byState x false false true ≡ false → byState x (absentRule r) (committedRule r) (preparedRule r) ≡ true → byBefore (stateKept x) false (absence (r .image)) (leb 1 (r .image .version)) ≡ true
     go Absent p h = search tests
     go Committed p h = search tests
     go Prepared p h = absurd (true≢false p)
@@ -65,7 +66,7 @@ back-rule : (r : Record) → beforeRule r ≡ true → stateRule (rolledBack r) 
 unfolding rolledBack beforeRule absentRule committedRule
 back-rule r = go (r .prior)
   where
-    go : (b : Before) → byBefore b false (isZero (r .before)) (leb 1 (r .before .version)) ≡ true → byState (stateBack b) (absentRule (rolledBack r)) (committedRule (rolledBack r)) (preparedRule (rolledBack r)) ≡ true
+    go : (b : Before) → byBefore b false (absence (r .before)) (leb 1 (r .before .version)) ≡ true → byState (stateBack b) (absentRule (rolledBack r)) (committedRule (rolledBack r)) (preparedRule (rolledBack r)) ≡ true
     go Was.Nothing h = absurd (true≢false (sym h))
     go Was.Absent h = and-both h (nothing-before (r .key) _ _)
     go Was.Committed h = and-both h (nothing-before (r .key) _ _)
@@ -179,19 +180,25 @@ no-before r h =
     let c : r .clock ≡ 0 = search tests in
     record { prior = nothing-is (r .prior) n; before = zero-is (r .before) z; clock = c }
 
+-- an absence of version 0 has nothing else either
+absence-none : (m : Image) → absence m ≡ true → eqb (m .version) 0 ≡ true → isZero m ≡ true
+unfolding absence isZero
+absence-none m h v = rw v (rw v at h)
+
 -- a blank record is the ABSENT line of its key
 pub blank-is : (r : Record) → stateRule r ≡ true → isBlank r ≡ true → r ≡ absentAt (r .key)
 unfolding isBlank absentRule
-blank-is r = λ h b. go (r .state) refl h (and-fst (isAbsent r) (eqb (r .image .version) 0) b)
+blank-is r = λ h b. go (r .state) refl h (and-fst (isAbsent r) (eqb (r .image .version) 0) b) (and-snd (isAbsent r) (eqb (r .image .version) 0) b)
   where
-    go : (x : State) → r .state ≡ x → byState x (absentRule r) (committedRule r) (preparedRule r) ≡ true → byState x true false false ≡ true → r ≡ absentAt (r .key)
-    go Absent e h a =
-        let m : isZero (r .image) ≡ true = search tests in
+    go : (x : State) → r .state ≡ x → byState x (absentRule r) (committedRule r) (preparedRule r) ≡ true → byState x true false false ≡ true → eqb (r .image .version) 0 ≡ true → r ≡ absentAt (r .key)
+    go Absent e h a v =
+        let s : absence (r .image) ≡ true = search tests in
+        let m : isZero (r .image) ≡ true = absence-none (r .image) s v in
         let z : noBefore r ≡ true = search tests in
         let n = no-before r z in
         λ i. record { key = r .key; state = e i; image = zero-is (r .image) m i; prior = n .prior i; before = n .before i; clock = n .clock i }
-    go Committed e h a = absurd (true≢false (sym a))
-    go Prepared e h a = absurd (true≢false (sym a))
+    go Committed e h a v = absurd (true≢false (sym a))
+    go Prepared e h a v = absurd (true≢false (sym a))
 
 -- a record that isn't prepared has nothing before it, and kept beside its image its state comes back
 settled : (r : Record) → isPrepared r ≡ false → stateRule r ≡ true → (stateBack (stateKept (r .state)) ≡ r .state) × (noBefore r ≡ true)

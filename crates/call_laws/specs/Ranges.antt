@@ -6,7 +6,7 @@ use Rattle.types.specs.declared.State.the-variants.{Absent, Committed, Prepared
 use Rattle.types.specs.declared.Before.the-variants as Was
 use Rattle.model.specs.Layouts.{figures, word, recordLayout, keyLayout, imageLayout, columnsLayout, wordBytes}
 use Rattle.model.specs.Lines.{inRange, rowGood}
-use Rattle.model.specs.Records.{stateNumber, beforeNumber, keyNumbers, imageNumbers, recordNumbers, keyInRange, stateRule, noBefore, absentRule, isZero, goodAlone, noImage, absentAt}
+use Rattle.model.specs.Records.{stateNumber, beforeNumber, keyNumbers, imageNumbers, recordNumbers, keyInRange, stateRule, absence, noBefore, absentRule, isZero, goodAlone, noImage, absentAt}
 use Rattle.model.specs.Coordinator.{namesIssued}
 use Rattle.model.specs.WellFormed.{imageInRange, columnsInRange}
 use Rattle.sheet_laws.specs.Records.{ranged, good-ranged}
@@ -126,7 +126,7 @@ zeros-ranged = refl
 
 -- a key without a line counts as an ABSENT line of version 0, which keeps the rules
 pub absent-good : (issued : ℕ) (k : Key) → keyInRange k ≡ true → GoodParts issued (absentAt k)
-unfolding absentRule noBefore isZero
+unfolding absentRule absence noBefore isZero
 absent-good issued k h =
     record { key = h; image = zeros-ranged; before = zeros-ranged; clock = omega arith; rule = refl; txid = omega arith; before-txid = omega arith }
 

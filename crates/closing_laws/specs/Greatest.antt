@@ -44,7 +44,7 @@ greatestClosed n = moved donePhase 0 committedVerdict (greatestTransaction n)
 
 -- what a close reports and returns; what the computations unfold is named here, once for all counts
 unfoldable ended : Run → Answer
-unfolding Lists.eqList Each.all Each.any Each.filter Each.count Each.less Layouts.recordLayout Layouts.keyLayout Layouts.imageLayout Layouts.columnsLayout Lines.inRange Lines.rowGood Search.firstFrom Records.stateNumber Records.beforeNumber Records.keyNumbers Records.imageNumbers Records.recordNumbers Records.isZero Records.noBefore Records.absentRule Records.goodAlone Records.keyLess Records.inOrder Records.rising Records.recordsGood Records.keyInRange Records.sameKey Records.found Records.isMissing Records.lineOf Coordinator.decision Coordinator.withDecision Coordinator.coordinatorGood Coordinator.namesIssued Refusals.refusalOf Transactions.held Transactions.puts Transactions.toValidate Groups.unitFields Groups.letterFor Groups.scope Groups.addScope Groups.scopes Groups.groupCount Groups.groupPlace Groups.group Images.preparedBy Images.unchanged Images.prepared Images.rolledForward Writes.sizeGood Writes.sheetsGood Writes.entryFor Writes.isOf Writes.lineAfter Writes.shifted Writes.linesAfter Writes.decisionsAfter Writes.apply WellFormed.imageInRange WellFormed.columnsInRange WellFormed.putFits WellFormed.entryFormed WellFormed.distinctKeys WellFormed.placeFormed WellFormed.verdictFormed WellFormed.formed WellFormed.wellFormed Steps.holds Steps.onePhaseAllowed Steps.openStep Steps.nextGroup Steps.prepareStep Steps.decideStep Steps.finishStep Steps.step Closing.changes Closing.turn Closing.closing Closing.closeBarred Closing.closeConditions Greatest.greatestLines Greatest.greatestCoordinator Greatest.greatestTransaction
+unfolding Lists.eqList Each.all Each.any Each.filter Each.count Each.less Layouts.recordLayout Layouts.keyLayout Layouts.imageLayout Layouts.columnsLayout Lines.inRange Lines.rowGood Search.firstFrom Records.stateNumber Records.beforeNumber Records.keyNumbers Records.imageNumbers Records.recordNumbers Records.isZero Records.absence Records.noBefore Records.absentRule Records.goodAlone Records.keyLess Records.inOrder Records.rising Records.recordsGood Records.keyInRange Records.sameKey Records.found Records.isMissing Records.lineOf Coordinator.decision Coordinator.withDecision Coordinator.coordinatorGood Coordinator.namesIssued Refusals.refusalOf Transactions.held Transactions.puts Transactions.toValidate Groups.unitFields Groups.letterFor Groups.scope Groups.addScope Groups.scopes Groups.groupCount Groups.groupPlace Groups.group Images.preparedBy Images.unchanged Images.prepared Images.rolledForward Writes.sizeGood Writes.sheetsGood Writes.entryFor Writes.isOf Writes.lineAfter Writes.shifted Writes.linesAfter Writes.decisionsAfter Writes.apply WellFormed.imageInRange WellFormed.columnsInRange WellFormed.putFits WellFormed.entryFormed WellFormed.distinctKeys WellFormed.placeFormed WellFormed.verdictFormed WellFormed.formed WellFormed.wellFormed Steps.holds Steps.onePhaseAllowed Steps.openStep Steps.nextGroup Steps.prepareStep Steps.decideStep Steps.finishStep Steps.step Closing.changes Closing.turn Closing.closing Closing.closeBarred Closing.closeConditions Greatest.greatestLines Greatest.greatestCoordinator Greatest.greatestTransaction
 ended x = reported (x .writes) (x .transaction)
 
 record Computed (n count : ℕ) : Type 0 where

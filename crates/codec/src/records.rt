@@ -3,7 +3,7 @@ ghost use mathlib.Core.Path.{_≡_};
 ghost use Prim.Native.Nat.{_*_, _/_};
 ghost use lib.ListN.{length, getD};
 ghost use Rattle.model.specs.Layouts.{recordBytes, recordFields};
-ghost use Rattle.model.specs.Records.{stateOf, stateNumber, beforeOf, beforeNumber, recordOf, noRecord};
+ghost use Rattle.model.specs.Records.{stateOf, stateNumber, beforeOf, beforeNumber, recordOf, noRecord, absence};
 ghost use Rattle.model.specs.Records as model;
 use crate::lines;
 use types::Before;
@@ -99,6 +99,16 @@ pub fn record_of(v: &[u32]) -> Record
         },
         clock: v[15],
     }
+}
+
+// The image of an absence: version and TxID each 0 or each at least 1, and no columns.
+pub fn is_absence(m: Image) -> bool
+    ensures { λ r. ⌜ r ≡ absence m ⌝ }
+{
+    if m.version == 0 {
+        return (m.txid == 0) & (m.column1 == 0) & (m.column2 == 0);
+    }
+    (1 <= m.txid) & (m.column1 == 0) & (m.column2 == 0)
 }
 
 // How many records a sheet has.

@@ -26,9 +26,11 @@ fn put_at(t: Transaction, i: usize, columns: Columns) -> Returned
     }
     let key = e.key;
     let seen = e.seen;
+    let absent = e.absent;
     let with_put = Entry {
         key,
         seen,
+        absent,
         wrote: 1,
         put: columns,
     };

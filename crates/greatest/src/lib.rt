@@ -68,6 +68,7 @@ fn entry(i: u32) -> Entry
             clustering: i,
         },
         seen: NO_IMAGE,
+        absent: 1,
         wrote: 1,
         put: Columns {
             column1: i,

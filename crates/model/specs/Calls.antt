@@ -34,10 +34,10 @@ abbrev pub holding : Entry → Transaction → Transaction
 holding e t = withEntry (t .count + 1) (t .count) e t
 
 -- "a new key is visited and then held"; "answer *again* (read too, holding no entry)"
-unfoldable pub readNew : Transaction → Recovery → Record → Image → Result Answer
-readNew t v r seen =
+unfoldable pub readNew : Transaction → Recovery → Record → Bool → Image → Result Answer
+readNew t v r absent seen =
     cond (isAgain v) (made (answered Again t) (recoveryWrite v r))
-    (made (answered (reading (entryAs (r .key) seen)) (holding (entryAs (r .key) seen) t)) (recoveryWrite v r))
+    (made (answered (reading (entryAs (r .key) absent seen)) (holding (entryAs (r .key) absent seen) t)) (recoveryWrite v r))
 
 -- what a second call sees of a line: where the storage can't be read consistently it "answers and holds these columns; if the line is ABSENT it answers absent and
 -- holds 0", which an ABSENT line has
@@ -51,7 +51,8 @@ seenSecond lower c r =
 unfoldable pub wholeRead : (Record → Image) → Transaction → Key → ℕ → Sheets → Result Answer
 wholeRead sees t k now s =
     cond (isNew k t)
-    (readNew t (meeting now s (lineOf k (s .lines))) (lineOf k (s .lines)) (sees (recovered (meeting now s (lineOf k (s .lines))) (lineOf k (s .lines)))))
+    (readNew t (meeting now s (lineOf k (s .lines))) (lineOf k (s .lines)) (isAbsent (recovered (meeting now s (lineOf k (s .lines))) (lineOf k (s .lines))))
+    (sees (recovered (meeting now s (lineOf k (s .lines))) (lineOf k (s .lines)))))
     (readHeld t (heldEntry k t))
 
 -- "The first .. answers the plain sheet's columns and writes nothing", whatever the state of the line

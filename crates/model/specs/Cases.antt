@@ -1,5 +1,5 @@
 -- Document 01's twelve cases, section d, as one table, and one theorem: each follows from the definitions by computation.
-use Rattle.lists.specs.Basics.{_≡_, refl, ℕ, false, cond, List, [], _∷_, _++_, map, set, replicate, bytes}
+use Rattle.lists.specs.Basics.{true, _≡_, refl, ℕ, false, cond, List, [], _∷_, _++_, map, set, replicate, bytes}
 use Rattle.model.specs.Types.{AtomicityUnit, Entry, Transaction}
 use Rattle.types.specs.declared.AtomicityUnit.the-variants.{Partition, Namespace}
 use Rattle.model.specs.Lines.{text}
@@ -82,7 +82,7 @@ expiryCase now expected =
 -- Grouping (2,1,1,7,1) with (2,1,2,7,1).
 
 abbrev pub keyIn : ℕ → Entry
-keyIn table = entryAs (record { storage = 2; namespace = 1; table = table; partition = 7; clustering = 1 }) noImage
+keyIn table = entryAs (record { storage = 2; namespace = 1; table = table; partition = 7; clustering = 1 }) true noImage
 
 abbrev pub groupCase : AtomicityUnit → ℕ → Case
 groupCase unit expected =
@@ -104,6 +104,7 @@ transactionAs serializable phase verdict =
           (record {
             key = record { storage = 1; namespace = 1; table = 1; partition = 1; clustering = 1 };
             seen = record { version = 3; txid = 1; column1 = 500; column2 = 250 };
+            absent = 0;
             wrote = 1;
             put = record { column1 = 600; column2 = 300 };
           });
@@ -135,7 +136,7 @@ advanceCase t line own line′ own′ answer =
     }
 
 unfoldable pub cases : List Case
-unfolding Bytes.bytes Bytes.eqList Each.all Each.any Each.filter Each.count Each.joined Each.pieces Each.less Field.stepped Field.scanned Field.within Field.figure Field.number Field.isNumber Field.ahead Field.fieldText Layouts.words Layouts.recordLayout Layouts.keyLayout Layouts.imageLayout Layouts.columnsLayout Layouts.headLayout Layouts.lineLayout Lines.wordFrom Lines.fieldValue Lines.fieldBytes Lines.inRange Lines.rowOf Lines.lineSet Lines.lineText Lines.rowGood Lines.linesOf Lines.linesSet Records.stateNumber Records.stateOf Records.beforeNumber Records.beforeOf Records.keyNumbers Records.imageNumbers Records.keyOf Records.imageFrom Records.recordOf Records.recordNumbers Records.isZero Records.noBefore Records.beforeRule Records.absentRule Records.committedRule Records.preparedRule Records.goodAlone Records.keyLess Records.inOrder Records.rising Records.recordsGood Records.recordIn Records.recordText Records.records Records.recordsText Records.recordsAccepted Spares.spareLine Spares.trimmed Spares.filledLines Spares.front Spares.sized Spares.sheetFor Spares.sheetAccepted Records.keyInRange Records.sameKey Search.firstFrom Records.found Records.isMissing Records.lineOf Coordinator.decisionNumber Coordinator.decisionOf Coordinator.unitNumber Coordinator.unitOf Coordinator.letterNumber Coordinator.letterOf Coordinator.isUndecided Coordinator.decision Coordinator.withDecision Coordinator.coordinatorGood Coordinator.decisionIn Coordinator.coordinatorOf Coordinator.numbered Coordinator.coordinatorReadable Coordinator.allCapitals Coordinator.coordinatorAccepted Coordinator.namesIssued Coordinator.decisionTexts Coordinator.headNumbers Coordinator.coordinatorText Refusals.refusalOf SheetCalls.allIssued SheetCalls.checkConditions Transactions.held Transactions.puts Transactions.toValidate Groups.unitFields Groups.letterFor Groups.scope Groups.addScope Groups.scopes Groups.groupCount Groups.groupPlace Groups.group Images.preparedBy Images.unchanged Images.sameColumns Images.prepared Images.committed Images.rolledForward Images.rolledBack Images.elapsed Images.lineExpired Images.recovery Writes.entryFor Writes.isOf Writes.lineAfter Writes.shifted Writes.linesAfter Writes.decisionsAfter Writes.apply WellFormed.imageInRange WellFormed.columnsInRange WellFormed.putFits WellFormed.entryFormed WellFormed.distinctKeys WellFormed.placeFormed WellFormed.verdictFormed WellFormed.formed WellFormed.wellFormed Visits.numberExpired Visits.meeting Visits.recoveryWrite Conditions.cannotAdvance Conditions.conditions Steps.holds Steps.onePhaseAllowed Steps.onePhase Steps.openStep Steps.nextGroup Steps.prepareStep Steps.decideStep Steps.finishStep Steps.undoStep Steps.step Calls.outcome Calls.result ByteCalls.resultOn ByteCalls.sheetAfter ByteCalls.coordinatorAfter ByteHistories.afterOn Visitor.firstLayout Visitor.inputFits Visitor.inputConditions Visitor.visitedAll Visitor.swept Visitor.visitorOutput
+unfolding Bytes.bytes Bytes.eqList Each.all Each.any Each.filter Each.count Each.joined Each.pieces Each.less Field.stepped Field.scanned Field.within Field.figure Field.number Field.isNumber Field.ahead Field.fieldText Layouts.words Layouts.recordLayout Layouts.keyLayout Layouts.imageLayout Layouts.columnsLayout Layouts.headLayout Layouts.lineLayout Lines.wordFrom Lines.fieldValue Lines.fieldBytes Lines.inRange Lines.rowOf Lines.lineSet Lines.lineText Lines.rowGood Lines.linesOf Lines.linesSet Records.stateNumber Records.stateOf Records.beforeNumber Records.beforeOf Records.keyNumbers Records.imageNumbers Records.keyOf Records.imageFrom Records.recordOf Records.recordNumbers Records.isZero Records.absence Records.noBefore Records.beforeRule Records.absentRule Records.committedRule Records.preparedRule Records.goodAlone Records.keyLess Records.inOrder Records.rising Records.recordsGood Records.recordIn Records.recordText Records.records Records.recordsText Records.recordsAccepted Spares.spareLine Spares.trimmed Spares.filledLines Spares.front Spares.sized Spares.sheetFor Spares.sheetAccepted Records.keyInRange Records.sameKey Search.firstFrom Records.found Records.isMissing Records.lineOf Coordinator.decisionNumber Coordinator.decisionOf Coordinator.unitNumber Coordinator.unitOf Coordinator.letterNumber Coordinator.letterOf Coordinator.isUndecided Coordinator.decision Coordinator.withDecision Coordinator.coordinatorGood Coordinator.decisionIn Coordinator.coordinatorOf Coordinator.numbered Coordinator.coordinatorReadable Coordinator.allCapitals Coordinator.coordinatorAccepted Coordinator.namesIssued Coordinator.decisionTexts Coordinator.headNumbers Coordinator.coordinatorText Refusals.refusalOf SheetCalls.allIssued SheetCalls.checkConditions Transactions.held Transactions.puts Transactions.toValidate Groups.unitFields Groups.letterFor Groups.scope Groups.addScope Groups.scopes Groups.groupCount Groups.groupPlace Groups.group Images.preparedBy Images.unchanged Images.sameColumns Images.prepared Images.committed Images.rolledForward Images.rolledBack Images.elapsed Images.lineExpired Images.recovery Writes.entryFor Writes.isOf Writes.lineAfter Writes.shifted Writes.linesAfter Writes.decisionsAfter Writes.apply WellFormed.imageInRange WellFormed.columnsInRange WellFormed.putFits WellFormed.entryFormed WellFormed.distinctKeys WellFormed.placeFormed WellFormed.verdictFormed WellFormed.formed WellFormed.wellFormed Visits.numberExpired Visits.meeting Visits.recoveryWrite Conditions.cannotAdvance Conditions.conditions Steps.holds Steps.onePhaseAllowed Steps.onePhase Steps.openStep Steps.nextGroup Steps.prepareStep Steps.decideStep Steps.finishStep Steps.undoStep Steps.step Calls.outcome Calls.result ByteCalls.resultOn ByteCalls.sheetAfter ByteCalls.coordinatorAfter ByteHistories.afterOn Visitor.firstLayout Visitor.inputFits Visitor.inputConditions Visitor.visitedAll Visitor.swept Visitor.visitorOutput
 cases =
     -- the four clock edges: 14999, 15000, 2147483647 and 2147483648 ticks
     expiryCase 19999 0

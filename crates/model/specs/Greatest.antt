@@ -36,7 +36,7 @@ greatestBytes n = record { records = recordsText (greatestLines n); coordinator 
 
 -- line i as read, with a put over it
 abbrev pub greatestEntry : ℕ → Entry
-greatestEntry i = withPut (record { column1 = i; column2 = 10 * i }) (entryAs (greatestKey i) noImage)
+greatestEntry i = withPut (record { column1 = i; column2 = 10 * i }) (entryAs (greatestKey i) true noImage)
 
 unfoldable pub greatestTransaction : ℕ → Transaction
 greatestTransaction zero = newTransaction 1 true

@@ -96,21 +96,25 @@ noRecord =
 unfoldable pub isZero : Image → Bool
 isZero m = eqb (m .version) 0 && eqb (m .txid) 0 && eqb (m .column1) 0 && eqb (m .column2) 0
 
+-- "version and TxID, each 0 or each at least 1", and columns 0: what an ABSENT line says, an ABSENT before image and an entry that was read absent
+unfoldable pub absence : Image → Bool
+absence m = cond (eqb (m .version) 0) (eqb (m .txid) 0) (leb 1 (m .txid)) && eqb (m .column1) 0 && eqb (m .column2) 0
+
 -- nothing before: before state `-`, "before fields and clock 0"
 unfoldable pub noBefore : Record → Bool
 noBefore r = byBefore (r .prior) true false false && isZero (r .before) && eqb (r .clock) 0
 
--- "ABSENT: every field after the state word is 0."
+-- "ABSENT: every field after the state word is 0", but "ABSENT lines may now carry both" version and TxID
 unfoldable pub absentRule : Record → Bool
-absentRule r = isZero (r .image) && noBefore r
+absentRule r = absence (r .image) && noBefore r
 
 -- "COMMITTED: version at least 1, before fields and clock 0; TxID 0 marks a line loaded at layout."
 unfoldable pub committedRule : Record → Bool
 committedRule r = leb 1 (r .image .version) && noBefore r
 
--- a before image by its state: an ABSENT one is 0, "a COMMITTED one has version at least 1"
+-- "An ABSENT before image has the same rule and columns 0; a COMMITTED one has version at least 1."
 unfoldable pub beforeRule : Record → Bool
-beforeRule r = byBefore (r .prior) false (isZero (r .before)) (leb 1 (r .before .version))
+beforeRule r = byBefore (r .prior) false (absence (r .before)) (leb 1 (r .before .version))
 
 -- "PREPARED: TxID at least 1, version = before version + 1"
 unfoldable pub preparedRule : Record → Bool

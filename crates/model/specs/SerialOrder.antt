@@ -5,7 +5,8 @@ use Rattle.lists.specs.Members.{Mem}
 use Rattle.model.specs.Types.{Key, Record, Columns, Transaction, Reading}
 use Rattle.types.specs.declared.Reading.the-variants.{Absent, Value, Again, First}
 use Rattle.model.specs.Records.{lineOf}
-use Rattle.model.specs.Transactions.{openPhase, preparePhase, validatePhase, decidePhase, donePhase, isEmpty, puts, reading}
+use Rattle.model.specs.Transactions.{openPhase, preparePhase, validatePhase, decidePhase, donePhase, isEmpty, puts, wasAbsent, reading}
+use Rattle.model.specs.Images.{isAbsent}
 use Rattle.model.specs.Results.{Call, begin, read, second, put, advance, abort, visit, add, remove, answered, refusalIn, returns}
 use Rattle.model.specs.Conditions.{heldEntry}
 use Rattle.model.specs.Histories.{Event, taken, eventsAfter}
@@ -78,10 +79,11 @@ serialLine rs m [] k = lineOf k rs
 serialLine rs m (n ∷ ns) k = cond (isCommitted n m) (overwritten n (m .writes n k) (serialLine rs m ns k)) (serialLine rs m ns k)
 
 -- A read of a key that answered v and returned t′ saw this line: the answer is the entry that t′ holds for the key, "as last put, else as first read", and what
--- that entry has as first read (version, TxID and columns; version 0 is absent) is the line's.
+-- that entry has as first read (absence, version, TxID and columns) is the line's.
 pub record Saw (line : Record) (k : Key) (v : Reading) (t′ : Transaction) : Type 0 where
   pub answer : v ≡ reading (heldEntry k t′)
   pub first-read : heldEntry k t′ .seen ≡ line .image
+  pub absence : wasAbsent (heldEntry k t′) ≡ isAbsent line
 
 -- "Refused reads, *again* and first readings under lower-case letters don't count as reads."
 abbrev pub countsAsRead : Reading → Bool

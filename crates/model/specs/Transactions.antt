@@ -79,7 +79,7 @@ unfoldable pub toValidate : List Letter → Transaction → List Entry
 toValidate us t = filter (mustValidate us t) (held t)
 
 abbrev pub noEntry : Entry
-noEntry = record { key = noRecord .key; seen = noImage; wrote = 0; put = record { column1 = 0; column2 = 0 } }
+noEntry = record { key = noRecord .key; seen = noImage; absent = 0; wrote = 0; put = record { column1 = 0; column2 = 0 } }
 
 abbrev pub isEmpty {ℓ} : {A : Type ℓ} → List A → Bool
 isEmpty [] = true
@@ -89,20 +89,24 @@ isEmpty (x ∷ xs) = false
 unfoldable pub heldAt : Key → Transaction → Found
 heldAt k t = firstFrom (λ (e : Entry). sameKey (e .key) k) 0 (held t)
 
+-- "A transaction's entry records absence separately from version 0"
+abbrev pub wasAbsent : Entry → Bool
+wasAbsent e = eqb (e .absent) 1
+
 -- "Read gives a held entry as last put, else as first read"; "Read answers an ABSENT line as absent."
 unfoldable pub reading : Entry → Reading
 reading e =
     cond (isPut e) (Value (e .put))
-    (cond (eqb (e .seen .version) 0) Absent
+    (cond (wasAbsent e) Absent
     (Value (record { column1 = e .seen .column1; column2 = e .seen .column2 })))
 
--- the entry of a record as read
-abbrev pub entryAs : Key → Image → Entry
-entryAs k m = record { key = k; seen = m; wrote = 0; put = record { column1 = 0; column2 = 0 } }
+-- the entry of a record as read, absent or not
+abbrev pub entryAs : Key → Bool → Image → Entry
+entryAs k a m = record { key = k; seen = m; absent = cond a 1 0; wrote = 0; put = record { column1 = 0; column2 = 0 } }
 
 -- the entry with a put, "in place of an earlier put"
 abbrev pub withPut : Columns → Entry → Entry
-withPut c e = record { key = e .key; seen = e .seen; wrote = 1; put = c }
+withPut c e = record { key = e .key; seen = e .seen; absent = e .absent; wrote = 1; put = c }
 
 -- A transaction with some fields replaced.
 

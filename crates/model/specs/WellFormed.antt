@@ -1,10 +1,10 @@
 -- Well-formed transactions (refusal 3): a line for each clause of document 01, "Transaction". Where it leaves room, docs/DECISIONS.md says what was decided.
-use Rattle.lists.specs.Basics.{ℕ, eqb, leb, ltb, Bool, true, false, not, _&&_, _||_, List, [], _∷_, length, all, any}
+use Rattle.lists.specs.Basics.{ℕ, eqb, leb, ltb, Bool, true, false, not, _&&_, _||_, cond, List, [], _∷_, length, all, any}
 use Rattle.model.specs.Types.{Image, Columns, Entry, Transaction}
 use Rattle.model.specs.Layouts.{imageLayout, columnsLayout}
 use Rattle.model.specs.Lines.{rowGood}
-use Rattle.model.specs.Records.{imageNumbers, isZero, keyInRange, sameKey}
-use Rattle.model.specs.Transactions.{byPhase, decidePhase, noVerdict, committedVerdict, abortedVerdict, isPut, isEmpty}
+use Rattle.model.specs.Records.{imageNumbers, absence, keyInRange, sameKey}
+use Rattle.model.specs.Transactions.{byPhase, decidePhase, noVerdict, committedVerdict, abortedVerdict, isPut, wasAbsent, isEmpty}
 use Rattle.model.specs.Transactions.{held, puts, toValidate}
 use Rattle.model.specs.Coordinator.{Letter}
 use Rattle.model.specs.Groups.{groupCount}
@@ -25,10 +25,11 @@ putFits e = not (isPut e) || leb (e .seen .version) 99998 && columnsInRange (e .
 -- An entry by itself.
 unfoldable pub entryFormed : ℕ → Entry → Bool
 entryFormed issued e =
-    leb (e .wrote) 1
+    leb (e .absent) 1
+    && leb (e .wrote) 1
     && imageInRange (e .seen)  -- "values are in range"
     && leb (e .seen .txid) issued  -- "TxIDs read are at most the issued count"
-    && (leb 1 (e .seen .version) || isZero (e .seen))  -- "version 0 has TxID and columns 0"
+    && cond (wasAbsent e) (absence (e .seen)) (leb 1 (e .seen .version))  -- document 02, note 7: "an absent one follows the ABSENT line's rule, any other has version at least 1"
     && putFits e
     && keyInRange (e .key)  -- document 02, note 6: "a held key without a line is now well formed"
 

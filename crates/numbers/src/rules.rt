@@ -35,7 +35,7 @@ fn no_before(r: Record) -> bool
 fn absent_rule(r: Record) -> bool
     ensures { λ b. ⌜ b ≡ absentRule r ⌝ }
 {
-    is_zero(r.image) & no_before(r)
+    codec::records::is_absence(r.image) & no_before(r)
 }
 
 fn committed_rule(r: Record) -> bool
@@ -51,7 +51,7 @@ fn before_rule(r: Record) -> bool
     let prior = r.prior;
     match prior {
         Before::Nothing => false,
-        Before::Absent => is_zero(r.before),
+        Before::Absent => codec::records::is_absence(r.before),
         Before::Committed => 1 <= r.before.version,
     }
 }

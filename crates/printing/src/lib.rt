@@ -1,7 +1,9 @@
 // The replies of a history as text for standard output, gathered in a lent buffer and written when that is full. `fill` is how many bytes of it are taken.
 ghost use mathlib.Core.Path.{_≡_};
 ghost use Prim.Native.Nat.{_≤_};
+ghost use Rattle.script.specs.Lines.{replyNumbers};
 use script::reply::Form;
+use script::reply::REPLY_NUMBERS;
 use script::reply::Reply;
 
 fn byte(b: u8, out: &mut [u8; 4096], fill: usize) -> usize
@@ -59,8 +61,8 @@ fn words(form: Form, out: &mut [u8; 4096], fill: usize) -> usize
 }
 
 // The first `count` of the numbers.
-fn numbers(values: [u32; 102], count: usize, out: &mut [u8; 4096], fill: usize) -> usize
-    requires { ⌜ (count ≤ 102) × (fill ≤ 4096) ⌝ }
+fn numbers(values: [u32; REPLY_NUMBERS], count: usize, out: &mut [u8; 4096], fill: usize) -> usize
+    requires { ⌜ (count ≤ replyNumbers) × (fill ≤ 4096) ⌝ }
     ensures { λ r. ⌜ r ≤ 4096 ⌝ }
 {
     let mut at = fill;
@@ -86,7 +88,7 @@ fn part(s: &[u8], out: &mut [u8; 4096], fill: usize) -> usize
 
 // A reply as a line, with the part of the sheet that was asked for.
 pub fn line(r: Reply, s: &[u8], out: &mut [u8; 4096], fill: usize) -> usize
-    requires { ⌜ r .count ≤ 102 ⌝ }
+    requires { ⌜ r .count ≤ replyNumbers ⌝ }
     requires { ⌜ fill ≤ 4096 ⌝ }
     ensures { λ r. ⌜ r ≤ 4096 ⌝ }
 {

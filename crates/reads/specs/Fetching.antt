@@ -1,14 +1,14 @@
 -- Read, either call, case by case in the order of its conditions: a held key, and a new one by the case of its letter and by what the visit of its line comes to.
 use Rattle.lists.specs.Basics.{_≡_, refl, sym, ap, ap₂, subst, _∙_, ℕ, _≤_, _<_, leb, Bool, true, false, not, _&&_, List, [], _∷_, _++_, length, take, drop, arith, le-leb, lt-leb, all}
 use Rattle.lists.specs.Basics.{cond}
-use Rattle.model.specs.Types.{Key, Image, Record, At, Nothing, Columns, Transaction, Recovery, Stays, Forward, Back, Again, Busy}
+use Rattle.model.specs.Types.{Key, Image, Record, At, Nothing, Columns, Entry, Transaction, Recovery, Stays, Forward, Back, Again, Busy}
 use Rattle.types.specs.declared.Reading.the-variants.{Again as Read-again, First as Read-first}
 use Rattle.model.specs.Records.{records, found, isMissing, hasLine, lineOf}
 use Rattle.model.specs.Refusals.{Condition, refuse, refusalOf}
 use Rattle.model.specs.Coordinator.{Letter}
 use Rattle.model.specs.Groups.{letterFor, isLower}
 use Rattle.model.specs.Transactions.{heldAt, reading, entryAs}
-use Rattle.model.specs.Images.{byRecovery, columnsOf, rolledForward, rolledBack}
+use Rattle.model.specs.Images.{isAbsent, byRecovery, columnsOf, rolledForward, rolledBack}
 use Rattle.model.specs.WellFormed.{columnsInRange}
 use Rattle.model.specs.Writes.{Sheets, nothing}
 use Rattle.model.specs.Visits.{meeting, isBusy, isAgain, recovered}
@@ -34,32 +34,36 @@ abbrev pub callOf : Asked → Transaction → Key → ℕ → Call
 callOf First t k now = read t k now
 callOf (Second c) t k now = second t k now c
 
--- the read of a record of this key, seen so, that is then held
-abbrev pub fetchedHeld : Key → Image → Transaction → Performed
-fetchedHeld k m t = performedAs (reading (entryAs k m)) (holding (entryAs k m) t)
+-- the entry of a record as it is read, under a key; it may see columns handed in
+abbrev pub entrySeen : Bool → Columns → Key → Record → Entry
+entrySeen lower c k r = entryAs k (isAbsent r) (seenSecond lower c r)
+
+-- the read of a record that is then held so
+abbrev pub fetchedHeld : Entry → Transaction → Performed
+fetchedHeld e t = performedAs (reading e) (holding e t)
 
 -- the read of a record as its visit leaves it, by what the visit came to
-abbrev pub fetchedMet : Recovery → Key → Image → Transaction → Performed
-fetchedMet v k m t = byRecovery v (fetchedHeld k m t) (fetchedHeld k m t) (fetchedHeld k m t) (performedAs Read-again t) (performedNot 12 t)
+abbrev pub fetchedMet : Recovery → Entry → Transaction → Performed
+fetchedMet v e t = byRecovery v (fetchedHeld e t) (fetchedHeld e t) (fetchedHeld e t) (performedAs Read-again t) (performedNot 12 t)
 
 -- what a read of a new key answers, by what the visit of its line comes to
-abbrev readMet : Recovery → Record → Image → Transaction → Answer
-readMet v r m t = cond (isAgain v) (answered Read-again t) (answered (reading (entryAs (r .key) m)) (holding (entryAs (r .key) m) t))
+abbrev readMet : Recovery → Entry → Transaction → Answer
+readMet v e t = cond (isAgain v) (answered Read-again t) (answered (reading e) (holding e t))
 
-met-new : (t : Transaction) (v : Recovery) (r : Record) (m : Image) → unless (refuse 12 (isBusy v) ∷ []) (readNew t v r m) ≡ unlessBusy v (readMet v r m t) r
+met-new : (t : Transaction) (v : Recovery) (r : Record) (b : Bool) (m : Image) → unless (refuse 12 (isBusy v) ∷ []) (readNew t v r b m) ≡ unlessBusy v (readMet v (entryAs (r .key) b m) t) r
 unfolding readNew refusalOf
-met-new t Stays r m = refl
-met-new t Forward r m = refl
-met-new t Back r m = refl
-met-new t Again r m = refl
-met-new t Busy r m = refl
+met-new t Stays r b m = refl
+met-new t Forward r b m = refl
+met-new t Back r b m = refl
+met-new t Again r b m = refl
+met-new t Busy r b m = refl
 
-met-fetched : (v : Recovery) (r : Record) (m : Image) (t : Transaction) → fetchedMet v (r .key) m t ≡ toPerformed t (unlessBusy v (readMet v r m t) r)
-met-fetched Stays r m t = refl
-met-fetched Forward r m t = refl
-met-fetched Back r m t = refl
-met-fetched Again r m t = refl
-met-fetched Busy r m t = refl
+met-fetched : (v : Recovery) (r : Record) (e : Entry) (t : Transaction) → fetchedMet v e t ≡ toPerformed t (unlessBusy v (readMet v e t) r)
+met-fetched Stays r e t = refl
+met-fetched Forward r e t = refl
+met-fetched Back r e t = refl
+met-fetched Again r e t = refl
+met-fetched Busy r e t = refl
 
 -- what is asked of either call for a key that has a line
 abbrev lineConditions : Asked → Transaction → Key → ℕ → Sheets → List Condition
@@ -142,7 +146,7 @@ asked-as t k now rs cs {answer = answer} {rs′ = rs′} {cs′ = cs′} e h =
 unfoldable pub newRead : Bool → Columns → Transaction → Key → ℕ → Sheets → Result Answer
 newRead lower c t k now s =
     unless (refuse 9 (leb 8 (t .count)) ∷ refuse 12 (busy k now s) ∷ [])
-    (readNew t (meeting now s (lineOf k (s .lines))) (lineOf k (s .lines)) (seenSecond lower c (recovered (meeting now s (lineOf k (s .lines))) (lineOf k (s .lines)))))
+    (readNew t (meeting now s (lineOf k (s .lines))) (lineOf k (s .lines)) (isAbsent (recovered (meeting now s (lineOf k (s .lines))) (lineOf k (s .lines)))) (seenSecond lower c (recovered (meeting now s (lineOf k (s .lines))) (lineOf k (s .lines)))))
 
 -- what the first of two calls answers
 abbrev pub firstOf : Transaction → Record → Performed
@@ -211,30 +215,30 @@ module _ (t : Transaction) (now : ℕ) (rs cs : List ℕ) (i : ℕ) (a : NewRead
   unfolding newRead refusalOf
   read-full l c g = rw (le-leb 8 (t .count) g)
 
-  abbrev sees : Bool → Columns → Recovery → Image
-  sees l c v = seenSecond l c (recovered v here)
+  abbrev sees : Bool → Columns → Recovery → Entry
+  sees l c v = entrySeen l c (here .key) (recovered v here)
 
-  read-met : (l : Bool) (c : Columns) → t .count < 8 → newRead l c t (here .key) now s ≡ unlessBusy (meeting now s here) (readMet (meeting now s here) here (sees l c (meeting now s here)) t) here
+  read-met : (l : Bool) (c : Columns) → t .count < 8 → newRead l c t (here .key) now s ≡ unlessBusy (meeting now s here) (readMet (meeting now s here) (sees l c (meeting now s here)) t) here
   unfolding newRead refusalOf
   read-met l c g =
       let n : leb 8 (t .count) ≡ false = lt-leb 8 (t .count) g in
       let r = lineOf (here .key) (records rs) in
-      rw n (met-new t (meeting now s r) r (seenSecond l c (recovered (meeting now s r) r)))
-      ∙ ap (λ (x : Record). unlessBusy (meeting now s x) (readMet (meeting now s x) x (seenSecond l c (recovered (meeting now s x) x)) t) x) (sym (read-standing .index .line))
+      rw n (met-new t (meeting now s r) r (isAbsent (recovered (meeting now s r) r)) (seenSecond l c (recovered (meeting now s r) r)))
+      ∙ ap (λ (x : Record). unlessBusy (meeting now s x) (readMet (meeting now s x) (entrySeen l c (x .key) (recovered (meeting now s x) x)) t) x) (sym (read-standing .index .line))
 
   -- the record is that of line i after the visit
-  pub read-outcome : (l : Bool) (c : Columns) (v : Recovery) (r : Record) (m : Image) {answer : Performed} {rs′ cs′ : List ℕ} → t .count < 8 → Recovered now i rs cs v rs′ cs′ → r ≡ lineAt rs′ i
-      → m ≡ seenSecond l c r → answer ≡ fetchedMet v (r .key) m t → Outcome (toPerformed t) (newRead l c t (here .key) now s) rs cs answer rs′ cs′
+  pub read-outcome : (l : Bool) (c : Columns) (v : Recovery) (r : Record) (x : Entry) {answer : Performed} {rs′ cs′ : List ℕ} → t .count < 8 → Recovered now i rs cs v rs′ cs′ → r ≡ lineAt rs′ i
+      → x ≡ entrySeen l c (r .key) r → answer ≡ fetchedMet v x t → Outcome (toPerformed t) (newRead l c t (here .key) now s) rs cs answer rs′ cs′
   unfolding recovered rolledForward rolledBack
-  read-outcome l c v r m g h e f b =
+  read-outcome l c v r x g h e f b =
       let same : r ≡ recovered v here = e ∙ recovered-line now rs cs i read-standing v h in
-      outcome-met (toPerformed t) rs cs (a .line .accepted) v (readMet v here (sees l c v) t) here
-      (read-met l c g ∙ ap (λ (x : Recovery). unlessBusy x (readMet x here (sees l c x) t) here) (sym (h .met)))
-      (b ∙ (ap (λ (y : Image). fetchedMet v (r .key) y t) (f ∙ ap (seenSecond l c) same) ∙ (ap (λ (x : Record). fetchedMet v (x .key) (sees l c v) t) same ∙ (same-key v ∙ met-fetched v here (sees l c v) t))))
+      outcome-met (toPerformed t) rs cs (a .line .accepted) v (readMet v (sees l c v) t) here
+      (read-met l c g ∙ ap (λ (x : Recovery). unlessBusy x (readMet x (sees l c x) t) here) (sym (h .met)))
+      (b ∙ (ap (λ (y : Entry). fetchedMet v y t) (f ∙ ap (λ (z : Record). entrySeen l c (z .key) z) same) ∙ (same-key v ∙ met-fetched v here (sees l c v) t)))
       (h .written)
     where
       -- a visit leaves the key
-      same-key : (v : Recovery) → fetchedMet v (recovered v here .key) (sees l c v) t ≡ fetchedMet v (here .key) (sees l c v) t
+      same-key : (v : Recovery) → fetchedMet v (entrySeen l c (recovered v here .key) (recovered v here)) t ≡ fetchedMet v (sees l c v) t
       same-key Stays = refl
       same-key Forward = refl
       same-key Back = refl

@@ -1,8 +1,8 @@
 // The columns of a key: as the transaction holds them, or as its line says once it was visited.
 ghost use mathlib.Core.Path.{_≡_};
 ghost use Prim.Native.Nat.{_<_};
-ghost use mathlib.Core.Bool.{true};
-ghost use Rattle.model.specs.Records.{recordsAccepted};
+ghost use mathlib.Core.Bool.{true, false, cond};
+ghost use Rattle.model.specs.Records.{recordsAccepted, byState};
 ghost use Rattle.model.specs.Results.{read, second};
 ghost use Rattle.model.specs.Calls.{result};
 ghost use Rattle.model.specs.ByteCalls.{sheetsOf};
@@ -11,16 +11,17 @@ ghost use Rattle.transactions.specs.Held.{entryAt};
 ghost use Rattle.call_laws.specs.Accepted.{Accepted, Outcome};
 ghost use Rattle.recover.specs.Recovering.{lineAt};
 ghost use Rattle.answers.specs.Answers.{toPerformed, performedNot, performedAs};
-ghost use Rattle.reads.specs.Fetching.{callOf, firstOf, newRead, fetchedHeld, fetchedMet, ReadAt, NewRead};
+ghost use Rattle.reads.specs.Fetching.{callOf, firstOf, newRead, entrySeen, fetchedHeld, fetchedMet, ReadAt, NewRead};
 use answers::Performed;
 use types::Columns;
 use types::Entry;
 use types::Found;
-use types::Image;
 use types::Key;
 use types::NO_COLUMNS;
 use types::Reading;
+use types::Record;
 use types::Recovery;
+use types::State;
 use types::Transaction;
 
 // Which call of a read is made: the first, or the second with the columns that the first answered. Unless the read takes two, either is the whole one.
@@ -72,30 +73,52 @@ fn answer(value: Reading, t: Transaction) -> Performed
     }
 }
 
-// The read of a record of this key, seen so, that is then held.
-fn hold(key: Key, seen: Image, t: Transaction) -> Performed
-    requires { ⌜ t .count < 8 ⌝ }
-    ensures { λ a. ⌜ a ≡ fetchedHeld key seen t ⌝ }
+// Absence as a number of an entry.
+fn absence(state: State) -> u32
+    ensures { λ r. ⌜ r ≡ cond (byState state true false false) 1 0 ⌝ }
 {
-    let e = Entry {
+    match state {
+        State::Absent => 1,
+        State::Committed => 0,
+        State::Prepared => 0,
+    }
+}
+
+// The entry of a record as it is read, which may see columns handed in.
+fn entry_of(lower: bool, columns: Columns, r: Record) -> Entry
+    ensures { λ e. ⌜ e ≡ entrySeen lower columns (r .key) r ⌝ }
+{
+    let key = r.key;
+    let state = r.state;
+    let seen = recover::seen(lower, columns, r);
+    let absent = absence(state);
+    Entry {
         key,
         seen,
+        absent,
         wrote: 0,
         put: NO_COLUMNS,
-    };
+    }
+}
+
+// The read of a record that is then held so.
+fn hold(e: Entry, t: Transaction) -> Performed
+    requires { ⌜ t .count < 8 ⌝ }
+    ensures { λ a. ⌜ a ≡ fetchedHeld e t ⌝ }
+{
     let u = transactions::with_entry(t.count + 1, t.count as usize, e, t);
     answer(transactions::reading(e), u)
 }
 
 // The read of a record as its visit leaves it, by what the visit came to.
-fn read_met(v: Recovery, key: Key, seen: Image, t: Transaction) -> Performed
+fn read_met(v: Recovery, e: Entry, t: Transaction) -> Performed
     requires { ⌜ t .count < 8 ⌝ }
-    ensures { λ a. ⌜ a ≡ fetchedMet v key seen t ⌝ }
+    ensures { λ a. ⌜ a ≡ fetchedMet v e t ⌝ }
 {
     match v {
-        Recovery::Stays => hold(key, seen, t),
-        Recovery::Forward => hold(key, seen, t),
-        Recovery::Back => hold(key, seen, t),
+        Recovery::Stays => hold(e, t),
+        Recovery::Forward => hold(e, t),
+        Recovery::Back => hold(e, t),
         Recovery::Again => answer(Reading::Again, t),
         Recovery::Busy => refusal(12, t),
     }
@@ -119,7 +142,7 @@ fn read_new(
     }
     let v = recover::recover(i, clock, records, coordinator);
     let r = codec::records::record_at(records, i);
-    read_met(v, r.key, recover::seen(lower, columns, r), t)
+    read_met(v, entry_of(lower, columns, r), t)
 }
 
 // The first of two calls: the columns of line i as they stand, and nothing is visited or held.

@@ -3,6 +3,7 @@ pub mod Ranges
 pub mod LayoutParts
 pub mod Limits
 pub mod Relations
+pub mod Asked
 pub mod States
 pub mod Line
 pub mod Overlap

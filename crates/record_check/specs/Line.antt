@@ -1,7 +1,7 @@
--- A line of the record sheet, as the code judges it: the parts of its kind, how its versions stand to each other, and the clock. Both this and the plain
+-- A line of the record sheet, as the code judges it: the parts of its kind, the relations that it asks for, and the clock. Both this and the plain
 -- rule are the line read by the widest ranges, with limits on its numbers. In a line that can be read, the bytes that tell its kind are those of its
 -- state and its before state.
-use Rattle.lists.specs.Basics.{_≡_, refl, sym, ap, ap₂, _∙_, ℕ, _+_, _-_, _≤_, _<_, Bool, true, false, _&&_, cond, true≢false, and-assoc, List}
+use Rattle.lists.specs.Basics.{_≡_, refl, sym, ap, ap₂, _∙_, ℕ, _+_, _-_, _≤_, _<_, Bool, true, false, _&&_, true≢false, and-assoc, List}
 use Rattle.lists.specs.Basics.{map, length, take, drop, getD, length-take, length-drop, take-take, getD-take, getD-drop, arith, all, eqList, bytes}
 use Rattle.lists.specs.Basics.{eqList-refl, and-fst, and-snd, and-both, same-test, tests}
 use Rattle.lists.specs.All.{all-at}
@@ -18,8 +18,9 @@ use Rattle.line_bytes.specs.Loads.{loaded}
 use Rattle.record_check.specs.Ranges.{opened, lineHeld, set-is-held, same-row}
 use Rattle.record_check.specs.Limits.{keeps, limited-line, limited-parts}
 use Rattle.record_check.specs.States.{kinds, kindAt, kindLimits, openLayout, clockLimit, kindParts, kind-says, record-opens, clock-narrow, clock-limited}
-use Rattle.record_check.specs.States.{kindWord, priorWord, kindTold, told-few, kindFor, rule, kind-rule}
-use Rattle.record_check.specs.Relations.{follows, follows-is, clockAt, clockFits, widest, clock-fits, clock-low}
+use Rattle.record_check.specs.States.{kindWord, priorWord, asked, kindTold, told-few, kindFor, rule, kind-rule}
+use Rattle.record_check.specs.Asked.{asked-is}
+use Rattle.record_check.specs.Relations.{clockAt, clockFits, widest, clock-fits, clock-low}
 
 -- the line can be read, and its record is good alone
 unfoldable pub lineGood : List ℕ → Bool
@@ -131,8 +132,8 @@ module _ (line : List ℕ) (of-bytes : (i : ℕ) → getD line i 0 < 256) where
 
   -- the law: a line is good where it stands in the parts of its kind, and the relations hold
   pub line-is : lineGood line
-      ≡ (partsOk (kindParts (kindAt (kindOf line))) line && (cond (kindAt (kindOf line) .follows) (follows line) true && clockFits line))
-  unfolding row held
+      ≡ (partsOk (kindParts (kindAt (kindOf line))) line && (asked (kindOf line) line && clockFits line))
+  unfolding row held asked
   line-is =
       good-held
       ∙ (ap (λ (x : Bool). x && rule row) bounded
@@ -140,12 +141,12 @@ module _ (line : List ℕ) (of-bytes : (i : ℕ) → getD line i 0 < 256) where
       ∙ (and-assoc held (rule row) (all (keeps row) clockLimit)
       ∙ (and-same held (rule row && all (keeps row) clockLimit) (all (keeps row) (kindLimits (kindAt (kindOf line))) && fits)
       (λ g. let h = and-fst (lineSet widest line) (rowGood openLayout row) g in
-      rw (kind-is h, follows-is line of-bytes h, clock-fits line h) (kind-rule row (state-word h .1) (prior-word h .1)))
+      rw (kind-is h, asked-is line h of-bytes (kindAt (kindFor (getD row stateField 0) (getD row beforeStateField 0)) .relations), clock-fits line h) (kind-rule row (state-word h .1) (prior-word h .1)))
       ∙ (sym (and-assoc held (all (keeps row) (kindLimits (kindAt (kindOf line)))) fits)
       ∙ ap (λ (x : Bool). x && fits) (sym (said (kindOf line) (kind-known line))))))))
     where
       fits : Bool
-      fits = cond (kindAt (kindOf line) .follows) (follows line) true && clockFits line
+      fits = asked (kindOf line) line && clockFits line
 
       bounded : lineHeld recordLayout line ≡ (held && all (keeps row) clockLimit)
       bounded = rw (clock-limited, same-widest) at (limited-line clockLimit openLayout line clock-narrow)
@@ -155,5 +156,5 @@ module _ (line : List ℕ) (of-bytes : (i : ℕ) → getD line i 0 < 256) where
   wordless e =
       let k = kindOf line in
       same-test (lineGood line) false
-      (λ g. sym e ∙ words-said k (kind-known line) (and-fst (partsOk (kindParts (kindAt k)) line) (cond (kindAt k .follows) (follows line) true && clockFits line) (sym line-is ∙ g)))
+      (λ g. sym e ∙ words-said k (kind-known line) (and-fst (partsOk (kindParts (kindAt k)) line) (asked k line && clockFits line) (sym line-is ∙ g)))
       (λ g. absurd (true≢false (sym g)))

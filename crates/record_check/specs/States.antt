@@ -1,33 +1,34 @@
 -- The kinds of line as rows of a table: the rule of a state and a before state as limits on the fields of `recordLayout`, so that a line's parts say words,
--- zeros and bounds at once. What is asked of every row is computed over the table; that the limits are the rule is computed once the numbers of state and
--- before state are known.
-use Rattle.lists.specs.Basics.{_≡_, refl, sym, ap, ap₂, _∙_, ℕ, zero, suc, _+_, _-_, _*_, _≤_, _<_, eqb, leb, Bool, true, false, _&&_, cond, and-assoc}
+-- zeros and bounds at once, and as relations between two fields, which no part says. What is asked of every row is computed over the table; that limits and
+-- relations are the rule is computed once the numbers of state and before state are known.
+use Rattle.lists.specs.Basics.{_≡_, refl, sym, ap, ap₂, _∙_, ℕ, zero, suc, _+_, _-_, _*_, _≤_, _<_, eqb, leb, Bool, true, false, not, _&&_, _||_, and-assoc}
 use Rattle.lists.specs.Basics.{and-true, and-false, List, [], _∷_, _++_, length, take, getD, set, arith, eqb-true, eq-eqb, le-leb, all}
 use Rattle.lists.specs.Basics.{eqList, bytes, and-both, same-test, choose-by, tests}
 use lib.Dec.{leb·zero, leb·suc-zero}
 use Rattle.lists.specs.All.{all-at}
-use Rattle.lists.specs.Tests.{and-move}
+use Rattle.lists.specs.Tests.{and-move, and-swap}
 use Rattle.types.specs.declared.State.the-variants.{Absent, Committed, Prepared}
 use Rattle.types.specs.declared.Before.the-variants as Was
 use Rattle.model.specs.Types.{State, Before, Column, StateWord, BeforeWord}
-use Rattle.model.specs.Layouts.{recordLayout, words, wordAt, noColumn, stateField, imageField, imageFields, txidField, beforeStateField, beforeField, clockField, recordFields}
+use Rattle.model.specs.Layouts.{recordLayout, words, wordAt, noColumn, stateField, imageField, txidField, beforeStateField, beforeField, clockField, recordFields}
 use Rattle.model.specs.Lines.{fieldValue, fieldBytes, wordFrom, inRange}
-use Rattle.model.specs.Records.{stateNumber, stateOf, beforeNumber, beforeOf, stateRule, imageFrom, recordOf, isZero, noBefore, absentRule, committedRule, beforeRule, preparedRule}
-use Rattle.sheet_laws.specs.Fields.{columnOk, allBelow, below, isThe, wordOk}
+use Rattle.model.specs.Records.{stateNumber, stateOf, beforeNumber, beforeOf, stateRule, imageFrom, recordOf, isZero, absence, noBefore, absentRule, committedRule, beforeRule, preparedRule}
+use Rattle.sheet_laws.specs.Fields.{columnOk, allBelow, isThe, wordOk}
 use Rattle.line_bytes.specs.Parts.{Part}
 use Rattle.line_bytes.specs.Tables.{bit}
 use Rattle.line_bytes.specs.Loads.{loaded}
 use Rattle.record_check.specs.Ranges.{opened, opens}
 use Rattle.record_check.specs.LayoutParts.{sayable, layoutParts}
 use Rattle.record_check.specs.Limits.{Limit, atLeast, atMost, keeps, narrowed, limited, narrows, allNarrow, says}
+use Rattle.record_check.specs.Asked.{Relation, follow, agree, agreeBefore, versionFollows, numbersAgree, zerosAgree, holdsIn, holdsOn}
+use Rattle.record_check.specs.Relations.{versionAt, beforeAt, follows}
 
--- a kind of line: its state and before state, the limits on the other fields behind the state word, and whether its version must be seen to follow the
--- one before it besides
+-- a kind of line: its state and before state, the limits on the other fields behind the state word, and the relations that it asks for besides
 pub record LineKind : Type 0 where
   pub state : State
   pub prior : Before
   pub limits : List Limit
-  pub follows : Bool
+  pub relations : List Relation
 
 -- field i has the number n
 abbrev exactly : (i n : ℕ) → List Limit
@@ -42,22 +43,27 @@ zeros i (suc n) = atMost i 0 ∷ zeros (suc i) n
 unfoldable pub nothingBefore : List Limit
 nothingBefore = zeros beforeField (recordFields - beforeField)
 
--- "The before state is ABSENT or COMMITTED when the line is PREPARED .., and `-` otherwise."
+-- columns 0 in the image whose fields start at i, as ABSENT has them
+abbrev noColumns : ℕ → List Limit
+noColumns i = zeros (i + 2) 2
+
+-- "The before state is ABSENT or COMMITTED when the line is PREPARED .., and `-` otherwise." The kinds that have nothing before them come first, ABSENT first of
+-- them, then those over ABSENT, then those over COMMITTED: a kind's number tells which relations it asks for.
 unfoldable pub kinds : List LineKind
 kinds =
-    -- "ABSENT: every field after the state word is 0."
-    record { state = Absent; prior = Was.Nothing; limits = zeros imageField imageFields ++ nothingBefore; follows = false }
+    -- "ABSENT: every field after the state word is 0", but "ABSENT lines may now carry both" version and TxID
+    record { state = Absent; prior = Was.Nothing; limits = noColumns imageField ++ nothingBefore; relations = agree ∷ [] }
     -- "COMMITTED: version at least 1, before fields and clock 0"
-    ∷ record { state = Committed; prior = Was.Nothing; limits = atLeast imageField 1 ∷ nothingBefore; follows = false }
-    -- "PREPARED: TxID at least 1, version = before version + 1", over an ABSENT image, which is 0
-    ∷ record { state = Prepared; prior = Was.Absent; limits = atLeast txidField 1 ∷ zeros beforeField imageFields; follows = true }
+    ∷ record { state = Committed; prior = Was.Nothing; limits = atLeast imageField 1 ∷ nothingBefore; relations = [] }
+    -- "PREPARED: TxID at least 1, version = before version + 1", over an ABSENT image, which "has the same rule and columns 0"
+    ∷ record { state = Prepared; prior = Was.Absent; limits = atLeast txidField 1 ∷ noColumns beforeField; relations = follow ∷ agreeBefore ∷ [] }
     -- and over a COMMITTED one, which "has version at least 1"
-    ∷ record { state = Prepared; prior = Was.Committed; limits = atLeast txidField 1 ∷ atLeast beforeField 1 ∷ []; follows = true }
+    ∷ record { state = Prepared; prior = Was.Committed; limits = atLeast txidField 1 ∷ atLeast beforeField 1 ∷ []; relations = follow ∷ [] }
     ∷ []
 
 -- what stands past the last row
 abbrev pub noKind : LineKind
-noKind = record { state = Absent; prior = Was.Nothing; limits = []; follows = false }
+noKind = record { state = Absent; prior = Was.Nothing; limits = []; relations = [] }
 
 abbrev pub kindAt : ℕ → LineKind
 kindAt k = getD kinds k noKind
@@ -94,16 +100,27 @@ pub clock-limited : limited clockLimit openLayout ≡ recordLayout
 unfolding limited narrowed clockLimit openLayout opened recordLayout
 clock-limited = refl
 
--- the kinds whose versions the code compares are those that ask for it
-pub follows-told : (k : ℕ) → k < length kinds → kindAt k .follows ≡ leb 2 k
-unfolding kinds allBelow
-follows-told k l =
-    let e = below (length kinds) (λ (i : ℕ). eqb (bit (kindAt i .follows)) (bit (leb 2 i))) refl k l in
-    sym (told (kindAt k .follows)) ∙ (ap (eqb 1) (eqb-true (bit (kindAt k .follows)) (bit (leb 2 k)) e) ∙ told (leb 2 k))
-  where
-    told : (b : Bool) → eqb 1 (bit b) ≡ b
-    told true = refl
-    told false = refl
+-- what kind k asks for besides its limits, by the bytes of a line and by its numbers
+unfoldable pub asked : ℕ → List ℕ → Bool
+asked k line = all (holdsOn line) (kindAt k .relations)
+
+abbrev pub rowAsked : ℕ → List ℕ → Bool
+rowAsked k v = all (holdsIn v) (kindAt k .relations)
+
+-- by the kind's number, as the code tests it: with nothing before the line, and with an image before it
+pub asked-alone : (k : ℕ) (line : List ℕ) → k < 2 → asked k line ≡ (not (eqb k 0) || zerosAgree versionAt line)
+unfolding asked all kinds holdsOn
+asked-alone zero line l = and-true (zerosAgree versionAt line)
+asked-alone (suc zero) line l = refl
+asked-alone (suc (suc k)) line l = absurd (omega arith)
+
+pub asked-over : (k : ℕ) (line : List ℕ) → 2 ≤ k → k < length kinds → asked k line ≡ (follows line && (leb 3 k || zerosAgree beforeAt line))
+unfolding asked all kinds holdsOn
+asked-over zero line l m = absurd (omega arith)
+asked-over (suc zero) line l m = absurd (omega arith)
+asked-over (suc (suc zero)) line l m = ap (λ (x : Bool). follows line && x) (and-true (zerosAgree beforeAt line))
+asked-over (suc (suc (suc zero))) line l m = refl
+asked-over (suc (suc (suc (suc k)))) line l m = absurd (omega arith)
 
 -- The words of the kinds, and the kind by the numbers of a line.
 
@@ -147,14 +164,6 @@ kindFor s b = kindTold (stateFront s) (priorMark b)
 abbrev pub rule : List ℕ → Bool
 rule v = stateRule (recordOf v)
 
--- "version = before version + 1"
-abbrev pub versionFollows : List ℕ → Bool
-versionFollows v = eqb (getD v imageField 0) (getD v beforeField 0 + 1)
-
--- the same where the kind asks for it
-abbrev pub rowFollows : ℕ → List ℕ → Bool
-rowFollows k v = cond (kindAt k .follows) (versionFollows v) true
-
 exact : (x n : ℕ) → eqb x n ≡ (leb n x && leb x n)
 exact x n =
     same-test (eqb x n) (leb n x && leb x n)
@@ -164,27 +173,55 @@ exact x n =
 -- tests of a number as limits, and conjunctions nested as `all` nests them
 ruleset asLimits = (exact, leb·zero, leb·suc-zero, and-assoc, and-true, and-false)
 
--- the rule of each state as the limits of the line's kind; false, where the kind has not both of the line's words
+-- the rule of each state as the limits and relations of the line's kind; false, where the kind has not both of the line's words
 module _ (v : List ℕ) where
   Ruled : (s b : ℕ) → Type 0
-  Ruled s b = rule v ≡ (all (keeps v) (kindLimits (kindAt (kindFor s b))) && rowFollows (kindFor s b) v)
+  Ruled s b = rule v ≡ (all (keeps v) (kindLimits (kindAt (kindFor s b))) && rowAsked (kindFor s b) v)
 
-  -- the limits of PREPARED come before the relation of versions, which its rule has between them
-  moved : preparedRule (recordOf v) ≡ (leb 1 (getD v txidField 0) && beforeRule (recordOf v) && versionFollows v)
+  -- columns 0 in the image whose numbers start at i
+  columnless : ℕ → Bool
+  columnless i = eqb (getD v (i + 2) 0) 0 && eqb (getD v (i + 3) 0) 0
+
+  -- Limits come before relations, which the rules have between them.
+
+  absence-moved : (i : ℕ) → absence (imageFrom i v) ≡ (columnless i && numbersAgree i v)
+  unfolding absence imageFrom columnless
+  absence-moved i = last (numbersAgree i v) (eqb (getD v (i + 2) 0) 0) (eqb (getD v (i + 3) 0) 0)
+    where
+      last : (a b c : Bool) → (a && b && c) ≡ (b && c && a)
+      last true b c = sym (and-true (b && c))
+      last false b c = sym (and-false (b && c))
+
+  absent-moved : absentRule (recordOf v) ≡ (columnless imageField && noBefore (recordOf v) && numbersAgree imageField v)
+  unfolding recordOf absentRule
+  absent-moved =
+      ap (λ (x : Bool). x && noBefore (recordOf v)) (absence-moved imageField)
+      ∙ and-move (columnless imageField) (numbersAgree imageField v) (noBefore (recordOf v))
+
+  prepared-moved : preparedRule (recordOf v) ≡ (leb 1 (getD v txidField 0) && beforeRule (recordOf v) && versionFollows v)
   unfolding recordOf imageFrom preparedRule
-  moved = and-move (leb 1 (getD v txidField 0)) (versionFollows v) (beforeRule (recordOf v))
+  prepared-moved = and-move (leb 1 (getD v txidField 0)) (versionFollows v) (beforeRule (recordOf v))
+
+  -- over an ABSENT image
+  over-moved : getD v beforeStateField 0 ≡ 1
+      → preparedRule (recordOf v) ≡ (leb 1 (getD v txidField 0) && columnless beforeField && (versionFollows v && numbersAgree beforeField v))
+  unfolding beforeOf recordOf imageFrom preparedRule beforeRule
+  over-moved g =
+      rw g
+      (ap (λ (x : Bool). leb 1 (getD v txidField 0) && versionFollows v && x) (absence-moved beforeField)
+      ∙ and-swap (leb 1 (getD v txidField 0)) (versionFollows v) (columnless beforeField) (numbersAgree beforeField v))
 
   by-numbers : (s b : ℕ) → getD v stateField 0 ≡ s → getD v beforeStateField 0 ≡ b → s < length (words StateWord) → b < length (words BeforeWord) → Ruled s b
-  unfolding stateOf beforeOf recordOf imageFrom isZero noBefore absentRule committedRule beforeRule preparedRule all keeps kindLimits kinds zeros nothingBefore stateNumber beforeNumber kindFor kindTold loaded words bytes Ruled
-  by-numbers zero zero e g l m = rw (e, g) (simp asLimits)
-  by-numbers zero (suc zero) e g l m = rw (e, g) (simp asLimits)
-  by-numbers zero (suc (suc zero)) e g l m = rw (e, g) (simp asLimits)
+  unfolding stateOf beforeOf recordOf imageFrom isZero noBefore absentRule committedRule beforeRule preparedRule all keeps holdsIn columnless kindLimits kinds zeros nothingBefore stateNumber beforeNumber kindFor kindTold loaded words bytes Ruled
+  by-numbers zero zero e g l m = rw (e, absent-moved, g) (simp asLimits)
+  by-numbers zero (suc zero) e g l m = rw (e, absent-moved, g) (simp asLimits)
+  by-numbers zero (suc (suc zero)) e g l m = rw (e, absent-moved, g) (simp asLimits)
   by-numbers (suc zero) zero e g l m = rw (e, g) (simp asLimits)
   by-numbers (suc zero) (suc zero) e g l m = rw (e, g) (simp asLimits)
   by-numbers (suc zero) (suc (suc zero)) e g l m = rw (e, g) (simp asLimits)
-  by-numbers (suc (suc zero)) zero e g l m = rw (e, moved, g) (simp asLimits)
-  by-numbers (suc (suc zero)) (suc zero) e g l m = rw (e, moved, g) (simp asLimits)
-  by-numbers (suc (suc zero)) (suc (suc zero)) e g l m = rw (e, moved, g) (simp asLimits)
+  by-numbers (suc (suc zero)) zero e g l m = rw (e, prepared-moved, g) (simp asLimits)
+  by-numbers (suc (suc zero)) (suc zero) e g l m = rw (e, over-moved g, g) (simp asLimits)
+  by-numbers (suc (suc zero)) (suc (suc zero)) e g l m = rw (e, prepared-moved, g) (simp asLimits)
   by-numbers zero (suc (suc (suc b))) e g l m = absurd (omega arith)
   by-numbers (suc zero) (suc (suc (suc b))) e g l m = absurd (omega arith)
   by-numbers (suc (suc zero)) (suc (suc (suc b))) e g l m = absurd (omega arith)
@@ -193,9 +230,9 @@ module _ (v : List ℕ) where
   -- with the clock's bound
   pub kind-rule : getD v stateField 0 < length (words StateWord) → getD v beforeStateField 0 < length (words BeforeWord)
       → let k = kindFor (getD v stateField 0) (getD v beforeStateField 0) in
-      (rule v && all (keeps v) clockLimit) ≡ (all (keeps v) (kindLimits (kindAt k)) && (rowFollows k v && leb (getD v clockField 0) 4294967295))
+      (rule v && all (keeps v) clockLimit) ≡ (all (keeps v) (kindLimits (kindAt k)) && (rowAsked k v && leb (getD v clockField 0) 4294967295))
   unfolding all keeps clockLimit Ruled
   kind-rule l m =
       let k = kindFor (getD v stateField 0) (getD v beforeStateField 0) in
       ap₂ _&&_ (by-numbers (getD v stateField 0) (getD v beforeStateField 0) refl refl l m) (and-true (leb (getD v clockField 0) 4294967295))
-      ∙ and-assoc (all (keeps v) (kindLimits (kindAt k))) (rowFollows k v) (leb (getD v clockField 0) 4294967295)
+      ∙ and-assoc (all (keeps v) (kindLimits (kindAt k))) (rowAsked k v) (leb (getD v clockField 0) 4294967295)

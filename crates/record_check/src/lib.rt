@@ -2,15 +2,16 @@
 // neighbours as bytes.
 
 ghost use mathlib.Core.Path.{_≡_};
-ghost use mathlib.Core.Bool.{true, cond};
+ghost use mathlib.Core.Bool.{true};
 ghost use Prim.Native.Nat.{_+_, _-_, _*_, _<_, _≤_};
 ghost use lib.ListN.{length, drop};
 ghost use Rattle.model.specs.Layouts.{recordBytes};
 ghost use Rattle.model.specs.Records.{recordsAccepted};
 ghost use Rattle.model.specs.Spares.{sized, filledLines, sheetAccepted};
 ghost use Rattle.line_bytes.specs.Parts.{partsOk};
-ghost use Rattle.record_check.specs.States.{kinds, kindAt, kindParts};
+ghost use Rattle.record_check.specs.States.{kinds, kindAt, kindParts, asked};
 ghost use Rattle.record_check.specs.Relations.{highestClock, follows};
+ghost use Rattle.record_check.specs.Asked.{zeroUpTo, zerosAgree};
 ghost use Rattle.record_check.specs.Line.{lineGood, kindOf, wordsHeld};
 ghost use Rattle.record_check.specs.Sheet.{keyBefore, linesPass};
 ghost use Rattle.record_check.specs.Tables.{rowBytes, tables, partStands};
@@ -19,6 +20,7 @@ use types::BEFORE_STATE_AT;
 use types::CLOCK_AT;
 use types::RECORD_BYTES;
 use types::STATE_AT;
+use types::TXID_BYTES;
 use types::VERSION_AT;
 use types::VERSION_BYTES;
 
@@ -26,8 +28,13 @@ use types::VERSION_BYTES;
 // are computed, and has a number in `kind`.
 const KINDS: usize = 4;
 
-// From this kind on, versions must be seen to follow the ones before.
+// The kind whose own image is an absence, the first kind with an image before it, and the first of those over COMMITTED: by a kind's number it is known what
+// is asked of it besides its tables.
+const ABSENT: usize = 0;
+
 const FOLLOWING: usize = 2;
+
+const OVER_COMMITTED: usize = 3;
 
 // The first eight bytes of the words COMMITTED and PREPARED, each as one number.
 const COMMITTED_FRONT: u64 = 0x5454_494d_4d4f_4320;
@@ -57,14 +64,14 @@ const BACK: usize = ROW - 17;
 // more that may follow a space. A fixed byte is all three, so zeros and blank columns are judged in the same pass as the figures, and the kind's two
 // words stand in each row.
 const TABLES: [u8; KINDS * TABLE] = *b"\
-\x200 00 00 00000 00000    ABSENT     0   0        0        0         -     0   0        0        0          0\
-\x209 99 99 99999 99999    ABSENT     0   0        0        0         -     0   0        0        0          0\
+\x200 00 00 00000 00000    ABSENT 00000 000        0        0         -     0   0        0        0          0\
+\x209 99 99 99999 99999    ABSENT 99999 999        0        0         -     0   0        0        0          0\
 \x209  9  9     0     0    ABSENT     0   0        0        0         -     0   0        0        0          0\
 \x200 00 00 00000 00000 COMMITTED 00000 000 00000000 00000000         -     0   0        0        0          0\
 \x209 99 99 99999 99999 COMMITTED 99999 999 99999999 99999999         -     0   0        0        0          0\
 \x209  9  9     0     0 COMMITTED     9   0        0        0         -     0   0        0        0          0\
-\x200 00 00 00000 00000  PREPARED 00000 000 00000000 00000000    ABSENT     0   0        0        0 0000000000\
-\x209 99 99 99999 99999  PREPARED 99999 999 99999999 99999999    ABSENT     0   0        0        0 9999999999\
+\x200 00 00 00000 00000  PREPARED 00000 000 00000000 00000000    ABSENT 00000 000        0        0 0000000000\
+\x209 99 99 99999 99999  PREPARED 99999 999 99999999 99999999    ABSENT 99999 999        0        0 9999999999\
 \x209  9  9     0     0  PREPARED     0   9        0        0    ABSENT     0   0        0        0          0\
 \x200 00 00 00000 00000  PREPARED 00000 000 00000000 00000000 COMMITTED 00000 000 00000000 00000000 0000000000\
 \x209 99 99 99999 99999  PREPARED 99999 999 99999999 99999999 COMMITTED 99999 999 99999999 99999999 9999999999\
@@ -147,21 +154,41 @@ fn version_follows(line: &[u8]) -> bool
         == line_bytes::load_six(line, BEFORE_AT) + 0x0100_0000_0000
 }
 
-// Whether the image of a line that stands by its tables follows the one before it, if it is of a kind that asks for it.
-fn image_follows(line: &[u8], kind: usize) -> bool
+// Whether the figure whose columns end before byte `end` is 0: it ends in ` 0` then, and no other does.
+fn is_zero(line: &[u8], end: usize) -> bool
+    requires { ⌜ 2 ≤ end ⌝ }
+    requires { ⌜ end ≤ length (now line) ⌝ }
+    ensures { λ r. ⌜ r ≡ zeroUpTo end (now (line .entry)) ⌝ }
+{
+    line_bytes::load_two(line, end - 2) == 0x3020
+}
+
+// Whether version and TxID of the image at `at` are both 0, or neither is, in a line that stands by its tables.
+fn zeros_agree(line: &[u8], at: usize) -> bool
+    requires { ⌜ at + 10 ≤ length (now line) ⌝ }
+    ensures { λ r. ⌜ r ≡ zerosAgree at (now (line .entry)) ⌝ }
+{
+    let version = is_zero(line, at + VERSION_BYTES);
+    let txid = is_zero(line, at + VERSION_BYTES + TXID_BYTES);
+    version == txid
+}
+
+// Whether a line that stands by its tables keeps the relations that its kind asks for: its version follows the one before it, and the image of an absence
+// has both version and TxID or neither. Zeros are compared in each line, since that takes less than another branch by kinds that come in any order.
+fn related(line: &[u8], kind: usize) -> bool
     requires { ⌜ length (now line) ≡ recordBytes ⌝ }
     requires { ⌜ kind < length kinds ⌝ }
-    ensures { λ r. ⌜ r ≡ cond (kindAt kind .follows) (follows (now (line .entry))) true ⌝ }
+    ensures { λ r. ⌜ r ≡ asked kind (now (line .entry)) ⌝ }
 {
     if kind < FOLLOWING {
-        return true;
+        return (kind != ABSENT) | zeros_agree(line, VERSION_AT);
     }
-    version_follows(line)
+    version_follows(line) & ((OVER_COMMITTED <= kind) | zeros_agree(line, BEFORE_AT))
 }
 
 // Whether the line can be read and its record is good alone. Its words are compared with those of its kind, so that a line without such words is refused.
-// The tables say all else but that the version of a PREPARED line follows the one before it, and that the clock is at most 4294967295. The end of the line, LF
-// included, orders as the clock does.
+// The tables say all else but the relations that the kind asks for, and that the clock is at most 4294967295. The end of the line, LF included, orders as the
+// clock does.
 fn line_good(line: &[u8], lent: &[u8], highest: &[u8]) -> bool
     requires { ⌜ length (now line) ≡ recordBytes ⌝ }
     requires { ⌜ now lent ≡ tables ⌝ }
@@ -175,7 +202,7 @@ fn line_good(line: &[u8], lent: &[u8], highest: &[u8]) -> bool
     if !stands(line, lent, kind) {
         return false;
     }
-    if !image_follows(line, kind) {
+    if !related(line, kind) {
         return false;
     }
     // most clocks begin below the highest one

@@ -2,7 +2,7 @@
 -- of version 0. Gentle writes keep it.
 use Rattle.lists.specs.Basics.{_≡_, refl, sym, ap, subst, _∙_, _≤_, Bool, true, false, List, arith}
 use Rattle.model.specs.Types.{Key, Record}
-use Rattle.model.specs.Records.{isZero, noBefore, absentRule, stateRule, absentAt, lineOf}
+use Rattle.model.specs.Records.{isZero, absence, noBefore, absentRule, stateRule, absentAt, lineOf}
 use Rattle.model.specs.Writes.{Sheets, Write, lineAfter, decisionsAfter, apply}
 use Rattle.model.specs.SequentialModel.{Model}
 use Rattle.sheet_laws.specs.KeyOrder.{listsKey, unlisted}
@@ -29,7 +29,7 @@ by-line P k rs f a = go (listsKey k rs) refl
 
 -- it keeps the rule of its state
 pub own-rule : (s : Sheets) → GoodSheets s → (k : Key) → stateRule (lineOf k (s .lines)) ≡ true
-unfolding absentRule noBefore isZero
+unfolding absentRule absence noBefore isZero
 own-rule s g k = by-line (λ (r : Record). stateRule r ≡ true) k (s .lines) (λ h. listed-good s g k h .rule) refl
 
 -- and names an issued number

@@ -2,11 +2,13 @@
 ghost use mathlib.Core.Path.{_≡_};
 ghost use Prim.Native.Nat.{_≤_};
 ghost use Rattle.model.specs.SheetCalls.{lookedUp};
+ghost use Rattle.script.specs.Lines.{replyNumbers};
 ghost use Rattle.script_calls.specs.Parts.{keyFrom, partAsked};
 use script::reply;
 use script::reply::Reply;
 use script::scan::Command;
 use script::scan::Kind;
+use script::scan::LINE_NUMBERS;
 use script_calls::calls;
 use script_calls::calls::Asked;
 use script_calls::slots;
@@ -14,26 +16,26 @@ use script_calls::slots::Turn;
 use types::Transaction;
 
 fn check(records: &[u8], coordinator: &[u8]) -> Reply
-    ensures { λ r. ⌜ r .count ≤ 102 ⌝ }
+    ensures { λ r. ⌜ r .count ≤ replyNumbers ⌝ }
 {
     reply::unless_refused(sheets::check::check(records, coordinator), calls::ok())
 }
 
-fn lookup(n: [u32; 14], records: &[u8]) -> Reply
-    ensures { λ r. ⌜ r .count ≤ 102 ⌝ }
+fn lookup(n: [u32; LINE_NUMBERS], records: &[u8]) -> Reply
+    ensures { λ r. ⌜ r .count ≤ replyNumbers ⌝ }
 {
     calls::rank(sheets::lookup::rank_of(records, calls::key_at(n, 0)))
 }
 
-fn add(n: [u32; 14], records: &mut [u8], coordinator: &[u8]) -> Reply
-    ensures { λ r. ⌜ r .count ≤ 102 ⌝ }
+fn add(n: [u32; LINE_NUMBERS], records: &mut [u8], coordinator: &[u8]) -> Reply
+    ensures { λ r. ⌜ r .count ≤ replyNumbers ⌝ }
 {
     let refused = adding::add(calls::key_at(n, 0), records, coordinator);
     reply::unless_refused(refused, calls::ok())
 }
 
-fn remove(n: [u32; 14], records: &mut [u8], coordinator: &[u8]) -> Reply
-    ensures { λ r. ⌜ r .count ≤ 102 ⌝ }
+fn remove(n: [u32; LINE_NUMBERS], records: &mut [u8], coordinator: &[u8]) -> Reply
+    ensures { λ r. ⌜ r .count ≤ replyNumbers ⌝ }
 {
     let refused = adding::remove(calls::key_at(n, 0), records, coordinator);
     reply::unless_refused(refused, calls::ok())
@@ -53,7 +55,7 @@ pub fn part(c: Command, records: &[u8]) -> &[u8]
 
 // A line that asks for a call on a transaction or a visit, or for none.
 fn perform(c: Command, slots: [Transaction; 16], records: &mut [u8], coordinator: &mut [u8]) -> Turn
-    ensures { λ r. ⌜ r .reply .count ≤ 102 ⌝ }
+    ensures { λ r. ⌜ r .reply .count ≤ replyNumbers ⌝ }
 {
     match calls::request(c) {
         Asked::Call(request) => {
@@ -66,7 +68,7 @@ fn perform(c: Command, slots: [Transaction; 16], records: &mut [u8], coordinator
 
 // What a line leaves, and its reply.
 pub fn run(c: Command, slots: [Transaction; 16], records: &mut [u8], coordinator: &mut [u8]) -> Turn
-    ensures { λ r. ⌜ r .reply .count ≤ 102 ⌝ }
+    ensures { λ r. ⌜ r .reply .count ≤ replyNumbers ⌝ }
 {
     let kind = c.kind;
     let n = c.numbers;

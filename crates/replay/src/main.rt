@@ -3,6 +3,7 @@
 ghost use mathlib.Core.Path.{_≡_};
 ghost use Prim.Native.Nat.{_+_, _≤_};
 ghost use lib.ListN.{length};
+ghost use Rattle.script.specs.Lines.{replyNumbers};
 
 mod calls;
 
@@ -33,7 +34,7 @@ fn answer(
     out: &mut [u8; 4096],
     fill: usize,
 ) -> usize
-    requires { ⌜ reply .count ≤ 102 ⌝ }
+    requires { ⌜ reply .count ≤ replyNumbers ⌝ }
     requires { ⌜ fill ≤ 4096 ⌝ }
     ensures { λ r. ⌜ r ≤ 4096 ⌝ }
 {

@@ -3,11 +3,13 @@ ghost use mathlib.Core.Path.{_≡_};
 ghost use Prim.Native.Nat.{_≤_};
 ghost use lib.ListN.{getD};
 ghost use Rattle.model.specs.TwoSpares.{lookedUpTwo};
+ghost use Rattle.script.specs.Lines.{replyNumbers};
 ghost use Rattle.script_calls.specs.Parts.{keyFrom, partAsked};
 use script::reply;
 use script::reply::Reply;
 use script::scan::Command;
 use script::scan::Kind;
+use script::scan::LINE_NUMBERS;
 use script_calls::calls;
 use script_calls::calls::Asked;
 use script_calls::slots;
@@ -15,26 +17,26 @@ use script_calls::slots::Turn;
 use types::Transaction;
 
 fn check(plain: &[u8], book: &[u8], coordinator: &[u8]) -> Reply
-    ensures { λ r. ⌜ r .count ≤ 102 ⌝ }
+    ensures { λ r. ⌜ r .count ≤ replyNumbers ⌝ }
 {
     reply::unless_refused(two_engine::check(plain, book, coordinator), calls::ok())
 }
 
-fn lookup(n: [u32; 14], plain: &[u8], book: &[u8]) -> Reply
-    ensures { λ r. ⌜ r .count ≤ 102 ⌝ }
+fn lookup(n: [u32; LINE_NUMBERS], plain: &[u8], book: &[u8]) -> Reply
+    ensures { λ r. ⌜ r .count ≤ replyNumbers ⌝ }
 {
     calls::rank(two_engine::lookup::rank_of(plain, book, calls::key_at(n, 0)))
 }
 
-fn add(n: [u32; 14], plain: &mut [u8], book: &mut [u8], coordinator: &[u8]) -> Reply
-    ensures { λ r. ⌜ r .count ≤ 102 ⌝ }
+fn add(n: [u32; LINE_NUMBERS], plain: &mut [u8], book: &mut [u8], coordinator: &[u8]) -> Reply
+    ensures { λ r. ⌜ r .count ≤ replyNumbers ⌝ }
 {
     let refused = two_adding::add(calls::key_at(n, 0), plain, book, coordinator);
     reply::unless_refused(refused, calls::ok())
 }
 
-fn remove(n: [u32; 14], plain: &mut [u8], book: &mut [u8], coordinator: &[u8]) -> Reply
-    ensures { λ r. ⌜ r .count ≤ 102 ⌝ }
+fn remove(n: [u32; LINE_NUMBERS], plain: &mut [u8], book: &mut [u8], coordinator: &[u8]) -> Reply
+    ensures { λ r. ⌜ r .count ≤ replyNumbers ⌝ }
 {
     let refused = two_adding::remove(calls::key_at(n, 0), plain, book, coordinator);
     reply::unless_refused(refused, calls::ok())
@@ -60,7 +62,7 @@ fn perform(
     book: &mut [u8],
     coordinator: &mut [u8],
 ) -> Turn
-    ensures { λ r. ⌜ r .reply .count ≤ 102 ⌝ }
+    ensures { λ r. ⌜ r .reply .count ≤ replyNumbers ⌝ }
 {
     match calls::request(c) {
         Asked::Call(request) => {
@@ -80,7 +82,7 @@ pub fn run(
     book: &mut [u8],
     coordinator: &mut [u8],
 ) -> Turn
-    ensures { λ r. ⌜ r .reply .count ≤ 102 ⌝ }
+    ensures { λ r. ⌜ r .reply .count ≤ replyNumbers ⌝ }
 {
     let kind = c.kind;
     let n = c.numbers;

@@ -1,6 +1,6 @@
 -- What a line of a history says (docs/REPLAY.md): words parted by single spaces, the first of them the call's name or `sheets`, the others its numbers. And
 -- what reading it byte by byte tells of that.
-use Rattle.lists.specs.Basics.{_≡_, refl, sym, ap, ap₂, _∙_, ℕ, suc, _+_, _≤_, _<_, eqb, leb, Bool, true, false, _&&_, cond, List, [], _∷_, length, take, drop}
+use Rattle.lists.specs.Basics.{_≡_, refl, sym, ap, ap₂, _∙_, ℕ, suc, _+_, _*_, _≤_, _<_, eqb, leb, Bool, true, false, _&&_, cond, List, [], _∷_, length, take, drop}
 use Rattle.lists.specs.Basics.{getD, set, replicate, drop-of-length-le, drop-drop, drop-cons, arith, add-one, eq-eqb, ne-eqb, eqList, bytes}
 use Rattle.decimal.specs.declared.Scan.{Scan}
 use Rattle.decimal.specs.declared.Scan.the-variants.{Blank, Number, Wrong}
@@ -9,6 +9,20 @@ use Rattle.script.specs.declared.scan.Command.{Command}
 use Rattle.script.specs.declared.scan.Kind.{Kind}
 use Rattle.script.specs.declared.scan.Kind.the-variants.{Check, Begin, Read, Second, Put, Advance, Close, Abort, Visit, Lookup, Line, Add, Remove, Show, Set, Entry, Sheets, BadLine}
 use Rattle.script.specs.declared.scan.Numbers.{Numbers}
+
+-- How many numbers there are.
+
+-- of an entry: its key, whether it was absent, its image, and what was put
+abbrev pub entryNumbers : ℕ
+entryNumbers = 13
+
+-- in the longest line, which sets an entry: its slot, its place and its numbers
+abbrev pub lineNumbers : ℕ
+lineNumbers = 2 + entryNumbers
+
+-- in the longest reply, which shows a transaction: six of its own, and those of its eight entries
+abbrev pub replyNumbers : ℕ
+replyNumbers = 6 + 8 * entryNumbers
 
 -- The words.
 
@@ -97,14 +111,14 @@ arity two Add = 5
 arity two Remove = 5
 arity two Show = 1
 arity two Set = 7
-arity two Entry = 14
+arity two Entry = lineNumbers
 arity two Sheets = 0
 arity two BadLine = 0
 
 -- The numbers.
 
 abbrev pub noNumbers : Numbers
-noNumbers = record { good = true; count = 0; values = replicate 14 0 }
+noNumbers = record { good = true; count = 0; values = replicate lineNumbers 0 }
 
 abbrev pub spoilt : Numbers → Numbers
 spoilt n = record { good = false; count = n .count; values = n .values }
@@ -115,9 +129,9 @@ withFigure n Blank = spoilt n
 withFigure n (Number v) = record { good = n .good; count = n .count + 1; values = set (n .values) (n .count) v }
 withFigure n Wrong = spoilt n
 
--- a word more: it must be a figure of 32 bits, and the fourteenth at most
+-- a word more: it must be a figure of 32 bits, and there must be room for it
 unfoldable pub withWord : Numbers → List ℕ → Numbers
-withWord n w = cond (leb 14 (n .count)) (spoilt n) (withFigure n (figure 0 4294967295 w))
+withWord n w = cond (leb lineNumbers (n .count)) (spoilt n) (withFigure n (figure 0 4294967295 w))
 
 unfoldable pub withWords : Numbers → List (List ℕ) → Numbers
 withWords n [] = n
@@ -126,7 +140,7 @@ withWords n (w ∷ ws) = withWords (withWord n w) ws
 -- The line.
 
 abbrev pub badCommand : Command
-badCommand = record { kind = BadLine; numbers = replicate 14 0 }
+badCommand = record { kind = BadLine; numbers = replicate lineNumbers 0 }
 
 -- a call with its numbers, if it has so many
 abbrev pub called : Bool → Kind → Numbers → Command

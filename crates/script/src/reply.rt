@@ -1,5 +1,6 @@
 // What is printed for a line of a history: its words, and the numbers after them.
 ghost use Prim.Native.Nat.{_≤_};
+ghost use Rattle.script.specs.Lines.{replyNumbers};
 
 // The words that a reply begins with.
 pub enum Form {
@@ -15,19 +16,25 @@ pub enum Form {
     Back,
 }
 
-// The first `count` numbers are printed. A transaction has 6 and 12 for each of 8 entries.
+// The numbers of an entry, from its key to what was put.
+pub const ENTRY_NUMBERS: usize = 13;
+
+// The longest reply shows a transaction: six numbers of its own, and those of its eight entries.
+pub const REPLY_NUMBERS: usize = 6 + 8 * ENTRY_NUMBERS;
+
+// The first `count` numbers are printed.
 pub struct Reply {
     pub form: Form,
     pub count: usize,
-    pub numbers: [u32; 102],
+    pub numbers: [u32; REPLY_NUMBERS],
 }
 
 // A reply with up to three numbers.
 pub fn answer(form: Form, count: usize, a: u32, b: u32, c: u32) -> Reply
     requires { ⌜ count ≤ 3 ⌝ }
-    ensures { λ r. ⌜ r .count ≤ 102 ⌝ }
+    ensures { λ r. ⌜ r .count ≤ replyNumbers ⌝ }
 {
-    let mut numbers = [0u32; 102];
+    let mut numbers = [0u32; REPLY_NUMBERS];
     numbers[0] = a;
     numbers[1] = b;
     numbers[2] = c;
@@ -40,9 +47,9 @@ pub fn answer(form: Form, count: usize, a: u32, b: u32, c: u32) -> Reply
 
 // The reply of a close: how many writes it made, and where its transaction stands.
 pub fn report(writes: u32, phase: u32, place: u32, verdict: u32) -> Reply
-    ensures { λ r. ⌜ r .count ≤ 102 ⌝ }
+    ensures { λ r. ⌜ r .count ≤ replyNumbers ⌝ }
 {
-    let mut numbers = [0u32; 102];
+    let mut numbers = [0u32; REPLY_NUMBERS];
     numbers[0] = writes;
     numbers[1] = phase;
     numbers[2] = place;
@@ -55,21 +62,21 @@ pub fn report(writes: u32, phase: u32, place: u32, verdict: u32) -> Reply
 }
 
 pub fn bad_line() -> Reply
-    ensures { λ r. ⌜ r .count ≤ 102 ⌝ }
+    ensures { λ r. ⌜ r .count ≤ replyNumbers ⌝ }
 {
     answer(Form::BadLine, 0, 0, 0, 0)
 }
 
 pub fn refused(n: u32) -> Reply
-    ensures { λ r. ⌜ r .count ≤ 102 ⌝ }
+    ensures { λ r. ⌜ r .count ≤ replyNumbers ⌝ }
 {
     answer(Form::Refused, 1, n, 0, 0)
 }
 
 // What an accepted call says, or its refusal.
 pub fn unless_refused(refusal: u32, accepted: Reply) -> Reply
-    requires { ⌜ accepted .count ≤ 102 ⌝ }
-    ensures { λ r. ⌜ r .count ≤ 102 ⌝ }
+    requires { ⌜ accepted .count ≤ replyNumbers ⌝ }
+    ensures { λ r. ⌜ r .count ≤ replyNumbers ⌝ }
 {
     if refusal == 0 {
         return accepted;

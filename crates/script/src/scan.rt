@@ -5,6 +5,7 @@ ghost use lib.ListN.{length, drop};
 ghost use Rattle.script.specs.Lines.{closeKind, otherSlotKind, slotKind, shiftKind, callKind, kindOf, lineArity};
 ghost use Rattle.script.specs.Lines.{noNumbers, withWord, withWords, wordsAfter, badCommand, called, said, upTo};
 ghost use Rattle.script.specs.Lines as model;
+use crate::reply::ENTRY_NUMBERS;
 use decimal::Scan;
 
 // The calls of a history; Sheets asks for all sheets, and BadLine is a line of another form. Second is for two sheets only.
@@ -29,17 +30,20 @@ pub enum Kind {
     BadLine,
 }
 
+// The longest line sets an entry: its slot, its place and its numbers.
+pub const LINE_NUMBERS: usize = 2 + ENTRY_NUMBERS;
+
 // A call and its numbers in the order of the line, zeros after the last.
 pub struct Command {
     pub kind: Kind,
-    pub numbers: [u32; 14],
+    pub numbers: [u32; LINE_NUMBERS],
 }
 
 // The numbers read so far; not good once a word was no number or one too many.
 struct Numbers {
     good: bool,
     count: usize,
-    values: [u32; 14],
+    values: [u32; LINE_NUMBERS],
 }
 
 // The first column from `at` on that has the byte `mark`, or the end.
@@ -182,7 +186,7 @@ fn arity(two: bool, kind: Kind) -> usize
         Kind::Remove => 5,
         Kind::Show => 1,
         Kind::Set => 7,
-        Kind::Entry => 14,
+        Kind::Entry => LINE_NUMBERS,
         Kind::Sheets => 0,
         Kind::BadLine => 0,
     }
@@ -195,7 +199,7 @@ fn with_word(numbers: Numbers, word: &[u8]) -> Numbers
     let good = numbers.good;
     let count = numbers.count;
     let mut values = numbers.values;
-    if 14 <= count {
+    if LINE_NUMBERS <= count {
         return Numbers {
             good: false,
             count,
@@ -233,7 +237,7 @@ fn numbers_after(line: &[u8], from: usize) -> Numbers
     let mut numbers = Numbers {
         good: true,
         count: 0,
-        values: [0; 14],
+        values: [0; LINE_NUMBERS],
     };
     let mut at = from;
     while at < n {
@@ -250,7 +254,7 @@ fn bad_command() -> Command
 {
     Command {
         kind: Kind::BadLine,
-        numbers: [0; 14],
+        numbers: [0; LINE_NUMBERS],
     }
 }
 

@@ -1,10 +1,14 @@
 // Lines that show a transaction or set it by hand, without a call.
-ghost use Prim.Native.Nat.{_≤_};
+ghost use Prim.Native.Nat.{_+_, _≤_};
+ghost use Rattle.script.specs.Lines.{entryNumbers, replyNumbers};
 use crate::calls;
 use script::reply;
+use script::reply::ENTRY_NUMBERS;
 use script::reply::Form;
+use script::reply::REPLY_NUMBERS;
 use script::reply::Reply;
 use script::scan::Kind;
+use script::scan::LINE_NUMBERS;
 use types::Columns;
 use types::Entry;
 use types::Image;
@@ -17,13 +21,14 @@ pub struct Done {
 }
 
 // The numbers of an entry, in the order of the line that sets one.
-fn entry_numbers(e: Entry) -> [u32; 12] {
+fn entry_numbers(e: Entry) -> [u32; ENTRY_NUMBERS] {
     [
         e.key.storage,
         e.key.namespace,
         e.key.table,
         e.key.partition,
         e.key.clustering,
+        e.absent,
         e.seen.version,
         e.seen.txid,
         e.seen.column1,
@@ -34,12 +39,16 @@ fn entry_numbers(e: Entry) -> [u32; 12] {
     ]
 }
 
-// The row over twelve numbers from `at` on.
-fn with_row(numbers: [u32; 102], at: usize, row: [u32; 12]) -> [u32; 102]
-    requires { ⌜ at ≤ 90 ⌝ }
+// The row over as many numbers from `at` on.
+fn with_row(
+    numbers: [u32; REPLY_NUMBERS],
+    at: usize,
+    row: [u32; ENTRY_NUMBERS],
+) -> [u32; REPLY_NUMBERS]
+    requires { ⌜ at + entryNumbers ≤ replyNumbers ⌝ }
 {
     let mut after = numbers;
-    for j in 0..12 {
+    for j in 0..ENTRY_NUMBERS {
         after[at + j] = row[j];
     }
     after
@@ -56,9 +65,9 @@ fn shown(count: u32) -> usize
 }
 
 fn show(t: Transaction) -> Done
-    ensures { λ r. ⌜ r .reply .count ≤ 102 ⌝ }
+    ensures { λ r. ⌜ r .reply .count ≤ replyNumbers ⌝ }
 {
-    let mut numbers = [0u32; 102];
+    let mut numbers = [0u32; REPLY_NUMBERS];
     numbers[0] = t.number;
     numbers[1] = t.serializable;
     numbers[2] = t.phase;
@@ -68,21 +77,21 @@ fn show(t: Transaction) -> Done
     let n = shown(t.count);
     for k in 0..n {
         let e = t.entries[k];
-        numbers = with_row(numbers, 6 + k * 12, entry_numbers(e));
+        numbers = with_row(numbers, 6 + k * ENTRY_NUMBERS, entry_numbers(e));
     }
     Done {
         transaction: t,
         reply: Reply {
             form: Form::Made,
-            count: 6 + n * 12,
+            count: 6 + n * ENTRY_NUMBERS,
             numbers,
         },
     }
 }
 
 // A transaction with other numbers and the same entries.
-fn set(n: [u32; 14], t: Transaction) -> Done
-    ensures { λ r. ⌜ r .reply .count ≤ 102 ⌝ }
+fn set(n: [u32; LINE_NUMBERS], t: Transaction) -> Done
+    ensures { λ r. ⌜ r .reply .count ≤ replyNumbers ⌝ }
 {
     let entries = t.entries;
     let transaction = Transaction {
@@ -100,7 +109,7 @@ fn set(n: [u32; 14], t: Transaction) -> Done
 
 // A bad line leaves the transaction.
 fn bad(t: Transaction) -> Done
-    ensures { λ r. ⌜ r .reply .count ≤ 102 ⌝ }
+    ensures { λ r. ⌜ r .reply .count ≤ replyNumbers ⌝ }
 {
     let reply = reply::bad_line();
     Done {
@@ -110,8 +119,8 @@ fn bad(t: Transaction) -> Done
 }
 
 // A transaction with another entry at an index.
-fn entry(n: [u32; 14], t: Transaction) -> Done
-    ensures { λ r. ⌜ r .reply .count ≤ 102 ⌝ }
+fn entry(n: [u32; LINE_NUMBERS], t: Transaction) -> Done
+    ensures { λ r. ⌜ r .reply .count ≤ replyNumbers ⌝ }
 {
     let index = n[1];
     if 7 < index {
@@ -120,15 +129,16 @@ fn entry(n: [u32; 14], t: Transaction) -> Done
     let e = Entry {
         key: calls::key_at(n, 2),
         seen: Image {
-            version: n[7],
-            txid: n[8],
-            column1: n[9],
-            column2: n[10],
+            version: n[8],
+            txid: n[9],
+            column1: n[10],
+            column2: n[11],
         },
-        wrote: n[11],
+        absent: n[7],
+        wrote: n[12],
         put: Columns {
-            column1: n[12],
-            column2: n[13],
+            column1: n[13],
+            column2: n[14],
         },
     };
     let transaction = transactions::with_entry(t.count, index as usize, e, t);
@@ -137,8 +147,8 @@ fn entry(n: [u32; 14], t: Transaction) -> Done
 }
 
 // A line on a slot's transaction that makes no call.
-pub fn on_transaction(kind: Kind, n: [u32; 14], t: Transaction) -> Done
-    ensures { λ r. ⌜ r .reply .count ≤ 102 ⌝ }
+pub fn on_transaction(kind: Kind, n: [u32; LINE_NUMBERS], t: Transaction) -> Done
+    ensures { λ r. ⌜ r .reply .count ≤ replyNumbers ⌝ }
 {
     match kind {
         Kind::Show => show(t),

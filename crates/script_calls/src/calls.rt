@@ -1,6 +1,7 @@
 // What a line asks of the engine, and what is replied to what was performed.
 ghost use mathlib.Core.Path.{_≡_};
-ghost use Prim.Native.Nat.{_≤_};
+ghost use Prim.Native.Nat.{_+_, _≤_};
+ghost use Rattle.script.specs.Lines.{lineNumbers, replyNumbers};
 ghost use Rattle.script_calls.specs.Parts.{keyFrom, columnsFrom, asksLine};
 ghost use Rattle.script_calls.specs.Asking.{begun, onSlot, askedFor};
 use answers::Performed;
@@ -9,6 +10,7 @@ use script::reply::Form;
 use script::reply::Reply;
 use script::scan::Command;
 use script::scan::Kind;
+use script::scan::LINE_NUMBERS;
 use types::Columns;
 use types::Key;
 use types::Ranked;
@@ -21,8 +23,8 @@ pub enum Asked {
 }
 
 // The key whose five numbers begin at `at`.
-pub fn key_at(n: [u32; 14], at: usize) -> Key
-    requires { ⌜ at ≤ 9 ⌝ }
+pub fn key_at(n: [u32; LINE_NUMBERS], at: usize) -> Key
+    requires { ⌜ at + 5 ≤ lineNumbers ⌝ }
     ensures { λ r. ⌜ r ≡ keyFrom n at ⌝ }
 {
     Key {
@@ -35,8 +37,8 @@ pub fn key_at(n: [u32; 14], at: usize) -> Key
 }
 
 // The columns whose two numbers begin at `at`.
-fn columns_at(n: [u32; 14], at: usize) -> Columns
-    requires { ⌜ at ≤ 12 ⌝ }
+fn columns_at(n: [u32; LINE_NUMBERS], at: usize) -> Columns
+    requires { ⌜ at + 2 ≤ lineNumbers ⌝ }
     ensures { λ r. ⌜ r ≡ columnsFrom n at ⌝ }
 {
     Columns {
@@ -48,7 +50,7 @@ fn columns_at(n: [u32; 14], at: usize) -> Columns
 // What the look-up's companion tells: how many lines have smaller keys, and 1 if the key has a line itself, else 0.
 pub fn rank(told: Ranked) -> Reply
     requires { ⌜ told .rank .below ≤ 500 ⌝ }
-    ensures { λ r. ⌜ r .count ≤ 102 ⌝ }
+    ensures { λ r. ⌜ r .count ≤ replyNumbers ⌝ }
 {
     if told.refusal != 0 {
         return reply::refused(told.refusal);
@@ -142,7 +144,7 @@ pub fn request(c: Command) -> Asked
 }
 
 pub fn ok() -> Reply
-    ensures { λ r. ⌜ r .count ≤ 102 ⌝ }
+    ensures { λ r. ⌜ r .count ≤ replyNumbers ⌝ }
 {
     reply::answer(Form::Made, 0, 0, 0, 0)
 }
@@ -158,7 +160,7 @@ fn visit_form(reply: u32) -> Form {
 
 // The reply of a read: 0 absent, 1 a value, 2 again, 3 what the first of two calls reads.
 fn reading(reply: u32, columns: Columns) -> Reply
-    ensures { λ r. ⌜ r .count ≤ 102 ⌝ }
+    ensures { λ r. ⌜ r .count ≤ replyNumbers ⌝ }
 {
     match reply {
         0 => reply::answer(Form::Absent, 0, 0, 0, 0),
@@ -170,7 +172,7 @@ fn reading(reply: u32, columns: Columns) -> Reply
 
 // What is printed of an accepted call.
 fn replied(kind: Kind, performed: Performed) -> Reply
-    ensures { λ r. ⌜ r .count ≤ 102 ⌝ }
+    ensures { λ r. ⌜ r .count ≤ replyNumbers ⌝ }
 {
     let t = performed.transaction;
     let columns = performed.columns;
@@ -186,7 +188,7 @@ fn replied(kind: Kind, performed: Performed) -> Reply
 
 // What is printed of a call that was performed.
 pub fn answered(kind: Kind, performed: Performed) -> Reply
-    ensures { λ r. ⌜ r .count ≤ 102 ⌝ }
+    ensures { λ r. ⌜ r .count ≤ replyNumbers ⌝ }
 {
     reply::unless_refused(performed.refusal, replied(kind, performed))
 }

@@ -5,6 +5,7 @@ ghost use mathlib.Core.Bool.{false};
 ghost use Prim.Native.Nat.{_≤_};
 ghost use lib.ListN.{replicate};
 ghost use Rattle.model.specs.Calls.{newTransaction};
+ghost use Rattle.script.specs.Lines.{replyNumbers};
 ghost use Rattle.script_calls.specs.Asking.{takenBy};
 use crate::by_hand;
 use crate::calls;
@@ -43,7 +44,7 @@ pub fn taken(c: Command, slots: [Transaction; 16]) -> Transaction
 
 // A call that was performed: its slot holds the transaction that came back.
 pub fn performed(c: Command, slots: [Transaction; 16], performed: Performed) -> Turn
-    ensures { λ r. ⌜ r .reply .count ≤ 102 ⌝ }
+    ensures { λ r. ⌜ r .reply .count ≤ replyNumbers ⌝ }
 {
     let kind = c.kind;
     let slot = c.numbers[0];
@@ -61,7 +62,7 @@ pub fn performed(c: Command, slots: [Transaction; 16], performed: Performed) -> 
 
 // A line on a slot that makes no call.
 fn on_slot(c: Command, slots: [Transaction; 16]) -> Turn
-    ensures { λ r. ⌜ r .reply .count ≤ 102 ⌝ }
+    ensures { λ r. ⌜ r .reply .count ≤ replyNumbers ⌝ }
 {
     let kind = c.kind;
     let n = c.numbers;
@@ -87,7 +88,7 @@ fn on_slot(c: Command, slots: [Transaction; 16]) -> Turn
 
 // A line that makes no call. For `sheets` the sheets alone are printed, and for `line` what is looked up.
 pub fn replied(c: Command, slots: [Transaction; 16]) -> Turn
-    ensures { λ r. ⌜ r .reply .count ≤ 102 ⌝ }
+    ensures { λ r. ⌜ r .reply .count ≤ replyNumbers ⌝ }
 {
     let kind = c.kind;
     match kind {

@@ -4,6 +4,7 @@ use Rattle.lists.specs.Basics.{_≡_, refl, sym, subst, _∙_, eqb, Bool, true,
 use Rattle.lists.specs.Members.{Mem, here, there}
 use Rattle.model.specs.Types.{Key, Transaction, Reading}
 use Rattle.model.specs.Transactions.{held, reading}
+use Rattle.serial.specs.Runs.{sightOf}
 use Rattle.model.specs.Writes.{Sheets, Write}
 use Rattle.model.specs.Results.{Call, begin, read, second, put, advance, abort, visit, add, remove, Answer, turnedAway, returned, answered, visited, reported, acknowledged}
 use Rattle.model.specs.Conditions.{isNew, heldEntry}
@@ -19,7 +20,7 @@ pub record StillHolds (es : List Event) (t′ : Transaction) (k : Key) : Type 0 
   pub state : Transaction
   pub available : Available state es
   pub number : state .number ≡ t′ .number
-  pub seen : Seen k (heldEntry k t′ .seen) (held state)
+  pub seen : Seen k (sightOf (heldEntry k t′)) (held state)
 
 -- the read of the key by t answered v and returned t′
 pub record ReadHeld (es : List Event) (t : Transaction) (k : Key) (v : Reading) (t′ : Transaction) : Type 0 where

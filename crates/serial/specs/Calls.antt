@@ -29,6 +29,7 @@ use Rattle.recovery.specs.Memory.{Away, away-nothing, away-issue, away-add, awa
 use Rattle.recovery.specs.Advance.{never-both, step-moves}
 use Rattle.recovery.specs.Calls.{visit-away}
 use Rattle.serial.specs.Runs.{Placing, NoNewer}
+use Rattle.call_laws.specs.Images.{flag-says}
 use Rattle.serial.specs.InDoubt.{Facts}
 use Rattle.serial.specs.Invariant.{placedAs, unplaced, Aged, Ordered}
 use Rattle.serial.specs.Handover.{Handover}
@@ -275,9 +276,14 @@ module _ {first : Key → Record} {s : Sheets} {es : List Event} {m : Model} {ps
 
         no-newer : isAgain (meeting now s r) ≡ false → busy k now s ≡ false → NoNewer (isLower (unitsOf s) (e .key)) (m .line) e
         no-newer x y =
-            let line : m .line (e .key) .image ≡ recovered (meeting now s r) r .image = ap (λ (j : Key). m .line j .image) same ∙ ap (λ (z : Record). z .image) (visited-line f k now x y) in
-            let v : e .seen .version ≡ m .line (e .key) .image .version = version (recovered (meeting now s r) r) ∙ ap (λ (z : Image). z .version) (sym line) in
-            (omega (arith, v), λ b q. whole (recovered (meeting now s r) r) (ap (isLower (unitsOf s)) (sym same) ∙ b) ∙ sym line)
+            let line : m .line (e .key) ≡ recovered (meeting now s r) r = ap (m .line) same ∙ visited-line f k now x y in
+            let v : e .seen .version ≡ m .line (e .key) .image .version = version (recovered (meeting now s r) r) ∙ ap (λ (z : Record). z .image .version) (sym line) in (
+              omega (arith, v),
+              λ q. (
+                flag-says (isAbsent (recovered (meeting now s r) r)) ∙ ap isAbsent (sym line),
+                λ b. whole (recovered (meeting now s r) r) (ap (isLower (unitsOf s)) (sym same) ∙ b) ∙ ap (λ (z : Record). z .image) (sym line),
+              ),
+            )
 
   same-verdict : (t u : Transaction) → u .verdict ≡ t .verdict → cond (eqb (t .verdict) 0 && eqb (u .verdict) 1) (modelCommit (t .number) m) m ≡ m
   same-verdict t u e = ap (λ (x : ℕ). cond (eqb (t .verdict) 0 && eqb x 1) (modelCommit (t .number) m) m) e ∙ same-model t

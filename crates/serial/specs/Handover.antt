@@ -16,7 +16,7 @@ use Rattle.call_laws.specs.Keeping.{units-kept}
 use Rattle.recovery.specs.Memory.{doneAt, Away, away-stood, abort-undecided, undecided-kept}
 use Rattle.recovery.specs.OwnWrites.{no-put}
 use Rattle.recovery.specs.Puts.{put-in-empty}
-use Rattle.serial.specs.Runs.{Placing, overwritten-none, Fresh, no-newer-after}
+use Rattle.serial.specs.Runs.{Placing, overwritten-none, sightIn, Fresh, no-newer-after}
 use Rattle.serial.specs.InDoubt.{Facts, InDoubt}
 use Rattle.serial.specs.Invariant.{placing, ValidatedIn, ValidatedInDoubt, ConsistentAt, Holder, InOrder, Aged, PreparedFresh, HasPosition, Calm, Ordered}
 
@@ -169,7 +169,7 @@ ordered-handover {first} {s} {w} {es} {e} {m} {m′} {t} {t′} {ps} {ps′} h o
         → (y : Entry) → Mem y (held u) → (z : Change) → doneAt (unitsOf s) u (y .key) ≡ some z → Fresh (m′ .line) y
     fresh-kept u a d l v y n z g =
         o .prepared-fresh u a l v y n z g
-        ∙ ap (λ (r : Record). r .image)
+        ∙ ap sightIn
         (sym (c .lines (y .key) ∙ overwritten-none (t .number) (c .commits (y .key)) (m .line (y .key)) (c .clear u a d l v (y .key) z g)))
 
     held-by : (p : Placing) → Mem p ps′ → (b : Bool) → eqb (t .number) (p .number) ≡ b → Holder (e ∷ es) p

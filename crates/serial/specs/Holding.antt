@@ -4,7 +4,7 @@ use Rattle.lists.specs.Basics.{_≡_, refl, sym, ap, subst, _∙_, ℕ, _+_, _<
 use Rattle.lists.specs.Basics.{inr, add-one, not-true}
 use lib.Seq.{take-suc-set}
 use Rattle.lists.specs.Members.{Mem, mem-before, mem-last, mem-more, mem-set, mem-kept, mem-at, mem-set-at}
-use Rattle.model.specs.Types.{Key, Image, Record, Found, Columns, Entry, Transaction}
+use Rattle.model.specs.Types.{Key, Record, Found, Columns, Entry, Transaction}
 use Rattle.model.specs.Records.{sameKey, isMissing, byFound}
 use Rattle.model.specs.Coordinator.{Letter}
 use Rattle.model.specs.Groups.{isLower}
@@ -22,19 +22,19 @@ use Rattle.call_laws.specs.Moved.{step-leaves}
 use Rattle.recovery.specs.Puts.{take-set}
 use Rattle.recovery.specs.Calls.{missing-none}
 use Rattle.serial.specs.Entries.{member-key}
-use Rattle.serial.specs.Runs.{NoNewer}
+use Rattle.serial.specs.Runs.{Sight, sightOf, NoNewer}
 use Rattle.serial.specs.Invariant.{Aged}
 
 -- an entry of the key that has this as first read
-pub record Seen (k : Key) (i : Image) (es : List Entry) : Type 0 where
+pub record Seen (k : Key) (i : Sight) (es : List Entry) : Type 0 where
   pub entry : Entry
   pub member : Mem entry es
   pub key : entry .key ≡ k
-  pub first-read : entry .seen ≡ i
+  pub first-read : sightOf entry ≡ i
 
 -- what t held is held by t′
 abbrev pub HoldsOn : Transaction → Transaction → Type 0
-HoldsOn t t′ = (x : Entry) → Mem x (held t) → Seen (x .key) (x .seen) (held t′)
+HoldsOn t t′ = (x : Entry) → Mem x (held t) → Seen (x .key) (sightOf x) (held t′)
 
 pub holds-same : (t t′ : Transaction) → held t′ ≡ held t → HoldsOn t t′
 holds-same t t′ q x n = record { entry = x; member = subst (Mem x) (sym q) n; key = refl; first-read = refl }
@@ -112,7 +112,7 @@ module _ (c : Columns) (t : Transaction) (i : ℕ) (l : i < length (held t)) whe
   pub holds-on-put : HoldsOn t (withEntry (t .count) i replaced t)
   holds-on-put x n = go (mem-kept noEntry replaced i (held t) n)
     where
-      go : Mem x (set (held t) i replaced) ⊎ (x ≡ getD (held t) i noEntry) → Seen (x .key) (x .seen) (held (withEntry (t .count) i replaced t))
+      go : Mem x (set (held t) i replaced) ⊎ (x ≡ getD (held t) i noEntry) → Seen (x .key) (sightOf x) (held (withEntry (t .count) i replaced t))
       go (inl m) = record { entry = x; member = subst (Mem x) (sym holds-put) m; key = refl; first-read = refl }
       go (inr q) =
           let same : getD (t .entries) i noEntry ≡ x = sym (q ∙ same-entry) in
@@ -120,7 +120,7 @@ module _ (c : Columns) (t : Transaction) (i : ℕ) (l : i < length (held t)) whe
             entry = replaced;
             member = subst (Mem replaced) (sym holds-put) (mem-set-at (held t) i replaced l);
             key = ap (λ (z : Entry). z .key) same;
-            first-read = ap (λ (z : Entry). z .seen) same;
+            first-read = ap sightOf same;
           }
 
   pub aged-put : (us : List Letter) (line : Key → Record) → Aged us line t → Aged us line (withEntry (t .count) i replaced t)

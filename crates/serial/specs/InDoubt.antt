@@ -7,8 +7,8 @@ use Rattle.model.specs.Types.{Key, Record, Undecided, Entry, Transaction}
 use Rattle.model.specs.Records.{lineOf, hasLine}
 use Rattle.model.specs.Coordinator.{Letter, decision}
 use Rattle.model.specs.Groups.{isLower}
-use Rattle.model.specs.Images.{Change, changeIn, isPrepared, preparedBy, unchanged, sameColumns}
-use Rattle.model.specs.Transactions.{held}
+use Rattle.model.specs.Images.{Change, changeIn, isAbsent, isPrepared, preparedBy, unchanged, sameColumns}
+use Rattle.model.specs.Transactions.{held, wasAbsent}
 use Rattle.model.specs.Writes.{Sheets}
 use Rattle.model.specs.Steps.{holds, unitsOf}
 use Rattle.model.specs.Histories.{Event, Available}
@@ -132,14 +132,17 @@ module _ {s : Sheets} {es : List Event} {m : Model} (f : Facts s es m) where
 
   -- it is as the line
   pub holds-fresh : (e : Entry) → holds s e ≡ true → NoNewer (isLower (unitsOf s) (e .key)) (m .line) e → Fresh (m .line) e
-  holds-fresh e h n = go (isLower (unitsOf s) (e .key)) refl
+  holds-fresh e h n = λ i. record { absent = same .0 i; image = go (isLower (unitsOf s) (e .key)) refl i }
     where
       x : Held e
       x = held-line e h
 
-      go : (b : Bool) → isLower (unitsOf s) (e .key) ≡ b → Fresh (m .line) e
+      same : (wasAbsent e ≡ isAbsent (m .line (e .key))) × (isLower (unitsOf s) (e .key) ≡ false → e .seen ≡ m .line (e .key) .image)
+      same = n .1 (sym (ap (λ (r : Record). r .image .version) (x .line) ∙ x .version))
+
+      go : (b : Bool) → isLower (unitsOf s) (e .key) ≡ b → e .seen ≡ m .line (e .key) .image
       go true q = x .compared q ∙ ap (λ (r : Record). r .image) (sym (x .line))
-      go false q = n .1 q (sym (ap (λ (r : Record). r .image .version) (x .line) ∙ x .version))
+      go false q = same .1 q
 
   -- and put to by no one in doubt
   pub holds-free : (e : Entry) → holds s e ≡ true → {n : ℕ} (x : InDoubt s es n) → putIn (e .key) (held (x .state)) ≡ none

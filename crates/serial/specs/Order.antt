@@ -4,7 +4,7 @@
 use Rattle.lists.specs.Basics.{_≡_, refl, sym, ap, _∙_, ℕ, Bool, true, false, true≢false, List, [], _∷_, none, _⊎_, inl, inr}
 use Rattle.lists.specs.Members.{Mem, here, there}
 use Rattle.model.specs.Types.{Key, Record, Entry}
-use Rattle.serial.specs.Runs.{Placing, wrote, ran, runLine, unwritten, Fresh}
+use Rattle.serial.specs.Runs.{Placing, wrote, ran, runLine, unwritten, sightIn, sightOf, Fresh}
 
 -- Of the numbers those that are committed pass c, and doubt are those in doubt, which have their position and may still commit; valid are the entries
 -- validated.
@@ -16,7 +16,7 @@ pub record Later (line : Key → Record) (c : ℕ → Bool) (doubt : ℕ → Typ
 
 -- what p has validated is what the committed ones before it leave, and no one in doubt before it writes it
 pub record Stands (first : Key → Record) (c : ℕ → Bool) (doubt : ℕ → Type 0) (valid : Placing → Entry → Type 0) (p : Placing) (ps : List Placing) : Type 0 where
-  pub saw : (e : Entry) → Mem e (p .entries) → valid p e → e .seen ≡ runLine c first ps (e .key) .image
+  pub saw : (e : Entry) → Mem e (p .entries) → valid p e → sightOf e ≡ sightIn (runLine c first ps (e .key))
   pub safe : (e : Entry) → Mem e (p .entries) → valid p e → (q : Placing) → Mem q ps → doubt (q .number) → wrote (e .key) q ≡ none
 
 pub data EachStands (first line : Key → Record) (c : ℕ → Bool) (doubt : ℕ → Type 0) (valid : Placing → Entry → Type 0) : List Placing → Type 0 where
@@ -64,7 +64,7 @@ module _ {first line : Key → Record} {c : ℕ → Bool} {doubt : ℕ → Type 
     enters ps p o d n f g fresh safe =
         record {
           each = one-more p ps
-              (record { saw = λ e m h. fresh e m h ∙ ap (λ (r : Record). r .image) (sym (o .lines (e .key))); safe = safe })
+              (record { saw = λ e m h. fresh e m h ∙ ap sightIn (sym (o .lines (e .key))); safe = safe })
               (λ q m. record { other = d q m; clear = λ w e l h t. absurd (true≢false (sym t ∙ n)) })
               (each-weaker ps f g (o .each));
           lines = λ k. ap (λ (b : Bool). ran b p k (runLine c first ps k)) n ∙ o .lines k;
@@ -97,9 +97,9 @@ module _ (first line : Key → Record) (c : ℕ → Bool) (doubt : ℕ → Type 
       skipped k (inl e) = ap (λ (b : Bool). ran b p k (runLine c first xs k)) e
       skipped k (inr e) = unwritten (c (p .number)) p k (runLine c first xs k) e
 
-      saw : (e : Entry) → Mem e (p .entries) → OrFound (p ∷ xs) p e → e .seen ≡ runLine c first xs (e .key) .image
+      saw : (e : Entry) → Mem e (p .entries) → OrFound (p ∷ xs) p e → sightOf e ≡ sightIn (runLine c first xs (e .key))
       saw e m (inl w) = x .saw e m w
-      saw e m (inr w) = w .0 .fresh ∙ ap (λ (r : Record). r .image) (sym (w .1) ∙ skipped (e .key) (inl (w .0 .uncommitted)))
+      saw e m (inr w) = w .0 .fresh ∙ ap sightIn (sym (w .1) ∙ skipped (e .key) (inl (w .0 .uncommitted)))
 
       safe : (e : Entry) → Mem e (p .entries) → OrFound (p ∷ xs) p e → (q : Placing) → Mem q xs → doubt (q .number) → wrote (e .key) q ≡ none
       safe e m (inl w) q n f = x .safe e m w q n f

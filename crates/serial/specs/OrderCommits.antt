@@ -6,7 +6,7 @@ use Rattle.lists.specs.Members.{Mem, here, there}
 use Rattle.model.specs.Types.{Key, Record, Entry}
 use Rattle.model.specs.Images.{Change}
 use Rattle.model.specs.SequentialModel.{overwritten}
-use Rattle.serial.specs.Runs.{Placing, wrote, ran, runLine, overwritten-none, unwritten, run-other, Fresh, NotAhead, fresh-unwritten}
+use Rattle.serial.specs.Runs.{Placing, wrote, ran, runLine, overwritten-none, unwritten, run-other, sightIn, Fresh, NotAhead, fresh-unwritten}
 use Rattle.serial.specs.Order.{Later, Stands, EachStands, none-placed, one-more, Consistent, same-number}
 
 -- the number n is committed now, and nothing else
@@ -95,14 +95,14 @@ module _ {first line line′ : Key → Record} {c c′ : ℕ → Bool} {doubt do
       go w e i f h z = by-number _ x m (λ d. ap (wrote (e .key)) d ∙ z) (λ s. a .clear (u .fewer q n w) e i was (sym s ∙ h))
         where
           was : Fresh line e
-          was = f ∙ ap (λ (r : Record). r .image) (u .lines (e .key) ∙ overwritten-none (p .number) (wrote (e .key) p) (line (e .key)) z)
+          was = f ∙ ap sightIn (u .lines (e .key) ∙ overwritten-none (p .number) (wrote (e .key) p) (line (e .key)) z)
 
   commit-stands : (q : Placing) (ps : List Placing) → Mem q all → ((x : Placing) → Mem x ps → Mem x all) → Stands first c doubt valid q ps
       → Stands first c′ doubt′ valid′ q ps
   commit-stands q ps n sub f =
       record {
         saw = λ e i w. let v : valid q e = u .validated q n e i w in
-            f .saw e i v ∙ ap (λ (r : Record). r .image) (sym (run-other c c′ first (e .key) ps (λ x m. same e i v x m)));
+            f .saw e i v ∙ ap sightIn (sym (run-other c c′ first (e .key) ps (λ x m. same e i v x m)));
         safe = λ e i w x m y. f .safe e i (u .validated q n e i w) x m (u .fewer x (sub x m) y);
       }
     where

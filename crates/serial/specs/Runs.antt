@@ -3,7 +3,8 @@
 use Rattle.lists.specs.Basics.{_≡_, refl, sym, ap, ap₂, _∙_, ℕ, _+_, _≤_, Bool, true, false, cond, List, [], _∷_, Option, none, some, _⊎_, inl, inr, arith}
 use Rattle.lists.specs.Members.{Mem, here, there}
 use Rattle.model.specs.Types.{Key, Image, Record, Entry}
-use Rattle.model.specs.Images.{Change}
+use Rattle.model.specs.Images.{isAbsent, Change}
+use Rattle.model.specs.Transactions.{wasAbsent}
 use Rattle.model.specs.SequentialModel.{overwritten}
 use Rattle.recovery.specs.Memory.{putIn}
 
@@ -51,9 +52,20 @@ run-other c c′ first k (p ∷ ps) h = go (h p here) (run-other c c′ first k 
 
 -- What an entry has as first read, beside the line of its key.
 
+-- what a line gives to read, and what an entry has as first read: whether it is absent, and its image
+pub record Sight : Type 0 where
+  pub absent : Bool
+  pub image : Image
+
+abbrev pub sightIn : Record → Sight
+sightIn r = record { absent = isAbsent r; image = r .image }
+
+abbrev pub sightOf : Entry → Sight
+sightOf e = record { absent = wasAbsent e; image = e .seen }
+
 -- it is the line
 abbrev pub Fresh : (Key → Record) → Entry → Type 0
-Fresh line e = e .seen ≡ line (e .key) .image
+Fresh line e = sightOf e ≡ sightIn (line (e .key))
 
 -- it has no higher version
 abbrev pub NotAhead : (Key → Record) → Entry → Type 0
@@ -61,7 +73,7 @@ NotAhead line e = e .seen .version ≤ line (e .key) .image .version
 
 -- and where it has the line's version it is the line, but for columns that a second call may have brought
 abbrev pub NoNewer : Bool → (Key → Record) → Entry → Type 0
-NoNewer brought line e = NotAhead line e × (brought ≡ false → e .seen .version ≡ line (e .key) .image .version → Fresh line e)
+NoNewer brought line e = NotAhead line e × (e .seen .version ≡ line (e .key) .image .version → (wasAbsent e ≡ isAbsent (line (e .key))) × (brought ≡ false → e .seen ≡ line (e .key) .image))
 
 -- a line that is written has a higher version
 overwritten-version : (n : ℕ) (c : Change) (r : Record) → overwritten n (some c) r .image .version ≡ r .image .version + 1
@@ -79,15 +91,15 @@ module _ (line line′ : Key → Record) (e : Entry) (n : ℕ) where
   no-newer-after brought none l a =
       let v : line′ (e .key) .image .version ≡ line (e .key) .image .version = ap (λ (r : Record). r .image .version) l in
       let f = a .0 in
-      (omega (arith, v, f), λ b q. a .1 b (q ∙ v) ∙ ap (λ (r : Record). r .image) (sym l))
+      (omega (arith, v, f), λ q. let x = a .1 (q ∙ v) in (x .0 ∙ ap isAbsent (sym l), λ b. x .1 b ∙ ap (λ (r : Record). r .image) (sym l)))
   no-newer-after brought (some c) l a =
       let v = written-version c l in
       let f = a .0 in
-      (omega (arith, v, f), λ b q. absurd (omega (arith, v, f, q)))
+      (omega (arith, v, f), λ q. absurd (omega (arith, v, f, q)))
 
   -- an entry that is as the line afterwards is of a key that was not written
   pub fresh-unwritten : (o : Option Change) → line′ (e .key) ≡ overwritten n o (line (e .key)) → NotAhead line e → Fresh line′ e → o ≡ none
   fresh-unwritten none l a f = refl
   fresh-unwritten (some c) l a f =
-      let v : e .seen .version ≡ line (e .key) .image .version + 1 = ap (λ (i : Image). i .version) f ∙ written-version c l in
+      let v : e .seen .version ≡ line (e .key) .image .version + 1 = ap (λ (i : Sight). i .image .version) f ∙ written-version c l in
       absurd (omega (arith, v, a))

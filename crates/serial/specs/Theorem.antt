@@ -16,7 +16,7 @@ use Rattle.model.specs.SerialOrder.{begunChecked, getsPosition, placedBy, seria
 use Rattle.recovery.specs.History.{first-inv, history-kept}
 use Rattle.recovery.specs.Theorem.{modelOf}
 use Rattle.turns.specs.Reduction.{modelOfTurns, Reduced, reduce}
-use Rattle.serial.specs.Runs.{Placing, wrote, runLine}
+use Rattle.serial.specs.Runs.{Placing, wrote, runLine, Sight, sightIn, sightOf}
 use Rattle.serial.specs.Order.{EachStands, one-more}
 use Rattle.serial.specs.InDoubt.{Facts, facts, InDoubt}
 use Rattle.serial.specs.Invariant.{placedAs, placings, Validated, Ordered, own-position}
@@ -56,7 +56,7 @@ record Preceded (first : Key → Record) (c : ℕ → Bool) (valid : Placing →
   pub earlier : List Placing
   pub sub : (q : Placing) → Mem q earlier → Mem q ps
   pub is : placedBefore (p .number) (numbers ps) ≡ numbers earlier
-  pub saw : (e : Entry) → Mem e (p .entries) → valid p e → e .seen ≡ runLine c first earlier (e .key) .image
+  pub saw : (e : Entry) → Mem e (p .entries) → valid p e → sightOf e ≡ sightIn (runLine c first earlier (e .key))
 
 none-of : (n : ℕ) (ps : List Placing) → ((q : Placing) → Mem q ps → n ≡ q .number → ⊥) → count (eqb n) (numbers ps) ≡ 0
 unfolding count
@@ -136,13 +136,11 @@ end-serializable rs {s} es m f k =
         let line : serialLine rs m (placedBefore (t .number) (serialOrder es)) j ≡ run (b .earlier) j =
         ap₂ (λ (n : ℕ) (ns : List ℕ). serialLine rs m (placedBefore n ns) j) (sym (x .number)) (order-is es)
         ∙ (ap (λ (ns : List ℕ). serialLine rs m ns j) (b .is) ∙ run-is rs m j (b .earlier) (λ q n. page q (b .sub q n) j)) in
-        record {
-          answer = r .answer;
-          first-read =
-              sym (y .first-read)
-              ∙ (b .saw (y .entry) held (inl (ap (λ (i : ℕ). isCommitted i m) (x .number) ∙ c))
-              ∙ (ap (λ (i : Key). run (b .earlier) i .image) (y .key) ∙ ap (λ (z : Record). z .image) (sym line)));
-        }
+        let seen =
+        sym (y .first-read)
+        ∙ (b .saw (y .entry) held (inl (ap (λ (i : ℕ). isCommitted i m) (x .number) ∙ c))
+        ∙ (ap (λ (i : Key). sightIn (run (b .earlier) i)) (y .key) ∙ ap sightIn (sym line))) in
+        record { answer = r .answer; first-read = ap (λ (z : Sight). z .image) seen; absence = ap (λ (z : Sight). z .absent) seen }
 
 -- Over calls, and over turns, which count as the calls that they come to.
 

@@ -95,10 +95,10 @@ abbrev p0 : Transaction
 p0 = newTransaction 2 false
 
 abbrev p1 : Transaction
-p1 = withEntry 1 0 (entryAs keyA (image 3 1 500 250)) p0
+p1 = withEntry 1 0 (entryAs keyA false (image 3 1 500 250)) p0
 
 abbrev p2 : Transaction
-p2 = withEntry 1 0 (withPut (columns 600 300) (entryAs keyA (image 3 1 500 250))) p1
+p2 = withEntry 1 0 (withPut (columns 600 300) (entryAs keyA false (image 3 1 500 250))) p1
 
 abbrev p3 : Transaction
 p3 = moved donePhase 0 committedVerdict p2
@@ -108,19 +108,19 @@ abbrev q0 : Transaction
 q0 = newTransaction 3 true
 
 abbrev q1 : Transaction
-q1 = withEntry 1 0 (entryAs keyB (image 1 0 40 7)) q0
+q1 = withEntry 1 0 (entryAs keyB false (image 1 0 40 7)) q0
 
 abbrev q2 : Transaction
-q2 = withEntry 1 0 (withPut (columns 41 8) (entryAs keyB (image 1 0 40 7))) q1
+q2 = withEntry 1 0 (withPut (columns 41 8) (entryAs keyB false (image 1 0 40 7))) q1
 
 abbrev q3 : Transaction
-q3 = withEntry 2 1 (entryAs keyC noImage) q2
+q3 = withEntry 2 1 (entryAs keyC true noImage) q2
 
 abbrev q4 : Transaction
-q4 = withEntry 2 1 (withPut (columns 5 6) (entryAs keyC noImage)) q3
+q4 = withEntry 2 1 (withPut (columns 5 6) (entryAs keyC true noImage)) q3
 
 abbrev q5 : Transaction
-q5 = withEntry 3 2 (entryAs keyA (image 4 2 600 300)) q4
+q5 = withEntry 3 2 (entryAs keyA false (image 4 2 600 300)) q4
 
 abbrev qIn : ℕ → ℕ → ℕ → Transaction
 qIn phase place verdict = moved phase place verdict q5
@@ -130,16 +130,16 @@ abbrev r0 : Transaction
 r0 = newTransaction 4 false
 
 abbrev r1 : Transaction
-r1 = withEntry 1 0 (entryAs keyA (image 4 2 600 300)) r0
+r1 = withEntry 1 0 (entryAs keyA false (image 4 2 600 300)) r0
 
 abbrev r2 : Transaction
-r2 = withEntry 1 0 (withPut (columns 1 2) (entryAs keyA (image 4 2 600 300))) r1
+r2 = withEntry 1 0 (withPut (columns 1 2) (entryAs keyA false (image 4 2 600 300))) r1
 
 abbrev r3 : Transaction
-r3 = withEntry 2 1 (entryAs keyC (image 1 3 5 6)) r2
+r3 = withEntry 2 1 (entryAs keyC false (image 1 3 5 6)) r2
 
 abbrev r4 : Transaction
-r4 = withEntry 2 1 (withPut (columns 9 9) (entryAs keyC (image 1 3 5 6))) r3
+r4 = withEntry 2 1 (withPut (columns 9 9) (entryAs keyC false (image 1 3 5 6))) r3
 
 abbrev rIn : ℕ → Transaction
 rIn place = moved preparePhase place noVerdict r4

@@ -81,13 +81,13 @@ abbrev x0 : Transaction
 x0 = newTransaction 1 true
 
 abbrev x1 : Transaction
-x1 = withEntry 1 0 (entryAs keyB (image 1 0 40 7)) x0
+x1 = withEntry 1 0 (entryAs keyB false (image 1 0 40 7)) x0
 
 abbrev x2 : Transaction
-x2 = withEntry 2 1 (entryAs keyA (image 3 0 500 250)) x1
+x2 = withEntry 2 1 (entryAs keyA false (image 3 0 500 250)) x1
 
 abbrev x3 : Transaction
-x3 = withEntry 2 1 (withPut (columns 600 300) (entryAs keyA (image 3 0 500 250))) x2
+x3 = withEntry 2 1 (withPut (columns 600 300) (entryAs keyA false (image 3 0 500 250))) x2
 
 abbrev xIn : ℕ → ℕ → ℕ → Transaction
 xIn phase place verdict = moved phase place verdict x3
@@ -97,10 +97,10 @@ abbrev y0 : Transaction
 y0 = newTransaction 2 true
 
 abbrev y1 : Transaction
-y1 = withEntry 1 0 (entryAs keyB (image 1 0 40 7)) y0
+y1 = withEntry 1 0 (entryAs keyB false (image 1 0 40 7)) y0
 
 abbrev y2 : Transaction
-y2 = withEntry 2 1 (entryAs keyC noImage) y1
+y2 = withEntry 2 1 (entryAs keyC true noImage) y1
 
 abbrev yIn : ℕ → ℕ → ℕ → Transaction
 yIn phase place verdict = moved phase place verdict y2
@@ -110,10 +110,10 @@ abbrev z0 : Transaction
 z0 = newTransaction 3 true
 
 abbrev z1 : Transaction
-z1 = withEntry 1 0 (entryAs keyB (image 1 0 40 7)) z0
+z1 = withEntry 1 0 (entryAs keyB false (image 1 0 40 7)) z0
 
 abbrev z2 : Transaction
-z2 = withEntry 1 0 (withPut (columns 41 8) (entryAs keyB (image 1 0 40 7))) z1
+z2 = withEntry 1 0 (withPut (columns 41 8) (entryAs keyB false (image 1 0 40 7))) z1
 
 abbrev zIn : ℕ → ℕ → ℕ → Transaction
 zIn phase place verdict = moved phase place verdict z2

@@ -71,7 +71,7 @@ rowAt list place q a b = record { turn = byPlace list place q; event = record { 
 
 -- the turns made one after another, each with the sheets that the row before it left
 unfoldable pub told : {S : Type 0} → Kind S → List (Row S) → S → List (Row S)
-unfolding Texts.bytes Texts.eqList Each.all Each.any Each.filter Each.count Each.joined Each.pieces Each.less Field.stepped Field.scanned Field.within Field.figure Field.number Field.isNumber Field.ahead Field.fieldText Layouts.words Layouts.recordLayout Layouts.keyLayout Layouts.imageLayout Layouts.columnsLayout Layouts.headLayout Layouts.lineLayout Lines.wordFrom Lines.fieldValue Lines.fieldBytes Lines.inRange Lines.rowOf Lines.lineSet Lines.lineText Lines.rowGood Lines.linesOf Lines.linesSet Records.stateNumber Records.stateOf Records.beforeNumber Records.beforeOf Records.keyNumbers Records.imageNumbers Records.keyOf Records.imageFrom Records.recordOf Records.recordNumbers Records.isZero Records.noBefore Records.beforeRule Records.absentRule Records.committedRule Records.preparedRule Records.goodAlone Records.keyLess Records.inOrder Records.rising Records.recordsGood Records.recordIn Records.recordText Records.records Records.recordsText Records.recordsAccepted Spares.spareLine Spares.trimmed Spares.filledLines Spares.front Spares.sized Spares.sheetFor Spares.sheetAccepted Records.keyInRange Records.sameKey Search.firstFrom Records.found Records.isMissing Records.lineOf Coordinator.decisionNumber Coordinator.decisionOf Coordinator.unitNumber Coordinator.unitOf Coordinator.letterNumber Coordinator.letterOf Coordinator.isUndecided Coordinator.decision Coordinator.withDecision Coordinator.withIssued Coordinator.coordinatorGood Coordinator.decisionIn Coordinator.coordinatorOf Coordinator.numbered Coordinator.coordinatorReadable Coordinator.allCapitals Coordinator.coordinatorAccepted Coordinator.namesIssued Coordinator.decisionTexts Coordinator.headNumbers Coordinator.coordinatorText Refusals.refusalOf SheetCalls.allIssued SheetCalls.checkConditions Transactions.held Transactions.puts Transactions.toValidate Transactions.heldAt Transactions.reading Groups.unitFields Groups.letterFor Groups.scope Groups.addScope Groups.scopes Groups.groupCount Groups.groupPlace Groups.group Images.preparedBy Images.unchanged Images.sameColumns Images.prepared Images.committed Images.rolledForward Images.rolledBack Images.elapsed Images.lineExpired Images.recovery Writes.entryFor Writes.isOf Writes.lineAfter Writes.shifted Writes.linesAfter Writes.decisionsAfter Writes.apply WellFormed.imageInRange WellFormed.columnsInRange WellFormed.putFits WellFormed.entryFormed WellFormed.distinctKeys WellFormed.placeFormed WellFormed.verdictFormed WellFormed.formed WellFormed.wellFormed Visits.numberExpired Visits.meeting Visits.recovered Visits.recoveryWrite Conditions.cannotAdvance Conditions.conditions Steps.holds Steps.onePhaseAllowed Steps.onePhase Steps.openWithoutPuts Steps.openStep Steps.nextGroup Steps.prepareStep Steps.validateStep Steps.nextEntry Steps.decideStep Steps.withdrawStep Steps.finishStep Steps.undoStep Steps.step Calls.outcome Calls.result Calls.readNew Calls.seenSecond Calls.wholeRead Calls.afterPut CallByPlace.listed CallByPlace.responseAt CallByPlace.responseAtOn Operations.standsFor Operations.response Operations.responseOn Operations.sheetLeft Operations.coordinatorLeft Requests.operationOf ByteCalls.resultOn ByteCalls.sheetAfter ByteCalls.coordinatorAfter ByteHistories.answerOn ByteHistories.afterOn Turns.turnCall Turns.turnResponseOn Turns.turnEventOn Turns.turnAfterOn TwoSheets.plainLayout TwoSheets.bookkeepingLayout TwoSheets.joinLine TwoSheets.plainLine TwoSheets.bookkeepingLine TwoSheets.joinLines TwoSheets.joinedSheet TwoSheets.plainPart TwoSheets.bookkeepingPart TwoSheets.plainSaid TwoSheets.bookkeepingSaid TwoSheets.plainRecord TwoSheets.bookkeepingRecord TwoSheets.plainAlone TwoSheets.bookkeepingAlone TwoSheets.sameKeysIn TwoSheets.sameKeys TwoSheets.coordinatorFits TwoSpares.asMany TwoSpares.keysMatch TwoSpares.formConditions TwoSpares.twoConditions TwoCalls.responseTwo TwoCalls.responseAtTwo TwoCalls.plainLeft TwoCalls.bookkeepingLeft TwoCalls.answerTwo TwoCalls.afterTwo TwoCalls.turnResponseTwo TwoCalls.turnEventTwo TwoCalls.turnAfterTwo
+unfolding Texts.bytes Texts.eqList Each.all Each.any Each.filter Each.count Each.joined Each.pieces Each.less Field.stepped Field.scanned Field.within Field.figure Field.number Field.isNumber Field.ahead Field.fieldText Layouts.words Layouts.recordLayout Layouts.keyLayout Layouts.imageLayout Layouts.columnsLayout Layouts.headLayout Layouts.lineLayout Lines.wordFrom Lines.fieldValue Lines.fieldBytes Lines.inRange Lines.rowOf Lines.lineSet Lines.lineText Lines.rowGood Lines.linesOf Lines.linesSet Records.stateNumber Records.stateOf Records.beforeNumber Records.beforeOf Records.keyNumbers Records.imageNumbers Records.keyOf Records.imageFrom Records.recordOf Records.recordNumbers Records.isZero Records.absence Records.noBefore Records.beforeRule Records.absentRule Records.committedRule Records.preparedRule Records.goodAlone Records.keyLess Records.inOrder Records.rising Records.recordsGood Records.recordIn Records.recordText Records.records Records.recordsText Records.recordsAccepted Spares.spareLine Spares.trimmed Spares.filledLines Spares.front Spares.sized Spares.sheetFor Spares.sheetAccepted Records.keyInRange Records.sameKey Search.firstFrom Records.found Records.isMissing Records.lineOf Coordinator.decisionNumber Coordinator.decisionOf Coordinator.unitNumber Coordinator.unitOf Coordinator.letterNumber Coordinator.letterOf Coordinator.isUndecided Coordinator.decision Coordinator.withDecision Coordinator.withIssued Coordinator.coordinatorGood Coordinator.decisionIn Coordinator.coordinatorOf Coordinator.numbered Coordinator.coordinatorReadable Coordinator.allCapitals Coordinator.coordinatorAccepted Coordinator.namesIssued Coordinator.decisionTexts Coordinator.headNumbers Coordinator.coordinatorText Refusals.refusalOf SheetCalls.allIssued SheetCalls.checkConditions Transactions.held Transactions.puts Transactions.toValidate Transactions.heldAt Transactions.reading Groups.unitFields Groups.letterFor Groups.scope Groups.addScope Groups.scopes Groups.groupCount Groups.groupPlace Groups.group Images.preparedBy Images.unchanged Images.sameColumns Images.prepared Images.committed Images.rolledForward Images.rolledBack Images.elapsed Images.lineExpired Images.recovery Writes.entryFor Writes.isOf Writes.lineAfter Writes.shifted Writes.linesAfter Writes.decisionsAfter Writes.apply WellFormed.imageInRange WellFormed.columnsInRange WellFormed.putFits WellFormed.entryFormed WellFormed.distinctKeys WellFormed.placeFormed WellFormed.verdictFormed WellFormed.formed WellFormed.wellFormed Visits.numberExpired Visits.meeting Visits.recovered Visits.recoveryWrite Conditions.cannotAdvance Conditions.conditions Steps.holds Steps.onePhaseAllowed Steps.onePhase Steps.openWithoutPuts Steps.openStep Steps.nextGroup Steps.prepareStep Steps.validateStep Steps.nextEntry Steps.decideStep Steps.withdrawStep Steps.finishStep Steps.undoStep Steps.step Calls.outcome Calls.result Calls.readNew Calls.seenSecond Calls.wholeRead Calls.afterPut CallByPlace.listed CallByPlace.responseAt CallByPlace.responseAtOn Operations.standsFor Operations.response Operations.responseOn Operations.sheetLeft Operations.coordinatorLeft Requests.operationOf ByteCalls.resultOn ByteCalls.sheetAfter ByteCalls.coordinatorAfter ByteHistories.answerOn ByteHistories.afterOn Turns.turnCall Turns.turnResponseOn Turns.turnEventOn Turns.turnAfterOn TwoSheets.plainLayout TwoSheets.bookkeepingLayout TwoSheets.joinLine TwoSheets.plainLine TwoSheets.bookkeepingLine TwoSheets.joinLines TwoSheets.joinedSheet TwoSheets.plainPart TwoSheets.bookkeepingPart TwoSheets.plainSaid TwoSheets.bookkeepingSaid TwoSheets.plainRecord TwoSheets.bookkeepingRecord TwoSheets.plainAlone TwoSheets.bookkeepingAlone TwoSheets.sameKeysIn TwoSheets.sameKeys TwoSheets.coordinatorFits TwoSpares.asMany TwoSpares.keysMatch TwoSpares.formConditions TwoSpares.twoConditions TwoCalls.responseTwo TwoCalls.responseAtTwo TwoCalls.plainLeft TwoCalls.bookkeepingLeft TwoCalls.answerTwo TwoCalls.afterTwo TwoCalls.turnResponseTwo TwoCalls.turnEventTwo TwoCalls.turnAfterTwo
 told kind [] b = []
 told kind (r ∷ rs) b = record { turn = r .turn; event = kind .events (r .turn) b; left = kind .turned (r .turn) b } ∷ told kind rs (r .left)
 

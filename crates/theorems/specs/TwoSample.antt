@@ -120,20 +120,20 @@ abbrev p0 : Transaction
 p0 = newTransaction 1 false
 
 abbrev p1 : Transaction
-p1 = withEntry 1 0 (entryAs keyA (image 3 0 40 7)) p0
+p1 = withEntry 1 0 (entryAs keyA false (image 3 0 40 7)) p0
 
 abbrev p2 : Transaction
-p2 = withEntry 1 0 (withPut (columns 99 7) (entryAs keyA (image 3 0 40 7))) p1
+p2 = withEntry 1 0 (withPut (columns 99 7) (entryAs keyA false (image 3 0 40 7))) p1
 
 -- number 2, which holds 99 beside the old version
 abbrev q0 : Transaction
 q0 = newTransaction 2 false
 
 abbrev q1 : Transaction
-q1 = withEntry 1 0 (entryAs keyA (image 3 0 99 7)) q0
+q1 = withEntry 1 0 (entryAs keyA false (image 3 0 99 7)) q0
 
 abbrev q2 : Transaction
-q2 = withEntry 1 0 (withPut (columns 100 7) (entryAs keyA (image 3 0 99 7))) q1
+q2 = withEntry 1 0 (withPut (columns 100 7) (entryAs keyA false (image 3 0 99 7))) q1
 
 abbrev qIn : ℕ → ℕ → Transaction
 qIn phase verdict = moved phase 0 verdict q2
@@ -143,13 +143,13 @@ abbrev r0 : Transaction
 r0 = newTransaction 3 false
 
 abbrev r1 : Transaction
-r1 = withEntry 1 0 (entryAs keyA (image 3 0 40 7)) r0
+r1 = withEntry 1 0 (entryAs keyA false (image 3 0 40 7)) r0
 
 abbrev r2 : Transaction
-r2 = withEntry 2 1 (entryAs keyB (image 1 0 8 9)) r1
+r2 = withEntry 2 1 (entryAs keyB false (image 1 0 8 9)) r1
 
 abbrev r3 : Transaction
-r3 = withEntry 2 1 (withPut (columns 10 11) (entryAs keyB (image 1 0 8 9))) r2
+r3 = withEntry 2 1 (withPut (columns 10 11) (entryAs keyB false (image 1 0 8 9))) r2
 
 abbrev rIn : ℕ → ℕ → Transaction
 rIn phase verdict = moved phase 0 verdict r3
@@ -303,10 +303,10 @@ abbrev u0 : Transaction
 u0 = newTransaction 1 true
 
 abbrev u1 : Transaction
-u1 = withEntry 1 0 (entryAs keyA (image 3 0 40 7)) u0
+u1 = withEntry 1 0 (entryAs keyA false (image 3 0 40 7)) u0
 
 abbrev u2 : Transaction
-u2 = withEntry 1 0 (withPut (columns 41 8) (entryAs keyA (image 3 0 40 7))) u1
+u2 = withEntry 1 0 (withPut (columns 41 8) (entryAs keyA false (image 3 0 40 7))) u1
 
 abbrev uIn : ℕ → ℕ → Transaction
 uIn phase verdict = moved phase 0 verdict u2
@@ -315,7 +315,7 @@ abbrev v0 : Transaction
 v0 = newTransaction 2 true
 
 abbrev v1 : Transaction
-v1 = withEntry 1 0 (entryAs keyA (image 3 0 40 7)) v0
+v1 = withEntry 1 0 (entryAs keyA false (image 3 0 40 7)) v0
 
 abbrev vIn : ℕ → ℕ → Transaction
 vIn phase verdict = moved phase 0 verdict v1

@@ -26,6 +26,7 @@ use types::Transaction;
 const NO_ENTRY: Entry = Entry {
     key: NO_KEY,
     seen: NO_IMAGE,
+    absent: 0,
     wrote: 0,
     put: Columns {
         column1: 0,
@@ -52,7 +53,7 @@ pub fn reading(e: Entry) -> Reading
     if e.wrote == 1 {
         return Reading::Value(put);
     }
-    if e.seen.version == 0 {
+    if e.absent == 1 {
         return Reading::Absent;
     }
     Reading::Value(Columns {

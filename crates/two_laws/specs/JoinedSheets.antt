@@ -1,5 +1,5 @@
 -- Sheets joined and split. Two sheets whose keys agree, byte for byte, are pairs of lines; each law goes by induction on the pairs.
-use Rattle.lists.specs.Basics.{ℕ, _+_, _*_, _/_, _≡_, refl, sym, ap, ap₂, _∙_, Bool, true, false, _&&_, true≢false, List, [], _∷_, _++_, map, arith}
+use Rattle.lists.specs.Basics.{cond, ℕ, _+_, _*_, _/_, _≡_, refl, sym, ap, ap₂, _∙_, Bool, true, false, _&&_, true≢false, List, [], _∷_, _++_, map, arith}
 use Rattle.lists.specs.Basics.{length, length-map, eqb, leb, eqb-true, eq-eqb, and-fst, and-snd, and-both, tests, all, joined}
 use Rattle.lists.specs.All.{all-map, all-of, all-weaken}
 use Rattle.lists.specs.Pieces.{AllOf, joined-pieces, length-joined}
@@ -7,7 +7,7 @@ use Rattle.model.specs.Types.{State, Record}
 use Rattle.types.specs.declared.State.the-variants.{Absent, Committed, Prepared}
 use Rattle.model.specs.Layouts.{recordLayout, keyLayout, imageLayout, columnsLayout, recordBytes}
 use Rattle.model.specs.Lines.{lineSet, linesOf, linesSet, rowGood, inRange}
-use Rattle.model.specs.Records.{recordsGood, recordIn, records, recordsAccepted, goodAlone, stateRule, isZero, noBefore, beforeRule, absentRule, committedRule, preparedRule, byState}
+use Rattle.model.specs.Records.{recordsGood, recordIn, records, recordsAccepted, goodAlone, stateRule, isZero, absence, noBefore, beforeRule, absentRule, committedRule, preparedRule, byState}
 use Rattle.model.specs.Records.{stateNumber, beforeNumber, keyNumbers, imageNumbers, recordNumbers, inOrder, rising, keyLess}
 use Rattle.model.specs.Coordinator.{namesIssued}
 use Rattle.model.specs.TwoSheets.{plainLayout, bookkeepingLayout, plainBytes, bookkeepingBytes, joinLine, plainLine, bookkeepingLine, joinLines, joinedSheet}
@@ -165,11 +165,10 @@ bookkeeping-good r h =
 
     absent : absentRule r ≡ true → absentRule (bookkeepingOf r) ≡ true
     absent x =
-        unfold absentRule isZero in
-        let v : eqb (r .image .version) 0 ≡ true = search tests in
-        let t : eqb (r .image .txid) 0 ≡ true = search tests in
+        unfold absentRule absence in
+        let v : cond (eqb (r .image .version) 0) (eqb (r .image .txid) 0) (leb 1 (r .image .txid)) ≡ true = search tests in
         let b : noBefore r ≡ true = search tests in
-        and-both (and-both (and-both (and-both v t) refl) refl) (same-before ∙ b)
+        and-both (and-both (and-both v refl) refl) (same-before ∙ b)
 
     rule : (s : State) → byState s (absentRule r) (committedRule r) (preparedRule r) ≡ true → byState s (absentRule (bookkeepingOf r)) (committedRule (bookkeepingOf r)) (preparedRule (bookkeepingOf r)) ≡ true
     rule Absent x = absent x

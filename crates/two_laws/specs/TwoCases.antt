@@ -4,7 +4,7 @@ use Rattle.decimal.specs.Field.{figure, within, scanned, stepped, number, isNum
 use Rattle.model.specs.Layouts.{recordLayout, keyLayout, imageLayout, columnsLayout, words}
 use Rattle.model.specs.Lines.{fieldValue, wordFrom, rowOf, lineSet, linesOf, linesSet, rowGood, inRange}
 use Rattle.model.specs.Records.{stateOf, stateNumber, beforeOf, beforeNumber, keyOf, imageFrom, recordOf, recordNumbers, keyNumbers, imageNumbers, recordsGood, recordIn, records}
-use Rattle.model.specs.Records.{recordsAccepted, goodAlone, isZero, noBefore, beforeRule, absentRule, committedRule, preparedRule, keyLess, inOrder, rising, sameKey}
+use Rattle.model.specs.Records.{recordsAccepted, goodAlone, isZero, absence, noBefore, beforeRule, absentRule, committedRule, preparedRule, keyLess, inOrder, rising, sameKey}
 use Rattle.model.specs.TwoSheets.{plainLayout, bookkeepingLayout, plainBytes, bookkeepingBytes, joinLine, joinLines, joinedSheet, plainSaid, bookkeepingSaid}
 use Rattle.model.specs.TwoSheets.{plainRecord, bookkeepingRecord, plainAlone, bookkeepingAlone, sameKeysIn, sameKeys}
 use Rattle.two_laws.specs.Deciding.{whole, keysAgree, linesAgree}
@@ -36,21 +36,21 @@ bookkeepingUnstated =
 
 -- whole lines whose keys agree, and an accepted sheet joined of them
 meets : (whole plainBytes plain && whole bookkeepingBytes bookkeeping && linesAgree (linesOf plainBytes plain) (linesOf bookkeepingBytes bookkeeping) && recordsAccepted (joinedSheet plain bookkeeping)) ≡ true
-unfolding bytes eqList all joined pieces less figure within scanned stepped number isNumber recordLayout keyLayout imageLayout columnsLayout words fieldValue wordFrom rowOf lineSet linesOf linesSet rowGood inRange stateOf stateNumber beforeOf beforeNumber keyOf imageFrom recordOf recordNumbers keyNumbers imageNumbers recordsGood recordIn records recordsAccepted goodAlone isZero noBefore beforeRule absentRule committedRule preparedRule keyLess inOrder rising joinLine joinLines joinedSheet keysAgree linesAgree
+unfolding bytes eqList all joined pieces less figure within scanned stepped number isNumber recordLayout keyLayout imageLayout columnsLayout words fieldValue wordFrom rowOf lineSet linesOf linesSet rowGood inRange stateOf stateNumber beforeOf beforeNumber keyOf imageFrom recordOf recordNumbers keyNumbers imageNumbers recordsGood recordIn records recordsAccepted goodAlone isZero absence noBefore beforeRule absentRule committedRule preparedRule keyLess inOrder rising joinLine joinLines joinedSheet keysAgree linesAgree
 meets = refl
 
 -- both good alone with the same keys, and the joined sheet not accepted
 not-joined : (plainAlone plainFilled && bookkeepingAlone bookkeeping && sameKeys plainFilled bookkeeping) ≡ true
-unfolding bytes eqList all joined pieces less figure within scanned stepped number isNumber recordLayout keyLayout imageLayout columnsLayout words fieldValue wordFrom rowOf lineSet linesOf linesSet rowGood inRange stateOf stateNumber beforeOf beforeNumber keyOf imageFrom recordNumbers keyNumbers imageNumbers recordsGood goodAlone isZero noBefore beforeRule absentRule committedRule preparedRule keyLess inOrder rising sameKey plainLayout bookkeepingLayout plainRecord plainSaid bookkeepingRecord bookkeepingSaid plainAlone bookkeepingAlone sameKeysIn sameKeys
+unfolding bytes eqList all joined pieces less figure within scanned stepped number isNumber recordLayout keyLayout imageLayout columnsLayout words fieldValue wordFrom rowOf lineSet linesOf linesSet rowGood inRange stateOf stateNumber beforeOf beforeNumber keyOf imageFrom recordNumbers keyNumbers imageNumbers recordsGood goodAlone isZero absence noBefore beforeRule absentRule committedRule preparedRule keyLess inOrder rising sameKey plainLayout bookkeepingLayout plainRecord plainSaid bookkeepingRecord bookkeepingSaid plainAlone bookkeepingAlone sameKeysIn sameKeys
 not-joined = refl
 
 not-joined-refused : recordsAccepted (joinedSheet plainFilled bookkeeping) ≡ false
-unfolding bytes eqList all joined pieces less figure within scanned stepped number isNumber recordLayout keyLayout imageLayout columnsLayout words fieldValue wordFrom rowOf lineSet linesOf linesSet rowGood inRange stateOf stateNumber beforeOf beforeNumber keyOf imageFrom recordOf recordNumbers keyNumbers imageNumbers recordsGood recordIn records recordsAccepted goodAlone isZero noBefore beforeRule absentRule committedRule preparedRule keyLess inOrder rising joinLine joinLines joinedSheet
+unfolding bytes eqList all joined pieces less figure within scanned stepped number isNumber recordLayout keyLayout imageLayout columnsLayout words fieldValue wordFrom rowOf lineSet linesOf linesSet rowGood inRange stateOf stateNumber beforeOf beforeNumber keyOf imageFrom recordOf recordNumbers keyNumbers imageNumbers recordsGood recordIn records recordsAccepted goodAlone isZero absence noBefore beforeRule absentRule committedRule preparedRule keyLess inOrder rising joinLine joinLines joinedSheet
 not-joined-refused = refl
 
 -- both good alone, and their keys differ
 other-keys : (plainAlone plainOther && bookkeepingAlone bookkeeping) ≡ true
-unfolding bytes eqList all joined pieces less figure within scanned stepped number isNumber recordLayout keyLayout imageLayout columnsLayout words fieldValue wordFrom rowOf lineSet linesOf linesSet rowGood inRange stateOf stateNumber beforeOf beforeNumber keyOf imageFrom recordNumbers keyNumbers imageNumbers recordsGood goodAlone isZero noBefore beforeRule absentRule committedRule preparedRule keyLess inOrder rising plainLayout bookkeepingLayout plainRecord plainSaid bookkeepingRecord bookkeepingSaid plainAlone bookkeepingAlone
+unfolding bytes eqList all joined pieces less figure within scanned stepped number isNumber recordLayout keyLayout imageLayout columnsLayout words fieldValue wordFrom rowOf lineSet linesOf linesSet rowGood inRange stateOf stateNumber beforeOf beforeNumber keyOf imageFrom recordNumbers keyNumbers imageNumbers recordsGood goodAlone isZero absence noBefore beforeRule absentRule committedRule preparedRule keyLess inOrder rising plainLayout bookkeepingLayout plainRecord plainSaid bookkeepingRecord bookkeepingSaid plainAlone bookkeepingAlone
 other-keys = refl
 
 other-keys-agree : linesAgree (linesOf plainBytes plainOther) (linesOf bookkeepingBytes bookkeeping) ≡ false
@@ -59,5 +59,5 @@ other-keys-agree = refl
 
 -- the before state belongs to the bookkeeping sheet: without it this one isn't good alone
 unstated : bookkeepingAlone bookkeepingUnstated ≡ false
-unfolding bytes eqList all joined pieces less figure within scanned stepped number isNumber recordLayout keyLayout imageLayout columnsLayout words fieldValue wordFrom rowOf lineSet linesOf linesSet rowGood inRange stateOf stateNumber beforeOf beforeNumber keyOf imageFrom recordNumbers keyNumbers imageNumbers recordsGood goodAlone isZero noBefore beforeRule absentRule committedRule preparedRule keyLess inOrder rising bookkeepingLayout bookkeepingRecord bookkeepingSaid bookkeepingAlone
+unfolding bytes eqList all joined pieces less figure within scanned stepped number isNumber recordLayout keyLayout imageLayout columnsLayout words fieldValue wordFrom rowOf lineSet linesOf linesSet rowGood inRange stateOf stateNumber beforeOf beforeNumber keyOf imageFrom recordNumbers keyNumbers imageNumbers recordsGood goodAlone isZero absence noBefore beforeRule absentRule committedRule preparedRule keyLess inOrder rising bookkeepingLayout bookkeepingRecord bookkeepingSaid bookkeepingAlone
 unstated = refl

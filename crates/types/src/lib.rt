@@ -201,11 +201,12 @@ pub const NO_COLUMNS: Columns = Columns {
     column2: 0,
 };
 
-// A record that a transaction holds: what was read, and what was put if `wrote` is 1.
+// A record that a transaction holds: what was read, whether it was absent (1 or 0), and what was put if `wrote` is 1.
 #[repr(C)]
 pub struct Entry {
     pub key: Key,
     pub seen: Image,
+    pub absent: u32,
     pub wrote: u32,
     pub put: Columns,
 }

@@ -1,11 +1,11 @@
 -- Well-formedness in the order in which the code asks.
-use Rattle.lists.specs.Basics.{_≡_, refl, sym, ap, _∙_, ℕ, _+_, _≤_, _<_, eqb, leb, Bool, true, false, not, _&&_, _||_, and-assoc, and-true, List, arith}
-use Rattle.lists.specs.Basics.{leb-false, eq-eqb, all, any, tests}
+use Rattle.lists.specs.Basics.{_≡_, refl, sym, ap, _∙_, ℕ, _+_, _≤_, _<_, eqb, leb, Bool, true, false, not, _&&_, _||_, and-assoc, and-true, List}
+use Rattle.lists.specs.Basics.{all, any, tests}
 use lib.Dec.{leb·zero}
 use Rattle.model.specs.Types.{Image, Columns, Entry, Transaction}
 use Rattle.model.specs.Layouts.{recordLayout, imageLayout, columnsLayout}
 use Rattle.model.specs.Lines.{inRange, rowGood}
-use Rattle.model.specs.Records.{imageNumbers, isZero, sameKey}
+use Rattle.model.specs.Records.{imageNumbers, sameKey}
 use Rattle.model.specs.Coordinator.{Letter}
 use Rattle.model.specs.Transactions.{decidePhase, isEmpty, held, puts}
 use Rattle.model.specs.WellFormed.{imageInRange, columnsInRange, entryFormed, distinctKeys, placeFormed, verdictFormed, formed}
@@ -23,15 +23,6 @@ image-ranged m =
     rw (leb·zero (m .version), leb·zero (m .txid), leb·zero (m .column1), leb·zero (m .column2), and-true (leb (m .column2) 99999999))
     (and-assoc (leb (m .version) 99999 && leb (m .txid) 999) (leb (m .column1) 99999999) (leb (m .column2) 99999999)
     ∙ and-assoc (leb (m .version) 99999) (leb (m .txid) 999) (leb (m .column1) 99999999 && leb (m .column2) 99999999))
-
--- a version that is not at least 1 is 0
-pub version-zero : (m : Image) → (leb 1 (m .version) || eqb (m .txid) 0 && eqb (m .column1) 0 && eqb (m .column2) 0) ≡ (leb 1 (m .version) || isZero m)
-unfolding isZero
-version-zero m = go (leb 1 (m .version)) refl
-  where
-    go : (b : Bool) → leb 1 (m .version) ≡ b → (leb 1 (m .version) || eqb (m .txid) 0 && eqb (m .column1) 0 && eqb (m .column2) 0) ≡ (leb 1 (m .version) || isZero m)
-    go true e = rw e
-    go false e = rw (e, eq-eqb (m .version) 0 (omega (arith, leb-false 1 (m .version) e)))
 
 -- Distinct keys.
 

@@ -1,11 +1,11 @@
 // Well-formed transactions, as far as it can be told from the unit letters and the issued count.
 ghost use mathlib.Core.Path.{_≡_};
-ghost use mathlib.Core.Bool.{true, _||_};
+ghost use mathlib.Core.Bool.{true, cond};
 ghost use Prim.Native.Nat.{_≤_};
 ghost use lib.Dec.{leb};
 ghost use Rattle.lists.specs.Each.{all};
-ghost use Rattle.model.specs.Records.{isZero};
-ghost use Rattle.model.specs.Transactions.{held, puts};
+ghost use Rattle.model.specs.Records.{absence};
+ghost use Rattle.model.specs.Transactions.{wasAbsent, held, puts};
 ghost use Rattle.model.specs.Groups.{groupCount};
 ghost use Rattle.model.specs.WellFormed.{imageInRange, columnsInRange, putFits, entryFormed, distinctKeys, placeFormed, verdictFormed};
 ghost use Rattle.model.specs.WellFormed as model;
@@ -34,11 +34,14 @@ fn image_in_range(m: Image) -> bool
     (m.version <= 99999) & (m.txid <= 999) & (m.column1 <= LAST_COLUMN) & (m.column2 <= LAST_COLUMN)
 }
 
-// Version 0 has TxID and columns 0.
-fn version_formed(m: Image) -> bool
-    ensures { λ r. ⌜ r ≡ (leb 1 (m .version) || isZero m) ⌝ }
+// What was read absent has the image of an absence, any other a version.
+fn version_formed(e: Entry) -> bool
+    ensures { λ r. ⌜ r ≡ cond (wasAbsent e) (absence (e .seen)) (leb 1 (e .seen .version)) ⌝ }
 {
-    (1 <= m.version) | (m.txid == 0) & (m.column1 == 0) & (m.column2 == 0)
+    if e.absent == 1 {
+        return codec::records::is_absence(e.seen);
+    }
+    1 <= e.seen.version
 }
 
 // The put columns of an entry without put mean nothing.
@@ -52,10 +55,11 @@ fn put_fits(e: Entry) -> bool
 fn entry_formed(issued: u32, e: Entry) -> bool
     ensures { λ r. ⌜ r ≡ entryFormed issued e ⌝ }
 {
-    (e.wrote <= 1)
+    (e.absent <= 1)
+        & (e.wrote <= 1)
         & image_in_range(e.seen)
         & (e.seen.txid <= issued)
-        & version_formed(e.seen)
+        & version_formed(e)
         & put_fits(e)
         & codec::keys::key_in_range(e.key)
 }

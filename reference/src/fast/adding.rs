@@ -1,6 +1,6 @@
 //! Adding and removing a line: after the check the lines below shift in one move, and one line is written.
 
-use super::line::{is_absent, ABSENT};
+use super::line::{is_blank, ABSENT};
 use super::records::SPARE;
 use super::search::{find, rank, write_key};
 use super::tables::LINE;
@@ -31,7 +31,7 @@ pub fn remove(records: &mut [u8], coordinator: &[u8], key: Key) -> Result<(), u3
     let (count, _) = accepted(records, coordinator)?;
     let lines = record_lines(records, count);
     let place = find(lines, &key)?;
-    if !is_absent(&lines[place]) {
+    if !is_blank(&lines[place]) {
         return Err(NOT_REMOVABLE);
     }
     lines.copy_within(place + 1.., place);

@@ -3,7 +3,7 @@
 use super::coordinator::Accepted;
 use super::search::find;
 use super::tables::LINE;
-use crate::plain::record::{columns_in_range, MOST_VERSION, NOTHING};
+use crate::plain::record::{columns_in_range, MOST_VERSION};
 use crate::plain::transaction::*;
 use crate::plain::{ILL_FORMED, NO_LINE};
 
@@ -134,7 +134,12 @@ fn values_fit(entry: &Entry, issued: u32) -> bool {
         1 => columns_in_range(entry.put()) && seen.version < MOST_VERSION,
         _ => false,
     };
-    put_fits && seen.in_range() && seen.tx_id <= issued && (seen.version >= 1 || *seen == NOTHING)
+    let absence_fits = match entry.absent {
+        0 => seen.version >= 1,
+        1 => seen.is_absence(),
+        _ => false,
+    };
+    put_fits && absence_fits && seen.in_range() && seen.tx_id <= issued
 }
 
 fn phase_fits(t: &Transaction, held: &Held) -> bool {

@@ -5,7 +5,7 @@ use super::text::{add_one, figure, set_figure};
 use crate::plain::transaction::Entry;
 use crate::plain::writes::EXPIRED;
 
-/// The columns from the state word on of a line without a record.
+/// The columns from the state word on of a line to which nothing was ever written.
 pub const ABSENT: &[u8; 87] =
     b"    ABSENT     0   0        0        0         -     0   0        0        0          0";
 /// The before state, the before fields and the clock of a settled line.
@@ -17,9 +17,10 @@ pub fn is_prepared(line: &[u8; LINE]) -> bool {
     line[24] == b'E'
 }
 
+/// Whether a line that is good is ABSENT of version 0.
 #[inline(always)]
-pub fn is_absent(line: &[u8; LINE]) -> bool {
-    line[24] == b'A'
+pub fn is_blank(line: &[u8; LINE]) -> bool {
+    line[24] == b'A' && line[35] == b'0' && line[34] == b' '
 }
 
 #[inline(always)]

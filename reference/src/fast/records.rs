@@ -1,6 +1,8 @@
 //! The record sheet in one pass that leaves no line early: what is wrong anywhere is gathered and asked for at the end.
 
-use super::tables::{kind, Places, FIRST, KINDS, LINE, PLACES, PREPARED};
+use super::tables::{
+    kind, Places, ABSENT, FIRST, KINDS, LINE, PLACES, PREPARED, PREPARED_OVER_ABSENT,
+};
 
 const MOST_LINES: usize = 500;
 /// Bytes judged at a time.
@@ -68,6 +70,8 @@ struct Findings {
     bad: [u8; LANES],
     /// Not 0 if a version does not follow its before version.
     leaps: u64,
+    /// Whether a version or a TxID is 0 where the other isn't.
+    apart: bool,
     /// Whether each key is above the one before it.
     rising: bool,
     tx_id: u32,
@@ -81,14 +85,17 @@ impl Findings {
         let kind = kind(line);
         judge(&mut self.bad, line, &KINDS[kind]);
         // Worked out for every line: a branch that depends on the state is often guessed wrong.
-        self.leaps |= leap(line) * u64::from(kind == PREPARED);
+        let over_absent = kind == PREPARED_OVER_ABSENT;
+        self.leaps |= leap(line) * u64::from(over_absent | (kind == PREPARED));
+        self.apart |= (kind == ABSENT) & zeros_differ(line, 30);
+        self.apart |= over_absent & zeros_differ(line, 68);
         self.tx_id = self.tx_id.max(half(line, 36)).max(half(line, 74));
         self.clock = self.clock.max(word(line, 97));
     }
 
     fn none(&self) -> bool {
         let bad = self.bad.iter().fold(0, |all, lane| all | lane);
-        bad == 0 && self.leaps == 0 && self.rising
+        bad == 0 && self.leaps == 0 && !self.apart && self.rising
     }
 }
 
@@ -151,10 +158,20 @@ fn mask(holds: bool) -> u8 {
     }
 }
 
+/// The digits of a version's six columns.
+const DIGITS: u64 = 0x0f0f_0f0f_0f0f;
+
+/// Whether of the version in these columns and the TxID behind it only one is 0.
+#[inline(always)]
+fn zeros_differ(line: &[u8; LINE], at: usize) -> bool {
+    let no_version = word(line, at - 2) & DIGITS == 0;
+    let no_tx_id = half(line, at + 6) & DIGITS as u32 == 0;
+    no_version != no_tx_id
+}
+
 /// 0 if the version is the before version + 1. Each digit has a byte; 0xf6 more in each lets a carry run through nines.
 #[inline(always)]
 fn leap(line: &[u8; LINE]) -> u64 {
-    const DIGITS: u64 = 0x0f0f_0f0f_0f0f;
     let version = word(line, 28) & DIGITS;
     let before = word(line, 66) & DIGITS;
     let raised = before + 0xf6f6_f6f6_f6f6 + 1;

@@ -20,15 +20,15 @@ pub struct Places {
 const NEVER: u8 = 0xff;
 
 /// The kinds of line in text. `.` is a column of a figure before its last, `d` its last, `n` the last of a figure that
-/// isn't 0, and any other byte stands for itself. A PREPARED line over ABSENT is fixed in version and before fields.
+/// isn't 0, and any other byte stands for itself.
 #[rustfmt::skip]
 mod text {
     pub const ABSENT: &[u8; super::LINE] =
-        b" n .n .n ....d ....d    ABSENT     0   0        0        0         -     0   0        0        0          0\n";
+        b" n .n .n ....d ....d    ABSENT ....d ..d        0        0         -     0   0        0        0          0\n";
     pub const COMMITTED: &[u8; super::LINE] =
         b" n .n .n ....d ....d COMMITTED ....n ..d .......d .......d         -     0   0        0        0          0\n";
     pub const PREPARED_OVER_ABSENT: &[u8; super::LINE] =
-        b" n .n .n ....d ....d  PREPARED     1 ..n .......d .......d    ABSENT     0   0        0        0 .........d\n";
+        b" n .n .n ....d ....d  PREPARED ....n ..n .......d .......d    ABSENT ....d ..d        0        0 .........d\n";
     pub const PREPARED: &[u8; super::LINE] =
         b" n .n .n ....d ....d  PREPARED ....n ..n .......d .......d COMMITTED ....n ..d .......d .......d .........d\n";
 }
@@ -45,7 +45,10 @@ pub static KINDS: [Places; 8] = [
     places(text::COMMITTED),
 ];
 
-/// The kind whose version must follow its before version.
+/// The kinds in which TxID and version are both 0 or neither, of the line or of its before image.
+pub const ABSENT: usize = 0;
+pub const PREPARED_OVER_ABSENT: usize = 2;
+/// The other kind whose version must follow its before version.
 pub const PREPARED: usize = 3;
 
 /// The kind that a line is of if it is good: its word's fifth column is A, E or M, and that of its before state M or not.

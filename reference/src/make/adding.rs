@@ -43,10 +43,10 @@ fn key_to_add(random: &mut Random, held: &[Key], store: &Store) -> Key {
     }
 }
 
-/// The key of an ABSENT line, most often.
+/// The key of an ABSENT line of version 0, most often.
 fn key_to_remove(random: &mut Random, held: &[Key], store: &Store) -> Key {
-    let absent = absent(&store.records);
-    let own: Vec<Key> = absent
+    let removable = removable(&store.records);
+    let own: Vec<Key> = removable
         .iter()
         .copied()
         .filter(|k| held.contains(k))
@@ -55,14 +55,15 @@ fn key_to_remove(random: &mut Random, held: &[Key], store: &Store) -> Key {
         0 | 1 => any_key(random, &store.records),
         2 => sought_key(random, 4, &store.records),
         3..=8 if !own.is_empty() => random.pick(&own),
-        _ if !absent.is_empty() => random.pick(&absent),
+        _ if !removable.is_empty() => random.pick(&removable),
         _ => any_key(random, &store.records),
     }
 }
 
-/// The keys of the ABSENT lines.
-fn absent(records: &[Record]) -> Vec<Key> {
-    let lines = records.iter().filter(|line| line.state == State::Absent);
+/// The keys of the ABSENT lines of version 0.
+fn removable(records: &[Record]) -> Vec<Key> {
+    let blank = |line: &&Record| line.state == State::Absent && line.image.version == 0;
+    let lines = records.iter().filter(blank);
     lines.map(|line| line.key).collect()
 }
 
@@ -190,7 +191,8 @@ pub fn too_late(random: &mut Random, sheets: &mut Sheets) -> Vec<Request> {
     let store = sheets.store();
     let order = order(random, &store);
     let held = |key: &Key| order.place_of(key).is_some();
-    let own: Vec<Key> = absent(&store.records).into_iter().filter(held).collect();
+    let own = removable(&store.records).into_iter();
+    let own: Vec<Key> = own.filter(held).collect();
     if own.is_empty() {
         return Vec::new();
     }
@@ -275,13 +277,13 @@ impl Run<'_> {
         self.order.held().iter().map(|entry| entry.key).collect()
     }
 
-    /// Reads a line, an ABSENT one most often, in as many calls as it takes. The key may go between them.
+    /// Reads a line, one that may be removed most often, in as many calls as it takes. The key may go between them.
     fn read(&mut self, random: &mut Random) {
         let records = self.sheets.store().records;
-        let absent = absent(&records);
-        let key = match absent.is_empty() || random.once_in(4) {
+        let removable = removable(&records);
+        let key = match removable.is_empty() || random.once_in(4) {
             true => any_key(random, &records),
-            false => random.pick(&absent),
+            false => random.pick(&removable),
         };
         let (transaction, now) = (self.order, random.figure(0, u32::MAX));
         self.ask(Request::Read {

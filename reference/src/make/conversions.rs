@@ -1,5 +1,8 @@
 //! Sheets and lists of numbers to convert: good ones, damaged ones, and targets of another length than needed.
 
+use super::absence::spoil_numbers;
+use super::damage::before_state;
+use super::old_lines;
 use super::random::Random;
 use super::sheets::{of_size, Mix, Size};
 use super::spares::fill_up;
@@ -42,7 +45,10 @@ pub fn conversion(random: &mut Random) -> (Conversion, Lent) {
 }
 
 fn read_records(random: &mut Random) -> Lent {
-    let sheet = any_sheets(random).records;
+    let mut sheet = any_sheets(random).records;
+    if random.once_in(8) {
+        before_state(random, &mut sheet, old_lines::RECORDS);
+    }
     let needed = sheet.len() / record::LINE * RECORD_NUMBERS;
     let numbers = target(random, needed, RECORD_NUMBERS);
     Lent { sheet, numbers }
@@ -137,7 +143,7 @@ fn change_rows(random: &mut Random, numbers: &mut Vec<u32>) {
     let row = random.below(rows) * RECORD_NUMBERS;
     let other = random.below(rows) * RECORD_NUMBERS;
     let place = row + random.below(RECORD_NUMBERS);
-    match random.below(22) {
+    match random.below(25) {
         0 | 10 => length(random, numbers, RECORD_NUMBERS),
         1 => numbers.copy_within(row..row + 5, other),
         2 => (0..RECORD_NUMBERS).for_each(|i| numbers.swap(row + i, other + i)),
@@ -152,6 +158,7 @@ fn change_rows(random: &mut Random, numbers: &mut Vec<u32>) {
             numbers[row + 10] = random.pick(&[0, 1, 2, 3, 3]);
         }
         20 => without_before_states(random, numbers),
+        21..=23 => spoil_numbers(random, numbers),
         _ => numbers[place] = random.pick(&EDGES),
     }
 }

@@ -1,5 +1,6 @@
 //! One thing wrong with sheets that were accepted. At times the damage does none: the check decides.
 
+use super::absence;
 use super::old_lines::{self, old_records, Width};
 use super::random::Random;
 use super::sheets::{self, Mix, Size};
@@ -86,26 +87,27 @@ pub fn damage(random: &mut Random, sheets: &mut Sheets) {
     if sheets.records.len() < RECORD_LINE || sheets.coordinator.len() < 2 * COORDINATOR_LINE {
         return; // An earlier damage left nothing to work on.
     }
-    match random.below(39) {
+    match random.below(42) {
         0..=2 => any_byte(random, &mut sheets.records),
         3 => any_byte(random, &mut sheets.coordinator),
         4 => length(random, &mut sheets.records, RECORD_LINE),
         5 => length(random, &mut sheets.coordinator, COORDINATOR_LINE),
         6..=8 => figure_text(random, &mut sheets.records),
-        9..=11 => figure_value(random, &mut sheets.records),
-        12 | 13 => key_order(random, &mut sheets.records),
-        14 | 36 | 37 => state_word(random, &mut sheets.records),
-        15 => state_rule(random, &mut sheets.records),
-        16..=18 => lone_field(random, &mut sheets.records),
-        19 => line_end(random, &mut sheets.records, RECORD_LINE),
-        20 => line_end(random, &mut sheets.coordinator, COORDINATOR_LINE),
-        21 | 22 => tx_id(random, sheets),
-        23 | 24 => head(random, &mut sheets.coordinator),
-        25 => decision(random, &mut sheets.coordinator),
-        26 => above_the_count(random, &mut sheets.coordinator),
-        27..=29 => misplace(random, &mut sheets.records, RECORD_LINE),
-        30..=34 => before_state(random, &mut sheets.records, old_lines::RECORDS),
-        35 => *sheets = old_records(random),
+        9..=14 => figure_value(random, &mut sheets.records),
+        15 | 16 => key_order(random, &mut sheets.records),
+        17..=19 => state_word(random, &mut sheets.records),
+        20 => state_rule(random, &mut sheets.records),
+        21..=23 => lone_field(random, &mut sheets.records),
+        24 => line_end(random, &mut sheets.records, RECORD_LINE),
+        25 => line_end(random, &mut sheets.coordinator, COORDINATOR_LINE),
+        26 | 27 => tx_id(random, sheets),
+        28 | 29 => head(random, &mut sheets.coordinator),
+        30 => decision(random, &mut sheets.coordinator),
+        31 => above_the_count(random, &mut sheets.coordinator),
+        32..=34 => misplace(random, &mut sheets.records, RECORD_LINE),
+        35..=37 => before_state(random, &mut sheets.records, old_lines::RECORDS),
+        38 => *sheets = old_records(random),
+        39 | 40 => absence::spoil(random, &mut sheets.records, old_lines::RECORDS),
         _ => size(random, sheets),
     }
 }
@@ -143,7 +145,7 @@ fn prepared_line<'a>(random: &mut Random, sheet: &'a mut [u8], line: usize) -> &
 }
 
 /// Sets a figure; one too wide loses its first digits.
-fn set_figure(columns: &mut [u8], value: u64) {
+pub fn set_figure(columns: &mut [u8], value: u64) {
     let text = format!("{value:>20}").into_bytes();
     columns.copy_from_slice(&text[20 - columns.len()..]);
 }
@@ -297,21 +299,23 @@ fn state_rule(random: &mut Random, sheet: &mut [u8]) {
 /// The least line of a state, with one field more than it may have or one less.
 fn lone_field(random: &mut Random, sheet: &mut [u8]) {
     let line = some_line(random, sheet, RECORD_LINE);
-    let (words, [version, tx_id, before_version]) = random.pick(&[
-        ([b"    ABSENT", b"         -"], [0, 0, 0]),
-        ([b" COMMITTED", b"         -"], [1, 0, 0]),
-        ([b"  PREPARED", b"    ABSENT"], [1, 1, 0]),
-        ([b"  PREPARED", b" COMMITTED"], [2, 1, 1]),
+    let (words, figures) = random.pick(&[
+        ([b"    ABSENT", b"         -"], [0, 0, 0, 0]),
+        ([b"    ABSENT", b"         -"], [1, 1, 0, 0]),
+        ([b" COMMITTED", b"         -"], [1, 0, 0, 0]),
+        ([b"  PREPARED", b"    ABSENT"], [1, 1, 0, 0]),
+        ([b"  PREPARED", b"    ABSENT"], [2, 1, 1, 1]),
+        ([b"  PREPARED", b" COMMITTED"], [2, 1, 1, 0]),
     ]);
     line[20..30].copy_from_slice(words[0]);
     line[58..68].copy_from_slice(words[1]);
     for figure in &FIGURES[5..] {
         set_figure(&mut line[figure.start..figure.end], 0);
     }
-    set_figure(&mut line[VERSION.start..VERSION.end], version);
-    set_figure(&mut line[TX_ID.start..TX_ID.end], tx_id);
-    let columns = &mut line[BEFORE_VERSION.start..BEFORE_VERSION.end];
-    set_figure(columns, before_version);
+    let set = [VERSION, TX_ID, BEFORE_VERSION, BEFORE_TX_ID];
+    for (figure, value) in set.iter().zip(figures) {
+        set_figure(&mut line[figure.start..figure.end], value);
+    }
     let figure = &FIGURES[5 + random.below(9)];
     let columns = &mut line[figure.start..figure.end];
     let changed = 1 - figure_of(columns).min(1);

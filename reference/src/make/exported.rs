@@ -62,8 +62,11 @@ fn on_crowded(random: &mut Random, layout: Layout) -> (Request, Sheets) {
     let mut sheets = sheets::crowded(random);
     letters(random, layout, &mut sheets);
     let store = sheets.store();
-    let request = match random.below(14) {
+    let request = match random.below(15) {
         0 => begin(random),
+        14 => Request::Abort {
+            transaction: forged_begun(random, &store),
+        },
         1..=5 => {
             let transaction = forged_begun(random, &store);
             Request::Advance {

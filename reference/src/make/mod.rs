@@ -1,5 +1,6 @@
 //! Sheets to try the checks on, accepted, damaged and forged, and histories of calls: the same for the same seed.
 
+pub mod absence;
 pub mod adding;
 pub mod arguments;
 pub mod bad_lines;

@@ -1,7 +1,7 @@
 //! Orders for a close to bring far: their lines are as they were read, in as many groups as may be.
 
 use super::random::Random;
-use super::transactions::{date_back, other_columns};
+use super::transactions::{date_back, other_absence, other_columns};
 use crate::plain::coordinator::Decision;
 use crate::plain::record::{Record, State, MOST_VERSION};
 use crate::plain::store::Store;
@@ -13,10 +13,13 @@ pub fn order(random: &mut Random, store: &Store) -> Transaction {
     let lines = lines(random, &store.records);
     order.count = lines.len() as u32;
     for (entry, line) in order.entries.iter_mut().zip(&lines) {
-        *entry = Entry::read(line.key, line.image);
+        *entry = Entry::read(line);
         entry.wrote = 1;
         entry.put_1 = random.figure(0, 99_999_999);
         entry.put_2 = random.figure(0, 99_999_999);
+        if random.once_in(8) {
+            other_absence(entry);
+        }
     }
     only_read(random, &mut order.entries[..lines.len()], store);
     order
@@ -33,8 +36,8 @@ fn only_read(random: &mut Random, entries: &mut [Entry], store: &Store) {
         }
         if place == 0 && stale {
             match store.coordinator.is_small(entry.key.storage) && random.once_in(2) {
-                true => other_columns(random, &mut entry.seen),
-                false => date_back(random, &mut entry.seen),
+                true => other_columns(random, entry),
+                false => date_back(random, entry),
             }
         }
     }

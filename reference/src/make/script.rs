@@ -6,8 +6,9 @@ use crate::plain::transaction::{Transaction, MOST_ENTRIES};
 use crate::plain::{coordinator, record};
 use crate::replay::laid_out::LaidOut;
 use crate::replay::line::{Line, SLOTS};
+use crate::replay::reply::Reply;
 use crate::replay::{self, state::ReplayState, Layout, MOST_BYTES};
-use crate::seen::{Removed, Seen};
+use crate::seen::{Called, Removed, Seen};
 
 /// Slots from here on are for forged transactions, those below for begun ones.
 const FORGED: usize = 12;
@@ -75,6 +76,13 @@ impl Script {
         let slot = request.as_ref().and_then(|(slot, _)| *slot);
         let reply = replay::reply(&mut self.state, text);
         let removed = self.removed.of(slot);
+        if let Some((_, request)) = &request {
+            let answer = match reply {
+                Reply::Refused(refusal) => Err(refusal),
+                _ => Ok(slot.map(|slot| &self.state.slots[slot])),
+            };
+            seen.note_request(&Called { request, answer }, &before);
+        }
         self.calls += u64::from(seen.note(line.as_ref(), taken, &removed, &reply, &before));
         if let Some(line) = &line {
             self.removed.note(line, &reply, &self.state.slots);

@@ -1,16 +1,18 @@
 //! Scripts of several kinds: demand 3's lists with the sequential model, lists of any calls, orders closed write by write,
 //! orders that stopped half-way or whose keys come and go, and calls on damaged sheets.
 
+use super::absence;
 use super::adding;
 use super::arguments::{any_key, clock, key_of, limit, sought_key};
 use super::bad_lines::bad_line;
 use super::closes;
 use super::closing::close;
-use super::damage::damage;
+use super::damage::{before_state, damage};
 use super::expiry::{without_reading, Stop};
 use super::forge::forge;
 use super::halfway;
 use super::history::{Event, History, Rule};
+use super::old_lines;
 use super::orders;
 use super::random::Random;
 use super::requests::{begin, stray};
@@ -402,8 +404,10 @@ pub fn damaged_sheets(random: &mut Random, layout: Layout, sheets: Sheets) -> La
 }
 
 pub fn damaged_or_forged(random: &mut Random, mut sheets: Sheets) -> Sheets {
-    match random.below(4) {
+    match random.below(6) {
         0 => forge(random, &mut sheets),
+        1 => before_state(random, &mut sheets.records, old_lines::RECORDS),
+        2 => absence::spoil(random, &mut sheets.records, old_lines::RECORDS),
         _ => damage(random, &mut sheets),
     }
     sheets

@@ -163,7 +163,7 @@ fn after_key(random: &mut Random, issued: u32, mix: Mix, near: Option<u32>) -> S
         Mix::Thirds => random.below(3),
     };
     match state {
-        0 => settled("ABSENT", [0; 4]),
+        0 => settled("ABSENT", absence(random, issued)),
         2 if issued > 0 => prepared(random, issued, near),
         // Without an issued number no line can be PREPARED.
         _ => settled("COMMITTED", image(random, issued)),
@@ -175,13 +175,11 @@ fn settled(state: &str, image: [u32; 4]) -> String {
 }
 
 fn prepared(random: &mut Random, issued: u32, near: Option<u32>) -> String {
-    let (before_state, before) = if random.once_in(3) {
-        ("ABSENT", [0; 4])
-    } else {
-        let mut image = image(random, issued);
-        image[0] = image[0].min(99_998);
-        ("COMMITTED", image)
+    let (before_state, mut before) = match random.once_in(3) {
+        true => ("ABSENT", absence(random, issued)),
+        false => ("COMMITTED", image(random, issued)),
     };
+    before[0] = before[0].min(99_998);
     let mut image = image(random, issued);
     image[0] = before[0] + 1;
     image[1] = random.figure(1, issued);
@@ -191,6 +189,19 @@ fn prepared(random: &mut Random, issued: u32, near: Option<u32>) -> String {
         None => random.figure(0, u32::MAX),
     };
     fields("PREPARED", image, before_state, before, clock)
+}
+
+/// Of a line without columns: version and TxID are 0 or from 1.
+fn absence(random: &mut Random, issued: u32) -> [u32; 4] {
+    match issued > 0 && random.once_in(2) {
+        true => [
+            random.figure(1, 99_999),
+            random.figure(1, issued.min(999)),
+            0,
+            0,
+        ],
+        false => [0; 4],
+    }
 }
 
 /// Version from 1, TxID, column 1, column 2.

@@ -1,6 +1,6 @@
 //! Transactions that no call returned, most of them not well formed.
 
-use super::arguments::{any_key, columns};
+use super::arguments::{columns, key_of};
 use super::random::Random;
 use crate::plain::coordinator::Decision;
 use crate::plain::groups::groups;
@@ -113,7 +113,7 @@ pub fn full(random: &mut Random, base: Transaction, records: &[Record]) -> Trans
     let lines = lines.take(records.len().min(most));
     transaction.count = lines.clone().count() as u32;
     for (entry, line) in transaction.entries.iter_mut().zip(lines) {
-        *entry = Entry::read(line.key, line.image);
+        *entry = Entry::read(line);
     }
     transaction
 }
@@ -124,14 +124,17 @@ fn fill(random: &mut Random, transaction: &mut Transaction, store: &Store) {
     // Where few are out of date, groups are met of which some conditions hold and some don't.
     let seldom = random.pick(&[2, 4, 8]);
     for (entry, line) in transaction.entries.iter_mut().zip(&lines) {
-        *entry = Entry::read(line.key, line.image);
+        *entry = Entry::read(line);
         if random.once_in(10) {
             // The last version that may be put over, and the one that may not.
             entry.seen.version = random.pick(&[99_998, 99_999]);
+            entry.absent &= entry.seen.tx_id.min(1);
         } else if random.once_in(seldom) {
-            date_back(random, &mut entry.seen);
+            date_back(random, entry);
+        } else if random.once_in(3) {
+            other_absence(entry);
         } else if random.once_in(often_other(&line.key, store)) {
-            other_columns(random, &mut entry.seen);
+            other_columns(random, entry);
         }
         if entry.seen.version < MOST_VERSION {
             entry.wrote = random.below(2) as u32;
@@ -169,7 +172,7 @@ fn without_line(random: &mut Random, held: &mut [Entry], store: &Store) {
     if !store.has_line(&key) {
         entry.key = key;
         if random.once_in(2) {
-            entry.seen = NOTHING;
+            (entry.seen, entry.absent) = (NOTHING, 1);
             entry.wrote *= random.below(2) as u32;
         }
     }
@@ -193,15 +196,17 @@ fn some_lines<'a>(random: &mut Random, records: &'a [Record]) -> Vec<&'a Record>
     lines
 }
 
-/// As if the line had been written since: one part of the condition fails and no other does.
-pub fn date_back(random: &mut Random, seen: &mut Image) {
+/// As if the line had been written since: one part of the condition fails and no other does. What no number has written was
+/// COMMITTED at layout.
+pub fn date_back(random: &mut Random, entry: &mut Entry) {
+    let seen = &mut entry.seen;
     match random.below(2) {
         1 if seen.tx_id == 0 && seen.version > 0 => seen.tx_id = 1,
-        // An ABSENT line, as if it had been COMMITTED at layout.
         _ if seen.version == 0 => seen.version = 1 + random.below(3) as u32,
         0 if seen.version > 1 => seen.version -= 1,
         _ => seen.tx_id = seen.tx_id.saturating_sub(1),
     }
+    entry.absent &= seen.tx_id.min(1);
 }
 
 /// Once in how many times columns differ from the line's. Under a capital letter the condition holds all the same.
@@ -213,12 +218,22 @@ fn often_other(key: &Key, store: &Store) -> usize {
 }
 
 /// As if columns could differ where version and TxID agree.
-pub fn other_columns(random: &mut Random, seen: &mut Image) {
-    if seen.version >= 1 {
+pub fn other_columns(random: &mut Random, entry: &mut Entry) {
+    let seen = &mut entry.seen;
+    if entry.absent == 0 {
         match random.below(2) {
             0 => seen.column_1 = random.figure(0, 99_999_999),
             _ => seen.column_2 = random.figure(0, 99_999_999),
         }
+    }
+}
+
+/// As if absence could differ where version and TxID agree. Under a capital letter the condition holds all the same.
+pub fn other_absence(entry: &mut Entry) {
+    let seen = &mut entry.seen;
+    if seen.version >= 1 && seen.tx_id >= 1 {
+        entry.absent = 1 - entry.absent;
+        [seen.column_1, seen.column_2] = [0, 0];
     }
 }
 
@@ -244,9 +259,34 @@ fn change(random: &mut Random, transaction: &mut Transaction, records: &[Record]
     }
 }
 
+/// Images that an entry that is absent may have seen, and such as it may not.
+const ABSENCES: [Image; 8] = [
+    NOTHING,
+    image(1, 1, 0, 0),
+    image(1, 0, 0, 0),
+    image(0, 1, 0, 0),
+    image(0, 0, 1, 0),
+    image(0, 0, 0, 1),
+    image(1, 1, 1, 0),
+    image(1, 1, 0, 1),
+];
+
+const fn image(version: u32, tx_id: u32, column_1: u32, column_2: u32) -> Image {
+    Image {
+        version,
+        tx_id,
+        column_1,
+        column_2,
+    }
+}
+
 fn change_entry(random: &mut Random, entry: &mut Entry, records: &[Record]) {
-    match random.below(12) {
-        0 => entry.key = any_key(random, records),
+    match random.below(18) {
+        0 => entry.key = key_of(random, 4, records),
+        12 => entry.absent = random.pick(&[0, 1, 2, u32::MAX]),
+        // An absence of any form, and the same of one that isn't absent.
+        13..=15 => (entry.absent, entry.seen) = (1, random.pick(&ABSENCES)),
+        16 => (entry.absent, entry.seen) = (0, random.pick(&ABSENCES)),
         // A version 0 with a field that it can't have.
         7 => (entry.seen.version, entry.seen.tx_id) = (0, 1),
         8 => (entry.seen.version, entry.seen.tx_id) = (0, 0),

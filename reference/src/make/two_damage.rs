@@ -1,5 +1,6 @@
 //! Two sheets of which one is damaged, or both alike, or that don't join. At times the damage does none: the check decides.
 
+use super::absence;
 use super::damage::{before_state, damage_coordinator};
 use super::old_lines::{self, old_bookkeeping};
 use super::random::Random;
@@ -59,7 +60,7 @@ pub fn damaged_two(random: &mut Random, sheets: &Sheets) -> TwoSheets {
 /// Something wrong with one of the sheets alone.
 fn spoil_one(random: &mut Random, sheets: &Sheets, two: &mut TwoSheets) {
     let part = Part::any(random);
-    match random.below(13) {
+    match random.below(16) {
         0 => twice(random, part, two),
         1 => other_size(random, part, two),
         2 => key_beyond(random, part, two),
@@ -71,7 +72,8 @@ fn spoil_one(random: &mut Random, sheets: &Sheets, two: &mut TwoSheets) {
             misplace(random, sheet, line);
         }
         8 => *two = old_bookkeeping(random),
-        9 => before_state(random, &mut two.bookkeeping, old_lines::BOOKKEEPING),
+        9 | 11 | 12 => before_state(random, &mut two.bookkeeping, old_lines::BOOKKEEPING),
+        10 => absence::spoil(random, &mut two.bookkeeping, old_lines::BOOKKEEPING),
         _ => {
             let mut damaged = TwoSheets::of(&damaged_or_forged(random, sheets.clone()));
             *part.of(two).0 = part.of(&mut damaged).0.clone();

@@ -146,7 +146,7 @@ impl Run<'_> {
         let count = self.order.count as usize;
         if count > 0 {
             let entry = &mut self.order.entries[random.below(count)];
-            other_columns(random, &mut entry.seen);
+            other_columns(random, entry);
         }
     }
 }

@@ -1,5 +1,6 @@
 //! Inputs of the visiting program, good ones and damaged ones.
 
+use super::absence;
 use super::arguments::clock;
 use super::damage::{before_state, TELLING};
 use super::halfway::halfway;
@@ -26,7 +27,7 @@ pub fn cases(random: &mut Random, seen: &mut Seen) -> Vec<Case> {
 }
 
 fn input(random: &mut Random) -> Vec<u8> {
-    match random.below(10) {
+    match random.below(11) {
         0..=2 | 8 => {
             let sheets = match random.below(6) {
                 0 | 1 => accepted(random),
@@ -48,7 +49,7 @@ fn input(random: &mut Random) -> Vec<u8> {
             text(&sheets, random.pick(&[0, 4_294_967_295, 4_294_967_296]))
         }
         5 => text(&any(random), random.draw() % 4_294_967_296),
-        9 => text(&of_another_form(random), 20_000),
+        9 | 10 => text(&of_another_form(random), 20_000),
         _ => {
             let sheets = accepted(random);
             damaged_text(random, text(&sheets, 20_000))
@@ -56,13 +57,14 @@ fn input(random: &mut Random) -> Vec<u8> {
     }
 }
 
-/// A line's before state is any, or no line has one.
+/// A line's before state is any, or no line has one, or an absence is of another form.
 fn of_another_form(random: &mut Random) -> Sheets {
-    if random.once_in(6) {
-        return old_records(random);
-    }
     let mut sheets = crowded(random);
-    before_state(random, &mut sheets.records, old_lines::RECORDS);
+    match random.below(6) {
+        0 => return old_records(random),
+        1 | 2 => absence::spoil(random, &mut sheets.records, old_lines::RECORDS),
+        _ => before_state(random, &mut sheets.records, old_lines::RECORDS),
+    }
     sheets
 }
 

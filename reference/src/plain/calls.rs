@@ -5,7 +5,7 @@ pub use super::adding::{add, remove};
 pub use super::close::close;
 
 use super::key::Key;
-use super::record::{columns_in_range, State, MOST_VERSION, NOTHING};
+use super::record::{columns_in_range, State, MOST_VERSION};
 use super::steps;
 use super::store::{Store, Visit};
 use super::transaction::*;
@@ -59,7 +59,7 @@ pub fn read(
 }
 
 /// The second call of a read, with the columns that the first is to have answered. It is held beside them which version the
-/// line has now. Where a read takes one call, this is that read, and the columns are ignored.
+/// line has now; an ABSENT line has no columns. Where a read takes one call, this is that read, and the columns are ignored.
 pub fn second(
     store: &mut Store,
     transaction: Transaction,
@@ -76,13 +76,11 @@ pub fn second(
     if store.visit(place, now)? == Visit::Again {
         return Ok((transaction, Reading::Again));
     }
-    let line = &store.records[place];
-    let mut seen = line.image;
-    [seen.column_1, seen.column_2] = columns;
-    if line.state == State::Absent {
-        seen = NOTHING;
+    let mut line = store.records[place];
+    if line.state != State::Absent {
+        [line.image.column_1, line.image.column_2] = columns;
     }
-    Ok(holding(transaction, Entry::read(key, seen)))
+    Ok(holding(transaction, Entry::read(&line)))
 }
 
 /// The read in one call, of a key that has its line at this place.
@@ -100,10 +98,7 @@ fn read_whole(
     if store.visit(place, now)? == Visit::Again {
         return Ok((transaction, Reading::Again));
     }
-    Ok(holding(
-        transaction,
-        Entry::read(key, store.records[place].image),
-    ))
+    Ok(holding(transaction, Entry::read(&store.records[place])))
 }
 
 /// The transaction with another entry, and what a read of it answers.

@@ -5,6 +5,7 @@ pub mod by_place;
 pub mod calls;
 pub mod close;
 pub mod coordinator;
+pub mod entry;
 pub mod field;
 pub mod groups;
 pub mod key;

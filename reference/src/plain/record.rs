@@ -51,6 +51,12 @@ impl Image {
         [self.column_1, self.column_2]
     }
 
+    /// Whether an ABSENT line may have this image, or come back to it: there are no columns, and a version only where a number
+    /// has written it.
+    pub fn is_absence(&self) -> bool {
+        (self.version >= 1) == (self.tx_id >= 1) && self.columns() == [0, 0]
+    }
+
     pub fn in_range(&self) -> bool {
         self.version <= MOST_VERSION && self.tx_id <= 999 && columns_in_range(self.columns())
     }
@@ -81,7 +87,7 @@ impl Record {
 
     fn keeps_state_rule(&self) -> bool {
         match self.state {
-            State::Absent => self.image == NOTHING && self.is_unprepared(),
+            State::Absent => self.image.is_absence() && self.is_unprepared(),
             State::Committed => self.image.version >= 1 && self.is_unprepared(),
             State::Prepared => {
                 self.image.tx_id >= 1
@@ -100,7 +106,7 @@ impl Record {
     fn before_fits(&self) -> bool {
         match self.before_state {
             Before::Nothing => false,
-            Before::Absent => self.before == NOTHING,
+            Before::Absent => self.before.is_absence(),
             Before::Committed => self.before.version >= 1,
         }
     }

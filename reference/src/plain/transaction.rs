@@ -2,8 +2,8 @@
 //!
 //! Its fields lie in memory in the order written, as a caller in C has them.
 
+pub use super::entry::{Entry, Reading};
 use super::key::Key;
-use super::record::{Image, NOTHING};
 
 /// The most keys that a transaction holds.
 pub const MOST_ENTRIES: usize = 8;
@@ -26,18 +26,6 @@ pub const ABORTED: u32 = 2;
 
 #[derive(Clone, Copy, Debug, PartialEq, Eq)]
 #[repr(C)]
-pub struct Entry {
-    pub key: Key,
-    /// The line as it was read.
-    pub seen: Image,
-    /// 1 with a put, 0 without; then the put columns mean nothing.
-    pub wrote: u32,
-    pub put_1: u32,
-    pub put_2: u32,
-}
-
-#[derive(Clone, Copy, Debug, PartialEq, Eq)]
-#[repr(C)]
 pub struct Transaction {
     pub number: u32,
     /// 1 if what was only read is validated too, which the paper calls checked; else 0.
@@ -51,79 +39,6 @@ pub struct Transaction {
     pub entries: [Entry; MOST_ENTRIES],
 }
 
-/// What a read answers.
-#[derive(Clone, Copy, Debug, PartialEq, Eq)]
-pub enum Reading {
-    Absent,
-    Columns([u32; 2]),
-    /// The line's owner was aborted only now: the key is not held, and to be read again.
-    Again,
-    /// On two sheets: what stood there at the first call of a read that takes two. The key is not held.
-    First([u32; 2]),
-}
-
-impl Entry {
-    /// A key just read.
-    pub fn read(key: Key, seen: Image) -> Entry {
-        Entry {
-            key,
-            seen,
-            wrote: 0,
-            put_1: 0,
-            put_2: 0,
-        }
-    }
-
-    pub fn from_numbers(n: [u32; 12]) -> Entry {
-        Entry {
-            key: Key::from_numbers([n[0], n[1], n[2], n[3], n[4]]),
-            seen: Image {
-                version: n[5],
-                tx_id: n[6],
-                column_1: n[7],
-                column_2: n[8],
-            },
-            wrote: n[9],
-            put_1: n[10],
-            put_2: n[11],
-        }
-    }
-
-    pub fn numbers(&self) -> [u32; 12] {
-        let [storage, namespace, table, partition, clustering] = self.key.numbers();
-        let seen = &self.seen;
-        [
-            storage,
-            namespace,
-            table,
-            partition,
-            clustering,
-            seen.version,
-            seen.tx_id,
-            seen.column_1,
-            seen.column_2,
-            self.wrote,
-            self.put_1,
-            self.put_2,
-        ]
-    }
-
-    pub fn put(&self) -> [u32; 2] {
-        [self.put_1, self.put_2]
-    }
-
-    /// The entry as last put, else as first read.
-    pub fn reading(&self) -> Reading {
-        if self.wrote == 1 {
-            Reading::Columns(self.put())
-        } else if self.seen.version == 0 {
-            Reading::Absent
-        } else {
-            Reading::Columns(self.seen.columns())
-        }
-    }
-}
-
 impl Transaction {
     /// A transaction just begun. Entries that mean nothing are all 0.
     pub fn begun(number: u32, serializable: bool) -> Transaction {
@@ -134,7 +49,7 @@ impl Transaction {
             place: 0,
             verdict: NO_VERDICT,
             count: 0,
-            entries: [Entry::read(Key::from_numbers([0; 5]), NOTHING); MOST_ENTRIES],
+            entries: [Entry::unused(); MOST_ENTRIES],
         }
     }
 

@@ -1,7 +1,7 @@
 //! Which transactions are well formed beside which sheets. Whether a state can be reached isn't asked.
 
 use super::groups::groups;
-use super::record::{columns_in_range, MOST_VERSION, NOTHING};
+use super::record::{columns_in_range, MOST_VERSION};
 use super::steps::to_validate;
 use super::store::Store;
 use super::transaction::*;
@@ -31,6 +31,11 @@ fn entries_fit(transaction: &Transaction, store: &Store) -> bool {
 
 fn entry_fits(entry: &Entry, store: &Store) -> bool {
     let seen = &entry.seen;
+    let absence_fits = match entry.absent {
+        0 => seen.version >= 1,
+        1 => seen.is_absence(),
+        _ => false,
+    };
     let put_fits = match entry.wrote {
         0 => true,
         1 => columns_in_range(entry.put()) && seen.version < MOST_VERSION,
@@ -39,7 +44,7 @@ fn entry_fits(entry: &Entry, store: &Store) -> bool {
     entry.key.in_range()
         && seen.in_range()
         && seen.tx_id <= store.coordinator.issued
-        && (seen.version >= 1 || *seen == NOTHING)
+        && absence_fits
         && put_fits
 }
 

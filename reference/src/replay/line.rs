@@ -75,7 +75,7 @@ pub enum Line {
     Entry {
         slot: usize,
         place: usize,
-        numbers: [u32; 12],
+        numbers: [u32; 13],
     },
     /// All sheets as they stand.
     Sheets,

@@ -18,7 +18,7 @@ use std::collections::BTreeSet;
 use std::fmt;
 
 /// By what it was asked.
-const ASKED: [&str; 4] = [
+pub const ASKED: [&str; 4] = [
     "replay",
     "replay of two sheets",
     "for C",
@@ -53,13 +53,14 @@ enum Kind {
     NoSpareInFull,
     NoSpare,
     Missing,
+    AbsentOfVersion,
     Committed,
     PreparedOverNothing,
     PreparedOverVersion,
 }
 
 /// In the order of the kinds.
-const KINDS: [&str; 23] = [
+const KINDS: [&str; 24] = [
     "added to spares only",
     "added before the first line",
     "added between lines",
@@ -80,6 +81,7 @@ const KINDS: [&str; 23] = [
     "15 at 500 lines",
     "15 at fewer lines",
     "6 of removing",
+    "16 by ABSENT of a version",
     "16 by COMMITTED",
     "16 by PREPARED over nothing",
     "16 by PREPARED over a version",
@@ -232,14 +234,15 @@ fn removed_at(key: &Key, store: &Store) -> Kind {
 
 fn not_removed(line: &Record) -> Kind {
     match line.state {
+        State::Absent => Kind::AbsentOfVersion,
+        State::Committed => Kind::Committed,
         State::Prepared if line.before.version == 0 => Kind::PreparedOverNothing,
         State::Prepared => Kind::PreparedOverVersion,
-        _ => Kind::Committed,
     }
 }
 
 /// The entries that a step has looked at: a group, or the one that was checked.
-fn looked_at(taken: &Transaction, returned: &Transaction, store: &Store) -> Vec<Entry> {
+pub fn looked_at(taken: &Transaction, returned: &Transaction, store: &Store) -> Vec<Entry> {
     let mut groups = groups(taken, &store.coordinator.units);
     let place = taken.place as usize;
     match taken.phase {
@@ -406,7 +409,7 @@ impl Adding {
 }
 
 /// The place among those who asked.
-fn row(for_c: bool, layout: Layout) -> usize {
+pub fn row(for_c: bool, layout: Layout) -> usize {
     2 * usize::from(for_c) + usize::from(layout == Layout::Two)
 }
 

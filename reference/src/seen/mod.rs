@@ -1,7 +1,9 @@
 //! What a comparison has seen: every refusal of every call, every step from phase to phase, every report of a close, where
-//! keys stood, which sheets had spares, which before states lines had, where lines were added and removed, and where it
-//! mattered that a number has several lines, counted.
+//! keys stood, which sheets had spares, what else stood in their lines, what was absent, where lines were added and removed, and
+//! where it mattered that a number has several lines, counted.
 
+mod absence;
+mod absent_entries;
 mod adding;
 mod answers;
 mod before_states;
@@ -9,10 +11,13 @@ mod by_place;
 mod clients;
 mod closes;
 mod expiry;
+mod lines_met;
 mod lists;
 mod ranks;
+mod rows;
 mod spares;
 mod steps;
+mod table;
 mod two_kinds;
 mod two_sheets;
 
@@ -22,21 +27,24 @@ use crate::conversions::{self, Conversion};
 use crate::exported::{refusal_of, Call, Lent};
 use crate::plain::by_place::ADVANCE;
 use crate::plain::key::Key;
+use crate::plain::request::Request;
 use crate::plain::transaction::Transaction;
-use crate::plain::visitor;
+use crate::plain::{visitor, ACCEPTED};
 use crate::replay::laid_out::LaidOut;
 use crate::replay::line::Line;
 use crate::replay::reply::Reply;
 use crate::replay::Layout;
+pub use absent_entries::Called;
 pub use adding::Removed;
 
+use absent_entries::AbsentEntries;
 use adding::{Adding, Change};
 use answers::{count, Answers, Row};
-use before_states::BeforeStates;
 use by_place::ByPlace;
 use clients::Clients;
 use closes::Closes;
 use expiry::{Expiry, Found};
+use lines_met::LinesMet;
 use lists::Lists;
 use ranks::Ranks;
 use spares::{Spares, FOR_C, ON_VISITS, REPLAY, TO_NUMBERS};
@@ -105,7 +113,8 @@ pub struct Seen {
     closes: Closes,
     ranks: Ranks,
     spares: Spares,
-    before_states: BeforeStates,
+    lines_met: LinesMet,
+    absent_entries: AbsentEntries,
     adding: Adding,
     changes: [u64; 4],
     /// How often it was told beside a call what it has written. It isn't counted as a call.
@@ -131,7 +140,8 @@ impl Default for Seen {
             closes: Closes::default(),
             ranks: Ranks::default(),
             spares: Spares::default(),
-            before_states: BeforeStates::default(),
+            lines_met: LinesMet::default(),
+            absent_entries: AbsentEntries::default(),
             adding: Adding::default(),
             changes: [0; 4],
             told_beside: 0,
@@ -205,8 +215,7 @@ impl Seen {
         // A line handed back, or none, tells no refusal.
         if !matches!(line, Line::LineOf { .. }) {
             self.spares.note(REPLAY, refusal, before);
-            self.before_states
-                .note(before_states::REPLAY, refusal, before);
+            self.lines_met.note(rows::REPLAY, refusal, before);
         }
         let sheets = match before {
             LaidOut::Joined(sheets) => sheets,
@@ -227,6 +236,38 @@ impl Seen {
             _ => {}
         }
         true
+    }
+
+    /// Notes a line's request and its answer, and the sheets before it.
+    pub fn note_request(&mut self, called: &Called, before: &LaidOut) {
+        self.absent_entries.note(false, called, before);
+    }
+
+    /// The same of a function for C.
+    fn note_request_for_c(
+        &mut self,
+        call: &Call,
+        refusal: u32,
+        before: &LaidOut,
+        lists: [&[Transaction]; 2],
+    ) {
+        let (request, returned) = match *call {
+            Call::Visit { key, now } => (Some(Request::Visit { key, now }), None),
+            Call::At { place, asked } => {
+                let [taken, returned] = lists.map(|list| list.get(place));
+                let request = taken.and_then(|taken| asked.request(before.layout(), *taken));
+                (request, returned)
+            }
+            _ => (None, None),
+        };
+        if let Some(request) = &request {
+            let answer = match refusal {
+                ACCEPTED => Ok(returned),
+                _ => Err(refusal),
+            };
+            self.absent_entries
+                .note(true, &Called { request, answer }, before);
+        }
     }
 
     /// Notes a case of the functions for C.
@@ -258,13 +299,13 @@ impl Seen {
 
     /// Notes what stood in records that were converted, by the length of the target too.
     fn note_conversion(&mut self, conversion: Conversion, lent: &conversions::Lent, answer: u32) {
-        let states = &mut self.before_states;
+        let lines = &mut self.lines_met;
         match conversion {
             Conversion::ReadRecords => {
                 self.spares.note_joined(TO_NUMBERS, answer, &lent.sheet);
-                states.note_joined(before_states::TO_NUMBERS, answer, &lent.sheet);
+                lines.note_records(rows::TO_NUMBERS, answer, &lent.sheet);
             }
-            Conversion::WriteRecords => states.note_numbers(answer, &lent.numbers),
+            Conversion::WriteRecords => lines.note_numbers(answer, &lent.numbers),
             Conversion::ReadCoordinator | Conversion::WriteCoordinator => {}
         }
     }
@@ -287,6 +328,8 @@ impl Seen {
         answer: u64,
         lent: &Lent,
     ) {
+        let refusal = refusal_of(call, answer);
+        self.note_request_for_c(call, refusal, sheets, [before, &lent.list]);
         let (exported, by_place) = match &lent.sheets {
             LaidOut::Joined(sheets) => {
                 let found = Found::for_c(call, answer);
@@ -295,11 +338,9 @@ impl Seen {
             }
             LaidOut::Two(_) => (&mut self.exported_on_two, &mut self.by_place_on_two),
         };
-        let refusal = refusal_of(call, answer);
         if *call != Call::Version {
             self.spares.note(FOR_C, refusal, &lent.sheets);
-            self.before_states
-                .note(before_states::FOR_C, refusal, &lent.sheets);
+            self.lines_met.note(rows::FOR_C, refusal, &lent.sheets);
         }
         match call {
             Call::Check => exported.note(0, refusal),
@@ -352,8 +393,8 @@ impl Seen {
             self.visitor.note(0, refusal);
             if let Some((_, records, _)) = visitor::parts(input) {
                 self.spares.note_joined(ON_VISITS, refusal, &records);
-                self.before_states
-                    .note_joined(before_states::ON_VISITS, refusal, &records);
+                self.lines_met
+                    .note_records(rows::ON_VISITS, refusal, &records);
             }
         }
     }
@@ -391,7 +432,8 @@ impl Seen {
         amiss.extend(self.closes.amiss("close"));
         amiss.extend(self.ranks.amiss());
         amiss.extend(self.spares.amiss());
-        amiss.extend(self.before_states.amiss());
+        amiss.extend(self.lines_met.amiss());
+        amiss.extend(self.absent_entries.amiss());
         amiss.extend(self.adding.amiss());
         amiss.extend(self.by_place.amiss());
         amiss.extend(unseen("written", &CHANGES, &self.changes));
@@ -430,14 +472,14 @@ fn named(names: &[&str], counts: &[u64]) -> String {
 
 impl fmt::Display for Seen {
     /// The answers of each call in a replay, the steps from phase to phase, how closes ended, where keys stood, which sheets
-    /// had spares, which before states lines had and what was added and removed, the same of the functions for C, the answers
-    /// of the visiting program, where several lines of a number mattered, and the same on two sheets.
+    /// had spares, what stood in their lines, what was absent, what was added and removed, the same of the functions for C, the
+    /// answers of the visiting program, where several lines of a number mattered, and the same on two sheets.
     fn fmt(&self, out: &mut fmt::Formatter) -> fmt::Result {
         writeln!(out, "{}\n\n{}\n", self.lines, self.steps)?;
         writeln!(
             out,
-            "{}\n\n{}\n\n{}\n\n{}\n\n{}\n",
-            self.closes, self.ranks, self.spares, self.before_states, self.adding
+            "{}\n\n{}\n\n{}\n\n{}\n\n{}\n\n{}\n",
+            self.closes, self.ranks, self.spares, self.lines_met, self.absent_entries, self.adding
         )?;
         writeln!(out, "for C\n{}\n", self.exported)?;
         writeln!(out, "for C, by place\n{}", self.by_place)?;

@@ -224,10 +224,10 @@ module _ {M : Type 1} (𝓤 : URA M) (H : Heap 𝓤) (A : Atoms 𝓤) (W : Given
         (λ hit.
         let is-true : naming calls (length ys) i m2 ≡ true = sym said ∙ holds-true y hit in
         let within : i < length ys = naming-within calls (length ys) i m2 is-true in
-        let scaled : Fits w64 (i * 408) = scaled-fits i (length ys) 408 within (room .1) in
+        let scaled : Fits w64 (i * 440) = scaled-fits i (length ys) 440 within (room .1) in
         assigns ! (bin ! (load ! (from ! (stop !)) (look ! 58 refl)) (lit ! tt) scaled) (from ! (stop !)) (init ! 22 refl (tt, scaled)) $
         assigns ! (bin ! (load ! (from ! (fld ! refl (stop !))) (look-in ! 60 (sub ! 0 refl (whole !)))) (load ! (from ! (stop !)) (look ! 22 refl)) tt) (from ! (stop !)) (init ! 20 refl (tt, tt)) $
-        rewrite ! 20 (λ (p : ℕ). ‵ (fat fullShare tyPtr a21 0 (vptr b p))) (sym (place-is 408 o i)) refl $
+        rewrite ! 20 (λ (p : ℕ). ‵ (fat fullShare tyPtr a21 0 (vptr b p))) (sym (place-is 440 o i)) refl $
         move ! (65 ∷ []) $ fsplit ! $ fsplit ! $ move ! (1 ∷ []) $ fsplit ! $ move ! (68 ∷ []) $ split ! $ move ! (2 ∷ 3 ∷ 0 ∷ []) $
         opens-slice ! tt T.the-row ys b o $ elem-out ! T.the-row (Is T.the-row) (shows 𝓤 H A T.the-row) (LL.vals T.the-type T′.the-laws) (LL.tells T.the-type T′.the-laws) fullShare ys i (newTransaction 0 false) b o within (λ g.
         let wt = LL.lawful T.the-type T′.the-laws 𝓤 H A W .typed t _ g .0 in
@@ -256,7 +256,7 @@ module _ {M : Type 1} (𝓤 : URA M) (H : Heap 𝓤) (A : Atoms 𝓤) (W : Given
         rewrite ! 43 (λ (u : Val). ‵ (fat fullShare O′.mir a16 0 u)) (ap only (LL.tells O.the-type O′.the-laws r (v′ ∷ []) is)) refl $
         assigns ! (bin ! (load ! (from ! (stop !)) (look ! 71 refl)) (lit ! tt) scaled) (from ! (stop !)) (store ! 35 refl (tt, scaled)) $
         assigns ! (bin ! (load ! (from ! (fld ! refl (stop !))) (look-in ! 73 (sub ! 0 refl (whole !)))) (load ! (from ! (stop !)) (look ! 35 refl)) tt) (from ! (stop !)) (init ! 21 refl (tt, tt)) $
-        rewrite ! 21 (λ (p : ℕ). ‵ (fat fullShare tyPtr a27 0 (vptr b p))) (sym (place-is 408 o i)) refl $
+        rewrite ! 21 (λ (p : ℕ). ‵ (fat fullShare tyPtr a27 0 (vptr b p))) (sym (place-is 440 o i)) refl $
         assigns ! (of-opd ! (load ! (from ! (fld ! refl (stop !))) (look-in ! 43 (sub ! 1 refl (whole !))))) (from ! (hop ! (look ! 21 refl) (stop !))) (store-raw ! 7 refl wt-t) $
         assigns-last ! (of-opd ! (load ! (from ! (fld ! refl (stop !))) (look-in ! 43 (sub ! 0 refl (whole !))))) (from ! (stop !)) (init ! 37 refl wt-a) $
         exec ! C Λ _ code-mir.t-4 (atRet _ Post) $

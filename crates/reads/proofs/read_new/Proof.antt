@@ -19,10 +19,13 @@ recover-requires c κs =
 returns-2 : tie.Need-returns-2
 returns-2 c =
     let a = c .before .before .before .before .before .before .before .before .before .before .before .before .before .before .before .args in
-    read-outcome (a .t) (a .clock) (a .records .now) (a .coordinator .now) (a .i) (c .before .before .before .before .before .before .before .before .before .before .before .before .before .before .before .pre) (a .lower) (a .columns) _ _ _ (c .before .before .before .before .before .before .before .before .before .before .before .if1 .left) (c .before .before .before .before .before .before .before .before .recover .ensures) (c .before .before .record-at .ensures) (c .before .seen .ensures) (c .read-met .ensures)
+    read-outcome (a .t) (a .clock) (a .records .now) (a .coordinator .now) (a .i) (c .before .before .before .before .before .before .before .before .before .before .before .before .before .before .before .pre) (a .lower) (a .columns) _ _ _ (c .before .before .before .before .before .before .before .before .before .before .before .if1 .left) (c .before .before .before .before .before .before .before .before .recover .ensures) (c .before .before .record-at .ensures) (c .before .entry-of .ensures) (c .read-met .ensures)
+
+read-met-requires : tie.Need-read-met-requires
+read-met-requires c κs = c .before .before .before .before .before .before .before .before .before .before .if1 .left
 
 pub read-new-spec : {M : Type 1} → statement M
 read-new-spec =
     tie.close
-    (tie.spec (λ c κs. search needs) returns recover-requires (λ c κs. search needs) (λ c κs. search needs) (λ c κs. search needs) (λ c. search needs)
+    (tie.spec (λ c κs. search needs) returns recover-requires (λ c κs. search needs) (λ c κs. search needs) read-met-requires (λ c. search needs)
     (λ c. search needs) returns-2)

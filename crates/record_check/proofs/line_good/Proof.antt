@@ -1,10 +1,10 @@
 -- The law on a line, test by test: a line that has not the words of its kind is not good, each later test that fails makes the answer false, and past them
 -- the clock is the answer, by its first digit where that is enough.
-use Rattle.lists.specs.Basics.{_≡_, sym, ap, _∙_, true, _&&_, cond, and-false, length, arith, not-true, not-false, needs, bytes}
+use Rattle.lists.specs.Basics.{_≡_, sym, ap, _∙_, true, _&&_, and-false, length, arith, not-true, not-false, needs, bytes}
 use Rattle.model.specs.Layouts.{recordLayout, offset}
 use Rattle.line_bytes.specs.Parts.{partsOk}
-use Rattle.record_check.specs.States.{kindAt, kindParts}
-use Rattle.record_check.specs.Relations.{highestClock, follows, clockFits}
+use Rattle.record_check.specs.States.{kindAt, kindParts, asked}
+use Rattle.record_check.specs.Relations.{highestClock, clockFits}
 use Rattle.record_check.specs.Line.{lineGood, wordless, low-clock, line-is}
 use Rattle.record_check.proofs.line_good.Statement.{statement}
 use Rattle.record_check.proofs.line_good.Tie as tie
@@ -20,7 +20,7 @@ returns c =
 law : (c : tie.After-kind)
     → let line = c .before .before .before .before .args .line .now in
     let k = c .kind .result in
-    lineGood line ≡ (partsOk (kindParts (kindAt k)) line && (cond (kindAt k .follows) (follows line) true && clockFits line))
+    lineGood line ≡ (partsOk (kindParts (kindAt k)) line && (asked k line && clockFits line))
 law c =
     let k = c .before .before .before in
     rw (c .kind .ensures .0) (line-is (k .before .args .line .now) (λ i. k .shared-slice-known .given i .fits))
@@ -32,7 +32,7 @@ returns-2 c =
 
 returns-3 : tie.Need-returns-3
 returns-3 c =
-    let f = sym (c .before .image-follows .ensures) ∙ not-true (c .before .image-follows .result) (c .if3 .taken) in
+    let f = sym (c .before .related .ensures) ∙ not-true (c .before .related .result) (c .if3 .taken) in
     rw (law (c .before .before .before .before .before .before), f, and-false)
 
 -- past the tests of parts and images the clock decides
@@ -41,7 +41,7 @@ passed : (c : tie.After-shared-slice-known4)
     (partsOk (kindParts (kindAt (c .before .before .before .before .before .before .before .kind .result))) line ≡ true) × (lineGood line ≡ clockFits line)
 passed c =
     let stood = c .before .before .before .before .stands in
-    let followed = c .before .before .image-follows in
+    let followed = c .before .before .related in
     let s = sym (stood .ensures) ∙ not-false (stood .result) (c .before .before .before .if2 .left) in
     let f = sym (followed .ensures) ∙ not-false (followed .result) (c .before .if3 .left) in
     (s, law (c .before .before .before .before .before .before .before) ∙ rw (s, f))

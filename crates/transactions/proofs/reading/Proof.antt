@@ -1,4 +1,4 @@
--- By whether there is a put, and whether the version read is 0.
+-- By whether there is a put, and whether the record was read absent.
 use Rattle.lists.specs.Basics.{eq-eqb, ne-eqb}
 use Rattle.model.specs.Transactions.{reading}
 use Rattle.transactions.proofs.reading.Statement.{statement}

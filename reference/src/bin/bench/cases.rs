@@ -302,7 +302,7 @@ fn in_prepare(store: &Store, number: u32) -> Transaction {
     let entries = transaction.entries.iter_mut();
     for (entry, place) in entries.zip(places(store.records.len())) {
         let record = &store.records[place];
-        *entry = Entry::read(record.key, settled(record.key).image);
+        *entry = Entry::read(&settled(record.key));
         entry.wrote = 1;
         [entry.put_1, entry.put_2] = [777, 88_888_888];
     }

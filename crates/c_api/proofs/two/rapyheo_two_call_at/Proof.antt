@@ -236,10 +236,10 @@ module _ {M : Type 1} (𝓤 : URA M) (H : Heap 𝓤) (A : Atoms 𝓤) (W : Given
         (λ hit.
         let is-true : naming callsTwo (length ys) i m3 ≡ true = sym said ∙ holds-true y hit in
         let within : i < length ys = naming-within callsTwo (length ys) i m3 is-true in
-        let scaled : Fits w64 (i * 408) = scaled-fits i (length ys) 408 within (room .1) in
+        let scaled : Fits w64 (i * 440) = scaled-fits i (length ys) 440 within (room .1) in
         assigns ! (bin ! (load ! (from ! (stop !)) (look ! 68 refl)) (lit ! tt) scaled) (from ! (stop !)) (init ! 30 refl (tt, scaled)) $
         assigns ! (bin ! (load ! (from ! (fld ! refl (stop !))) (look-in ! 70 (sub ! 0 refl (whole !)))) (load ! (from ! (stop !)) (look ! 30 refl)) tt) (from ! (stop !)) (init ! 28 refl (tt, tt)) $
-        rewrite ! 28 (λ (p : ℕ). ‵ (fat fullShare tyPtr a22 0 (vptr b p))) (sym (place-is 408 o i)) refl $
+        rewrite ! 28 (λ (p : ℕ). ‵ (fat fullShare tyPtr a22 0 (vptr b p))) (sym (place-is 440 o i)) refl $
         move ! (75 ∷ []) $ fsplit ! $ fsplit ! $ move ! (1 ∷ []) $ fsplit ! $ move ! (78 ∷ []) $ split ! $ move ! (2 ∷ 3 ∷ 0 ∷ []) $
         opens-slice ! tt T.the-row ys b o $ elem-out ! T.the-row (Is T.the-row) (shows 𝓤 H A T.the-row) (LL.vals T.the-type T′.the-laws) (LL.tells T.the-type T′.the-laws) fullShare ys i (newTransaction 0 false) b o within (λ g.
         let wt = LL.lawful T.the-type T′.the-laws 𝓤 H A W .typed t _ g .0 in
@@ -271,7 +271,7 @@ module _ {M : Type 1} (𝓤 : URA M) (H : Heap 𝓤) (A : Atoms 𝓤) (W : Given
         rewrite ! 52 (λ (u : Val). ‵ (fat fullShare O′.mir a17 0 u)) (ap only (LL.tells O.the-type O′.the-laws r (v′ ∷ []) is)) refl $
         assigns ! (bin ! (load ! (from ! (stop !)) (look ! 82 refl)) (lit ! tt) scaled) (from ! (stop !)) (store ! 44 refl (tt, scaled)) $
         assigns ! (bin ! (load ! (from ! (fld ! refl (stop !))) (look-in ! 84 (sub ! 0 refl (whole !)))) (load ! (from ! (stop !)) (look ! 44 refl)) tt) (from ! (stop !)) (init ! 26 refl (tt, tt)) $
-        rewrite ! 26 (λ (p : ℕ). ‵ (fat fullShare tyPtr a30 0 (vptr b p))) (sym (place-is 408 o i)) refl $
+        rewrite ! 26 (λ (p : ℕ). ‵ (fat fullShare tyPtr a30 0 (vptr b p))) (sym (place-is 440 o i)) refl $
         assigns ! (of-opd ! (load ! (from ! (fld ! refl (stop !))) (look-in ! 52 (sub ! 1 refl (whole !))))) (from ! (hop ! (look ! 26 refl) (stop !))) (store-raw ! 8 refl wt-t) $
         assigns-last ! (of-opd ! (load ! (from ! (fld ! refl (stop !))) (look-in ! 52 (sub ! 0 refl (whole !))))) (from ! (stop !)) (init ! 46 refl wt-a) $
         exec ! C Λ _ code-mir.t-4 (atRet _ Post) $
