@@ -75,7 +75,8 @@
  * together is checked before they are relied on. A client that stops between the two leaves nothing behind.
  *
  * As numbers, a record is sixteen in the order of its columns, both states among them; a coordinator is its count, the nine units and one number
- * for each line, whose own number is its place. Words and letters have the numbers of RAPYHEO_STATE_.., RAPYHEO_UNIT_.. and RAPYHEO_DECISION_..
+ * for each line, whose own number is its place. Words and letters have the numbers of RAPYHEO_STATE_.., RAPYHEO_BEFORE_..,
+ * RAPYHEO_UNIT_.. and RAPYHEO_DECISION_..
  */
 #ifndef RAPYHEO_H
 #define RAPYHEO_H
@@ -191,6 +192,7 @@ enum { RAPYHEO_NO_VERDICT = 0, RAPYHEO_COMMITTED = 1, RAPYHEO_ABORTED = 2 };
 
 /* Words and letters of the sheets in lists of numbers. */
 enum { RAPYHEO_STATE_ABSENT = 0, RAPYHEO_STATE_COMMITTED = 1, RAPYHEO_STATE_PREPARED = 2 };
+enum { RAPYHEO_BEFORE_NOTHING = 0, RAPYHEO_BEFORE_ABSENT = 1, RAPYHEO_BEFORE_COMMITTED = 2 }; /* not those of the state word */
 enum { RAPYHEO_UNIT_RECORD = 0, RAPYHEO_UNIT_PARTITION = 1, RAPYHEO_UNIT_TABLE = 2, RAPYHEO_UNIT_NAMESPACE = 3, RAPYHEO_UNIT_STORAGE = 4 };
 enum { RAPYHEO_DECISION_NONE = 0, RAPYHEO_DECISION_COMMITTED = 1, RAPYHEO_DECISION_ABORTED = 2 };
 

@@ -4,7 +4,7 @@ ghost use Rattle.model.specs.Refusals.{refusalOf};
 ghost use Rattle.model.specs.SheetCalls.{readRecordsConditions, numbersRead, writeRecordsConditions, recordsWritten};
 ghost use Rattle.model.specs.SheetCalls.{readCoordinatorConditions, decisionsRead, writeCoordinatorConditions, coordinatorWritten};
 
-// Record sheet to fifteen numbers for each line.
+// Record sheet to sixteen numbers for each line.
 #[no_mangle]
 pub extern "C" fn rapyheo_read_records(records: &[u8], numbers: &mut [u32]) -> u32
     ensures answer { λ r. ⌜ r ≡ refusalOf (readRecordsConditions (now (records .entry)) (now (numbers .entry))) ⌝ }

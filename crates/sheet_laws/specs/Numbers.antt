@@ -1,4 +1,4 @@
--- Records as numbers, fifteen to a record: both round trips, record by record.
+-- Records as numbers, sixteen to a record: both round trips, record by record.
 use Rattle.lists.specs.Basics.{_≡_, sym, ap, _∙_, ℕ, _*_, _/_, eqb, true, _&&_, List, map, length, length-map, arith, eqb-true, eq-eqb, all, joined, pieces}
 use Rattle.lists.specs.Basics.{and-fst, and-snd, and-both, tests}
 use Rattle.lists.specs.All.{all-map, all-and, all-weaken, all-of, pieces-whole, map-map, map-same, map-equal}
