@@ -1,6 +1,6 @@
 -- The record sheet: an accepted sheet is the text of its records, and rule-keeping records are those of their text.
 -- A line goes by the round trips of `recordLayout`, a sheet line by line; replacing a line is replacing a record.
-use Rattle.lists.specs.Basics.{_≡_, refl, ap, ap₂, _∙_, ℕ, zero, suc, _*_, _/_, _≤_, leb, Bool, true, List, map, length, getD, length-map, arith, leb-true, eq-eqb}
+use Rattle.lists.specs.Basics.{_≡_, refl, sym, ap, ap₂, _∙_, ℕ, zero, suc, _*_, _/_, _≤_, _<_, leb, Bool, true, List, map, length, getD, length-map, arith, leb-true, eq-eqb}
 use Rattle.lists.specs.Basics.{all, joined, pieces, listed, eqList, bytes, and-snd, and-both, tests}
 use Rattle.lists.specs.All.{all-map, all-weaken, all-of, map-same, map-map, listed-is}
 use Rattle.lists.specs.Pieces.{joined-pieces, pieces-joined, length-joined}
@@ -89,18 +89,20 @@ pub record Readable (line : List ℕ) : Type 0 where
 pub readable : (line : List ℕ) → lineSet recordLayout line ≡ true → Readable line
 readable line h = record { set = h; whole = line-whole line h }
 
--- in a row in range the sixth number is a state's, the eleventh a before state's
+-- in a row in range the number of a word of three is at most 2: the sixth, a state's, and the eleventh, a before state's
+word-ranged : (i : ℕ) (v : List ℕ) → i < length recordLayout → getD recordLayout i noColumn .high ≡ 2 → rowGood recordLayout v ≡ true → getD v i 0 ≤ 2
+unfolding inRange
+word-ranged i v l h g =
+    let c = getD recordLayout i noColumn in
+    leb-true (getD v i 0) 2 (ap (leb (getD v i 0)) (sym h) ∙ and-snd (leb (c .low) (getD v i 0)) (leb (getD v i 0) (c .high)) (row-in-range recordLayout v noColumn i g l))
+
 pub state-ranged : (v : List ℕ) → rowGood recordLayout v ≡ true → getD v stateField 0 ≤ 2
-unfolding recordLayout inRange
-state-ranged v g =
-    let i = row-in-range recordLayout v noColumn stateField g (omega arith) in
-    leb-true (getD v stateField 0) 2 (and-snd (leb 0 (getD v stateField 0)) (leb (getD v stateField 0) 2) i)
+unfolding recordLayout
+state-ranged v g = word-ranged stateField v (omega arith) refl g
 
 pub before-ranged : (v : List ℕ) → rowGood recordLayout v ≡ true → getD v beforeStateField 0 ≤ 2
-unfolding recordLayout inRange
-before-ranged v g =
-    let i = row-in-range recordLayout v noColumn beforeStateField g (omega arith) in
-    leb-true (getD v beforeStateField 0) 2 (and-snd (leb 0 (getD v beforeStateField 0)) (leb (getD v beforeStateField 0) 2) i)
+unfolding recordLayout
+before-ranged v g = word-ranged beforeStateField v (omega arith) refl g
 
 -- the numbers of a line that can be read are those of its record
 pub line-numbers : (line : List ℕ) → lineSet recordLayout line ≡ true → recordNumbers (recordIn line) ≡ rowOf recordLayout line

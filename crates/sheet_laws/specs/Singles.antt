@@ -1,6 +1,6 @@
 -- Single fields of a line by its index, each read without the others: a figure of an accepted record sheet by its digits, and a word of any sheet by
 -- its bytes. The bytes at a field's offset are those of the field, and past the last line every number is 0.
-use Rattle.lists.specs.Basics.{_≡_, refl, sym, ap, ap₂, subst, _∙_, ℕ, zero, suc, _+_, _*_, _/_, _^_, _≤_, _<_, eqb, leb, ltb, Bool, true, false, cond, List}
+use Rattle.lists.specs.Basics.{_≡_, refl, sym, ap, ap₂, subst, _∙_, ℕ, zero, suc, _+_, _*_, _/_, _^_, _≤_, _<_, eqb, leb, ltb, Bool, true, false, _&&_, cond, List}
 use Rattle.lists.specs.Basics.{length, take, drop, getD, length-take, length-drop, take-all, arith, eqb-true, ne-eqb, leb-true, ltb-true, ltb-false, all, eqList, and-snd}
 use Rattle.lists.specs.Basics.{choose-by}
 use Rattle.lists.specs.All.{all-at}
@@ -101,6 +101,10 @@ module _ (k w at : ℕ) (cs : List Column) (s : List ℕ) (ok : layoutOk cs ≡ 
   number-ranged : (v : ℕ) → fieldValue (getD cs k noColumn) (fieldAt k cs (take w (drop at s))) ≡ Number v → inRange (getD cs k noColumn) v ≡ true
   number-ranged v e = field-written-read (getD cs k noColumn) (fieldAt k cs (take w (drop at s))) v column-ok sized e .1
 
+-- no number above 2 is that of one of three words
+past-words : (v : ℕ) → (leb 0 (suc (suc (suc v))) && leb (suc (suc (suc v))) 2) ≡ true → ⊥
+past-words v h = let l : suc (suc (suc v)) ≤ 2 = leb-true (suc (suc (suc v))) 2 (and-snd (leb 0 (suc (suc (suc v)))) _ h) in omega arith
+
 -- pending is told by the word PREPARED
 state-told : (x : Scan) → ((v : ℕ) → x ≡ Number v → inRange (word wordBytes StateWord 2) v ≡ true) → isThe 2 x ≡ byState (stateOf (number x)) false false true
 unfolding isThe number stateOf inRange
@@ -110,7 +114,7 @@ state-told (Number zero) b = refl
 state-told (Number (suc zero)) b = refl
 state-told (Number (suc (suc zero))) b = refl
 state-told (Number (suc (suc (suc v)))) b =
-    let l : suc (suc (suc v)) ≤ 2 = leb-true (suc (suc (suc v))) 2 (and-snd (leb 0 (suc (suc (suc v)))) _ (b (suc (suc (suc v))) refl)) in absurd (omega arith)
+    absurd (past-words v (b (suc (suc (suc v))) refl))
 
 pub prepared-told : (s : List ℕ) (i : ℕ) → i < length s / recordBytes
     → eqList (take (recordWidth stateField) (drop (i * recordBytes + recordOffset stateField) s)) (wordAt StateWord (stateNumber Prepared)) ≡ isPrepared (getD (records s) i noRecord)
@@ -151,7 +155,7 @@ back-from (Number zero) b = refl
 back-from (Number (suc zero)) b = refl
 back-from (Number (suc (suc zero))) b = refl
 back-from (Number (suc (suc (suc v)))) b =
-    let l : suc (suc (suc v)) ≤ 2 = leb-true (suc (suc (suc v))) 2 (and-snd (leb 0 (suc (suc (suc v)))) _ (b (suc (suc (suc v))) refl)) in absurd (omega arith)
+    absurd (past-words v (b (suc (suc (suc v))) refl))
 
 pub back-told : (s : List ℕ) (i : ℕ) → i < length s / recordBytes
     → cond (eqList (take (recordWidth beforeStateField) (drop (i * recordBytes + recordOffset beforeStateField) s)) (wordAt BeforeWord (beforeNumber Was.Committed))) InState.Committed InState.Absent ≡ stateBack (getD (records s) i noRecord .prior)
@@ -174,7 +178,7 @@ decision-from (Number zero) b = refl
 decision-from (Number (suc zero)) b = refl
 decision-from (Number (suc (suc zero))) b = refl
 decision-from (Number (suc (suc (suc v)))) b =
-    let l : suc (suc (suc v)) ≤ 2 = leb-true (suc (suc (suc v))) 2 (and-snd (leb 0 (suc (suc (suc v)))) _ (b (suc (suc (suc v))) refl)) in absurd (omega arith)
+    absurd (past-words v (b (suc (suc (suc v))) refl))
 
 -- the word in the line of number n
 abbrev pub decisionWord : ℕ → List ℕ → List ℕ
