@@ -1,1 +1,2 @@
 // Theorems about the calls; no code.
+#![tactic(auto)]

@@ -1,1 +1,2 @@
 // Theorems about clients that keep lists of transactions (specs/); no code.
+#![tactic(auto)]

@@ -1,1 +1,2 @@
 // Theorems about closing an order in one call (specs/); no code.
+#![tactic(auto)]

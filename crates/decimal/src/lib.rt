@@ -1,4 +1,6 @@
 // Decimal fields of any width, as document 01 sets them: right-justified, space-filled, without leading zeros, zero as `0`.
+#![tactic(auto)]
+
 ghost use Rattle.std.specs.Prelude.{◌<◌, ◌≡◌, false, eqb, length, get_or, drop};
 ghost use Rattle.lists.specs.Bytes.{eq_list};
 ghost use Rattle.decimal.specs.Field.{within, figure, column_byte, field_text};

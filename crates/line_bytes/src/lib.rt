@@ -1,4 +1,5 @@
 // The one pass over a line that judges each byte by tables of its column, bytes as numbers, keys compared as such, and figures by their digits.
+#![tactic(auto)]
 
 ghost use Rattle.std.specs.Prelude.{◌≡◌, ◌+◌, ◌^◌, ◌<◌, ◌≤◌, length, get_or, take, drop};
 ghost use Rattle.line_bytes.specs.Tables.{bit, higher, lower, as_long, Room, judged_at, line_ok};

@@ -26,12 +26,14 @@ module _ {A : Type 0} {x : A} where
   unfolding all
   mem_passes p (y ∷ xs) h here = and_fst (p y) (all p xs) h
   mem_passes p (y ∷ xs) h (there m) = mem_passes p xs (and_snd (p y) (all p xs) h) m
+  mem_passes p [] h x3 = elim x3 [ ]
 
   -- a member that passes is among those chosen
   pub mem_filter : (p : A → Bool) (xs : List A) → Mem x xs → p x ≡ true → Mem x (filter p xs)
   unfolding filter
   mem_filter p (y ∷ xs) here h = choose_by (Mem x) (p x) (λ e. here) (λ e. absurd (true≢false (sym h ∙ e)))
   mem_filter p (y ∷ xs) (there m) h = choose_by (Mem x) (p y) (λ e. there (mem_filter p xs m h)) (λ e. mem_filter p xs m h)
+  mem_filter p [] x3 h = elim x3 [ ]
 
   -- a member of the first n + 1 is among the first n, or the next
   pub mem_next : (d : A) (n : ℕ) (xs : List A) → Mem x (take (suc n) xs) → Mem x (take n xs) ⊎ (x ≡ get_or xs n d)
@@ -46,6 +48,7 @@ module _ {A : Type 0} {x : A} where
   pub mem_before : (xs ys : List A) → Mem x xs → Mem x (xs ++ ys)
   mem_before (y ∷ xs) ys here = here
   mem_before (y ∷ xs) ys (there m) = there (mem_before xs ys m)
+  mem_before [] ys x'' = elim x'' [ ]
 
   pub mem_last : (xs : List A) → Mem x (xs ++ (x ∷ []))
   mem_last [] = here
@@ -71,6 +74,8 @@ module _ {A : Type 0} {x : A} where
   mem_kept d y zero (z ∷ xs) (there m) = inl (there m)
   mem_kept d y (suc i) (z ∷ xs) here = inl here
   mem_kept d y (suc i) (z ∷ xs) (there m) = later (mem_kept d y i xs m)
+  mem_kept d y zero [] x3 = elim x3 [ ]
+  mem_kept d y (suc i) [] x4 = elim x4 [ ]
 
 -- The element at an index.
 module _ {A : Type 0} where

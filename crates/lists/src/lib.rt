@@ -1,1 +1,2 @@
 // Laws on lists, tests and choices that several crates cite (specs/). No code.
+#![tactic(auto)]

@@ -1,1 +1,2 @@
 // The specification (specs/): definitions only. No code.
+#![tactic(auto)]

@@ -1,5 +1,6 @@
 // The fast check of a record sheet: each line's two words compared with those of its kind, the line by a pass over the kind's tables, and the keys of
 // neighbours as bytes.
+#![tactic(auto)]
 
 ghost use Rattle.std.specs.Prelude.{◌≡◌, true, ◌+◌, ◌-◌, ◌*◌, ◌<◌, ◌≤◌, length, drop};
 ghost use Rattle.model.specs.Layouts.{record_bytes};

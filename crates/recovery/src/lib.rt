@@ -1,1 +1,2 @@
 // Theorems about histories of calls and recovery (specs/); no code.
+#![tactic(auto)]

@@ -1,1 +1,2 @@
 // Theorems about operations, turns and histories of turns (specs/); no code.
+#![tactic(auto)]

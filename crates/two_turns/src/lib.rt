@@ -1,1 +1,2 @@
 // Theorems about the operations on a plain sheet and a bookkeeping sheet (specs/); no code.
+#![tactic(auto)]

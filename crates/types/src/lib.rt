@@ -1,4 +1,5 @@
 // The structs and enums that code, contracts and theorems share. No logic.
+#![tactic(auto)]
 
 // The state word of a record line.
 #[derive(Drop)]

@@ -1,4 +1,5 @@
 // The visit of a key.
+#![tactic(auto)]
 ghost use Rattle.std.specs.Prelude.{◌≡◌};
 ghost use Rattle.model.specs.Results.{visit, refused};
 ghost use Rattle.model.specs.Calls.{result};

@@ -4,8 +4,7 @@ use Rattle.decimal.specs.declared.Scan.{Scan}
 use Rattle.decimal.specs.declared.Scan.TheVariants.{Blank, Wrong}
 use Rattle.decimal.specs.Field.{within, figure}
 use Rattle.decimal.specs.Cut.{scanned_to, spaces, figure-to, scan_spaces, behind-spaces, no_byte}
-use Rattle.decimal.proofs.read.Statement.{statement}
-use Rattle.decimal.proofs.read.Tie as tie
+use Rattle.decimal.proofs.read.Goals as goal
 
 -- what is read behind the spaces is the field's
 from_start : (low high n : ℕ) (s : List ℕ) (st : Scan) → n ≡ spaces s → st ≡ scanned_to high Blank (drop n s) → within low high st ≡ figure low high s
@@ -17,22 +16,19 @@ blank : (low high n : ℕ) (s : List ℕ) → n ≡ spaces s → length s ≤ n 
 unfolding within
 blank low high n s e l = from_start low high n s Blank e (sym (no_byte high Blank s n l))
 
-returns : tie.Need-returns
+pub returns-then-s-start : goal.returns-then-s-start
+returns-then-s-start c =
+    let a = c.args in
+    blank a.low a.high _ a.s.now c.spaces-start.ensures c.if-s-start.true
+
+pub behind-requires : goal.behind-requires
+behind-requires c =
+    let s = c.args.s.now in
+    let e = c.spaces-start.ensures in
+    let l : c.spaces-start.result < length s = omega (arith, c.if-s-start.false) in
+    record { start_in_bounds = l; start_value = subst (λ (n : ℕ). eqb (get_or s n 0) 32 ≡ false) (sym e) (behind-spaces s (subst (λ (n : ℕ). n < length s) e l)) }
+
+pub returns : goal.returns
 returns c =
-    let a = c.before.before.before.args in
-    blank a.low a.high _ a.s.now c.before.spaces.ensures c.if1.true
-
-behind-requires : tie.Need-behind-requires
-behind-requires c κs =
-    let s = c.before.before.before.args.s.now in
-    let e = c.before.spaces.ensures in
-    let l : c.before.spaces.result < length s = omega (arith, c.if1.false) in
-    (l, subst (λ (n : ℕ). eqb (get_or s n 0) 32 ≡ false) (sym e) (behind-spaces s (subst (λ (n : ℕ). n < length s) e l)))
-
-returns-2 : tie.Need-returns-2
-returns-2 c =
-    let a = c.before.before.before.before.before.args in
-    c.bounded.ensures ∙ from_start a.low a.high _ a.s.now _ c.before.before.before.spaces.ensures c.before.behind.ensures
-
-pub read_spec : {M : Type 1} → statement M
-read_spec = tie.close (tie.spec (λ c κs. search rules) returns behind-requires (λ c κs. search rules) returns-2)
+    let a = c.args in
+    c.bounded.ensures ∙ from_start a.low a.high _ a.s.now _ c.spaces-start.ensures c.behind.ensures
