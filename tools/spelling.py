@@ -136,6 +136,8 @@ def main():
     names = set(kinds)
     definitions = set(WORDS) | {"_".join(words_of(name)) for name in names if "definition" in kinds[name]}
     new = {name: spelled(name, definitions) for name in names if needs_spelling(name)}
+    # fields and constructors have no dash at all
+    new.update({name: it.replace("-", "_") for name, it in new.items() if "field" in kinds[name]})
     # a law that would have a definition's or constructor's name gets an ending, as in the kit
     others = {new.get(name, name) for name in names if "law" not in kinds[name]}
     for name in names:

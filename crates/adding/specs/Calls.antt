@@ -97,7 +97,7 @@ module _ (k : Key) (rs cs : List ℕ) (passed : refusal_of (check_conditions rs 
   full_is full e =
       let w : length rs ≡ size * record_bytes = accepted_whole rs (passing_parts both passed).0 in
       let c : length rows ≡ filled_lines record_bytes rs = count-front rs (passing_parts both passed).0 in
-      let l : length rows ≤ size = parts.few-lines in
+      let l : length rows ≤ size = parts.few_lines in
       e ∙ go (leb size (length rows)) refl w c l
     where
       go : (b : Bool) → leb size (length rows) ≡ b → length rs ≡ size * record_bytes → length rows ≡ filled_lines record_bytes rs → length rows ≤ size → eqb end (length rs) ≡ b
@@ -168,7 +168,7 @@ module _ (k : Key) (rs cs : List ℕ) (passed : refusal_of (check_conditions rs 
       gone_from = ap (λ (x : Rank). x.below) gone.1
 
       pub remove_within : r.rank.below < length rs / record_bytes
-      remove_within = let l = rank_inside k rows parts.order may_go.listed in let m = parts.few-lines in omega (arith, gone_from, l, m)
+      remove_within = let l = rank_inside k rows parts.order may_go.listed in let m = parts.few_lines in omega (arith, gone_from, l, m)
 
       pub remove_made : (rs' : List ℕ) → rs' ≡ joined (remove_at r.rank.below (spare_line record_bytes) (lines_of record_bytes rs)) → Shifted (remove k) rs cs 0 rs'
       unfolding conditions outcome apply sheet_for records_text
@@ -176,5 +176,5 @@ module _ (k : Key) (rs cs : List ℕ) (passed : refusal_of (check_conditions rs 
           call_made (remove k) rs cs passed (remove_line k) refl gone.0 rs'
           (e
           ∙ (ap₂ (λ (i : ℕ) (t : List ℕ). joined (remove_at i (spare_line record_bytes) (lines_of record_bytes t))) gone_from (sym sheet_is)
-          ∙ (removed_sheet record_bytes (omega arith) record_text ranged length-record_text k rows size parts.order may_go.listed all-ranged parts.few-lines
+          ∙ (removed_sheet record_bytes (omega arith) record_text ranged length-record_text k rows size parts.order may_go.listed all-ranged parts.few_lines
           ∙ ap (λ (ls : List Record). sheet_for ls size) (sym (lines_removed k rows)))))

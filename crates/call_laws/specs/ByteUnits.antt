@@ -207,7 +207,7 @@ module _ (b : Bytes) (readable : Readable b) where
       (subst (λ (t : List ℕ). LinePutIn record_bytes (line_for k) (rank k (without k rows)) (sheet_for (lines_after (remove_line k) rows) size) t) sheet_is
       (subst (λ (ls : List Record). LinePutIn record_bytes (line_for k) (rank k (without k rows)) (sheet_for ls size) (sheet_for rows size)) (sym (lines_removed k rows))
       (removed_in record_bytes (omega arith) record_text ranged length-record_text k rows size parts.order m.listed (removed_line (saying b) parts k m) all-ranged
-      (absent_ranged k (listed_range (saying b) parts k m.listed)) parts.few-lines)))
+      (absent_ranged k (listed_range (saying b) parts k m.listed)) parts.few_lines)))
 
   pub any_unit : (c : Call) (w : Write) → sheets_good (apply w (saying b)) ≡ true → Single (saying b) c w → OneUnit b (encoded (apply w (saying b))) c
   any_unit c w good (in_unit u) = within_unit (write_unit b readable w (unit_shifts u) good u)

@@ -133,10 +133,10 @@ encoded_readable s h =
     let r = good_records s h in
     let c : coordinator_good s.coordinator ≡ true = search tests in
     let n : all (names_issued s.coordinator.issued) s.lines ≡ true = search tests in
-    let l : records (record_lines (sheet_text s)) ≡ s.lines = sheet-records s.lines s.size r p.few-lines in
+    let l : records (record_lines (sheet_text s)) ≡ s.lines = sheet-records s.lines s.size r p.few_lines in
     let q = coordinator_read_written s.coordinator c in (
-      λ i. record { lines = l i; size = sheet-count s.lines s.size r p.few-lines i; coordinator = q.0 i },
-      rw (sheet_accepted_lem s.lines s.size r p.few-lines p.some_size p.few-size, q.1, l, q.0, n),
+      λ i. record { lines = l i; size = sheet-count s.lines s.size r p.few_lines i; coordinator = q.0 i },
+      rw (sheet_accepted_lem s.lines s.size r p.few_lines p.some_size p.few_size, q.1, l, q.0, n),
     )
 
 -- their lines alone say the same, and break no rule

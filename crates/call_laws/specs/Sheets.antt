@@ -22,9 +22,9 @@ use Rattle.call_laws.specs.Adding.{MayAdd, MayRemove}
 -- Good sheets, in parts.
 pub record GoodSheets (s : Sheets) : Type 0 where
   pub some_size : 1 ≤ s.size
-  pub few-size : s.size ≤ 500
-  pub few-lines : length s.lines ≤ s.size
-  pub fine-lines : all (fine s.coordinator.issued) s.lines ≡ true
+  pub few_size : s.size ≤ 500
+  pub few_lines : length s.lines ≤ s.size
+  pub fine_lines : all (fine s.coordinator.issued) s.lines ≡ true
   pub order : rising s.lines ≡ true
   pub decisions : coordinator_good s.coordinator ≡ true
 
@@ -35,9 +35,9 @@ good_parts s h =
     let b : all (names_issued s.coordinator.issued) s.lines ≡ true = search tests in
     record {
       some_size = search tests;
-      few-size = search tests;
-      few-lines = search tests;
-      fine-lines = all-and good_alone (names_issued s.coordinator.issued) s.lines a b;
+      few_size = search tests;
+      few_lines = search tests;
+      fine_lines = all-and good_alone (names_issued s.coordinator.issued) s.lines a b;
       order = search tests;
       decisions = search tests;
     }
@@ -47,14 +47,14 @@ unfolding sheets_good size_good records_good
 parts_good s g =
     let i = s.coordinator.issued in
     let a : all good_alone s.lines ≡ true =
-    all_weaken (fine i) good_alone (λ r h. and_fst (good_alone r) (names_issued i r) h) s.lines g.fine-lines in
+    all_weaken (fine i) good_alone (λ r h. and_fst (good_alone r) (names_issued i r) h) s.lines g.fine_lines in
     let b : all (names_issued i) s.lines ≡ true =
-    all_weaken (fine i) (names_issued i) (λ r h. and_snd (good_alone r) (names_issued i r) h) s.lines g.fine-lines in
-    let c : length s.lines ≤ 500 = let x = g.few-lines in let y = g.few-size in omega arith in
+    all_weaken (fine i) (names_issued i) (λ r h. and_snd (good_alone r) (names_issued i r) h) s.lines g.fine_lines in
+    let c : length s.lines ≤ 500 = let x = g.few_lines in let y = g.few_size in omega arith in
     and_both
     (and_both
     (and_both
-    (and_both (and_both (le-leb 1 s.size g.some_size) (le-leb s.size 500 g.few-size)) (le-leb (length s.lines) s.size g.few-lines))
+    (and_both (and_both (le-leb 1 s.size g.some_size) (le-leb s.size 500 g.few_size)) (le-leb (length s.lines) s.size g.few_lines))
     (and_both (and_both (le-leb (length s.lines) 500 c) a) g.order))
     g.decisions) b
 
@@ -139,7 +139,7 @@ rolled n ks r h = search tests
 pub listed_good : (s : Sheets) → GoodSheets s → (k : Key) → lists_key k s.lines ≡ true → GoodParts s.coordinator.issued (line_of k s.lines)
 listed_good s g k h =
     fine-parts s.coordinator.issued (line_of k s.lines)
-    (line_passes (fine s.coordinator.issued) k s.lines g.fine-lines h)
+    (line_passes (fine s.coordinator.issued) k s.lines g.fine_lines h)
 
 pub listed_range : (s : Sheets) → GoodSheets s → (k : Key) → lists_key k s.lines ≡ true → key_in_range k ≡ true
 listed_range s g k h = ap key_in_range (sym (line_of_key k s.lines)) ∙ (listed_good s g k h).key
@@ -173,20 +173,20 @@ module _ (s : Sheets) (good : GoodSheets s) where
       ∙ all_map (fine (decisions_after w s.coordinator).issued) (line_after w) s.lines
       ∙ all_lines (λ (r : Record). fine (decisions_after w s.coordinator).issued (line_after w r)) s.lines good.order
       (λ r k e. let h : fine s.coordinator.issued r ≡ true =
-      ap (fine s.coordinator.issued) (sym e) ∙ line_passes (fine s.coordinator.issued) r.key s.lines good.fine-lines k in
+      ap (fine s.coordinator.issued) (sym e) ∙ line_passes (fine s.coordinator.issued) r.key s.lines good.fine_lines k in
       parts-fine (decisions_after w s.coordinator).issued (line_after w r) (line_fit f r k e (fine-parts s.coordinator.issued r h)))
 
   -- what the lines owe
   record LinesStay (w : Write) : Type 0 where
     few : length (lines_after w s.lines) ≤ s.size
-    fine-after : all (fine (decisions_after w s.coordinator).issued) (lines_after w s.lines) ≡ true
+    fine_after : all (fine (decisions_after w s.coordinator).issued) (lines_after w s.lines) ≡ true
     order : rising (lines_after w s.lines) ≡ true
 
   mapped_stay : {w : Write} → shifts w ≡ false → Fit s w → LinesStay w
   mapped_stay {w} h f =
       let n : length (lines_after w s.lines) ≡ length s.lines = ap length (lines_mapped w s.lines h) ∙ length-map s.lines (line_after w) in
-      let a : length s.lines ≤ s.size = good.few-lines in
-      record { few = omega arith; fine-after = mapped_fit h f; order = rising-after w s.lines h ∙ good.order }
+      let a : length s.lines ≤ s.size = good.few_lines in
+      record { few = omega arith; fine_after = mapped_fit h f; order = rising-after w s.lines h ∙ good.order }
 
   lines_stay : {w : Write} → Fit s w → LinesStay w
   unfolding decisions_after
@@ -204,16 +204,16 @@ module _ (s : Sheets) (good : GoodSheets s) where
       let i = s.coordinator.issued in
       record {
         few = omega arith;
-        fine-after = ap (all (fine i)) e ∙ all_inserted k (fine i) s.lines (parts-fine i (absent_at k) (absent_good i k m.is_in_range)) good.fine-lines;
+        fine_after = ap (all (fine i)) e ∙ all_inserted k (fine i) s.lines (parts-fine i (absent_at k) (absent_good i k m.is_in_range)) good.fine_lines;
         order = ap rising e ∙ rising-inserted k s.lines good.order m.unlisted;
       }
   lines_stay (fit_remove k m) =
       let e = lines_removed k s.lines in
       let n : suc (length (lines_after (remove_line k) s.lines)) ≡ length s.lines = ap (λ (ls : List Record). suc (length ls)) e ∙ length_without k s.lines m.listed in
-      let a : length s.lines ≤ s.size = good.few-lines in
+      let a : length s.lines ≤ s.size = good.few_lines in
       record {
         few = omega arith;
-        fine-after = ap (all (fine s.coordinator.issued)) e ∙ all_without k (fine s.coordinator.issued) s.lines good.fine-lines;
+        fine_after = ap (all (fine s.coordinator.issued)) e ∙ all_without k (fine s.coordinator.issued) s.lines good.fine_lines;
         order = ap rising e ∙ rising-without k s.lines good.order;
       }
 
@@ -242,9 +242,9 @@ module _ (s : Sheets) (good : GoodSheets s) where
       let l : LinesStay w = lines_stay f in
       record {
         some_size = good.some_size;
-        few-size = good.few-size;
-        few-lines = l.few;
-        fine-lines = l.fine-after;
+        few_size = good.few_size;
+        few_lines = l.few;
+        fine_lines = l.fine_after;
         order = l.order;
         decisions = decisions_fit f;
       }

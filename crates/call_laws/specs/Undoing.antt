@@ -97,7 +97,7 @@ remove_undone k s g e =
     let m : MayRemove k s = may_remove k s z in
     let s' = with_lines (without k s.lines) s in
     let n : suc (length (without k s.lines)) ≡ length s.lines = length_without k s.lines m.listed in
-    let few : length s.lines ≤ s.size = g.few-lines in
+    let few : length s.lines ≤ s.size = g.few_lines in
     let may : MayAdd k s' = record { is_in_range = listed_range s g k m.listed; unlisted = lists_without k s.lines g.order; room = omega arith } in
     undone_by (remove k) (add k) s s' (remove_line k) (add_line k) (accepted_result (remove k) s (remove_line k) (remove_made k s) z).1 (removed_sheets k s) (add_made k s')
     (all_free_add k s' may)

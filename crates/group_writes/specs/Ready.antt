@@ -54,7 +54,7 @@ module _ (rs cs : List ℕ) (t : Transaction) (l : Located) (ready : Ready rs cs
   line_good_lem : (e : Entry) → has_line e.key (records rs) ≡ true → GoodParts issued (line_of e.key (records rs))
   line_good_lem e h =
       fine-parts issued (line_of e.key (records rs))
-      (line_passes (fine issued) e.key (records rs) good.fine-lines (sym (has_line_lem e.key (records rs)) ∙ h))
+      (line_passes (fine issued) e.key (records rs) good.fine_lines (sym (has_line_lem e.key (records rs)) ∙ h))
 
   fine_good : (r : Record) → GoodParts issued r → good_alone r ≡ true
   fine_good r g = and_fst (good_alone r) (names_issued issued r) (parts-fine issued r g)

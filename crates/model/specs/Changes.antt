@@ -81,7 +81,7 @@ told_of before after target = written_number before.records after.records before
 -- range told, and not the coordinator sheet.
 pub data ToldAtomic (before after : Bytes) (told : ℕ) : Type 0 where
   nothing_told : told ≡ 0 → after ≡ before → ToldAtomic before after told
-  coordinator-told : told ≡ 1 → after.records ≡ before.records → ToldAtomic before after told
+  coordinator_told : told ≡ 1 → after.records ≡ before.records → ToldAtomic before after told
   only_lines_told : told ≡ 2 → after.coordinator ≡ before.coordinator
       → ((i : ℕ) → first_differing before.records after.records ≤ i → i < last_reach before.records after.records
       → scope_at i before ≡ scope_at (first_differing before.records after.records) before)

@@ -152,14 +152,14 @@ module _ (s t : List ℕ) (end : ℕ) (whole : length s ≡ length s / record_by
   abbrev lines : ℕ
   lines = filled_lines record_bytes s
 
-  few-lines : lines ≤ length s / record_bytes
-  few-lines = filled_within record_bytes (omega arith) s whole
+  few_lines : lines ≤ length s / record_bytes
+  few_lines = filled_within record_bytes (omega arith) s whole
 
   pub read_few : end ≤ length s
-  read_few = let l = few-lines in omega arith
+  read_few = let l = few_lines in omega arith
 
   pub read_room : end / record_bytes * record_fields ≤ length t
-  read_room = let l = few-lines in omega arith
+  read_room = let l = few_lines in omega arith
 
   pub read_fits : length (take (end / record_bytes * record_fields) t) ≡ length (take end s) / record_bytes * record_fields
   read_fits =
@@ -178,7 +178,7 @@ module _ (s t : List ℕ) (end : ℕ) (whole : length s ≡ length s / record_by
     unfolding rows_read front
     read_behind z e q =
         let k = end / record_bytes * record_fields in
-        let l = few-lines in
+        let l = few_lines in
         let n : length (behind k a t) ≡ (length s / record_bytes - lines) * record_fields = ap length (front_rest k a t kept read_room) ∙ (length-drop k t ∙ omega arith) in
         front_back k a t kept read_room z
         ∙ ap₂ ◌++◌ (e ∙ ap (λ (m : ℕ). joined (map (row_of record_layout) (lines_of record_bytes (take m s)))) ends) (q ∙ ap (λ (m : ℕ). replicate m 0) n)

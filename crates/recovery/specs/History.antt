@@ -59,5 +59,5 @@ ones_after (c ∷ cs) s one = ones_after cs (after c s) (one_after (written c s)
 pub history_kept : {base : ℕ} {one : ℕ → Bool} (cs : List Call) (s : Sheets) (es : List Event) (m : Model) → Inv base one s es (model_after es m) → Legal answer after cs s es → Inv base (ones_after cs s one) (left_by answer after cs s) (events_after answer after cs s es) (model_after (events_after answer after cs s es) m)
 unfolding left_by events_after model_after ones_after
 history_kept [] s es m inv l = inv
-history_kept (c ∷ cs) s es m inv l =
-    history_kept cs (after c s) (event answer after c s ∷ es) m (call_kept c s es (model_after es m) inv l.0) l.1
+history_kept {base = base} {one = one} (c ∷ cs) s es m inv l =
+    history_kept {base = base} {one = one_after (written c s) one} cs (after c s) (event answer after c s ∷ es) m (call_kept c s es (model_after es m) inv l.0) l.1

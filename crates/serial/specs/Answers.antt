@@ -56,6 +56,7 @@ EachTold es (x ∷ xs) = Told es x.call x.answer × EachTold es xs
 pub told_of_lem : (es : List Event) {x : Event} (xs : List Event) → Mem x xs → EachTold es xs → Told es x.call x.answer
 told_of_lem es (x ∷ xs) here h = h.0
 told_of_lem es (x ∷ xs) (there n) h = told_of_lem es xs n h.1
+told_of_lem es [] x3 h = elim x3 [ ]
 
 -- Later events.
 module _ (es es' : List Event) (still : (t' : Transaction) (k : Key) → StillHolds es t' k → StillHolds es' t' k) where

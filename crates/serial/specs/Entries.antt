@@ -55,6 +55,7 @@ put_there e (x ∷ es) (there m) p = go (is_put x && same_key x.key e.key) refl 
         → (c : Change) × (put_in e.key (x ∷ es) ≡ some c)
     go true q r = (change_of x, ap (λ (b : Bool). cond b (some (change_of x)) (put_in e.key es)) q)
     go false q r = (r.0, ap (λ (b : Bool). cond b (some (change_of x)) (put_in e.key es)) q ∙ r.1)
+put_there e [] x'' p = elim x'' [ ]
 
 -- Keys are distinct.
 
@@ -69,6 +70,7 @@ pub member_key : (e : Entry) (es : List Entry) → Mem e es → has_key e.key es
 unfolding any
 member_key e (x ∷ es) here = or_left (same_key e.key e.key) (has_key e.key es) (same_key_refl e.key)
 member_key e (x ∷ es) (there m) = or_right (same_key x.key e.key) (has_key e.key es) (member_key e es m)
+member_key e [] x' = elim x' [ ]
 
 -- an entry whose key is put to is the one that puts
 pub only_put : (es : List Entry) → distinct_keys es ≡ true → (e : Entry) → Mem e es → (c : Change) → put_in e.key es ≡ some c → is_put e ≡ true
@@ -96,3 +98,4 @@ only_put (x ∷ es) u e (there m) c g =
         let same : x.key ≡ e.key = same_key_lem x.key e.key (and_snd (is_put x) (same_key x.key e.key) q) in
         absurd (true≢false (sym (member_key e es m) ∙ (ap (λ (k : Key). has_key k es) (sym same) ∙ absent)))
     go false q h f = f h
+only_put [] u e x3 c g = elim x3 [ ]

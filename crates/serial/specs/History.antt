@@ -6,12 +6,13 @@ use Rattle.model.specs.Records.{line_of}
 use Rattle.model.specs.Writes.{Sheets}
 use Rattle.model.specs.Results.{Call, returns}
 use Rattle.model.specs.Histories.{Event, answer, taken, written, after, Permitted, event, events_after, left_by, Legal}
+use Rattle.recovery.specs.Counted.{one_after}
 use Rattle.model.specs.SequentialModel.{Model, first_model, model_step, model_after}
 use Rattle.model.specs.SerialOrder.{begun_checked}
 use Rattle.recovery.specs.Invariant.{Inv}
 use Rattle.recovery.specs.History.{call_kept}
 use Rattle.serial.specs.Runs.{Placing, run_line}
-use Rattle.serial.specs.Order.{none-placed}
+use Rattle.serial.specs.Order.{none_placed}
 use Rattle.serial.specs.InDoubt.{facts}
 use Rattle.serial.specs.Invariant.{placed_as, placings}
 use Rattle.serial.specs.Calls.{SoFar, result-keeps}
@@ -36,8 +37,8 @@ pub history_keeps : {base : ℕ} {one : ℕ → Bool} {first : Key → Record} (
     (placings (events_after answer after cs s es))
 unfolding left_by events_after model_after placings all
 history_keeps [] s es m inv l q k = k
-history_keeps (c ∷ cs) s es m inv l q k =
-    history_keeps cs (after c s) (event answer after c s ∷ es) m (call_kept c s es (model_after es m) inv l.0) l.1 q
+history_keeps {base = base} {one = one} {first = first} (c ∷ cs) s es m inv l q k =
+    history_keeps {base = base} {one = one_after (written c s) one} {first = first} cs (after c s) (event answer after c s ∷ es) m (call_kept c s es (model_after es m) inv l.0) l.1 q
     (call_keeps c s es (model_after es m) inv l.0
     (and_fst (begun_checked (event answer after c s)) (all begun_checked es) (earlier begun_checked cs (after c s) (event answer after c s ∷ es) q)) k)
 
@@ -48,7 +49,7 @@ nothing_so_far s =
     record {
       ordered =
           record {
-            consistent = record { each = none-placed; lines = λ k. refl };
+            consistent = record { each = none_placed; lines = λ k. refl };
             aged = λ t a. absurd a;
             prepared_fresh = λ t a. absurd a;
             member = λ t a. absurd a;

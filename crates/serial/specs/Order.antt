@@ -20,7 +20,7 @@ pub record Stands (first : Key → Record) (c : ℕ → Bool) (doubt : ℕ → T
   pub safe : (e : Entry) → Mem e p.entries → valid p e → (q : Placing) → Mem q ps → doubt q.number → wrote e.key q ≡ none
 
 pub data EachStands (first line : Key → Record) (c : ℕ → Bool) (doubt : ℕ → Type 0) (valid : Placing → Entry → Type 0) : List Placing → Type 0 where
-  none-placed : EachStands first line c doubt valid []
+  none_placed : EachStands first line c doubt valid []
   one_more : (p : Placing) (ps : List Placing) → Stands first c doubt valid p ps → ((q : Placing) → Mem q ps → Later line c doubt p q)
       → EachStands first line c doubt valid ps → EachStands first line c doubt valid (p ∷ ps)
 
@@ -36,13 +36,14 @@ module _ {first line : Key → Record} {c : ℕ → Bool} {doubt : ℕ → Type 
   same_number ps (one_more x xs f a i) p q here (there n) e = absurd ((a q n).other e)
   same_number ps (one_more x xs f a i) p q (there m) here e = absurd ((a p m).other (sym e))
   same_number ps (one_more x xs f a i) p q (there m) (there n) e = same_number xs i p q m n e
+  same_number _ none_placed p q x7 _ e = elim x7 [ ]
 
   module _ {doubt' : ℕ → Type 0} {valid' : Placing → Entry → Type 0} where
     -- fewer in doubt, fewer entries validated
     pub each_weaker : (ps : List Placing) → ((q : Placing) → Mem q ps → doubt' q.number → doubt q.number)
         → ((q : Placing) → Mem q ps → (e : Entry) → valid' q e → valid q e) → EachStands first line c doubt valid ps
         → EachStands first line c doubt' valid' ps
-    each_weaker ps f g none-placed = none-placed
+    each_weaker ps f g none_placed = none_placed
     each_weaker ps f g (one_more p xs x a i) =
         one_more p xs
         (record { saw = λ e m h. x.saw e m (g p here e h); safe = λ e m h q n w. x.safe e m (g p here e h) q n (f q (there n) w) })
@@ -86,7 +87,7 @@ module _ (first line : Key → Record) (c : ℕ → Bool) (doubt : ℕ → Type 
       → ((q : Placing) → Mem q ps → (e : Entry) → Mem e q.entries → valid' q e → OrFound ps q e) → EachStands first line c doubt valid ps
       → EachStands first line c doubt valid' ps
   unfolding run_line
-  each_found ps sub h none-placed = none-placed
+  each_found ps sub h none_placed = none_placed
   each_found ps sub h (one_more p xs x a i) =
       one_more p xs
       (record { saw = λ e m w. saw e m (h p here e m w); safe = λ e m w. safe e m (h p here e m w) })

@@ -7,7 +7,7 @@ use Rattle.model.specs.Types.{Key, Record, Entry}
 use Rattle.model.specs.Images.{Change}
 use Rattle.model.specs.SequentialModel.{overwritten}
 use Rattle.serial.specs.Runs.{Placing, wrote, ran, run_line, overwritten-none, unwritten, run_other, sight_in, Fresh, NotAhead, fresh_unwritten}
-use Rattle.serial.specs.Order.{Later, Stands, EachStands, none-placed, one_more, Consistent, same_number}
+use Rattle.serial.specs.Order.{Later, Stands, EachStands, none_placed, one_more, Consistent, same_number}
 
 -- the number n is committed now, and nothing else
 pub record Committing (c c' : ℕ → Bool) (n : ℕ) : Type 0 where
@@ -70,6 +70,7 @@ module _ {first line line' : Key → Record} {c c' : ℕ → Bool} {doubt doubt'
       skipped true e r =
           unwritten true q k r (ap (λ (j : Key). wrote j q) (sym x.key) ∙ (a p m).clear u.in_doubt x.entry x.member x.fresh e)
       skipped false e r = refl
+  inserted k x _ none_placed x4 = elim x4 [ ]
 
   commit_lines : (k : Key) → run_line c' first all k ≡ overwritten p.number (wrote k p) (line k)
   commit_lines k = go (wrote k p) refl
@@ -111,7 +112,7 @@ module _ {first line line' : Key → Record} {c c' : ℕ → Bool} {doubt doubt'
 
   commit_each : (ps : List Placing) → ((x : Placing) → Mem x ps → Mem x all) → EachStands first line c doubt valid ps
       → EachStands first line' c' doubt' valid' ps
-  commit_each ps sub none-placed = none-placed
+  commit_each ps sub none_placed = none_placed
   commit_each ps sub (one_more x xs f a i) =
       one_more x xs (commit_stands x xs (sub x here) (λ y m. sub y (there m)) f)
       (λ y m. commit_later x y (sub x here) (sub y (there m)) (a y m))

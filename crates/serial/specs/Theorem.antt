@@ -17,7 +17,7 @@ use Rattle.recovery.specs.History.{first_inv, history_kept}
 use Rattle.recovery.specs.Theorem.{model_of}
 use Rattle.turns.specs.Reduction.{model_of_turns, Reduced, reduce}
 use Rattle.serial.specs.Runs.{Placing, wrote, run_line, Sight, sight_in, sight_of}
-use Rattle.serial.specs.Order.{EachStands, one_more}
+use Rattle.serial.specs.Order.{EachStands, none_placed, one_more}
 use Rattle.serial.specs.InDoubt.{Facts, facts, InDoubt}
 use Rattle.serial.specs.Invariant.{placed_as, placings, Validated, Ordered, own_position}
 use Rattle.serial.specs.Answers.{ReadHeld, told_of_lem}
@@ -81,6 +81,7 @@ module _ {first line : Key → Record} {c : ℕ → Bool} {doubt : ℕ → Type 
         is = ap (λ (b : Bool). cond b (numbers xs) (placed_before q.number (numbers xs))) (ne_eqb q.number p.number (λ d. (a q n).other (sym d))) ∙ r.is;
         saw = r.saw;
       }
+  preceded _ none_placed q x3 = elim x3 [ ]
 
   -- a number has one position
   one_of : (ps : List Placing) → EachStands first line c doubt valid ps → (p : Placing) → Mem p ps → count (eqb p.number) (numbers ps) ≡ 1
@@ -91,6 +92,7 @@ module _ {first line : Key → Record} {c : ℕ → Bool} {doubt : ℕ → Type 
   one_of ps (one_more p xs f a i) q (there n) =
       let e : eqb q.number p.number ≡ false = ne_eqb q.number p.number (λ d. (a q n).other (sym d)) in
       rw e (one_of xs i q n)
+  one_of _ none_placed q x3 = elim x3 [ ]
 
 -- What is known at the end.
 end_serializable : (rs : List Record) {s : Sheets} (es : List Event) (m : Model) → Facts s es m → SoFar (λ (k : Key). line_of k rs) s es m (placings es)

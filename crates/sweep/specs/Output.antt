@@ -120,12 +120,12 @@ module _ (input work output rs cs v : List ℕ) (n : ℕ) (p : Parts input n) (t
 module _ (input work output : List ℕ) where
   pub record Left (r : ℕ) (output' work' : List ℕ) : Type 0 where
     pub answer : r ≡ answered input work output
-    pub printed-bytes : output' ≡ output_after input work output
+    pub printed_bytes : output' ≡ output_after input work output
     pub work_bytes : work' ≡ work_after input work output
 
   no_room : has_room work output ≡ false → Left 0 output work
   unfolding answered output_after work_after
-  no_room h = record { answer = rw h; printed-bytes = rw h; work_bytes = rw h }
+  no_room h = record { answer = rw h; printed_bytes = rw h; work_bytes = rw h }
 
   pub little_work : length work < most_record_bytes → Left 0 output work
   little_work l = no_room (ap (λ (b : Bool). b && leb most_output (length output)) (lt-leb most_record_bytes (length work) l))
@@ -145,7 +145,7 @@ module _ (input work output : List ℕ) where
         let a = room in
         record {
           answer = p ∙ (ap (λ (i : ℕ). length (refused_text i)) e ∙ rw (a, t));
-          printed-bytes = q ∙ (ap (λ (i : ℕ). onto (refused_text i) output) e ∙ rw (a, t));
+          printed_bytes = q ∙ (ap (λ (i : ℕ). onto (refused_text i) output) e ∙ rw (a, t));
           work_bytes = rw (a, t);
         }
 
@@ -153,7 +153,7 @@ module _ (input work output : List ℕ) where
     unfolding answered output_after work_after visitor_output
     left_accepted r output' work' h p q w =
         let a = room in
-        record { answer = p ∙ rw (a, h); printed-bytes = q ∙ rw (a, h); work_bytes = w ∙ rw (a, h) }
+        record { answer = p ∙ rw (a, h); printed_bytes = q ∙ rw (a, h); work_bytes = w ∙ rw (a, h) }
 
 -- what is answered lies within the output: a caller prints that many bytes of it
 pub answer-within : (input work output output' : List ℕ) (r : ℕ) → r ≡ answered input work output → output' ≡ output_after input work output → r ≤ length output'

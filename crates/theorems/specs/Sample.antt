@@ -209,14 +209,14 @@ recovered_bytes = sheets issued4 third_committed fourth_aborted written_a writte
 record Computed : Type 0 where
   pub passes : Passing sample_bytes
   pub unprepared : none_prepared (saying sample_bytes).lines ≡ true
-  pub true-story : told bytes_kind story sample_bytes ≡ story
+  pub true_story : told bytes_kind story sample_bytes ≡ story
   pub readable : leaves_readings (saying last_bytes) ≡ true
   pub visits : recovery_pass (readings_of (saying last_bytes)) (saying last_bytes) ≡ sample_visits
   pub recovered : left_by answer_on after_on (map visit_call sample_visits) last_bytes ≡ recovered_bytes
 
 computed : Computed
 unfolding told line_undecided expirable leaves_readings reading_in recovery_pass left_by
-computed = record { passes = refl; unprepared = refl; true-story = refl; readable = refl; visits = refl; recovered = refl }
+computed = record { passes = refl; unprepared = refl; true_story = refl; readable = refl; visits = refl; recovered = refl }
 
 -- Each turn takes nothing, or a state that an earlier turn returned, and the turns since took none or one of another number.
 story_legal : LegalRows story []
@@ -258,10 +258,10 @@ pub sample_unprepared : none_prepared (saying sample_bytes).lines ≡ true
 sample_unprepared = computed.unprepared
 
 pub sample_legal : LegalTurns turn_after_on turn_event_on sample_turns sample_bytes []
-sample_legal = rows_legal bytes_kind story sample_bytes [] computed.true-story story_legal
+sample_legal = rows_legal bytes_kind story sample_bytes [] computed.true_story story_legal
 
 left : turns_left turn_after_on sample_turns sample_bytes ≡ last_bytes
-left = rows_left bytes_kind story sample_bytes computed.true-story
+left = rows_left bytes_kind story sample_bytes computed.true_story
 
 pub sample_closing : Closing saying after_on sample_visits (turns_left turn_after_on sample_turns sample_bytes)
 sample_closing =
@@ -277,4 +277,4 @@ sample_recovered = ap (left_by answer_on after_on (map visit_call sample_visits)
 pub sample_committed : (model_on sample_turns sample_bytes).committed ≡ 3 ∷ 2 ∷ []
 unfolding model_after model_step model_call model_begin model_put model_commit first_model operation_of stands_for
 sample_committed =
-    ap (λ (es : List Event). (model_after es (first_model (saying sample_bytes).lines)).committed) (rows-events bytes_kind story sample_bytes [] computed.true-story)
+    ap (λ (es : List Event). (model_after es (first_model (saying sample_bytes).lines)).committed) (rows-events bytes_kind story sample_bytes [] computed.true_story)

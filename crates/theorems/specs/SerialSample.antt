@@ -157,11 +157,11 @@ serial_turns = map (λ (r : Row Bytes). r.turn) story
 record Computed : Type 0 where
   pub passes : Passing serial_bytes
   pub unprepared : none_prepared (saying serial_bytes).lines ≡ true
-  pub true-story : told bytes_kind story serial_bytes ≡ story
+  pub true_story : told bytes_kind story serial_bytes ≡ story
 
 computed : Computed
 unfolding told
-computed = record { passes = refl; unprepared = refl; true-story = refl }
+computed = record { passes = refl; unprepared = refl; true_story = refl }
 
 -- Each turn takes nothing, or a state that an earlier turn returned, and the turns since took none or one of another number.
 story_legal : LegalRows story []
@@ -202,7 +202,7 @@ pub serial_unprepared : none_prepared (saying serial_bytes).lines ≡ true
 serial_unprepared = computed.unprepared
 
 pub serial_legal : LegalTurns turn_after_on turn_event_on serial_turns serial_bytes []
-serial_legal = rows_legal bytes_kind story serial_bytes [] computed.true-story story_legal
+serial_legal = rows_legal bytes_kind story serial_bytes [] computed.true_story story_legal
 
 -- Each turn is one call.
 
@@ -219,7 +219,7 @@ single_events (c ∷ cs) b es =
 calls_made_lem : calls_on serial_turns serial_bytes ≡ row_events story []
 calls_made_lem =
     ap (λ (cs : List Call). events_after answer_on after_on cs serial_bytes []) (singles serial_calls (saying serial_bytes))
-    ∙ (single_events serial_calls serial_bytes [] ∙ rows-events bytes_kind story serial_bytes [] computed.true-story)
+    ∙ (single_events serial_calls serial_bytes [] ∙ rows-events bytes_kind story serial_bytes [] computed.true_story)
 
 pub serial_checked : all begun_checked (calls_on serial_turns serial_bytes) ≡ true
 unfolding all
@@ -234,4 +234,4 @@ serial_order_lem = ap serial_order calls_made_lem
 pub serial_committed : (model_on serial_turns serial_bytes).committed ≡ 1 ∷ 2 ∷ 3 ∷ []
 unfolding model_after model_step model_call model_begin model_put model_commit first_model
 serial_committed =
-    ap (λ (es : List Event). (model_after es (first_model (saying serial_bytes).lines)).committed) (rows-events bytes_kind story serial_bytes [] computed.true-story)
+    ap (λ (es : List Event). (model_after es (first_model (saying serial_bytes).lines)).committed) (rows-events bytes_kind story serial_bytes [] computed.true_story)

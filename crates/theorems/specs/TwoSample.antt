@@ -211,14 +211,14 @@ recovered_sheets = sheets issued3 one_aborted two_aborted three_committed first_
 record Computed : Type 0 where
   pub passes : PassingTwo two_sheets
   pub unprepared : none_prepared (saying_two two_sheets).lines ≡ true
-  pub true-story : told two_kind story two_sheets ≡ story
+  pub true_story : told two_kind story two_sheets ≡ story
   pub readable : leaves_readings (saying_two last_sheets) ≡ true
   pub visits : recovery_pass (readings_of (saying_two last_sheets)) (saying_two last_sheets) ≡ two_visits
   pub recovered : left_by answer_two after_two (map visit_call two_visits) last_sheets ≡ recovered_sheets
 
 computed : Computed
 unfolding told line_undecided expirable leaves_readings reading_in recovery_pass left_by
-computed = record { passes = refl; unprepared = refl; true-story = refl; readable = refl; visits = refl; recovered = refl }
+computed = record { passes = refl; unprepared = refl; true_story = refl; readable = refl; visits = refl; recovered = refl }
 
 -- Each turn takes nothing, or the state that the last turn of its client returned.
 story_legal : LegalRows story []
@@ -259,10 +259,10 @@ pub two_unprepared : none_prepared (saying_two two_sheets).lines ≡ true
 two_unprepared = computed.unprepared
 
 pub two_legal : LegalTurns turn_after_two turn_event_two two_turns two_sheets []
-two_legal = rows_legal two_kind story two_sheets [] computed.true-story story_legal
+two_legal = rows_legal two_kind story two_sheets [] computed.true_story story_legal
 
 left : turns_left turn_after_two two_turns two_sheets ≡ last_sheets
-left = rows_left two_kind story two_sheets computed.true-story
+left = rows_left two_kind story two_sheets computed.true_story
 
 pub two-closing : Closing saying_two after_two two_visits (turns_left turn_after_two two_turns two_sheets)
 two-closing =
@@ -278,7 +278,7 @@ two_recovered_lem = ap (left_by answer_two after_two (map visit_call two_visits)
 pub two-committed : (model_two two_turns two_sheets).committed ≡ 3 ∷ []
 unfolding model_after model_step model_call model_begin model_put model_commit first_model stands_for
 two-committed =
-    ap (λ (es : List Event). (model_after es (first_model (saying_two two_sheets).lines)).committed) (rows-events two_kind story two_sheets [] computed.true-story)
+    ap (λ (es : List Event). (model_after es (first_model (saying_two two_sheets).lines)).committed) (rows-events two_kind story two_sheets [] computed.true_story)
 
 -- THE SECOND HISTORY. Number 1 reads A by two calls; 2 reads A in the same way, puts nothing and is done; 1 puts A and commits. So 2 counts before 1.
 

@@ -85,7 +85,7 @@ second_is_read t k now c rs cs = JoinedCalls.second_is_read t k now c rs cs
 -- ACCEPTED SHEETS, letters of either case. A turn is the turn on what they say, leaves sheets that are accepted and say what it leaves, and a transaction that it
 -- returns is well formed there ("Unchecked transactions go to check, and are well formed there, for such entries only")
 pub two_answers : (x : Turn) (b : TwoBytes) → PassingTwo b → turn_event_two x b ≡ turn_event x (saying_two b)
-two_answers x b p = TwoTurns.same-event x b p
+two_answers x b p = TwoTurns.same_event x b p
 
 pub two_stay_accepted : (x : Turn) (b : TwoBytes) → ClockFits (turn_event_two x b).call → PassingTwo b → (saying_two (turn_after_two x b) ≡ turn_after x (saying_two b)) × PassingTwo (turn_after_two x b)
 two_stay_accepted x b l p = TwoTurns.turn_stays x b l p

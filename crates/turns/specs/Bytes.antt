@@ -11,7 +11,7 @@ use Rattle.model.specs.Turns.{Turn, turn_event_on, turn_after_on, turns_left, Le
 use Rattle.model.specs.Kinds.{bytes_kind}
 use Rattle.model.specs.Recovered.{Recovered}
 use Rattle.call_laws.specs.Lifting.{passing_good, same_answer, passing_encoded, bytes_stay_passing}
-use Rattle.turns.specs.Turns.{same-event, turn_stays_passing}
+use Rattle.turns.specs.Turns.{same_event, turn_stays_passing}
 use Rattle.recovery.specs.PassExists.{recovery_pass}
 use Rattle.turns.specs.Lift.{Faithful, returns_formed_of, demand_3_of, pass_exists_on, pass_told_on, pass_needs_on}
 
@@ -19,7 +19,7 @@ pub bytes_faithful : Faithful bytes_kind
 bytes_faithful =
     record {
       good = passing_good;
-      same-event = same-event;
+      same_event = same_event;
       stays = turn_stays_passing;
       same_answer = same_answer;
       call_stays = bytes_stay_passing;

@@ -26,7 +26,7 @@ use Rattle.turns.specs.Reduction.{recovered_after, model_of_turns, keys_of_turns
 -- What calls and turns do with accepted sheets of a kind is what they do with what the sheets say.
 pub record Faithful {S : Type 0} (kind : Kind S) : Type 0 where
   pub good : (b : S) → kind.passes b → sheets_good (kind.sheets b) ≡ true
-  pub same-event : (x : Turn) (b : S) → kind.passes b → kind.events x b ≡ turn_event x (kind.sheets b)
+  pub same_event : (x : Turn) (b : S) → kind.passes b → kind.events x b ≡ turn_event x (kind.sheets b)
   pub stays : (x : Turn) (b : S) → ClockFits (kind.events x b).call → kind.passes b → (kind.sheets (kind.turned x b) ≡ turn_after x (kind.sheets b)) × kind.passes (kind.turned x b)
   pub same_answer : (c : Call) (b : S) → kind.passes b → kind.answers c b ≡ answer c (kind.sheets b)
   pub call_stays : (c : Call) (b : S) → ClockFits c → kind.passes b → (kind.sheets (kind.leaves c b) ≡ after c (kind.sheets b)) × kind.passes (kind.leaves c b)
@@ -45,7 +45,7 @@ module _ {S : Type 0} (kind : Kind S) (laws : Faithful kind) where
   -- the transaction that a turn returns is well formed, on the sheets that it leaves
   pub returns_formed_of : (x : Turn) (b : S) (t : Transaction) → ClockFits (events x b).call → kind.passes b → returns (events x b).answer ≡ some t → well_formed (sheets (turned x b)) t ≡ true
   returns_formed_of x b t l p e =
-      let q : events x b ≡ turn_event x (sheets b) = laws.same-event x b p in
+      let q : events x b ≡ turn_event x (sheets b) = laws.same_event x b p in
       ap (λ (s : Sheets). well_formed s t) (laws.stays x b l p).0
       ∙ turn-returns-formed x (sheets b) t (subst (λ (y : Event). ClockFits y.call) q l) (laws.good b p) (ap (λ (y : Event). returns y.answer) (sym q) ∙ e)
 
@@ -62,7 +62,7 @@ module _ {S : Type 0} (kind : Kind S) (laws : Faithful kind) where
   lift [] b es p l = record { legal = tt; says = refl; passes = p; told = refl; ones = λ n. refl }
   lift (x ∷ xs) b es p l =
       let q = laws.stays x b l.0.clock p in
-      let e : events x b ≡ turn_event x (sheets b) = laws.same-event x b p in
+      let e : events x b ≡ turn_event x (sheets b) = laws.same_event x b p in
       let r : Lifted xs (turned x b) (events x b ∷ es) = lift xs (turned x b) (events x b ∷ es) q.1 l.1 in
       record {
         legal = (

@@ -187,7 +187,7 @@ reduce {base} {one} (x ∷ xs) s es es' m inv h e l =
     let es₁ = events_after answer after cs s es' in
     let kept : Inv base (ones_after cs s one) (turn_after x s) es₁ (model_after es₁ m) =
     subst (λ (y : Sheets). Inv base (ones_after cs s one) y es₁ (model_after es₁ m)) c.left (history_kept cs s es' m inv c.legal) in
-    let r : Reduced xs (turn_after x s) (turn_event x s ∷ es) es₁ m = reduce xs (turn_after x s) (turn_event x s ∷ es) es₁ m kept c.handed (c.model m e) l.1 in
+    let r : Reduced xs (turn_after x s) (turn_event x s ∷ es) es₁ m = reduce {base = base} {one = ones_after cs s one} xs (turn_after x s) (turn_event x s ∷ es) es₁ m kept c.handed (c.model m e) l.1 in
     let next = expanded xs (turn_after x s) in
     record {
       legal = legal_append cs next s es' c.legal (subst (λ (y : Sheets). Legal answer after next y es₁) (sym c.left) r.legal);

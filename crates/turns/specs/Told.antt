@@ -20,7 +20,7 @@ use Rattle.model.specs.ByteHistories.{Bytes, saying, Readable, Passing}
 use Rattle.model.specs.AtomicWrites.{scope_at, WithinUnit, lines_of_one_unit, coordinator_only}
 use Rattle.model.specs.Turns.{Turn, turn_call, turn_writes_once, turn_shifts, turn_after, turn_event_on, turn_after_on}
 use Rattle.model.specs.Changes.{differs, reach_of, last_reach, first_differing, length_conditions, sheets_told, written_conditions, written_number, told_of}
-use Rattle.model.specs.Changes.{ToldAtomic, nothing_told, coordinator-told, only_lines_told}
+use Rattle.model.specs.Changes.{ToldAtomic, nothing_told, coordinator_told, only_lines_told}
 use Rattle.sheet_laws.specs.Records.{good_ranged}
 use Rattle.sheet_laws.specs.ByIndex.{length-records, record_at}
 use Rattle.sheet_laws.specs.Fronts.{sized-few, spare_at, front-count}
@@ -198,7 +198,7 @@ module _ (b a : Bytes) where
 
         go : (x : Bool) → eq_list b.coordinator a.coordinator ≡ x → ToldAtomic b a (sheets_told rs rs' b.coordinator a.coordinator)
         go true c = nothing_told (rw (c, none)) (λ i. record { records = e i; coordinator = sym (eq_list-true b.coordinator a.coordinator c) i })
-        go false c = coordinator-told (rw (c, none)) e
+        go false c = coordinator_told (rw (c, none)) e
     told_by_unit (lines_of_one_unit unit c n f) = go (eqb (last_reach rs rs') 0) refl
       where
         stays : eq_list b.coordinator a.coordinator ≡ true

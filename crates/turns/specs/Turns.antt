@@ -45,9 +45,9 @@ unfolding turn_response_on turn_response response_on response_at_on
 same-response (single o) b h = on_passing b (response o) h
 same-response (by_place list place q) b h = on_passing b (response_at list place q) h
 
-pub same-event : (x : Turn) (b : Bytes) → Passing b → turn_event_on x b ≡ turn_event x (saying b)
+pub same_event : (x : Turn) (b : Bytes) → Passing b → turn_event_on x b ≡ turn_event x (saying b)
 unfolding turn_event_on turn_event
-same-event x b h = ap (λ (r : Response Answer Sheets). record { call = turn_call x; answer = answer_of r }) (same-response x b h)
+same_event x b h = ap (λ (r : Response Answer Sheets). record { call = turn_call x; answer = answer_of r }) (same-response x b h)
 
 pub turn-bytes : (x : Turn) (b : Bytes) → Passing b → turn_after_on x b ≡ encoded (turn_after x (saying b))
 unfolding turn_after_on turn_after

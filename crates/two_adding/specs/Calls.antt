@@ -206,7 +206,7 @@ module _ (k : Key) (ps bs cs : List ℕ) (r : Ranked) (told : r ≡ place_two fa
   pub remove_shiftable : Shiftable ps bs r.rank.below
   remove_shiftable =
       let l = rank_inside k there.lines there_good.order may_go.listed in
-      let m = there_good.few-lines in
+      let m = there_good.few_lines in
       shiftable false k ps bs cs r told free (omega (arith, from-rank, l, m))
 
   pub remove_made : (ps' bs' : List ℕ) → ps' ≡ joined (remove_at r.rank.below (spare_line plain_bytes) (lines_of plain_bytes ps))
@@ -219,10 +219,10 @@ module _ (k : Key) (ps bs cs : List ℕ) (r : Ranked) (told : r ≡ place_two fa
       (e
       ∙ (ap (λ (i : ℕ). joined (remove_at i (spare_line plain_bytes) (lines_of plain_bytes ps))) from-rank
       ∙ (part_removed plain_bytes (omega arith) plain_line length-plain_line k there.lines there.size ps (sym (ap (λ (x : TwoBytes). x.plain) (passing_encoded_two (two ps bs cs) let_pass)))
-      there_good.order fit may_go.listed there_good.few-lines
+      there_good.order fit may_go.listed there_good.few_lines
       ∙ ap (λ (ls : List Record). plain_part (records_text ls) ++ spares_text plain_bytes (there.size - length ls)) (sym lines))))
       (f
       ∙ (ap (λ (i : ℕ). joined (remove_at i (spare_line bookkeeping_bytes) (lines_of bookkeeping_bytes bs))) from-rank
       ∙ (part_removed bookkeeping_bytes (omega arith) bookkeeping_line length-bookkeeping_line k there.lines there.size bs (sym (ap (λ (x : TwoBytes). x.bookkeeping) (passing_encoded_two (two ps bs cs) let_pass)))
-      there_good.order fit may_go.listed there_good.few-lines
+      there_good.order fit may_go.listed there_good.few_lines
       ∙ ap (λ (ls : List Record). bookkeeping_part (records_text ls) ++ spares_text bookkeeping_bytes (there.size - length ls)) (sym lines))))

@@ -54,7 +54,7 @@ module _ (adds : Bool) (k : Key) (ps bs cs : List ℕ) (w : Whole ps bs) (p q : 
       let m = size ps bs cs w in
       let x = kept ps bs cs w h in
       let l : length bs ≡ length bs / bookkeeping_bytes * bookkeeping_bytes = sized-whole bookkeeping_bytes bs w.bookkeeping in
-      let f : length rows ≤ m = (good_parts (saying_two both) (passing_two_good both h)).few-lines in
+      let f : length rows ≤ m = (good_parts (saying_two both) (passing_two_good both h)).few_lines in
       is-full ∙ go (leb m (length rows)) refl l f (ap length (same_rows h) ∙ x.lines) x.many
     where
       go : (b : Bool) → leb (size ps bs cs w) (length rows) ≡ b → length bs ≡ length bs / bookkeeping_bytes * bookkeeping_bytes → length rows ≤ size ps bs cs w → length rows ≡ filled_lines bookkeeping_bytes bs → size ps bs cs w ≡ length bs / bookkeeping_bytes → eqb q (length bs) ≡ b

@@ -14,7 +14,7 @@ use Rattle.two_laws.specs.Deciding.{whole, lines_agree, filled_plain, filled_boo
 use Rattle.two_laws.specs.FilledSheets.{filled_plain_lem, filled_bookkeeping_lem, filled_bookkeeping-records}
 use Rattle.two_laws.specs.JoinedSheets.{issued-joined}
 use Rattle.two_join.specs.Agrees.{same_counts}
-use Rattle.two_laws.specs.Decision.{lines-joined, lines-apart, keys_bad, keys_past, few-lines, many_plain, many_bookkeeping}
+use Rattle.two_laws.specs.Decision.{lines-joined, lines-apart, keys_bad, keys_past, few_lines, many_plain, many_bookkeeping}
 
 abbrev pub two : List ℕ → List ℕ → List ℕ → TwoBytes
 two ps bs cs = record { plain = ps; bookkeeping = bs; coordinator = cs }
@@ -200,7 +200,7 @@ module _ (ps bs area : List ℕ) where
 -- The check of all three: the coordinator sheet comes between 1 and 13.
 module _ (ps bs cs area : List ℕ) (r : ℕ) (h : Lines ps bs r area) where
   pub few : (r ≡ 1 → ⊥) → length bs / bookkeeping_bytes ≤ 500
-  few z = few-lines ps bs (λ e. z (h.told ∙ e))
+  few z = few_lines ps bs (λ e. z (h.told ∙ e))
 
   pub check_bad : r ≡ 1 → 1 ≡ refusal_of (full_conditions ps bs cs)
   check_bad e = sym (keys_bad ps bs cs (sym h.told ∙ e))

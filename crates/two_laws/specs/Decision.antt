@@ -189,9 +189,9 @@ keys_alone true true s j z = refl
 keys_alone true false s j z = absurd (z refl)
 keys_alone false b s j z = absurd (z refl)
 
-pub few-lines : (ps bs : List ℕ) → (refusal_of (key_conditions ps bs) ≡ 1 → ⊥) → length bs / bookkeeping_bytes ≤ 500
+pub few_lines : (ps bs : List ℕ) → (refusal_of (key_conditions ps bs) ≡ 1 → ⊥) → length bs / bookkeeping_bytes ≤ 500
 unfolding key_conditions lines_conditions
-few-lines ps bs z = go (leb (length bs / bookkeeping_bytes) 500) refl
+few_lines ps bs z = go (leb (length bs / bookkeeping_bytes) 500) refl
   where
     good : bookkeeping_alone bs ≡ true
     good = keys_alone (plain_alone ps) (bookkeeping_alone bs) (same_keys ps bs) (records_accepted (joined_sheet ps bs)) z

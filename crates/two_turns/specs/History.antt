@@ -20,13 +20,13 @@ use Rattle.turns.specs.Lift.{Faithful, returns_formed_of, demand_3_of, pass_exis
 use Rattle.turns.specs.Undoing.{added_removed_of, removed_added_of}
 use Rattle.serial.specs.Kinds.{checked_serializable_of, serial_bytes_of}
 use Rattle.two_laws.specs.TwoEncoding.{joined_bytes, passing_two, passing_two_good, encoded_two, passing_encoded_two}
-use Rattle.two_turns.specs.Turns.{same-event, turn_stays, same_answer, call_stays}
+use Rattle.two_turns.specs.Turns.{same_event, turn_stays, same_answer, call_stays}
 
 pub two_faithful : Faithful two_kind
 two_faithful =
     record {
       good = passing_two_good;
-      same-event = same-event;
+      same_event = same_event;
       stays = turn_stays;
       same_answer = same_answer;
       call_stays = call_stays;

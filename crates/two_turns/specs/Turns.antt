@@ -19,9 +19,9 @@ unfolding turn_response_two turn_response response_two response_at_two
 same-response (single o) b h = on_passing_two b (response o) h
 same-response (by_place list place q) b h = on_passing_two b (response_at list place q) h
 
-pub same-event : (x : Turn) (b : TwoBytes) → PassingTwo b → turn_event_two x b ≡ turn_event x (saying_two b)
+pub same_event : (x : Turn) (b : TwoBytes) → PassingTwo b → turn_event_two x b ≡ turn_event x (saying_two b)
 unfolding turn_event_two turn_event
-same-event x b h = ap (λ (r : Response Answer Sheets). record { call = turn_call x; answer = answer_of r }) (same-response x b h)
+same_event x b h = ap (λ (r : Response Answer Sheets). record { call = turn_call x; answer = answer_of r }) (same-response x b h)
 
 -- what is left is what the turn leaves, encoded and split
 pub turn_two : (x : Turn) (b : TwoBytes) → PassingTwo b → turn_after_two x b ≡ encoded_two (turn_after x (saying_two b))
