@@ -14,14 +14,14 @@ use put_groups::Groups;
 use types::{Key, Transaction};
 
 // Whether a transaction is well formed, and the groups of its puts; none of one that isn't.
-#[derive(Drop)]
+#[derive(Clone, Copy)]
 pub struct Judged {
     pub formed: bool,
     pub groups: Groups,
 }
 
 // The same with what was found of its entries on the record sheet.
-#[derive(Drop)]
+#[derive(Clone, Copy)]
 pub struct Admitted {
     pub formed: bool,
     pub located: Located,

@@ -8,7 +8,7 @@ use types::{Columns, NO_COLUMNS, Transaction};
 
 // What begin, put, advance and abort answer: a refusal or 0, and the transaction, as it came where the call is refused.
 #[repr(C)]
-#[derive(Drop)]
+#[derive(Clone, Copy)]
 pub struct Returned {
     pub refusal: u32,
     pub transaction: Transaction,
@@ -16,7 +16,7 @@ pub struct Returned {
 
 // What a visit answers: a refusal or 0, and what became of the line: 0 stays, 1 forward, 2 back, 3 again.
 #[repr(C)]
-#[derive(Drop)]
+#[derive(Clone, Copy)]
 pub struct Visited {
     pub refusal: u32,
     pub reply: u32,
@@ -25,7 +25,7 @@ pub struct Visited {
 // What any call answers: a refusal or 0, what a read (0 absent, 1 a value, 2 again, 3 columns read by the first of two calls) or a visit came to or how many writes a close made, the columns that were
 // read, and the transaction, as it came where the call is refused.
 #[repr(C)]
-#[derive(Drop)]
+#[derive(Clone, Copy)]
 pub struct Performed {
     pub refusal: u32,
     pub reply: u32,
@@ -35,7 +35,7 @@ pub struct Performed {
 
 // What a close answers: a refusal or 0, how many writes it made, and the transaction as it stands, as it came where the call is refused.
 #[repr(C)]
-#[derive(Drop)]
+#[derive(Clone, Copy)]
 pub struct Closed {
     pub refusal: u32,
     pub writes: u32,
@@ -44,7 +44,7 @@ pub struct Closed {
 
 // What issuing a number comes to: a refusal or 0, and the number, 0 where it is refused.
 #[repr(C)]
-#[derive(Drop)]
+#[derive(Clone, Copy)]
 pub struct Issued {
     pub refusal: u32,
     pub number: u32,

@@ -65,7 +65,7 @@ pub extern "C" fn rapyheo_visit(
 }
 
 // What a call by place answers, and the transaction that stands at the place afterwards.
-#[derive(Drop)]
+#[derive(Clone, Copy)]
 struct Called {
     answer: u32,
     transaction: Transaction,

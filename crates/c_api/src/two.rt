@@ -102,7 +102,7 @@ pub extern "C" fn rapyheo_two_rank(
 }
 
 // What a call by place answers, and the transaction that stands at the place afterwards.
-#[derive(Drop)]
+#[derive(Clone, Copy)]
 struct CalledTwo {
     answer: u64,
     transaction: Transaction,

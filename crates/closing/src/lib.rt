@@ -12,7 +12,7 @@ use types::Transaction;
 const MOST_STEPS: usize = 18;
 
 // A close under way: the transaction as it stands, how many more writes the limit allows, and how many were made.
-#[derive(Drop)]
+#[derive(Clone, Copy)]
 pub struct Ran {
     pub transaction: Transaction,
     pub left: u32,

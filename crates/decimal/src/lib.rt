@@ -8,7 +8,7 @@ ghost use Rattle.decimal.specs.Cut.{longer, scanned_to, spaces};
 ghost use Rattle.decimal.specs.Word.{put_word};
 
 // How far a field has been read: spaces only, a figure, or something that is no figure.
-#[derive(Drop)]
+#[derive(Clone, Copy)]
 pub enum Scan {
     Blank,
     Number(u32),

@@ -17,7 +17,7 @@ use held_lines::Located;
 use types::{Columns, Entry, Transaction};
 
 // What a step does to the line of an entry: the put committed in one phase, or prepared at a clock reading, or the line rolled forward or back.
-#[derive(Drop)]
+#[derive(Clone, Copy)]
 enum Effect {
     Commit,
     Prepare(u32),

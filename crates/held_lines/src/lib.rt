@@ -15,7 +15,7 @@ use sheets::lookup;
 use types::{Entry, Found, Key, Transaction};
 
 // What a call finds once about the entries of its transaction: the index of each one's line, how many groups the puts make, and the place of each one's group.
-#[derive(Drop)]
+#[derive(Clone, Copy)]
 pub struct Located {
     pub indices: [usize; 8],
     pub groups: u32,

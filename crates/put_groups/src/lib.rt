@@ -13,7 +13,7 @@ mod scopes;
 use types::Transaction;
 
 // How many groups the puts make, and of each entry the place of its group: 8, which is no group's place, of an entry without put and behind the last entry.
-#[derive(Drop)]
+#[derive(Clone, Copy)]
 pub struct Groups {
     pub count: u32,
     pub of: [u32; 8],

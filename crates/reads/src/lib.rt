@@ -18,7 +18,7 @@ use types::{
 };
 
 // Which call of a read is made: the first, or the second with the columns that the first answered. Unless the read takes two, either is the whole one.
-#[derive(Drop)]
+#[derive(Clone, Copy)]
 pub enum Asked {
     First,
     Second(Columns),

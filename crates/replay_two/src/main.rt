@@ -55,7 +55,7 @@ fn answer<'a>(
 }
 
 // What a line leaves: the transactions, and how many bytes of the buffer are taken.
-#[derive(Drop)]
+#[derive(Clone, Copy)]
 struct Printed {
     slots: [Transaction; 16],
     fill: usize,

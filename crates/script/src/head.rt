@@ -4,7 +4,7 @@ ghost use Rattle.std.specs.Prelude.{◌≤◌};
 use decimal::Scan;
 
 // Without a good first line all numbers are 0. `coordinator` leaves the head of the sheet out.
-#[derive(Drop)]
+#[derive(Clone, Copy)]
 pub struct Head {
     pub good: bool,
     pub records: usize,
@@ -12,7 +12,7 @@ pub struct Head {
 }
 
 // The same where the record sheet is cut into a plain and a bookkeeping sheet.
-#[derive(Drop)]
+#[derive(Clone, Copy)]
 pub struct TwoHead {
     pub good: bool,
     pub plain: usize,

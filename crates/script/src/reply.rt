@@ -3,7 +3,7 @@ ghost use Rattle.std.specs.Prelude.{◌≤◌};
 ghost use Rattle.script.specs.Lines.{reply_numbers};
 
 // The words that a reply begins with.
-#[derive(Drop)]
+#[derive(Clone, Copy)]
 pub enum Form {
     BadLine,
     Refused,
@@ -24,7 +24,7 @@ pub const ENTRY_NUMBERS: usize = 13;
 pub const REPLY_NUMBERS: usize = 6 + 8 * ENTRY_NUMBERS;
 
 // The first `count` numbers are printed.
-#[derive(Drop)]
+#[derive(Clone, Copy)]
 pub struct Reply {
     pub form: Form,
     pub count: usize,

@@ -8,7 +8,7 @@ use crate::reply::ENTRY_NUMBERS;
 use decimal::Scan;
 
 // The calls of a history; Sheets asks for all sheets, and BadLine is a line of another form. Second is for two sheets only.
-#[derive(Drop)]
+#[derive(Clone, Copy)]
 pub enum Kind {
     Check,
     Begin,
@@ -34,14 +34,14 @@ pub enum Kind {
 pub const LINE_NUMBERS: usize = 2 + ENTRY_NUMBERS;
 
 // A call and its numbers in the order of the line, zeros after the last.
-#[derive(Drop)]
+#[derive(Clone, Copy)]
 pub struct Command {
     pub kind: Kind,
     pub numbers: [u32; LINE_NUMBERS],
 }
 
 // The numbers read so far; not good once a word was no number or one too many.
-#[derive(Drop)]
+#[derive(Clone, Copy)]
 struct Numbers {
     good: bool,
     count: usize,

@@ -9,7 +9,7 @@ use script::scan::{Kind, LINE_NUMBERS};
 use types::{Columns, Entry, Image, Transaction};
 
 // What a line on a slot leaves: its transaction and the reply.
-#[derive(Drop)]
+#[derive(Clone, Copy)]
 pub struct Done {
     pub transaction: Transaction,
     pub reply: Reply,

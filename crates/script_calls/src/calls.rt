@@ -11,7 +11,7 @@ use script::scan::{Command, Kind, LINE_NUMBERS};
 use types::{Columns, Key, Ranked, Request};
 
 // The call that a line asks for, if it asks for one.
-#[derive(Drop)]
+#[derive(Clone, Copy)]
 pub enum Asked {
     Call(Request),
     Nothing,

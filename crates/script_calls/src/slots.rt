@@ -13,7 +13,7 @@ use script::scan::{Command, Kind};
 use types::Transaction;
 
 // What a line leaves: the transactions and its reply.
-#[derive(Drop)]
+#[derive(Clone, Copy)]
 pub struct Turn {
     pub slots: [Transaction; 16],
     pub reply: Reply,

@@ -20,7 +20,7 @@ pub const LONGEST: usize = FIRST_BYTES + COORDINATOR_BYTES * 10000 + MOST_RECORD
 pub const MOST_OUTPUT: usize = MOST_RECORD_BYTES + MOST_COORDINATOR_BYTES;
 
 // What the first line of an input says: record lines, coordinator lines without head, clock.
-#[derive(Drop)]
+#[derive(Clone, Copy)]
 struct FirstLine {
     lines: u32,
     decisions: u32,

@@ -2,7 +2,7 @@
 #![tactic(auto)]
 
 // The state word of a record line.
-#[derive(Drop)]
+#[derive(Clone, Copy)]
 pub enum State {
     Absent,
     Committed,
@@ -10,7 +10,7 @@ pub enum State {
 }
 
 // The before state of a record line: the state word that its before image had. `-` is Nothing.
-#[derive(Drop)]
+#[derive(Clone, Copy)]
 pub enum Before {
     Nothing,
     Absent,
@@ -18,7 +18,7 @@ pub enum Before {
 }
 
 // The state of a coordinator line; `-` is Undecided.
-#[derive(Drop)]
+#[derive(Clone, Copy)]
 pub enum Decision {
     Undecided,
     Committed,
@@ -26,7 +26,7 @@ pub enum Decision {
 }
 
 // The largest scope that a storage writes atomically (document 01: unit letters R, P, T, N, S).
-#[derive(Drop)]
+#[derive(Clone, Copy)]
 pub enum AtomicityUnit {
     Record,
     Partition,
@@ -36,7 +36,7 @@ pub enum AtomicityUnit {
 }
 
 #[repr(C)]
-#[derive(Drop)]
+#[derive(Clone, Copy)]
 pub struct Key {
     pub storage: u32,
     pub namespace: u32,
@@ -55,7 +55,7 @@ pub const NO_KEY: Key = Key {
 
 // What a record holds: its columns, and the version and number of the transaction that wrote them.
 #[repr(C)]
-#[derive(Drop)]
+#[derive(Clone, Copy)]
 pub struct Image {
     pub version: u32,
     pub txid: u32,
@@ -71,7 +71,7 @@ pub const NO_IMAGE: Image = Image {
 };
 
 // A line of the record sheet. `prior` is document 02's before state, `before` document 01's before fields, `clock` its prepare clock.
-#[derive(Drop)]
+#[derive(Clone, Copy)]
 pub struct Record {
     pub key: Key,
     pub state: State,
@@ -82,7 +82,7 @@ pub struct Record {
 }
 
 // What the columns of a field hold: a figure, or one of a set of fixed words.
-#[derive(Drop)]
+#[derive(Clone, Copy)]
 pub enum Kind {
     Figure,
     StateWord,
@@ -92,7 +92,7 @@ pub enum Kind {
 }
 
 // A field of a line: its width in bytes, its kind and its range. A word counts by its index in its set, from 0.
-#[derive(Drop)]
+#[derive(Clone, Copy)]
 pub struct Column {
     pub width: usize,
     pub kind: Kind,
@@ -174,7 +174,7 @@ pub const CLOCK_AT: usize = BEFORE_AT + IMAGE_BYTES;
 pub const DECISION_AT: usize = NUMBER_BYTES;
 
 // The kinds of line. A key line is the first five fields of a record line.
-#[derive(Drop)]
+#[derive(Clone, Copy)]
 pub enum Layout {
     RecordLine,
     KeyLine,
@@ -183,21 +183,21 @@ pub enum Layout {
 }
 
 // The index of what was looked for, counted from 0.
-#[derive(Drop)]
+#[derive(Clone, Copy)]
 pub enum Found {
     At(usize),
     Nothing,
 }
 
 // Where a key stands on a sheet or would stand: how many lines have smaller keys, and whether the key has a line itself.
-#[derive(Drop)]
+#[derive(Clone, Copy)]
 pub struct Rank {
     pub below: usize,
     pub present: bool,
 }
 
 // The same of any sheet and key: a refusal, or 0 and where the key stands. Beside a refusal the rank is 0, and the key not present.
-#[derive(Drop)]
+#[derive(Clone, Copy)]
 pub struct Ranked {
     pub refusal: u32,
     pub rank: Rank,
@@ -205,7 +205,7 @@ pub struct Ranked {
 
 // The columns that a put brings, or a read answers.
 #[repr(C)]
-#[derive(Drop)]
+#[derive(Clone, Copy)]
 pub struct Columns {
     pub column1: u32,
     pub column2: u32,
@@ -218,7 +218,7 @@ pub const NO_COLUMNS: Columns = Columns {
 
 // A record that a transaction holds: what was read, whether it was absent (1 or 0), and what was put if `wrote` is 1.
 #[repr(C)]
-#[derive(Drop)]
+#[derive(Clone, Copy)]
 pub struct Entry {
     pub key: Key,
     pub seen: Image,
@@ -231,7 +231,7 @@ pub struct Entry {
 // are numbered from 0 in the order of the step table (open, prepare, validate, decide, withdraw, finish, undo, done; document 01 says check
 // for validate); verdicts are 0 none, 1 committed, 2 aborted. Entries from `count` on mean nothing.
 #[repr(C)]
-#[derive(Drop)]
+#[derive(Clone, Copy)]
 pub struct Transaction {
     pub number: u32,
     pub serializable: u32,
@@ -243,7 +243,7 @@ pub struct Transaction {
 }
 
 // What a visit comes to: the line stays, is rolled forward or back, its owner is aborted and the visit must come again, or the owner may still be at work.
-#[derive(Drop)]
+#[derive(Clone, Copy)]
 pub enum Recovery {
     Stays,
     Forward,
@@ -253,7 +253,7 @@ pub enum Recovery {
 }
 
 // What a read answers: First by the first of two calls, with the columns that the second takes.
-#[derive(Drop)]
+#[derive(Clone, Copy)]
 pub enum Reading {
     Absent,
     Value(Columns),
@@ -263,7 +263,7 @@ pub enum Reading {
 
 // What is asked of the engine, apart from the transaction and the sheets. A begin says whether the transaction is serializable; a number is the reading
 // of the clock; a close has besides it the limit on its writes.
-#[derive(Drop)]
+#[derive(Clone, Copy)]
 pub enum Request {
     Begin(bool),
     Read(Key, u32),
