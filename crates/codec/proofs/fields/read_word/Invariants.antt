@@ -1,0 +1,12 @@
+-- The words from i on are searched as the whole set is: none before i was met.
+use Rattle.lists.specs.Basics.{◌≡◌, sym, ◌∙◌, ◌-◌, ◌≤◌, length, drop, arith, rules}
+use Rattle.model.specs.Layouts.{words}
+use Rattle.model.specs.Lines.{word_from}
+use Rattle.codec.specs.Turns.{word-met, word_missed, word_none}
+use Rattle.codec.proofs.fields.read_word.Given as goal
+
+abbrev pub invariant-loop-i : goal.invariant-loop-i
+invariant-loop-i l = (l.i ≤ l.n) × (word_from l.w (drop l.i (words l.kind)) l.i l.s ≡ word_from l.w (words l.kind) 0 l.s)
+
+abbrev pub decreases-loop-i : goal.decreases-loop-i
+decreases-loop-i l = l.n - l.i

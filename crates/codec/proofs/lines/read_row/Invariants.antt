@@ -1,0 +1,12 @@
+-- Fields before i are in the row, and the bytes from `at` on are those of the others.
+use Rattle.lists.specs.Basics.{◌≡◌, ap, ◌∙◌, ◌-◌, length, arith, rules}
+use Rattle.decimal.specs.Field.{number}
+use Rattle.model.specs.Layouts.{layout}
+use Rattle.codec.specs.Rows.{ReadTo, read_first, field_ends, read_next, read_last}
+use Rattle.codec.proofs.lines.read_row.Given as goal
+
+abbrev pub invariant-loop-i : goal.invariant-loop-i
+invariant-loop-i l = (l.n ≡ length (layout l.l)) × ReadTo (layout l.l) l.line l.row l.at l.i
+
+abbrev pub decreases-loop-i : goal.decreases-loop-i
+decreases-loop-i l = l.n - l.i

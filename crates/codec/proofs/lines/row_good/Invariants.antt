@@ -1,0 +1,11 @@
+-- The numbers from i on are in range exactly if all are: none before i was out of range.
+use Rattle.lists.specs.Basics.{◌≡◌, sym, ◌∙◌, ◌-◌, length, arith, not-true, not-false, rules}
+use Rattle.model.specs.Layouts.{layout}
+use Rattle.codec.specs.Rows.{GoodTo, good_first, good_next, good_not, good_last}
+use Rattle.codec.proofs.lines.row_good.Given as goal
+
+abbrev pub invariant-loop-i : goal.invariant-loop-i
+invariant-loop-i l = (l.n ≡ length (layout l.l)) × GoodTo (layout l.l) l.row l.i
+
+abbrev pub decreases-loop-i : goal.decreases-loop-i
+decreases-loop-i l = l.n - l.i

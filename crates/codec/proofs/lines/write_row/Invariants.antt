@@ -1,0 +1,11 @@
+-- Fields before i are in the line, and the others follow; LF ends it.
+use Rattle.lists.specs.Basics.{◌≡◌, ◌-◌, length, length-take, length-drop, length-set, arith, rules}
+use Rattle.model.specs.Layouts.{layout}
+use Rattle.codec.specs.Rows.{WrittenTo, write_first, field_ends, write_next, write_last, column_wide}
+use Rattle.codec.proofs.lines.write_row.Given as goal
+
+abbrev pub invariant-loop-i : goal.invariant-loop-i
+invariant-loop-i l = (l.n ≡ length (layout l.l)) × WrittenTo (layout l.l) l.row l.line l.at l.i
+
+abbrev pub decreases-loop-i : goal.decreases-loop-i
+decreases-loop-i l = l.n - l.i

@@ -1,0 +1,19 @@
+-- The figure is that of the image's second field.
+use Rattle.lists.specs.Basics.{refl, ◌+◌, arith, rules}
+use Rattle.model.specs.Layouts.{image_field, record_layout, offset}
+use Rattle.model.specs.Records.{record_numbers, key_numbers, image_numbers}
+use Rattle.sheet_laws.specs.Singles.{figure-told}
+use Rattle.codec.proofs.reading.txid.Goals as goal
+
+pub overflow_cast-result : goal.overflow_cast-result
+unfolding record_layout offset
+overflow_cast-result c =
+    let a = c.args in
+    let t = figure-told a.records.now a.i (image_field + 1) c.requires (omega arith) _ refl c.figure.ensures in
+    omega (arith, t.fits)
+
+pub returns : goal.returns
+unfolding record_layout offset record_numbers key_numbers image_numbers
+returns c =
+    let a = c.args in
+    (figure-told a.records.now a.i (image_field + 1) c.requires (omega arith) _ refl c.figure.ensures).is

@@ -1,0 +1,12 @@
+-- The loop keeps that what stands up to i is what stood a line further down; less than a block is left at its end.
+use Rattle.lists.specs.Basics.{◌-◌, ◌≤◌, ◌≡◌, refl, ◌∙◌, arith, length}
+use Rattle.shifting.specs.Shifted.{block_bytes}
+use Rattle.shifting.specs.Moves.{up_to, up_first, up_more, up_last}
+use borrow.Author.Rules.{rules}
+use Rattle.shifting.proofs.move_up.Given as goal
+
+abbrev pub invariant-loop-i : goal.invariant-loop-i
+invariant-loop-i l = (l.from ≤ l.i) × (l.i ≤ l.end) × (length l.s ≡ length l.initial.s) × (l.s ≡ up_to l.width l.from l.i l.initial.s)
+
+abbrev pub decreases-loop-i : goal.decreases-loop-i
+decreases-loop-i l = l.end - l.i
