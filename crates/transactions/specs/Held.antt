@@ -17,7 +17,7 @@ use Rattle.sheet_laws.specs.Search.{first_at}
 
 -- a transaction has room for eight entries: what owning one tells of its seventh field
 eight : (t : Transaction) {vs : List Val} → Is (row the_type) t vs → length t.entries ≡ 8
-eight t p = sym (length-map t.entries _) ∙ p.1.1.1.1.1.1.1.1.0.1.0.1
+eight t p = p.1.1.1.1.1.1.1.1.0.1.0.1
 
 abbrev pub entry_at : Transaction → ℕ → Entry
 entry_at t i = get_or t.entries i no_entry

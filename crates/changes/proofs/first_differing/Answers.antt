@@ -1,0 +1,33 @@
+-- No line before i differs, so that the first of those from i on is the first of all.
+use Rattle.lists.specs.Basics.{◌≡◌, sym, ◌∙◌, ◌-◌, ◌≤◌, arith, rules}
+use Rattle.model.specs.Changes.{first_of}
+use Rattle.changes.specs.Lines.{first-all, first-here, first_later, first-none}
+use Rattle.changes.proofs.first_differing.Goals as goal
+
+pub loop-i-init : goal.loop-i-init
+loop-i-init c = (omega arith, first-all _ _ _)
+
+pub returns-then-line_differs : goal.returns-then-line_differs
+returns-then-line_differs c =
+    let a = c.args in
+    let l = c.loop-i in
+    sym (first-here a.before.now a.after.now l.i a.lines
+    c.loop-i-test.true (sym c.line_differs.ensures ∙ c.if-line_differs.true))
+    ∙ l.invariant.1
+
+pub loop-i-preserved : goal.loop-i-preserved
+loop-i-preserved c =
+    let a = c.args in
+    let l = c.loop-i in (
+      omega arith,
+      first_later a.before.now a.after.now l.i a.lines
+          c.loop-i-test.true (sym c.line_differs.ensures ∙ c.if-line_differs.false)
+          ∙ l.invariant.1,
+    )
+
+pub returns : goal.returns
+returns c =
+    let a = c.args in
+    let l = c.loop-i in
+    let e : l.i ≡ a.lines = omega arith in
+    sym (first-none a.before.now a.after.now l.i a.lines e) ∙ l.invariant.1

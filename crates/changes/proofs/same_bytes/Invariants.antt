@@ -1,0 +1,10 @@
+-- The flag says whether the bytes before i are equal.
+use Rattle.lists.specs.Basics.{◌≡◌, refl, ◌-◌, ◌≤◌, length, arith, rules}
+use Rattle.changes.specs.Lines.{EqualTo, equal_next, equal_last}
+use Rattle.changes.proofs.same_bytes.Given as goal
+
+abbrev pub invariant-loop-i : goal.invariant-loop-i
+invariant-loop-i l = (l.n ≡ length l.s) × ((l.n ≡ length l.t) × ((l.i ≤ l.n) × EqualTo l.s l.t l.same l.i))
+
+abbrev pub decreases-loop-i : goal.decreases-loop-i
+decreases-loop-i l = l.n - l.i

@@ -1,0 +1,14 @@
+-- Lines before i are in the target, and those from i on are still to come.
+use Rattle.lists.specs.Basics.{◌≡◌, refl, ◌∙◌, ◌+◌, ◌-◌, ◌*◌, ◌/◌, length, length-take, length-drop, arith, rules}
+use Rattle.model.specs.Layouts.{layout, record_layout, record_bytes, record_fields}
+use Rattle.model.specs.Lines.{line_text}
+use Rattle.model.specs.Records.{rows}
+use Rattle.sheet_laws.specs.Lines.{line_bytes}
+use Rattle.numbers.specs.Filling.{MadeTo, made_first, made_next, made_last, made_room}
+use Rattle.numbers.proofs.records.fill_records.Given as goal
+
+abbrev pub invariant-loop-i : goal.invariant-loop-i
+invariant-loop-i l = (l.n ≡ length l.numbers / record_fields) × MadeTo record_fields record_bytes (line_text record_layout) l.numbers l.n l.records l.i
+
+abbrev pub decreases-loop-i : goal.decreases-loop-i
+decreases-loop-i l = l.n - l.i

@@ -1,0 +1,10 @@
+-- The rows behind the first n are spares.
+use Rattle.lists.specs.Basics.{sym, ◌∙◌, arith, not-true, not-false, rules}
+use Rattle.numbers.specs.Spares.{SparesFrom, spares-first, no_spare_lem, one-spare, none_left}
+use Rattle.numbers.proofs.rows.filled_rows.Given as goal
+
+abbrev pub invariant-loop-n : goal.invariant-loop-n
+invariant-loop-n l = SparesFrom l.numbers l.n
+
+abbrev pub decreases-loop-n : goal.decreases-loop-n
+decreases-loop-n l = l.n

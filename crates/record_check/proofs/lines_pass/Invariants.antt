@@ -1,0 +1,12 @@
+-- The loop's invariant: what is left from line i on decides as the whole does. A line that is not good, or a key that does not rise, ends it.
+use Rattle.lists.specs.Basics.{◌≡◌, sym, ◌∙◌, ◌+◌, ◌-◌, ◌*◌, ◌≤◌, and-false, take, drop, arith, not-true, not-false, rules}
+use Rattle.record_check.specs.Line.{line_good}
+use Rattle.record_check.specs.Sheet.{lines_pass, pass_next}
+use Rattle.model.specs.Layouts.{record_bytes}
+use Rattle.record_check.proofs.lines_pass.Given as goal
+
+abbrev pub invariant-loop-i : goal.invariant-loop-i
+invariant-loop-i l = (l.i ≤ l.n) × (lines_pass (l.n - l.i) (drop (l.i * record_bytes) l.s) ≡ lines_pass l.n l.s)
+
+abbrev pub decreases-loop-i : goal.decreases-loop-i
+decreases-loop-i l = l.n - l.i

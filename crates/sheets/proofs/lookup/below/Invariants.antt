@@ -1,0 +1,12 @@
+-- The rank is kept between low and high: the line in the middle has a smaller key exactly if it stands below the rank.
+use Rattle.lists.specs.Basics.{ap, ◌∙◌, ◌+◌, ◌-◌, ◌/◌, arith, rules}
+use Rattle.model.specs.Types.{Key}
+use Rattle.model.specs.Records.{key_less}
+use Rattle.sheets.specs.Search.{Between, between_first, between_last, between_behind, between_before}
+use Rattle.sheets.proofs.lookup.below.Given as goal
+
+abbrev pub invariant-loop-low : goal.invariant-loop-low
+invariant-loop-low l = Between l.records l.key l.low l.high
+
+abbrev pub decreases-loop-low : goal.decreases-loop-low
+decreases-loop-low l = l.high - l.low

@@ -1,0 +1,16 @@
+-- The index of the key's line is its rank; where there is none, the lines with smaller keys are counted.
+use Rattle.lists.specs.Basics.{◌∙◌}
+use Rattle.sheet_laws.specs.Ranks.{found-ranked, missing-ranked, accepted_order}
+use Rattle.sheets.specs.Answers.{is_found}
+use borrow.Author.Rules.{rules}
+use Rattle.sheets.proofs.lookup.rank.Goals as goal
+
+pub returns-in-At : goal.returns-in-At
+returns-in-At c =
+    let a = c.args in
+    found-ranked a.key _ (accepted_order a.records.now c.requires.records_value) _ (is_found a.records.now a.key c.requires.records_value c.find.ensures ∙ c.in-At.is)
+
+pub returns-in-Nothing : goal.returns-in-Nothing
+returns-in-Nothing c =
+    let a = c.args in
+    missing-ranked a.key _ (accepted_order a.records.now c.requires.records_value) _ c.below.ensures (is_found a.records.now a.key c.requires.records_value c.find.ensures ∙ c.in-Nothing.is)

@@ -1,0 +1,20 @@
+-- No entry before i is of such a storage.
+use Rattle.lists.specs.Basics.{sym, ◌∙◌, ◌-◌, rules, any}
+use Rattle.model.specs.Types.{Entry}
+use Rattle.model.specs.Groups.{is_lower}
+use Rattle.model.specs.Transactions.{held}
+use Rattle.transactions.specs.Held.{PassedTo, pass-first, any_met, any_next, any_last}
+use Rattle.transactions.specs.Units.{units_in}
+use Rattle.transactions.proofs.holds_lower.Goals as goal
+
+pub loop-i-init : goal.loop-i-init
+loop-i-init c = pass-first _ _ c.well_formed.1.0 c.requires
+
+pub returns-then-is_lower : goal.returns-then-is_lower
+returns-then-is_lower c = any_met _ _ _ _ c.loop-i.invariant c.loop-i-test.true (sym c.is_lower.ensures ∙ c.if-is_lower.true)
+
+pub loop-i-preserved : goal.loop-i-preserved
+loop-i-preserved c = any_next _ _ _ _ c.loop-i.invariant c.loop-i-test.true (sym c.is_lower.ensures ∙ c.if-is_lower.false)
+
+pub returns : goal.returns
+returns c = any_last _ _ _ _ c.loop-i.invariant c.loop-i-test.false
