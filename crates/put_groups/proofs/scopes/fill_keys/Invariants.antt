@@ -1,0 +1,11 @@
+-- The keys of the entries before i stand there.
+use Rattle.lists.specs.Basics.{sym, ◌∙◌, ◌-◌, length-take, length-drop, arith, rules}
+use Rattle.transactions.specs.Held.{has_room_lem}
+use Rattle.put_groups.specs.Scopes.{KeysTo, keys_first, keys_room, keys_next, keys_last}
+use Rattle.put_groups.proofs.scopes.fill_keys.Given as goal
+
+abbrev pub invariant-loop-i : goal.invariant-loop-i
+invariant-loop-i l = KeysTo l.t l.keys l.i
+
+abbrev pub decreases-loop-i : goal.decreases-loop-i
+decreases-loop-i l = l.n - l.i

@@ -1,0 +1,32 @@
+-- The first i lines are filled; a turn fills one more.
+use Rattle.lists.specs.Basics.{◌-◌, ◌*◌, ◌/◌, ◌≤◌, ◌≡◌, refl, ◌∙◌, length, take, arith, rules}
+use Rattle.model.specs.Layouts.{record_bytes}
+use Rattle.model.specs.TwoSheets.{bookkeeping_bytes}
+use Rattle.two_laws.specs.Deciding.{fill_bookkeeping, filled_bookkeeping}
+use Rattle.two_laws.specs.TwoLines.{length-fill_bookkeeping}
+use Rattle.two_join.specs.Splits.{first_cut, line-turn, no_cut, all-cut}
+use Rattle.two_join.proofs.fill.bookkeeping.Goals as goal
+
+pub loop-i-init : goal.loop-i-init
+loop-i-init c =
+    let a = c.args in
+    (omega arith, (refl, no_cut bookkeeping_bytes fill_bookkeeping a.book.now a.target.now (0 * record_bytes) (omega arith)))
+
+pub loop-i-preserved : goal.loop-i-preserved
+loop-i-preserved c =
+    let a = c.args in
+    let q = c.requires in
+    let l = c.loop-i in
+    let t = c.loop-i-test.true in
+    let n : length l.target ≡ length a.target.now = c.loop-i.invariant.1.0 in
+    let r = line-turn bookkeeping_bytes fill_bookkeeping a.book.now record_bytes length-fill_bookkeeping l.target _ l.i (omega (arith, t)) (omega (arith, q, t, n)) l.invariant.1.1 c.bookkeeping_at.ensures in
+    (omega (arith, t), (r.0 ∙ n, r.1))
+
+pub returns : goal.returns
+unfolding filled_bookkeeping
+returns c =
+    let a = c.args in
+    let q = c.requires in
+    let l = c.loop-i in
+    let f : l.i ≡ length a.book.now / bookkeeping_bytes = omega (arith, l.invariant.0, c.loop-i-test.false) in
+    all-cut bookkeeping_bytes fill_bookkeeping a.book.now l.target l.i (l.i * record_bytes) (omega (arith, l.invariant.1.0, q, f)) f l.invariant.1.1

@@ -1,0 +1,14 @@
+-- The first i lines are filled; a turn fills one more.
+use Rattle.lists.specs.Basics.{◌-◌, ◌*◌, ◌/◌, ◌≤◌, ◌≡◌, refl, ◌∙◌, length, take, arith, rules}
+use Rattle.model.specs.Layouts.{record_bytes}
+use Rattle.model.specs.TwoSheets.{bookkeeping_bytes}
+use Rattle.two_laws.specs.Deciding.{fill_bookkeeping, filled_bookkeeping}
+use Rattle.two_laws.specs.TwoLines.{length-fill_bookkeeping}
+use Rattle.two_join.specs.Splits.{first_cut, line-turn, no_cut, all-cut}
+use Rattle.two_join.proofs.fill.bookkeeping.Given as goal
+
+abbrev pub invariant-loop-i : goal.invariant-loop-i
+invariant-loop-i l = (l.i ≤ l.n) × ((length l.target ≡ length l.initial.target) × (take (l.i * record_bytes) l.target ≡ first_cut bookkeeping_bytes fill_bookkeeping l.book l.i))
+
+abbrev pub decreases-loop-i : goal.decreases-loop-i
+decreases-loop-i l = l.n - l.i
