@@ -11,7 +11,7 @@ use Rattle.model.specs.SheetCalls.{check_conditions, told_rank}
 use Rattle.model.specs.Writes.{Write, add_line, remove_line, apply}
 use Rattle.model.specs.Results.{Call, add, remove, acknowledged, refusal_in, Result, Answer, refused, made, answer_of}
 use Rattle.model.specs.Conditions.{no_spare, conditions, add_conditions, remove_conditions}
-use Rattle.model.specs.Calls.{outcome, result}
+use Rattle.model.specs.Calls.{outcome, result_of}
 use Rattle.model.specs.ByteCalls.{sheets_said, result_on, sheet_after}
 use Rattle.model.specs.ByteHistories.{Bytes, saying}
 use Rattle.sheet_laws.specs.Records.{ranged, good_ranged, length-record_text}
@@ -40,22 +40,22 @@ module _ (c : Call) (rs cs : List ℕ) where
   -- by the check
   pub check_refuses : (n : ℕ) → n ≡ refusal_of (check_conditions rs cs) → (n ≡ 0 → ⊥) → Shifted c rs cs n rs
   unfolding result_on
-  check_refuses n e z = refused_as n (unless-held (check_conditions rs cs) (result c (sheets_said rs cs)) n (sym e) z)
+  check_refuses n e z = refused_as n (unless-held (check_conditions rs cs) (result_of c (sheets_said rs cs)) n (sym e) z)
 
   module _ (passed : refusal_of (check_conditions rs cs) ≡ 0) where
-    on_said : result_on c rs cs ≡ result c (sheets_said rs cs)
+    on_said : result_on c rs cs ≡ result_of c (sheets_said rs cs)
     unfolding result_on
-    on_said = unless-free (check_conditions rs cs) (result c (sheets_said rs cs)) passed
+    on_said = unless-free (check_conditions rs cs) (result_of c (sheets_said rs cs)) passed
 
     -- by one of its own conditions
     call_refuses : (n : ℕ) → n ≡ refusal_of (conditions c (sheets_said rs cs)) → (n ≡ 0 → ⊥) → Shifted c rs cs n rs
-    unfolding result
+    unfolding result_of
     call_refuses n e z = refused_as n (on_said ∙ unless-held (conditions c (sheets_said rs cs)) (outcome c (sheets_said rs cs)) n (sym e) z)
 
     -- or not at all
     call_made : (w : Write) → outcome c (sheets_said rs cs) ≡ made acknowledged w → refusal_of (conditions c (sheets_said rs cs)) ≡ 0 → (rs' : List ℕ)
         → rs' ≡ sheet_for (apply w (sheets_said rs cs)).lines (length rs / record_bytes) → Shifted c rs cs 0 rs'
-    unfolding result sheet_after apply
+    unfolding result_of sheet_after apply
     call_made w Made-so z rs' e =
         let r : result_on c rs cs ≡ made acknowledged w = on_said ∙ (unless-free (conditions c (sheets_said rs cs)) (outcome c (sheets_said rs cs)) z ∙ Made-so) in
         record { said = ap (λ (x : Result Answer). refusal_in (answer_of x)) (sym r); sheet = e ∙ ap (sheet_after rs cs) (sym r) }

@@ -12,7 +12,7 @@ use Rattle.model.specs.Conditions.{conditions, is_new, takes_two}
 use Rattle.model.specs.Visits.{meeting, is_again}
 use Rattle.model.specs.Records.{line_of}
 use Rattle.model.specs.Groups.{is_lower}
-use Rattle.model.specs.Calls.{outcome, result, whole_read, read_new, seen_second}
+use Rattle.model.specs.Calls.{outcome, result_of, whole_read, read_new, seen_second}
 use Rattle.model.specs.Closing.{close_conditions}
 use Rattle.model.specs.Operations.{once, settled, response}
 use Rattle.model.specs.Requests.{operation_of}
@@ -85,12 +85,12 @@ read_answers sees t k now s =
 
 module _ (k : Key) (c : Columns) (now limit : ℕ) (t : Transaction) (s : Sheets) where
   -- a call that only returns a transaction
-  once_returned : (call : ℕ) → eqb call 6 ≡ false → (x : Call) (u : Transaction) (w : Write) → outcome x s ≡ made (returned u) w → Given call (settled s (result x s))
-  unfolding result
+  once_returned : (call : ℕ) → eqb call 6 ≡ false → (x : Call) (u : Transaction) (w : Write) → outcome x s ≡ made (returned u) w → Given call (settled s (result_of x s))
+  unfolding result_of
   once_returned call e x u w f = unless_by (λ (r : Result Answer). Given call (settled s r)) (conditions x s) tt (λ z. rw f (given_returned call e u (apply w s)))
 
-  once_answered : (call : ℕ) → eqb call 6 ≡ false → (x : Call) → Answering (outcome x s) → Given call (settled s (result x s))
-  unfolding result
+  once_answered : (call : ℕ) → eqb call 6 ≡ false → (x : Call) → Answering (outcome x s) → Given call (settled s (result_of x s))
+  unfolding result_of
   once_answered call e x f = unless_by (λ (r : Result Answer). Given call (settled s r)) (conditions x s) tt (λ z. go (outcome x s) f)
     where
       go : (r : Result Answer) → Answering r → Given call (settled s r)

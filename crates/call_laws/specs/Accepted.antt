@@ -12,7 +12,7 @@ use Rattle.model.specs.Refusals.{Condition, refusal_of}
 use Rattle.model.specs.SheetCalls.{check_conditions}
 use Rattle.model.specs.Writes.{Write, nothing, line_after, decisions_after, lines_after, apply}
 use Rattle.model.specs.Results.{Call, shifts_lines, Answer, Response, Result, refused, made, unless, write_of}
-use Rattle.model.specs.Calls.{result}
+use Rattle.model.specs.Calls.{result_of}
 use Rattle.model.specs.ByteCalls.{sheets_said, sheet_text, result_on, sheet_after, coordinator_after, sheets_of, records_after}
 use Rattle.model.specs.ByteHistories.{Bytes}
 use Rattle.sheet_laws.specs.Records.{sheet_written_read}
@@ -132,26 +132,26 @@ pub record SheetOutcome {B : Type 0} (f : Result Answer → B) (result : Result 
   pub decisions : cs' ≡ coordinator_after rs cs result
 
 -- a call on both sheets is that on the lines of records
-pub on_lines : (c : Call) (rs cs : List ℕ) → shifts_lines c ≡ false → refusal_of (check_conditions rs cs) ≡ 0 → result_on c rs cs ≡ result c (sheets_of (record_lines rs) cs)
+pub on_lines : (c : Call) (rs cs : List ℕ) → shifts_lines c ≡ false → refusal_of (check_conditions rs cs) ≡ 0 → result_on c rs cs ≡ result_of c (sheets_of (record_lines rs) cs)
 unfolding result_on
-on_lines c rs cs h e = unless-free (check_conditions rs cs) (result c (sheets_said rs cs)) e ∙ result-resized (length rs / record_bytes) c (sheets_of (record_lines rs) cs) h
+on_lines c rs cs h e = unless-free (check_conditions rs cs) (result_of c (sheets_said rs cs)) e ∙ result-resized (length rs / record_bytes) c (sheets_of (record_lines rs) cs) h
 
 -- Every call: refused by the check, or what it comes to on the lines of records, unless it adds or removes one.
 module _ {B : Type 0} (f : Result Answer → B) (c : Call) (rs cs : List ℕ) {answer : B} where
   pub turned_away_lem : (n : ℕ) → n ≡ refusal_of (check_conditions rs cs) → (n ≡ 0 → ⊥) → answer ≡ f (refused n) → SheetOutcome f (result_on c rs cs) rs cs answer rs cs
   unfolding result_on sheet_after coordinator_after
   turned_away_lem n e z a =
-      let r : result_on c rs cs ≡ refused n = unless-held (check_conditions rs cs) (result c (sheets_said rs cs)) n (sym e) z in
+      let r : result_on c rs cs ≡ refused n = unless-held (check_conditions rs cs) (result_of c (sheets_said rs cs)) n (sym e) z in
       record { said = a ∙ ap f (sym r); sheet = ap (sheet_after rs cs) (sym r); decisions = ap (coordinator_after rs cs) (sym r) }
 
-  pub let_pass : {ls' cs' : List ℕ} → shifts_lines c ≡ false → refusal_of (check_conditions rs cs) ≡ 0 → Outcome f (result c (sheets_of (record_lines rs) cs)) (record_lines rs) cs answer ls' cs'
+  pub let_pass : {ls' cs' : List ℕ} → shifts_lines c ≡ false → refusal_of (check_conditions rs cs) ≡ 0 → Outcome f (result_of c (sheets_of (record_lines rs) cs)) (record_lines rs) cs answer ls' cs'
       → SheetOutcome f (result_on c rs cs) rs cs answer (ls' ++ drop (filled_lines record_bytes rs * record_bytes) rs) cs'
   let_pass {ls'} {cs'} n e h =
       subst (λ (r : Result Answer). SheetOutcome f r rs cs answer (ended rs cs e ls') cs') (sym (on_lines c rs cs n e))
       (record {
         said = h.said;
-        sheet = ap (ended rs cs e) h.lines ∙ left (result c (sheets_of (record_lines rs) cs)) (made_shifts c (sheets_of (record_lines rs) cs) n);
-        decisions = h.decisions ∙ same (result c (sheets_of (record_lines rs) cs));
+        sheet = ap (ended rs cs e) h.lines ∙ left (result_of c (sheets_of (record_lines rs) cs)) (made_shifts c (sheets_of (record_lines rs) cs) n);
+        decisions = h.decisions ∙ same (result_of c (sheets_of (record_lines rs) cs));
       })
     where
       left : (r : Result Answer) → shifts (write_of r) ≡ false → ended rs cs e (records_after (record_lines rs) cs r) ≡ sheet_after rs cs r
@@ -165,7 +165,7 @@ module _ {B : Type 0} (f : Result Answer → B) (c : Call) (rs cs : List ℕ) {a
       same (refused n) = unfold coordinator_after in refl
       same (made a w) = unfold coordinator_after apply in refl
 
-  pub passed-answer : shifts_lines c ≡ false → refusal_of (check_conditions rs cs) ≡ 0 → answer ≡ f (result c (sheets_of (record_lines rs) cs)) → answer ≡ f (result_on c rs cs)
+  pub passed-answer : shifts_lines c ≡ false → refusal_of (check_conditions rs cs) ≡ 0 → answer ≡ f (result_of c (sheets_of (record_lines rs) cs)) → answer ≡ f (result_on c rs cs)
   passed-answer n e h = h ∙ ap f (sym (on_lines c rs cs n e))
 
 -- Writes that leave a sheet alone.

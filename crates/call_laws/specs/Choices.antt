@@ -11,7 +11,7 @@ use Rattle.model.specs.Writes.{Sheets, Write, nothing}
 use Rattle.model.specs.Visits.{meeting, is_again, recovered, recovery_write}
 use Rattle.model.specs.Results.{Call, begin, read, second, put, advance, abort, visit, add, remove, Answer, answered, Response, Result, refused, made, unless, write_of}
 use Rattle.model.specs.Conditions.{is_new, held_entry, conditions}
-use Rattle.model.specs.Calls.{read_held, read_new, holding, whole_read, outcome, result}
+use Rattle.model.specs.Calls.{read_held, read_new, holding, whole_read, outcome, result_of}
 use Rattle.model.specs.Histories.{written}
 
 pub by_phase_lem {ℓ κ} : {A : Type ℓ} (P : A → Type κ) (p : ℕ) {o r v d w f u e x : A} → P o → P r → P v → P d → P w → P f → P u → P e → P x → P (by_phase p o r v d w f u e x)
@@ -100,7 +100,7 @@ accepted n c s z = not-held n (conditions c s) (conditions-numbered c s) z
 
 -- what a call writes: nothing where it is refused
 pub by_written {κ} : (P : Write → Type κ) (c : Call) (s : Sheets) → P nothing → (refusal_of (conditions c s) ≡ 0 → P (write_of (outcome c s))) → P (written c s)
-unfolding written result
+unfolding written result_of
 by_written P c s n h = unless_by (λ (x : Result Answer). P (write_of x)) (conditions c s) n h
 
 -- what a visit writes

@@ -18,7 +18,7 @@ use Rattle.model.specs.Refusals.{refusal_of}
 use Rattle.model.specs.Results.{Call, begin, read, second, put, advance, abort, visit, add, remove, returned, acknowledged, made, returns}
 use Rattle.model.specs.Conditions.{is_new, takes_two, held_entry, busy, cannot_abort, conditions}
 use Rattle.model.specs.Steps.{units_of, step}
-use Rattle.model.specs.Calls.{new_transaction, seen_second, holding, whole_read, after_put, outcome, result}
+use Rattle.model.specs.Calls.{new_transaction, seen_second, holding, whole_read, after_put, outcome, result_of}
 use Rattle.model.specs.Histories.{answer, written, after, ClockFits}
 use Rattle.sheet_laws.specs.Search.{first_by}
 use Rattle.sheet_laws.specs.Coordinator.{bounds}
@@ -323,8 +323,8 @@ accepted_keeps (visit k now) s g l = visit_keeps s g k now
 accepted_keeps (add k) s g l = add_keeps s k
 accepted_keeps (remove k) s g l = remove_keeps s k
 
-kept : (c : Call) (s : Sheets) → GoodSheets s → ClockFits c → Keeps s (result c s)
-unfolding result
+kept : (c : Call) (s : Sheets) → GoodSheets s → ClockFits c → Keeps s (result_of c s)
+unfolding result_of
 kept c s g l = unless_by (Keeps s) (conditions c s) (keeps_refused s _) (accepted_keeps c s g l)
 
 -- the sheets after any call are good if they were

@@ -11,7 +11,7 @@ use Rattle.model.specs.Steps.{units_of}
 use Rattle.model.specs.Results.{Call, begin, read, second, put, advance, abort, visit, add, remove, Answer, refusal_in, Response, Result, refused, made, answer_of}
 use Rattle.model.specs.Results.{unless}
 use Rattle.model.specs.Conditions.{takes_two, conditions, refusals}
-use Rattle.model.specs.Calls.{whole_read, outcome, result}
+use Rattle.model.specs.Calls.{whole_read, outcome, result_of}
 use Rattle.model.specs.ByteCalls.{sheets_said, all_conditions, result_on, sheet_after, coordinator_after}
 use Rattle.model.specs.ByteHistories.{Bytes, saying, bytes_after, answer_on, after_on}
 use Rattle.call_laws.specs.Choices.{has_number, unless_of, by_whole}
@@ -207,15 +207,15 @@ outcome_accepts c s = go (outcome c s) (outcome_made c s)
     go : (r : Result Answer) → Made r → refusal_in (answer_of r) ≡ 0
     go r (is_made a w e) = e
 
-pub result_refusal : (c : Call) (s : Sheets) → refusal_in (answer_of (result c s)) ≡ refusal_of (conditions c s)
-unfolding result
+pub result_refusal : (c : Call) (s : Sheets) → refusal_in (answer_of (result_of c s)) ≡ refusal_of (conditions c s)
+unfolding result_of
 result_refusal c s = refusal_unless (conditions c s) (outcome c s) (outcome_accepts c s)
 
 -- an answer's refusal is that of the call's conditions
 pub refusal_given : (call : Call) (b : Bytes) → refusal_in (answer_on call b) ≡ refusal_of (all_conditions call b.records b.coordinator)
 unfolding answer_on all_conditions check_conditions result_on all
 refusal_given call b =
-    refusal_then (check_conditions b.records b.coordinator) (conditions call (saying b)) (result call (saying b)) refl (result_refusal call (saying b))
+    refusal_then (check_conditions b.records b.coordinator) (conditions call (saying b)) (result_of call (saying b)) refl (result_refusal call (saying b))
 
 conditions_small : (call : Call) (s : Sheets) → all (λ (c : Condition). leb c.number last_refusal) (conditions call s) ≡ true
 unfolding all conditions
@@ -229,8 +229,8 @@ conditions_small (visit k now) s = refl
 conditions_small (add k) s = refl
 conditions_small (remove k) s = refl
 
-pub decoded_sound : (call : Call) (s : Sheets) → Sound (result call s)
-unfolding result
+pub decoded_sound : (call : Call) (s : Sheets) → Sound (result_of call s)
+unfolding result_of
 decoded_sound call s = sound_unless (conditions call s) _ (conditions_small call s) (go (outcome call s) (outcome_made call s))
   where
     go : (r : Result Answer) → Made r → Sound r
@@ -243,7 +243,7 @@ sound_on rs cs r k = sound_unless (check_conditions rs cs) r refl k
 
 pub result_sound : (call : Call) (rs cs : List ℕ) → Sound (result_on call rs cs)
 unfolding result_on
-result_sound call rs cs = sound_on rs cs (result call (sheets_said rs cs)) (decoded_sound call (sheets_said rs cs))
+result_sound call rs cs = sound_on rs cs (result_of call (sheets_said rs cs)) (decoded_sound call (sheets_said rs cs))
 
 -- "after a refusal it finds both sheets .. unchanged"
 pub refused_unchanged : (call : Call) (b : Bytes) → 1 ≤ refusal_in (answer_on call b) → after_on call b ≡ b

@@ -8,7 +8,7 @@ use Rattle.model.specs.SheetCalls.{check_conditions}
 use Rattle.model.specs.Writes.{Write, nothing, issue, add_line, remove_line, line_after, decisions_after}
 use Rattle.model.specs.Results.{begin, put, abort, add, remove, Answer, Result, made, unless}
 use Rattle.model.specs.Conditions.{conditions}
-use Rattle.model.specs.Calls.{outcome, result}
+use Rattle.model.specs.Calls.{outcome, result_of}
 use Rattle.model.specs.ByteCalls.{sheets_said, result_on, sheet_after, coordinator_after}
 use Rattle.call_laws.specs.Choices.{unless_by}
 use Rattle.call_laws.specs.Accepted.{sheet_kept, coordinator_kept}
@@ -26,7 +26,7 @@ module _ (rs cs : List ℕ) where
 
   -- "Begin raises the issued count by one", which leaves every line as it was.
   pub begin_leaves_records : (b : Bool) → sheet_after rs cs (result_on (begin b) rs cs) ≡ rs
-  unfolding sheet_after result_on result outcome line_after
+  unfolding sheet_after result_on result_of outcome line_after
   begin_leaves_records b =
       unless_by Leaves (check_conditions rs cs) refl
       (λ p. unless_by Leaves (conditions (begin b) (sheets_said rs cs)) refl
@@ -37,11 +37,11 @@ module _ (rs cs : List ℕ) where
 
   -- the calls that write nothing
   pub put_leaves_sheets : (t : Transaction) (k : Key) (c : Columns) → (sheet_after rs cs (result_on (put t k c) rs cs) ≡ rs) × (coordinator_after rs cs (result_on (put t k c) rs cs) ≡ cs)
-  unfolding result_on result outcome
+  unfolding result_on result_of outcome
   put_leaves_sheets t k c = nothing_leaves (conditions (put t k c) (sheets_said rs cs)) _
 
   pub abort_leaves_sheets : (t : Transaction) → (sheet_after rs cs (result_on (abort t) rs cs) ≡ rs) × (coordinator_after rs cs (result_on (abort t) rs cs) ≡ cs)
-  unfolding result_on result outcome
+  unfolding result_on result_of outcome
   abort_leaves_sheets t = nothing_leaves (conditions (abort t) (sheets_said rs cs)) _
 
   -- a line put in or taken out leaves the coordinator sheet
@@ -56,9 +56,9 @@ module _ (rs cs : List ℕ) where
       Leaves r = coordinator_after rs cs r ≡ cs
 
   pub add_leaves_coordinator : (k : Key) → coordinator_after rs cs (result_on (add k) rs cs) ≡ cs
-  unfolding result_on result outcome decisions_after
+  unfolding result_on result_of outcome decisions_after
   add_leaves_coordinator k = line-leaves (conditions (add k) (sheets_said rs cs)) _ (add_line k) (λ c. refl)
 
   pub remove_leaves_coordinator : (k : Key) → coordinator_after rs cs (result_on (remove k) rs cs) ≡ cs
-  unfolding result_on result outcome decisions_after
+  unfolding result_on result_of outcome decisions_after
   remove_leaves_coordinator k = line-leaves (conditions (remove k) (sheets_said rs cs)) _ (remove_line k) (λ c. refl)

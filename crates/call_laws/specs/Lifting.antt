@@ -12,7 +12,7 @@ use Rattle.model.specs.SheetCalls.{all_issued, readable_conditions, check_condit
 use Rattle.model.specs.Writes.{Sheets, size_good, sheets_good, Write, nothing, line_after, decisions_after, apply}
 use Rattle.model.specs.Results.{Call, Response, Result, refused, made, write_of, answer_of}
 use Rattle.model.specs.Steps.{units_of}
-use Rattle.model.specs.Calls.{result}
+use Rattle.model.specs.Calls.{result_of}
 use Rattle.model.specs.ByteCalls.{sheet_text, sheets_of, on_sheets, result_on, sheet_after, coordinator_after}
 use Rattle.model.specs.Histories.{answer, written, after, ClockFits}
 use Rattle.model.specs.ByteHistories.{Bytes, saying, Readable, Passing, bytes_after, answer_on, after_on}
@@ -165,9 +165,9 @@ encoded-says s h a =
 pub on_passing : {A E : Type 0} (b : Bytes) (call : Sheets → Response A E) → Passing b → on_sheets b.records b.coordinator call ≡ call (saying b)
 on_passing b call h = ap (λ (n : ℕ). cond (eqb n 0) (call (saying b)) (refused n)) h
 
-pub same-result : (c : Call) (b : Bytes) → Passing b → result_on c b.records b.coordinator ≡ result c (saying b)
+pub same-result : (c : Call) (b : Bytes) → Passing b → result_on c b.records b.coordinator ≡ result_of c (saying b)
 unfolding result_on
-same-result c b h = on_passing b (result c) h
+same-result c b h = on_passing b (result_of c) h
 
 pub same_answer : (c : Call) (b : Bytes) → Passing b → answer_on c b ≡ answer c (saying b)
 unfolding answer_on answer
@@ -194,7 +194,7 @@ bytes_of_result b (refused n) h = sym (ap encoded (apply_nothing (saying b)) ∙
 
 pub same_bytes : (c : Call) (b : Bytes) → Passing b → after_on c b ≡ encoded (after c (saying b))
 unfolding after_on after written
-same_bytes c b h = ap (bytes_after b) (same-result c b h) ∙ bytes_of_result b (result c (saying b)) h
+same_bytes c b h = ap (bytes_after b) (same-result c b h) ∙ bytes_of_result b (result_of c (saying b)) h
 
 -- no write changes a letter
 pub capitals_kept : (w : Write) (s : Sheets) → Capitals s → Capitals (apply w s)

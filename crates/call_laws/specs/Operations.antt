@@ -7,7 +7,7 @@ use Rattle.model.specs.SheetCalls.{check_conditions}
 use Rattle.model.specs.Writes.{Sheets, apply}
 use Rattle.model.specs.Conditions.{refusals}
 use Rattle.model.specs.Results.{Call, advance, Answer, refusal_in, Response, Result, refused, made, answer_of}
-use Rattle.model.specs.Calls.{result}
+use Rattle.model.specs.Calls.{result_of}
 use Rattle.model.specs.ByteCalls.{sheets_said, all_conditions, result_on, sheet_after, coordinator_after, sheets_of, records_after}
 use Rattle.model.specs.ByteHistories.{Bytes}
 use Rattle.model.specs.Closing.{close_conditions}
@@ -26,12 +26,12 @@ settled_sound s r (sound_made a w e) = sound_made a _ e
 
 pub response_refusal : (o : Operation) (s : Sheets) → refusal_in (answer_of (response o s)) ≡ refusal_of (operation_conditions o s)
 unfolding response operation_conditions
-response_refusal (once c) s = settled_refusal s (result c s) ∙ result_refusal c s
+response_refusal (once c) s = settled_refusal s (result_of c s) ∙ result_refusal c s
 response_refusal (close t now limit) s = refusal_unless (close_conditions t s) (ended (close_run t now limit s)) refl
 
 pub response_sound : (o : Operation) (s : Sheets) → Sound (response o s)
 unfolding response close_conditions all
-response_sound (once c) s = settled_sound s (result c s) (decoded_sound c s)
+response_sound (once c) s = settled_sound s (result_of c s) (decoded_sound c s)
 response_sound (close t now limit) s = sound_unless (close_conditions t s) _ refl (sound_made _ _ refl)
 
 pub response_sound_on : (o : Operation) (rs cs : List ℕ) → Sound (response_on o rs cs)
@@ -84,7 +84,7 @@ module _ (rs cs : List ℕ) where
       n : ℕ
       n = refusal_of (check_conditions rs cs)
 
-      go : (b : Bool) → cond b (settled s (result c s)) (refused n) ≡ settled s (cond b (result c s) (refused n))
+      go : (b : Bool) → cond b (settled s (result_of c s)) (refused n) ≡ settled s (cond b (result_of c s) (refused n))
       go true = refl
       go false = refl
 

@@ -15,7 +15,7 @@ use Rattle.model.specs.Steps.{Step, holds, units_of, group_at, keys_of, one_phas
 use Rattle.model.specs.Steps.{decide_step, withdraw_step, finish_step, undo_step, step}
 use Rattle.model.specs.Results.{Call, begin, read, second, put, advance, abort, visit, add, remove, shifts_lines, Answer, Result, write_of}
 use Rattle.model.specs.Conditions.{takes_two, conditions}
-use Rattle.model.specs.Calls.{whole_read, outcome, result}
+use Rattle.model.specs.Calls.{whole_read, outcome, result_of}
 use Rattle.model.specs.Histories.{written}
 use Rattle.call_laws.specs.Choices.{by_phase_lem, by_decision_lem, by_written, by_whole}
 use Rattle.model.specs.Refusals.{refusal_of}
@@ -199,7 +199,7 @@ written_unit c s h = by_written (InUnit s) c s (nothing_unit (units_of s)) (λ z
 pub written-shifts : (c : Call) (s : Sheets) → shifts_lines c ≡ false → shifts (written c s) ≡ false
 written-shifts c s h = unit_shifts (written_unit c s h)
 
-pub made_shifts : (c : Call) (s : Sheets) → shifts_lines c ≡ false → shifts (write_of (result c s)) ≡ false
+pub made_shifts : (c : Call) (s : Sheets) → shifts_lines c ≡ false → shifts (write_of (result_of c s)) ≡ false
 unfolding written
 made_shifts c s h = written-shifts c s h
 

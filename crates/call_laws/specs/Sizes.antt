@@ -10,7 +10,7 @@ use Rattle.model.specs.WellFormed.{well_formed}
 use Rattle.model.specs.Visits.{meeting}
 use Rattle.model.specs.Conditions.{cannot_advance, conditions}
 use Rattle.model.specs.Steps.{Step, holds, one_phase_allowed, one_phase, open_step, next_group, prepare_step, validate_step, decide_step, withdraw_step, finish_step, undo_step, step}
-use Rattle.model.specs.Calls.{whole_read, outcome, result}
+use Rattle.model.specs.Calls.{whole_read, outcome, result_of}
 use Rattle.model.specs.Closing.{changes, Run, turn, closing, starting, most_steps, close_conditions}
 use Rattle.model.specs.Operations.{Operation, once, close, operation_shifts, settled, close_run, ended, response}
 use Rattle.call_laws.specs.Lifting.{with_size}
@@ -19,8 +19,8 @@ pub step-resized : (n : ℕ) (t : Transaction) (now : ℕ) (s : Sheets) → step
 unfolding step open_step one_phase one_phase_allowed holds next_group prepare_step validate_step decide_step withdraw_step finish_step undo_step
 step-resized n t now s = refl
 
-pub result-resized : (n : ℕ) (c : Call) (s : Sheets) → shifts_lines c ≡ false → result c (with_size n s) ≡ result c s
-unfolding result conditions outcome whole_read well_formed meeting cannot_advance
+pub result-resized : (n : ℕ) (c : Call) (s : Sheets) → shifts_lines c ≡ false → result_of c (with_size n s) ≡ result_of c s
+unfolding result_of conditions outcome whole_read well_formed meeting cannot_advance
 result-resized n (begin b) s h = refl
 result-resized n (read t k now) s h = refl
 result-resized n (second t k now c) s h = refl
@@ -92,7 +92,7 @@ settled-resized n s (made a w) = refl
 
 pub response-resized : (n : ℕ) (o : Operation) (s : Sheets) → operation_shifts o ≡ false → response o (with_size n s) ≡ resized n (response o s)
 unfolding response close_conditions well_formed
-response-resized n (once c) s h = ap (settled (with_size n s)) (result-resized n c s h) ∙ settled-resized n s (result c s)
+response-resized n (once c) s h = ap (settled (with_size n s)) (result-resized n c s h) ∙ settled-resized n s (result_of c s)
 response-resized n (close t now limit) s h =
     ap (λ (x : Run). unless (close_conditions t s) (ended x)) (closing-resized n most_steps now (starting t limit s))
     ∙ go (eqb (refusal_of (close_conditions t s)) 0)

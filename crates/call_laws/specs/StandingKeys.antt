@@ -8,7 +8,7 @@ use Rattle.model.specs.Writes.{Sheets, nothing, inserted, without, lines_after, 
 use Rattle.model.specs.Results.{Call, begin, read, second, put, advance, abort, visit, add, remove, shifts_lines, Answer, turned_away, returned, answered, visited, reported}
 use Rattle.model.specs.Results.{acknowledged, Response, Result, refused, made, write_of, answer_of}
 use Rattle.model.specs.Conditions.{conditions}
-use Rattle.model.specs.Calls.{outcome, result}
+use Rattle.model.specs.Calls.{outcome, result_of}
 use Rattle.model.specs.Closing.{Run, stops, goes_on, turn, closing, starting, most_steps, close_conditions}
 use Rattle.model.specs.Operations.{Operation, once, close, operation_shifts, stands_for, settled, close_run, ended, response, sheets_left}
 use Rattle.model.specs.SequentialModel.{key_added, key_removed, keys_call, keys_step}
@@ -65,11 +65,11 @@ refused_tells : (c : Call) (rs : List Record) (n : ℕ) → Tells c rs (refused 
 unfolding keys_step
 refused_tells c rs n = keys_after_lem nothing rs refl
 
-calm_result : (c : Call) (s : Sheets) → shifts_lines c ≡ false → Tells c s.lines (result c s)
-calm_result c s h = keys_after_lem (write_of (result c s)) s.lines (made_shifts c s h) ∙ sym (calm_step c (answer_of (result c s)) (keys_in s.lines) h)
+calm_result : (c : Call) (s : Sheets) → shifts_lines c ≡ false → Tells c s.lines (result_of c s)
+calm_result c s h = keys_after_lem (write_of (result_of c s)) s.lines (made_shifts c s h) ∙ sym (calm_step c (answer_of (result_of c s)) (keys_in s.lines) h)
 
-result_keys : (c : Call) (s : Sheets) → Tells c s.lines (result c s)
-unfolding result outcome keys_step keys_call
+result_keys : (c : Call) (s : Sheets) → Tells c s.lines (result_of c s)
+unfolding result_of outcome keys_step keys_call
 result_keys (begin b) s = calm_result (begin b) s refl
 result_keys (read t k now) s = calm_result (read t k now) s refl
 result_keys (second t k now c) s = calm_result (second t k now c) s refl
@@ -106,7 +106,7 @@ settled_keys c s (made a w) h = h
 
 pub response_keys : (o : Operation) (s : Sheets) → keys_in (sheets_left s (response o s)).lines ≡ keys_step (stands_for o) (answer_of (response o s)) (keys_in s.lines)
 unfolding response stands_for keys_step
-response_keys (once c) s = settled_keys c s (result c s) (result_keys c s)
+response_keys (once c) s = settled_keys c s (result_of c s) (result_keys c s)
 response_keys (close t now limit) s = go (eqb (refusal_of (close_conditions t s)) 0)
   where
     by : Bool → Response Answer Sheets

@@ -7,7 +7,7 @@ use Rattle.model.specs.Refusals.{refusal_of}
 use Rattle.model.specs.Writes.{Sheets, Write, add_line, remove_line, inserted, without, decisions_after, apply}
 use Rattle.model.specs.Results.{Call, add, remove, acknowledged, refusal_in, made, refused, unless, write_of, answer_of}
 use Rattle.model.specs.Conditions.{is_blank, conditions}
-use Rattle.model.specs.Calls.{outcome, result}
+use Rattle.model.specs.Calls.{outcome, result_of}
 use Rattle.model.specs.Histories.{answer, written, after}
 use Rattle.sheet_laws.specs.KeyOrder.{lists_key, has_line_lem, same_key_refl}
 use Rattle.sheet_laws.specs.AddedLines.{line-inserted, lists_inserted, without-inserted, length_without, lists_without, inserted-without}
@@ -18,7 +18,7 @@ use Rattle.call_laws.specs.Sheets.{GoodSheets, removed_line, listed_range}
 -- A call that is acknowledged was accepted.
 module _ (c : Call) (s : Sheets) (w : Write) (Made-so : outcome c s ≡ made acknowledged w) where
   accepted_call : answer c s ≡ acknowledged → refusal_of (conditions c s) ≡ 0
-  unfolding answer result
+  unfolding answer result_of
   accepted_call e = go (eqb (refusal_of (conditions c s)) 0) refl e
     where
       go : (b : Bool) → eqb (refusal_of (conditions c s)) 0 ≡ b → answer_of (cond b (outcome c s) (refused (refusal_of (conditions c s)))) ≡ acknowledged → refusal_of (conditions c s) ≡ 0
@@ -27,7 +27,7 @@ module _ (c : Call) (s : Sheets) (w : Write) (Made-so : outcome c s ≡ made ack
 
   -- what it writes and answers
   accepted_result : refusal_of (conditions c s) ≡ 0 → (answer c s ≡ acknowledged) × (written c s ≡ w)
-  unfolding answer written result
+  unfolding answer written result_of
   accepted_result z =
       let r : unless (conditions c s) (outcome c s) ≡ made acknowledged w = ap (λ (n : ℕ). cond (eqb n 0) (outcome c s) (refused n)) z ∙ Made-so in
       (ap answer_of r, ap write_of r)

@@ -12,7 +12,7 @@ use Rattle.model.specs.Refusals.{Condition, refuse, refusal_of}
 use Rattle.model.specs.Results.{Call, begin, read, second, put, advance, abort, visit, Answer, Response, Result, answer_of, returns}
 use Rattle.model.specs.Conditions.{takes_two, conditions}
 use Rattle.model.specs.Steps.{units_of}
-use Rattle.model.specs.Calls.{whole_read, after_put, outcome, result}
+use Rattle.model.specs.Calls.{whole_read, after_put, outcome, result_of}
 use Rattle.model.specs.Closing.{Run, starting, most_steps, close_conditions}
 use Rattle.model.specs.Operations.{stands_for, settled, close_run, response, sheets_left}
 use Rattle.model.specs.Requests.{operation_of}
@@ -44,8 +44,8 @@ put_number t k c = go (held_at k t)
 -- Every request.
 module _ (t : Transaction) (s : Sheets) where
   -- a call, refused or not
-  call_hands : (c : Call) → (refusal_of (conditions c s) ≡ 0 → Handed c t s (settled s (outcome c s))) → Handed c t s (settled s (result c s))
-  unfolding result
+  call_hands : (c : Call) → (refusal_of (conditions c s) ≡ 0 → Handed c t s (settled s (outcome c s))) → Handed c t s (settled s (result_of c s))
+  unfolding result_of
   call_hands c f = unless_by (λ (r : Result Answer). Handed c t s (settled s r)) (conditions c s) (stays refl refl) f
 
   -- a call that takes the transaction and returns it

@@ -9,7 +9,7 @@ use Rattle.model.specs.WellFormed.{well_formed}
 use Rattle.model.specs.Results.{Call, advance, Answer, returned, returns, made, write_of, answer_of}
 use Rattle.model.specs.Conditions.{cannot_advance, conditions}
 use Rattle.model.specs.Steps.{step}
-use Rattle.model.specs.Calls.{outcome, result}
+use Rattle.model.specs.Calls.{outcome, result_of}
 use Rattle.model.specs.Closing.{changes, Run, step_writes, stops, goes_on, turn, closing, closing_calls, writes_in}
 use Rattle.model.specs.Histories.{Event, answer, written, after, given, taken_by, Available, events_after, left_by, Legal}
 use Rattle.model.specs.SequentialModel.{Model, model_commit, commits_it, model_call, model_step, model_after}
@@ -18,8 +18,8 @@ use Rattle.closing_laws.specs.Steps.{close_advance, Sound, may_go, sound_next, v
 
 -- an advance that isn't refused
 pub advance_made : (t : Transaction) (now : ℕ) (s : Sheets) → well_formed s t ≡ true → cannot_advance t s ≡ false
-    → result (advance t now) s ≡ made (returned (step t now s).transaction) (step t now s).write
-unfolding result outcome conditions refusal_of
+    → result_of (advance t now) s ≡ made (returned (step t now s).transaction) (step t now s).write
+unfolding result_of outcome conditions refusal_of
 advance_made t now s f c = rw (f, c) refl
 
 advance_writes : (t : Transaction) (now : ℕ) (s : Sheets) → well_formed s t ≡ true → cannot_advance t s ≡ false → written (advance t now) s ≡ (step t now s).write

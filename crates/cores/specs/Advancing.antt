@@ -7,7 +7,7 @@ use Rattle.model.specs.WellFormed.{well_formed}
 use Rattle.model.specs.Results.{advance, returned, refused, made}
 use Rattle.model.specs.Conditions.{cannot_advance, conditions}
 use Rattle.model.specs.Steps.{step}
-use Rattle.model.specs.Calls.{outcome, result}
+use Rattle.model.specs.Calls.{outcome, result_of}
 use Rattle.model.specs.ByteCalls.{sheets_of}
 use Rattle.call_laws.specs.Accepted.{Outcome, outcome_made}
 use Rattle.well_formed.specs.Barred.{forbids}
@@ -15,21 +15,21 @@ use Rattle.steps.specs.Stepped.{Stepped}
 use Rattle.answers.specs.Answers.{to_returned, returned_made}
 
 module _ (t : Transaction) (clock : ℕ) (rs cs : List ℕ) where
-  pub advance_ill : well_formed (sheets_of rs cs) t ≡ false → result (advance t clock) (sheets_of rs cs) ≡ refused 3
-  unfolding result conditions refusal_of
+  pub advance_ill : well_formed (sheets_of rs cs) t ≡ false → result_of (advance t clock) (sheets_of rs cs) ≡ refused 3
+  unfolding result_of conditions refusal_of
   advance_ill e = rw e
 
   module _ (formed : well_formed (sheets_of rs cs) t ≡ true) where
-    pub advance_forbidden : forbids t.phase (decision t.number (coordinator_of cs)) ≡ true → result (advance t clock) (sheets_of rs cs) ≡ refused 4
-    unfolding result conditions cannot_advance forbids refusal_of
+    pub advance_forbidden : forbids t.phase (decision t.number (coordinator_of cs)) ≡ true → result_of (advance t clock) (sheets_of rs cs) ≡ refused 4
+    unfolding result_of conditions cannot_advance forbids refusal_of
     advance_forbidden f = rw (formed, f)
 
-    advance_made : forbids t.phase (decision t.number (coordinator_of cs)) ≡ false → result (advance t clock) (sheets_of rs cs) ≡ made (returned (step t clock (sheets_of rs cs)).transaction) (step t clock (sheets_of rs cs)).write
-    unfolding result outcome conditions cannot_advance forbids refusal_of
+    advance_made : forbids t.phase (decision t.number (coordinator_of cs)) ≡ false → result_of (advance t clock) (sheets_of rs cs) ≡ made (returned (step t clock (sheets_of rs cs)).transaction) (step t clock (sheets_of rs cs)).write
+    unfolding result_of outcome conditions cannot_advance forbids refusal_of
     advance_made f = rw (formed, f)
 
     -- what the step gives
-    pub step-outcome : {u : Transaction} {rs' cs' : List ℕ} → forbids t.phase (decision t.number (coordinator_of cs)) ≡ false → Stepped (sheets_of rs cs) (step t clock (sheets_of rs cs)) u rs' cs' → Outcome (to_returned t) (result (advance t clock) (sheets_of rs cs)) rs cs (record { refusal = 0; transaction = u }) rs' cs'
+    pub step-outcome : {u : Transaction} {rs' cs' : List ℕ} → forbids t.phase (decision t.number (coordinator_of cs)) ≡ false → Stepped (sheets_of rs cs) (step t clock (sheets_of rs cs)) u rs' cs' → Outcome (to_returned t) (result_of (advance t clock) (sheets_of rs cs)) rs cs (record { refusal = 0; transaction = u }) rs' cs'
     step-outcome f x =
         outcome_made (to_returned t) rs cs (returned (step t clock (sheets_of rs cs)).transaction) (step t clock (sheets_of rs cs)).write (advance_made f)
         (returned_made t (step t clock (sheets_of rs cs)).write x.transaction) (record { lines = x.records; decisions = x.coordinator })

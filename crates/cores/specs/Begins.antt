@@ -8,7 +8,7 @@ use Rattle.model.specs.Refusals.{refusal_of}
 use Rattle.model.specs.Writes.{issue, line_after, decisions_after, apply}
 use Rattle.model.specs.Results.{begin, returned, refused, made}
 use Rattle.model.specs.Conditions.{conditions}
-use Rattle.model.specs.Calls.{new_transaction, outcome, result}
+use Rattle.model.specs.Calls.{new_transaction, outcome, result_of}
 use Rattle.model.specs.ByteCalls.{sheets_of}
 use Rattle.sheet_laws.specs.Coordinator.{bounds}
 use Rattle.sheet_laws.specs.Decisions.{length-decisions, readable_length, readable_parts}
@@ -20,11 +20,11 @@ use Rattle.answers.specs.Answers.{to_issued}
 
 -- which number begin gives and what it leaves, checked or not and whatever accepted record sheet lies beside the coordinator sheet
 pub record Issues (cs : List ℕ) (r : Issued) (cs' : List ℕ) : Type 0 where
-  pub beside : (b : Bool) (rs : List ℕ) → Accepted rs cs → Outcome to_issued (result (begin b) (sheets_of rs cs)) rs cs r rs cs'
+  pub beside : (b : Bool) (rs : List ℕ) → Accepted rs cs → Outcome to_issued (result_of (begin b) (sheets_of rs cs)) rs cs r rs cs'
 
 module _ (cs : List ℕ) (a : coordinator_readable cs ≡ true) where
   pub issue_spent : eqb (coordinator_of cs).issued (length (drop coordinator_bytes cs) / coordinator_bytes) ≡ true → Issues cs (to_issued (refused 8)) cs
-  unfolding result conditions refusal_of
+  unfolding result_of conditions refusal_of
   issue_spent spent = record { beside = λ b rs h. outcome_refused to_issued rs cs 8 (rw (length-decisions cs, spent)) refl }
 
   module _ (left : eqb (coordinator_of cs).issued (length (drop coordinator_bytes cs) / coordinator_bytes) ≡ false) where
@@ -39,8 +39,8 @@ module _ (cs : List ℕ) (a : coordinator_readable cs ≡ true) where
         let m : length (coordinator_of cs).decisions ≤ 999 = (bounds (coordinator_of cs) (readable_parts cs a).good).few in
         omega arith
 
-    begin_made : (b : Bool) (rs : List ℕ) → result (begin b) (sheets_of rs cs) ≡ made (returned (new_transaction ((coordinator_of cs).issued + 1) b)) issue
-    unfolding result outcome conditions refusal_of
+    begin_made : (b : Bool) (rs : List ℕ) → result_of (begin b) (sheets_of rs cs) ≡ made (returned (new_transaction ((coordinator_of cs).issued + 1) b)) issue
+    unfolding result_of outcome conditions refusal_of
     begin_made b rs = rw (length-decisions cs, left)
 
     begin_written : (rs : List ℕ) → Accepted rs cs → {cs' : List ℕ} → cs' ≡ cond (leb 4 (length cs)) (over cs 0 (field_text 4 ((coordinator_of cs).issued + 1))) cs → Written issue rs cs rs cs'

@@ -8,7 +8,7 @@ use Rattle.model.specs.Writes.{Sheets, nothing}
 use Rattle.model.specs.WellFormed.{columns_in_range}
 use Rattle.model.specs.Results.{put, Answer, returned, Result, refused, made, unless}
 use Rattle.model.specs.Conditions.{is_new, held_entry, conditions}
-use Rattle.model.specs.Calls.{after_put, outcome, result}
+use Rattle.model.specs.Calls.{after_put, outcome, result_of}
 use Rattle.transactions.specs.Held.{entry_at}
 use Rattle.call_laws.specs.Accepted.{unless-front, unless_past}
 use Rattle.admission.specs.Admission.{admitting_open}
@@ -54,19 +54,19 @@ module _ (t : Transaction) (k : Key) (c : Columns) where
   put_over_lem i e f = rw (e, f) (late_version (leb 99999 (entry_at t i).seen.version) _)
 
   module _ (s : Sheets) where
-    pub put_away : (n : ℕ) → n ≡ refusal_of (admitting_open t k s) → (n ≡ 0 → ⊥) → result (put t k c) s ≡ refused n
-    unfolding result conditions admitting_open
+    pub put_away : (n : ℕ) → n ≡ refusal_of (admitting_open t k s) → (n ≡ 0 → ⊥) → result_of (put t k c) s ≡ refused n
+    unfolding result_of conditions admitting_open
     put_away n e z = unless-front (admitting_open t k s) (refuse 6 (not (has_line k s.lines)) ∷ held_conditions t k c) (outcome (put t k c) s) n e z
 
     module _ (free : refusal_of (admitting_open t k s) ≡ 0) where
-      put_rest : result (put t k c) s ≡ unless (refuse 6 (not (has_line k s.lines)) ∷ held_conditions t k c) (outcome (put t k c) s)
-      unfolding result conditions admitting_open all
+      put_rest : result_of (put t k c) s ≡ unless (refuse 6 (not (has_line k s.lines)) ∷ held_conditions t k c) (outcome (put t k c) s)
+      unfolding result_of conditions admitting_open all
       put_rest = unless_past (admitting_open t k s) (refuse 6 (not (has_line k s.lines)) ∷ held_conditions t k c) (outcome (put t k c) s) refl free
 
-      pub put_none : found k s.lines ≡ Nothing → result (put t k c) s ≡ refused 6
+      pub put_none : found k s.lines ≡ Nothing → result_of (put t k c) s ≡ refused 6
       unfolding refusal_of is_missing
       put_none e = put_rest ∙ rw e
 
-      pub put_found : (i : ℕ) → found k s.lines ≡ At i → result (put t k c) s ≡ put_held t k c
+      pub put_found : (i : ℕ) → found k s.lines ≡ At i → result_of (put t k c) s ≡ put_held t k c
       unfolding put_held outcome refusal_of is_missing
       put_found i e = put_rest ∙ rw e

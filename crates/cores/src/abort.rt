@@ -2,7 +2,7 @@
 ghost use Rattle.std.specs.Prelude.{◌≡◌};
 ghost use Rattle.model.specs.Results.{abort};
 ghost use Rattle.model.specs.Conditions.{cannot_abort};
-ghost use Rattle.model.specs.Calls.{result};
+ghost use Rattle.model.specs.Calls.{result_of};
 ghost use Rattle.model.specs.ByteCalls.{sheets_of};
 ghost use Rattle.call_laws.specs.Accepted.{Accepted};
 ghost use Rattle.answers.specs.Answers.{to_returned};
@@ -12,7 +12,7 @@ use types::Transaction;
 
 // Refusal 4: a transaction that is withdrawn or decided can't be given up.
 fn cannot_abort(t: Transaction) -> bool
-    ensures* { λ r. ⌜ r ≡ cannot_abort t ⌝ }
+    ensures { result ≡ cannot_abort t }
 {
     let phase = t.phase;
     match phase {
@@ -30,7 +30,7 @@ fn cannot_abort(t: Transaction) -> bool
 
 pub fn abort(t: Transaction, records: &[u8], coordinator: &[u8]) -> Returned
     requires { Accepted records.now coordinator.now }
-    ensures* { λ r. ⌜ r ≡ to_returned t (result (abort t) (sheets_of records.now coordinator.now)) ⌝ }
+    ensures { result ≡ to_returned t (result_of (abort t) (sheets_of records.now coordinator.now)) }
 {
     if !admission::judge(t, coordinator).formed {
         return refusal(3, t);

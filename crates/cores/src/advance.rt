@@ -1,6 +1,6 @@
 // One step of a transaction, by its phase.
 ghost use Rattle.model.specs.Results.{advance};
-ghost use Rattle.model.specs.Calls.{result};
+ghost use Rattle.model.specs.Calls.{result_of};
 ghost use Rattle.model.specs.ByteCalls.{sheets_of};
 ghost use Rattle.call_laws.specs.Accepted.{Accepted, Outcome};
 ghost use Rattle.answers.specs.Answers.{to_returned};
@@ -11,7 +11,7 @@ use well_formed::barred;
 
 pub fn advance(t: Transaction, clock: u32, records: &mut [u8], coordinator: &mut [u8]) -> Returned
     requires { Accepted records.old coordinator.old }
-    ensures* { λ r. ⌜ Outcome (to_returned t) (result (advance t clock) (sheets_of records.old coordinator.old)) records.old coordinator.old r records.new coordinator.new ⌝ }
+    ensures { Outcome (to_returned t) (result_of (advance t clock) (sheets_of records.old coordinator.old)) records.old coordinator.old result records.new coordinator.new }
 {
     let admitted = admission::admit(t, records, coordinator);
     if !admitted.formed {

@@ -1,7 +1,7 @@
 // The columns that a transaction means to write to a key that it holds.
 ghost use Rattle.std.specs.Prelude.{◌≡◌, ◌≤◌, ◌<◌};
 ghost use Rattle.model.specs.Results.{put};
-ghost use Rattle.model.specs.Calls.{result};
+ghost use Rattle.model.specs.Calls.{result_of};
 ghost use Rattle.model.specs.ByteCalls.{sheets_of};
 ghost use Rattle.call_laws.specs.Accepted.{Accepted};
 ghost use Rattle.answers.specs.Answers.{to_returned};
@@ -13,7 +13,7 @@ use types::{Columns, Entry, Found, Key, Transaction};
 // A put over entry i.
 fn put_at(t: Transaction, i: usize, columns: Columns) -> Returned
     requires { i < 8 }
-    ensures* { λ r. ⌜ r ≡ to_returned t (put_at t i columns) ⌝ }
+    ensures { result ≡ to_returned t (put_at t i columns) }
 {
     let e = transactions::entry_at(t, i);
     if 99999 <= e.seen.version {
@@ -39,7 +39,7 @@ fn put_at(t: Transaction, i: usize, columns: Columns) -> Returned
 // A put of a key that has a line.
 fn put_held(t: Transaction, key: Key, columns: Columns) -> Returned
     requires { t.count ≤ 8 }
-    ensures* { λ r. ⌜ r ≡ to_returned t (put_held t key columns) ⌝ }
+    ensures { result ≡ to_returned t (put_held t key columns) }
 {
     if !well_formed::columns_in_range(columns) {
         return refusal(7, t);
@@ -58,7 +58,7 @@ pub fn put(
     coordinator: &[u8],
 ) -> Returned
     requires { Accepted records.now coordinator.now }
-    ensures* { λ r. ⌜ r ≡ to_returned t (result (put t key columns) (sheets_of records.now coordinator.now)) ⌝ }
+    ensures { result ≡ to_returned t (result_of (put t key columns) (sheets_of records.now coordinator.now)) }
 {
     let refused = admission::open_refusal(t, key, coordinator);
     if refused != 0 {

@@ -9,7 +9,7 @@ use Rattle.model.specs.Refusals.{refusal_of}
 use Rattle.model.specs.SheetCalls.{check_conditions}
 use Rattle.model.specs.Writes.{Sheets}
 use Rattle.model.specs.Results.{Call, shifts_lines, Answer, Response, Result, refused, made}
-use Rattle.model.specs.Calls.{result}
+use Rattle.model.specs.Calls.{result_of}
 use Rattle.model.specs.ByteCalls.{sheets_said, result_on, sheets_of}
 use Rattle.model.specs.Operations.{Operation, operation_shifts, response, sheets_left, response_on, sheet_left, coordinator_left, records_left}
 use Rattle.sheet_laws.specs.Fronts.{filled_within}
@@ -59,13 +59,13 @@ module _ (rs cs : List ℕ) (passed : refusal_of (check_conditions rs cs) ≡ 0)
   behind = ap (λ (n : ℕ). drop n rs) (sym at)
 
   module _ {B : Type 0} (f : Result Answer → B) (c : Call) (calm : shifts_lines c ≡ false) {answer : B} where
-    pub call_passed : {ls' cs' : List ℕ} → Outcome f (result c (sheets_of (take end rs) cs)) (take end rs) cs answer ls' cs' → SheetOutcome f (result_on c rs cs) rs cs answer (ls' ++ drop end rs) cs'
+    pub call_passed : {ls' cs' : List ℕ} → Outcome f (result_of c (sheets_of (take end rs) cs)) (take end rs) cs answer ls' cs' → SheetOutcome f (result_on c rs cs) rs cs answer (ls' ++ drop end rs) cs'
     call_passed {ls'} {cs'} o =
         subst (λ (x : List ℕ). SheetOutcome f (result_on c rs cs) rs cs answer (ls' ++ x) cs') behind
-        (let_pass f c rs cs calm passed (subst (λ (x : List ℕ). Outcome f (result c (sheets_of x cs)) x cs answer ls' cs') (sym lent) o))
+        (let_pass f c rs cs calm passed (subst (λ (x : List ℕ). Outcome f (result_of c (sheets_of x cs)) x cs answer ls' cs') (sym lent) o))
 
-    pub answer-passed : answer ≡ f (result c (sheets_of (take end rs) cs)) → answer ≡ f (result_on c rs cs)
-    answer-passed e = passed-answer f c rs cs calm passed (e ∙ ap (λ (x : List ℕ). f (result c (sheets_of x cs))) (sym lent))
+    pub answer-passed : answer ≡ f (result_of c (sheets_of (take end rs) cs)) → answer ≡ f (result_on c rs cs)
+    answer-passed e = passed-answer f c rs cs calm passed (e ∙ ap (λ (x : List ℕ). f (result_of c (sheets_of x cs))) (sym lent))
 
   module _ {B : Type 0} (f : Response Answer Sheets → B) (blind : Blind f) (o : Operation) (calm : operation_shifts o ≡ false) where
     abbrev inner : Response Answer Sheets

@@ -4,7 +4,7 @@ use Rattle.model.specs.SheetCalls.{check_conditions}
 use Rattle.model.specs.Writes.{Sheets}
 use Rattle.model.specs.Results.{Call, begin, Answer, Result, refused}
 use Rattle.model.specs.Conditions.{conditions}
-use Rattle.model.specs.Calls.{outcome, result}
+use Rattle.model.specs.Calls.{outcome, result_of}
 use Rattle.model.specs.ByteCalls.{sheets_said, result_on, coordinator_after}
 use Rattle.call_laws.specs.Choices.{unless_of}
 use Rattle.call_laws.specs.Accepted.{SheetOutcome}
@@ -21,7 +21,7 @@ issues_on o = record { answer = λ b. (o b).said; decisions = λ b. (o b).decisi
 
 -- a result on bytes is a refusal, or what the call comes to
 on_result : (rs cs : List ℕ) (P : Result Answer → Type 0) (c : Call) → ((n : ℕ) → (n ≡ 0 → ⊥) → P (refused n)) → ((s : Sheets) → P (outcome c s)) → P (result_on c rs cs)
-unfolding result_on result
+unfolding result_on result_of
 on_result rs cs P c r o =
     unless_of P (check_conditions rs cs) (λ z. r _ z)
     (λ p. unless_of P (conditions c (sheets_said rs cs)) (λ z. r _ z) (λ q. o (sheets_said rs cs)))

@@ -9,7 +9,7 @@ use Rattle.model.specs.SheetCalls.{check_conditions}
 use Rattle.model.specs.Writes.{Sheets, apply}
 use Rattle.model.specs.Results.{Call, Answer, Response, Result, refused, made, unless}
 use Rattle.model.specs.Conditions.{conditions}
-use Rattle.model.specs.Calls.{result}
+use Rattle.model.specs.Calls.{result_of}
 
 -- what two sheets say, whatever their bytes
 abbrev pub sheets_said : List ℕ → List ℕ → Sheets
@@ -28,7 +28,7 @@ abbrev pub on_sheets : {A E : Type 0} → List ℕ → List ℕ → (Sheets → 
 on_sheets rs cs call = unless (check_conditions rs cs) (call (sheets_said rs cs))
 
 unfoldable pub result_on : Call → List ℕ → List ℕ → Result Answer
-result_on c rs cs = on_sheets rs cs (result c)
+result_on c rs cs = on_sheets rs cs (result_of c)
 
 -- the record sheet after a call: as it was, where the call is refused
 unfoldable pub sheet_after : {A : Type 0} → List ℕ → List ℕ → Result A → List ℕ

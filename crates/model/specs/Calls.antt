@@ -83,5 +83,5 @@ outcome (add k) s = made acknowledged (add_line k)
 outcome (remove k) s = made acknowledged (remove_line k)
 
 -- Every call: refused by the first of its conditions that holds, or what an accepted one comes to.
-unfoldable pub result : Call → Sheets → Result Answer
-result c s = unless (conditions c s) (outcome c s)
+unfoldable pub result_of : Call → Sheets → Result Answer
+result_of c s = unless (conditions c s) (outcome c s)

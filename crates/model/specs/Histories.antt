@@ -4,7 +4,7 @@ use Rattle.model.specs.Types.{Transaction}
 use Rattle.model.specs.Writes.{Sheets, Write, is_one_phase, apply}
 use Rattle.model.specs.Results.{Call, begin, read, second, put, advance, abort, visit, add, remove, Answer, turned_away, returned, answered, visited, reported}
 use Rattle.model.specs.Results.{acknowledged, returns, write_of, answer_of}
-use Rattle.model.specs.Calls.{result}
+use Rattle.model.specs.Calls.{result_of}
 
 -- a call made, and its answer
 pub record Event : Type 0 where
@@ -13,11 +13,11 @@ pub record Event : Type 0 where
 
 -- what the call answers, made with these sheets
 unfoldable pub answer : Call → Sheets → Answer
-answer c s = answer_of (result c s)
+answer c s = answer_of (result_of c s)
 
 -- what the call writes, made with these sheets
 unfoldable pub written : Call → Sheets → Write
-written c s = write_of (result c s)
+written c s = write_of (result_of c s)
 
 -- the sheets as the call leaves them
 unfoldable pub after : Call → Sheets → Sheets

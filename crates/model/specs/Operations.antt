@@ -8,7 +8,7 @@ use Rattle.model.specs.SheetCalls.{check_conditions}
 use Rattle.model.specs.Writes.{Sheets, apply}
 use Rattle.model.specs.Results.{Call, advance, shifts_lines, Answer, reported, Response, Result, refused, made, unless}
 use Rattle.model.specs.Conditions.{conditions}
-use Rattle.model.specs.Calls.{result}
+use Rattle.model.specs.Calls.{result_of}
 use Rattle.model.specs.ByteCalls.{sheets_said, sheet_text, on_sheets}
 use Rattle.model.specs.ByteHistories.{Bytes}
 use Rattle.model.specs.Closing.{Run, closing, starting, closing_calls, most_steps, close_conditions}
@@ -57,7 +57,7 @@ ended x = made (reported x.writes x.transaction) x.sheets
 
 -- refused by the first condition that holds, or an answer and both sheets after it
 unfoldable pub response : Operation → Sheets → Response Answer Sheets
-response (once c) s = settled s (result c s)
+response (once c) s = settled s (result_of c s)
 response (close t now limit) s = unless (close_conditions t s) (ended (close_run t now limit s))
 
 -- the sheets after it

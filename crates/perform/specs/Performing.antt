@@ -6,7 +6,7 @@ use Rattle.types.specs.declared.Request.TheVariants as asked
 use Rattle.model.specs.Writes.{Sheets, nothing, apply}
 use Rattle.model.specs.Results.{Call, begin, read, second, put, advance, abort, visit, Answer, Response, Result, refused, made}
 use Rattle.model.specs.Conditions.{conditions}
-use Rattle.model.specs.Calls.{outcome, result}
+use Rattle.model.specs.Calls.{outcome, result_of}
 use Rattle.model.specs.ByteCalls.{sheets_of, records_after, coordinator_after}
 use Rattle.model.specs.Closing.{close_conditions}
 use Rattle.model.specs.Operations.{Operation, once, close, settled, response, records_left, coordinator_left}
@@ -25,12 +25,12 @@ use Rattle.answers.specs.Answers.{to_begun, to_issued, of_issued, to_returned, t
 
 module _ (s : Sheets) where
   -- what holds of a refusal, and of what the call comes to, holds of its result
-  on_result : (P : Result Answer → Type 0) (c : Call) → ((n : ℕ) → (n ≡ 0 → ⊥) → P (refused n)) → P (outcome c s) → P (result c s)
-  unfolding result
+  on_result : (P : Result Answer → Type 0) (c : Call) → ((n : ℕ) → (n ≡ 0 → ⊥) → P (refused n)) → P (outcome c s) → P (result_of c s)
+  unfolding result_of
   on_result P c r o = unless_of P (conditions c s) (λ z. r _ z) (λ q. o)
 
   -- a begin without its transaction is the begin
-  issued-begun : (b : Bool) → of_issued b (to_issued (result (begin b) s)) ≡ to_begun (result (begin b) s)
+  issued-begun : (b : Bool) → of_issued b (to_issued (result_of (begin b) s)) ≡ to_begun (result_of (begin b) s)
   unfolding outcome
   issued-begun b = on_result (λ (r : Result Answer). of_issued b (to_issued r) ≡ to_begun r) (begin b) (λ n z. rw (ne_eqb n 0 z, and-false b)) (rw (and-true b))
 
@@ -38,23 +38,23 @@ module _ (s : Sheets) where
     abbrev Returning : Result Answer → Type 0
     Returning r = of_returned (to_returned t r) ≡ to_performed t r
 
-    put_performed : (k : Key) (c : Columns) → Returning (result (put t k c) s)
+    put_performed : (k : Key) (c : Columns) → Returning (result_of (put t k c) s)
     unfolding outcome
     put_performed k c = on_result Returning (put t k c) (λ n z. refl) refl
 
-    advance_performed : (now : ℕ) → Returning (result (advance t now) s)
+    advance_performed : (now : ℕ) → Returning (result_of (advance t now) s)
     unfolding outcome
     advance_performed now = on_result Returning (advance t now) (λ n z. refl) refl
 
-    abort_performed : Returning (result (abort t) s)
+    abort_performed : Returning (result_of (abort t) s)
     unfolding outcome
     abort_performed = on_result Returning (abort t) (λ n z. refl) refl
 
-    begin_performed : (b : Bool) → of_begun t (to_begun (result (begin b) s)) ≡ to_performed t (result (begin b) s)
+    begin_performed : (b : Bool) → of_begun t (to_begun (result_of (begin b) s)) ≡ to_performed t (result_of (begin b) s)
     unfolding outcome
     begin_performed b = on_result (λ (r : Result Answer). of_begun t (to_begun r) ≡ to_performed t r) (begin b) (λ n z. rw (ne_eqb n 0 z)) refl
 
-    visit_performed : (k : Key) (now : ℕ) → of_visited t (to_visited (result (visit k now) s)) ≡ to_performed t (result (visit k now) s)
+    visit_performed : (k : Key) (now : ℕ) → of_visited t (to_visited (result_of (visit k now) s)) ≡ to_performed t (result_of (visit k now) s)
     unfolding outcome
     visit_performed k now = on_result (λ (r : Result Answer). of_visited t (to_visited r) ≡ to_performed t r) (visit k now) (λ n z. refl) refl
 
@@ -84,17 +84,17 @@ module _ (q : Request) (t : Transaction) (rs cs : List ℕ) (accepted : Accepted
   comes_to_lem r e o l d = (o ∙ ap (to_performed t) (sym e), (l ∙ ap (records_left rs) (sym e), d ∙ ap (coordinator_left cs) (sym e)))
 
   -- of the call that it is
-  made_of : (c : Call) {rs' cs' : List ℕ} → operation_of q t ≡ once c → out ≡ to_performed t (result c s)
-      → rs' ≡ records_after rs cs (result c s) → cs' ≡ coordinator_after rs cs (result c s) → Performs rs' cs'
+  made_of : (c : Call) {rs' cs' : List ℕ} → operation_of q t ≡ once c → out ≡ to_performed t (result_of c s)
+      → rs' ≡ records_after rs cs (result_of c s) → cs' ≡ coordinator_after rs cs (result_of c s) → Performs rs' cs'
   unfolding response
   made_of c e o l d =
-      let r = result c s in
+      let r = result_of c s in
       comes_to_lem (settled s r) (ap (λ (x : Operation). response x s) e)
       (o ∙ sym (settled_performed s t r)) (l ∙ sym (settled_lines rs cs r)) (d ∙ sym (settled-decisions rs cs r))
 
   -- a call that writes nothing leaves both sheets
-  quiet : (c : Call) (a : Answer) → outcome c s ≡ made a nothing → operation_of q t ≡ once c → out ≡ to_performed t (result c s) → Performs rs cs
-  unfolding records_after coordinator_after apply result
+  quiet : (c : Call) (a : Answer) → outcome c s ≡ made a nothing → operation_of q t ≡ once c → out ≡ to_performed t (result_of c s) → Performs rs cs
+  unfolding records_after coordinator_after apply result_of
   quiet c a e f o =
       let n = written_nothing rs cs accepted in
       let l = on_result s (λ (r : Result Answer). (rs ≡ records_after rs cs r) × (cs ≡ coordinator_after rs cs r)) c (λ n z. (refl, refl))
@@ -108,27 +108,27 @@ module _ (q : Request) (t : Transaction) (rs cs : List ℕ) (accepted : Accepted
       made_of (begin b) (ap (λ (y : Request). operation_of y t) e)
       (o ∙ (ap (of_begun t) (f ∙ (ap (of_issued b) x.said ∙ issued-begun s b)) ∙ begin_performed s t b)) x.lines x.decisions
 
-  pub was_read : (k : Key) (now : ℕ) {rs' cs' : List ℕ} → q ≡ asked.Read k now → Outcome (to_performed t) (result (read t k now) s) rs cs out rs' cs' → Performs rs' cs'
+  pub was_read : (k : Key) (now : ℕ) {rs' cs' : List ℕ} → q ≡ asked.Read k now → Outcome (to_performed t) (result_of (read t k now) s) rs cs out rs' cs' → Performs rs' cs'
   unfolding operation_of
   was_read k now e h = made_of (read t k now) (ap (λ (x : Request). operation_of x t) e) h.said h.lines h.decisions
 
-  pub was_second : (k : Key) (now : ℕ) (c : Columns) {rs' cs' : List ℕ} → q ≡ asked.Second k now c → Outcome (to_performed t) (result (second t k now c) s) rs cs out rs' cs' → Performs rs' cs'
+  pub was_second : (k : Key) (now : ℕ) (c : Columns) {rs' cs' : List ℕ} → q ≡ asked.Second k now c → Outcome (to_performed t) (result_of (second t k now c) s) rs cs out rs' cs' → Performs rs' cs'
   unfolding operation_of
   was_second k now c e h = made_of (second t k now c) (ap (λ (x : Request). operation_of x t) e) h.said h.lines h.decisions
 
-  pub was_put : (k : Key) (c : Columns) (r : Returned) → q ≡ asked.Put k c → out ≡ of_returned r → r ≡ to_returned t (result (put t k c) s) → Performs rs cs
+  pub was_put : (k : Key) (c : Columns) (r : Returned) → q ≡ asked.Put k c → out ≡ of_returned r → r ≡ to_returned t (result_of (put t k c) s) → Performs rs cs
   unfolding operation_of outcome
   was_put k c r e o f = quiet (put t k c) _ refl (ap (λ (x : Request). operation_of x t) e) (o ∙ (ap of_returned f ∙ put_performed s t k c))
 
-  pub advanced : (now : ℕ) (r : Returned) {rs' cs' : List ℕ} → q ≡ asked.Advance now → out ≡ of_returned r → Outcome (to_returned t) (result (advance t now) s) rs cs r rs' cs' → Performs rs' cs'
+  pub advanced : (now : ℕ) (r : Returned) {rs' cs' : List ℕ} → q ≡ asked.Advance now → out ≡ of_returned r → Outcome (to_returned t) (result_of (advance t now) s) rs cs r rs' cs' → Performs rs' cs'
   unfolding operation_of
   advanced now r e o h = made_of (advance t now) (ap (λ (x : Request). operation_of x t) e) (o ∙ (ap of_returned h.said ∙ advance_performed s t now)) h.lines h.decisions
 
-  pub aborted : (r : Returned) → q ≡ asked.Abort → out ≡ of_returned r → r ≡ to_returned t (result (abort t) s) → Performs rs cs
+  pub aborted : (r : Returned) → q ≡ asked.Abort → out ≡ of_returned r → r ≡ to_returned t (result_of (abort t) s) → Performs rs cs
   unfolding operation_of outcome
   aborted r e o f = quiet (abort t) _ refl (ap (λ (x : Request). operation_of x t) e) (o ∙ (ap of_returned f ∙ abort_performed s t))
 
-  pub was_visited : (k : Key) (now : ℕ) (r : Visited) {rs' cs' : List ℕ} → q ≡ asked.Visit k now → out ≡ of_visited t r → Outcome to_visited (result (visit k now) s) rs cs r rs' cs' → Performs rs' cs'
+  pub was_visited : (k : Key) (now : ℕ) (r : Visited) {rs' cs' : List ℕ} → q ≡ asked.Visit k now → out ≡ of_visited t r → Outcome to_visited (result_of (visit k now) s) rs cs r rs' cs' → Performs rs' cs'
   unfolding operation_of
   was_visited k now r e o h = made_of (visit k now) (ap (λ (x : Request). operation_of x t) e) (o ∙ (ap (of_visited t) h.said ∙ visit_performed s t k now)) h.lines h.decisions
 

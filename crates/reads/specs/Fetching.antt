@@ -15,7 +15,7 @@ use Rattle.model.specs.Visits.{meeting, is_busy, is_again, recovered}
 use Rattle.model.specs.Results.{Call, read, second, Answer, answered, Result, refused, made, unless}
 use Rattle.model.specs.Conditions.{is_new, takes_two, busy, conditions}
 use Rattle.model.specs.Steps.{units_of}
-use Rattle.model.specs.Calls.{holding, read_new, seen_second, whole_read, outcome, result}
+use Rattle.model.specs.Calls.{holding, read_new, seen_second, whole_read, outcome, result_of}
 use Rattle.model.specs.ByteCalls.{sheets_of}
 use Rattle.sheet_laws.specs.Decisions.{readable_length}
 use Rattle.transactions.specs.Held.{entry_at}
@@ -79,22 +79,22 @@ module _ (q : Asked) (t : Transaction) (k : Key) (now : ℕ) (s : Sheets) where
   abbrev rest : List Condition
   rest = refuse 6 (not (has_line k s.lines)) ∷ line_conditions q t k now s
 
-  in_order_lem : result (call_of q t k now) s ≡ unless (admitting_open t k s ++ rest) (outcome (call_of q t k now) s)
+  in_order_lem : result_of (call_of q t k now) s ≡ unless (admitting_open t k s ++ rest) (outcome (call_of q t k now) s)
   in_order_lem = go q
     where
-      go : (q : Asked) → result (call_of q t k now) s ≡ unless (admitting_open t k s ++ (refuse 6 (not (has_line k s.lines)) ∷ line_conditions q t k now s)) (outcome (call_of q t k now) s)
-      go First = unfold result conditions admitting_open in refl
-      go (Second c) = unfold result conditions admitting_open in refl
+      go : (q : Asked) → result_of (call_of q t k now) s ≡ unless (admitting_open t k s ++ (refuse 6 (not (has_line k s.lines)) ∷ line_conditions q t k now s)) (outcome (call_of q t k now) s)
+      go First = unfold result_of conditions admitting_open in refl
+      go (Second c) = unfold result_of conditions admitting_open in refl
 
-  pub fetch_away : (n : ℕ) → n ≡ refusal_of (admitting_open t k s) → (n ≡ 0 → ⊥) → result (call_of q t k now) s ≡ refused n
+  pub fetch_away : (n : ℕ) → n ≡ refusal_of (admitting_open t k s) → (n ≡ 0 → ⊥) → result_of (call_of q t k now) s ≡ refused n
   fetch_away n e z = in_order_lem ∙ unless-front (admitting_open t k s) rest (outcome (call_of q t k now) s) n e z
 
   module _ (free : refusal_of (admitting_open t k s) ≡ 0) where
-    fetch_rest : result (call_of q t k now) s ≡ unless rest (outcome (call_of q t k now) s)
+    fetch_rest : result_of (call_of q t k now) s ≡ unless rest (outcome (call_of q t k now) s)
     unfolding admitting_open all
     fetch_rest = in_order_lem ∙ unless_past (admitting_open t k s) rest (outcome (call_of q t k now) s) refl free
 
-    pub fetch_none : found k s.lines ≡ Nothing → result (call_of q t k now) s ≡ refused 6
+    pub fetch_none : found k s.lines ≡ Nothing → result_of (call_of q t k now) s ≡ refused 6
     unfolding refusal_of is_missing
     fetch_none e = fetch_rest ∙ rw e
 
@@ -108,15 +108,15 @@ module _ (t : Transaction) (k : Key) (now : ℕ) (rs cs : List ℕ) (i : ℕ) (a
   pub read_few : t.count ≤ 8
   read_few = (opened t k (sheets_of rs cs) a.free).few
 
-  fetch_has : (q : Asked) → result (call_of q t k now) (sheets_of rs cs) ≡ unless (line_conditions q t k now (sheets_of rs cs)) (outcome (call_of q t k now) (sheets_of rs cs))
+  fetch_has : (q : Asked) → result_of (call_of q t k now) (sheets_of rs cs) ≡ unless (line_conditions q t k now (sheets_of rs cs)) (outcome (call_of q t k now) (sheets_of rs cs))
   unfolding refusal_of is_missing
   fetch_has q = fetch_rest q t k now (sheets_of rs cs) a.free ∙ rw a.index
 
-  held_made : (q : Asked) (j : ℕ) → held_at k t ≡ At j → result (call_of q t k now) (sheets_of rs cs) ≡ made (answered (reading (entry_at t j)) t) nothing
+  held_made : (q : Asked) (j : ℕ) → held_at k t ≡ At j → result_of (call_of q t k now) (sheets_of rs cs) ≡ made (answered (reading (entry_at t j)) t) nothing
   held_made First j e = fetch_has First ∙ unfold outcome whole_read is_missing refusal_of in rw e
   held_made (Second c) j e = fetch_has (Second c) ∙ unfold outcome whole_read is_missing refusal_of in rw e
 
-  pub read_held_lem : (q : Asked) (j : ℕ) → held_at k t ≡ At j → {answer : Performed} → answer ≡ performed_as (reading (entry_at t j)) t → Outcome (to_performed t) (result (call_of q t k now) (sheets_of rs cs)) rs cs answer rs cs
+  pub read_held_lem : (q : Asked) (j : ℕ) → held_at k t ≡ At j → {answer : Performed} → answer ≡ performed_as (reading (entry_at t j)) t → Outcome (to_performed t) (result_of (call_of q t k now) (sheets_of rs cs)) rs cs answer rs cs
   read_held_lem q j e b =
       outcome_made (to_performed t) rs cs (answered (reading (entry_at t j)) t) nothing (held_made q j e) b (written_nothing rs cs a.accepted)
 
@@ -132,15 +132,15 @@ new_read_lem t k rs cs i a e =
     record { line = subst (λ (x : Key). ReadAt t x rs cs i) (sym f) a; new = ap (λ (x : Key). is_new x t) f ∙ ap is_missing e }
 
 -- the read of a new key is that of the key of its line
-pub read_found : (q : Asked) (t : Transaction) (k : Key) (now : ℕ) (rs cs : List ℕ) (i : ℕ) {answer : Performed} {rs' cs' : List ℕ} → ReadAt t k rs cs i → Outcome (to_performed t) (result (call_of q t (line_at rs i).key now) (sheets_of rs cs)) rs cs answer rs' cs' → Outcome (to_performed t) (result (call_of q t k now) (sheets_of rs cs)) rs cs answer rs' cs'
+pub read_found : (q : Asked) (t : Transaction) (k : Key) (now : ℕ) (rs cs : List ℕ) (i : ℕ) {answer : Performed} {rs' cs' : List ℕ} → ReadAt t k rs cs i → Outcome (to_performed t) (result_of (call_of q t (line_at rs i).key now) (sheets_of rs cs)) rs cs answer rs' cs' → Outcome (to_performed t) (result_of (call_of q t k now) (sheets_of rs cs)) rs cs answer rs' cs'
 read_found q t k now rs cs i {answer} {rs'} {cs'} a h =
-    subst (λ (x : Key). Outcome (to_performed t) (result (call_of q t x now) (sheets_of rs cs)) rs cs answer rs' cs') (found_at k (records rs) i a.index).key h
+    subst (λ (x : Key). Outcome (to_performed t) (result_of (call_of q t x now) (sheets_of rs cs)) rs cs answer rs' cs') (found_at k (records rs) i a.index).key h
 
 -- an outcome of the call that is made
 pub asked_as : (t : Transaction) (k : Key) (now : ℕ) (rs cs : List ℕ) {q q' : Asked} {answer : Performed} {rs' cs' : List ℕ} → q ≡ q'
-    → Outcome (to_performed t) (result (call_of q' t k now) (sheets_of rs cs)) rs cs answer rs' cs' → Outcome (to_performed t) (result (call_of q t k now) (sheets_of rs cs)) rs cs answer rs' cs'
+    → Outcome (to_performed t) (result_of (call_of q' t k now) (sheets_of rs cs)) rs cs answer rs' cs' → Outcome (to_performed t) (result_of (call_of q t k now) (sheets_of rs cs)) rs cs answer rs' cs'
 asked_as t k now rs cs {answer = answer} {rs' = rs'} {cs' = cs'} e h =
-    subst (λ (x : Asked). Outcome (to_performed t) (result (call_of x t k now) (sheets_of rs cs)) rs cs answer rs' cs') (sym e) h
+    subst (λ (x : Asked). Outcome (to_performed t) (result_of (call_of x t k now) (sheets_of rs cs)) rs cs answer rs' cs') (sym e) h
 
 -- the whole read of a new key, which may see columns handed in
 unfoldable pub new_read : Bool → Columns → Transaction → Key → ℕ → Sheets → Result Answer
@@ -177,10 +177,10 @@ module _ (t : Transaction) (now : ℕ) (rs cs : List ℕ) (i : ℕ) (a : NewRead
 
   -- Which way either call goes.
 
-  pub goes_first : lower ≡ true → {answer : Performed} → answer ≡ first_of t here → Outcome (to_performed t) (result (call_of First t here.key now) s) rs cs answer rs cs
+  pub goes_first : lower ≡ true → {answer : Performed} → answer ≡ first_of t here → Outcome (to_performed t) (result_of (call_of First t here.key now) s) rs cs answer rs cs
   goes_first e {answer} b = go (leb 8 t.count) refl
     where
-      go : (x : Bool) → leb 8 t.count ≡ x → Outcome (to_performed t) (result (call_of First t here.key now) s) rs cs answer rs cs
+      go : (x : Bool) → leb 8 t.count ≡ x → Outcome (to_performed t) (result_of (call_of First t here.key now) s) rs cs answer rs cs
       go true f =
           outcome_refused (to_performed t) rs cs 9 (fetch_has t here.key now rs cs i a.line First ∙ unfold refusal_of in rw (a.new, e, f)) (b ∙ rw f)
       go false f =
@@ -189,22 +189,22 @@ module _ (t : Transaction) (now : ℕ) (rs cs : List ℕ) (i : ℕ) (a : NewRead
           ∙ unfold outcome refusal_of in rw (a.new, e, f, ← read_standing.index.line))
           (b ∙ rw f) (written_nothing rs cs a.line.accepted)
 
-  whole-first : (c : Columns) → lower ≡ false → new_read lower c t here.key now s ≡ result (call_of First t here.key now) s
+  whole-first : (c : Columns) → lower ≡ false → new_read lower c t here.key now s ≡ result_of (call_of First t here.key now) s
   whole-first c e = sym (fetch_has t here.key now rs cs i a.line First ∙ unfold outcome whole_read new_read seen_second in rw (a.new, e))
 
-  pub goes_whole_first : (b : Bool) (c : Columns) → b ≡ lower → b ≡ false → {answer : Performed} {rs' cs' : List ℕ} → Outcome (to_performed t) (new_read b c t here.key now s) rs cs answer rs' cs' → Outcome (to_performed t) (result (call_of First t here.key now) s) rs cs answer rs' cs'
+  pub goes_whole_first : (b : Bool) (c : Columns) → b ≡ lower → b ≡ false → {answer : Performed} {rs' cs' : List ℕ} → Outcome (to_performed t) (new_read b c t here.key now s) rs cs answer rs' cs' → Outcome (to_performed t) (result_of (call_of First t here.key now) s) rs cs answer rs' cs'
   goes_whole_first b c f e {answer} {rs'} {cs'} h =
       subst (λ (r : Result Answer). Outcome (to_performed t) r rs cs answer rs' cs')
       (ap (λ (x : Bool). new_read x c t here.key now s) f ∙ whole-first c (sym f ∙ e)) h
 
-  pub goes_large : (c : Columns) → (lower && not (columns_in_range c)) ≡ true → result (call_of (Second c) t here.key now) s ≡ refused 7
+  pub goes_large : (c : Columns) → (lower && not (columns_in_range c)) ≡ true → result_of (call_of (Second c) t here.key now) s ≡ refused 7
   goes_large c e = fetch_has t here.key now rs cs i a.line (Second c) ∙ unfold refusal_of in rw (a.new, e)
 
-  whole-second : (c : Columns) → (lower && not (columns_in_range c)) ≡ false → new_read lower c t here.key now s ≡ result (call_of (Second c) t here.key now) s
+  whole-second : (c : Columns) → (lower && not (columns_in_range c)) ≡ false → new_read lower c t here.key now s ≡ result_of (call_of (Second c) t here.key now) s
   whole-second c e =
       sym (fetch_has t here.key now rs cs i a.line (Second c) ∙ unfold outcome whole_read new_read refusal_of in rw (a.new, e))
 
-  pub goes_whole_second : (b x : Bool) (c : Columns) → b ≡ lower → x ≡ columns_in_range c → (b && not x) ≡ false → {answer : Performed} {rs' cs' : List ℕ} → Outcome (to_performed t) (new_read b c t here.key now s) rs cs answer rs' cs' → Outcome (to_performed t) (result (call_of (Second c) t here.key now) s) rs cs answer rs' cs'
+  pub goes_whole_second : (b x : Bool) (c : Columns) → b ≡ lower → x ≡ columns_in_range c → (b && not x) ≡ false → {answer : Performed} {rs' cs' : List ℕ} → Outcome (to_performed t) (new_read b c t here.key now s) rs cs answer rs' cs' → Outcome (to_performed t) (result_of (call_of (Second c) t here.key now) s) rs cs answer rs' cs'
   goes_whole_second b x c f g e {answer} {rs'} {cs'} h =
       subst (λ (r : Result Answer). Outcome (to_performed t) r rs cs answer rs' cs')
       (ap (λ (x : Bool). new_read x c t here.key now s) f ∙ whole-second c (ap₂ (λ (y z : Bool). y && not z) (sym f) (sym g) ∙ e)) h

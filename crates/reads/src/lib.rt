@@ -1,9 +1,9 @@
 // The columns of a key: as the transaction holds them, or as its line says once it was visited.
 #![tactic(auto)]
-ghost use Rattle.std.specs.Prelude.{◌≡◌, ◌<◌, true, false, cond};
+ghost use Rattle.std.specs.Prelude.{◌≡◌, ◌<◌, true, false, if◌then◌else◌};
 ghost use Rattle.model.specs.Records.{records_accepted, by_state};
 ghost use Rattle.model.specs.Results.{read, second};
-ghost use Rattle.model.specs.Calls.{result};
+ghost use Rattle.model.specs.Calls.{result_of};
 ghost use Rattle.model.specs.ByteCalls.{sheets_of};
 ghost use Rattle.model.specs.Transactions as model;
 ghost use Rattle.transactions.specs.Held.{entry_at};
@@ -25,7 +25,7 @@ pub enum Asked {
 }
 
 pub fn refusal(n: u32, t: Transaction) -> Performed
-    ensures* { λ r. ⌜ r ≡ performed_not n t ⌝ }
+    ensures { result ≡ performed_not n t }
 {
     Performed {
         refusal: n,
@@ -37,7 +37,7 @@ pub fn refusal(n: u32, t: Transaction) -> Performed
 
 // What was read, with the transaction as it now is.
 fn answer(value: Reading, t: Transaction) -> Performed
-    ensures* { λ r. ⌜ r ≡ performed_as value t ⌝ }
+    ensures { result ≡ performed_as value t }
 {
     match value {
         Reading::Absent => Performed {
@@ -69,7 +69,7 @@ fn answer(value: Reading, t: Transaction) -> Performed
 
 // Absence as a number of an entry.
 fn absence(state: State) -> u32
-    ensures* { λ r. ⌜ r ≡ cond (by_state state true false false) 1 0 ⌝ }
+    ensures { result ≡ (if by_state state true false false then 1 else 0) }
 {
     match state {
         State::Absent => 1,
@@ -80,7 +80,7 @@ fn absence(state: State) -> u32
 
 // The entry of a record as it is read, which may see columns handed in.
 fn entry_of(lower: bool, columns: Columns, r: Record) -> Entry
-    ensures* { λ e. ⌜ e ≡ entry_seen lower columns r.key r ⌝ }
+    ensures { result ≡ entry_seen lower columns r.key r }
 {
     let key = r.key;
     let state = r.state;
@@ -98,7 +98,7 @@ fn entry_of(lower: bool, columns: Columns, r: Record) -> Entry
 // The read of a record that is then held so.
 fn hold(e: Entry, t: Transaction) -> Performed
     requires { t.count < 8 }
-    ensures* { λ a. ⌜ a ≡ fetched_held e t ⌝ }
+    ensures { result ≡ fetched_held e t }
 {
     let u = transactions::with_entry(t.count + 1, t.count as usize, e, t);
     answer(transactions::reading(e), u)
@@ -107,7 +107,7 @@ fn hold(e: Entry, t: Transaction) -> Performed
 // The read of a record as its visit leaves it, by what the visit came to.
 fn read_met(v: Recovery, e: Entry, t: Transaction) -> Performed
     requires { t.count < 8 }
-    ensures* { λ a. ⌜ a ≡ fetched_met v e t ⌝ }
+    ensures { result ≡ fetched_met v e t }
 {
     match v {
         Recovery::Stays => hold(e, t),
@@ -129,7 +129,7 @@ fn read_new(
     coordinator: &mut [u8],
 ) -> Performed
     requires { NewRead t records.old coordinator.old i }
-    ensures* { λ r. ⌜ Outcome (to_performed t) (new_read lower columns t (line_at records.old i).key clock (sheets_of records.old coordinator.old)) records.old coordinator.old r records.new coordinator.new ⌝ }
+    ensures { Outcome (to_performed t) (new_read lower columns t (line_at records.old i).key clock (sheets_of records.old coordinator.old)) records.old coordinator.old result records.new coordinator.new }
 {
     if 8 <= t.count {
         return refusal(9, t);
@@ -142,7 +142,7 @@ fn read_new(
 // The first of two calls: the columns of line i as they stand, and nothing is visited or held.
 fn first(t: Transaction, i: usize, records: &[u8]) -> Performed
     requires { records_accepted records.now ≡ true }
-    ensures* { λ r. ⌜ r ≡ first_of t (line_at records.now i) ⌝ }
+    ensures { result ≡ first_of t (line_at records.now i) }
 {
     if 8 <= t.count {
         return refusal(9, t);
@@ -160,7 +160,7 @@ fn fetch_new(
     coordinator: &mut [u8],
 ) -> Performed
     requires { NewRead t records.old coordinator.old i }
-    ensures* { λ r. ⌜ Outcome (to_performed t) (result (call_of asked t (line_at records.old i).key clock) (sheets_of records.old coordinator.old)) records.old coordinator.old r records.new coordinator.new ⌝ }
+    ensures { Outcome (to_performed t) (result_of (call_of asked t (line_at records.old i).key clock) (sheets_of records.old coordinator.old)) records.old coordinator.old result records.new coordinator.new }
 {
     let storage = codec::records::record_at(records, i).key.storage;
     let lower = transactions::is_lower(&coordinator[5..14], storage);
@@ -183,7 +183,7 @@ fn fetch_new(
 // The read of the key that entry j holds.
 fn read_held(t: Transaction, j: usize) -> Performed
     requires { j < 8 }
-    ensures* { λ r. ⌜ r ≡ performed_as (model.reading (entry_at t j)) t ⌝ }
+    ensures { result ≡ performed_as (model.reading (entry_at t j)) t }
 {
     let e = transactions::entry_at(t, j);
     answer(transactions::reading(e), t)
@@ -200,7 +200,7 @@ fn fetch_found(
     coordinator: &mut [u8],
 ) -> Performed
     requires { ReadAt t key records.old coordinator.old i }
-    ensures* { λ r. ⌜ Outcome (to_performed t) (result (call_of asked t key clock) (sheets_of records.old coordinator.old)) records.old coordinator.old r records.new coordinator.new ⌝ }
+    ensures { Outcome (to_performed t) (result_of (call_of asked t key clock) (sheets_of records.old coordinator.old)) records.old coordinator.old result records.new coordinator.new }
 {
     match transactions::held_at(key, t) {
         Found::At(j) => read_held(t, j),
@@ -217,7 +217,7 @@ fn fetch(
     coordinator: &mut [u8],
 ) -> Performed
     requires { Accepted records.old coordinator.old }
-    ensures* { λ r. ⌜ Outcome (to_performed t) (result (call_of asked t key clock) (sheets_of records.old coordinator.old)) records.old coordinator.old r records.new coordinator.new ⌝ }
+    ensures { Outcome (to_performed t) (result_of (call_of asked t key clock) (sheets_of records.old coordinator.old)) records.old coordinator.old result records.new coordinator.new }
 {
     let refused = admission::open_refusal(t, key, coordinator);
     if refused != 0 {
@@ -238,7 +238,7 @@ pub fn read(
     coordinator: &mut [u8],
 ) -> Performed
     requires { Accepted records.old coordinator.old }
-    ensures* { λ r. ⌜ Outcome (to_performed t) (result (read t key clock) (sheets_of records.old coordinator.old)) records.old coordinator.old r records.new coordinator.new ⌝ }
+    ensures { Outcome (to_performed t) (result_of (read t key clock) (sheets_of records.old coordinator.old)) records.old coordinator.old result records.new coordinator.new }
 {
     fetch(Asked::First, t, key, clock, records, coordinator)
 }
@@ -253,7 +253,7 @@ pub fn second(
     coordinator: &mut [u8],
 ) -> Performed
     requires { Accepted records.old coordinator.old }
-    ensures* { λ r. ⌜ Outcome (to_performed t) (result (second t key clock columns) (sheets_of records.old coordinator.old)) records.old coordinator.old r records.new coordinator.new ⌝ }
+    ensures { Outcome (to_performed t) (result_of (second t key clock columns) (sheets_of records.old coordinator.old)) records.old coordinator.old result records.new coordinator.new }
 {
     fetch(Asked::Second(columns), t, key, clock, records, coordinator)
 }

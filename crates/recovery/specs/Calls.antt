@@ -15,7 +15,7 @@ use Rattle.model.specs.Results.{Call, begin, read, second, put, advance, abort, 
 use Rattle.model.specs.Transactions.{withdraw_phase, is_put, held, no_entry, held_at, with_put, moved, with_entry}
 use Rattle.model.specs.Conditions.{is_new, takes_two, cannot_advance, cannot_abort, conditions}
 use Rattle.model.specs.Steps.{units_of, step}
-use Rattle.model.specs.Calls.{new_transaction, seen_second, holding, whole_read, after_put, outcome, result}
+use Rattle.model.specs.Calls.{new_transaction, seen_second, holding, whole_read, after_put, outcome, result_of}
 use Rattle.model.specs.Histories.{Event, given, taken_by, Available}
 use Rattle.model.specs.SequentialModel.{Model, model_begin, model_put, model_commit, model_call, model_step}
 use Rattle.sheet_laws.specs.Search.{FirstAt, first_by}
@@ -300,6 +300,6 @@ module _ {base : ℕ} {one : ℕ → Bool} (s : Sheets) (es : List Event) (m : M
   accepted_kept (add k) = add_kept k
   accepted_kept (remove k) = remove_kept k
 
-  pub result_kept : (c : Call) → Kept c (result c s)
-  unfolding result
+  pub result_kept : (c : Call) → Kept c (result_of c s)
+  unfolding result_of
   result_kept c = unless_by (Kept c) (conditions c s) (kept_refused c (refusal_of (conditions c s))) (accepted_kept c)

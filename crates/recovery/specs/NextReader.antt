@@ -11,7 +11,7 @@ use Rattle.model.specs.Results.{read, second, visit, Result, write_of, visited, 
 use Rattle.model.specs.Conditions.{is_new, takes_two, conditions}
 use Rattle.model.specs.Groups.{is_lower}
 use Rattle.model.specs.Steps.{units_of}
-use Rattle.model.specs.Calls.{seen_second, whole_read, outcome, result}
+use Rattle.model.specs.Calls.{seen_second, whole_read, outcome, result_of}
 use Rattle.model.specs.Histories.{answer, written, after}
 use Rattle.model.specs.ByteHistories.{Bytes, saying, Passing, answer_on, after_on}
 use Rattle.model.specs.RecoveryPass.{line_undecided}
@@ -57,7 +57,7 @@ module _ (s : Sheets) (good : GoodSheets s) (k : Key) (now : ℕ) (listed : list
 
     -- in one call
     pub read_finishes : is_lower (units_of s) k ≡ false → refusal_in (answer (read t k now) s) ≡ 0 → line_of k (after (read t k now) s).lines ≡ rolled_forward (line_of k s.lines)
-    unfolding answer after written result outcome
+    unfolding answer after written result_of outcome
     read_finishes l =
         unless_of Finishes (conditions (read t k now) s) (λ z a. absurd (z a))
         (λ z. choose_by Finishes (takes_two (units_of s) k t)
@@ -66,7 +66,7 @@ module _ (s : Sheets) (good : GoodSheets s) (k : Key) (now : ℕ) (listed : list
 
     -- or in two, of which the second visits
     pub second_finishes : (c : Columns) → refusal_in (answer (second t k now c) s) ≡ 0 → line_of k (after (second t k now c) s).lines ≡ rolled_forward (line_of k s.lines)
-    unfolding answer after written result outcome
+    unfolding answer after written result_of outcome
     second_finishes c =
         unless_of Finishes (conditions (second t k now c) s) (λ z a. absurd (z a)) (λ z. whole_finishes (seen_second (is_lower (units_of s) k) c))
 

@@ -3,7 +3,7 @@
 use Rattle.lists.specs.Basics.{◌≡◌, refl, sym, ap, ap₂, subst, ◌∙◌, ℕ, zero, suc, ◌+◌, ◌^◌, ◌≤◌, ◌<◌, eqb, Bool, true, false, ◌&&◌, cond, true≢false, List, []}
 use Rattle.lists.specs.Basics.{◌∷◌, map, length, arith, eq-eqb, any, count, choose_by, tests}
 use Rattle.model.specs.Types.{Key, Record, Decision, Undecided, Aborted, Recovery, Stays, Forward, Back, Again, Busy}
-use Rattle.model.specs.Calls.{outcome, result}
+use Rattle.model.specs.Calls.{outcome, result_of}
 use Rattle.model.specs.Records.{same_key, line_of, has_line, key_in_range, prepared_rule}
 use Rattle.model.specs.Coordinator.{decision, with_decision, is_undecided}
 use Rattle.model.specs.Images.{is_prepared, prepared_by, rolled_forward, rolled_back}
@@ -114,8 +114,8 @@ module _ (s : Sheets) (good : GoodSheets s) (k : Key) (now : ℕ) (listed : list
       (λ p d x. absurd (no_busy p d x))
 
   -- it is accepted
-  pub visit_made : result (visit k now) s ≡ made (visited (meeting now s (line_of k s.lines))) (recovery_write (meeting now s (line_of k s.lines)) (line_of k s.lines))
-  unfolding result outcome conditions refusal_of
+  pub visit_made : result_of (visit k now) s ≡ made (visited (meeting now s (line_of k s.lines))) (recovery_write (meeting now s (line_of k s.lines)) (line_of k s.lines))
+  unfolding result_of outcome conditions refusal_of
   visit_made =
       let i : key_in_range k ≡ true = ap key_in_range (sym (line_of_key k s.lines)) ∙ (listed_good s good k listed).key in
       let h : has_line k s.lines ≡ true = has_line_lem k s.lines ∙ listed in

@@ -15,7 +15,7 @@ use Rattle.model.specs.Visits.{owner_decision, owner_expired, meeting, is_again,
 use Rattle.model.specs.Results.{Call, begin, read, second, put, advance, abort, visit, add, remove, Result, refused, made, write_of, Answer, turned_away, returned, answered, returns, answer_of}
 use Rattle.model.specs.Conditions.{is_new, takes_two, held_entry, busy, cannot_advance, conditions}
 use Rattle.model.specs.Steps.{units_of, step}
-use Rattle.model.specs.Calls.{new_transaction, seen_second, holding, whole_read, after_put, outcome, result}
+use Rattle.model.specs.Calls.{new_transaction, seen_second, holding, whole_read, after_put, outcome, result_of}
 use Rattle.model.specs.Histories.{Event, given, taken, taken_by, Available}
 use Rattle.model.specs.SequentialModel.{Model, model_begin, model_put, model_commit, model_call, model_step}
 use Rattle.model.specs.SerialOrder.{begun_checked}
@@ -327,8 +327,8 @@ module _ {first : Key → Record} {s : Sheets} {es : List Event} {m : Model} {ps
   accepted_keeps (add k) z q = add_keeps k z
   accepted_keeps (remove k) z q = remove_keeps k z
 
-  pub result-keeps : (c : Call) → begun_checked (event_of c (result c s)) ≡ true → Keeps c (result c s)
-  unfolding result
+  pub result-keeps : (c : Call) → begun_checked (event_of c (result_of c s)) ≡ true → Keeps c (result_of c s)
+  unfolding result_of
   result-keeps c =
       unless_by (λ (r : Result Answer). begun_checked (event_of c r) ≡ true → Keeps c r) (conditions c s)
       (λ q. keeps_refused c (refusal_of (conditions c s))) (accepted_keeps c)

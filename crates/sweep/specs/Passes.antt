@@ -15,7 +15,7 @@ use Rattle.model.specs.Visitor.{visited_all, keys_on, swept}
 use Rattle.sheet_laws.specs.ByIndex.{length-records}
 use Rattle.sheet_laws.specs.Ends.{quotient}
 use Rattle.sheet_laws.specs.Spared.{count-front}
-use Rattle.model.specs.Calls.{result}
+use Rattle.model.specs.Calls.{result_of}
 use Rattle.model.specs.ByteCalls.{sheets_of}
 use Rattle.call_laws.specs.SingleUnit.{written-shifts}
 use Rattle.call_laws.specs.Lines.{keys_after_lem}
@@ -49,7 +49,7 @@ line_stands rs cs end i h l =
     record { accepted = a; index = found-own (records (take end rs)) i a.good.order (omega (arith, length-records (take end rs), n)) }
 
 -- and its visit leaves what the definition says
-pub line-visited : (rs cs : List ℕ) (end i now : ℕ) {answer : Visited} {ls' cs' : List ℕ} → Lined (both rs cs) end → Outcome to_visited (result (visit (get_or (records (take end rs)) i no_record).key now) (sheets_of (take end rs) cs)) (take end rs) cs answer ls' cs' → both (ls' ++ drop end rs) cs' ≡ after_on (visit (key_at rs i) now) (both rs cs)
+pub line-visited : (rs cs : List ℕ) (end i now : ℕ) {answer : Visited} {ls' cs' : List ℕ} → Lined (both rs cs) end → Outcome to_visited (result_of (visit (get_or (records (take end rs)) i no_record).key now) (sheets_of (take end rs) cs)) (take end rs) cs answer ls' cs' → both (ls' ++ drop end rs) cs' ≡ after_on (visit (key_at rs i) now) (both rs cs)
 unfolding after_on front
 line-visited rs cs end i now h o =
     let p = call_passed rs cs h.passing end h.at to_visited (visit (get_or (records (take end rs)) i no_record).key now) refl o in

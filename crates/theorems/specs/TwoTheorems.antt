@@ -12,7 +12,7 @@ use Rattle.model.specs.WellFormed.{well_formed}
 use Rattle.model.specs.Steps.{units_of}
 use Rattle.model.specs.Results.{Call, read, second, add, remove, answered, acknowledged, refusal_in, returns, answer_of}
 use Rattle.model.specs.Conditions.{takes_two, refusals}
-use Rattle.model.specs.Calls.{result}
+use Rattle.model.specs.Calls.{result_of}
 use Rattle.model.specs.ByteCalls.{result_on}
 use Rattle.model.specs.Histories.{ClockFits}
 use Rattle.model.specs.Operations.{Operation, once, response_on, bytes_left}
@@ -76,7 +76,7 @@ pub two-leaves : (x : Turn) (b : TwoBytes) → ClockFits (turn_call x) → joine
 two-leaves x b l = JoinedCalls.left-joins x b l
 
 -- "For any other read either call is the whole one, without 7": on the joined sheet every read is such
-pub either_call_is_whole : (t : Transaction) (k : Key) (now : ℕ) (c : Columns) (s : Sheets) → takes_two (units_of s) k t ≡ false → result (second t k now c) s ≡ result (read t k now) s
+pub either_call_is_whole : (t : Transaction) (k : Key) (now : ℕ) (c : Columns) (s : Sheets) → takes_two (units_of s) k t ≡ false → result_of (second t k now c) s ≡ result_of (read t k now) s
 either_call_is_whole t k now c s h = JoinedCalls.either_is_whole t k now c s h
 
 pub second_is_read : (t : Transaction) (k : Key) (now : ℕ) (c : Columns) (rs cs : List ℕ) → result_on (second t k now c) rs cs ≡ result_on (read t k now) rs cs

@@ -7,7 +7,7 @@ use Rattle.model.specs.Writes.{Sheets, sheets_good, Write, decisions_after, appl
 use Rattle.model.specs.WellFormed.{well_formed}
 use Rattle.model.specs.Results.{Answer, returns, Response, Result, refused, made, write_of, answer_of}
 use Rattle.model.specs.Steps.{step}
-use Rattle.model.specs.Calls.{result}
+use Rattle.model.specs.Calls.{result_of}
 use Rattle.model.specs.Histories.{answer, written, after, ClockFits}
 use Rattle.model.specs.ByteHistories.{Bytes, saying, Readable}
 use Rattle.model.specs.Closing.{Run, starting, most_steps, close_conditions}
@@ -34,15 +34,15 @@ settled-answer s (made a w) = refl
 
 pub operation_stays_good : (o : Operation) (s : Sheets) → ClockFits (stands_for o) → sheets_good s ≡ true → sheets_good (sheets_left s (response o s)) ≡ true
 unfolding stands_for response after written
-operation_stays_good (once c) s l g = ap sheets_good (settled-left s (result c s)) ∙ sheets_stay_good c s l g
+operation_stays_good (once c) s l g = ap sheets_good (settled-left s (result_of c s)) ∙ sheets_stay_good c s l g
 operation_stays_good (close t now limit) s l g =
     unless_by (λ (r : Response Answer Sheets). sheets_good (sheets_left s r) ≡ true) (close_conditions t s) g (λ z. (close_sound t now limit s l g z).good)
 
 pub operation_returns_formed : (o : Operation) (s : Sheets) (t : Transaction) → ClockFits (stands_for o) → sheets_good s ≡ true → returns (answer_of (response o s)) ≡ some t → well_formed (sheets_left s (response o s)) t ≡ true
 unfolding stands_for response after written answer returns
 operation_returns_formed (once c) s t l g e =
-    ap (λ (z : Sheets). well_formed z t) (settled-left s (result c s))
-    ∙ returned_well_formed c s t l g (ap returns (sym (settled-answer s (result c s))) ∙ e)
+    ap (λ (z : Sheets). well_formed z t) (settled-left s (result_of c s))
+    ∙ returned_well_formed c s t l g (ap returns (sym (settled-answer s (result_of c s))) ∙ e)
 operation_returns_formed (close u now limit) s t l g e =
     unless_by (λ (r : Response Answer Sheets). returns (answer_of r) ≡ some t → well_formed (sheets_left s r) t ≡ true) (close_conditions u s)
     (λ e. absurd (none-ne-some t e))
@@ -54,7 +54,7 @@ operation_returns_formed (close u now limit) s t l g e =
 pub operation_keeps : (P : Coordinator → Type 0) → ((w : Write) (c : Coordinator) → P c → P (decisions_after w c)) → (o : Operation) (s : Sheets) → P s.coordinator → P (sheets_left s (response o s)).coordinator
 unfolding response apply
 operation_keeps P f (once c) s p =
-    subst (λ (z : Sheets). P z.coordinator) (sym (settled-left s (result c s))) (f (write_of (result c s)) s.coordinator p)
+    subst (λ (z : Sheets). P z.coordinator) (sym (settled-left s (result_of c s))) (f (write_of (result_of c s)) s.coordinator p)
 operation_keeps P f (close t now limit) s p =
     unless_by (λ (r : Response Answer Sheets). P (sheets_left s r).coordinator) (close_conditions t s) p
     (λ z. closing_every (λ (x : Run). P x.sheets.coordinator) now

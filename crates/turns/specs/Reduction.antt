@@ -5,7 +5,7 @@ use Rattle.lists.specs.Basics.{none-ne-some, some-injective, inl, inr, eqb-true,
 use Rattle.lists.specs.Chosen.{any-map}
 use Rattle.model.specs.Types.{Key, Record, Transaction, Request}
 use Rattle.model.specs.Records.{same_key, keys_in, absent_at}
-use Rattle.model.specs.Calls.{result}
+use Rattle.model.specs.Calls.{result_of}
 use Rattle.model.specs.Images.{Change}
 use Rattle.model.specs.Coordinator.{decision}
 use Rattle.model.specs.Refusals.{refusal_of}
@@ -93,12 +93,12 @@ module _ (s : Sheets) (es es' : List Event) (handed-on : (t : Transaction) → A
       handed t (inl q) = inl q
       handed t (inr b) = inr (b.0, handed-on t b.1)
 
-  once_comes : (c : Call) → May c (settled s (result c s)) → Come (c ∷ []) c (settled s (result c s))
+  once_comes : (c : Call) → May c (settled s (result_of c s)) → Come (c ∷ []) c (settled s (result_of c s))
   unfolding answer after written
   once_comes c p =
-      let e : answer_of (settled s (result c s)) ≡ answer c s = settled-answer s (result c s) in
-      subst (λ (a : Answer). Comes (c ∷ []) (record { call = c; answer = a }) s (sheets_left s (settled s (result c s))) es es') (sym e)
-      (subst (λ (s' : Sheets). Comes (c ∷ []) (event answer after c s) s s' es es') (sym (settled-left s (result c s)))
+      let e : answer_of (settled s (result_of c s)) ≡ answer c s = settled-answer s (result_of c s) in
+      subst (λ (a : Answer). Comes (c ∷ []) (record { call = c; answer = a }) s (sheets_left s (settled s (result_of c s))) es es') (sym e)
+      (subst (λ (s' : Sheets). Comes (c ∷ []) (event answer after c s) s s' es es') (sym (settled-left s (result_of c s)))
       (single_comes c (subst (λ (a : Answer). Permitted c a es) e p)))
 
   -- a turn that is refused comes to nothing

@@ -4,7 +4,7 @@ use Rattle.lists.specs.Basics.{◌≡◌, refl, sym, ap, subst, ◌∙◌, true,
 use Rattle.model.specs.Writes.{Sheets}
 use Rattle.model.specs.Results.{Call, Answer, Response, Result, answer_of}
 use Rattle.model.specs.ByteCalls.{result_on}
-use Rattle.model.specs.Calls.{result}
+use Rattle.model.specs.Calls.{result_of}
 use Rattle.model.specs.Histories.{written, after, ClockFits}
 use Rattle.model.specs.ByteHistories.{Bytes, saying, Readable, Passing, bytes_after, answer_on, after_on}
 use Rattle.model.specs.AtomicWrites.{WithinUnit, coordinator_only, OneUnit, within_unit}
@@ -34,7 +34,7 @@ once_answers c b = ap answer_of (once_on b.records b.coordinator c) ∙ settled-
 -- what holds of what a call leaves of readable bytes holds of an operation that writes at most once
 operation_by : (U : Bytes → Type 0) (o : Operation) (b : Bytes) → writes_once o ≡ true → ((c : Call) → o ≡ once c → U (encoded (after c (saying b)))) → U (encoded (sheets_left (saying b) (response o (saying b))))
 unfolding writes_once response after written
-operation_by U (once c) b w f = subst (λ (s : Sheets). U (encoded s)) (sym (settled-left (saying b) (result c (saying b)))) (f c refl)
+operation_by U (once c) b w f = subst (λ (s : Sheets). U (encoded s)) (sym (settled-left (saying b) (result_of c (saying b)))) (f c refl)
 operation_by U (close t now limit) b w f = absurd (true≢false (sym w))
 
 module _ (o : Operation) (b : Bytes) (w : writes_once o ≡ true) (l : ClockFits (stands_for o)) (p : Readable b) where

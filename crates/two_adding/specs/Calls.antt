@@ -9,7 +9,7 @@ use Rattle.model.specs.Refusals.{Condition, refusal_of}
 use Rattle.model.specs.Writes.{Sheets, Write, add_line, remove_line, apply}
 use Rattle.model.specs.Results.{Call, add, remove, acknowledged, refusal_in, Answer, Response, refused, made, answer_of}
 use Rattle.model.specs.Conditions.{conditions}
-use Rattle.model.specs.Calls.{outcome, result}
+use Rattle.model.specs.Calls.{outcome, result_of}
 use Rattle.model.specs.Operations.{once, settled, response}
 use Rattle.model.specs.TwoSheets.{plain_bytes, bookkeeping_bytes, plain_line, bookkeeping_line, plain_part, bookkeeping_part}
 use Rattle.model.specs.TwoSpares.{form_conditions, two_conditions}
@@ -57,20 +57,20 @@ module _ (c : Call) (ps bs cs : List ℕ) where
   forms_refuse n e z = by_response (refused n) (unless-held (two_conditions ps bs cs) (response (once c) saying) n (sym e) z) refl refl refl
 
   module _ (h : PassingTwo (two ps bs cs)) where
-    on_said : response_two (once c) (two ps bs cs) ≡ settled saying (result c saying)
+    on_said : response_two (once c) (two ps bs cs) ≡ settled saying (result_of c saying)
     unfolding response_two response
     on_said = unless-free (two_conditions ps bs cs) (response (once c) saying) h
 
     -- by one of its own conditions
     call_refuses : (n : ℕ) → n ≡ refusal_of (conditions c saying) → (n ≡ 0 → ⊥) → ShiftedTwo c ps bs cs n ps bs
-    unfolding result plain_left bookkeeping_left
+    unfolding result_of plain_left bookkeeping_left
     call_refuses n e z =
         by_response (refused n) (on_said ∙ ap (settled saying) (unless-held (conditions c saying) (outcome c saying) n (sym e) z)) refl refl refl
 
     -- or not at all
     call_made : (w : Write) → outcome c saying ≡ made acknowledged w → refusal_of (conditions c saying) ≡ 0 → {ps' bs' : List ℕ}
         → ps' ≡ plain_left ps (made acknowledged (apply w saying)) → bs' ≡ bookkeeping_left bs (made acknowledged (apply w saying)) → ShiftedTwo c ps bs cs 0 ps' bs'
-    unfolding result
+    unfolding result_of
     call_made w Made-so z p b =
         by_response (made acknowledged (apply w saying))
         (on_said ∙ ap (settled saying) (unless-free (conditions c saying) (outcome c saying) z ∙ Made-so)) refl p b

@@ -5,7 +5,7 @@ use Rattle.model.specs.Layouts.{record_bytes}
 use Rattle.model.specs.Refusals.{refusal_of}
 use Rattle.model.specs.Writes.{Sheets}
 use Rattle.model.specs.Results.{Answer, Response, Result, refused, made, visit}
-use Rattle.model.specs.Calls.{result}
+use Rattle.model.specs.Calls.{result_of}
 use Rattle.model.specs.ByteCalls.{sheets_of}
 use Rattle.model.specs.Operations.{Operation, once, settled, response, records_left, coordinator_left}
 use Rattle.model.specs.Requests.{operation_of}
@@ -115,19 +115,19 @@ module _ {A : Type 0} (to : Response Answer Sheets → A) (o : Operation) (ps bs
               (e, (p ∙ unfold full_plain_left records_left in ap plain_part f, (b ∙ unfold full_bookkeeping_left records_left in ap bookkeeping_part f, d)))
 
 -- A visit on the joined sheet, as the visit of the definitions leaves it.
-module _ (k : Key) (now : ℕ) (rs cs : List ℕ) {r : Visited} {rs' cs' : List ℕ} (h : Outcome to_visited (result (visit k now) (sheets_of rs cs)) rs cs r rs' cs') where
+module _ (k : Key) (now : ℕ) (rs cs : List ℕ) {r : Visited} {rs' cs' : List ℕ} (h : Outcome to_visited (result_of (visit k now) (sheets_of rs cs)) rs cs r rs' cs') where
   answered : (x : Result Answer) → visited_in (settled (sheets_of rs cs) x) ≡ to_visited x
   answered (refused n) = refl
   answered (made a w) = refl
 
   pub visit_said : r ≡ visited_in (response (once (visit k now)) (sheets_of rs cs))
   unfolding response
-  visit_said = h.said ∙ sym (answered (result (visit k now) (sheets_of rs cs)))
+  visit_said = h.said ∙ sym (answered (result_of (visit k now) (sheets_of rs cs)))
 
   pub visit_lines : rs' ≡ records_left rs (response (once (visit k now)) (sheets_of rs cs))
   unfolding response
-  visit_lines = h.lines ∙ sym (settled_lines rs cs (result (visit k now) (sheets_of rs cs)))
+  visit_lines = h.lines ∙ sym (settled_lines rs cs (result_of (visit k now) (sheets_of rs cs)))
 
   pub visit_decisions : cs' ≡ coordinator_left cs (response (once (visit k now)) (sheets_of rs cs))
   unfolding response
-  visit_decisions = h.decisions ∙ sym (settled-decisions rs cs (result (visit k now) (sheets_of rs cs)))
+  visit_decisions = h.decisions ∙ sym (settled-decisions rs cs (result_of (visit k now) (sheets_of rs cs)))

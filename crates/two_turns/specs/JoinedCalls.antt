@@ -13,7 +13,7 @@ use Rattle.model.specs.Writes.{Sheets, sheets_good}
 use Rattle.model.specs.Steps.{units_of}
 use Rattle.model.specs.Results.{read, second, Answer, Response, refused, made}
 use Rattle.model.specs.Conditions.{is_new, takes_two, conditions}
-use Rattle.model.specs.Calls.{seen_second, whole_read, outcome, result}
+use Rattle.model.specs.Calls.{seen_second, whole_read, outcome, result_of}
 use Rattle.model.specs.ByteCalls.{sheets_said, result_on}
 use Rattle.model.specs.ByteHistories.{Bytes}
 use Rattle.model.specs.Histories.{ClockFits}
@@ -69,11 +69,11 @@ unfolding turn_after_on
 joined-left x b l j a = left-joins x b l ∙ ap (bytes_left (joined_bytes b)) (joined-response x b j a)
 
 -- "For any other read either call is the whole one, without 7."
-pub either_is_whole : (t : Transaction) (k : Key) (now : ℕ) (c : Columns) (s : Sheets) → takes_two (units_of s) k t ≡ false → result (second t k now c) s ≡ result (read t k now) s
-unfolding result conditions outcome whole_read seen_second refusal_of
+pub either_is_whole : (t : Transaction) (k : Key) (now : ℕ) (c : Columns) (s : Sheets) → takes_two (units_of s) k t ≡ false → result_of (second t k now c) s ≡ result_of (read t k now) s
+unfolding result_of conditions outcome whole_read seen_second refusal_of
 either_is_whole t k now c s h = go (is_new k t) (is_lower (units_of s) k) refl refl
   where
-    go : (n l : Bool) → is_new k t ≡ n → is_lower (units_of s) k ≡ l → result (second t k now c) s ≡ result (read t k now) s
+    go : (n l : Bool) → is_new k t ≡ n → is_lower (units_of s) k ≡ l → result_of (second t k now c) s ≡ result_of (read t k now) s
     go true true e f = absurd (true≢false (sym (ap₂ ◌&&◌ e f) ∙ h))
     go true false e f = rw (e, f) refl
     go false l e f = rw e refl
@@ -89,6 +89,6 @@ second_is_read t k now c rs cs = go (eqb (refusal_of (check_conditions rs cs)) 0
     b : Bytes
     b = record { records = rs; coordinator = cs }
 
-    go : (x : Bool) → eqb (refusal_of (check_conditions rs cs)) 0 ≡ x → cond x (result (second t k now c) (sheets_said rs cs)) (refused (refusal_of (check_conditions rs cs))) ≡ cond x (result (read t k now) (sheets_said rs cs)) (refused (refusal_of (check_conditions rs cs)))
+    go : (x : Bool) → eqb (refusal_of (check_conditions rs cs)) 0 ≡ x → cond x (result_of (second t k now c) (sheets_said rs cs)) (refused (refusal_of (check_conditions rs cs))) ≡ cond x (result_of (read t k now) (sheets_said rs cs)) (refused (refusal_of (check_conditions rs cs)))
     go true e = either_is_whole t k now c (sheets_said rs cs) (capital_takes_one (sheets_said rs cs) (passing_readable b (eqb-true (refusal_of (check_conditions rs cs)) 0 e)).1 k t)
     go false e = refl

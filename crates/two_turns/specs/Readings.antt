@@ -16,7 +16,7 @@ use Rattle.model.specs.Writes.{Sheets}
 use Rattle.model.specs.Steps.{units_of}
 use Rattle.model.specs.Results.{read, Answer, answered, refusal_in, Response, Result, refused, answer_of}
 use Rattle.model.specs.Conditions.{is_new, takes_two, conditions}
-use Rattle.model.specs.Calls.{first_read, outcome, result}
+use Rattle.model.specs.Calls.{first_read, outcome, result_of}
 use Rattle.model.specs.Operations.{once, operation_conditions, settled, response, coordinator_left}
 use Rattle.model.specs.TwoSheets.{plain_bytes, plain_line, joined_sheet, plain_record}
 use Rattle.model.specs.TwoSpares.{plain_lines, bookkeeping_lines, joined_lines, form_conditions, two_conditions}
@@ -89,7 +89,7 @@ module _ (t : Transaction) (k : Key) (now : ℕ) (b : TwoBytes) (two : takes_two
 
   -- what is asked of the sheets and of the call first, then what it comes to
   by_first : (P : Response Answer Sheets → Type 0) → ((n : ℕ) → (n ≡ 0 → ⊥) → P (refused n)) → (PassingTwo b → P (settled s (first_read t (line_of k s.lines)))) → P (response_two (once (read t k now)) b)
-  unfolding response_two response result
+  unfolding response_two response result_of
   by_first P r m =
       unless_of P (conditions_of b) (λ z. r (refusal_of (conditions_of b)) z)
       (λ p. unless_of (λ (x : Result Answer). P (settled s x)) (conditions (read t k now) s) (λ z. r (refusal_of (conditions (read t k now) s)) z)

@@ -3,7 +3,7 @@
 use Rattle.lists.specs.Basics.{◌≡◌, sym, ap, subst, ◌∙◌}
 use Rattle.model.specs.Writes.{Sheets}
 use Rattle.model.specs.Results.{Call, Answer, Response, answer_of}
-use Rattle.model.specs.Calls.{result}
+use Rattle.model.specs.Calls.{result_of}
 use Rattle.model.specs.Histories.{answer, written, after, ClockFits}
 use Rattle.model.specs.Operations.{once, stands_for, response}
 use Rattle.model.specs.CallByPlace.{response_at}
@@ -38,10 +38,10 @@ turn_stays x b l h =
 
 pub same_answer : (c : Call) (b : TwoBytes) → PassingTwo b → answer_two c b ≡ answer c (saying_two b)
 unfolding answer_two answer turn_response_two turn_response response
-same_answer c b h = ap answer_of (same-response (single (once c)) b h) ∙ settled-answer (saying_two b) (result c (saying_two b))
+same_answer c b h = ap answer_of (same-response (single (once c)) b h) ∙ settled-answer (saying_two b) (result_of c (saying_two b))
 
 pub call_stays : (c : Call) (b : TwoBytes) → ClockFits c → PassingTwo b → (saying_two (after_two c b) ≡ after c (saying_two b)) × PassingTwo (after_two c b)
 unfolding after_two after written turn_event_two turn_after_two turn_response_two turn_after turn_response turn_call stands_for response
 call_stays c b l h =
     let e = turn_stays (single (once c)) b l h in
-    (e.0 ∙ settled-left (saying_two b) (result c (saying_two b)), e.1)
+    (e.0 ∙ settled-left (saying_two b) (result_of c (saying_two b)), e.1)

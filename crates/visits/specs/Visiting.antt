@@ -7,7 +7,7 @@ use Rattle.model.specs.Visits.{meeting, is_busy, recovery_write}
 use Rattle.model.specs.Results.{visit, Answer, visited, Result, refused, made, unless}
 use Rattle.model.specs.Writes.{Sheets}
 use Rattle.model.specs.Conditions.{conditions}
-use Rattle.model.specs.Calls.{outcome, result}
+use Rattle.model.specs.Calls.{outcome, result_of}
 use Rattle.model.specs.ByteCalls.{sheets_of}
 use Rattle.sheet_laws.specs.KeyOrder.{has_line_lem}
 use Rattle.call_laws.specs.ByIndex.{found_at}
@@ -17,12 +17,12 @@ use Rattle.answers.specs.declared.Visited.{Visited}
 use Rattle.answers.specs.Answers.{to_visited, visited_by}
 
 module _ (k : Key) (now : ℕ) (s : Sheets) where
-  pub visit_out : key_in_range k ≡ false → result (visit k now) s ≡ refused 5
-  unfolding result conditions refusal_of
+  pub visit_out : key_in_range k ≡ false → result_of (visit k now) s ≡ refused 5
+  unfolding result_of conditions refusal_of
   visit_out e = rw e
 
-  pub visit_none : key_in_range k ≡ true → found k s.lines ≡ Nothing → result (visit k now) s ≡ refused 6
-  unfolding result conditions refusal_of is_missing
+  pub visit_none : key_in_range k ≡ true → found k s.lines ≡ Nothing → result_of (visit k now) s ≡ refused 6
+  unfolding result_of conditions refusal_of is_missing
   visit_none e f = rw (e, f)
 
 unless_busy_lem : (b : Bool) (r : Result Answer) → unless (refuse 5 false ∷ refuse 6 false ∷ refuse 12 b ∷ []) r ≡ cond b (refused 12) r
@@ -38,8 +38,8 @@ said_by Again r = refl
 said_by Busy r = refl
 
 module _ (now : ℕ) (rs cs : List ℕ) (i : ℕ) (s : Standing rs cs i) where
-  visit_met : result (visit (line_at rs i).key now) (sheets_of rs cs) ≡ unless_busy (meeting now (sheets_of rs cs) (line_at rs i)) (visited (meeting now (sheets_of rs cs) (line_at rs i))) (line_at rs i)
-  unfolding result outcome conditions
+  visit_met : result_of (visit (line_at rs i).key now) (sheets_of rs cs) ≡ unless_busy (meeting now (sheets_of rs cs) (line_at rs i)) (visited (meeting now (sheets_of rs cs) (line_at rs i))) (line_at rs i)
+  unfolding result_of outcome conditions
   visit_met =
       let k = (line_at rs i).key in
       let v = meeting now (sheets_of rs cs) (line_of k (records rs)) in
@@ -49,13 +49,13 @@ module _ (now : ℕ) (rs cs : List ℕ) (i : ℕ) (s : Standing rs cs i) where
       ∙ (unless_busy_lem (is_busy v) _
       ∙ ap (λ (r : Record). unless_busy (meeting now (sheets_of rs cs) r) (visited (meeting now (sheets_of rs cs) r)) r) (sym s.index.line))
 
-  pub visit_outcome : (v : Recovery) {answer : Visited} {rs' cs' : List ℕ} → Recovered now i rs cs v rs' cs' → answer ≡ visited_by v → Outcome to_visited (result (visit (line_at rs i).key now) (sheets_of rs cs)) rs cs answer rs' cs'
+  pub visit_outcome : (v : Recovery) {answer : Visited} {rs' cs' : List ℕ} → Recovered now i rs cs v rs' cs' → answer ≡ visited_by v → Outcome to_visited (result_of (visit (line_at rs i).key now) (sheets_of rs cs)) rs cs answer rs' cs'
   visit_outcome v h a =
       outcome-met to_visited rs cs s.accepted v (visited v) (line_at rs i)
       (visit_met ∙ ap (λ (x : Recovery). unless_busy x (visited x) (line_at rs i)) (sym h.met))
       (a ∙ said_by v (line_at rs i)) h.written
 
 -- the visit of a key at its line
-pub visit_found : (k : Key) (now : ℕ) (rs cs : List ℕ) (i : ℕ) {answer : Visited} {rs' cs' : List ℕ} → found k (records rs) ≡ At i → Outcome to_visited (result (visit (line_at rs i).key now) (sheets_of rs cs)) rs cs answer rs' cs' → Outcome to_visited (result (visit k now) (sheets_of rs cs)) rs cs answer rs' cs'
+pub visit_found : (k : Key) (now : ℕ) (rs cs : List ℕ) (i : ℕ) {answer : Visited} {rs' cs' : List ℕ} → found k (records rs) ≡ At i → Outcome to_visited (result_of (visit (line_at rs i).key now) (sheets_of rs cs)) rs cs answer rs' cs' → Outcome to_visited (result_of (visit k now) (sheets_of rs cs)) rs cs answer rs' cs'
 visit_found k now rs cs i {answer} {rs'} {cs'} e h =
-    subst (λ (j : Key). Outcome to_visited (result (visit j now) (sheets_of rs cs)) rs cs answer rs' cs') (found_at k (records rs) i e).key h
+    subst (λ (j : Key). Outcome to_visited (result_of (visit j now) (sheets_of rs cs)) rs cs answer rs' cs') (found_at k (records rs) i e).key h

@@ -2,7 +2,7 @@
 #![tactic(auto)]
 ghost use Rattle.std.specs.Prelude.{◌≡◌};
 ghost use Rattle.model.specs.Results.{visit, refused};
-ghost use Rattle.model.specs.Calls.{result};
+ghost use Rattle.model.specs.Calls.{result_of};
 ghost use Rattle.model.specs.ByteCalls.{sheets_of};
 ghost use Rattle.call_laws.specs.Accepted.{Accepted, Outcome};
 ghost use Rattle.recover.specs.Recovering.{line_at, Standing};
@@ -12,7 +12,7 @@ use answers::Visited;
 use types::{Found, Key, Recovery};
 
 pub fn refusal(n: u32) -> Visited
-    ensures* { λ r. ⌜ r ≡ to_visited (refused n) ⌝ }
+    ensures { result ≡ to_visited (refused n) }
 {
     Visited {
         refusal: n,
@@ -21,7 +21,7 @@ pub fn refusal(n: u32) -> Visited
 }
 
 fn reply(n: u32) -> Visited
-    ensures* { λ r. ⌜ r ≡ record { refusal = 0; reply = n } ⌝ }
+    ensures { result ≡ record { refusal = 0; reply = n } }
 {
     Visited {
         refusal: 0,
@@ -31,7 +31,7 @@ fn reply(n: u32) -> Visited
 
 // The answer by what the visit came to.
 fn answer(v: Recovery) -> Visited
-    ensures* { λ r. ⌜ r ≡ visited_by v ⌝ }
+    ensures { result ≡ visited_by v }
 {
     match v {
         Recovery::Stays => reply(0),
@@ -45,7 +45,7 @@ fn answer(v: Recovery) -> Visited
 // The visit of the key of line i.
 pub fn visit_line(i: usize, clock: u32, records: &mut [u8], coordinator: &mut [u8]) -> Visited
     requires { Standing records.old coordinator.old i }
-    ensures* { λ r. ⌜ Outcome to_visited (result (visit (line_at records.old i).key clock) (sheets_of records.old coordinator.old)) records.old coordinator.old r records.new coordinator.new ⌝ }
+    ensures { Outcome to_visited (result_of (visit (line_at records.old i).key clock) (sheets_of records.old coordinator.old)) records.old coordinator.old result records.new coordinator.new }
 {
     let v = recover::recover(i, clock, records, coordinator);
     answer(v)
@@ -53,7 +53,7 @@ pub fn visit_line(i: usize, clock: u32, records: &mut [u8], coordinator: &mut [u
 
 pub fn visit(key: Key, clock: u32, records: &mut [u8], coordinator: &mut [u8]) -> Visited
     requires { Accepted records.old coordinator.old }
-    ensures* { λ r. ⌜ Outcome to_visited (result (visit key clock) (sheets_of records.old coordinator.old)) records.old coordinator.old r records.new coordinator.new ⌝ }
+    ensures { Outcome to_visited (result_of (visit key clock) (sheets_of records.old coordinator.old)) records.old coordinator.old result records.new coordinator.new }
 {
     if !codec::keys::key_in_range(key) {
         return refusal(5);

@@ -1,0 +1,20 @@
+-- By the two cases of what is held.
+use Rattle.lists.specs.Basics.{sym, ◌∙◌, arith, rules}
+use Rattle.transactions.specs.Held.{held_below}
+use Rattle.held_lines.proofs.index_of.Goals as goal
+
+pub offset_bounds-indices-i : goal.offset_bounds-indices-i
+offset_bounds-indices-i c =
+    let l = held_below _ _ _ (sym c.held_at.ensures ∙ c.in-At.is) in
+    omega (arith, l, c.requires)
+
+pub bounds-indices-i : goal.bounds-indices-i
+bounds-indices-i c =
+    let l = held_below _ _ _ (sym c.held_at.ensures ∙ c.in-At.is) in
+    omega (arith, l, c.requires)
+
+pub returns-in-At : goal.returns-in-At
+returns-in-At c = rw (sym c.held_at.ensures ∙ c.in-At.is)
+
+pub returns-in-Nothing : goal.returns-in-Nothing
+returns-in-Nothing c = rw (sym c.held_at.ensures ∙ c.in-Nothing.is)

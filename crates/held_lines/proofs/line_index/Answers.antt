@@ -1,0 +1,18 @@
+-- By what is found.
+use Rattle.lists.specs.Basics.{sym, ◌∙◌}
+use Rattle.model.specs.Records.{records}
+use Rattle.sheet_laws.specs.ByIndex.{length-records}
+use Rattle.sheets.specs.Answers.{is_found}
+use Rattle.held_lines.specs.Located.{index_found, index_none}
+use borrow.Author.Rules.{rules}
+use Rattle.held_lines.proofs.line_index.Goals as goal
+
+pub returns-in-At : goal.returns-in-At
+returns-in-At c =
+    let a = c.args in
+    index_found a.key (records a.records.now) _ (is_found _ _ c.requires.0 c.find.ensures ∙ c.in-At.is)
+
+pub returns-in-Nothing : goal.returns-in-Nothing
+returns-in-Nothing c =
+    let a = c.args in
+    c.count.ensures ∙ (sym (length-records a.records.now) ∙ index_none a.key (records a.records.now) (is_found _ _ c.requires.0 c.find.ensures ∙ c.in-Nothing.is))

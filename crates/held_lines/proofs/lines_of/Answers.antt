@@ -1,0 +1,24 @@
+-- Of the entries before i each has its index.
+use Rattle.lists.specs.Basics.{◌≡◌, refl, ap, ◌∙◌, ◌-◌, ◌≤◌, length, length-set, arith}
+use Rattle.model.specs.Records as sheet
+use Rattle.held_lines.specs.Located.{indices_of, indices_next, entry_ranged}
+use borrow.Author.Rules.{rules}
+use Rattle.held_lines.proofs.lines_of.Goals as goal
+
+pub loop-i-init : goal.loop-i-init
+unfolding indices_of
+loop-i-init c = (omega arith, (refl, refl))
+
+pub line_index-requires : goal.line_index-requires
+line_index-requires c =
+    let a = c.args in
+    (c.requires.0, entry_ranged a.t c.well_formed.1.0 c.requires.1.0 c.requires.1.1 _ c.loop-i-test.true)
+
+pub loop-i-preserved : goal.loop-i-preserved
+loop-i-preserved c =
+    (omega (arith, c.loop-i-test.true), (length-set c.loop-i.indices c.loop-i.i _ ∙ c.loop-i.invariant.1.0, indices_next _ _ _ _ _ c.loop-i.invariant.1.1 c.line_index.ensures))
+
+pub returns : goal.returns
+returns c =
+    let a = c.args in
+    c.loop-i.invariant.1.1 ∙ ap (indices_of (sheet.records a.records.now) a.t) (omega (arith, c.loop-i.invariant.0, c.loop-i-test.false))

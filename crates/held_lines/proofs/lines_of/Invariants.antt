@@ -1,0 +1,12 @@
+-- Of the entries before i each has its index.
+use Rattle.lists.specs.Basics.{◌≡◌, refl, ap, ◌∙◌, ◌-◌, ◌≤◌, length, length-set, arith}
+use Rattle.model.specs.Records as sheet
+use Rattle.held_lines.specs.Located.{indices_of, indices_next, entry_ranged}
+use borrow.Author.Rules.{rules}
+use Rattle.held_lines.proofs.lines_of.Given as goal
+
+abbrev pub invariant-loop-i : goal.invariant-loop-i
+invariant-loop-i l = (l.i ≤ l.t.count) × ((length l.indices ≡ 8) × (l.indices ≡ indices_of (sheet.records l.records) l.t l.i))
+
+abbrev pub decreases-loop-i : goal.decreases-loop-i
+decreases-loop-i l = l.n - l.i

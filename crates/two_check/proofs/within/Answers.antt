@@ -1,0 +1,6 @@
+-- Both tests as they are said.
+use Rattle.lists.specs.Basics.{refl, rules}
+use Rattle.two_check.proofs.within.Goals as goal
+
+pub returns : goal.returns
+returns c = refl
