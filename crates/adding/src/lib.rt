@@ -1,6 +1,7 @@
 // A line added to a record sheet, and one removed (document 02, note 6): where it goes, by the rank of its key, or the refusal; and both calls on two lent sheets. A refusal leaves
 // both sheets as they were.
 #![tactic(auto)]
+
 ghost use Rattle.std.specs.Prelude.{◌≡◌, true};
 ghost use Rattle.model.specs.Records.{records_accepted, record_text, absent_at, ranked};
 ghost use Rattle.model.specs.Records as model;

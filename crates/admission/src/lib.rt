@@ -1,5 +1,6 @@
 // What is asked of a transaction before a call looks into it, on sheets that the check has let pass: refusal 3, and 4 and 5 of read and put; and 8 of begin.
 #![tactic(auto)]
+
 ghost use Rattle.std.specs.Prelude.{◌≡◌, true, false, List, ℕ, ◌/◌, length, drop, eqb};
 ghost use Rattle.model.specs.Layouts.{coordinator_bytes};
 ghost use Rattle.model.specs.Coordinator.{coordinator_of, coordinator_readable};

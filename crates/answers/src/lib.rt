@@ -1,5 +1,6 @@
 // What the calls answer, and each as the one function for every call answers it.
 #![tactic(auto)]
+
 ghost use Rattle.std.specs.Prelude.{◌≡◌};
 ghost use Rattle.model.specs.Results.{refused};
 ghost use Rattle.answers.specs.Answers.{to_returned, of_returned, of_begun, of_visited, of_closed};

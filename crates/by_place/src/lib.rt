@@ -1,6 +1,7 @@
 // What C asks of a call by place and is answered, as numbers: whether a list, a place and a call are named, what the number of a call asks, and an answer as one
 // number.
 #![tactic(auto)]
+
 ghost use Rattle.std.specs.Prelude.{◌≡◌, cond, ◌+◌, ◌≤◌, eqb};
 ghost use Rattle.model.specs.Refusals.{last_refusal};
 ghost use Rattle.model.specs.CallByPlace.{listed};

@@ -1,5 +1,6 @@
 // The functions exported for C. A slice passes as a pointer and then a length.
 #![tactic(auto)]
+
 ghost use Rattle.std.specs.Prelude.{◌≡◌, false, ◌+◌};
 ghost use Rattle.model.specs.Refusals.{refusal_of};
 ghost use Rattle.model.specs.SheetCalls.{check_conditions};

@@ -1,5 +1,6 @@
 // What a call wrote, told from both sheets before and after it. Bytes alone are judged: the sheets need not be accepted.
 #![tactic(auto)]
+
 ghost use Rattle.std.specs.Prelude.{◌≡◌, cond, ◌+◌, ◌/◌, ◌<◌, ◌≤◌, eqb, length};
 ghost use Rattle.lists.specs.Bytes.{eq_list};
 ghost use Rattle.model.specs.Layouts.{record_bytes};

@@ -1,5 +1,6 @@
 // Steps of a transaction one after another on two lent sheets, up to done or to a step that would write beyond a limit.
 #![tactic(auto)]
+
 ghost use Rattle.closing.specs.Running.{Sure, Turned, Closed};
 
 pub mod writes;

@@ -1,5 +1,6 @@
 // The bytes of both sheets, read and written by index, so that calls above can speak of records, decisions and counts.
 #![tactic(auto)]
+
 pub mod coordinator;
 pub mod fields;
 pub mod keys;

@@ -1,5 +1,6 @@
 // The check of a coordinator sheet by itself, and against the numbers that records name.
 #![tactic(auto)]
+
 ghost use Rattle.std.specs.Prelude.{◌≡◌, true};
 ghost use Rattle.model.specs.Records.{records_accepted};
 ghost use Rattle.model.specs.Coordinator.{coordinator_readable, coordinator_accepted};

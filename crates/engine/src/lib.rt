@@ -1,6 +1,7 @@
 // The calls on two lent sheets, for every input: refusals 1 and 2 by the check, the others and what is done by the call on accepted sheets, which is lent the lines of
 // records and no spares. A refusal leaves both sheets as they were. `perform` is every call by one function.
 #![tactic(auto)]
+
 ghost use Rattle.std.specs.Prelude.{◌≡◌};
 ghost use Rattle.model.specs.Results as model;
 ghost use Rattle.model.specs.ByteCalls.{result_on, sheet_after, coordinator_after};

@@ -1,5 +1,6 @@
 // The companion of the close: for 1 to 8 puts a transaction and sheets whose close makes as many writes as any can.
 #![tactic(auto)]
+
 ghost use Rattle.std.specs.Prelude.{◌≡◌, ◌*◌, ◌≤◌, length};
 ghost use Rattle.model.specs.Layouts.{record_bytes};
 ghost use Rattle.model.specs.Records.{records_text};

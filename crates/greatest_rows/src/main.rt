@@ -1,5 +1,6 @@
 // Prints what the companion of the close gives for 1 to 8 puts: both sheets, and what the close of its transaction on them reports.
 #![tactic(auto)]
+
 ghost use Rattle.std.specs.Prelude.{◌≤◌};
 
 use types::{LEAST_COORDINATOR_BYTES, RECORD_BYTES};

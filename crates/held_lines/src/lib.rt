@@ -1,5 +1,6 @@
 // The lines of a transaction's entries on an accepted record sheet.
 #![tactic(auto)]
+
 ghost use Rattle.std.specs.Prelude.{◌≡◌, true, List, ℕ, ◌≤◌, get_or};
 ghost use Rattle.model.specs.Records.{no_record, records_accepted, key_in_range};
 ghost use Rattle.model.specs.Records as sheet;

@@ -1,5 +1,6 @@
 // Every call by one function: what is asked, of a transaction, on two lent sheets that the check has let pass. A call added later is one more case of it.
 #![tactic(auto)]
+
 ghost use Rattle.std.specs.Prelude.{◌≡◌};
 ghost use Rattle.model.specs.Operations.{response, records_left, coordinator_left};
 ghost use Rattle.model.specs.Requests.{operation_of};

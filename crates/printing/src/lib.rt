@@ -1,5 +1,6 @@
 // The replies of a history as text for standard output, gathered in a lent buffer and written when that is full. `fill` is how many bytes of it are taken.
 #![tactic(auto)]
+
 ghost use Rattle.std.specs.Prelude.{◌≡◌, ◌≤◌};
 ghost use Rattle.script.specs.Lines.{reply_numbers};
 

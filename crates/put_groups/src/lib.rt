@@ -1,5 +1,6 @@
 // Atomicity units and the groups of a transaction's puts. The units are the nine letters of the coordinator's head.
 #![tactic(auto)]
+
 ghost use Rattle.std.specs.Prelude.{◌≡◌, ◌*◌, ◌≤◌, length};
 ghost use Rattle.model.specs.Transactions.{puts};
 ghost use Rattle.model.specs.Groups.{group_count};

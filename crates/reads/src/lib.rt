@@ -1,5 +1,6 @@
 // The columns of a key: as the transaction holds them, or as its line says once it was visited.
 #![tactic(auto)]
+
 ghost use Rattle.std.specs.Prelude.{◌≡◌, ◌<◌, true, false, if◌then◌else◌};
 ghost use Rattle.model.specs.Records.{records_accepted, by_state};
 ghost use Rattle.model.specs.Results.{read, second};

@@ -1,5 +1,6 @@
 // Meeting a line: what a visit of it comes to, what it writes, and what a read sees of the record then. A visit reads only the fields that it needs, and rolls a line by moving its bytes.
 #![tactic(auto)]
+
 ghost use Rattle.std.specs.Prelude.{◌≡◌, true, ◌&&◌, if◌then◌else◌, nat_le};
 ghost use Rattle.model.specs.Records.{records_accepted};
 ghost use Rattle.model.specs.Records as sheet;

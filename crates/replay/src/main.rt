@@ -1,6 +1,7 @@
 // Runs a history of calls from standard input and prints every answer, and both sheets where a line asks for them and at the end. docs/REPLAY.md has the form
 // of a history.
 #![tactic(auto)]
+
 ghost use Rattle.std.specs.Prelude.{◌≡◌, ◌+◌, ◌≤◌, length};
 ghost use Rattle.script.specs.Lines.{reply_numbers};
 

@@ -1,4 +1,5 @@
 // The calls on sheets that take no transaction: the check, and the look-up of a key.
 #![tactic(auto)]
+
 pub mod check;
 pub mod lookup;

@@ -1,5 +1,6 @@
 // A line put into a sheet and one taken out, the lines below shifting by one; and how many lines stand before the spares at the end (document 02, note 6).
 #![tactic(auto)]
+
 ghost use Rattle.std.specs.Prelude.{◌≡◌, ◌+◌, ◌*◌, ◌/◌, ◌≤◌, ◌<◌, length, take, drop};
 ghost use Rattle.lists.specs.Each.{joined};
 ghost use Rattle.lists.specs.Pieces.{over};

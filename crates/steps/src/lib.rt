@@ -1,5 +1,6 @@
 // An advance on two lent sheets that the refusals have let pass: a decision over eight phases, with a function for each that does something.
 #![tactic(auto)]
+
 ghost use Rattle.model.specs.Steps as model;
 ghost use Rattle.model.specs.ByteCalls.{sheets_of};
 ghost use Rattle.steps.specs.Ready.{Ready};

@@ -1,5 +1,6 @@
 // Standard input and output of the programs. What fails is told on standard error, since a program has no exit status.
 #![tactic(auto)]
+
 ghost use Rattle.io.specs.Counts.{IsPrefixLen};
 
 use std::io::{Eprint, Input, Print, Read};

@@ -1,5 +1,6 @@
 // The work of the visiting program, from its whole input to its whole output.
 #![tactic(auto)]
+
 ghost use Rattle.std.specs.Prelude.{◌≡◌, ◌≤◌, length};
 ghost use Rattle.model.specs.Visitor.{refused_text};
 ghost use Rattle.model.specs.Visitor as model;

@@ -1,5 +1,6 @@
 // A transaction by value: what it holds, and the transaction with some fields replaced. `stages` has what a step returns.
 #![tactic(auto)]
+
 ghost use Rattle.std.specs.Prelude.{◌≡◌, not, cond, ◌+◌, ◌≤◌, ◌<◌, length, get_or};
 ghost use Rattle.model.specs.Records.{same_key};
 ghost use Rattle.model.specs.Transactions as model;

@@ -1,6 +1,7 @@
 // A line added to a plain sheet and a bookkeeping sheet, and one removed from both (document 02, notes 4 and 6). Where it goes is told by both sheets joined in an area of this call's
 // own; the line then goes to each sheet by itself. A refusal leaves all three sheets as they were.
 #![tactic(auto)]
+
 ghost use Rattle.std.specs.Prelude.{◌≡◌, true, length};
 ghost use Rattle.lists.specs.Each.{joined};
 ghost use Rattle.model.specs.Lines.{lines_of};

@@ -1,5 +1,6 @@
 // Whether two sheets are accepted, and both joined in a lent area.
 #![tactic(auto)]
+
 ghost use Rattle.std.specs.Prelude.{◌≡◌, ◌&&◌, true, length, replicate, ◌*◌, ◌/◌, ◌≤◌};
 ghost use Rattle.model.specs.Layouts.{record_bytes};
 ghost use Rattle.model.specs.Records.{records_accepted};

@@ -1,6 +1,7 @@
 // The calls on a plain sheet and a bookkeeping sheet, for every input. Sheets that have their size and as many lines are lent without their spares to the calls on both
 // joined; the spares stay behind what is left.
 #![tactic(auto)]
+
 ghost use Rattle.std.specs.Prelude.{◌≡◌, true, false};
 ghost use Rattle.model.specs.Refusals.{refusal_of};
 ghost use Rattle.model.specs.Spares.{sized};

@@ -1,5 +1,6 @@
 // Two sheets joined into one, line by line, and that one split into both again.
 #![tactic(auto)]
+
 ghost use Rattle.std.specs.Prelude.{◌≡◌, true, ◌&&◌, ◌+◌, ◌*◌, ◌/◌, ◌≤◌, length, take, drop};
 ghost use Rattle.lists.specs.Pieces.{over};
 ghost use Rattle.model.specs.Layouts.{record_bytes};

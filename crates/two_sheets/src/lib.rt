@@ -1,6 +1,7 @@
 // The calls on a plain sheet, a bookkeeping sheet and a coordinator sheet, for every input (document 02, note 4). Both sheets are joined in an area of this call's
 // own, where the call on accepted sheets runs, and an accepted call is split back; a lent area wouldn't do, since a refusal leaves every lent byte.
 #![tactic(auto)]
+
 ghost use Rattle.std.specs.Prelude.{◌≡◌, length};
 ghost use Rattle.model.specs.Refusals.{refusal_of};
 ghost use Rattle.model.specs.TwoSheets.{full_conditions};

@@ -1,5 +1,6 @@
 // The visiting program: all of standard input, visited, to standard output.
 #![tactic(auto)]
+
 use types::MOST_RECORD_BYTES;
 
 // Of an input that is longer than any which fits, one byte more is enough.

@@ -1,5 +1,6 @@
 // The visit of a key.
 #![tactic(auto)]
+
 ghost use Rattle.std.specs.Prelude.{◌≡◌};
 ghost use Rattle.model.specs.Results.{visit, refused};
 ghost use Rattle.model.specs.Calls.{result_of};

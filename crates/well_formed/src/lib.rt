@@ -1,5 +1,6 @@
 // Well-formed transactions, as far as it can be told from the unit letters and the issued count.
 #![tactic(auto)]
+
 ghost use Rattle.std.specs.Prelude.{◌≡◌, true, cond, ◌≤◌, leb};
 ghost use Rattle.lists.specs.Each.{all};
 ghost use Rattle.model.specs.Records.{absence};

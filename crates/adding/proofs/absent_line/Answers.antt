@@ -8,8 +8,8 @@ use Rattle.adding.proofs.absent_line.Goals as goal
 
 pub write_row-requires : goal.write_row-requires
 unfolding layout record_layout line_bytes
-write_row-requires c = 
-      record { row_len = refl; line_len = refl }
+write_row-requires c =
+    record { row_len = refl; line_len = refl }
 
 pub returns : goal.returns
 unfolding layout record_text record_numbers key_numbers image_numbers state_number before_number

@@ -13,8 +13,8 @@ use Rattle.adding.proofs.add.Goals as goal
 pub returns-then-checked-ne0 : goal.returns-then-checked-ne0
 returns-then-checked-ne0 c =
     let a = c.args in
-    let o = check_refuses (calls.add a.key) a.records.now a.coordinator.now _ c.check-checked.ensures c.if-checked-ne0.true in 
-      record { answer = o.said; lines = o.sheet }
+    let o = check_refuses (calls.add a.key) a.records.now a.coordinator.now _ c.check-checked.ensures c.if-checked-ne0.true in
+    record { answer = o.said; lines = o.sheet }
 
 pub lines_end-end-requires : goal.lines_end-end-requires
 lines_end-end-requires c =
@@ -32,17 +32,17 @@ to_add-told-requires c =
 pub returns-then-told-ne0 : goal.returns-then-told-ne0
 returns-then-told-ne0 c =
     let a = c.args in
-    let o = add_refuses a.key a.records.now a.coordinator.now (sym c.check-checked.ensures ∙ c.if-checked-ne0.false) _ c.lines_end-end.ensures.is _ refl _ c.to_add-told.ensures c.if-told-ne0.true in 
-      record { answer = o.said; lines = o.sheet }
+    let o = add_refuses a.key a.records.now a.coordinator.now (sym c.check-checked.ensures ∙ c.if-checked-ne0.false) _ c.lines_end-end.ensures.is _ refl _ c.to_add-told.ensures c.if-told-ne0.true in
+    record { answer = o.said; lines = o.sheet }
 
 pub insert_line-requires : goal.insert_line-requires
 insert_line-requires c =
     let a = c.args in
-    let within = add_within a.key a.records.now a.coordinator.now (sym c.check-checked.ensures ∙ c.if-checked-ne0.false) _ c.lines_end-end.ensures.is _ refl _ c.to_add-told.ensures c.if-told-ne0.false in 
-      record { s_len = accepted_whole a.records.now (passing_parts (record { records = a.records.now; coordinator = a.coordinator.now }) (sym c.check-checked.ensures ∙ c.if-checked-ne0.false)).0; at_in_bounds = omega (arith, within.0, within.1); text_len = ap length c.absent_line-line.ensures ∙ add_wide a.key a.records.now a.coordinator.now (sym c.check-checked.ensures ∙ c.if-checked-ne0.false) _ c.lines_end-end.ensures.is _ refl _ c.to_add-told.ensures c.if-told-ne0.false }
+    let within = add_within a.key a.records.now a.coordinator.now (sym c.check-checked.ensures ∙ c.if-checked-ne0.false) _ c.lines_end-end.ensures.is _ refl _ c.to_add-told.ensures c.if-told-ne0.false in
+    record { s_len = accepted_whole a.records.now (passing_parts (record { records = a.records.now; coordinator = a.coordinator.now }) (sym c.check-checked.ensures ∙ c.if-checked-ne0.false)).0; at_in_bounds = omega (arith, within.0, within.1); text_len = ap length c.absent_line-line.ensures ∙ add_wide a.key a.records.now a.coordinator.now (sym c.check-checked.ensures ∙ c.if-checked-ne0.false) _ c.lines_end-end.ensures.is _ refl _ c.to_add-told.ensures c.if-told-ne0.false }
 
 pub returns : goal.returns
 returns c =
     let a = c.args in
-    let o = add_made a.key a.records.now a.coordinator.now (sym c.check-checked.ensures ∙ c.if-checked-ne0.false) _ c.lines_end-end.ensures.is _ refl _ c.to_add-told.ensures c.if-told-ne0.false _ (c.insert_line.ensures ∙ ap (λ (t : List ℕ). joined (insert_at c.to_add-told.result.rank.below t (lines_of record_bytes a.records.now))) c.absent_line-line.ensures) in 
-      record { answer = o.said; lines = o.sheet }
+    let o = add_made a.key a.records.now a.coordinator.now (sym c.check-checked.ensures ∙ c.if-checked-ne0.false) _ c.lines_end-end.ensures.is _ refl _ c.to_add-told.ensures c.if-told-ne0.false _ (c.insert_line.ensures ∙ ap (λ (t : List ℕ). joined (insert_at c.to_add-told.result.rank.below t (lines_of record_bytes a.records.now))) c.absent_line-line.ensures) in
+    record { answer = o.said; lines = o.sheet }

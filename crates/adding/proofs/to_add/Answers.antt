@@ -11,8 +11,8 @@ returns-then-not-key_in_range c =
     c.no_rank.ensures ∙ add_out a.key _ a.full (sym c.key_in_range.ensures ∙ c.if-not-key_in_range.true)
 
 pub rank-rank-requires : goal.rank-rank-requires
-rank-rank-requires c = 
-      record { records_value = c.requires; key_value = (sym c.key_in_range.ensures ∙ c.if-not-key_in_range.false) }
+rank-rank-requires c =
+    record { records_value = c.requires; key_value = (sym c.key_in_range.ensures ∙ c.if-not-key_in_range.false) }
 
 pub returns-then-rank : goal.returns-then-rank
 returns-then-rank c =

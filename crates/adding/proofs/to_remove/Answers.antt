@@ -13,8 +13,8 @@ returns-then-not-key_in_range c =
     c.no_rank.ensures ∙ remove_out a.key _ (sym c.key_in_range.ensures ∙ c.if-not-key_in_range.true)
 
 pub rank-rank-requires : goal.rank-rank-requires
-rank-rank-requires c = 
-      record { records_value = c.requires; key_value = (sym c.key_in_range.ensures ∙ c.if-not-key_in_range.false) }
+rank-rank-requires c =
+    record { records_value = c.requires; key_value = (sym c.key_in_range.ensures ∙ c.if-not-key_in_range.false) }
 
 pub returns-then-not-rank : goal.returns-then-not-rank
 returns-then-not-rank c =

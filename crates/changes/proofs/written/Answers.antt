@@ -19,8 +19,8 @@ last_reach-reach-requires c = (fits _ _ _ _ _ (sym c.refusal-refused.ensures ∙
 
 pub first_differing-first-requires : goal.first_differing-first-requires
 first_differing-first-requires c =
-    let r = room _ _ _ _ _ _ _ _ c.refusal-refused.ensures c.if-refused-ne0.false c.last_reach-reach.ensures refl in 
-      record { lines_in_bounds = r.within; before_len = r.same }
+    let r = room _ _ _ _ _ _ _ _ c.refusal-refused.ensures c.if-refused-ne0.false c.last_reach-reach.ensures refl in
+    record { lines_in_bounds = r.within; before_len = r.same }
 
 pub overflow_cast-lines : goal.overflow_cast-lines
 overflow_cast-lines c =

@@ -62,15 +62,15 @@ loop-i-preserved c =
       rest =
           rw (le-leb txid.result issued.result c.if-txid-issued.false, le-leb before.result issued.result c.if-before_txid-issued.false) at
           (let it : let a = c.args in
-    let issued = c.half-issued.result in
-    ((leb c.half-txid.result issued && leb c.half-before_txid.result issued)
-    && all (names_issued (coordinator_of a.coordinator.now).issued) (drop (c.loop-i.i + 1) (records a.records.now)))
-    ≡ all_issued a.records.now a.coordinator.now = let l = c.loop-i in
-    rw (c.half-before_txid.ensures.value, c.half-txid.ensures.value, c.half-issued.ensures.value)
-    (named-turn c.args.records.now c.args.coordinator.now c.requires.records_value c.requires.coordinator_value
-    (λ i. (c.shared_slice_known-1.given i).fits)
-    (λ i. (c.shared_slice_known-2-1.given i).fits)
-    l.i c.loop-i-test.true l.invariant) in it);
+          let issued = c.half-issued.result in
+          ((leb c.half-txid.result issued && leb c.half-before_txid.result issued)
+          && all (names_issued (coordinator_of a.coordinator.now).issued) (drop (c.loop-i.i + 1) (records a.records.now)))
+          ≡ all_issued a.records.now a.coordinator.now = let l = c.loop-i in
+          rw (c.half-before_txid.ensures.value, c.half-txid.ensures.value, c.half-issued.ensures.value)
+          (named-turn c.args.records.now c.args.coordinator.now c.requires.records_value c.requires.coordinator_value
+          (λ i. (c.shared_slice_known-1.given i).fits)
+          (λ i. (c.shared_slice_known-2-1.given i).fits)
+          l.i c.loop-i-test.true l.invariant) in it);
     }
 
 pub returns : goal.returns

@@ -33,8 +33,8 @@ slice_bounds-read-end c =
     simp length-take (omega arith)
 
 pub decisions_ok-requires : goal.decisions_ok-requires
-decisions_ok-requires c = 
-      record { sheet_value = (let it : whole_lines (length c.args.coordinator.now) ≡ true = sym c.whole_lines.ensures ∙ c.if-not-whole_lines.false in it); sheet_value_2 = sym c.read.ensures ∙ c.in-Number.is }
+decisions_ok-requires c =
+    record { sheet_value = (let it : whole_lines (length c.args.coordinator.now) ≡ true = sym c.whole_lines.ensures ∙ c.if-not-whole_lines.false in it); sheet_value_2 = sym c.read.ensures ∙ c.in-Number.is }
 
 pub returns-in-Number : goal.returns-in-Number
 unfolding of_number

@@ -11,8 +11,8 @@ loop-i-init c = laid_first _ _ c.requires.records_len
 
 pub write_row-requires : goal.write_row-requires
 unfolding layout record_layout line_bytes
-write_row-requires c = 
-      record { row_len = refl; line_len = simp (length-take, length-drop) (omega arith) }
+write_row-requires c =
+    record { row_len = refl; line_len = simp (length-take, length-drop) (omega arith) }
 
 pub loop-i-preserved : goal.loop-i-preserved
 unfolding layout state_number before_number key_numbers image_numbers record_numbers record_text

@@ -13,8 +13,8 @@ returns-then-refused-ne0 c =
 pub fill_lines-requires : goal.fill_lines-requires
 fill_lines-requires c =
     let a = c.args in
-    let f : Fits a.count a.records.now a.coordinator.now = fits a.count a.records.now a.coordinator.now (sym c.refusal-refused.ensures ∙ c.if-refused-ne0.false) in 
-      record { count_bound = f.few; records_len = f.records }
+    let f : Fits a.count a.records.now a.coordinator.now = fits a.count a.records.now a.coordinator.now (sym c.refusal-refused.ensures ∙ c.if-refused-ne0.false) in
+    record { count_bound = f.few; records_len = f.records }
 
 pub transaction-requires : goal.transaction-requires
 transaction-requires c =

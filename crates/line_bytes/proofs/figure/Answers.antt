@@ -33,5 +33,5 @@ pub returns : goal.returns
 unfolding digits_from
 returns c =
     let l = c.loop-i in
-    let e : c.args.n - l.i ≡ 0 = omega arith in 
-      record { value = rw e at l.invariant.2; upper_bound = digits_fit l.v l.i 15 l.invariant.1 (omega arith) }
+    let e : c.args.n - l.i ≡ 0 = omega arith in
+    record { value = rw e at l.invariant.2; upper_bound = digits_fit l.v l.i 15 l.invariant.1 (omega arith) }

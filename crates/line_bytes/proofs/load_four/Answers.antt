@@ -4,6 +4,9 @@ use Rattle.line_bytes.specs.Loads.{loaded_four}
 use Rattle.line_bytes.proofs.load_four.Goals as goal
 
 pub returns : goal.returns
-returns c = let a = c.args in 
-      record { value = rw (c.wide-4.ensures.value, c.wide-3.ensures.value, c.wide-2.ensures.value, c.wide.ensures.value)
-      (loaded_four a.s.now a.at (omega arith)); upper_bound = omega arith }
+returns c = let a = c.args in
+    record {
+      value = rw (c.wide-4.ensures.value, c.wide-3.ensures.value, c.wide-2.ensures.value, c.wide.ensures.value)
+          (loaded_four a.s.now a.at (omega arith));
+      upper_bound = omega arith;
+    }

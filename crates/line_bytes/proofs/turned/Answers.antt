@@ -25,5 +25,5 @@ unfolding turned
 returns c =
     let a = c.args in
     let l = c.loop-i in
-    let e : a.n - l.i ≡ 0 = omega arith in 
-      record { value = rw e at l.invariant.2; upper_bound = number_fits l.v l.i a.n l.invariant.1 l.invariant.0 }
+    let e : a.n - l.i ≡ 0 = omega arith in
+    record { value = rw e at l.invariant.2; upper_bound = number_fits l.v l.i a.n l.invariant.1 l.invariant.0 }

@@ -19,5 +19,5 @@ returns c =
     let a = c.args in
     let n = length a.fields.now in
     let z : n - 0 ≡ n = omega arith in
-    let l = lent_front n _ _ _ c.fill_lasts.ensures (length_each _ _ _) in 
-      record { count = c.counted.ensures ∙ ap count_lasts l; places = ap₂ ◌++◌ (c.fill_places.ensures ∙ ap (places_of a.keys.now a.fields.now) l) (ap (λ (k : ℕ). drop k no_groups) z) }
+    let l = lent_front n _ _ _ c.fill_lasts.ensures (length_each _ _ _) in
+    record { count = c.counted.ensures ∙ ap count_lasts l; places = ap₂ ◌++◌ (c.fill_places.ensures ∙ ap (places_of a.keys.now a.fields.now) l) (ap (λ (k : ℕ). drop k no_groups) z) }

@@ -7,7 +7,7 @@ use Rattle.record_check.proofs.is_zero.Goals as goal
 pub returns : goal.returns
 unfolding zero_up_to zero_end bytes loaded
 returns c =
-        let line = c.args.line.now in
+    let line = c.args.line.now in
     let at = c.args.end - 2 in
     let two : length (take 2 (drop at line)) ≡ 2 = simp (length-take, length-drop) (omega (arith, c.requires.le_end, c.requires.end_in_bounds)) in
     rw c.load_two.ensures (zero_loaded line at (λ i. (c.shared_slice_known-1.given i).fits) two)

@@ -12,5 +12,5 @@ unfolding kinds words bytes loaded kind_of kind_told offset record_layout
 returns c =
     let a = c.args in
     let line = c.args.line.now in
-    let told : c.bit-committed.result + c.bit-prepared.result * 2 + c.bit-over_committed.result ≡ kind_of line = rw (c.bit-over_committed.ensures.value, c.bit-prepared.ensures.value, c.bit-committed.ensures.value, c.load_eight-front.ensures) in 
-      record { value = told; upper_bound = omega (arith, told, kind_known line) }
+    let told : c.bit-committed.result + c.bit-prepared.result * 2 + c.bit-over_committed.result ≡ kind_of line = rw (c.bit-over_committed.ensures.value, c.bit-prepared.ensures.value, c.bit-committed.ensures.value, c.load_eight-front.ensures) in
+    record { value = told; upper_bound = omega (arith, told, kind_known line) }

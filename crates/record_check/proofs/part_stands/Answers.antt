@@ -100,13 +100,13 @@ slice_bounds-line_ok-end-4 c =
 
 pub line_ok-requires : goal.line_ok-requires
 line_ok-requires c =
-        let a = c.args in
+    let a = c.args in
     rw (part (a.kind * table_bytes) a.from a.end, c.requires.lent_value)
     (tables_room a.kind c.requires.kind_in_bounds a.from (a.end - a.from) (omega (arith, c.requires.from_le_end, c.requires.end_le_row_bytes)))
 
 pub returns : goal.returns
 unfolding part_stands
 returns c =
-        let a = c.args in
+    let a = c.args in
     let at = a.kind * table_bytes in
     rw (part at a.from a.end, part (at + row_bytes) a.from a.end, part (at + row_bytes + row_bytes) a.from a.end, c.requires.lent_value) at c.line_ok.ensures

@@ -28,13 +28,13 @@ returns-then-n-gt500 c =
 
 pub lines_pass-requires : goal.lines_pass-requires
 unfolding tables joined lows highs alsos middle layout_columns part_columns columns kind_parts kind_limits layout_parts column_part limited narrowed kinds zeros nothing_before state_number before_number open_layout opened record_layout field_bytes field_text ahead words bytes highest_clock
-lines_pass-requires c = 
-      record { s_len = sym c.if-n-records.false; lent_value = refl; highest_value = refl }
+lines_pass-requires c =
+    record { s_len = sym c.if-n-records.false; lent_value = refl; highest_value = refl }
 
 pub returns : goal.returns
 unfolding lines_sized
 returns c =
-        let s = c.args.records.now in
+    let s = c.args.records.now in
     let n = length s / record_bytes in
     rw (accepted_is s, eq-eqb (length s) (n * record_bytes) (sym c.if-n-records.false), le-leb n 500 (omega arith))
     c.lines_pass.ensures

@@ -8,8 +8,8 @@ use Rattle.record_check.specs.Sheet.{sheet_unsized, sheet-sized}
 use Rattle.record_check.proofs.sheet_ok.Goals as goal
 
 pub is_sized-requires : goal.is_sized-requires
-is_sized-requires c = 
-      record { le_width = omega arith; width_le_record_bytes = omega arith }
+is_sized-requires c =
+    record { le_width = omega arith; width_le_record_bytes = omega arith }
 
 pub returns-then-not-is_sized : goal.returns-then-not-is_sized
 returns-then-not-is_sized c =
@@ -18,8 +18,8 @@ returns-then-not-is_sized c =
 
 pub front_end-end-requires : goal.front_end-end-requires
 front_end-end-requires c =
-    let a = c.args in 
-      record { s_len = sized-whole record_bytes a.records.now ((sym c.is_sized.ensures ∙ c.if-not-is_sized.false)); le_width = omega arith; width_le_record_bytes = omega arith }
+    let a = c.args in
+    record { s_len = sized-whole record_bytes a.records.now ((sym c.is_sized.ensures ∙ c.if-not-is_sized.false)); le_width = omega arith; width_le_record_bytes = omega arith }
 
 pub slice_bounds-records_ok-end : goal.slice_bounds-records_ok-end
 slice_bounds-records_ok-end c =

@@ -19,8 +19,8 @@ pub ten_equal-state-requires : goal.ten_equal-state-requires
 unfolding kinds
 ten_equal-state-requires c =
     let l = ap length c.requires.lent_value ∙ tables-length in
-    let few = c.requires.kind_in_bounds in 
-      record { a_in_bounds = omega arith; b_in_bounds = omega arith }
+    let few = c.requires.kind_in_bounds in
+    record { a_in_bounds = omega arith; b_in_bounds = omega arith }
 
 pub overflow_add-at-2 : goal.overflow_add-at-2
 unfolding kinds
@@ -30,8 +30,8 @@ pub ten_equal-before-requires : goal.ten_equal-before-requires
 unfolding kinds
 ten_equal-before-requires c =
     let l = ap length c.requires.lent_value ∙ tables-length in
-    let few = c.requires.kind_in_bounds in 
-      record { a_in_bounds = omega arith; b_in_bounds = omega arith }
+    let few = c.requires.kind_in_bounds in
+    record { a_in_bounds = omega arith; b_in_bounds = omega arith }
 
 pub returns : goal.returns
 unfolding words_held field_at offset record_layout

@@ -9,9 +9,12 @@ meet-v-requires c = c.requires.accepted.lines
 
 pub settle-requires : goal.settle-requires
 settle-requires c =
-    let a = c.args in 
-      record { standing = c.requires; pending = rw c.meet-v.ensures
-          (meeting-pending a.clock (sheets_of a.records.now a.decisions.now) (line_at a.records.now a.i)) }
+    let a = c.args in
+    record {
+      standing = c.requires;
+      pending = rw c.meet-v.ensures
+          (meeting-pending a.clock (sheets_of a.records.now a.decisions.now) (line_at a.records.now a.i));
+    }
 
 pub returns : goal.returns
 returns c =

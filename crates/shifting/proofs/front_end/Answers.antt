@@ -19,8 +19,8 @@ overflow_sub-at c =
 pub is_spare-requires : goal.is_spare-requires
 is_spare-requires c =
     let a = c.args in
-    let l = at_least a.width a.s.now c.loop-end.end (line_before a.width a.s.now c.loop-end.end c.loop-end-test.true c.loop-end.invariant.1.0) in 
-      record { width_in_bounds = omega (arith, c.loop-end.invariant.1.1); le_width = c.requires.le_width; width_le_record_bytes = c.requires.width_le_record_bytes; line_value = c.loop-end.invariant.0 }
+    let l = at_least a.width a.s.now c.loop-end.end (line_before a.width a.s.now c.loop-end.end c.loop-end-test.true c.loop-end.invariant.1.0) in
+    record { width_in_bounds = omega (arith, c.loop-end.invariant.1.1); le_width = c.requires.le_width; width_le_record_bytes = c.requires.width_le_record_bytes; line_value = c.loop-end.invariant.0 }
 
 pub returns-then-not-is_spare : goal.returns-then-not-is_spare
 returns-then-not-is_spare c =

@@ -14,8 +14,8 @@ pub loop-k-init : goal.loop-k-init
 loop-k-init c = (omega arith, refl)
 
 pub ten_equal-requires : goal.ten_equal-requires
-ten_equal-requires c = 
-      record { a_in_bounds = omega (arith, c.requires.width_in_bounds); b_in_bounds = omega (arith, ap length c.requires.line_value ∙ length-spare record_bytes (omega arith), c.requires.width_le_record_bytes) }
+ten_equal-requires c =
+    record { a_in_bounds = omega (arith, c.requires.width_in_bounds); b_in_bounds = omega (arith, ap length c.requires.line_value ∙ length-spare record_bytes (omega arith), c.requires.width_le_record_bytes) }
 
 pub returns-then-not-ten_equal : goal.returns-then-not-ten_equal
 returns-then-not-ten_equal c =
@@ -28,8 +28,8 @@ loop-k-preserved c =
     (omega arith, ten_more a.s.now a.line.now a.at a.width c.requires.width_in_bounds c.requires.le_width c.requires.width_le_record_bytes c.requires.line_value c.loop-k.k (omega arith) c.loop-k.invariant.1 (sym c.ten_equal.ensures ∙ c.if-not-ten_equal.false))
 
 pub ten_equal-requires-2 : goal.ten_equal-requires-2
-ten_equal-requires-2 c = 
-      record { a_in_bounds = omega (arith, c.requires.width_in_bounds); b_in_bounds = omega (arith, ap length c.requires.line_value ∙ length-spare record_bytes (omega arith)) }
+ten_equal-requires-2 c =
+    record { a_in_bounds = omega (arith, c.requires.width_in_bounds); b_in_bounds = omega (arith, ap length c.requires.line_value ∙ length-spare record_bytes (omega arith)) }
 
 pub returns : goal.returns
 returns c =

@@ -7,12 +7,12 @@ use Rattle.shifting.proofs.move_down.Goals as goal
 
 pub loop-i-init : goal.loop-i-init
 loop-i-init c =
-        let a = c.args in
+    let a = c.args in
     (omega (arith, c.requires), omega arith, refl, down_first a.width a.s.now)
 
 pub move_block-requires : goal.move_block-requires
-move_block-requires c = 
-      record { n_in_bounds = omega (arith, c.loop-i.invariant.2); n_in_bounds_2 = omega (arith, c.loop-i.invariant.2); n_le_block_bytes = omega arith }
+move_block-requires c =
+    record { n_in_bounds = omega (arith, c.loop-i.invariant.2); n_in_bounds_2 = omega (arith, c.loop-i.invariant.2); n_le_block_bytes = omega arith }
 
 pub loop-i-preserved : goal.loop-i-preserved
 loop-i-preserved c =
@@ -24,8 +24,8 @@ loop-i-preserved c =
     (omega arith, omega arith, c.move_block.auto.s ∙ l.invariant.2, c.move_block.ensures ∙ d)
 
 pub move_block-requires-2 : goal.move_block-requires-2
-move_block-requires-2 c = 
-      record { n_in_bounds = omega (arith, c.loop-i.invariant.2); n_in_bounds_2 = omega (arith, c.loop-i.invariant.2); n_le_block_bytes = omega arith }
+move_block-requires-2 c =
+    record { n_in_bounds = omega (arith, c.loop-i.invariant.2); n_in_bounds_2 = omega (arith, c.loop-i.invariant.2); n_le_block_bytes = omega arith }
 
 pub shape_of-s : goal.shape_of-s
 shape_of-s c = c.move_block-2.auto.s ∙ c.loop-i.invariant.2

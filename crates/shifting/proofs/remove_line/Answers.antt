@@ -11,22 +11,22 @@ use Rattle.shifting.proofs.remove_line.Goals as goal
 
 pub overflow_mul-at : goal.overflow_mul-at
 overflow_mul-at c =
-        let a = c.args in
+    let a = c.args in
     let r = line_room a.width a.at (length a.s.now / a.width) a.s.now c.requires.s_len c.requires.at_in_bounds in search rules
 
 pub move_up-requires : goal.move_up-requires
 move_up-requires c =
-        let a = c.args in
+    let a = c.args in
     line_room a.width a.at (length a.s.now / a.width) a.s.now c.requires.s_len c.requires.at_in_bounds
 
 pub overflow_sub-last : goal.overflow_sub-last
 overflow_sub-last c =
-        let a = c.args in
+    let a = c.args in
     let r = line_room a.width a.at (length a.s.now / a.width) a.s.now c.requires.s_len c.requires.at_in_bounds in search rules
 
 pub returns : goal.returns
 unfolding lines_of
 returns c =
-        let a = c.args in
+    let a = c.args in
     let e = spare_lent _ a.width c.requires.le_width c.requires.width_le_record_bytes c.spare-line.ensures in
     remove_done a.width a.at (length a.s.now / a.width) a.s.now _ (spare_line a.width) c.requires.s_len c.requires.at_in_bounds (length-spare a.width c.requires.le_width) _ c.move_up.ensures (c.put.ensures ∙ ap (put_word _) e)

@@ -48,8 +48,8 @@ loop-i-preserved c =
     let l = c.loop-i-test.true in
     let m = sym (c.must_validate.ensures c.args.t refl) in
     elim c.if-must_validate.branch [
-      then-must_validate+else-ahead-eq0 w ↦ rw w.ahead-is (kept_next _ _ _ _ _ i l (m ∙ w.if-must_validate.true) w.if-ahead-eq0.false)
-    | else-must_validate w ↦ rw w.ahead-is (kept_skip _ _ _ _ _ i l (m ∙ w.if-must_validate.false))
+      | then-must_validate+else-ahead-eq0 w ↦ rw w.ahead-is (kept_next _ _ _ _ _ i l (m ∙ w.if-must_validate.true) w.if-ahead-eq0.false)
+      | else-must_validate w ↦ rw w.ahead-is (kept_skip _ _ _ _ _ i l (m ∙ w.if-must_validate.false))
     ]
 
 pub returns : goal.returns

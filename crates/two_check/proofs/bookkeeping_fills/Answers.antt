@@ -4,5 +4,5 @@ use Rattle.model.specs.Records.{records_accepted}
 use Rattle.two_check.proofs.bookkeeping_fills.Goals as goal
 
 pub returns : goal.returns
-returns c = 
-      record { answer = c.records_ok.ensures ∙ ap records_accepted c.bookkeeping.ensures; filled = c.bookkeeping.ensures }
+returns c =
+    record { answer = c.records_ok.ensures ∙ ap records_accepted c.bookkeeping.ensures; filled = c.bookkeeping.ensures }

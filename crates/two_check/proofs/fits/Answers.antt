@@ -9,8 +9,8 @@ returns-then-not-coordinator_readable c =
     sym (ap (λ (x : Bool). x && all_issued a.records.now a.coordinator.now) (sym c.coordinator_readable.ensures ∙ c.if-not-coordinator_readable.true))
 
 pub all_issued-requires : goal.all_issued-requires
-all_issued-requires c = 
-      record { records_value = c.requires; coordinator_value = sym c.coordinator_readable.ensures ∙ c.if-not-coordinator_readable.false }
+all_issued-requires c =
+    record { records_value = c.requires; coordinator_value = sym c.coordinator_readable.ensures ∙ c.if-not-coordinator_readable.false }
 
 pub returns : goal.returns
 returns c =

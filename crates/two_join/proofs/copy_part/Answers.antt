@@ -17,8 +17,8 @@ pub overflow_add-start : goal.overflow_add-start
 overflow_add-start c = omega (arith, c.loop-k.invariant.0, c.requires.n_in_bounds_2)
 
 pub copy_eight-requires : goal.copy_eight-requires
-copy_eight-requires c = 
-      record { at_in_bounds = omega (arith, c.loop-k.invariant.0, c.loop-k.invariant.1.1.0, c.requires.n_in_bounds); start_in_bounds = omega (arith, c.loop-k.invariant.0, c.requires.n_in_bounds_2) }
+copy_eight-requires c =
+    record { at_in_bounds = omega (arith, c.loop-k.invariant.0, c.loop-k.invariant.1.1.0, c.requires.n_in_bounds); start_in_bounds = omega (arith, c.loop-k.invariant.0, c.requires.n_in_bounds_2) }
 
 pub loop-k-preserved : goal.loop-k-preserved
 loop-k-preserved c =
@@ -35,8 +35,8 @@ pub overflow_add-start-2 : goal.overflow_add-start-2
 overflow_add-start-2 c = omega (arith, c.requires.n_in_bounds_2)
 
 pub copy_rest-requires : goal.copy_rest-requires
-copy_rest-requires c = 
-      record { n_in_bounds = omega (arith, c.loop-k.invariant.1.1.0, c.requires.n_in_bounds); n_in_bounds_2 = omega (arith, c.requires.n_in_bounds_2) }
+copy_rest-requires c =
+    record { n_in_bounds = omega (arith, c.loop-k.invariant.1.1.0, c.requires.n_in_bounds); n_in_bounds_2 = omega (arith, c.requires.n_in_bounds_2) }
 
 pub shape_of-target : goal.shape_of-target
 shape_of-target c = c.copy_rest.auto.target ∙ c.loop-k.invariant.1.1.0

@@ -16,8 +16,8 @@ returns-then-not-key_in_range c =
     (visit_out a.key a.clock s (sym c.key_in_range.ensures ∙ c.if-not-key_in_range.true)) c.refusal.ensures
 
 pub find-requires : goal.find-requires
-find-requires c = 
-      record { records_value = c.requires.lines; key_value = sym c.key_in_range.ensures ∙ c.if-not-key_in_range.false }
+find-requires c =
+    record { records_value = c.requires.lines; key_value = sym c.key_in_range.ensures ∙ c.if-not-key_in_range.false }
 
 pub visit_line-requires : goal.visit_line-requires
 visit_line-requires c =

@@ -18,5 +18,5 @@ place_formed-requires c = (head_few c.args.issued c.args.t c.requires.t_value, c
 
 pub returns : goal.returns
 returns c =
-        rw (c.entries_formed.ensures, c.distinct_keys.ensures, c.decide_formed.ensures, c.place_formed.ensures, c.verdict_formed.ensures)
+    rw (c.entries_formed.ensures, c.distinct_keys.ensures, c.decide_formed.ensures, c.place_formed.ensures, c.verdict_formed.ensures)
     (formed-rest (units_in c.args.letters.now) c.args.issued c.args.t c.requires.t_value)

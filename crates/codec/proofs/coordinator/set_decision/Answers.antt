@@ -17,8 +17,8 @@ pub write_row-requires : goal.write_row-requires
 unfolding layout line_layout line_bytes
 write_row-requires c =
     let a = c.args in
-    let e : a.n * coordinator_bytes + coordinator_bytes ≤ length a.coordinator.now = line_ends a.n a.coordinator.now (sym c.has_line.ensures ∙ c.if-has_line.true) in 
-      record { row_len = refl; line_len = simp (length-take, length-drop) (omega arith) }
+    let e : a.n * coordinator_bytes + coordinator_bytes ≤ length a.coordinator.now = line_ends a.n a.coordinator.now (sym c.has_line.ensures ∙ c.if-has_line.true) in
+    record { row_len = refl; line_len = simp (length-take, length-drop) (omega arith) }
 
 pub returns-then-has_line : goal.returns-then-has_line
 unfolding layout

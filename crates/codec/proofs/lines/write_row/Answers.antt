@@ -19,8 +19,8 @@ slice_bounds-write_field-end c =
 
 pub write_field-requires : goal.write_field-requires
 write_field-requires c =
-    let e = field_ends (layout c.args.l) c.loop-i.i c.loop-i.at (length c.loop-i.line) c.column-c.result (omega arith) c.column-c.ensures c.loop-i.invariant.1.left in 
-      record { s_len = simp (length-take, length-drop) (omega arith); c_value = column_wide _ _ _ (omega arith) c.column-c.ensures }
+    let e = field_ends (layout c.args.l) c.loop-i.i c.loop-i.at (length c.loop-i.line) c.column-c.result (omega arith) c.column-c.ensures c.loop-i.invariant.1.left in
+    record { s_len = simp (length-take, length-drop) (omega arith); c_value = column_wide _ _ _ (omega arith) c.column-c.ensures }
 
 pub loop-i-preserved : goal.loop-i-preserved
 loop-i-preserved c = (c.loop-i.invariant.0, write_next _ _ _ _ _ _ _ c.requires.row_len (omega arith) c.column-c.ensures c.write_field.ensures (column_wide _ _ _ (omega arith) c.column-c.ensures) c.loop-i.invariant.1)

@@ -8,6 +8,6 @@ use Rattle.codec.proofs.parts.put_prior.Goals as goal
 pub returns : goal.returns
 unfolding offset record_layout
 returns c =
-        let a = c.args in
+    let a = c.args in
     c.put_at.ensures
     ∙ ap (over a.line.now (record_offset before_state_field)) (c.word-word.ensures ∙ ap (word_at BeforeWord) c.before_number.ensures)

@@ -6,7 +6,7 @@ use Rattle.codec.proofs.writing.commit_line.Goals as goal
 
 pub returns : goal.returns
 returns c =
-                    let a = c.args in
+    let a = c.args in
     let i = c.write_image.ensures
     ∙ ap₂ (λ (m : Image) (t : List ℕ). image_over (image_text m) t) c.written_image-image.ensures c.put_state.ensures in
     c.put_nothing.ensures ∙ (ap (settled_over nothing_text) i ∙ line-committed a.line.now c.requires.set a.n a.columns)

@@ -11,7 +11,7 @@ prepare_line-requires c =
 
 pub returns-then-i-records : goal.returns-then-i-records
 returns-then-i-records c =
-            let a = c.args in
+    let a = c.args in
     part-changed a.records.now a.i c.if-i-records.true (prepared a.n a.clock a.columns) _ c.prepare_line.auto.line c.prepare_line.ensures
 
 pub returns-else-i-records : goal.returns-else-i-records

@@ -10,8 +10,8 @@ pub returns-then-issued-count : goal.returns-then-issued-count
 returns-then-issued-count c = too_few _ _ c.if-issued-count.true
 
 pub lines_ok-low-requires : goal.lines_ok-low-requires
-lines_ok-low-requires c = 
-      record { ready = ready_low _ _ c.requires.sheet_value c.if-issued-count.false _ (c.load_four.ensures.value ∙ columns_zero); table = search rules }
+lines_ok-low-requires c =
+    record { ready = ready_low _ _ c.requires.sheet_value c.if-issued-count.false _ (c.load_four.ensures.value ∙ columns_zero); table = search rules }
 
 pub load_four-requires-2 : goal.load_four-requires-2
 load_four-requires-2 c =
@@ -20,10 +20,10 @@ load_four-requires-2 c =
 
 pub lines_ok-requires : goal.lines_ok-requires
 lines_ok-requires c =
-        let p = c.requires in 
-      record { ready = ready_high _ _ p.sheet_value c.if-issued-count.false _ p.sheet_value_2 c.load_four-2.ensures.value; table = search rules }
+    let p = c.requires in
+    record { ready = ready_high _ _ p.sheet_value c.if-issued-count.false _ p.sheet_value_2 c.load_four-2.ensures.value; table = search rules }
 
 pub returns : goal.returns
 returns c =
-        passes_are _ _ _ _ _ _ c.if-issued-count.false c.any_decision-any.ensures.value c.no_decision-none.ensures.value
+    passes_are _ _ _ _ _ _ c.if-issued-count.false c.any_decision-any.ensures.value c.no_decision-none.ensures.value
     c.lines_ok-low.ensures c.lines_ok.ensures

@@ -15,8 +15,8 @@ next-number-requires c =
 pub line_ok-good-requires : goal.line_ok-good-requires
 line_ok-good-requires c =
     let p = c.requires in
-    let r = c.requires.ready in 
-      record { start_in_bounds = omega arith; number_bound = next_fits _ _ _ c.loop-k.invariant.counted c.next-number.ensures (omega arith); table = p.table }
+    let r = c.requires.ready in
+    record { start_in_bounds = omega arith; number_bound = next_fits _ _ _ c.loop-k.invariant.counted c.next-number.ensures (omega arith); table = p.table }
 
 pub loop-k-preserved : goal.loop-k-preserved
 loop-k-preserved c =

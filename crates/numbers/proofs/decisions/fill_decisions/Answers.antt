@@ -10,8 +10,8 @@ loop-i-init c = (refl, read_first _ _ c.requires)
 
 pub read_row-requires : goal.read_row-requires
 unfolding layout line_layout line_bytes
-read_row-requires c = 
-      record { line_len = simp (length-take, length-drop) (omega arith); row_len = refl }
+read_row-requires c =
+    record { line_len = simp (length-take, length-drop) (omega arith); row_len = refl }
 
 pub bounds-numbers-i : goal.bounds-numbers-i
 bounds-numbers-i c = let r = read_room c.args.lines.now c.loop-i.numbers c.loop-i.i c.loop-i.invariant.1 in omega arith

@@ -13,8 +13,8 @@ slice_bounds-write_row-end-in-loop-i c = let r = written_room c.args.decisions.n
 
 pub write_row-requires : goal.write_row-requires
 unfolding layout line_layout line_bytes
-write_row-requires c = let r = written_room c.args.decisions.now c.loop-i.lines c.loop-i.i c.loop-i.invariant.1 in 
-      record { row_len = refl; line_len = simp (length-take, length-drop) (omega arith) }
+write_row-requires c = let r = written_room c.args.decisions.now c.loop-i.lines c.loop-i.i c.loop-i.invariant.1 in
+    record { row_len = refl; line_len = simp (length-take, length-drop) (omega arith) }
 
 pub loop-i-preserved : goal.loop-i-preserved
 unfolding layout

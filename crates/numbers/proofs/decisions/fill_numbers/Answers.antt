@@ -21,8 +21,8 @@ slice_bounds-read_row-end-3 c = simp length-take (omega arith)
 
 pub read_row-requires : goal.read_row-requires
 unfolding head_layout layout line_bytes
-read_row-requires c =  
-      record { line_len = simp length-take (omega arith); row_len = simp length-take (omega arith) }
+read_row-requires c =
+    record { line_len = simp length-take (omega arith); row_len = simp length-take (omega arith) }
 
 pub slice_bounds-fill_decisions-count : goal.slice_bounds-fill_decisions-count
 unfolding head_layout layout line_bytes

@@ -20,8 +20,8 @@ slice_bounds-write_row-end-3 c = simp length-take (omega arith)
 
 pub write_row-requires : goal.write_row-requires
 unfolding head_layout layout line_bytes
-write_row-requires c =  
-      record { row_len = simp length-take (omega arith); line_len = simp length-take (omega arith) }
+write_row-requires c =
+    record { row_len = simp length-take (omega arith); line_len = simp length-take (omega arith) }
 
 pub slice_bounds-fill_lines-count : goal.slice_bounds-fill_lines-count
 unfolding head_layout layout line_bytes
@@ -49,8 +49,8 @@ pub fill_lines-requires : goal.fill_lines-requires
 fill_lines-requires c =
     let a = c.args in
     let k : length (drop coordinator_bytes a.coordinator.now) ≡ length (drop head_fields a.numbers.now) * coordinator_bytes = rw (length-drop coordinator_bytes a.coordinator.now) (omega arith) in
-    let e = ap length (rest_part head_fields a.numbers.now) in 
-      record { decisions_len_bound = omega arith; lines_len = ap length (front_rest coordinator_bytes c.write_row.new.line a.coordinator.now c.write_row.auto.line (omega arith)) ∙ (k ∙ ap (λ (n : ℕ). n * coordinator_bytes) (sym e)) }
+    let e = ap length (rest_part head_fields a.numbers.now) in
+    record { decisions_len_bound = omega arith; lines_len = ap length (front_rest coordinator_bytes c.write_row.new.line a.coordinator.now c.write_row.auto.line (omega arith)) ∙ (k ∙ ap (λ (n : ℕ). n * coordinator_bytes) (sym e)) }
 
 pub shape_of-coordinator : goal.shape_of-coordinator
 shape_of-coordinator c = front_same coordinator_bytes c.write_row.new.line c.args.coordinator.now c.write_row.auto.line (omega arith) c.fill_lines.new.lines c.fill_lines.auto.lines

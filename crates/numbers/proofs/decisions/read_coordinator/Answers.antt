@@ -21,8 +21,8 @@ returns-then-not-coordinator_ok c =
     record { answer = all.0; target = all.1 }
 
 pub fill_numbers-requires : goal.fill_numbers-requires
-fill_numbers-requires c = 
-      record { coordinator_bytes_in_bounds = readable_length c.args.coordinator.now (accepted_parts _ (sym c.coordinator_ok.ensures ∙ c.if-not-coordinator_ok.false)).0; numbers_len = c.if-numbers-count.false ∙ ap (λ (n : ℕ). head_fields + n) c.count.ensures }
+fill_numbers-requires c =
+    record { coordinator_bytes_in_bounds = readable_length c.args.coordinator.now (accepted_parts _ (sym c.coordinator_ok.ensures ∙ c.if-not-coordinator_ok.false)).0; numbers_len = c.if-numbers-count.false ∙ ap (λ (n : ℕ). head_fields + n) c.count.ensures }
 
 pub returns : goal.returns
 returns c =

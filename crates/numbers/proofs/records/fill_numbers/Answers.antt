@@ -19,8 +19,8 @@ pub read_row-requires : goal.read_row-requires
 unfolding layout record_layout line_bytes
 read_row-requires c =
     let a = c.args in
-    let r = made_room record_bytes record_fields (row_of record_layout) a.records.now (length a.records.now / record_bytes) c.loop-i.numbers c.loop-i.i c.loop-i.invariant.1 in 
-      record { line_len = simp (length-take, length-drop) (omega arith); row_len = simp (length-take, length-drop) (omega arith) }
+    let r = made_room record_bytes record_fields (row_of record_layout) a.records.now (length a.records.now / record_bytes) c.loop-i.numbers c.loop-i.i c.loop-i.invariant.1 in
+    record { line_len = simp (length-take, length-drop) (omega arith); row_len = simp (length-take, length-drop) (omega arith) }
 
 pub loop-i-preserved : goal.loop-i-preserved
 unfolding layout

@@ -20,8 +20,8 @@ pub write_row-requires : goal.write_row-requires
 unfolding layout record_layout line_bytes
 write_row-requires c =
     let a = c.args in
-    let r = made_room record_fields record_bytes (line_text record_layout) a.numbers.now (length a.numbers.now / record_fields) c.loop-i.records c.loop-i.i c.loop-i.invariant.1 in 
-      record { row_len = simp (length-take, length-drop) (omega arith); line_len = simp (length-take, length-drop) (omega arith) }
+    let r = made_room record_fields record_bytes (line_text record_layout) a.numbers.now (length a.numbers.now / record_fields) c.loop-i.records c.loop-i.i c.loop-i.invariant.1 in
+    record { row_len = simp (length-take, length-drop) (omega arith); line_len = simp (length-take, length-drop) (omega arith) }
 
 pub loop-i-preserved : goal.loop-i-preserved
 unfolding layout

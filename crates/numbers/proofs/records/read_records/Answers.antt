@@ -17,8 +17,8 @@ returns-then-numbers-records c =
 
 pub fill_rows-requires : goal.fill_rows-requires
 fill_rows-requires c =
-    let a = c.args in 
-      record { records_len = sheet-whole a.records.now (sym c.sheet_ok.ensures ∙ c.if-not-sheet_ok.false); numbers_len = c.if-numbers-records.false }
+    let a = c.args in
+    record { records_len = sheet-whole a.records.now (sym c.sheet_ok.ensures ∙ c.if-not-sheet_ok.false); numbers_len = c.if-numbers-records.false }
 
 pub returns : goal.returns
 returns c =

@@ -17,8 +17,8 @@ returns-then-records-numbers c =
 
 pub fill_sheet-requires : goal.fill_sheet-requires
 fill_sheet-requires c =
-    let a = c.args in 
-      record { numbers_len = rows_whole a.numbers.now (sym c.rows_ok.ensures ∙ c.if-not-rows_ok.false); records_len = c.if-records-numbers.false }
+    let a = c.args in
+    record { numbers_len = rows_whole a.numbers.now (sym c.rows_ok.ensures ∙ c.if-not-rows_ok.false); records_len = c.if-records-numbers.false }
 
 pub returns : goal.returns
 returns c =

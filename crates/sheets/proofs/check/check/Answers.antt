@@ -28,8 +28,8 @@ slice_bounds-all_issued-end c = simp length-take (omega (arith, c.lines_end-end.
 pub all_issued-requires : goal.all_issued-requires
 unfolding front
 all_issued-requires c =
-    let a = c.args in 
-      record { records_value = ap (λ (n : ℕ). records_accepted (take n a.records.now)) c.lines_end-end.ensures.is ∙ accepted_lines a.records.now ((sym c.sheet_ok.ensures ∙ c.if-not-sheet_ok.false)); coordinator_value = (accepted_parts _ ((sym c.coordinator_ok.ensures ∙ c.if-not-coordinator_ok.false))).0 }
+    let a = c.args in
+    record { records_value = ap (λ (n : ℕ). records_accepted (take n a.records.now)) c.lines_end-end.ensures.is ∙ accepted_lines a.records.now ((sym c.sheet_ok.ensures ∙ c.if-not-sheet_ok.false)); coordinator_value = (accepted_parts _ ((sym c.coordinator_ok.ensures ∙ c.if-not-coordinator_ok.false))).0 }
 
 pub returns-then-not-all_issued : goal.returns-then-not-all_issued
 unfolding front

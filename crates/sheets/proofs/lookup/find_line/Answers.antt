@@ -24,17 +24,17 @@ loop-f-preserved c = (c.loop-f.invariant.0, agree_next _ _ _ c.loop-f.f (c.loop-
 pub returns-then-i-n : goal.returns-then-i-n
 returns-then-i-n c =
     elim c.lines-test.branch [
-      else-lines-test w ↦ absurd (omega arith)
-    | then-lines-test+else-loop-f-test w ↦
-      let here : c.lines.i < length c.args.records.now / record_bytes = omega arith in
-      rw (w.i-is, w.loop-f.invariant.0) (pass-met _ _ _ here c.lines.invariant.1 _ w.loop-f-test.false w.loop-f.invariant.1)
+      | else-lines-test w ↦ absurd (omega arith)
+      | then-lines-test+else-loop-f-test w ↦
+          let here : c.lines.i < length c.args.records.now / record_bytes = omega arith in
+          rw (w.i-is, w.loop-f.invariant.0) (pass-met _ _ _ here c.lines.invariant.1 _ w.loop-f-test.false w.loop-f.invariant.1)
     ]
 
 pub returns : goal.returns
 returns c =
     elim c.lines-test.branch [
-      else-lines-test w ↦
-      let past : length c.args.records.now / record_bytes ≤ c.lines.i = omega arith in
-      pass_last _ c.args.text.now _ past c.lines.invariant.1
-    | then-lines-test+else-loop-f-test w ↦ absurd (omega arith)
+      | else-lines-test w ↦
+          let past : length c.args.records.now / record_bytes ≤ c.lines.i = omega arith in
+          pass_last _ c.args.text.now _ past c.lines.invariant.1
+      | then-lines-test+else-loop-f-test w ↦ absurd (omega arith)
     ]

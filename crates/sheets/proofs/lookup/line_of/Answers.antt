@@ -12,13 +12,13 @@ use Rattle.sheets.proofs.lookup.line_of.Goals as goal
 
 pub returns-then-not-sheet_ok : goal.returns-then-not-sheet_ok
 returns-then-not-sheet_ok c =
-    let a = c.args in 
-      record { told = c.no_rank.ensures ∙ (lookup_bad a.records.now a.key (sym c.sheet_ok.ensures ∙ c.if-not-sheet_ok.true)).line; few = subst (λ (r : Ranked). r.rank.below ≤ 500) (sym c.no_rank.ensures) (omega arith) }
+    let a = c.args in
+    record { told = c.no_rank.ensures ∙ (lookup_bad a.records.now a.key (sym c.sheet_ok.ensures ∙ c.if-not-sheet_ok.true)).line; few = subst (λ (r : Ranked). r.rank.below ≤ 500) (sym c.no_rank.ensures) (omega arith) }
 
 pub returns-then-not-key_in_range : goal.returns-then-not-key_in_range
 returns-then-not-key_in_range c =
-    let a = c.args in 
-      record { told = c.no_rank-then-not-key_in_range.ensures ∙ (lookup_out a.records.now a.key ((sym c.sheet_ok.ensures ∙ c.if-not-sheet_ok.false)) (sym c.key_in_range.ensures ∙ c.if-not-key_in_range.true)).line; few = subst (λ (r : Ranked). r.rank.below ≤ 500) (sym c.no_rank-then-not-key_in_range.ensures) (omega arith) }
+    let a = c.args in
+    record { told = c.no_rank-then-not-key_in_range.ensures ∙ (lookup_out a.records.now a.key ((sym c.sheet_ok.ensures ∙ c.if-not-sheet_ok.false)) (sym c.key_in_range.ensures ∙ c.if-not-key_in_range.true)).line; few = subst (λ (r : Ranked). r.rank.below ≤ 500) (sym c.no_rank-then-not-key_in_range.ensures) (omega arith) }
 
 pub lines_end-end-requires : goal.lines_end-end-requires
 lines_end-end-requires c = (sym c.sheet_ok.ensures ∙ c.if-not-sheet_ok.false)
@@ -29,11 +29,11 @@ slice_bounds-line-end c = simp length-take (omega (arith, c.lines_end-end.ensure
 pub line-requires : goal.line-requires
 unfolding front
 line-requires c =
-    let a = c.args in 
-      record { records_value = ap (λ (n : ℕ). records_accepted (take n a.records.now)) c.lines_end-end.ensures.is ∙ accepted_lines a.records.now ((sym c.sheet_ok.ensures ∙ c.if-not-sheet_ok.false)); key_value = (sym c.key_in_range.ensures ∙ c.if-not-key_in_range.false) }
+    let a = c.args in
+    record { records_value = ap (λ (n : ℕ). records_accepted (take n a.records.now)) c.lines_end-end.ensures.is ∙ accepted_lines a.records.now ((sym c.sheet_ok.ensures ∙ c.if-not-sheet_ok.false)); key_value = (sym c.key_in_range.ensures ∙ c.if-not-key_in_range.false) }
 
 pub returns : goal.returns
 unfolding front
 returns c =
-    let a = c.args in 
-      record { told = c.line.ensures.told ∙ (ap (λ (n : ℕ). line_among (records (take n a.records.now)) a.key) c.lines_end-end.ensures.is ∙ line-told a.records.now a.key ((sym c.sheet_ok.ensures ∙ c.if-not-sheet_ok.false)) ((sym c.key_in_range.ensures ∙ c.if-not-key_in_range.false))); few = c.line.ensures.few }
+    let a = c.args in
+    record { told = c.line.ensures.told ∙ (ap (λ (n : ℕ). line_among (records (take n a.records.now)) a.key) c.lines_end-end.ensures.is ∙ line-told a.records.now a.key ((sym c.sheet_ok.ensures ∙ c.if-not-sheet_ok.false)) ((sym c.key_in_range.ensures ∙ c.if-not-key_in_range.false))); few = c.line.ensures.few }

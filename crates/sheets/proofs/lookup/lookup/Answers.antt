@@ -29,8 +29,8 @@ slice_bounds-find-end c = simp length-take (omega (arith, c.lines_end-end.ensure
 pub find-requires : goal.find-requires
 unfolding front
 find-requires c =
-    let a = c.args in 
-      record { records_value = ap (λ (n : ℕ). records_accepted (take n a.records.now)) c.lines_end-end.ensures.is ∙ accepted_lines a.records.now ((sym c.sheet_ok.ensures ∙ c.if-not-sheet_ok.false)); key_value = (sym c.key_in_range.ensures ∙ c.if-not-key_in_range.false) }
+    let a = c.args in
+    record { records_value = ap (λ (n : ℕ). records_accepted (take n a.records.now)) c.lines_end-end.ensures.is ∙ accepted_lines a.records.now ((sym c.sheet_ok.ensures ∙ c.if-not-sheet_ok.false)); key_value = (sym c.key_in_range.ensures ∙ c.if-not-key_in_range.false) }
 
 pub overflow_mul-at : goal.overflow_mul-at
 unfolding front

@@ -13,13 +13,13 @@ use Rattle.sheets.proofs.lookup.rank_of.Goals as goal
 
 pub returns-then-not-sheet_ok : goal.returns-then-not-sheet_ok
 returns-then-not-sheet_ok c =
-    let a = c.args in 
-      record { told = c.no_rank.ensures ∙ (lookup_bad a.records.now a.key (sym c.sheet_ok.ensures ∙ c.if-not-sheet_ok.true)).rank; few = subst (λ (r : Ranked). r.rank.below ≤ 500) (sym c.no_rank.ensures) (omega arith) }
+    let a = c.args in
+    record { told = c.no_rank.ensures ∙ (lookup_bad a.records.now a.key (sym c.sheet_ok.ensures ∙ c.if-not-sheet_ok.true)).rank; few = subst (λ (r : Ranked). r.rank.below ≤ 500) (sym c.no_rank.ensures) (omega arith) }
 
 pub returns-then-not-key_in_range : goal.returns-then-not-key_in_range
 returns-then-not-key_in_range c =
-    let a = c.args in 
-      record { told = c.no_rank-then-not-key_in_range.ensures ∙ (lookup_out a.records.now a.key ((sym c.sheet_ok.ensures ∙ c.if-not-sheet_ok.false)) (sym c.key_in_range.ensures ∙ c.if-not-key_in_range.true)).rank; few = subst (λ (r : Ranked). r.rank.below ≤ 500) (sym c.no_rank-then-not-key_in_range.ensures) (omega arith) }
+    let a = c.args in
+    record { told = c.no_rank-then-not-key_in_range.ensures ∙ (lookup_out a.records.now a.key ((sym c.sheet_ok.ensures ∙ c.if-not-sheet_ok.false)) (sym c.key_in_range.ensures ∙ c.if-not-key_in_range.true)).rank; few = subst (λ (r : Ranked). r.rank.below ≤ 500) (sym c.no_rank-then-not-key_in_range.ensures) (omega arith) }
 
 pub lines_end-end-requires : goal.lines_end-end-requires
 lines_end-end-requires c = (sym c.sheet_ok.ensures ∙ c.if-not-sheet_ok.false)
@@ -30,12 +30,12 @@ slice_bounds-rank-end c = simp length-take (omega (arith, c.lines_end-end.ensure
 pub rank-requires : goal.rank-requires
 unfolding front
 rank-requires c =
-    let a = c.args in 
-      record { records_value = ap (λ (n : ℕ). records_accepted (take n a.records.now)) c.lines_end-end.ensures.is ∙ accepted_lines a.records.now ((sym c.sheet_ok.ensures ∙ c.if-not-sheet_ok.false)); key_value = (sym c.key_in_range.ensures ∙ c.if-not-key_in_range.false) }
+    let a = c.args in
+    record { records_value = ap (λ (n : ℕ). records_accepted (take n a.records.now)) c.lines_end-end.ensures.is ∙ accepted_lines a.records.now ((sym c.sheet_ok.ensures ∙ c.if-not-sheet_ok.false)); key_value = (sym c.key_in_range.ensures ∙ c.if-not-key_in_range.false) }
 
 pub returns : goal.returns
 unfolding front
 returns c =
     let a = c.args in
-    let e = c.rank.ensures ∙ ap (λ (n : ℕ). ranked a.key (records (take n a.records.now))) c.lines_end-end.ensures.is in 
-      record { told = ap (λ (r : Rank). record { refusal = 0; rank = r }) e ∙ sym (told a.records.now a.key ((sym c.sheet_ok.ensures ∙ c.if-not-sheet_ok.false)) ((sym c.key_in_range.ensures ∙ c.if-not-key_in_range.false))); few = subst (λ (r : Rank). r.below ≤ 500) (sym e) (rank-few a.key (front record_bytes a.records.now) (accepted_lines a.records.now ((sym c.sheet_ok.ensures ∙ c.if-not-sheet_ok.false)))) }
+    let e = c.rank.ensures ∙ ap (λ (n : ℕ). ranked a.key (records (take n a.records.now))) c.lines_end-end.ensures.is in
+    record { told = ap (λ (r : Rank). record { refusal = 0; rank = r }) e ∙ sym (told a.records.now a.key ((sym c.sheet_ok.ensures ∙ c.if-not-sheet_ok.false)) ((sym c.key_in_range.ensures ∙ c.if-not-key_in_range.false))); few = subst (λ (r : Rank). r.below ≤ 500) (sym e) (rank-few a.key (front record_bytes a.records.now) (accepted_lines a.records.now ((sym c.sheet_ok.ensures ∙ c.if-not-sheet_ok.false)))) }

@@ -1,0 +1,6 @@
+-- The count is that of the lines after the head.
+use Rattle.lists.specs.Basics.{ap, eqb, rules}
+use Rattle.admission.proofs.all_spent.Goals as goal
+
+pub returns : goal.returns
+returns c = ap (eqb c.args.issued) c.count.ensures

@@ -1,0 +1,6 @@
+-- Field by field.
+use borrow.Author.Rules.{rules}
+use Rattle.reads.proofs.entry_of.Goals as goal
+
+pub returns : goal.returns
+returns c = rw (c.seen-seen.ensures, c.absence-absent.ensures)

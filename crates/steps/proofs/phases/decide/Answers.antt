@@ -1,0 +1,35 @@
+-- By the decision of the transaction's number.
+use Rattle.lists.specs.Basics.{refl, sym, ◌∙◌, rules}
+use Rattle.steps.specs.Stepped.{wrote_nothing, wrote-decision}
+use Rattle.steps.specs.Cases.{stepped_as, decide_commits, decide_stays, decide_undoes}
+use Rattle.model.specs.ByteCalls.{sheets_of}
+use Rattle.steps.proofs.phases.decide.Goals as goal
+
+pub returns-in-Undecided : goal.returns-in-Undecided
+returns-in-Undecided c = record {
+  beside =
+      λ rs a. stepped_as
+      (decide_commits _ (sheets_of rs c.args.coordinator.now)
+      (sym c.decision_at.ensures ∙
+      c.in-Undecided.is))
+      (wrote-decision rs _ _ _ _ _ _ a c.requires c.moved.ensures
+      c.set_decision.ensures);
+}
+
+pub returns-in-Committed : goal.returns-in-Committed
+returns-in-Committed c = record {
+  beside =
+      λ rs a. stepped_as
+      (decide_stays _ (sheets_of rs c.args.coordinator.now)
+      (sym c.decision_at.ensures ∙ c.in-Committed.is))
+      (wrote_nothing rs _ a c.requires.accepted _ _ refl);
+}
+
+pub returns-in-Aborted : goal.returns-in-Aborted
+returns-in-Aborted c = record {
+  beside =
+      λ rs a. stepped_as
+      (decide_undoes _ (sheets_of rs c.args.coordinator.now)
+      (sym c.decision_at.ensures ∙ c.in-Aborted.is))
+      (wrote_nothing rs _ a c.requires.accepted _ _ c.moved-in-Aborted.ensures);
+}
