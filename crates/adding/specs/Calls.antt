@@ -1,5 +1,7 @@
 -- Adding and removing on two lent sheets: refused by the check, by what is told of the place, or accepted and the line put in or taken out.
-use Rattle.lists.specs.Basics.{◌≡◌, refl, sym, ap, ap₂, ◌∙◌, ℕ, ◌*◌, ◌/◌, ◌≤◌, ◌<◌, eqb, leb, Bool, true, false, List, length, take, arith, all, tests, joined, eq-eqb, ne_eqb, leb-true, leb-false}
+use Rattle.std.specs.Prelude.{◌≡◌, ◌*◌, ◌/◌, ◌≤◌, ◌<◌}
+use Rattle.std.proofs.Common.{◌∙◌}
+use Rattle.lists.specs.Basics.{refl, sym, ap, ap₂, ℕ, eqb, leb, Bool, true, false, List, length, take, arith, all, tests, joined, eq-eqb, ne_eqb, leb-true, leb-false}
 use Rattle.lists.specs.All.{all_weaken}
 use Rattle.model.specs.Types.{Key, Record, Rank, Ranked}
 use Rattle.model.specs.Layouts.{record_bytes}

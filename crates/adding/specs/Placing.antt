@@ -1,5 +1,7 @@
 -- Where a line goes or goes from, case by case in the order of the conditions; each case is a test of Bool.
-use Rattle.lists.specs.Basics.{◌≡◌, refl, sym, ap, ◌∙◌, ℕ, eqb, Bool, true, false, cond, true≢false, List, length, get_or, eqb-true, eq-eqb}
+use Rattle.std.specs.Prelude.{◌≡◌}
+use Rattle.std.proofs.Common.{◌∙◌}
+use Rattle.lists.specs.Basics.{refl, sym, ap, ℕ, eqb, Bool, true, false, cond, true≢false, List, length, get_or, eqb-true, eq-eqb}
 use Rattle.model.specs.Layouts.{record_bytes}
 use Rattle.model.specs.Types.{Key, Record, Rank, Ranked, At}
 use Rattle.model.specs.Records.{key_in_range, has_line, absent_at, line_of, no_record, record_text, rising, found, rank, ranked}

@@ -1,6 +1,8 @@
 -- The sheet of some records, with a line put in at the rank of its key or taken out there, is the sheet of the records after it. For any width, and for any text of a record, so
 -- that a record sheet, a plain sheet and a bookkeeping sheet have one law.
-use Rattle.lists.specs.Basics.{◌≡◌, sym, ap, ap₂, ◌∙◌, ℕ, suc, ◌-◌, ◌≤◌, ◌<◌, Bool, true, false, List, ◌∷◌, ◌++◌, map, length, length-map, take, drop, replicate, arith, all, joined}
+use Rattle.std.specs.Prelude.{◌≡◌, ◌-◌, ◌≤◌, ◌<◌, ◌∷◌, ◌++◌}
+use Rattle.std.proofs.Common.{◌∙◌}
+use Rattle.lists.specs.Basics.{sym, ap, ap₂, ℕ, suc, Bool, true, false, List, map, length, length-map, take, drop, replicate, arith, all, joined}
 use Rattle.std.proofs.lemmas.List.{map-append}
 use Rattle.lists.specs.Pieces.{joined-append}
 use Rattle.model.specs.Types.{Key, Record}

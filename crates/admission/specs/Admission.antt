@@ -1,6 +1,8 @@
 -- What is asked before a call looks into a transaction, as one list of conditions: its refusal is the call's, and a transaction that passes has the rest of the
 -- call's conditions before it.
-use Rattle.lists.specs.Basics.{◌≡◌, sym, ap, ap₂, subst, ◌∙◌, ℕ, ◌≤◌, Bool, true, false, not, cond, List, [], ◌∷◌}
+use Rattle.std.specs.Prelude.{◌≡◌, ◌≤◌, ◌∷◌}
+use Rattle.std.proofs.Common.{◌∙◌}
+use Rattle.lists.specs.Basics.{sym, ap, ap₂, subst, ℕ, Bool, true, false, not, cond, List, []}
 use Rattle.lists.specs.Basics.{take, drop, arith, not-false}
 use Rattle.lists.specs.All.{all_weaken}
 use mir.Val.{Val}

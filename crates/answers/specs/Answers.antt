@@ -1,5 +1,6 @@
 -- What the calls answer, as numbers: a refusal or 0, and what an accepted call gives.
-use Rattle.lists.specs.Basics.{◌≡◌, ap, ℕ, eqb, Bool, false, ◌&&◌, cond}
+use Rattle.std.specs.Prelude.{◌≡◌, ◌&&◌}
+use Rattle.lists.specs.Basics.{ap, ℕ, eqb, Bool, false, cond}
 use Rattle.model.specs.Types.{Columns, Transaction, Recovery, Stays, Reading}
 use Rattle.types.specs.declared.Reading.TheVariants.{Absent, Value, Again, First}
 use Rattle.model.specs.Images.{by_recovery}

@@ -1,5 +1,6 @@
 -- What a call by place is asked for in C: the number of a call, and the numbers that come with it. A call takes its own of them and no other.
-use Rattle.lists.specs.Basics.{◌≡◌, refl, ℕ, zero, suc, ◌≤◌, ltb, Bool, true, false, ◌&&◌, cond, List, arith}
+use Rattle.std.specs.Prelude.{◌≡◌, ◌≤◌, ◌&&◌}
+use Rattle.lists.specs.Basics.{refl, ℕ, zero, suc, ltb, Bool, true, false, cond, List, arith}
 use Rattle.model.specs.Types.{Key, Columns, Transaction, Request}
 use Rattle.types.specs.declared.Request.TheVariants as asked
 use Rattle.model.specs.Refusals.{Condition}

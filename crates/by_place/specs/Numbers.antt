@@ -1,5 +1,6 @@
 -- What the exported calls answer, as one number: what an accepted call gives, or 1000 and the refusal.
-use Rattle.lists.specs.Basics.{◌≡◌, refl, ℕ, ◌+◌, ◌≤◌, eqb, Bool, true, false, cond, List, arith, ne_eqb, all}
+use Rattle.std.specs.Prelude.{◌≡◌, ◌+◌, ◌≤◌}
+use Rattle.lists.specs.Basics.{refl, ℕ, eqb, Bool, true, false, cond, List, arith, ne_eqb, all}
 use Rattle.model.specs.Types.{Key, Transaction}
 use Rattle.model.specs.Writes.{Sheets}
 use Rattle.model.specs.Refusals.{refusal_of, last_refusal}

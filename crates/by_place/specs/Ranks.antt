@@ -1,5 +1,6 @@
 -- What the look-up and its companion tell C, as numbers (document 02, note 5).
-use Rattle.lists.specs.Basics.{refl, ℕ, ◌+◌, ◌≤◌, eqb, Bool, cond, List, [], ◌∷◌, length, arith}
+use Rattle.std.specs.Prelude.{◌+◌, ◌≤◌, ◌∷◌}
+use Rattle.lists.specs.Basics.{refl, ℕ, eqb, Bool, cond, List, [], length, arith}
 use Rattle.lists.specs.Basics.{all, choose_by}
 use Rattle.model.specs.Types.{Key, Rank, Ranked}
 use Rattle.model.specs.Refusals.{Condition, refusal_of, last_refusal}

@@ -1,6 +1,7 @@
 -- What the calls on two sheets answer as one number: as the calls on a record sheet, but the first of a read's two calls answers its columns too. A reading and a count of
 -- writes may be the same number, 3, so that the number of the call says which of them it is.
-use Rattle.lists.specs.Basics.{◌≡◌, refl, ℕ, zero, suc, ◌+◌, ◌*◌, ◌≤◌, eqb, Bool, true, false, not, ◌&&◌, cond, arith, ne_eqb, all, choose_by}
+use Rattle.std.specs.Prelude.{◌≡◌, ◌+◌, ◌*◌, ◌≤◌, ◌&&◌}
+use Rattle.lists.specs.Basics.{refl, ℕ, zero, suc, eqb, Bool, true, false, not, cond, arith, ne_eqb, all, choose_by}
 use Rattle.model.specs.Types.{Key, Image, Record, Columns, Transaction, Reading, Request}
 use Rattle.types.specs.declared.Reading.TheVariants.{Absent, Value, Again, First}
 use Rattle.model.specs.Refusals.{refusal_of, last_refusal}

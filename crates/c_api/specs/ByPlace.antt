@@ -1,5 +1,7 @@
 -- The call by place, from what the two functions that it calls ensure: where place and call are named, and where they aren't.
-use Rattle.lists.specs.Basics.{◌≡◌, refl, sym, ap, ◌∙◌, ℕ, ◌<◌, Bool, true, false, cond, and-true, List, length, set, and_fst, and_snd}
+use Rattle.std.specs.Prelude.{◌≡◌, ◌<◌}
+use Rattle.std.proofs.Common.{◌∙◌}
+use Rattle.lists.specs.Basics.{refl, sym, ap, ℕ, Bool, true, false, cond, and-true, List, length, set, and_fst, and_snd}
 use Rattle.std.proofs.lemmas.List.{set-get_or}
 use Rattle.model.specs.Types.{Transaction, Request}
 use Rattle.model.specs.Refusals.{Condition}

@@ -1,5 +1,6 @@
 -- The version of what is exported.
-use Rattle.lists.specs.Basics.{ℕ, ◌+◌, ◌*◌}
+use Rattle.std.specs.Prelude.{◌+◌, ◌*◌}
+use Rattle.lists.specs.Basics.{ℕ}
 
 abbrev pub major : ℕ
 major = 3

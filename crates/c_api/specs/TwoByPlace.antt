@@ -1,5 +1,7 @@
 -- The call by place on two sheets, from what the two functions that it calls ensure: where place and call are named, and where they aren't.
-use Rattle.lists.specs.Basics.{◌≡◌, refl, sym, ap, ◌∙◌, ℕ, eqb, true, false, List, length, set, choose_by}
+use Rattle.std.specs.Prelude.{◌≡◌}
+use Rattle.std.proofs.Common.{◌∙◌}
+use Rattle.lists.specs.Basics.{refl, sym, ap, ℕ, eqb, true, false, List, length, set, choose_by}
 use Rattle.model.specs.Types.{Transaction, Request}
 use Rattle.model.specs.Refusals.{refusal_of}
 use Rattle.model.specs.Writes.{Sheets}

@@ -1,6 +1,8 @@
 -- What is known of two sheets once the check has let them pass, and what a call on such sheets answers and leaves, as one statement about its result: refused,
 -- or made with a write.
-use Rattle.lists.specs.Basics.{◌≡◌, refl, sym, ap, subst, ◌∙◌, ℕ, ◌-◌, ◌*◌, ◌/◌, ◌≤◌, eqb, Bool, true, false, cond, List, [], ◌∷◌, ◌++◌, length, length-map, drop, arith, leb-true, ne_eqb, all, and_fst}
+use Rattle.std.specs.Prelude.{◌≡◌, ◌-◌, ◌*◌, ◌/◌, ◌≤◌, ◌∷◌, ◌++◌}
+use Rattle.std.proofs.Common.{◌∙◌}
+use Rattle.lists.specs.Basics.{refl, sym, ap, subst, ℕ, eqb, Bool, true, false, cond, List, [], length, length-map, drop, arith, leb-true, ne_eqb, all, and_fst}
 use Rattle.lists.specs.Basics.{and_snd}
 use Rattle.std.proofs.Math.ListN.{take-append-drop}
 use Rattle.model.specs.Types.{Record}

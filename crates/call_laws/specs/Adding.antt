@@ -1,5 +1,7 @@
 -- What an accepted adding and an accepted removing know, each from the conditions that don't hold.
-use Rattle.lists.specs.Basics.{◌≡◌, sym, ◌∙◌, ◌<◌, leb, true, false, not, length, leb-false, not-false}
+use Rattle.std.specs.Prelude.{◌≡◌, ◌<◌}
+use Rattle.std.proofs.Common.{◌∙◌}
+use Rattle.lists.specs.Basics.{sym, leb, true, false, not, length, leb-false, not-false}
 use Rattle.model.specs.Types.{Key}
 use Rattle.model.specs.Records.{key_in_range, has_line, line_of}
 use Rattle.model.specs.Writes.{Sheets}

@@ -1,6 +1,8 @@
 -- Writes by index: the line of a key found on a sheet in order, replaced in the bytes, is the line of that key replaced on the decoded sheet; likewise a
 -- decision and the count of numbers issued.
-use Rattle.lists.specs.Basics.{◌≡◌, refl, sym, ap, ap₂, ◌∙◌, ℕ, zero, suc, ◌*◌, ◌/◌, ◌≤◌, ◌<◌, Bool, true, false, cond, true≢false, List, [], ◌∷◌, map, length}
+use Rattle.std.specs.Prelude.{◌≡◌, ◌*◌, ◌/◌, ◌≤◌, ◌<◌, ◌∷◌}
+use Rattle.std.proofs.Common.{◌∙◌}
+use Rattle.lists.specs.Basics.{refl, sym, ap, ap₂, ℕ, zero, suc, Bool, true, false, cond, true≢false, List, [], map, length}
 use Rattle.lists.specs.Basics.{take, drop, get_or, set, arith, le-leb, any, and_snd, and_both, or_left, or_right, or_fst, or_snd}
 use Rattle.lists.specs.Pieces.{over}
 use Rattle.decimal.specs.Field.{field_text}

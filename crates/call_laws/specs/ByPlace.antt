@@ -1,6 +1,8 @@
 -- An operation by place is that of the one named, wherever the list is not over 16 and has the place; elsewhere it is refused. The test of the place decides
 -- its first condition, and the others are those of the operation.
-use Rattle.lists.specs.Basics.{◌≡◌, refl, sym, ap, subst, ◌∙◌, ℕ, ◌≤◌, ◌<◌, eqb, leb, ltb, Bool, true, false, List, ◌++◌, length, length-set, ltb-true}
+use Rattle.std.specs.Prelude.{◌≡◌, ◌≤◌, ◌<◌, ◌++◌}
+use Rattle.std.proofs.Common.{◌∙◌}
+use Rattle.lists.specs.Basics.{refl, sym, ap, subst, ℕ, eqb, leb, ltb, Bool, true, false, List, length, length-set, ltb-true}
 use Rattle.lists.specs.Basics.{all, and_snd, choose_by}
 use Rattle.std.proofs.Math.Seq.{get_or-set_same, get_or-set_other}
 use Rattle.model.specs.Types.{Transaction, Request}

@@ -1,7 +1,9 @@
 -- T2 over bytes: a write to lines of one unit leaves the coordinator's bytes and the bytes of every other line; a line put in or taken out leaves those of all others, and the
 -- coordinator's; any other write leaves the record sheet's.
 -- Lines of a sheet that passes stand at multiples of their length, before and after, and a record that stays has the same text.
-use Rattle.lists.specs.Basics.{◌≡◌, refl, sym, ap, subst, ◌∙◌, ℕ, ◌+◌, ◌-◌, ◌*◌, ◌/◌, ◌≤◌, ◌<◌, ltb, Bool, true, false, List, [], ◌++◌, map, length, length-append, length-drop, take, drop, drop-drop, drop_at, get_or}
+use Rattle.std.specs.Prelude.{◌≡◌, ◌+◌, ◌-◌, ◌*◌, ◌/◌, ◌≤◌, ◌<◌, ◌++◌}
+use Rattle.std.proofs.Common.{◌∙◌}
+use Rattle.lists.specs.Basics.{refl, sym, ap, subst, ℕ, ltb, Bool, true, false, List, [], map, length, length-append, length-drop, take, drop, drop-drop, drop_at, get_or}
 use Rattle.lists.specs.Basics.{length-map, drop_of_length-le, get_or-map, arith, ltb-true, ltb-false, all, tests}
 use Rattle.std.proofs.lemmas.List.{take-append-le, drop-append-le}
 use Rattle.lists.specs.All.{get_or_any, all_weaken}

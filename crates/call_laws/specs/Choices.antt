@@ -1,5 +1,6 @@
 -- What holds of a choice holds of each of its cases: one rule for each combinator of the specification, with the case's equation at hand.
-use Rattle.lists.specs.Basics.{◌≡◌, refl, ℕ, ◌≤◌, eqb, leb, Bool, true, false, cond, List, [], ◌∷◌, arith, eqb-true, eqb-false, leb-true, all, and_fst, and_snd}
+use Rattle.std.specs.Prelude.{◌≡◌, ◌≤◌, ◌∷◌}
+use Rattle.lists.specs.Basics.{refl, ℕ, eqb, leb, Bool, true, false, cond, List, [], arith, eqb-true, eqb-false, leb-true, all, and_fst, and_snd}
 use Rattle.lists.specs.Basics.{choose_by}
 use Rattle.model.specs.Types.{Key, Image, Record, Entry, Transaction, Decision, Undecided, Committed, Aborted, Recovery, Stays, Forward, Back, Again, Busy}
 use Rattle.types.specs.declared.Reading.TheVariants as readings

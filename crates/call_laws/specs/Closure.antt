@@ -1,5 +1,7 @@
 -- T4: after an accepted call the sheets are good and the transaction that it returns is well formed; after a refused one nothing has changed.
-use Rattle.lists.specs.Basics.{cond, ◌≡◌, refl, sym, ap, ap₂, ◌∙◌, ℕ, suc, ◌+◌, ◌^◌, ◌≤◌, ◌<◌, eqb, leb, Bool, true, false, not, ◌&&◌, true≢false, List, length}
+use Rattle.std.specs.Prelude.{◌≡◌, ◌+◌, ◌^◌, ◌≤◌, ◌<◌, ◌&&◌}
+use Rattle.std.proofs.Common.{◌∙◌}
+use Rattle.lists.specs.Basics.{cond, refl, sym, ap, ap₂, ℕ, suc, eqb, leb, Bool, true, false, not, true≢false, List, length}
 use Rattle.lists.specs.Basics.{take, get_or, set, some, none-ne-some, arith, add-one, eqb-true, leb-false, le-leb, not-true, not-false, all, and_fst, and_snd, and_both, choose_by}
 use Rattle.lists.specs.Basics.{tests}
 use Rattle.lists.specs.All.{all_at}

@@ -1,5 +1,6 @@
 -- Entries held by a transaction: one more held, one replaced. Each goes by induction on the entries.
-use Rattle.lists.specs.Basics.{◌≡◌, refl, ap, ap₂, ℕ, zero, suc, ◌<◌, Bool, true, false, not, ◌&&◌, ◌||◌, List, [], ◌∷◌, length, take, get_or, set, arith}
+use Rattle.std.specs.Prelude.{◌≡◌, ◌<◌, ◌&&◌, ◌||◌, ◌∷◌}
+use Rattle.lists.specs.Basics.{refl, ap, ap₂, ℕ, zero, suc, Bool, true, false, not, List, [], length, take, get_or, set, arith}
 use Rattle.lists.specs.Basics.{not-true, all, any, and_fst, and_snd, and_both, or_fst, or_snd}
 use Rattle.model.specs.Types.{Key, Entry}
 use Rattle.model.specs.Records.{same_key}

@@ -1,6 +1,8 @@
 -- T1: for each call the refusal given is the first of its row whose condition holds, in the order of asking, and after it both sheets are as they were.
 -- The first condition that holds is the first of the order, since each call's list keeps it.
-use Rattle.lists.specs.Basics.{◌≡◌, refl, sym, ap, ◌∙◌, ℕ, ◌≤◌, eqb, leb, Bool, true, false, not, ◌&&◌, ◌||◌, cond, List, [], ◌∷◌, ◌++◌, map, arith, eqb-true}
+use Rattle.std.specs.Prelude.{◌≡◌, ◌≤◌, ◌&&◌, ◌||◌, ◌∷◌, ◌++◌}
+use Rattle.std.proofs.Common.{◌∙◌}
+use Rattle.lists.specs.Basics.{refl, sym, ap, ℕ, eqb, leb, Bool, true, false, not, cond, List, [], map, arith, eqb-true}
 use Rattle.lists.specs.Basics.{leb-true, eq-eqb, ne_eqb, le-leb, all, any, and_fst, and_snd, and_both, choose_by}
 use Rattle.lists.specs.All.{map-map, all_map, all_weaken}
 use Rattle.model.specs.Refusals.{Condition, refuse, refusal_of, last_refusal, count_before, asked, none_before, first_asked}

@@ -1,6 +1,8 @@
 -- Groups: keys whose groups have one place agree in the fields of their unit, and every put is in a group. The places count the scopes below, so that a
 -- scope below another has a lower place. Keys of one scope stand together, since a scope is the first fields of a key.
-use Rattle.lists.specs.Basics.{◌≡◌, refl, sym, ap, ◌∙◌, ℕ, ◌<◌, eqb, Bool, true, false, cond, List, [], ◌∷◌, length, take, get_or}
+use Rattle.std.specs.Prelude.{◌≡◌, ◌<◌, ◌∷◌}
+use Rattle.std.proofs.Common.{◌∙◌}
+use Rattle.lists.specs.Basics.{refl, sym, ap, ℕ, eqb, Bool, true, false, cond, List, [], length, take, get_or}
 use Rattle.lists.specs.Basics.{arith, eqb-true, any, count, less, eq_list, eq_list_refl, or_else, or_left, or_right}
 use Rattle.lists.specs.Order.{less_irrefl, less_trans, less-total, less_between}
 use Rattle.lists.specs.Chosen.{count_less, count-all}

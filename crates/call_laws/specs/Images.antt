@@ -1,6 +1,7 @@
 -- A record that keeps the rules keeps them when it is prepared, committed in one phase, rolled forward or back; and what rolling a prepared record gives.
 -- Each goes part by part, the rule of the new state from that of the old.
-use Rattle.lists.specs.Basics.{◌≡◌, refl, sym, ℕ, ◌+◌, ◌≤◌, eqb, leb, Bool, true, false, cond, true≢false, arith}
+use Rattle.std.specs.Prelude.{◌≡◌, ◌+◌, ◌≤◌}
+use Rattle.lists.specs.Basics.{refl, sym, ℕ, eqb, leb, Bool, true, false, cond, true≢false, arith}
 use Rattle.lists.specs.Basics.{eq-eqb, le-leb, and_fst, and_snd, and_both, tests}
 use Rattle.model.specs.Types.{Key, Image, Record, State, Before}
 use Rattle.types.specs.declared.State.TheVariants.{Absent, Committed, Prepared}

@@ -1,5 +1,7 @@
 -- What a call must keep, and what a write leaves: units, keys, more numbers issued, and with them a transaction's rules.
-use Rattle.lists.specs.Basics.{◌≡◌, refl, sym, ap, subst, ◌∙◌, ℕ, ◌≤◌, ◌<◌, eqb, leb, true, false, not, List, ◌∷◌, some, none-ne-some}
+use Rattle.std.specs.Prelude.{◌≡◌, ◌≤◌, ◌<◌, ◌∷◌}
+use Rattle.std.proofs.Common.{◌∙◌}
+use Rattle.lists.specs.Basics.{refl, sym, ap, subst, ℕ, eqb, leb, true, false, not, List, some, none-ne-some}
 use Rattle.lists.specs.Basics.{some-injective, arith, eqb-true, eqb-false, leb-true, leb-false, le-leb, not-false, tests}
 use Rattle.lists.specs.All.{all_weaken}
 use Rattle.model.specs.Types.{Key, Entry, Transaction}

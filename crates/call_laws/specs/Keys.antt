@@ -1,5 +1,7 @@
 -- Entries are found by their keys.
-use Rattle.lists.specs.Basics.{◌≡◌, refl, sym, ap, ◌∙◌, Bool, true, false, ◌&&◌, ◌||◌, cond, true≢false, List, [], ◌∷◌, none, some, none-ne-some}
+use Rattle.std.specs.Prelude.{◌≡◌, ◌&&◌, ◌||◌, ◌∷◌}
+use Rattle.std.proofs.Common.{◌∙◌}
+use Rattle.lists.specs.Basics.{refl, sym, ap, Bool, true, false, cond, true≢false, List, [], none, some, none-ne-some}
 use Rattle.lists.specs.Basics.{some-injective, all, any, filter, and_fst, and_snd, or_else}
 use Rattle.lists.specs.Chosen.{any-filter, any_weaken}
 use Rattle.model.specs.Types.{Key, Entry}

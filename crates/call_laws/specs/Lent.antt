@@ -1,6 +1,7 @@
 -- Sheets that a call is lent and never writes, for every input: the definition leaves them as they were, so that the contracts of begin, put and abort, which say
 -- only what they answer and what begin does to the coordinator sheet, settle both sheets too, and those of adding and removing the coordinator sheet. A refused call leaves them, and so does the write of an accepted one.
-use Rattle.lists.specs.Basics.{◌≡◌, refl, ℕ, Bool, List}
+use Rattle.std.specs.Prelude.{◌≡◌}
+use Rattle.lists.specs.Basics.{refl, ℕ, Bool, List}
 use Rattle.model.specs.Types.{Key, Columns, Transaction}
 use Rattle.model.specs.Coordinator.{Coordinator}
 use Rattle.model.specs.Refusals.{Condition}

@@ -1,5 +1,7 @@
 -- The calls on bytes are the calls on decoded sheets: on accepted bytes the answer is the same, and what is written, encoded, says the sheets after the call.
-use Rattle.lists.specs.Basics.{◌≡◌, refl, sym, ap, subst, ◌∙◌, ℕ, zero, suc, ◌/◌, ◌≤◌, eqb, leb, Bool, true, false, not, ◌&&◌, cond, List, [], ◌∷◌, length, get_or, arith, le-leb, tests, not-true, not-false, all, and_fst, and_snd, and_both}
+use Rattle.std.specs.Prelude.{◌≡◌, ◌/◌, ◌≤◌, ◌&&◌, ◌∷◌}
+use Rattle.std.proofs.Common.{◌∙◌}
+use Rattle.lists.specs.Basics.{refl, sym, ap, subst, ℕ, zero, suc, eqb, leb, Bool, true, false, not, cond, List, [], length, get_or, arith, le-leb, tests, not-true, not-false, all, and_fst, and_snd, and_both}
 use Rattle.model.specs.Types.{Key}
 use Rattle.model.specs.Records.{records, records_text, records_good, records_accepted}
 use Rattle.model.specs.Lines.{lines_set}

@@ -1,5 +1,7 @@
 -- Lines by their keys: a write that shifts none keeps keys, so that order and look-up stay; on a sheet in order the line of a record's key is that record.
-use Rattle.lists.specs.Basics.{◌≡◌, refl, sym, ap, ap₂, ◌∙◌, ℕ, Bool, true, false, ◌&&◌, ◌||◌, cond, true≢false, List, [], ◌∷◌, map, Option, none, some, all}
+use Rattle.std.specs.Prelude.{◌≡◌, ◌&&◌, ◌||◌, ◌∷◌}
+use Rattle.std.proofs.Common.{◌∙◌}
+use Rattle.lists.specs.Basics.{refl, sym, ap, ap₂, ℕ, Bool, true, false, cond, true≢false, List, [], map, Option, none, some, all}
 use Rattle.lists.specs.Basics.{any, and_fst, and_snd, and_both, choose_by, or_left, or_right}
 use Rattle.lists.specs.All.{map_unmoved}
 use Rattle.model.specs.Types.{Key, Record, Decision, Entry}

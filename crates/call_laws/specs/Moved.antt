@@ -1,6 +1,7 @@
 -- A step changes the phase, the place and the verdict of a transaction and nothing else: what does not depend on them is as it was. A walk through the table of
 -- steps.
-use Rattle.lists.specs.Basics.{◌≡◌, refl, ℕ, ◌+◌, ltb, length, get_or, all, choose_by}
+use Rattle.std.specs.Prelude.{◌≡◌, ◌+◌}
+use Rattle.lists.specs.Basics.{refl, ℕ, ltb, length, get_or, all, choose_by}
 use Rattle.model.specs.Types.{Transaction}
 use Rattle.model.specs.Coordinator.{decision}
 use Rattle.model.specs.Transactions.{done_phase, is_empty, puts, to_validate, no_entry, moved}

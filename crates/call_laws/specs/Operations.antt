@@ -1,6 +1,8 @@
 -- What an operation comes to, by what it asks: its refusal is the first of its row, and a refused one leaves the bytes as they were. A call has these laws
 -- already; a close is refused by its conditions alone.
-use Rattle.lists.specs.Basics.{◌≡◌, refl, ◌∙◌, ℕ, ◌≤◌, eqb, Bool, true, false, cond, List, map, all}
+use Rattle.std.specs.Prelude.{◌≡◌, ◌≤◌}
+use Rattle.std.proofs.Common.{◌∙◌}
+use Rattle.lists.specs.Basics.{refl, ℕ, eqb, Bool, true, false, cond, List, map, all}
 use Rattle.model.specs.Types.{Transaction}
 use Rattle.model.specs.Refusals.{Condition, refusal_of, count_before, first_asked}
 use Rattle.model.specs.SheetCalls.{check_conditions}

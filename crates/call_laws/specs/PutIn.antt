@@ -1,10 +1,11 @@
 -- A line put in, over the bytes of a sheet whose lines are the texts of records with spares behind them: those above and below the new line are the texts that were there, and of the
 -- spares the last is used up. A line taken out is that the other way round, since an ABSENT line of version 0 is put in where it was. For any width and text of a record: `sheet-lines`
 -- serves the code for a record sheet, a plain sheet and a bookkeeping sheet.
-use Rattle.lists.specs.Basics.{◌≡◌, sym, ap, ap₂, subst, ◌∙◌, ℕ, suc, ◌+◌, ◌-◌, ◌*◌, ◌≤◌, ◌<◌, Bool, true, false, List, [], ◌∷◌, ◌++◌, append_assoc, map, length, length-map, length-append}
+use Rattle.std.specs.Prelude.{◌≡◌, ◌+◌, ◌-◌, ◌*◌, ◌≤◌, ◌<◌, ◌∷◌, ◌++◌}
+use Rattle.lists.specs.Basics.{sym, ap, ap₂, subst, ℕ, suc, Bool, true, false, List, [], append_assoc, map, length, length-map, length-append}
 use Rattle.lists.specs.Basics.{take, drop, replicate, arith, all, joined}
 use Rattle.std.proofs.lemmas.List.{map-append, length-replicate, replicate-append-replicate}
-use Rattle.std.proofs.Common.{take-append-drop, length-take-le}
+use Rattle.std.proofs.Common.{take-append-drop, length-take-le, ◌∙◌}
 use Rattle.lists.specs.All.{all_of}
 use Rattle.lists.specs.Pieces.{AllOf, length-joined, joined-append, all_join}
 use Rattle.model.specs.Types.{Key, Record}

@@ -1,5 +1,7 @@
 -- A record's ranges in parts: key, state, image, before state, before image and clock. The layout is those of its parts one after another.
-use Rattle.lists.specs.Basics.{◌≡◌, refl, sym, ap, ◌∙◌, ℕ, ◌≤◌, leb, Bool, true, ◌&&◌, and_assoc, List, [], ◌∷◌, ◌++◌, length, arith, le-leb, and_fst, and_snd}
+use Rattle.std.specs.Prelude.{◌≡◌, ◌≤◌, ◌&&◌, ◌∷◌, ◌++◌}
+use Rattle.std.proofs.Common.{◌∙◌}
+use Rattle.lists.specs.Basics.{refl, sym, ap, ℕ, leb, Bool, true, and_assoc, List, [], length, arith, le-leb, and_fst, and_snd}
 use Rattle.lists.specs.Basics.{and_both, tests}
 use Rattle.model.specs.Types.{Key, Image, Record, State, Before, Column, StateWord, BeforeWord}
 use Rattle.types.specs.declared.State.TheVariants.{Absent, Committed, Prepared}

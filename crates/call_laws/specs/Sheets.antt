@@ -1,8 +1,9 @@
 -- Sheets stay good under the writes that calls make: each line by the lemma of its image, order because keys are kept or a line goes where its key belongs, the coordinator by its
 -- own rules.
-use Rattle.lists.specs.Basics.{◌≡◌, refl, sym, ap, subst, ◌∙◌, ℕ, zero, suc, ◌+◌, ◌≤◌, ◌<◌, true, false, true≢false, List, length, length-map, Option, none}
+use Rattle.std.specs.Prelude.{◌≡◌, ◌+◌, ◌≤◌, ◌<◌}
+use Rattle.lists.specs.Basics.{refl, sym, ap, subst, ℕ, zero, suc, true, false, true≢false, List, length, length-map, Option, none}
 use Rattle.lists.specs.Basics.{some, arith, add-one, le-leb, all, and_fst, and_snd, and_both, choose_by, tests}
-use Rattle.std.proofs.Common.{get_or-set_same}
+use Rattle.std.proofs.Common.{get_or-set_same, ◌∙◌}
 use Rattle.lists.specs.All.{all-and, all_weaken, all_map}
 use Rattle.model.specs.Types.{Key, Record, Decision, Undecided, Entry}
 use Rattle.model.specs.Records.{good_alone, key_in_range, rising, records_good, absent_at, line_of}

@@ -1,6 +1,8 @@
 -- What a call comes to doesn't depend on how many lines the record sheet has, unless it adds a line: no other condition, answer or write looks at it. So an operation on sheets of
 -- any size is that on the same sheets of another.
-use Rattle.lists.specs.Basics.{◌≡◌, refl, ap, ◌∙◌, ℕ, zero, suc, ◌+◌, ◌-◌, eqb, Bool, true, false, ◌&&◌, ◌||◌, cond, true≢false}
+use Rattle.std.specs.Prelude.{◌≡◌, ◌+◌, ◌-◌, ◌&&◌, ◌||◌}
+use Rattle.std.proofs.Common.{◌∙◌}
+use Rattle.lists.specs.Basics.{refl, ap, ℕ, zero, suc, eqb, Bool, true, false, cond, true≢false}
 use Rattle.model.specs.Types.{Transaction}
 use Rattle.model.specs.Writes.{Sheets, Write, nothing, issue, decide, commit, prepare, forward, back, add_line, remove_line, apply}
 use Rattle.model.specs.Results.{Call, begin, read, second, put, advance, abort, visit, add, remove, shifts_lines, Answer, returned, Response, Result, refused, made, unless}

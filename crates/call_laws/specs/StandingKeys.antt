@@ -1,6 +1,8 @@
 -- Which keys have lines after a call and after an operation: those that had, with the key added and without the key removed, as the answer tells. Writes that shift no line keep
 -- keys, and a close makes no other.
-use Rattle.lists.specs.Basics.{◌≡◌, refl, sym, ap, ◌∙◌, ℕ, zero, suc, eqb, Bool, true, false, cond, true≢false, List, [], ◌∷◌, length, length-map}
+use Rattle.std.specs.Prelude.{◌≡◌, ◌∷◌}
+use Rattle.std.proofs.Common.{◌∙◌}
+use Rattle.lists.specs.Basics.{refl, sym, ap, ℕ, zero, suc, eqb, Bool, true, false, cond, true≢false, List, [], length, length-map}
 use Rattle.model.specs.Types.{Key, Record}
 use Rattle.model.specs.Records.{key_less, same_key, keys_in, absent_at}
 use Rattle.model.specs.Refusals.{refusal_of}

@@ -1,6 +1,8 @@
 -- T4 for an advance: what a step writes keeps good sheets good, and the transaction that it returns is well formed.
 -- Each phase is a walk of its definition; the facts that a write needs come from the conditions that held and the well-formed entries.
-use Rattle.lists.specs.Basics.{◌≡◌, sym, ap, subst, ◌∙◌, ℕ, ◌+◌, ◌≤◌, leb, ltb, Bool, true, false, not, ◌&&◌, ◌||◌, length, get_or, arith, eqb-true, ltb-true}
+use Rattle.std.specs.Prelude.{◌≡◌, ◌+◌, ◌≤◌, ◌&&◌, ◌||◌}
+use Rattle.std.proofs.Common.{◌∙◌}
+use Rattle.lists.specs.Basics.{sym, ap, subst, ℕ, leb, ltb, Bool, true, false, not, length, get_or, arith, eqb-true, ltb-true}
 use Rattle.lists.specs.Basics.{not-true, all, and_fst, and_snd, choose_by, tests}
 use Rattle.lists.specs.All.{all-and}
 use Rattle.lists.specs.Chosen.{all_filter, filter_passes}

@@ -1,9 +1,10 @@
 -- What is told of two sheets. The range of lines is the least that has every line that differs: it begins and ends in one, and stored over the sheet before
 -- it gives the sheet after. Each goes by induction on the number of lines.
-use Rattle.lists.specs.Basics.{◌≡◌, refl, sym, ap, ap₂, ◌∙◌, ℕ, zero, suc, ◌+◌, ◌-◌, ◌*◌, ◌/◌, ◌%◌, ◌≤◌, ◌<◌, Bool, true, false, true≢false, List, ◌++◌}
+use Rattle.std.specs.Prelude.{◌≡◌, ◌+◌, ◌-◌, ◌*◌, ◌/◌, ◌%◌, ◌≤◌, ◌<◌, ◌++◌}
+use Rattle.lists.specs.Basics.{refl, sym, ap, ap₂, ℕ, zero, suc, Bool, true, false, true≢false, List}
 use Rattle.lists.specs.Basics.{length, take, drop, length-take, length-drop, drop_of_length-le, drop-drop, take-add, arith, not-false, choose_by, eq_list}
 use Rattle.lists.specs.Basics.{eq_list-true}
-use Rattle.std.proofs.Common.{take-append-drop}
+use Rattle.std.proofs.Common.{take-append-drop, ◌∙◌}
 use Rattle.lists.specs.Pieces.{over, over-same}
 use Rattle.model.specs.Types.{At}
 use Rattle.model.specs.Layouts.{record_bytes}

@@ -1,5 +1,7 @@
 -- A well-formed transaction in parts: its body, which no step changes, and its stage (phase, place and verdict).
-use Rattle.lists.specs.Basics.{◌≡◌, refl, sym, ap, ◌∙◌, ℕ, ◌+◌, ◌≤◌, ◌<◌, eqb, leb, ltb, Bool, true, false, not, ◌&&◌, ◌||◌, true≢false, List, [], ◌∷◌}
+use Rattle.std.specs.Prelude.{◌≡◌, ◌+◌, ◌≤◌, ◌<◌, ◌&&◌, ◌||◌, ◌∷◌}
+use Rattle.std.proofs.Common.{◌∙◌}
+use Rattle.lists.specs.Basics.{refl, sym, ap, ℕ, eqb, leb, ltb, Bool, true, false, not, true≢false, List, []}
 use Rattle.lists.specs.Basics.{length, arith, eq-eqb, le-leb, lt-ltb, not-true, all, any, and_fst, and_snd, and_both, tests, or_left}
 use Rattle.model.specs.Types.{Entry, Transaction}
 use Rattle.model.specs.Records.{key_in_range, same_key}

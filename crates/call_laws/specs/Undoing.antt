@@ -1,6 +1,8 @@
 -- Removing what was added gives the sheets back, and adding what was removed: the second call is accepted, and its write undoes the first. Over decoded sheets; turns has it of the
 -- sheets themselves.
-use Rattle.lists.specs.Basics.{◌≡◌, refl, ap, ◌∙◌, ℕ, suc, ◌≤◌, eqb, Bool, true, false, ◌||◌, cond, List, length, arith, eqb-true, lt-leb}
+use Rattle.std.specs.Prelude.{◌≡◌, ◌≤◌, ◌||◌}
+use Rattle.std.proofs.Common.{◌∙◌}
+use Rattle.lists.specs.Basics.{refl, ap, ℕ, suc, eqb, Bool, true, false, cond, List, length, arith, eqb-true, lt-leb}
 use Rattle.model.specs.Types.{Key, Record}
 use Rattle.model.specs.Records.{key_in_range, absent_at, line_of}
 use Rattle.model.specs.Refusals.{refusal_of}

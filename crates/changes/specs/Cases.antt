@@ -1,5 +1,6 @@
 -- Cases by computation: three lines of spaces, and a coordinator sheet of two bytes, before and after.
-use Rattle.lists.specs.Basics.{◌≡◌, refl, ℕ, ◌-◌, ◌*◌, List, [], ◌∷◌, set, take, replicate, eq_list}
+use Rattle.std.specs.Prelude.{◌≡◌, ◌-◌, ◌*◌, ◌∷◌}
+use Rattle.lists.specs.Basics.{refl, ℕ, List, [], set, take, replicate, eq_list}
 use Rattle.model.specs.Layouts.{record_bytes}
 use Rattle.model.specs.Refusals.{refusal_of}
 use Rattle.model.specs.SheetCalls.{line_at}

@@ -1,5 +1,7 @@
 -- The loops over bytes and over the lines of two record sheets: what one turn does to the definition that the loop computes.
-use Rattle.lists.specs.Basics.{◌≡◌, refl, sym, ap, ◌∙◌, ℕ, suc, ◌+◌, ◌-◌, ◌*◌, ◌≤◌, ◌<◌, eqb, Bool, true, false, ◌&&◌, and_assoc, and-true, List, length, take}
+use Rattle.std.specs.Prelude.{◌≡◌, ◌+◌, ◌-◌, ◌*◌, ◌≤◌, ◌<◌, ◌&&◌}
+use Rattle.std.proofs.Common.{◌∙◌}
+use Rattle.lists.specs.Basics.{refl, sym, ap, ℕ, suc, eqb, Bool, true, false, and_assoc, and-true, List, length, take}
 use Rattle.lists.specs.Basics.{drop, get_or, drop_of_length-le, arith, add-one, eq_list}
 use Rattle.lists.specs.Walks.{drop_here}
 use Rattle.model.specs.Types.{At}

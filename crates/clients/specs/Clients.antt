@@ -1,8 +1,10 @@
 -- Clients that keep their transactions in lists make a legal history. Whatever was done, each transaction held is available or unused, no two hold one number,
 -- and no number held is above the issued count. So a call takes an available one, what it returns stands where that stood, and begin gives a number that
 -- nobody holds.
-use Rattle.lists.specs.Basics.{◌≡◌, refl, sym, ap, subst, ◌∙◌, ℕ, zero, suc, ◌^◌, ◌≤◌, ◌<◌, eqb, ltb, Bool, true, false, cond, List, [], ◌∷◌, none, some}
-use Rattle.lists.specs.Basics.{none-ne-some, some-injective, ◌⊎◌, inl, inr, arith, eqb-true, eqb-false, eq-eqb, ltb-true, all, and_fst, and_snd}
+use Rattle.std.specs.Prelude.{◌≡◌, ◌^◌, ◌≤◌, ◌<◌, ◌∷◌, ◌⊎◌}
+use Rattle.std.proofs.Common.{◌∙◌}
+use Rattle.lists.specs.Basics.{refl, sym, ap, subst, ℕ, zero, suc, eqb, ltb, Bool, true, false, cond, List, [], none, some}
+use Rattle.lists.specs.Basics.{none-ne-some, some-injective, inl, inr, arith, eqb-true, eqb-false, eq-eqb, ltb-true, all, and_fst, and_snd}
 use Rattle.lists.specs.Basics.{choose_by}
 use Rattle.model.specs.Types.{Transaction, Request}
 use Rattle.types.specs.declared.Request.TheVariants as asked

@@ -1,6 +1,8 @@
 -- What is asked by place takes of its client and what it leaves with it: nothing is taken and the transaction stays, or one of a new number is given, or the
 -- transaction is taken and comes back under its number. One case for each kind of request; the number of a transaction is what no step changes.
-use Rattle.lists.specs.Basics.{◌≡◌, refl, sym, subst, ◌∙◌, ℕ, ◌≤◌, ◌<◌, Bool, true, false, not, List, ◌∷◌, length, get_or, none, some, arith, choose_by}
+use Rattle.std.specs.Prelude.{◌≡◌, ◌≤◌, ◌<◌, ◌∷◌}
+use Rattle.std.proofs.Common.{◌∙◌}
+use Rattle.lists.specs.Basics.{refl, sym, subst, ℕ, Bool, true, false, not, List, length, get_or, none, some, arith, choose_by}
 use Rattle.model.specs.Types.{Key, Image, Record, Found, At, Nothing, Columns, Transaction, Request}
 use Rattle.types.specs.declared.Request.TheVariants as asked
 use Rattle.model.specs.Records.{by_found}

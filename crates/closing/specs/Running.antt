@@ -1,6 +1,8 @@
 -- A close under way in bytes: what each turn of the code owes, and what the loop keeps. A turn that goes on is a step, whose bytes say the sheets after its
 -- write; what was found once of the entries stays true, since a step changes phase, place and verdict only, and no write moves a line.
-use Rattle.lists.specs.Basics.{◌≡◌, refl, sym, ap, ap₂, subst, ◌∙◌, ℕ, suc, ◌+◌, ◌-◌, ◌^◌, ◌≤◌, ◌<◌, eqb, Bool, true, false, ◌&&◌, ◌||◌, cond, or-true, List}
+use Rattle.std.specs.Prelude.{◌≡◌, ◌+◌, ◌-◌, ◌^◌, ◌≤◌, ◌<◌, ◌&&◌, ◌||◌}
+use Rattle.std.proofs.Common.{◌∙◌}
+use Rattle.lists.specs.Basics.{refl, sym, ap, ap₂, subst, ℕ, suc, eqb, Bool, true, false, cond, or-true, List}
 use Rattle.lists.specs.Basics.{get_or, arith, ne_eqb}
 use mir.Val.{Val}
 use denote.Laws.{Is}

@@ -1,6 +1,8 @@
 -- A close is the advances that it makes, one after another, each accepted. A list of calls that hands a transaction on from one to the next is a record `Ran`,
 -- made from the end: none, or one advance before others. That the model commits at one of them only is because a verdict once given stays.
-use Rattle.lists.specs.Basics.{◌≡◌, refl, sym, ap, subst, ◌∙◌, ℕ, zero, suc, ◌+◌, ◌^◌, ◌<◌, eqb, Bool, true, false, ◌&&◌, cond, List, [], ◌∷◌, ◌++◌, some}
+use Rattle.std.specs.Prelude.{◌≡◌, ◌+◌, ◌^◌, ◌<◌, ◌&&◌, ◌∷◌, ◌++◌}
+use Rattle.std.proofs.Common.{◌∙◌}
+use Rattle.lists.specs.Basics.{refl, sym, ap, subst, ℕ, zero, suc, eqb, Bool, true, false, cond, List, [], some}
 use Rattle.lists.specs.Basics.{some-injective, inl, inr, arith, eqb-true, eqb-false, ne_eqb}
 use Rattle.model.specs.Types.{Transaction}
 use Rattle.model.specs.Refusals.{refusal_of}

@@ -1,7 +1,9 @@
 -- Where a close ends: done, or before a step that writes with its limit used up; and done if the limit is 17 or more. Every step comes nearer to done, and from
 -- anywhere 18 are enough; while the budget of writes is affordable it stays so.
-use Rattle.lists.specs.Basics.{◌≡◌, refl, sym, ap, ap₂, subst, ◌∙◌, ℕ, zero, suc, ◌+◌, ◌-◌, ◌^◌, ◌≤◌, ◌<◌, eqb, ltb, Bool, true, false, ◌&&◌, ◌||◌, cond}
-use Rattle.lists.specs.Basics.{true≢false, get_or, ◌⊎◌, inl, inr, arith, eqb-true, ltb-true, all, choose_by}
+use Rattle.std.specs.Prelude.{◌≡◌, ◌+◌, ◌-◌, ◌^◌, ◌≤◌, ◌<◌, ◌&&◌, ◌||◌, ◌⊎◌}
+use Rattle.std.proofs.Common.{◌∙◌}
+use Rattle.lists.specs.Basics.{refl, sym, ap, ap₂, subst, ℕ, zero, suc, eqb, ltb, Bool, true, false, cond}
+use Rattle.lists.specs.Basics.{true≢false, get_or, inl, inr, arith, eqb-true, ltb-true, all, choose_by}
 use Rattle.model.specs.Types.{Decision, Transaction}
 use Rattle.model.specs.Coordinator.{decision}
 use Rattle.model.specs.Transactions.{by_phase, done_phase, aborted_verdict, is_empty, held, puts, to_validate, no_entry, moved}

@@ -1,5 +1,7 @@
 -- The companion's transaction and sheets reach the greatest count possible for so many puts, and no close of as many puts reports more.
-use Rattle.lists.specs.Basics.{◌≡◌, refl, sym, ap, subst, ◌∙◌, ℕ, zero, suc, ◌+◌, ◌-◌, ◌*◌, ◌^◌, ◌≤◌, ◌<◌, true, ◌++◌, append-nil, length, length-append, arith}
+use Rattle.std.specs.Prelude.{◌≡◌, ◌+◌, ◌-◌, ◌*◌, ◌^◌, ◌≤◌, ◌<◌, ◌++◌}
+use Rattle.std.proofs.Common.{◌∙◌}
+use Rattle.lists.specs.Basics.{refl, sym, ap, subst, ℕ, zero, suc, true, append-nil, length, length-append, arith}
 use Rattle.model.specs.Types.{Transaction}
 use Rattle.model.specs.Layouts.{record_bytes}
 use Rattle.model.specs.Records.{records_text}

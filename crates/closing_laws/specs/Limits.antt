@@ -1,6 +1,8 @@
 -- From one limit to the next: nothing more, or one more write within one unit. Both closes make the same steps until the lower limit is used up; from there on
 -- the lower one stops before a step that writes, and the higher one makes it and writes no more.
-use Rattle.lists.specs.Basics.{◌≡◌, refl, sym, ap, ap₂, subst, ◌∙◌, ℕ, zero, suc, ◌+◌, ◌-◌, eqb, Bool, true, false, ◌&&◌, ◌||◌, cond, true≢false, arith}
+use Rattle.std.specs.Prelude.{◌≡◌, ◌+◌, ◌-◌, ◌&&◌, ◌||◌}
+use Rattle.std.proofs.Common.{◌∙◌}
+use Rattle.lists.specs.Basics.{refl, sym, ap, ap₂, subst, ℕ, zero, suc, eqb, Bool, true, false, cond, true≢false, arith}
 use Rattle.lists.specs.Basics.{eqb-true, eqb-false, ne_eqb}
 use Rattle.model.specs.Types.{Transaction}
 use Rattle.model.specs.Transactions.{done_phase}

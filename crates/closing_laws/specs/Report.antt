@@ -1,7 +1,9 @@
 -- The report is at most 17. Each phase has a budget of writes, by the groups left: a step that writes takes it at least one lower, any other doesn't raise it;
 -- and eight entries have at most eight groups.
-use Rattle.lists.specs.Basics.{◌≡◌, refl, sym, ap, subst, ◌∙◌, ℕ, ◌+◌, ◌-◌, ◌*◌, ◌^◌, ◌≤◌, ◌<◌, eqb, ltb, Bool, true, false, not, ◌&&◌, ◌||◌, cond}
-use Rattle.lists.specs.Basics.{true≢false, List, [], ◌∷◌, length, take, get_or, length-take, arith, eqb-false, ltb-true, all, any, filter, eq_list}
+use Rattle.std.specs.Prelude.{◌≡◌, ◌+◌, ◌-◌, ◌*◌, ◌^◌, ◌≤◌, ◌<◌, ◌&&◌, ◌||◌, ◌∷◌}
+use Rattle.std.proofs.Common.{◌∙◌}
+use Rattle.lists.specs.Basics.{refl, sym, ap, subst, ℕ, eqb, ltb, Bool, true, false, not, cond}
+use Rattle.lists.specs.Basics.{true≢false, List, [], length, take, get_or, length-take, arith, eqb-false, ltb-true, all, any, filter, eq_list}
 use Rattle.lists.specs.Basics.{choose_by}
 use Rattle.model.specs.Types.{Decision, Aborted, Entry, Transaction}
 use Rattle.model.specs.Coordinator.{Letter}

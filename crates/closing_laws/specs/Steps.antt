@@ -1,7 +1,9 @@
 -- The steps of a close go through: what may be closed may be advanced, and after the step is done or may be closed on. By phase: where the step decides, the
 -- own line reads as the next phase wants it; in every other phase it stays as it was.
-use Rattle.lists.specs.Basics.{◌≡◌, refl, sym, ap, ◌∙◌, ℕ, ◌+◌, ◌^◌, ◌≤◌, ◌<◌, eqb, ltb, Bool, true, false, not, ◌&&◌, ◌||◌, true≢false, cond, List, length}
-use Rattle.lists.specs.Basics.{get_or, zero, suc, ◌⊎◌, inl, inr, arith, eqb-true, not-false, all, choose_by}
+use Rattle.std.specs.Prelude.{◌≡◌, ◌+◌, ◌^◌, ◌≤◌, ◌<◌, ◌&&◌, ◌||◌, ◌⊎◌}
+use Rattle.std.proofs.Common.{◌∙◌}
+use Rattle.lists.specs.Basics.{refl, sym, ap, ℕ, eqb, ltb, Bool, true, false, not, true≢false, cond, List, length}
+use Rattle.lists.specs.Basics.{get_or, zero, suc, inl, inr, arith, eqb-true, not-false, all, choose_by}
 use Rattle.model.specs.Types.{Decision, Committed, Aborted, Transaction}
 use Rattle.model.specs.Coordinator.{Letter, decision, with_decision}
 use Rattle.model.specs.Refusals.{refusal_of}

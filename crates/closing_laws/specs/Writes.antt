@@ -1,6 +1,8 @@
 -- What counts as a write is a change of bytes, and the other way round. A step that puts raises the version of its first entry's line, which is there since its
 -- condition holds; one that decides changes the own line; one that rolls takes a line out of PREPARED. And what doesn't count leaves both sheets.
-use Rattle.lists.specs.Basics.{◌≡◌, refl, sym, ap, ap₂, ◌∙◌, ℕ, ◌+◌, ◌^◌, ◌<◌, Bool, true, false, not, cond, true≢false, List, [], ◌∷◌, map}
+use Rattle.std.specs.Prelude.{◌≡◌, ◌+◌, ◌^◌, ◌<◌, ◌∷◌}
+use Rattle.std.proofs.Common.{◌∙◌}
+use Rattle.lists.specs.Basics.{refl, sym, ap, ap₂, ℕ, Bool, true, false, not, cond, true≢false, List, [], map}
 use Rattle.lists.specs.Basics.{drop, get_or, Option, some, arith, all, any, and_fst, choose_by, tests, or_else, or_fst, or_snd}
 use Rattle.model.specs.Types.{Key, Record, Decision, Undecided, Committed, Aborted, Entry, Transaction}
 use Rattle.model.specs.Records.{same_key, has_line, line_of}

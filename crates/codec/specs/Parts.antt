@@ -1,6 +1,8 @@
 -- A line lent as a part of a sheet: what is read there, and what stands in the sheet once it has come back.
-use Rattle.lists.specs.Basics.{◌≡◌, refl, sym, ap, ◌∙◌, ℕ, zero, suc, ◌+◌, ◌-◌, ◌*◌, ◌/◌, ◌≤◌, ◌<◌, leb, ltb, Bool, true, false, ◌&&◌, cond, true≢false, List}
-use Rattle.lists.specs.Basics.{◌++◌, length, take, drop, get_or, length-take, length-drop, get_or-eq_default, take_all, arith, leb-true, leb-false, le-leb}
+use Rattle.std.specs.Prelude.{◌≡◌, ◌+◌, ◌-◌, ◌*◌, ◌/◌, ◌≤◌, ◌<◌, ◌&&◌, ◌++◌}
+use Rattle.std.proofs.Common.{◌∙◌}
+use Rattle.lists.specs.Basics.{refl, sym, ap, ℕ, zero, suc, leb, ltb, Bool, true, false, cond, true≢false, List}
+use Rattle.lists.specs.Basics.{length, take, drop, get_or, length-take, length-drop, get_or-eq_default, take_all, arith, leb-true, leb-false, le-leb}
 use Rattle.lists.specs.Basics.{lt-ltb, eq_list, and_snd, tests}
 use Rattle.lists.specs.Pieces.{over, over-part, over_zero}
 use Rattle.model.specs.Types.{Record, Before, Undecided, Committed, Aborted, DecisionWord}

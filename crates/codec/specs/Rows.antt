@@ -1,8 +1,9 @@
 -- One turn of reading and of writing a line, field i of it.
-use Rattle.lists.specs.Basics.{◌≡◌, refl, sym, ap, ap₂, ◌∙◌, ℕ, suc, ◌+◌, ◌-◌, ◌≤◌, ◌<◌, true, false, ◌&&◌, List, [], ◌∷◌, ◌++◌, append-nil, append_assoc}
+use Rattle.std.specs.Prelude.{◌≡◌, ◌+◌, ◌-◌, ◌≤◌, ◌<◌, ◌&&◌, ◌∷◌, ◌++◌}
+use Rattle.lists.specs.Basics.{refl, sym, ap, ap₂, ℕ, suc, true, false, List, [], append-nil, append_assoc}
 use Rattle.lists.specs.Basics.{length, take, drop, get_or, set, length-append, length-take, length-drop, length-set, drop_of_length-le, drop-drop, take_at}
 use Rattle.lists.specs.Basics.{take_all, get_or-drop, arith, add-one, all}
-use Rattle.std.proofs.Common.{add-zero}
+use Rattle.std.proofs.Common.{add-zero, ◌∙◌}
 use Rattle.std.proofs.Math.Seq.{take-suc-set, append_snoc}
 use Rattle.std.proofs.lemmas.List.{set_split}
 use Rattle.lists.specs.All.{all_at}

@@ -1,5 +1,7 @@
 -- One turn of each loop: the definition from i on, by what stands at i and the definition from i + 1 on.
-use Rattle.lists.specs.Basics.{◌≡◌, refl, sym, ap, ◌∙◌, ℕ, ◌+◌, ◌-◌, ◌≤◌, ◌<◌, leb, Bool, true, false, cond, true≢false, List, [], length, take, drop}
+use Rattle.std.specs.Prelude.{◌≡◌, ◌+◌, ◌-◌, ◌≤◌, ◌<◌}
+use Rattle.std.proofs.Common.{◌∙◌}
+use Rattle.lists.specs.Basics.{refl, sym, ap, ℕ, leb, Bool, true, false, cond, true≢false, List, [], length, take, drop}
 use Rattle.lists.specs.Basics.{length-drop, drop-cons, take_all, arith, add-one, leb-true, eq_list, bytes}
 use Rattle.std.proofs.Math.Seq.{drop-length}
 use Rattle.decimal.specs.declared.Scan.{Scan}

@@ -1,7 +1,9 @@
 -- The head: a count, a space, nine unit letters and LF. A column of one letter is a test of one byte, so that nine of them are one test of
 -- nine bytes.
-use Rattle.lists.specs.Basics.{◌≡◌, refl, sym, ap, ◌∙◌, ℕ, zero, suc, ◌+◌, ◌-◌, ◌≤◌, ◌<◌, eqb, Bool, true, false, ◌&&◌, ◌||◌, cond, and_assoc, and-true, List}
-use Rattle.lists.specs.Basics.{[], ◌∷◌, length, take, drop, get_or, replicate, drop_of_length-le, drop-drop, drop-cons, arith, add-one, all, eq_list, bytes}
+use Rattle.std.specs.Prelude.{◌≡◌, ◌+◌, ◌-◌, ◌≤◌, ◌<◌, ◌&&◌, ◌||◌, ◌∷◌}
+use Rattle.std.proofs.Common.{◌∙◌}
+use Rattle.lists.specs.Basics.{refl, sym, ap, ℕ, zero, suc, eqb, Bool, true, false, cond, and_assoc, and-true, List}
+use Rattle.lists.specs.Basics.{[], length, take, drop, get_or, replicate, drop_of_length-le, drop-drop, drop-cons, arith, add-one, all, eq_list, bytes}
 use Rattle.decimal.specs.declared.Scan.TheVariants.{Number, Wrong}
 use Rattle.decimal.specs.Field.{figure, is_number}
 use Rattle.model.specs.Types.{Column, UnitLetter}

@@ -1,6 +1,8 @@
 -- No record names a number above the issued count: four columns that hold a figure order as their bytes do, and so as one number.
 -- The loop goes record by record.
-use Rattle.lists.specs.Basics.{◌≡◌, refl, sym, ap, ap₂, ◌∙◌, ℕ, ◌+◌, ◌*◌, ◌/◌, ◌≤◌, ◌<◌, leb, ltb, Bool, true, false, not, ◌&&◌, List, [], length, take, drop}
+use Rattle.std.specs.Prelude.{◌≡◌, ◌+◌, ◌*◌, ◌/◌, ◌≤◌, ◌<◌, ◌&&◌}
+use Rattle.std.proofs.Common.{◌∙◌}
+use Rattle.lists.specs.Basics.{refl, sym, ap, ap₂, ℕ, leb, ltb, Bool, true, false, not, List, [], length, take, drop}
 use Rattle.lists.specs.Basics.{get_or, length-take, length-drop, drop-drop, arith, leb-true, leb-false, lt-ltb, le-ltb, all, pieces, tests}
 use Rattle.std.proofs.Math.Pow.{are_bytes}
 use Rattle.lists.specs.All.{all_at}

@@ -1,7 +1,9 @@
 -- A line after the head, judged as two numbers of eight bytes each: from the LF before it to the third byte of its word, and from there
 -- to its own LF. The second number tells which decision the line can say, so the line is right if both numbers are those of the text that
 -- says it. Equal numbers are equal bytes.
-use Rattle.lists.specs.Basics.{◌≡◌, refl, sym, ap, ◌∙◌, ℕ, zero, suc, ◌+◌, ◌*◌, ◌/◌, ◌%◌, ◌^◌, ◌≤◌, ◌<◌, eqb, ltb, Bool, true, ◌&&◌, List, [], ◌∷◌, ◌++◌}
+use Rattle.std.specs.Prelude.{◌≡◌, ◌+◌, ◌*◌, ◌/◌, ◌%◌, ◌^◌, ◌≤◌, ◌<◌, ◌&&◌, ◌∷◌, ◌++◌}
+use Rattle.std.proofs.Common.{◌∙◌}
+use Rattle.lists.specs.Basics.{refl, sym, ap, ℕ, zero, suc, eqb, ltb, Bool, true, List, []}
 use Rattle.lists.specs.Basics.{length, take, drop, get_or, drop-drop, take_all, arith, ltb-true, eq_list, bytes, and_fst, and_snd}
 use Rattle.std.proofs.Math.Pow.{are_bytes}
 use Rattle.lists.specs.Bytes.{below_append}

@@ -1,5 +1,7 @@
 -- The four columns of a line's number, taken as one number and counted up. The step from each number to the next is tested for all of them.
-use Rattle.lists.specs.Basics.{◌≡◌, refl, ap, ◌∙◌, ℕ, suc, ◌+◌, ◌-◌, ◌*◌, ◌/◌, ◌%◌, ◌^◌, ◌≤◌, ◌<◌, eqb, ltb, Bool, cond, arith, eqb-true, ltb-true}
+use Rattle.std.specs.Prelude.{◌≡◌, ◌+◌, ◌-◌, ◌*◌, ◌/◌, ◌%◌, ◌^◌, ◌≤◌, ◌<◌}
+use Rattle.std.proofs.Common.{◌∙◌}
+use Rattle.lists.specs.Basics.{refl, ap, ℕ, suc, eqb, ltb, Bool, cond, arith, eqb-true, ltb-true}
 use Rattle.decimal.specs.Field.{field_text, ahead}
 use Rattle.line_bytes.specs.Loads.{loaded}
 use Rattle.sheet_laws.specs.Fields.{all_below, below}

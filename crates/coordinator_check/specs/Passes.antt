@@ -1,6 +1,8 @@
 -- The lines in turn. Lines that pass are lines of their numbers whose decisions the table has, and such lines pass: line by line, each ending
 -- in the LF with which the next begins. The code's loop counts the numbers' columns up beside it.
-use Rattle.lists.specs.Basics.{◌≡◌, refl, sym, ap, ap₂, ◌∙◌, ℕ, zero, suc, ◌+◌, ◌-◌, ◌*◌, ◌≤◌, ◌<◌, eqb, Bool, true, ◌&&◌, and_assoc, and-true, List, [], ◌∷◌}
+use Rattle.std.specs.Prelude.{◌≡◌, ◌+◌, ◌-◌, ◌*◌, ◌≤◌, ◌<◌, ◌&&◌, ◌∷◌}
+use Rattle.std.proofs.Common.{◌∙◌}
+use Rattle.lists.specs.Basics.{refl, sym, ap, ap₂, ℕ, zero, suc, eqb, Bool, true, and_assoc, and-true, List, []}
 use Rattle.lists.specs.Basics.{length, take, drop, get_or, length-drop, drop-drop, take_all, get_or-take, get_or-drop, arith, add-one, eqb-true, eq-eqb, all, pieces}
 use Rattle.lists.specs.Basics.{eq_list, eq_list-true, eq_list_refl, and_fst, and_snd, and_both}
 use Rattle.lists.specs.All.{all_at}

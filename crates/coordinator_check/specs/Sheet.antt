@@ -1,10 +1,11 @@
 -- The sheet as the check takes it: whole lines, the head, lines up to the issued count with any decision, and lines above it with none.
 -- That such a sheet keeps the rules, and one that keeps them is such, is shown from the parts of the rules, the lines cut at the issued count.
-use Rattle.lists.specs.Basics.{◌≡◌, refl, sym, ap, ap₂, ◌∙◌, ℕ, suc, ◌+◌, ◌-◌, ◌*◌, ◌/◌, ◌%◌, ◌≤◌, ◌<◌, eqb, leb, Bool, true, false, ◌&&◌, true≢false}
-use Rattle.lists.specs.Basics.{and_assoc, List, [], ◌∷◌, ◌++◌, map, length, take, drop, get_or, length-map, length-take, length-drop, drop-drop, take-take}
+use Rattle.std.specs.Prelude.{◌≡◌, ◌+◌, ◌-◌, ◌*◌, ◌/◌, ◌%◌, ◌≤◌, ◌<◌, ◌&&◌, ◌∷◌, ◌++◌}
+use Rattle.lists.specs.Basics.{refl, sym, ap, ap₂, ℕ, suc, eqb, leb, Bool, true, false, true≢false}
+use Rattle.lists.specs.Basics.{and_assoc, List, [], map, length, take, drop, get_or, length-map, length-take, length-drop, drop-drop, take-take}
 use Rattle.lists.specs.Basics.{get_or-take, get_or-drop, arith, eqb-true, leb-true, eq-eqb, le-leb, lt-leb, all, pieces, bytes, and_fst, and_snd, and_both}
 use Rattle.lists.specs.Basics.{same_test, tests}
-use Rattle.std.proofs.Common.{add-zero}
+use Rattle.std.proofs.Common.{add-zero, ◌∙◌}
 use Rattle.lists.specs.All.{all_append, all_always, all_map}
 use Rattle.lists.specs.Pieces.{pieces_add, length-pieces}
 use Rattle.decimal.specs.declared.Scan.{Scan}

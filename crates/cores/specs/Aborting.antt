@@ -1,5 +1,6 @@
 -- Abort, case by case in the order of its conditions; it writes nothing.
-use Rattle.lists.specs.Basics.{◌≡◌, true, false}
+use Rattle.std.specs.Prelude.{◌≡◌}
+use Rattle.lists.specs.Basics.{true, false}
 use Rattle.model.specs.Types.{Transaction}
 use Rattle.model.specs.Refusals.{refusal_of}
 use Rattle.model.specs.Transactions.{withdraw_phase, moved}

@@ -1,5 +1,6 @@
 -- Advance, case by case in the order of its conditions; an accepted one is the step of its phase.
-use Rattle.lists.specs.Basics.{◌≡◌, ℕ, true, false, List}
+use Rattle.std.specs.Prelude.{◌≡◌}
+use Rattle.lists.specs.Basics.{ℕ, true, false, List}
 use Rattle.model.specs.Types.{Transaction}
 use Rattle.model.specs.Coordinator.{coordinator_of, decision}
 use Rattle.model.specs.Refusals.{refusal_of}

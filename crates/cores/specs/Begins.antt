@@ -1,5 +1,7 @@
 -- Begin, case by case in the order of its conditions; it leaves the record sheet alone.
-use Rattle.lists.specs.Basics.{◌≡◌, refl, sym, ap, ◌∙◌, ℕ, ◌+◌, ◌/◌, ◌≤◌, ◌<◌, eqb, leb, Bool, true, false, cond, List, length, drop, arith, add-one, le-leb}
+use Rattle.std.specs.Prelude.{◌≡◌, ◌+◌, ◌/◌, ◌≤◌, ◌<◌}
+use Rattle.std.proofs.Common.{◌∙◌}
+use Rattle.lists.specs.Basics.{refl, sym, ap, ℕ, eqb, leb, Bool, true, false, cond, List, length, drop, arith, add-one, le-leb}
 use Rattle.lists.specs.Pieces.{over}
 use Rattle.decimal.specs.Field.{field_text}
 use Rattle.model.specs.Layouts.{coordinator_bytes}

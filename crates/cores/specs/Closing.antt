@@ -1,5 +1,7 @@
 -- Close, case by case in the order of its conditions; an accepted one is the run of its steps.
-use Rattle.lists.specs.Basics.{◌≡◌, sym, ap, ◌∙◌, ℕ, true, false, List}
+use Rattle.std.specs.Prelude.{◌≡◌}
+use Rattle.std.proofs.Common.{◌∙◌}
+use Rattle.lists.specs.Basics.{sym, ap, ℕ, true, false, List}
 use Rattle.model.specs.Types.{Transaction}
 use Rattle.model.specs.Refusals.{refusal_of}
 use Rattle.model.specs.Writes.{Sheets}

@@ -1,5 +1,7 @@
 -- Put, case by case in the order of its conditions; it writes nothing.
-use Rattle.lists.specs.Basics.{◌≡◌, refl, ◌∙◌, ℕ, ◌≤◌, ◌<◌, leb, Bool, true, false, not, cond, List, [], ◌∷◌, le-leb, lt-leb, all}
+use Rattle.std.specs.Prelude.{◌≡◌, ◌≤◌, ◌<◌, ◌∷◌}
+use Rattle.std.proofs.Common.{◌∙◌}
+use Rattle.lists.specs.Basics.{refl, ℕ, leb, Bool, true, false, not, cond, List, [], le-leb, lt-leb, all}
 use Rattle.model.specs.Types.{Key, At, Nothing, Columns, Transaction}
 use Rattle.model.specs.Records.{found, is_missing, has_line}
 use Rattle.model.specs.Refusals.{Condition, refuse, refusal_of}

@@ -1,6 +1,8 @@
 -- Reading with a limit: the scan stops as soon as the figure is above the highest that is wanted, so that it never grows past its type. It
 -- finds the same figure, since a figure only grows with each digit more.
-use Rattle.lists.specs.Basics.{◌≡◌, refl, ◌∙◌, ℕ, suc, ◌+◌, ◌-◌, ◌*◌, ◌≤◌, ◌<◌, eqb, leb, Bool, true, false, ◌&&◌, cond, List, [], ◌∷◌, length, drop, get_or}
+use Rattle.std.specs.Prelude.{◌≡◌, ◌+◌, ◌-◌, ◌*◌, ◌≤◌, ◌<◌, ◌&&◌, ◌∷◌}
+use Rattle.std.proofs.Common.{◌∙◌}
+use Rattle.lists.specs.Basics.{refl, ℕ, suc, eqb, leb, Bool, true, false, cond, List, [], length, drop, get_or}
 use Rattle.lists.specs.Basics.{drop_of_length-le, drop-cons, arith, add-one, leb-false, eq-eqb, ne_eqb, choose_by, tests}
 use Rattle.decimal.specs.declared.Scan.{Scan}
 use Rattle.decimal.specs.declared.Scan.TheVariants.{Blank, Number, Wrong}

@@ -1,7 +1,8 @@
 -- A figure as the number that its digits make. Digits are taken from the left as a scan takes them, and a space counts 0, so what a scan has read so far
 -- is what the digits have made so far.
-use Rattle.lists.specs.Basics.{◌≡◌, ap, ◌∙◌, ℕ, suc, ◌+◌, ◌-◌, ◌*◌, ◌%◌, ◌^◌, ◌≤◌, ◌<◌, List, [], ◌∷◌, length, take, drop, get_or, drop-cons, arith, add-one}
-use Rattle.std.proofs.Common.{pow-suc}
+use Rattle.std.specs.Prelude.{◌≡◌, ◌+◌, ◌-◌, ◌*◌, ◌%◌, ◌^◌, ◌≤◌, ◌<◌, ◌∷◌}
+use Rattle.lists.specs.Basics.{ap, ℕ, suc, List, [], length, take, drop, get_or, drop-cons, arith, add-one}
+use Rattle.std.proofs.Common.{pow-suc, ◌∙◌}
 use Rattle.std.proofs.Math.Nat.{pow-le-pow_right}
 use Rattle.decimal.specs.declared.Scan.{Scan}
 use Rattle.decimal.specs.declared.Scan.TheVariants.{Blank, Number}

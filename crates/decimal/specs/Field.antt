@@ -1,6 +1,7 @@
 -- A field of any width: the figure that it holds, and the text of a figure.
 -- Document 01: "All figures are decimal, right-justified, space-filled, without leading zeros; zero is `0`, never blank."
-use Rattle.lists.specs.Basics.{ℕ, zero, suc, ◌+◌, ◌-◌, ◌*◌, ◌/◌, ◌%◌, eqb, leb, Bool, true, false, ◌&&◌, cond, List, [], ◌∷◌, ◌++◌}
+use Rattle.std.specs.Prelude.{◌+◌, ◌-◌, ◌*◌, ◌/◌, ◌%◌, ◌&&◌, ◌∷◌, ◌++◌}
+use Rattle.lists.specs.Basics.{ℕ, zero, suc, eqb, leb, Bool, true, false, cond, List, []}
 use Rattle.decimal.specs.declared.Scan.{Scan}
 use Rattle.decimal.specs.declared.Scan.TheVariants.{Blank, Number, Wrong}
 

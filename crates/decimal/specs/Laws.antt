@@ -1,9 +1,10 @@
 -- Laws of fields of any width. What a scan has read so far tells which bytes it has passed, so a field that reads as a figure is that
 -- figure's text, by one step for each byte; and the text of a figure is read digit by digit as it is built.
-use Rattle.lists.specs.Basics.{◌≡◌, refl, sym, ap, ap₂, subst, ◌∙◌, ℕ, zero, suc, ◌+◌, ◌-◌, ◌*◌, ◌/◌, ◌%◌, ◌^◌, ◌≤◌, ◌<◌, eqb, leb, Bool, true, false, ◌&&◌}
-use Rattle.lists.specs.Basics.{cond, true≢false, List, [], ◌∷◌, ◌++◌, append-nil, length, get_or, length-append, arith, eqb-true, eqb-false, ne_eqb, le-leb}
+use Rattle.std.specs.Prelude.{◌≡◌, ◌+◌, ◌-◌, ◌*◌, ◌/◌, ◌%◌, ◌^◌, ◌≤◌, ◌<◌, ◌&&◌, ◌∷◌, ◌++◌}
+use Rattle.lists.specs.Basics.{refl, sym, ap, ap₂, subst, ℕ, zero, suc, eqb, leb, Bool, true, false}
+use Rattle.lists.specs.Basics.{cond, true≢false, List, [], append-nil, length, get_or, length-append, arith, eqb-true, eqb-false, ne_eqb, le-leb}
 use Rattle.lists.specs.Basics.{and_both, choose_by, tests}
-use Rattle.std.proofs.Common.{pow-suc}
+use Rattle.std.proofs.Common.{pow-suc, ◌∙◌}
 use Rattle.std.proofs.Math.Nat.{one-le-pow}
 use Rattle.std.proofs.Math.Seq.{append_snoc}
 use Rattle.lists.specs.Bytes.{below_append, below_one}

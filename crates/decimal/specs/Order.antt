@@ -1,6 +1,8 @@
 -- Figures of one width order as their bytes do. Two scans that stand alike part at the first byte in which the fields differ, and the one
 -- that leads then leads to the end, since one digit more never makes up for a lower figure.
-use Rattle.lists.specs.Basics.{◌≡◌, refl, sym, ap, ap₂, ◌∙◌, ℕ, suc, ◌+◌, ◌-◌, ◌*◌, ◌≤◌, ◌<◌, eqb, ltb, Bool, true, false, List, [], ◌∷◌, length, arith}
+use Rattle.std.specs.Prelude.{◌≡◌, ◌+◌, ◌-◌, ◌*◌, ◌≤◌, ◌<◌, ◌∷◌}
+use Rattle.std.proofs.Common.{◌∙◌}
+use Rattle.lists.specs.Basics.{refl, sym, ap, ap₂, ℕ, suc, eqb, ltb, Bool, true, false, List, [], length, arith}
 use Rattle.lists.specs.Basics.{eqb-true, eqb-false, ltb-true, ltb-false, lt-ltb, le-ltb, less, choose_by}
 use Rattle.lists.specs.Order.{less_cons}
 use Rattle.decimal.specs.declared.Scan.{Scan}

@@ -1,5 +1,6 @@
 -- A fixed word in a field.
-use Rattle.lists.specs.Basics.{◌≡◌, ℕ, eqb, cond, List, length, eq-eqb}
+use Rattle.std.specs.Prelude.{◌≡◌}
+use Rattle.lists.specs.Basics.{ℕ, eqb, cond, List, length, eq-eqb}
 
 -- the word t written over s: only where it has the length of s
 unfoldable pub put_word : List ℕ → List ℕ → List ℕ

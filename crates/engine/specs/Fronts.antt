@@ -1,6 +1,8 @@
 -- A call is lent the lines of records, and the spares stay behind them: what it makes of the lines is what the call on both sheets makes of the record sheet. No call sees how
 -- many spares there are (call_laws Sizes), and none changes how many records (StandingKeys), but for adding and removing, which have a crate of their own.
-use Rattle.lists.specs.Basics.{◌≡◌, refl, sym, ap, subst, ◌∙◌, ℕ, ◌*◌, ◌/◌, ◌≤◌, false, List, ◌++◌, length, take, drop, arith}
+use Rattle.std.specs.Prelude.{◌≡◌, ◌*◌, ◌/◌, ◌≤◌, ◌++◌}
+use Rattle.std.proofs.Common.{◌∙◌}
+use Rattle.lists.specs.Basics.{refl, sym, ap, subst, ℕ, false, List, length, take, drop, arith}
 use Rattle.model.specs.Types.{Transaction}
 use Rattle.model.specs.Layouts.{record_bytes}
 use Rattle.model.specs.Records.{records}

@@ -1,5 +1,6 @@
 -- Issuing a number on any two sheets, and the begin that it is. A result of begin is refused, or a new transaction of the number given.
-use Rattle.lists.specs.Basics.{◌≡◌, ℕ, Bool, and-true, and-false, List, ne_eqb}
+use Rattle.std.specs.Prelude.{◌≡◌}
+use Rattle.lists.specs.Basics.{ℕ, Bool, and-true, and-false, List, ne_eqb}
 use Rattle.model.specs.SheetCalls.{check_conditions}
 use Rattle.model.specs.Writes.{Sheets}
 use Rattle.model.specs.Results.{Call, begin, Answer, Result, refused}

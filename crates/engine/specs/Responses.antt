@@ -1,5 +1,7 @@
 -- An operation on any two sheets that the check refuses.
-use Rattle.lists.specs.Basics.{◌≡◌, sym, ap, ◌∙◌, ℕ, List}
+use Rattle.std.specs.Prelude.{◌≡◌}
+use Rattle.std.proofs.Common.{◌∙◌}
+use Rattle.lists.specs.Basics.{sym, ap, ℕ, List}
 use Rattle.model.specs.Refusals.{refusal_of}
 use Rattle.model.specs.SheetCalls.{check_conditions}
 use Rattle.model.specs.Writes.{Sheets}

@@ -1,5 +1,7 @@
 -- What the companion of the close answers, as numbers: a refusal or 0, and the transaction.
-use Rattle.lists.specs.Basics.{◌≡◌, refl, sym, ◌∙◌, ℕ, ◌*◌, ◌≤◌, eqb, leb, true, false, not, ◌&&◌, List, [], ◌∷◌, length, arith, eqb-true, leb-true, eq-eqb, ne_eqb}
+use Rattle.std.specs.Prelude.{◌≡◌, ◌*◌, ◌≤◌, ◌&&◌, ◌∷◌}
+use Rattle.std.proofs.Common.{◌∙◌}
+use Rattle.lists.specs.Basics.{refl, sym, ℕ, eqb, leb, true, false, not, List, [], length, arith, eqb-true, leb-true, eq-eqb, ne_eqb}
 use Rattle.lists.specs.Basics.{not-false, and_snd, bytes, joined}
 use Rattle.model.specs.Types.{Transaction}
 use Rattle.model.specs.Layouts.{record_bytes, least_coordinator_bytes}

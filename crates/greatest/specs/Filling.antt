@@ -1,5 +1,7 @@
 -- The sheet filled line by line, and the transaction entry by entry.
-use Rattle.lists.specs.Basics.{◌≡◌, refl, sym, ap, ap₂, ◌∙◌, ℕ, suc, ◌+◌, ◌-◌, ◌*◌, ◌≤◌, ◌<◌, List, [], ◌∷◌, ◌++◌, append-nil, append_assoc, length, take, drop}
+use Rattle.std.specs.Prelude.{◌≡◌, ◌+◌, ◌-◌, ◌*◌, ◌≤◌, ◌<◌, ◌∷◌, ◌++◌}
+use Rattle.std.proofs.Common.{◌∙◌}
+use Rattle.lists.specs.Basics.{refl, sym, ap, ap₂, ℕ, suc, List, [], append-nil, append_assoc, length, take, drop}
 use Rattle.lists.specs.Basics.{length-append, length-take, take_at, take_all, arith, add-one, joined}
 use Rattle.lists.specs.Pieces.{over, over-part, length_over}
 use Rattle.model.specs.Types.{Record, Entry, Transaction}

@@ -1,6 +1,8 @@
 -- A group written entry by entry: each change is of the line of one key, and since no two entries have a key in common, one after another they make the map
 -- that the model applies. The new line is written over the old one at its index.
-use Rattle.lists.specs.Basics.{◌≡◌, refl, sym, ap, ap₂, ◌∙◌, ℕ, ◌*◌, ◌/◌, ◌≤◌, ◌<◌, ltb, Bool, true, false, ◌&&◌, ◌||◌, cond, List, [], ◌∷◌, map, length, take, drop}
+use Rattle.std.specs.Prelude.{◌≡◌, ◌*◌, ◌/◌, ◌≤◌, ◌<◌, ◌&&◌, ◌||◌, ◌∷◌}
+use Rattle.std.proofs.Common.{◌∙◌}
+use Rattle.lists.specs.Basics.{refl, sym, ap, ap₂, ℕ, ltb, Bool, true, false, cond, List, [], map, length, take, drop}
 use Rattle.lists.specs.Basics.{get_or, set, Option, none, some, arith, ltb-true, lt-ltb, le-ltb, all, any, choose_by, or_fst, or_snd}
 use Rattle.lists.specs.All.{map-map, map_equal, all_always}
 use Rattle.lists.specs.Pieces.{over, over-same}

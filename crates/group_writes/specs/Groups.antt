@@ -1,6 +1,8 @@
 -- The group at a transaction's place by the bytes of a coordinator sheet: its unit letters are the sheet's units, and a test of the group's entries is one
 -- of all the entries.
-use Rattle.lists.specs.Basics.{◌≡◌, refl, sym, ap, ◌∙◌, ℕ, Bool, true, false, not, ◌&&◌, ◌||◌, cond, List, [], ◌∷◌, all, filter}
+use Rattle.std.specs.Prelude.{◌≡◌, ◌&&◌, ◌||◌, ◌∷◌}
+use Rattle.std.proofs.Common.{◌∙◌}
+use Rattle.lists.specs.Basics.{refl, sym, ap, ℕ, Bool, true, false, not, cond, List, [], all, filter}
 use Rattle.model.specs.Types.{Entry, Transaction}
 use Rattle.model.specs.Coordinator.{coordinator_of}
 use Rattle.model.specs.Transactions.{held}

@@ -1,6 +1,8 @@
 -- What the writes of a step ask for follows from accepted bytes and a well-formed transaction: puts whose conditions hold may be written over their lines, and
 -- what a number has prepared may be rolled.
-use Rattle.lists.specs.Basics.{◌≡◌, refl, sym, subst, ◌∙◌, ℕ, ◌≤◌, Bool, true, false, ◌&&◌, List, length, take, drop, arith, all, and_fst, and_snd, choose_by, tests}
+use Rattle.std.specs.Prelude.{◌≡◌, ◌≤◌, ◌&&◌}
+use Rattle.std.proofs.Common.{◌∙◌}
+use Rattle.lists.specs.Basics.{refl, sym, subst, ℕ, Bool, true, false, List, length, take, drop, arith, all, and_fst, and_snd, choose_by, tests}
 use Rattle.lists.specs.All.{all-and, all_weaken}
 use Rattle.model.specs.Types.{Record, Entry, Transaction}
 use Rattle.model.specs.Records.{records, records_accepted, good_alone, key_in_range, has_line, line_of}

@@ -1,6 +1,8 @@
 -- The loop over a transaction's entries that changes the lines of its group: what is left to be done makes, on the sheet as it is now, what all of it makes
 -- on the sheet as it was. A turn changes the line of one key, which no later entry has.
-use Rattle.lists.specs.Basics.{◌≡◌, refl, sym, ap, ap₂, subst, ◌∙◌, ℕ, ◌+◌, ◌*◌, ◌/◌, ◌≤◌, ◌<◌, ltb, Bool, true, false, not, ◌&&◌, cond, true≢false, List, ◌∷◌}
+use Rattle.std.specs.Prelude.{◌≡◌, ◌+◌, ◌*◌, ◌/◌, ◌≤◌, ◌<◌, ◌&&◌, ◌∷◌}
+use Rattle.std.proofs.Common.{◌∙◌}
+use Rattle.lists.specs.Basics.{refl, sym, ap, ap₂, subst, ℕ, ltb, Bool, true, false, not, cond, true≢false, List}
 use Rattle.lists.specs.Basics.{map, length, get_or, not-true, all, filter, and_fst, and_snd, and_both}
 use mir.Val.{Val}
 use denote.Laws.{Is}

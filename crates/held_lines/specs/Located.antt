@@ -1,9 +1,10 @@
 -- What a call finds once about the entries of a transaction: the indices of their lines, and their groups. No write moves a key, so that indices hold after every
 -- write too.
-use Rattle.lists.specs.Basics.{◌≡◌, refl, sym, ap, ap₂, subst, ◌∙◌, ℕ, zero, suc, ◌+◌, ◌≤◌, ◌<◌, eqb, ltb, Bool, true, false, not, true≢false}
-use Rattle.lists.specs.Basics.{List, [], ◌∷◌, map, length, take, get_or, set, length-map, get_or-eq_default, length-take, length-set, get_or-take, arith, add-one, eqb-true, eqb-false}
+use Rattle.std.specs.Prelude.{◌≡◌, ◌+◌, ◌≤◌, ◌<◌, ◌∷◌}
+use Rattle.lists.specs.Basics.{refl, sym, ap, ap₂, subst, ℕ, zero, suc, eqb, ltb, Bool, true, false, not, true≢false}
+use Rattle.lists.specs.Basics.{List, [], map, length, take, get_or, set, length-map, get_or-eq_default, length-take, length-set, get_or-take, arith, add-one, eqb-true, eqb-false}
 use Rattle.lists.specs.Basics.{ltb-true, all}
-use Rattle.std.proofs.Common.{get_or-set_same, get_or-set_other}
+use Rattle.std.proofs.Common.{get_or-set_same, get_or-set_other, ◌∙◌}
 use mir.Val.{Val}
 use denote.Laws.{Is}
 use denote.Struct.Declared.{row}

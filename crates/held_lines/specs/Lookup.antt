@@ -1,5 +1,7 @@
 -- The condition of an entry by the two cases of what is found of its key.
-use Rattle.lists.specs.Basics.{◌≡◌, sym, ap, ◌∙◌, ℕ, Bool, true, false, not, ◌&&◌, ◌||◌, and-true, get_or}
+use Rattle.std.specs.Prelude.{◌≡◌, ◌&&◌, ◌||◌}
+use Rattle.std.proofs.Common.{◌∙◌}
+use Rattle.lists.specs.Basics.{sym, ap, ℕ, Bool, true, false, not, and-true, get_or}
 use Rattle.model.specs.Types.{Record, At, Nothing, Entry}
 use Rattle.model.specs.Records.{no_record, found, is_missing}
 use Rattle.model.specs.Groups.{is_lower}

@@ -1,12 +1,13 @@
 -- The pass over the tables of a layout says what the layout means. Parts are independent, since the first column of each is a fixed byte and so
 -- ignores the byte on its left. Within a figure two inductions follow the scan: one before the number, after a space, and one in it, after a
 -- digit. The bound on a figure is the blank first column: k columns hold what is below 10 ^ k, and a digit in the first one makes it more.
-use Rattle.lists.specs.Basics.{◌≡◌, refl, sym, ap, ap₂, ◌∙◌, ℕ, zero, suc, ◌+◌, ◌-◌, ◌*◌, ◌^◌, ◌≤◌, ◌<◌, eqb, leb, ltb, Bool, true, false, not, ◌&&◌, ◌||◌}
-use Rattle.lists.specs.Basics.{cond, true≢false, and_assoc, and-true, and-false, or-true, or-false, List, [], ◌∷◌, ◌++◌, map, length, take, drop, get_or}
+use Rattle.std.specs.Prelude.{◌≡◌, ◌+◌, ◌-◌, ◌*◌, ◌^◌, ◌≤◌, ◌<◌, ◌&&◌, ◌||◌, ◌∷◌, ◌++◌}
+use Rattle.lists.specs.Basics.{refl, sym, ap, ap₂, ℕ, zero, suc, eqb, leb, ltb, Bool, true, false, not}
+use Rattle.lists.specs.Basics.{cond, true≢false, and_assoc, and-true, and-false, or-true, or-false, List, [], map, length, take, drop, get_or}
 use Rattle.lists.specs.Basics.{length-map, length-append, length-take, length-drop, drop_of_length-le, drop-cons, arith, eqb-true, eqb-false, leb-true}
 use Rattle.lists.specs.Basics.{ltb-true, ltb-false, eq-eqb, ne_eqb, le-leb, lt-leb, lt-ltb, le-ltb, all, eq_list, and_fst, and_snd, and_both, same_test}
 use Rattle.lists.specs.Basics.{choose_by, tests}
-use Rattle.std.proofs.Common.{add-zero, mul-le-mul_right, pow-suc}
+use Rattle.std.proofs.Common.{add-zero, mul-le-mul_right, pow-suc, ◌∙◌}
 use Rattle.std.proofs.Math.Nat.{pow-le-pow_right}
 use Rattle.decimal.specs.Field.{is_digit, stepped, scanned, within, figure, is_number}
 use Rattle.decimal.specs.declared.Scan.TheVariants.{Blank, Number, Wrong}

@@ -1,9 +1,10 @@
 -- Bytes as one number of which the first weighs least, as a load takes them, and the turn to the number of which it weighs most: the lowest byte
 -- of the one is taken off as the other takes it in.
-use Rattle.lists.specs.Basics.{◌≡◌, refl, sym, ap₂, ◌∙◌, ℕ, zero, suc, ◌+◌, ◌-◌, ◌*◌, ◌/◌, ◌%◌, ◌^◌, ◌≤◌, ◌<◌, eqb, true, ◌&&◌, List, [], ◌∷◌, ◌++◌, length}
+use Rattle.std.specs.Prelude.{◌≡◌, ◌+◌, ◌-◌, ◌*◌, ◌/◌, ◌%◌, ◌^◌, ◌≤◌, ◌<◌, ◌&&◌, ◌∷◌, ◌++◌}
+use Rattle.lists.specs.Basics.{refl, sym, ap₂, ℕ, zero, suc, eqb, true, List, [], length}
 use Rattle.lists.specs.Basics.{drop, get_or, length-take, length-drop, drop-drop, drop-cons, take-add, arith, add-one, eqb-true, eq-eqb, eq_list, and_both}
 use Rattle.lists.specs.Basics.{same_test, tests}
-use Rattle.std.proofs.Common.{add_assoc, pow-suc}
+use Rattle.std.proofs.Common.{add_assoc, pow-suc, ◌∙◌}
 use Rattle.std.proofs.Math.Pow.{are_bytes}
 use Rattle.lists.specs.Bytes.{eq_list-append}
 use Rattle.line_bytes.specs.Order.{number_from, number_of, bytes_at, part_bytes, same_length}

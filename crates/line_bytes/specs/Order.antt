@@ -1,9 +1,10 @@
 -- The order of two texts by their bytes, and a text as one number. Equal lengths of bytes order as their numbers do, since one byte more takes
 -- both numbers times 256 and adds less than that: what was less stays less, and what was equal is decided by the byte.
-use Rattle.lists.specs.Basics.{◌≡◌, refl, sym, ◌∙◌, ℕ, zero, suc, ◌+◌, ◌*◌, ◌^◌, ◌≤◌, ◌<◌, eqb, ltb, Bool, true, false, ◌&&◌, ◌||◌, cond, and_assoc, and-true}
-use Rattle.lists.specs.Basics.{and-false, or-false, List, [], ◌∷◌, length, take, drop, get_or, length-take, length-drop, drop-drop, take-add, get_or-drop, arith}
+use Rattle.std.specs.Prelude.{◌≡◌, ◌+◌, ◌*◌, ◌^◌, ◌≤◌, ◌<◌, ◌&&◌, ◌||◌, ◌∷◌}
+use Rattle.lists.specs.Basics.{refl, sym, ℕ, zero, suc, eqb, ltb, Bool, true, false, cond, and_assoc, and-true}
+use Rattle.lists.specs.Basics.{and-false, or-false, List, [], length, take, drop, get_or, length-take, length-drop, drop-drop, take-add, get_or-drop, arith}
 use Rattle.lists.specs.Basics.{add-one, eqb-true, eqb-false, ltb-true, ltb-false, eq-eqb, ne_eqb, lt-ltb, le-ltb, less, eq_list, and_both, same_test, tests}
-use Rattle.std.proofs.Common.{pow-suc}
+use Rattle.std.proofs.Common.{pow-suc, ◌∙◌}
 use Rattle.std.proofs.Math.Nat.{pow-le-pow_right}
 use Rattle.std.proofs.Math.Pow.{are_bytes}
 use Rattle.lists.specs.Order.{decided, regroup, less-append}

@@ -1,5 +1,6 @@
 -- A line as a row of parts, each a fixed text or a figure: the plain meaning that the pass over tables is proved equal to.
-use Rattle.lists.specs.Basics.{ℕ, ◌-◌, ◌^◌, eqb, Bool, ◌&&◌, List, [], ◌∷◌, length, take, drop, eq_list}
+use Rattle.std.specs.Prelude.{◌-◌, ◌^◌, ◌&&◌, ◌∷◌}
+use Rattle.lists.specs.Basics.{ℕ, eqb, Bool, List, [], length, take, drop, eq_list}
 use Rattle.decimal.specs.Field.{figure, is_number}
 
 -- a fixed text, or a figure of at least `least` in `columns` columns of which the first is blank

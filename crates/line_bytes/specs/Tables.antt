@@ -1,5 +1,6 @@
 -- The tables by which one pass judges a line: each byte by the column where it stands and by the byte on its left.
-use Rattle.lists.specs.Basics.{ℕ, zero, suc, ◌+◌, ◌-◌, ◌<◌, eqb, leb, ltb, Bool, true, ◌&&◌, ◌||◌, cond, List, [], ◌∷◌, ◌++◌, map, length, drop, get_or}
+use Rattle.std.specs.Prelude.{◌+◌, ◌-◌, ◌<◌, ◌&&◌, ◌||◌, ◌∷◌, ◌++◌}
+use Rattle.lists.specs.Basics.{ℕ, zero, suc, eqb, leb, ltb, Bool, true, cond, List, [], map, length, drop, get_or}
 use Rattle.line_bytes.specs.Parts.{Part, text, number, width}
 
 abbrev pub bit : Bool → ℕ

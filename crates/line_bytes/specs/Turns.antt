@@ -1,5 +1,6 @@
 -- The pass as the code's loop takes it, byte after byte: what is left from byte i on is the judgement of that byte and what is left after it.
-use Rattle.lists.specs.Basics.{◌≡◌, ℕ, ◌+◌, ◌-◌, ◌≤◌, ◌<◌, Bool, true, ◌&&◌, and_assoc, and-true, List, [], ◌∷◌, length, drop, get_or, length-drop, drop-drop}
+use Rattle.std.specs.Prelude.{◌≡◌, ◌+◌, ◌-◌, ◌≤◌, ◌<◌, ◌&&◌, ◌∷◌}
+use Rattle.lists.specs.Basics.{ℕ, Bool, true, and_assoc, and-true, List, [], length, drop, get_or, length-drop, drop-drop}
 use Rattle.lists.specs.Basics.{drop-cons, get_or-drop, arith, add-one, tests}
 use Rattle.std.proofs.Common.{add-zero}
 use Rattle.line_bytes.specs.Tables.{judged_at, judged_line, rest, as_long}

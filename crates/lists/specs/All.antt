@@ -1,7 +1,8 @@
 -- Laws of `all`, `map` and `set` together, each by induction on the list.
-use Rattle.lists.specs.Kit.{◌≡◌, refl, sym, ap, ap₂, ◌∙◌, ℕ, zero, suc, ◌+◌, ◌*◌, ◌≤◌, ◌<◌, eqb, Bool, true, ◌&&◌, and_assoc, List, [], ◌∷◌, ◌++◌, map}
+use Rattle.std.specs.Prelude.{◌≡◌, ◌+◌, ◌*◌, ◌≤◌, ◌<◌, ◌&&◌, ◌∷◌, ◌++◌}
+use Rattle.lists.specs.Kit.{refl, sym, ap, ap₂, ℕ, zero, suc, eqb, Bool, true, and_assoc, List, [], map}
 use Rattle.lists.specs.Kit.{length, take, drop, get_or, set, length-take, length-drop, drop_of_length-le, drop-cons, arith, eq-eqb}
-use Rattle.std.proofs.Common.{suc-mul}
+use Rattle.std.proofs.Common.{suc-mul, ◌∙◌}
 use Rattle.lists.specs.Tests.{and_fst, and_snd, and_both}
 use Rattle.lists.specs.Each.{all, pieces, listed}
 use Rattle.lists.specs.Pieces.{AllOf}

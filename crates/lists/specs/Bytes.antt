@@ -1,5 +1,7 @@
 -- Text as a list of bytes, and equality of two lists of numbers as a test.
-use Rattle.lists.specs.Kit.{◌≡◌, refl, sym, ap, ap₂, ◌∙◌, ℕ, zero, suc, ◌<◌, eqb, Bool, true, false, ◌&&◌, true≢false, and_assoc, List, [], ◌∷◌, ◌++◌}
+use Rattle.std.specs.Prelude.{◌≡◌, ◌<◌, ◌&&◌, ◌∷◌, ◌++◌}
+use Rattle.std.proofs.Common.{◌∙◌}
+use Rattle.lists.specs.Kit.{refl, sym, ap, ap₂, ℕ, zero, suc, eqb, Bool, true, false, true≢false, and_assoc, List, []}
 use Rattle.lists.specs.Kit.{length, get_or, arith, eqb-true, eq-eqb}
 use Prim.Native.Char.{code}
 use Prim.Native.String as String

@@ -1,5 +1,7 @@
 -- Laws of `any`, `filter` and `count`: each by induction on the list, with the first element's test at hand.
-use Rattle.lists.specs.Kit.{◌≡◌, refl, sym, ap, ap₂, ◌∙◌, ℕ, zero, suc, ◌≤◌, ◌<◌, Bool, true, false, ◌&&◌, ◌||◌, cond, true≢false, List, [], ◌∷◌, map, length, get_or}
+use Rattle.std.specs.Prelude.{◌≡◌, ◌≤◌, ◌<◌, ◌&&◌, ◌||◌, ◌∷◌}
+use Rattle.std.proofs.Common.{◌∙◌}
+use Rattle.lists.specs.Kit.{refl, sym, ap, ap₂, ℕ, zero, suc, Bool, true, false, cond, true≢false, List, [], map, length, get_or}
 use Rattle.lists.specs.Kit.{arith}
 use Rattle.lists.specs.Bytes.{eq_list, eq_list-true}
 use Rattle.lists.specs.Tests.{and_fst, and_snd, and_both}

@@ -1,5 +1,6 @@
 -- Lists taken element by element: tests that all, some or so many pass, pieces of equal length, lists joined, lists in order.
-use Rattle.lists.specs.Kit.{ℕ, zero, suc, eqb, ltb, Bool, true, false, ◌&&◌, ◌||◌, cond, List, [], ◌∷◌, ◌++◌, take, drop, get_or}
+use Rattle.std.specs.Prelude.{◌&&◌, ◌||◌, ◌∷◌, ◌++◌}
+use Rattle.lists.specs.Kit.{ℕ, zero, suc, eqb, ltb, Bool, true, false, cond, List, [], take, drop, get_or}
 
 -- every element passes the test
 unfoldable pub all {ℓ} : {A : Type ℓ} → (A → Bool) → List A → Bool

@@ -1,9 +1,10 @@
 -- Filling a list piece by piece, w elements each, or one by one: those before i are there, and those from i on are still to come.
 -- Filling it in two parts, lent one after the other.
-use Rattle.lists.specs.Kit.{◌≡◌, refl, sym, ap, ap₂, ◌∙◌, ℕ, zero, suc, ◌+◌, ◌-◌, ◌*◌, ◌≤◌, ◌<◌, List, [], ◌∷◌, ◌++◌, append-nil, append_assoc, length}
+use Rattle.std.specs.Prelude.{◌≡◌, ◌+◌, ◌-◌, ◌*◌, ◌≤◌, ◌<◌, ◌∷◌, ◌++◌}
+use Rattle.lists.specs.Kit.{refl, sym, ap, ap₂, ℕ, zero, suc, List, [], append-nil, append_assoc, length}
 use Rattle.lists.specs.Kit.{take, drop, get_or, set, length-append, length-take, length-drop, length-set, drop_of_length-le, drop_at, take_at, take_all}
 use Rattle.lists.specs.Kit.{arith, add-one}
-use Rattle.std.proofs.Common.{suc-mul, zero-mul, take-suc-set}
+use Rattle.std.proofs.Common.{suc-mul, zero-mul, take-suc-set, ◌∙◌}
 use Rattle.std.proofs.Math.Seq.{append_snoc}
 use Rattle.lists.specs.Each.{joined}
 use Rattle.lists.specs.Pieces.{over, length_over}

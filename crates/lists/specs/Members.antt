@@ -1,5 +1,7 @@
 -- Membership in a list, as data: what tests, choices and indices say of the members. Each goes by induction on the membership.
-use Rattle.lists.specs.Kit.{◌≡◌, refl, sym, ◌∙◌, ℕ, zero, suc, ◌<◌, Bool, true, true≢false, List, [], ◌∷◌, ◌++◌, length, take, get_or, set, ◌⊎◌, inl, inr}
+use Rattle.std.specs.Prelude.{◌≡◌, ◌<◌, ◌∷◌, ◌++◌, ◌⊎◌}
+use Rattle.std.proofs.Common.{◌∙◌}
+use Rattle.lists.specs.Kit.{refl, sym, ℕ, zero, suc, Bool, true, true≢false, List, [], length, take, get_or, set, inl, inr}
 use Rattle.lists.specs.Kit.{arith}
 use Rattle.lists.specs.Tests.{and_fst, and_snd, choose_by}
 use Rattle.lists.specs.Each.{all, filter}

@@ -1,6 +1,8 @@
 -- Laws of the order of two lists of numbers.
-use Rattle.lists.specs.Kit.{◌≡◌, refl, sym, ap, ap₂, ◌∙◌, ℕ, zero, suc, ◌≤◌, ◌<◌, eqb, ltb, Bool, true, false, ◌&&◌, ◌||◌, cond, true≢false, List, []}
-use Rattle.lists.specs.Kit.{◌∷◌, ◌++◌, length, take, drop, get_or, arith, eqb-true, eqb-false, ltb-true, ltb-false, eq-eqb, ne_eqb, lt-ltb, le-ltb}
+use Rattle.std.specs.Prelude.{◌≡◌, ◌≤◌, ◌<◌, ◌&&◌, ◌||◌, ◌∷◌, ◌++◌}
+use Rattle.std.proofs.Common.{◌∙◌}
+use Rattle.lists.specs.Kit.{refl, sym, ap, ap₂, ℕ, zero, suc, eqb, ltb, Bool, true, false, cond, true≢false, List, []}
+use Rattle.lists.specs.Kit.{length, take, drop, get_or, arith, eqb-true, eqb-false, ltb-true, ltb-false, eq-eqb, ne_eqb, lt-ltb, le-ltb}
 use Rattle.lists.specs.Bytes.{eq_list}
 use Rattle.lists.specs.Each.{less}
 

@@ -1,9 +1,10 @@
 -- Laws of pieces: a list of n * w elements is its n pieces joined, and a piece is found and replaced by its index.
 -- Each goes by induction on the number of pieces.
-use Rattle.lists.specs.Kit.{◌≡◌, refl, sym, ap, ap₂, ◌∙◌, ℕ, zero, suc, ◌+◌, ◌-◌, ◌*◌, ◌≤◌, ◌<◌, List, [], ◌∷◌, ◌++◌, append_assoc, length, take, drop}
+use Rattle.std.specs.Prelude.{◌≡◌, ◌+◌, ◌-◌, ◌*◌, ◌≤◌, ◌<◌, ◌∷◌, ◌++◌}
+use Rattle.lists.specs.Kit.{refl, sym, ap, ap₂, ℕ, zero, suc, List, [], append_assoc, length, take, drop}
 use Rattle.lists.specs.Kit.{get_or, set, length-append, length-take, length-drop, drop-drop, drop_at, take_at, take-add, take-take, arith}
 use Rattle.std.proofs.Math.Nat.{suc-mul}
-use Rattle.std.proofs.Common.{zero-mul, zero-add, add_assoc, take-append-drop, length-take-le}
+use Rattle.std.proofs.Common.{zero-mul, zero-add, add_assoc, take-append-drop, length-take-le, ◌∙◌}
 use Rattle.std.proofs.Math.Seq.{take-nil}
 use Rattle.lists.specs.Each.{joined, pieces}
 

@@ -1,5 +1,7 @@
 -- Tests joined by `&&`, and choices by a test: each with the rules that a proof uses.
-use Rattle.lists.specs.Kit.{◌≡◌, refl, sym, ap, ◌∙◌, Bool, true, false, ◌&&◌, cond, true≢false, eqb-true, leb-true, ltb-true}
+use Rattle.std.specs.Prelude.{◌≡◌, ◌&&◌}
+use Rattle.std.proofs.Common.{◌∙◌}
+use Rattle.lists.specs.Kit.{refl, sym, ap, Bool, true, false, cond, true≢false, eqb-true, leb-true, ltb-true}
 
 -- the first of two tests that hold together
 pub and_fst : (a b : Bool) → (a && b) ≡ true → a ≡ true

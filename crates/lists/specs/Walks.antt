@@ -1,6 +1,8 @@
 -- A loop that goes through a list: f of the elements from i on is what was to be computed, w. Each turn takes the element at i off, and past the last
 -- nothing is left.
-use Rattle.lists.specs.Kit.{◌≡◌, refl, sym, ap, ap₂, ◌∙◌, ℕ, ◌+◌, ◌≤◌, ◌<◌, List, [], ◌∷◌, length, drop, get_or, drop_of_length-le, drop-cons, arith}
+use Rattle.std.specs.Prelude.{◌≡◌, ◌+◌, ◌≤◌, ◌<◌, ◌∷◌}
+use Rattle.std.proofs.Common.{◌∙◌}
+use Rattle.lists.specs.Kit.{refl, sym, ap, ap₂, ℕ, List, [], length, drop, get_or, drop_of_length-le, drop-cons, arith}
 use Rattle.lists.specs.Kit.{add-one}
 
 -- the element at i, by any name, and those after it

@@ -1,5 +1,6 @@
 -- A write in one unit, over bytes. Document 00, demand 2: a call "writes to at most one unit or the coordinator sheet".
-use Rattle.lists.specs.Basics.{◌≡◌, ℕ, List, [], ◌∷◌, ◌++◌, length}
+use Rattle.std.specs.Prelude.{◌≡◌, ◌∷◌, ◌++◌}
+use Rattle.lists.specs.Basics.{ℕ, List, [], length}
 use Rattle.model.specs.Types.{Key, At}
 use Rattle.model.specs.Layouts.{record_bytes}
 use Rattle.model.specs.Lines.{lines_of}

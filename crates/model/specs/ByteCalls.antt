@@ -1,5 +1,6 @@
 -- The calls on the bytes of two sheets: refusals 1 and 2 first, then the call on the decoded sheets, and what it writes encoded again.
-use Rattle.lists.specs.Basics.{ℕ, ◌/◌, List, ◌++◌, length}
+use Rattle.std.specs.Prelude.{◌/◌, ◌++◌}
+use Rattle.lists.specs.Basics.{ℕ, List, length}
 use Rattle.model.specs.Layouts.{record_bytes}
 use Rattle.model.specs.Records.{records, records_text}
 use Rattle.model.specs.Spares.{record_lines, sheet_for}

@@ -1,5 +1,6 @@
 -- Histories over the bytes of both sheets: the calls as an engine makes them. Demand 3 speaks of these.
-use Rattle.lists.specs.Basics.{◌≡◌, ℕ, List}
+use Rattle.std.specs.Prelude.{◌≡◌}
+use Rattle.lists.specs.Basics.{ℕ, List}
 use Rattle.model.specs.Refusals.{refusal_of}
 use Rattle.model.specs.SheetCalls.{readable_conditions, check_conditions}
 use Rattle.model.specs.Writes.{Sheets}

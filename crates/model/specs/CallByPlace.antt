@@ -1,6 +1,7 @@
 -- The calls by place: a client keeps its transactions as a lent list, and what is asked is asked of one of them there. Document 01, "Forms wanted at the
 -- bench", has the advance; the others go the same way.
-use Rattle.lists.specs.Basics.{ℕ, leb, ltb, Bool, false, not, ◌&&◌, List, [], ◌∷◌, ◌++◌, length, get_or, set}
+use Rattle.std.specs.Prelude.{◌&&◌, ◌∷◌, ◌++◌}
+use Rattle.lists.specs.Basics.{ℕ, leb, ltb, Bool, false, not, List, [], length, get_or, set}
 use Rattle.model.specs.Types.{Transaction, Request}
 use Rattle.model.specs.Refusals.{Condition, refuse}
 use Rattle.model.specs.SheetCalls.{check_conditions}

@@ -1,5 +1,6 @@
 -- The calls over decoded sheets: refused by the first condition that holds, or an answer and a write. Document 01, "Transaction".
-use Rattle.lists.specs.Basics.{ℕ, ◌+◌, Bool, not, ◌&&◌, cond, get_or, replicate}
+use Rattle.std.specs.Prelude.{◌+◌, ◌&&◌}
+use Rattle.lists.specs.Basics.{ℕ, Bool, not, cond, get_or, replicate}
 use Rattle.model.specs.Types.{Key, Image, Record, Columns, Entry, Transaction, Recovery}
 use Rattle.types.specs.declared.Reading.TheVariants.{Again, First}
 use Rattle.model.specs.Records.{line_of, by_found}

@@ -1,5 +1,6 @@
 -- Document 01's twelve cases, section d, as one table, and one theorem: each follows from the definitions by computation.
-use Rattle.lists.specs.Basics.{true, ◌≡◌, refl, ℕ, false, cond, List, [], ◌∷◌, ◌++◌, map, set, replicate, bytes}
+use Rattle.std.specs.Prelude.{◌≡◌, ◌∷◌, ◌++◌}
+use Rattle.lists.specs.Basics.{true, refl, ℕ, false, cond, List, [], map, set, replicate, bytes}
 use Rattle.model.specs.Types.{AtomicityUnit, Entry, Transaction}
 use Rattle.types.specs.declared.AtomicityUnit.TheVariants.{Partition, Namespace}
 use Rattle.model.specs.Lines.{text}

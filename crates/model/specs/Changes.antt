@@ -1,6 +1,7 @@
 -- What a call wrote, told from the bytes of both sheets before and after it, so that a client stores just that. Bytes alone are judged: the sheets need not
 -- be accepted.
-use Rattle.lists.specs.Basics.{◌≡◌, ℕ, zero, suc, ◌+◌, ◌-◌, ◌*◌, ◌/◌, ◌%◌, ◌^◌, ◌≤◌, ◌<◌, eqb, leb, Bool, not, cond, List, [], ◌∷◌, length, take, drop}
+use Rattle.std.specs.Prelude.{◌≡◌, ◌+◌, ◌-◌, ◌*◌, ◌/◌, ◌%◌, ◌^◌, ◌≤◌, ◌<◌, ◌∷◌}
+use Rattle.lists.specs.Basics.{ℕ, zero, suc, eqb, leb, Bool, not, cond, List, [], length, take, drop}
 use Rattle.lists.specs.Basics.{eq_list}
 use Rattle.lists.specs.Pieces.{over}
 use Rattle.model.specs.Types.{At}

@@ -1,6 +1,7 @@
 -- Clients that keep their transactions in lists and change these only by calls by place. What they do makes a history of turns, and a legal one whatever they
 -- do and in whatever order: crate `clients`. A client is known by its number.
-use Rattle.lists.specs.Basics.{◌≡◌, ℕ, ◌^◌, eqb, ltb, Bool, true, false, cond, List, [], ◌∷◌, ◌++◌, replicate}
+use Rattle.std.specs.Prelude.{◌≡◌, ◌^◌, ◌∷◌, ◌++◌}
+use Rattle.lists.specs.Basics.{ℕ, eqb, ltb, Bool, true, false, cond, List, [], replicate}
 use Rattle.model.specs.Types.{Key, Transaction, Request}
 use Rattle.types.specs.declared.Request.TheVariants as asked
 use Rattle.model.specs.Results.{begin, visit, add, remove}

@@ -1,5 +1,6 @@
 -- What is claimed of a close, over bytes. Document 02, note 1.
-use Rattle.lists.specs.Basics.{◌≡◌, ℕ, suc, ◌+◌, ◌⊎◌}
+use Rattle.std.specs.Prelude.{◌≡◌, ◌+◌, ◌⊎◌}
+use Rattle.lists.specs.Basics.{ℕ, suc}
 use Rattle.model.specs.Types.{Transaction}
 use Rattle.model.specs.Transactions.{done_phase}
 use Rattle.model.specs.Results.{advance, Answer, returned, report_in, answer_of}

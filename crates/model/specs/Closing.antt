@@ -1,6 +1,7 @@
 -- Closing an order in one call, over decoded sheets: steps one after another until it is done, or until the next would write beyond a limit. Document 02,
 -- note 1: "a call that advances a transaction to done, with nothing between, and reports how many atomic writes it made".
-use Rattle.lists.specs.Basics.{ℕ, zero, suc, ◌+◌, ◌-◌, eqb, Bool, true, false, not, ◌&&◌, ◌||◌, cond, List, [], ◌∷◌, ◌++◌, any}
+use Rattle.std.specs.Prelude.{◌+◌, ◌-◌, ◌&&◌, ◌||◌, ◌∷◌, ◌++◌}
+use Rattle.lists.specs.Basics.{ℕ, zero, suc, eqb, Bool, true, false, not, cond, List, [], any}
 use Rattle.model.specs.Types.{Decision, Transaction}
 use Rattle.model.specs.Refusals.{Condition, refuse}
 use Rattle.model.specs.Transactions.{by_phase, done_phase, is_empty}

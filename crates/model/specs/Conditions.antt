@@ -1,6 +1,7 @@
 -- Which refusals each call can give, in the order in which they are asked. Document 01, "Numbered refusals"; 1 and 2, of the sheets themselves,
 -- come before these (ByteCalls).
-use Rattle.lists.specs.Basics.{ℕ, eqb, leb, Bool, true, false, not, ◌&&◌, List, [], ◌∷◌, length, get_or}
+use Rattle.std.specs.Prelude.{◌&&◌, ◌∷◌}
+use Rattle.lists.specs.Basics.{ℕ, eqb, leb, Bool, true, false, not, List, [], length, get_or}
 use Rattle.model.specs.Types.{Key, Record, Decision, Entry, Transaction}
 use Rattle.model.specs.Records.{key_in_range, has_line, line_of, is_missing, by_found}
 use Rattle.model.specs.Coordinator.{Letter, decision}

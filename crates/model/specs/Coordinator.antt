@@ -1,5 +1,6 @@
 -- The coordinator sheet: numbers issued, units and decisions, and its rules. Document 01, "Coordinator sheet".
-use Rattle.lists.specs.Basics.{ℕ, zero, suc, ◌+◌, ◌-◌, eqb, leb, Bool, true, false, not, ◌&&◌, cond, List, [], ◌∷◌, ◌++◌, map, length, take, drop, get_or, set, all, joined}
+use Rattle.std.specs.Prelude.{◌+◌, ◌-◌, ◌&&◌, ◌∷◌, ◌++◌}
+use Rattle.lists.specs.Basics.{ℕ, zero, suc, eqb, leb, Bool, true, false, not, cond, List, [], map, length, take, drop, get_or, set, all, joined}
 use Rattle.model.specs.Types.{Record, Decision, Undecided, Committed, Aborted, AtomicityUnit}
 use Rattle.types.specs.declared.AtomicityUnit.TheVariants.{Record as RecordUnit, Partition, Table, Namespace, Storage}
 use Rattle.model.specs.Layouts.{head_layout, line_layout, decision_column, decision_field, coordinator_bytes, head_fields}

@@ -1,6 +1,7 @@
 -- The operations on a plain sheet and a bookkeeping sheet without spares, beside a coordinator sheet: refusals 1, 2 and 13 first, then the operation on what the joined sheet
 -- says. The functions that join both are lent the lines before the spares (TwoCalls has the sheets as they are).
-use Rattle.lists.specs.Basics.{◌≡◌, ℕ, List}
+use Rattle.std.specs.Prelude.{◌≡◌}
+use Rattle.lists.specs.Basics.{ℕ, List}
 use Rattle.model.specs.Records.{records_text}
 use Rattle.model.specs.Refusals.{Condition, refusal_of}
 use Rattle.model.specs.Writes.{Sheets}

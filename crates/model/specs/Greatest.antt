@@ -1,6 +1,7 @@
 -- The companion of the close. Document 02, note 1: "A companion gives, for each count of 1 to 8 puts, a transaction and sheets that reach the greatest count
 -- possible for it; any other count is refused with 3."
-use Rattle.lists.specs.Basics.{ℕ, zero, suc, ◌*◌, eqb, leb, true, false, not, ◌&&◌, cond, List, [], ◌∷◌, ◌++◌, length, replicate}
+use Rattle.std.specs.Prelude.{◌*◌, ◌&&◌, ◌∷◌, ◌++◌}
+use Rattle.lists.specs.Basics.{ℕ, zero, suc, eqb, leb, true, false, not, cond, List, [], length, replicate}
 use Rattle.model.specs.Types.{Key, Record, Undecided, Entry, Transaction}
 use Rattle.model.specs.Layouts.{record_bytes, least_coordinator_bytes}
 use Rattle.model.specs.Records.{no_image, absent_at, records_text}

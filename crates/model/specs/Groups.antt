@@ -1,5 +1,6 @@
 -- Atomicity units, and the groups of a transaction's puts. Document 01, "Atomicity units".
-use Rattle.lists.specs.Basics.{ℕ, zero, suc, eqb, Bool, false, cond, List, [], ◌∷◌, length, take, get_or, any, filter, count, less, eq_list}
+use Rattle.std.specs.Prelude.{◌∷◌}
+use Rattle.lists.specs.Basics.{ℕ, zero, suc, eqb, Bool, false, cond, List, [], length, take, get_or, any, filter, count, less, eq_list}
 use Rattle.model.specs.Types.{Key, AtomicityUnit, Entry}
 use Rattle.types.specs.declared.AtomicityUnit.TheVariants.{Record as RecordUnit, Partition, Table, Namespace, Storage}
 use Rattle.model.specs.Records.{key_numbers}

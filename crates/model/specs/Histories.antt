@@ -1,5 +1,6 @@
 -- Histories of calls, and which are legal. Document 01, "The cut-off rule". A crash falls between two calls, so that it needs no event of its own.
-use Rattle.lists.specs.Basics.{◌≡◌, ℕ, ◌^◌, ◌<◌, Bool, false, ◌||◌, List, [], ◌∷◌, Option, none, some, ◌⊎◌}
+use Rattle.std.specs.Prelude.{◌≡◌, ◌^◌, ◌<◌, ◌||◌, ◌∷◌, ◌⊎◌}
+use Rattle.lists.specs.Basics.{ℕ, Bool, false, List, [], Option, none, some}
 use Rattle.model.specs.Types.{Transaction}
 use Rattle.model.specs.Writes.{Sheets, Write, is_one_phase, apply}
 use Rattle.model.specs.Results.{Call, begin, read, second, put, advance, abort, visit, add, remove, Answer, turned_away, returned, answered, visited, reported}

@@ -1,5 +1,6 @@
 -- What becomes of one record: prepared, committed in one phase, rolled forward or back; and what a visit comes to. Document 01, "Transaction".
-use Rattle.lists.specs.Basics.{ℕ, ◌+◌, ◌-◌, ◌%◌, ◌^◌, eqb, leb, Bool, true, false, not, ◌&&◌, cond}
+use Rattle.std.specs.Prelude.{◌+◌, ◌-◌, ◌%◌, ◌^◌, ◌&&◌}
+use Rattle.lists.specs.Basics.{ℕ, eqb, leb, Bool, true, false, not, cond}
 use Rattle.model.specs.Types.{Image, Record, State, Before, Decision, Columns, Entry, Recovery, Stays, Forward, Back, Again, Busy}
 use Rattle.types.specs.declared.State.TheVariants.{Absent, Committed, Prepared}
 use Rattle.types.specs.declared.Before.TheVariants as Was

@@ -1,5 +1,6 @@
 -- The layout of every line, as data: widths, kinds and ranges of its fields, in the order of document 01's tables.
-use Rattle.lists.specs.Basics.{ℕ, zero, suc, ◌+◌, ◌-◌, ◌*◌, List, [], ◌∷◌, take, drop, get_or, bytes}
+use Rattle.std.specs.Prelude.{◌+◌, ◌-◌, ◌*◌, ◌∷◌}
+use Rattle.lists.specs.Basics.{ℕ, zero, suc, List, [], take, drop, get_or, bytes}
 use Rattle.model.specs.Types.{Layout, RecordLine, KeyLine, CoordinatorHead, CoordinatorLine, Column, Kind, Figure, StateWord, BeforeWord, DecisionWord, UnitLetter}
 
 -- bytes of a word

@@ -1,6 +1,7 @@
 -- Where learners go astray, as theorems. Document 01, "Where learners go astray"; the first, on grouping, is in the table of Cases.
 -- Each follows by the case of the definition that it is about.
-use Rattle.lists.specs.Basics.{◌≡◌, refl, ℕ, false, List, all}
+use Rattle.std.specs.Prelude.{◌≡◌}
+use Rattle.lists.specs.Basics.{refl, ℕ, false, List, all}
 use Rattle.lists.specs.All.{map_unmoved}
 use Rattle.model.specs.Types.{Key, Record, Transaction, Back, Again}
 use Rattle.model.specs.Images.{prepared_by}

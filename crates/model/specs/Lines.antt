@@ -1,6 +1,7 @@
 -- Fields, lines and sheets of lines, read and written by a layout: one codec for every kind of line.
 -- A line is read into a row of numbers, one for each field.
-use Rattle.lists.specs.Basics.{ℕ, suc, ◌-◌, ◌*◌, ◌/◌, eqb, leb, Bool, true, ◌&&◌, cond, List, [], ◌∷◌, ◌++◌, map, length, take, drop, get_or, all, joined, pieces}
+use Rattle.std.specs.Prelude.{◌-◌, ◌*◌, ◌/◌, ◌&&◌, ◌∷◌, ◌++◌}
+use Rattle.lists.specs.Basics.{ℕ, suc, eqb, leb, Bool, true, cond, List, [], map, length, take, drop, get_or, all, joined, pieces}
 use Rattle.lists.specs.Basics.{eq_list}
 use Rattle.decimal.specs.declared.Scan.{Scan}
 use Rattle.decimal.specs.declared.Scan.TheVariants.{Number, Wrong}

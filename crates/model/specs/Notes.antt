@@ -1,5 +1,6 @@
 -- Cases of document 02's requests as one table, and one theorem: each follows from the definitions by computation.
-use Rattle.lists.specs.Basics.{◌≡◌, refl, ℕ, Bool, true, false, List, [], ◌∷◌, ◌++◌, map, take, replicate, bytes}
+use Rattle.std.specs.Prelude.{◌≡◌, ◌∷◌, ◌++◌}
+use Rattle.lists.specs.Basics.{refl, ℕ, Bool, true, false, List, [], map, take, replicate, bytes}
 use Rattle.model.specs.Types.{Key, Ranked}
 use Rattle.model.specs.Lines.{text}
 use Rattle.model.specs.SheetCalls.{rank_on}

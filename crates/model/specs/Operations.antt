@@ -1,5 +1,6 @@
 -- What is asked of the engine on two sheets: a call, or a close, which may write several times. Over decoded sheets, and over bytes.
-use Rattle.lists.specs.Basics.{ℕ, eqb, Bool, true, false, cond, List, [], ◌∷◌, ◌++◌}
+use Rattle.std.specs.Prelude.{◌∷◌, ◌++◌}
+use Rattle.lists.specs.Basics.{ℕ, eqb, Bool, true, false, cond, List, []}
 use Rattle.model.specs.Types.{Transaction}
 use Rattle.model.specs.Records.{records_text}
 use Rattle.model.specs.Coordinator.{coordinator_text}

@@ -1,5 +1,6 @@
 -- The record sheet: a line as a record, and the rules that records keep. Document 01, "Record sheet".
-use Rattle.lists.specs.Basics.{ℕ, zero, suc, ◌+◌, ◌*◌, ◌/◌, eqb, leb, Bool, true, false, not, ◌&&◌, cond, List, [], ◌∷◌, ◌++◌, map, length, get_or, all}
+use Rattle.std.specs.Prelude.{◌+◌, ◌*◌, ◌/◌, ◌&&◌, ◌∷◌, ◌++◌}
+use Rattle.lists.specs.Basics.{ℕ, zero, suc, eqb, leb, Bool, true, false, not, cond, List, [], map, length, get_or, all}
 use Rattle.lists.specs.Basics.{count, joined, pieces, less, eq_list}
 use Rattle.model.specs.Types.{Key, Image, Record, State, Before, Rank, Found, At, Nothing}
 use Rattle.types.specs.declared.State.TheVariants.{Absent, Committed, Prepared}

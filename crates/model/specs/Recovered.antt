@@ -1,5 +1,6 @@
 -- What demand 3 claims, of sheets, a history of turns on them and visits that follow it.
-use Rattle.lists.specs.Basics.{◌≡◌, ℕ, ◌<◌, Bool, true, false, List, [], map, some, ◌⊎◌, any}
+use Rattle.std.specs.Prelude.{◌≡◌, ◌<◌, ◌⊎◌}
+use Rattle.lists.specs.Basics.{ℕ, Bool, true, false, List, [], map, some, any}
 use Rattle.model.specs.Types.{Key, Decision, Committed}
 use Rattle.model.specs.Records.{same_key, absent_at, keys_in}
 use Rattle.model.specs.Spares.{sheet_for}

@@ -1,6 +1,7 @@
 -- The recovery pass (document 01: closing visits) after a history: "once every line has then been visited at least twice with no other call,
 -- undecided ones at clock readings where they have expired".
-use Rattle.lists.specs.Basics.{◌≡◌, ℕ, ◌+◌, ◌%◌, ◌^◌, ◌≤◌, ◌<◌, Bool, true, not, ◌&&◌, ◌||◌, cond, List, [], ◌∷◌, all, any, count}
+use Rattle.std.specs.Prelude.{◌≡◌, ◌+◌, ◌%◌, ◌^◌, ◌≤◌, ◌<◌, ◌&&◌, ◌||◌, ◌∷◌}
+use Rattle.lists.specs.Basics.{ℕ, Bool, true, not, cond, List, [], all, any, count}
 use Rattle.model.specs.Types.{Key, Record}
 use Rattle.model.specs.Records.{same_key, line_of, has_line}
 use Rattle.model.specs.Coordinator.{is_undecided}

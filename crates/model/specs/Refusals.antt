@@ -1,5 +1,6 @@
 -- Numbered refusals: a call lists its conditions in the order in which they are asked, and the first that holds is the answer.
-use Rattle.lists.specs.Basics.{ℕ, suc, eqb, leb, Bool, not, ◌&&◌, ◌||◌, cond, List, [], ◌∷◌, all, any}
+use Rattle.std.specs.Prelude.{◌&&◌, ◌||◌, ◌∷◌}
+use Rattle.lists.specs.Basics.{ℕ, suc, eqb, leb, Bool, not, cond, List, [], all, any}
 
 -- a number of document 01's table, and whether its condition holds
 pub record Condition : Type 0 where

@@ -1,5 +1,6 @@
 -- The search of an element in a list. A key is looked up so among the lines of a sheet and among the entries of a transaction.
-use Rattle.lists.specs.Basics.{ℕ, suc, Bool, cond, List, [], ◌∷◌}
+use Rattle.std.specs.Prelude.{◌∷◌}
+use Rattle.lists.specs.Basics.{ℕ, suc, Bool, cond, List, []}
 use Rattle.model.specs.Types.{Found, At, Nothing}
 
 -- the index of the first element that passes the test, counted from i

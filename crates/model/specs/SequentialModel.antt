@@ -1,6 +1,7 @@
 -- The sequential model (document 01: the plain book): a line for each key and a write set (page) for each number. It is fed each call's arguments and
 -- its answer, and never sees the sheets.
-use Rattle.lists.specs.Basics.{ℕ, eqb, Bool, false, ◌&&◌, cond, List, [], ◌∷◌, Option, none, some, any}
+use Rattle.std.specs.Prelude.{◌&&◌, ◌∷◌}
+use Rattle.lists.specs.Basics.{ℕ, eqb, Bool, false, cond, List, [], Option, none, some, any}
 use Rattle.types.specs.declared.State.TheVariants.{Committed}
 use Rattle.types.specs.declared.Before.TheVariants as Was
 use Rattle.model.specs.Types.{Key, Record, Transaction}

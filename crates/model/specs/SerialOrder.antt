@@ -1,6 +1,7 @@
 -- What a checked transaction saw: the order in which the transactions of a history count, the serial run of the committed ones in that order, and what is
 -- claimed of both. Document 02, note 8.
-use Rattle.lists.specs.Basics.{◌≡◌, ℕ, eqb, leb, Bool, true, false, ◌&&◌, ◌||◌, cond, List, [], ◌∷◌, Option, none, some, count}
+use Rattle.std.specs.Prelude.{◌≡◌, ◌&&◌, ◌||◌, ◌∷◌}
+use Rattle.lists.specs.Basics.{ℕ, eqb, leb, Bool, true, false, cond, List, [], Option, none, some, count}
 use Rattle.lists.specs.Members.{Mem}
 use Rattle.model.specs.Types.{Key, Record, Columns, Transaction, Reading}
 use Rattle.types.specs.declared.Reading.TheVariants.{Absent, Value, Again, First}

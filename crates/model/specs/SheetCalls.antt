@@ -1,6 +1,7 @@
 -- The calls that take no transaction and no clock: the check, sheets to numbers and back, the look-up.
 -- For each, its conditions of refusal in order, and what it answers or leaves in the lent target.
-use Rattle.lists.specs.Basics.{ℕ, ◌+◌, ◌-◌, ◌*◌, ◌/◌, eqb, Bool, false, not, ◌&&◌, cond, List, [], ◌∷◌, ◌++◌, map, length, take, drop, replicate, all}
+use Rattle.std.specs.Prelude.{◌+◌, ◌-◌, ◌*◌, ◌/◌, ◌&&◌, ◌∷◌, ◌++◌}
+use Rattle.lists.specs.Basics.{ℕ, eqb, Bool, false, not, cond, List, [], map, length, take, drop, replicate, all}
 use Rattle.model.specs.Types.{Key, Record, Rank, Ranked, Found, At, Nothing}
 use Rattle.model.specs.Layouts.{record_bytes, coordinator_bytes, record_fields, head_fields}
 use Rattle.model.specs.Records.{records, records_text, record_of, rows, rows_accepted, all_numbers, key_in_range, found, is_missing, ranked}

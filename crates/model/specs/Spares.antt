@@ -1,6 +1,7 @@
 -- Spare lines at the end of a sheet. Document 02, note 6: "A sheet may end in spare lines, .. spaces and LF, counted in the 500, or be all spares", note 7: "a spare is 107 spaces and LF"; note 6: "On note 4's sheets a
 -- spare is spaces to each width". The lines before them are its front: a spare above a record line stands in the front, where it can't be read.
-use Rattle.lists.specs.Basics.{ℕ, suc, ◌-◌, ◌*◌, ◌/◌, eqb, leb, Bool, ◌&&◌, cond, List, [], ◌∷◌, ◌++◌, length, take, replicate, eq_list, joined}
+use Rattle.std.specs.Prelude.{◌-◌, ◌*◌, ◌/◌, ◌&&◌, ◌∷◌, ◌++◌}
+use Rattle.lists.specs.Basics.{ℕ, suc, eqb, leb, Bool, cond, List, [], length, take, replicate, eq_list, joined}
 use Rattle.model.specs.Types.{Record}
 use Rattle.model.specs.Layouts.{record_bytes}
 use Rattle.model.specs.Lines.{lines_of}

@@ -1,5 +1,6 @@
 -- The step table: what an advance does in each of the eight phases, whether or not it would be refused. Document 01, "Transaction".
-use Rattle.lists.specs.Basics.{ℕ, ◌+◌, eqb, ltb, Bool, not, ◌&&◌, ◌||◌, cond, List, map, length, get_or, all, any}
+use Rattle.std.specs.Prelude.{◌+◌, ◌&&◌, ◌||◌}
+use Rattle.lists.specs.Basics.{ℕ, eqb, ltb, Bool, not, cond, List, map, length, get_or, all, any}
 use Rattle.model.specs.Types.{Key, Committed, Aborted, Entry, Transaction}
 use Rattle.model.specs.Records.{has_line, line_of}
 use Rattle.model.specs.Coordinator.{Letter, decision}

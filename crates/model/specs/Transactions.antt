@@ -1,5 +1,6 @@
 -- A transaction as its client keeps it: names for its numbers, and the entries that it holds. Document 01, "Transaction".
-use Rattle.lists.specs.Basics.{ℕ, eqb, Bool, true, false, not, ◌&&◌, ◌||◌, cond, List, [], ◌∷◌, take, set, filter}
+use Rattle.std.specs.Prelude.{◌&&◌, ◌||◌, ◌∷◌}
+use Rattle.lists.specs.Basics.{ℕ, eqb, Bool, true, false, not, cond, List, [], take, set, filter}
 use Rattle.model.specs.Types.{Key, Image, Found, Columns, Entry, Transaction, Reading}
 use Rattle.types.specs.declared.Reading.TheVariants.{Absent, Value}
 use Rattle.model.specs.Search.{first_from}

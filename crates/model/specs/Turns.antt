@@ -1,7 +1,8 @@
 -- Turns of a history, over decoded sheets and over bytes: an operation, or one by place. Document 01, "The cut-off rule": "advance (by place too, taking and
 -- returning the one named)"; document 02, note 1: the cut-off rule "treats each write inside the call as a point where the station may stop, meaning the
 -- call with that limit", so that a crash falls between two turns.
-use Rattle.lists.specs.Basics.{ℕ, Bool, false, ◌||◌, cond, List, [], ◌∷◌, ◌++◌, length}
+use Rattle.std.specs.Prelude.{◌||◌, ◌∷◌, ◌++◌}
+use Rattle.lists.specs.Basics.{ℕ, Bool, false, cond, List, [], length}
 use Rattle.model.specs.Types.{Transaction, Request}
 use Rattle.model.specs.Writes.{Sheets}
 use Rattle.model.specs.Results.{Call, Answer, Response, answer_of}

@@ -1,6 +1,7 @@
 -- The operations on a plain sheet, a bookkeeping sheet and a coordinator sheet: refusals 1, 2 and 13 first, then the operation on what the joined sheet says. Document 02,
 -- note 4: "each operation on the two sheets gives the answer of the joined sheet, and the sheets after it join to what that sheet would be".
-use Rattle.lists.specs.Basics.{◌≡◌, ℕ, ◌-◌, List, ◌++◌, length}
+use Rattle.std.specs.Prelude.{◌≡◌, ◌-◌, ◌++◌}
+use Rattle.lists.specs.Basics.{ℕ, List, length}
 use Rattle.model.specs.Types.{Transaction, Request}
 use Rattle.model.specs.Records.{records_text}
 use Rattle.model.specs.Spares.{spares_text}

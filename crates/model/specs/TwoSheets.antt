@@ -1,6 +1,7 @@
 -- The plain sheet and the bookkeeping sheet, joined and apart. Document 02, note 4: "Some saddlers' fitting sheets may not be widened. Add a plain sheet with key,
 -- column 1 and column 2, and a bookkeeping sheet with key and the remaining fields, as in source document 000's decoupling."
-use Rattle.lists.specs.Basics.{ℕ, ◌+◌, ◌*◌, Bool, true, false, ◌&&◌, not, List, [], ◌∷◌, ◌++◌, map, take, drop, get_or, all, joined}
+use Rattle.std.specs.Prelude.{◌+◌, ◌*◌, ◌&&◌, ◌∷◌, ◌++◌}
+use Rattle.lists.specs.Basics.{ℕ, Bool, true, false, not, List, [], map, take, drop, get_or, all, joined}
 use Rattle.types.specs.declared.State.TheVariants.{Committed}
 use Rattle.types.specs.declared.Before.TheVariants as Was
 use Rattle.model.specs.Types.{Key, Column, Record, Ranked, Found, At, Nothing}

@@ -1,6 +1,7 @@
 -- A plain sheet and a bookkeeping sheet that may end in spares, joined by their lines before these. Document 02, note 6: "On note 4's sheets a spare is spaces to each width,
 -- and a spare on one beside a record line on the other is 13."
-use Rattle.lists.specs.Basics.{ℕ, ◌/◌, eqb, Bool, not, ◌&&◌, cond, List, [], ◌∷◌, ◌++◌, length}
+use Rattle.std.specs.Prelude.{◌/◌, ◌&&◌, ◌∷◌, ◌++◌}
+use Rattle.lists.specs.Basics.{ℕ, eqb, Bool, not, cond, List, [], length}
 use Rattle.model.specs.Types.{Key, Ranked, Found}
 use Rattle.model.specs.Records.{records, records_accepted, key_in_range, found, is_missing, ranked}
 use Rattle.model.specs.Spares.{front, sized}

@@ -1,5 +1,6 @@
 -- The visiting program, from its whole input to its whole output. Document 01, "The visiting program".
-use Rattle.lists.specs.Basics.{ℕ, ◌+◌, ◌*◌, eqb, Bool, not, ◌&&◌, cond, List, [], ◌∷◌, ◌++◌, length, take, drop, get_or, bytes}
+use Rattle.std.specs.Prelude.{◌+◌, ◌*◌, ◌&&◌, ◌∷◌, ◌++◌}
+use Rattle.lists.specs.Basics.{ℕ, eqb, Bool, not, cond, List, [], length, take, drop, get_or, bytes}
 use Rattle.decimal.specs.Field.{field_text}
 use Rattle.model.specs.Types.{Key, Column}
 use Rattle.model.specs.Layouts.{figures, record_bytes, coordinator_bytes}

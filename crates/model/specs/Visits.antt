@@ -1,5 +1,6 @@
 -- Meeting a line: what a visit of its key comes to, makes of the line and writes. Document 01, "Visit".
-use Rattle.lists.specs.Basics.{ℕ, Bool, true, false, not, ◌||◌, List, [], ◌∷◌, all}
+use Rattle.std.specs.Prelude.{◌||◌, ◌∷◌}
+use Rattle.lists.specs.Basics.{ℕ, Bool, true, false, not, List, [], all}
 use Rattle.model.specs.Types.{Record, Decision, Aborted, Recovery}
 use Rattle.model.specs.Coordinator.{Coordinator, decision}
 use Rattle.model.specs.Images.{prepared_by, rolled_forward, rolled_back, line_expired, recovery, by_recovery}

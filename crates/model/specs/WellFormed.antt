@@ -1,5 +1,6 @@
 -- Well-formed transactions (refusal 3): a line for each clause of document 01, "Transaction". Where it leaves room, docs/DECISIONS.md says what was decided.
-use Rattle.lists.specs.Basics.{ℕ, eqb, leb, ltb, Bool, true, false, not, ◌&&◌, ◌||◌, cond, List, [], ◌∷◌, length, all, any}
+use Rattle.std.specs.Prelude.{◌&&◌, ◌||◌, ◌∷◌}
+use Rattle.lists.specs.Basics.{ℕ, eqb, leb, ltb, Bool, true, false, not, cond, List, [], length, all, any}
 use Rattle.model.specs.Types.{Image, Columns, Entry, Transaction}
 use Rattle.model.specs.Layouts.{image_layout, columns_layout}
 use Rattle.model.specs.Lines.{row_good}

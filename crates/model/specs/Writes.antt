@@ -1,5 +1,6 @@
 -- What a call writes, as data: the lines of one group, a line put in or taken out, the coordinator sheet, or nothing. Only `apply` changes sheets.
-use Rattle.lists.specs.Basics.{ℕ, ◌+◌, eqb, leb, Bool, false, ◌&&◌, cond, List, [], ◌∷◌, map, length, Option, none, some, all, any}
+use Rattle.std.specs.Prelude.{◌+◌, ◌&&◌, ◌∷◌}
+use Rattle.lists.specs.Basics.{ℕ, eqb, leb, Bool, false, cond, List, [], map, length, Option, none, some, all, any}
 use Rattle.model.specs.Types.{Key, Record, Decision, Entry}
 use Rattle.model.specs.Records.{key_less, same_key, absent_at, records_good}
 use Rattle.model.specs.Coordinator.{Coordinator, coordinator_good, names_issued, with_decision, with_issued}

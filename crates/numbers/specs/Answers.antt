@@ -1,5 +1,7 @@
 -- What each call answers, case by case in the order of its conditions.
-use Rattle.lists.specs.Basics.{◌≡◌, refl, ap, ◌∙◌, ℕ, ◌-◌, ◌*◌, ◌/◌, true, false, List, ◌++◌, length, replicate, eq-eqb, ne_eqb, and_fst, and_snd}
+use Rattle.std.specs.Prelude.{◌≡◌, ◌-◌, ◌*◌, ◌/◌, ◌++◌}
+use Rattle.std.proofs.Common.{◌∙◌}
+use Rattle.lists.specs.Basics.{refl, ap, ℕ, true, false, List, length, replicate, eq-eqb, ne_eqb, and_fst, and_snd}
 use Rattle.model.specs.Layouts.{record_bytes, record_fields}
 use Rattle.model.specs.Records.{records_accepted, rows_accepted}
 use Rattle.model.specs.Spares.{filled_lines, spares_text, sized, record_lines, sheet_accepted}

@@ -1,6 +1,8 @@
 -- What the two calls on a coordinator's numbers answer, case by case in the order of their conditions. Where none holds, the head and
 -- the lines say the numbers of the coordinator, part by part.
-use Rattle.lists.specs.Basics.{◌≡◌, refl, sym, ap, ap₂, ◌∙◌, ℕ, suc, ◌+◌, ◌*◌, ◌/◌, ◌≤◌, eqb, true, false, List, [], ◌∷◌, ◌++◌, map, length, take, drop, get_or}
+use Rattle.std.specs.Prelude.{◌≡◌, ◌+◌, ◌*◌, ◌/◌, ◌≤◌, ◌∷◌, ◌++◌}
+use Rattle.std.proofs.Common.{◌∙◌}
+use Rattle.lists.specs.Basics.{refl, sym, ap, ap₂, ℕ, suc, eqb, true, false, List, [], map, length, take, drop, get_or}
 use Rattle.lists.specs.Basics.{length-map, length-take, arith, eq-eqb, ne_eqb, all, joined, and_fst, and_snd, tests}
 use Rattle.lists.specs.All.{map-map, map_equal}
 use Rattle.model.specs.Layouts.{head_layout, line_layout, decision_column, figures, coordinator_bytes, head_fields}

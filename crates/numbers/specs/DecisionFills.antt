@@ -1,6 +1,8 @@
 -- Filling with decisions: number by number from the lines of a sheet, and line by line from the numbers.
 -- Each loop stores element i of a list that is known beforehand.
-use Rattle.lists.specs.Basics.{◌≡◌, refl, sym, ap, ◌∙◌, ℕ, zero, suc, ◌+◌, ◌-◌, ◌*◌, ◌/◌, ◌≤◌, ◌<◌, List, [], ◌∷◌, ◌++◌, map, length, take, drop, get_or, set}
+use Rattle.std.specs.Prelude.{◌≡◌, ◌+◌, ◌-◌, ◌*◌, ◌/◌, ◌≤◌, ◌<◌, ◌∷◌, ◌++◌}
+use Rattle.std.proofs.Common.{◌∙◌}
+use Rattle.lists.specs.Basics.{refl, sym, ap, ℕ, zero, suc, List, [], map, length, take, drop, get_or, set}
 use Rattle.lists.specs.Basics.{length-map, get_or-map, arith, joined}
 use Rattle.lists.specs.All.{get_or_any}
 use Rattle.lists.specs.Pieces.{over-part, length-pieces, get_or-pieces}

@@ -1,7 +1,9 @@
 -- A coordinator as numbers, judged decision by decision: below the issued count any of the three, from it on none.
 -- The two tests of the rules, range and no decision, are one pass, by induction on the decisions.
-use Rattle.lists.specs.Basics.{◌≡◌, refl, sym, ap, ap₂, ◌∙◌, ℕ, zero, suc, ◌+◌, ◌-◌, ◌*◌, ◌/◌, ◌%◌, ◌≤◌, ◌<◌, eqb, leb, Bool, true, false, ◌&&◌, and_assoc}
-use Rattle.lists.specs.Basics.{and-true, and-false, List, [], ◌∷◌, map, length, take, drop, get_or, length-map, length-take, length-drop, arith, eqb-true, leb-true, eq-eqb}
+use Rattle.std.specs.Prelude.{◌≡◌, ◌+◌, ◌-◌, ◌*◌, ◌/◌, ◌%◌, ◌≤◌, ◌<◌, ◌&&◌, ◌∷◌}
+use Rattle.std.proofs.Common.{◌∙◌}
+use Rattle.lists.specs.Basics.{refl, sym, ap, ap₂, ℕ, zero, suc, eqb, leb, Bool, true, false, and_assoc}
+use Rattle.lists.specs.Basics.{and-true, and-false, List, [], map, length, take, drop, get_or, length-map, length-take, length-drop, arith, eqb-true, leb-true, eq-eqb}
 use Rattle.lists.specs.Basics.{ne_eqb, le-leb, lt-leb, all, same_test}
 use Rattle.std.proofs.Math.Dec.{leb-zero}
 use Rattle.lists.specs.Tests.{and_swap}

@@ -1,5 +1,7 @@
 -- Filling a target line by line: what the code lends for line i, and what it leaves there.
-use Rattle.lists.specs.Basics.{◌≡◌, sym, ap, ◌∙◌, ℕ, ◌+◌, ◌-◌, ◌*◌, ◌≤◌, ◌<◌, List, [], ◌++◌, map, length, take, drop, get_or, length-map, get_or-map, arith}
+use Rattle.std.specs.Prelude.{◌≡◌, ◌+◌, ◌-◌, ◌*◌, ◌≤◌, ◌<◌, ◌++◌}
+use Rattle.std.proofs.Common.{◌∙◌}
+use Rattle.lists.specs.Basics.{sym, ap, ℕ, List, [], map, length, take, drop, get_or, length-map, get_or-map, arith}
 use Rattle.lists.specs.Basics.{joined, pieces}
 use Rattle.lists.specs.All.{get_or_any}
 use Rattle.lists.specs.Pieces.{over-part, length-pieces, get_or-pieces}

@@ -1,8 +1,9 @@
 -- Spares behind records: where they begin, counted row by row from the end, and what stands in a target with the records filled first and the spares behind them.
-use Rattle.lists.specs.Basics.{ℕ, zero, suc, ◌+◌, ◌-◌, ◌*◌, ◌/◌, ◌≤◌, ◌<◌, ◌≡◌, refl, sym, ap, ap₂, ◌∙◌, eqb, true, false, ◌&&◌, List, [], ◌∷◌, ◌++◌, map}
+use Rattle.std.specs.Prelude.{◌+◌, ◌-◌, ◌*◌, ◌/◌, ◌≤◌, ◌<◌, ◌≡◌, ◌&&◌, ◌∷◌, ◌++◌}
+use Rattle.lists.specs.Basics.{ℕ, zero, suc, refl, sym, ap, ap₂, eqb, true, false, List, [], map}
 use Rattle.lists.specs.Basics.{length, take, drop, get_or, set, replicate, length-take, length-drop, ne_eqb, eq-eqb, take_all, arith, all, joined}
 use Rattle.std.proofs.lemmas.List.{length-replicate, get_or-replicate}
-use Rattle.std.proofs.Common.{take-suc, length-take-le}
+use Rattle.std.proofs.Common.{take-suc, length-take-le, ◌∙◌}
 use Rattle.lists.specs.Pieces.{over-part, length-pieces, get_or-pieces}
 use Rattle.lists.specs.Walks.{LeftFrom, left_here, left_last}
 use Rattle.lists.specs.Fill.{FilledTo, fill_first, fill_next, fill_last, StoredTo, store_next, front_length, front_rest, front_back}

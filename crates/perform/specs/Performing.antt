@@ -1,6 +1,8 @@
 -- What a call answers, put as the one function for every call answers it. A result is refused or what the call comes to, and each call comes to one
 -- kind of answer.
-use Rattle.lists.specs.Basics.{◌≡◌, refl, sym, ap, subst, ◌∙◌, ℕ, Bool, and-true, and-false, List, ne_eqb}
+use Rattle.std.specs.Prelude.{◌≡◌}
+use Rattle.std.proofs.Common.{◌∙◌}
+use Rattle.lists.specs.Basics.{refl, sym, ap, subst, ℕ, Bool, and-true, and-false, List, ne_eqb}
 use Rattle.model.specs.Types.{Key, Columns, Transaction, Request}
 use Rattle.types.specs.declared.Request.TheVariants as asked
 use Rattle.model.specs.Writes.{Sheets, nothing, apply}

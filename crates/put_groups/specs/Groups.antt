@@ -1,5 +1,7 @@
 -- Scopes compared by the fields of their keys, and groups counted one by one: a group counts at the last put of its scope.
-use Rattle.lists.specs.Basics.{◌≡◌, refl, sym, ap, ◌∙◌, ℕ, suc, ◌-◌, eqb, ltb, Bool, true, false, not, ◌&&◌, ◌||◌, cond, or-false, List, [], ◌∷◌, take}
+use Rattle.std.specs.Prelude.{◌≡◌, ◌-◌, ◌&&◌, ◌||◌, ◌∷◌}
+use Rattle.std.proofs.Common.{◌∙◌}
+use Rattle.lists.specs.Basics.{refl, sym, ap, ℕ, suc, eqb, ltb, Bool, true, false, not, cond, or-false, List, [], take}
 use Rattle.lists.specs.Basics.{eqb-true, any, filter, count, less, eq_list, eq_list-true}
 use Rattle.model.specs.Types.{Key, AtomicityUnit, Entry, Transaction}
 use Rattle.types.specs.declared.AtomicityUnit.TheVariants.{Record as RecordUnit, Partition, Table, Namespace, Storage}

@@ -1,6 +1,8 @@
 -- The groups that are found by flat numbers are those of the definitions: entry by entry, the last put of each scope stands for it.
-use Rattle.lists.specs.Basics.{◌≡◌, refl, sym, ap, ap₂, ◌∙◌, ℕ, suc, ◌≤◌, ◌<◌, eqb, ltb, Bool, true, false, not, ◌&&◌, ◌||◌, cond, and-true, List, [], ◌∷◌}
-use Rattle.lists.specs.Basics.{◌++◌, map, length, take, drop, get_or, length-take, arith, ne_eqb, lt-ltb, le-ltb, any, joined, less, choose_by}
+use Rattle.std.specs.Prelude.{◌≡◌, ◌≤◌, ◌<◌, ◌&&◌, ◌||◌, ◌∷◌, ◌++◌}
+use Rattle.std.proofs.Common.{◌∙◌}
+use Rattle.lists.specs.Basics.{refl, sym, ap, ap₂, ℕ, suc, eqb, ltb, Bool, true, false, not, cond, and-true, List, []}
+use Rattle.lists.specs.Basics.{map, length, take, drop, get_or, length-take, arith, ne_eqb, lt-ltb, le-ltb, any, joined, less, choose_by}
 use Rattle.std.proofs.Math.ListN.{get_or-append}
 use Rattle.lists.specs.Chosen.{count-all}
 use Rattle.model.specs.Types.{Key, Entry, Transaction}

@@ -1,5 +1,7 @@
 -- The first n of five numbers compared, one after another: by the cases of n. The five with which a list begins.
-use Rattle.lists.specs.Basics.{◌≡◌, refl, sym, ap, ◌∙◌, ℕ, zero, suc, ◌≤◌, eqb, ltb, Bool, ◌&&◌, ◌||◌, and-true, and-false, or-false, List, [], ◌∷◌, length}
+use Rattle.std.specs.Prelude.{◌≡◌, ◌≤◌, ◌&&◌, ◌||◌, ◌∷◌}
+use Rattle.std.proofs.Common.{◌∙◌}
+use Rattle.lists.specs.Basics.{refl, sym, ap, ℕ, zero, suc, eqb, ltb, Bool, and-true, and-false, or-false, List, [], length}
 use Rattle.lists.specs.Basics.{take, get_or, set, arith, lt-ltb, le-ltb, less, eq_list}
 use Rattle.std.proofs.Math.Seq.{take-nil}
 

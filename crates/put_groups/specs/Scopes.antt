@@ -1,5 +1,7 @@
 -- The scopes of a transaction's puts by flat numbers: keys, five to an entry, and how many fields of its key make each entry's scope, 0 without a put.
-use Rattle.lists.specs.Basics.{◌≡◌, refl, sym, ap, ◌∙◌, ℕ, zero, suc, ◌+◌, ◌-◌, ◌*◌, ◌≤◌, ◌<◌, ltb, Bool, true, false, ◌&&◌, ◌||◌, cond, List, [], ◌∷◌, ◌++◌}
+use Rattle.std.specs.Prelude.{◌≡◌, ◌+◌, ◌-◌, ◌*◌, ◌≤◌, ◌<◌, ◌&&◌, ◌||◌, ◌∷◌, ◌++◌}
+use Rattle.std.proofs.Common.{◌∙◌}
+use Rattle.lists.specs.Basics.{refl, sym, ap, ℕ, zero, suc, ltb, Bool, true, false, cond, List, []}
 use Rattle.lists.specs.Basics.{map, length, take, drop, get_or, set, length-map, drop_of_length-le, drop-drop, take_at, get_or-drop, arith, joined, less, eq_list}
 use Rattle.lists.specs.Fill.{FilledTo, fill_first, fill_next, fill_last, StoredTo, store_first, store_next, store_last}
 use Rattle.lists.specs.Pieces.{over-part}

@@ -1,5 +1,6 @@
 -- How many fields of a key are compared where no letter of a unit above the storage is met: by the tests of `unit_in` in turn.
-use Rattle.lists.specs.Basics.{◌≡◌, ℕ, ne_eqb}
+use Rattle.std.specs.Prelude.{◌≡◌}
+use Rattle.lists.specs.Basics.{ℕ, ne_eqb}
 use Rattle.model.specs.Groups.{unit_fields}
 use Rattle.transactions.specs.Units.{unit_in}
 

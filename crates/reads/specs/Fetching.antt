@@ -1,5 +1,7 @@
 -- Read, either call, case by case in the order of its conditions: a held key, and a new one by the case of its letter and by what the visit of its line comes to.
-use Rattle.lists.specs.Basics.{◌≡◌, refl, sym, ap, ap₂, subst, ◌∙◌, ℕ, ◌≤◌, ◌<◌, leb, Bool, true, false, not, ◌&&◌, List, [], ◌∷◌, ◌++◌, length, take, drop, arith, le-leb, lt-leb, all}
+use Rattle.std.specs.Prelude.{◌≡◌, ◌≤◌, ◌<◌, ◌&&◌, ◌∷◌, ◌++◌}
+use Rattle.std.proofs.Common.{◌∙◌}
+use Rattle.lists.specs.Basics.{refl, sym, ap, ap₂, subst, ℕ, leb, Bool, true, false, not, List, [], length, take, drop, arith, le-leb, lt-leb, all}
 use Rattle.lists.specs.Basics.{cond}
 use Rattle.model.specs.Types.{Key, Image, Record, At, Nothing, Columns, Entry, Transaction, Recovery, Stays, Forward, Back, Again, Busy}
 use Rattle.types.specs.declared.Reading.TheVariants.{Again as Read-again, First as Read-first}

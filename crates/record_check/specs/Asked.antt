@@ -1,6 +1,8 @@
 -- What a kind of line asks for besides its limits: relations between two fields, by the bytes of a line and by its numbers. A figure is 0 where its last two
 -- columns are ` 0`, since no other figure ends so.
-use Rattle.lists.specs.Basics.{◌≡◌, refl, sym, ap, ap₂, ◌∙◌, ℕ, ◌+◌, ◌-◌, ◌/◌, ◌%◌, ◌<◌, eqb, leb, Bool, true, false, ◌&&◌, cond, List, [], ◌∷◌, length, take}
+use Rattle.std.specs.Prelude.{◌≡◌, ◌+◌, ◌-◌, ◌/◌, ◌%◌, ◌<◌, ◌&&◌, ◌∷◌}
+use Rattle.std.proofs.Common.{◌∙◌}
+use Rattle.lists.specs.Basics.{refl, sym, ap, ap₂, ℕ, eqb, leb, Bool, true, false, cond, List, [], length, take}
 use Rattle.lists.specs.Basics.{drop, get_or, length-take, length-drop, drop-drop, arith, eqb-true, eqb-false, eq-eqb, le-leb, all, eq_list, bytes, same_test, choose_by}
 use Rattle.lists.specs.Basics.{tests}
 use Rattle.std.specs.Bool.{beq}

@@ -1,6 +1,8 @@
 -- Keys compared as bytes. The first fields of two lines order as their bytes do, field by field: a field decides as its figure does, and equal
 -- figures have equal bytes.
-use Rattle.lists.specs.Basics.{◌≡◌, refl, ap₂, subst, ◌∙◌, ℕ, zero, suc, ◌+◌, eqb, true, ◌&&◌, ◌||◌, List, [], ◌∷◌, length, take, drop, length-take, take-add}
+use Rattle.std.specs.Prelude.{◌≡◌, ◌+◌, ◌&&◌, ◌||◌, ◌∷◌}
+use Rattle.std.proofs.Common.{◌∙◌}
+use Rattle.lists.specs.Basics.{refl, ap₂, subst, ℕ, zero, suc, eqb, true, List, [], length, take, drop, length-take, take-add}
 use Rattle.lists.specs.Basics.{arith, eqb-true, eq-eqb, all, less, eq_list, eq_list-true, eq_list_refl, and_fst, and_snd, same_test}
 use Rattle.lists.specs.Order.{less-append}
 use Rattle.decimal.specs.declared.Scan.TheVariants.{Blank, Number}

@@ -1,6 +1,8 @@
 -- The parts of a layout, and what they say of a line: it is read by the widest ranges, and its numbers are held to the layout's. A part is a text or
 -- a figure. A text is the bytes of one number, by the round trip of its column; a figure is read by the widest range in either case.
-use Rattle.lists.specs.Basics.{◌≡◌, refl, sym, ap, subst, ◌∙◌, ℕ, ◌-◌, ◌≤◌, eqb, leb, Bool, true, false, ◌&&◌, cond, true≢false, and-true, List, [], ◌∷◌}
+use Rattle.std.specs.Prelude.{◌≡◌, ◌-◌, ◌≤◌, ◌&&◌, ◌∷◌}
+use Rattle.std.proofs.Common.{◌∙◌}
+use Rattle.lists.specs.Basics.{refl, sym, ap, subst, ℕ, eqb, leb, Bool, true, false, cond, true≢false, and-true, List, []}
 use Rattle.lists.specs.Basics.{length, take, drop, arith, eqb-true, eq-eqb, le-leb, all, eq_list, eq_list-true, eq_list_refl, and_fst, and_snd, and_both}
 use Rattle.lists.specs.Basics.{same_test, choose_by, tests}
 use Rattle.decimal.specs.declared.Scan.TheVariants.{Number}

@@ -1,7 +1,9 @@
 -- Ranges narrowed at some fields of a layout. A row of numbers is good by the narrowed layout where it is good by the layout and each number keeps
 -- to its limit: by induction on the limits, and for one limit along the columns up to its field.
-use Rattle.lists.specs.Basics.{◌≡◌, refl, sym, ap, ◌∙◌, ℕ, zero, suc, ◌≤◌, ◌<◌, leb, ltb, Bool, true, false, ◌&&◌, and_assoc, and-true, and-false, List, []}
-use Rattle.lists.specs.Basics.{◌∷◌, map, length, drop, get_or, set, get_or-drop, arith, leb-true, le-leb, all, and_fst, and_snd, tests}
+use Rattle.std.specs.Prelude.{◌≡◌, ◌≤◌, ◌<◌, ◌&&◌, ◌∷◌}
+use Rattle.std.proofs.Common.{◌∙◌}
+use Rattle.lists.specs.Basics.{refl, sym, ap, ℕ, zero, suc, leb, ltb, Bool, true, false, and_assoc, and-true, and-false, List, []}
+use Rattle.lists.specs.Basics.{map, length, drop, get_or, set, get_or-drop, arith, leb-true, le-leb, all, and_fst, and_snd, tests}
 use Rattle.std.proofs.Math.Seq.{map-set_same}
 use Rattle.lists.specs.Tests.{and_move}
 use Rattle.model.specs.Types.{Column}

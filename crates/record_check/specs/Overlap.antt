@@ -1,5 +1,7 @@
 -- A pass over the columns of a line in two parts that share some of them says what one pass over all of them says.
-use Rattle.lists.specs.Basics.{◌≡◌, refl, sym, ap, ◌∙◌, ℕ, zero, suc, ◌+◌, ◌≤◌, ◌<◌, Bool, true, false, ◌&&◌, and_assoc, List, [], ◌∷◌, ◌++◌, length, take}
+use Rattle.std.specs.Prelude.{◌≡◌, ◌+◌, ◌≤◌, ◌<◌, ◌&&◌, ◌∷◌, ◌++◌}
+use Rattle.std.proofs.Common.{◌∙◌}
+use Rattle.lists.specs.Basics.{refl, sym, ap, ℕ, zero, suc, Bool, true, false, and_assoc, List, [], length, take}
 use Rattle.lists.specs.Basics.{drop, get_or, length-take, length-drop, drop-drop, drop-cons, take-add, take_all, get_or-take, get_or-drop}
 use Rattle.lists.specs.Basics.{get_or-eq_default, arith, add-one, ltb, ltb-true, ltb-false, eq-eqb}
 use Rattle.line_bytes.specs.Tables.{Room, judged, judged_line, line_ok}

@@ -1,7 +1,9 @@
 -- Layouts that differ in their ranges alone. Reading a line by a layout is reading it by the widest ranges that its bytes can hold, and holding the
 -- numbers that were read to the layout's own ranges. It goes field by field, since a line that passes has the layout's length, so that no field is
 -- cut short.
-use Rattle.lists.specs.Basics.{◌≡◌, refl, sym, ap, ap₂, ◌∙◌, ℕ, ◌-◌, ◌≤◌, ◌<◌, eqb, leb, Bool, true, false, ◌&&◌, cond, and-true, and-false, List, [], ◌∷◌, map}
+use Rattle.std.specs.Prelude.{◌≡◌, ◌-◌, ◌≤◌, ◌<◌, ◌&&◌, ◌∷◌}
+use Rattle.std.proofs.Common.{◌∙◌}
+use Rattle.lists.specs.Basics.{refl, sym, ap, ap₂, ℕ, eqb, leb, Bool, true, false, cond, and-true, and-false, List, [], map}
 use Rattle.lists.specs.Basics.{length, take, drop, length-take, length-drop, arith, leb-false, le-leb, lt-leb, all, eq_list, and_fst, and_snd, and_both}
 use Rattle.lists.specs.Basics.{same_test, tests}
 use Rattle.lists.specs.Tests.{and_swap}

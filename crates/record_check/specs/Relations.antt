@@ -1,11 +1,12 @@
 -- How the versions of a PREPARED line stand to each other, by their bytes, and the clock's bound, which no width says. Where the last digit of a
 -- figure is no 9, the next figure has the same bytes but the last, which is one more; else the digits of a field make its number. The end of
 -- the line orders as the clock does.
-use Rattle.lists.specs.Basics.{◌≡◌, refl, sym, ap, ◌∙◌, ℕ, suc, ◌+◌, ◌-◌, ◌/◌, ◌%◌, ◌^◌, ◌≤◌, ◌<◌, eqb, leb, ltb, Bool, true, false, not, cond, and-false}
-use Rattle.lists.specs.Basics.{or-false, List, [], ◌∷◌, ◌++◌, map, length, take, drop, get_or, length-append, length-take, length-drop, drop-drop, drop-cons}
+use Rattle.std.specs.Prelude.{◌≡◌, ◌+◌, ◌-◌, ◌/◌, ◌%◌, ◌^◌, ◌≤◌, ◌<◌, ◌∷◌, ◌++◌}
+use Rattle.lists.specs.Basics.{refl, sym, ap, ℕ, suc, eqb, leb, ltb, Bool, true, false, not, cond, and-false}
+use Rattle.lists.specs.Basics.{or-false, List, [], map, length, take, drop, get_or, length-append, length-take, length-drop, drop-drop, drop-cons}
 use Rattle.lists.specs.Basics.{take-add, get_or-take, get_or-drop, arith, eqb-false, ltb-true, ltb-false, eq-eqb, ne_eqb, le-leb, lt-leb, le-ltb, less, eq_list}
 use Rattle.lists.specs.Basics.{bytes, choose_by}
-use Rattle.std.proofs.Common.{pow-suc}
+use Rattle.std.proofs.Common.{pow-suc, ◌∙◌}
 use Rattle.std.proofs.Math.Seq.{take-length, get_or-append_seam}
 use Rattle.std.proofs.Math.Pow.{are_bytes}
 use Rattle.lists.specs.Order.{less-append}

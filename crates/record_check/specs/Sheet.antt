@@ -1,6 +1,8 @@
 -- The sheet, as the code walks it: line after line, each good, and its key before the next one's. By induction on the lines that is what the
 -- sheet's rules say of all of them.
-use Rattle.lists.specs.Basics.{◌≡◌, refl, sym, ap, ap₂, ◌∙◌, ℕ, zero, suc, ◌+◌, ◌-◌, ◌*◌, ◌/◌, ◌<◌, eqb, leb, Bool, true, false, ◌&&◌, and_assoc, and-false}
+use Rattle.std.specs.Prelude.{◌≡◌, ◌+◌, ◌-◌, ◌*◌, ◌/◌, ◌<◌, ◌&&◌}
+use Rattle.std.proofs.Common.{◌∙◌}
+use Rattle.lists.specs.Basics.{refl, sym, ap, ap₂, ℕ, zero, suc, eqb, leb, Bool, true, false, and_assoc, and-false}
 use Rattle.lists.specs.Basics.{List, map, length, take, drop, drop-drop, take-take, arith, all, pieces, less, and_fst}
 use Rattle.lists.specs.Tests.{and_swap}
 use Rattle.model.specs.Layouts.{record_layout, record_bytes, key_bytes}

@@ -1,8 +1,10 @@
 -- The kinds of line as rows of a table: the rule of a state and a before state as limits on the fields of `record_layout`, so that a line's parts say words,
 -- zeros and bounds at once, and as relations between two fields, which no part says. What is asked of every row is computed over the table; that limits and
 -- relations are the rule is computed once the numbers of state and before state are known.
-use Rattle.lists.specs.Basics.{◌≡◌, refl, sym, ap, ap₂, ◌∙◌, ℕ, zero, suc, ◌+◌, ◌-◌, ◌*◌, ◌≤◌, ◌<◌, eqb, leb, Bool, true, false, not, ◌&&◌, ◌||◌, and_assoc}
-use Rattle.lists.specs.Basics.{and-true, and-false, List, [], ◌∷◌, ◌++◌, length, take, get_or, set, arith, eqb-true, eq-eqb, le-leb, all}
+use Rattle.std.specs.Prelude.{◌≡◌, ◌+◌, ◌-◌, ◌*◌, ◌≤◌, ◌<◌, ◌&&◌, ◌||◌, ◌∷◌, ◌++◌}
+use Rattle.std.proofs.Common.{◌∙◌}
+use Rattle.lists.specs.Basics.{refl, sym, ap, ap₂, ℕ, zero, suc, eqb, leb, Bool, true, false, not, and_assoc}
+use Rattle.lists.specs.Basics.{and-true, and-false, List, [], length, take, get_or, set, arith, eqb-true, eq-eqb, le-leb, all}
 use Rattle.lists.specs.Basics.{eq_list, bytes, and_both, same_test, choose_by, tests}
 use Rattle.std.proofs.Math.Dec.{leb-zero, leb-suc-zero}
 use Rattle.lists.specs.All.{all_at}

@@ -1,8 +1,10 @@
 -- The tables of the kinds of line as the code holds them, three rows for each kind one after another. The law of the pass over tables applies to the
 -- three rows of a kind: that they stand where the code reads them, and that the kind's parts are such that it does, is computed for every kind. The code goes
 -- over a line in two parts.
-use Rattle.lists.specs.Basics.{◌≡◌, refl, sym, ap, ap₂, ◌∙◌, ℕ, ◌+◌, ◌-◌, ◌*◌, ◌<◌, eqb, ltb, Bool, true, ◌&&◌, List, [], ◌∷◌, ◌++◌, map, length, take, drop, get_or}
-use Rattle.lists.specs.Basics.{◌≤◌, get_or-map, length-take, length-drop, drop-drop, arith, all, joined, eq_list, bytes, eq_list-true, tests}
+use Rattle.std.specs.Prelude.{◌≡◌, ◌+◌, ◌-◌, ◌*◌, ◌<◌, ◌&&◌, ◌∷◌, ◌++◌, ◌≤◌}
+use Rattle.std.proofs.Common.{◌∙◌}
+use Rattle.lists.specs.Basics.{refl, sym, ap, ap₂, ℕ, eqb, ltb, Bool, true, List, [], map, length, take, drop, get_or}
+use Rattle.lists.specs.Basics.{get_or-map, length-take, length-drop, drop-drop, arith, all, joined, eq_list, bytes, eq_list-true, tests}
 use Rattle.lists.specs.Pieces.{take-drop-take}
 use Rattle.model.specs.Layouts.{record_layout, words, record_bytes, offset, record_offset, state_field, before_state_field, word_bytes}
 use Rattle.model.specs.Lines.{field_bytes}

@@ -1,6 +1,7 @@
 -- Clock readings modulo 2^32, and whether a number has expired, line by line.
-use Rattle.std.specs.Prelude.{◌≢◌}
-use Rattle.lists.specs.Basics.{◌≡◌, refl, sym, ap, ◌∙◌, ℕ, ◌+◌, ◌/◌, ◌%◌, ◌^◌, ◌≤◌, ◌<◌, Bool, true, false, not, ◌&&◌, ◌||◌, and-false, List, length, drop}
+use Rattle.std.specs.Prelude.{◌≢◌, ◌≡◌, ◌+◌, ◌/◌, ◌%◌, ◌^◌, ◌≤◌, ◌<◌, ◌&&◌, ◌||◌}
+use Rattle.std.proofs.Common.{◌∙◌}
+use Rattle.lists.specs.Basics.{refl, sym, ap, ℕ, Bool, true, false, not, and-false, List, length, drop}
 use Rattle.lists.specs.Basics.{get_or, arith, eq-eqb, ne_eqb, all}
 use Rattle.lists.specs.Walks.{LeftFrom, left-first, left_here, left_last}
 use Rattle.model.specs.Types.{Record}

@@ -1,5 +1,7 @@
 -- What the visit of line i writes: setting that line in the bytes is the write of its key, and setting its owner's decision is the decide.
-use Rattle.lists.specs.Basics.{◌≡◌, refl, sym, ap, subst, ◌∙◌, ℕ, ◌*◌, ◌/◌, ◌≤◌, ◌<◌, ltb, Bool, true, false, cond, and-false, List, [], ◌∷◌, map, length, get_or}
+use Rattle.std.specs.Prelude.{◌≡◌, ◌*◌, ◌/◌, ◌≤◌, ◌<◌, ◌∷◌}
+use Rattle.std.proofs.Common.{◌∙◌}
+use Rattle.lists.specs.Basics.{refl, sym, ap, subst, ℕ, ltb, Bool, true, false, cond, and-false, List, [], map, length, get_or}
 use Rattle.lists.specs.Basics.{set, length-map, get_or-map, arith, eq-eqb, lt-ltb, any, and_fst, choose_by, tests}
 use Rattle.lists.specs.Pieces.{over}
 use Rattle.lists.specs.All.{get_or_any}

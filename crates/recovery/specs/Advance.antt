@@ -1,5 +1,7 @@
 -- An advance moves the settled lines as the model does, and what is remembered of its transaction stays true: phase by phase, a walk of the step table.
-use Rattle.lists.specs.Basics.{◌≡◌, refl, sym, ap, subst, ◌∙◌, ℕ, ◌+◌, ◌≤◌, ◌<◌, eqb, ltb, Bool, true, false, ◌&&◌, cond, true≢false, and-false, length}
+use Rattle.std.specs.Prelude.{◌≡◌, ◌+◌, ◌≤◌, ◌<◌, ◌&&◌}
+use Rattle.std.proofs.Common.{◌∙◌}
+use Rattle.lists.specs.Basics.{refl, sym, ap, subst, ℕ, eqb, ltb, Bool, true, false, cond, true≢false, and-false, length}
 use Rattle.lists.specs.Basics.{get_or, none, arith, eqb-true, ltb-true, ltb-false, ne_eqb, le-ltb, all, choose_by, tests}
 use Rattle.model.specs.Types.{Key, Decision, Undecided, Committed, Aborted, Transaction}
 use Rattle.model.specs.Records.{line_of}

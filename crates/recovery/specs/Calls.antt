@@ -1,6 +1,8 @@
 -- Every call keeps the invariant of a history. A refused call changes nothing; a visit, adding and removing make a gentle write; begin adds a state of a new number; read, its
 -- second call, put, abort and advance replace the state that they take.
-use Rattle.lists.specs.Basics.{◌≡◌, refl, sym, ap, subst, ◌∙◌, ℕ, zero, suc, ◌+◌, ◌≤◌, ◌<◌, eqb, Bool, true, false, not, ◌&&◌, cond, true≢false, List, [], ◌∷◌}
+use Rattle.std.specs.Prelude.{◌≡◌, ◌+◌, ◌≤◌, ◌<◌, ◌&&◌, ◌∷◌}
+use Rattle.std.proofs.Common.{◌∙◌}
+use Rattle.lists.specs.Basics.{refl, sym, ap, subst, ℕ, zero, suc, eqb, Bool, true, false, not, cond, true≢false, List, []}
 use Rattle.lists.specs.Basics.{take, drop, get_or, set, none, some, arith, add-one, eqb-true, eq-eqb, ne_eqb, not-false, all, and_snd, and_both, choose_by, tests}
 use Rattle.model.specs.Types.{Key, Image, Record, Decision, Undecided, Committed, Aborted, Found, Nothing, Columns, Entry, Transaction, Recovery}
 use Rattle.model.specs.Refusals.{refusal_of}

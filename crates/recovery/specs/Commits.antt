@@ -1,6 +1,8 @@
 -- A transaction with puts is committed in the model exactly when its coordinator line says so or its one-phase write was made: from the count that the
 -- history keeps, which the visits of a recovery pass leave alone.
-use Rattle.lists.specs.Basics.{◌≡◌, refl, sym, ap, ◌∙◌, ℕ, ◌<◌, Bool, true, false, ◌||◌, List, [], ◌∷◌, map, none, some, none-ne-some, ◌⊎◌, inl, inr}
+use Rattle.std.specs.Prelude.{◌≡◌, ◌<◌, ◌||◌, ◌∷◌, ◌⊎◌}
+use Rattle.std.proofs.Common.{◌∙◌}
+use Rattle.lists.specs.Basics.{refl, sym, ap, ℕ, Bool, true, false, List, [], map, none, some, none-ne-some, inl, inr}
 use Rattle.model.specs.Types.{Key, Decision, Committed}
 use Rattle.model.specs.Images.{Change}
 use Rattle.model.specs.Records.{line_of}

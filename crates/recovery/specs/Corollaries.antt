@@ -1,5 +1,7 @@
 -- What learners doubt, as corollaries of the invariant.
-use Rattle.lists.specs.Basics.{◌≡◌, sym, ap, ◌∙◌, ℕ, ◌<◌, Bool, true, false, ◌||◌, List, [], ◌∷◌, map}
+use Rattle.std.specs.Prelude.{◌≡◌, ◌<◌, ◌||◌, ◌∷◌}
+use Rattle.std.proofs.Common.{◌∙◌}
+use Rattle.lists.specs.Basics.{sym, ap, ℕ, Bool, true, false, List, [], map}
 use Rattle.model.specs.Types.{Key, Undecided, Committed}
 use Rattle.model.specs.Records.{line_of}
 use Rattle.model.specs.Coordinator.{decision}

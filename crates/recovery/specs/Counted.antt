@@ -1,7 +1,9 @@
 -- Which numbers the model has committed, and why: by their decision, by their one-phase write, or having put nothing. Beside the invariant of the lines, over
 -- the same histories.
-use Rattle.lists.specs.Basics.{◌≡◌, refl, sym, ap, subst, ◌∙◌, ℕ, ◌≤◌, ◌<◌, eqb, Bool, true, false, ◌||◌, true≢false, List, ◌∷◌, length, none, some}
-use Rattle.lists.specs.Basics.{none-ne-some, some-injective, ◌⊎◌, inl, inr, arith, eqb-true, eqb-false, eq-eqb, any, or_else, or_left, or_right}
+use Rattle.std.specs.Prelude.{◌≡◌, ◌≤◌, ◌<◌, ◌||◌, ◌∷◌, ◌⊎◌}
+use Rattle.std.proofs.Common.{◌∙◌}
+use Rattle.lists.specs.Basics.{refl, sym, ap, subst, ℕ, eqb, Bool, true, false, true≢false, List, length, none, some}
+use Rattle.lists.specs.Basics.{none-ne-some, some-injective, inl, inr, arith, eqb-true, eqb-false, eq-eqb, any, or_else, or_left, or_right}
 use Rattle.model.specs.Types.{Key, Undecided, Committed, Aborted, Entry, Transaction}
 use Rattle.model.specs.Results.{returns}
 use Rattle.model.specs.Coordinator.{decision}

@@ -1,5 +1,7 @@
 -- A legal history keeps the invariant from its first sheets on.
-use Rattle.lists.specs.Basics.{◌≡◌, refl, sym, ◌∙◌, ℕ, Bool, true, false, not, true≢false, List, [], ◌∷◌, some, not-true, any}
+use Rattle.std.specs.Prelude.{◌≡◌, ◌∷◌}
+use Rattle.std.proofs.Common.{◌∙◌}
+use Rattle.lists.specs.Basics.{refl, sym, ℕ, Bool, true, false, not, true≢false, List, [], some, not-true, any}
 use Rattle.model.specs.Types.{Key, Record, Transaction}
 use Rattle.model.specs.Records.{line_of}
 use Rattle.model.specs.Images.{is_prepared}

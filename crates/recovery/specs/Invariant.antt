@@ -1,6 +1,8 @@
 -- The invariant of a history: the sheets are good, the settled lines are the model's, and of every state that may be handed on it is remembered what it has
 -- put and prepared; one such state for each number. A call keeps it if its own state and the states of others do.
-use Rattle.lists.specs.Basics.{◌≡◌, refl, sym, ap, subst, ◌∙◌, ℕ, ◌≤◌, ◌<◌, Bool, true, ◌||◌, true≢false, List, ◌∷◌, length, none, some, none-ne-some}
+use Rattle.std.specs.Prelude.{◌≡◌, ◌≤◌, ◌<◌, ◌||◌, ◌∷◌}
+use Rattle.std.proofs.Common.{◌∙◌}
+use Rattle.lists.specs.Basics.{refl, sym, ap, subst, ℕ, Bool, true, true≢false, List, length, none, some, none-ne-some}
 use Rattle.lists.specs.Basics.{some-injective, inl, inr, arith, eqb-true, eq-eqb, or_else}
 use Rattle.model.specs.Types.{Key, Undecided, Transaction}
 use Rattle.model.specs.Results.{returns}

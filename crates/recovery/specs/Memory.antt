@@ -1,6 +1,8 @@
 -- What is remembered of a transaction that may still commit: its decision is not COMMITTED, and while it is undecided the columns that it has prepared are
 -- those put in the groups done so far. Writes of others keep it.
-use Rattle.lists.specs.Basics.{◌≡◌, refl, sym, ap, ◌∙◌, ℕ, zero, suc, eqb, ltb, Bool, true, false, ◌&&◌, cond, and-false, List, [], ◌∷◌, get_or, set, Option}
+use Rattle.std.specs.Prelude.{◌≡◌, ◌&&◌, ◌∷◌}
+use Rattle.std.proofs.Common.{◌∙◌}
+use Rattle.lists.specs.Basics.{refl, sym, ap, ℕ, zero, suc, eqb, ltb, Bool, true, false, cond, and-false, List, [], get_or, set, Option}
 use Rattle.lists.specs.Basics.{none, some, none-ne-some, eqb-true, eqb-false, ne_eqb, choose_by}
 use Rattle.model.specs.Types.{Key, Record, Decision, Undecided, Committed, Aborted, Entry, Transaction}
 use Rattle.model.specs.Records.{line_of, same_key}

@@ -1,6 +1,8 @@
 -- "if COMMITTED was written, the next reader finishes it": whoever next visits a line PREPARED by a COMMITTED owner, or reads it as a key that it doesn't hold, in one
 -- call or by the second of two, leaves it rolled forward, at any reading of the clock. The owner is decided, so that neither expiry nor refusal 12 is asked.
-use Rattle.lists.specs.Basics.{◌≡◌, refl, sym, ap, ap₂, ◌∙◌, ℕ, ◌^◌, ◌<◌, Bool, true, false, ◌&&◌, cond, true≢false, [], ◌∷◌, and_snd, choose_by}
+use Rattle.std.specs.Prelude.{◌≡◌, ◌^◌, ◌<◌, ◌&&◌, ◌∷◌}
+use Rattle.std.proofs.Common.{◌∙◌}
+use Rattle.lists.specs.Basics.{refl, sym, ap, ap₂, ℕ, Bool, true, false, cond, true≢false, [], and_snd, choose_by}
 use Rattle.model.specs.Types.{Key, Image, Record, Decision, Committed, Columns, Transaction, Recovery, Stays, Forward, Back, Again, Busy}
 use Rattle.model.specs.Records.{line_of, has_line}
 use Rattle.model.specs.Coordinator.{coordinator_of, is_undecided}

@@ -1,6 +1,8 @@
 -- A transaction's own writes: preparing a group adds its columns to what is remembered; the one-phase write and the decision COMMITTED move the settled
 -- lines exactly as the model's commit does.
-use Rattle.lists.specs.Basics.{◌≡◌, refl, sym, ap, ap₂, ◌∙◌, ℕ, ◌+◌, ◌≤◌, ◌<◌, eqb, ltb, Bool, true, false, ◌&&◌, cond, List, length, Option, none, some, arith}
+use Rattle.std.specs.Prelude.{◌≡◌, ◌+◌, ◌≤◌, ◌<◌, ◌&&◌}
+use Rattle.std.proofs.Common.{◌∙◌}
+use Rattle.lists.specs.Basics.{refl, sym, ap, ap₂, ℕ, eqb, ltb, Bool, true, false, cond, List, length, Option, none, some, arith}
 use Rattle.lists.specs.Basics.{eqb-true, eqb-false, ltb-true, ltb-false, eq-eqb, lt-ltb, le-ltb, choose_by, tests}
 use Rattle.types.specs.declared.State.TheVariants as State
 use Rattle.types.specs.declared.Before.TheVariants as Was

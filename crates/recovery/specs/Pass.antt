@@ -1,7 +1,9 @@
 -- The recovery pass: a visit raises a line from undecided to decided to not prepared, and visits to other lines never lower it. After two visits no line is
 -- prepared, and then every line is its settled line.
-use Rattle.lists.specs.Basics.{◌≡◌, refl, sym, ap, ap₂, subst, ◌∙◌, ℕ, zero, suc, ◌+◌, ◌^◌, ◌≤◌, ◌<◌, eqb, Bool, true, false, ◌&&◌, cond, true≢false, List, []}
-use Rattle.lists.specs.Basics.{◌∷◌, map, length, arith, eq-eqb, any, count, choose_by, tests}
+use Rattle.std.specs.Prelude.{◌≡◌, ◌+◌, ◌^◌, ◌≤◌, ◌<◌, ◌&&◌, ◌∷◌}
+use Rattle.std.proofs.Common.{◌∙◌}
+use Rattle.lists.specs.Basics.{refl, sym, ap, ap₂, subst, ℕ, zero, suc, eqb, Bool, true, false, cond, true≢false, List, []}
+use Rattle.lists.specs.Basics.{map, length, arith, eq-eqb, any, count, choose_by, tests}
 use Rattle.model.specs.Types.{Key, Record, Decision, Undecided, Aborted, Recovery, Stays, Forward, Back, Again, Busy}
 use Rattle.model.specs.Calls.{outcome, result_of}
 use Rattle.model.specs.Records.{same_key, line_of, has_line, key_in_range, prepared_rule}

@@ -1,6 +1,8 @@
 -- A recovery pass exists where each undecided number has a reading at which it has expired: every line visited twice, at its number's reading. During the pass
 -- a number's PREPARED lines are those of the first sheets, or fewer, so that the reading fits them still.
-use Rattle.lists.specs.Basics.{◌≡◌, refl, sym, ap, ◌∙◌, ℕ, suc, ◌+◌, ◌≤◌, Bool, true, false, not, ◌||◌, cond, true≢false, List, [], ◌∷◌, ◌++◌, map}
+use Rattle.std.specs.Prelude.{◌≡◌, ◌+◌, ◌≤◌, ◌||◌, ◌∷◌, ◌++◌}
+use Rattle.std.proofs.Common.{◌∙◌}
+use Rattle.lists.specs.Basics.{refl, sym, ap, ℕ, suc, Bool, true, false, not, cond, true≢false, List, [], map}
 use Rattle.lists.specs.Basics.{arith, all, any, count, and_fst, and_snd, and_both}
 use Rattle.model.specs.Types.{Key, Record, Decision, Undecided, Committed, Aborted}
 use Rattle.model.specs.Records.{keys_in, same_key, line_of}

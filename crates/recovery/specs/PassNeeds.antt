@@ -1,6 +1,8 @@
 -- A recovery pass exists only where each undecided number has a reading: the first visit that comes to one of its lines does so at a reading at which the number has
 -- expired, and visits before it have neither decided the number nor touched a line of it.
-use Rattle.lists.specs.Basics.{◌≡◌, refl, sym, ap, subst, ◌∙◌, ℕ, suc, ◌^◌, ◌≤◌, ◌<◌, eqb, Bool, true, false, not, ◌||◌, cond, true≢false, List, [], ◌∷◌, map}
+use Rattle.std.specs.Prelude.{◌≡◌, ◌^◌, ◌≤◌, ◌<◌, ◌||◌, ◌∷◌}
+use Rattle.std.proofs.Common.{◌∙◌}
+use Rattle.lists.specs.Basics.{refl, sym, ap, subst, ℕ, suc, eqb, Bool, true, false, not, cond, true≢false, List, [], map}
 use Rattle.lists.specs.Basics.{arith, eqb-true, eq-eqb, all, count, and_fst, and_snd, and_both, choose_by}
 use Rattle.model.specs.Types.{Key, Record, Undecided, Aborted, Recovery}
 use Rattle.model.specs.Records.{same_key, line_of}

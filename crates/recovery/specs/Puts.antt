@@ -1,5 +1,7 @@
 -- The columns put for a key: by the entry that a group has for it, and after a read or a put. Each by induction on the entries.
-use Rattle.lists.specs.Basics.{◌≡◌, refl, sym, ap, ap₂, ◌∙◌, ℕ, zero, suc, ◌<◌, eqb, Bool, true, false, not, ◌&&◌, ◌||◌, cond, true≢false, List, [], ◌∷◌}
+use Rattle.std.specs.Prelude.{◌≡◌, ◌<◌, ◌&&◌, ◌||◌, ◌∷◌}
+use Rattle.std.proofs.Common.{◌∙◌}
+use Rattle.lists.specs.Basics.{refl, sym, ap, ap₂, ℕ, zero, suc, eqb, Bool, true, false, not, cond, true≢false, List, []}
 use Rattle.lists.specs.Basics.{length, take, get_or, set, Option, none, some, none-ne-some, arith, not-true, any, filter, and_fst, and_snd, choose_by}
 use Rattle.lists.specs.Basics.{or_left, or_right}
 use Rattle.model.specs.Types.{Key, Entry}

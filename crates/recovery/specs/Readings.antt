@@ -1,6 +1,8 @@
 -- Where the prepare clocks of a number allow a reading at all, one stands 15000 ticks after one of them: after that of the line prepared last, as seen from the
 -- reading. At its own reading that line shows 15000 ticks, and every other line as many more as it did before.
-use Rattle.lists.specs.Basics.{◌≡◌, refl, sym, ap, ◌∙◌, ℕ, ◌+◌, ◌-◌, ◌%◌, ◌^◌, ◌≤◌, ◌<◌, leb, Bool, true, false, not, ◌&&◌, ◌||◌, cond, true≢false, List, [], ◌∷◌}
+use Rattle.std.specs.Prelude.{◌≡◌, ◌+◌, ◌-◌, ◌%◌, ◌^◌, ◌≤◌, ◌<◌, ◌&&◌, ◌||◌, ◌∷◌}
+use Rattle.std.proofs.Common.{◌∙◌}
+use Rattle.lists.specs.Basics.{refl, sym, ap, ℕ, leb, Bool, true, false, not, cond, true≢false, List, []}
 use Rattle.lists.specs.Basics.{arith, leb-true, leb-false, le-leb, all, any, or_left, or_right, or_fst, or_snd, and_fst, and_snd, and_both, subst, choose_by, eq-eqb}
 use Rattle.model.specs.Types.{Key, Record}
 use Rattle.model.specs.Records.{same_key, line_of}

@@ -1,8 +1,9 @@
 -- The settled view: what each line would be once its owner is finished with. A prepared line whose owner is COMMITTED counts as rolled forward, any
 -- other prepared line as rolled back; other lines count as they are. All writes but a commit leave the settled lines alone.
-use Rattle.lists.specs.Basics.{◌≡◌, refl, sym, ap, ap₂, ◌∙◌, ℕ, zero, suc, ◌+◌, eqb, Bool, true, false, cond, List, [], ◌∷◌, get_or, set, Option}
+use Rattle.std.specs.Prelude.{◌≡◌, ◌+◌, ◌∷◌}
+use Rattle.lists.specs.Basics.{refl, sym, ap, ap₂, ℕ, zero, suc, eqb, Bool, true, false, cond, List, [], get_or, set, Option}
 use Rattle.lists.specs.Basics.{none, some, arith, eqb-true, eqb-false, choose_by, tests}
-use Rattle.std.proofs.Common.{get_or-set_other}
+use Rattle.std.proofs.Common.{get_or-set_other, ◌∙◌}
 use Rattle.model.specs.Types.{Key, Record, Decision, Undecided, Committed, Aborted, Entry}
 use Rattle.model.specs.Records.{line_of, state_rule}
 use Rattle.model.specs.Coordinator.{Coordinator, decision_number, decision, with_decision, with_issued}

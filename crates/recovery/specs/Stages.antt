@@ -1,5 +1,7 @@
 -- What is remembered as a transaction goes from phase to phase without a write, or after preparing a group.
-use Rattle.lists.specs.Basics.{◌≡◌, sym, ap, ◌∙◌, ℕ, Bool, cond, List, none, arith, le-ltb}
+use Rattle.std.specs.Prelude.{◌≡◌}
+use Rattle.std.proofs.Common.{◌∙◌}
+use Rattle.lists.specs.Basics.{sym, ap, ℕ, Bool, cond, List, none, arith, le-ltb}
 use Rattle.model.specs.Types.{Key, Transaction}
 use Rattle.model.specs.Records.{line_of}
 use Rattle.model.specs.Coordinator.{Letter, decision}

@@ -1,6 +1,8 @@
 -- Demand 3 over decoded sheets: after any legal history and any recovery pass no line is PREPARED, each is its line in the sequential model, and a key without a line is ABSENT there.
 -- The history keeps the invariant, the pass keeps its view and raises every line, and what isn't prepared is settled.
-use Rattle.lists.specs.Basics.{◌≡◌, refl, sym, ap, ◌∙◌, ℕ, true, false, not, List, [], ◌∷◌, map}
+use Rattle.std.specs.Prelude.{◌≡◌, ◌∷◌}
+use Rattle.std.proofs.Common.{◌∙◌}
+use Rattle.lists.specs.Basics.{refl, sym, ap, ℕ, true, false, not, List, [], map}
 use Rattle.lists.specs.All.{map-map}
 use Rattle.model.specs.Types.{Key, Record}
 use Rattle.model.specs.Records.{keys_in, absent_at}

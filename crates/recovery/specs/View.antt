@@ -1,6 +1,8 @@
 -- The invariant of the record sheet: the settled line of each key is the sequential model's line of that key, a key without a line counting as an ABSENT line
 -- of version 0. Gentle writes keep it.
-use Rattle.lists.specs.Basics.{◌≡◌, refl, sym, ap, subst, ◌∙◌, ◌≤◌, Bool, true, false, List, arith}
+use Rattle.std.specs.Prelude.{◌≡◌, ◌≤◌}
+use Rattle.std.proofs.Common.{◌∙◌}
+use Rattle.lists.specs.Basics.{refl, sym, ap, subst, Bool, true, false, List, arith}
 use Rattle.model.specs.Types.{Key, Record}
 use Rattle.model.specs.Records.{is_zero, absence, no_before, absent_rule, state_rule, absent_at, line_of}
 use Rattle.model.specs.Writes.{Sheets, Write, line_after, decisions_after, apply}

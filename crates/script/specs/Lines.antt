@@ -1,6 +1,8 @@
 -- What a line of a history says (docs/REPLAY.md): words parted by single spaces, the first of them the call's name or `sheets`, the others its numbers. And
 -- what reading it byte by byte tells of that.
-use Rattle.lists.specs.Basics.{◌≡◌, refl, sym, ap, ap₂, ◌∙◌, ℕ, suc, ◌+◌, ◌*◌, ◌≤◌, ◌<◌, eqb, leb, Bool, true, false, ◌&&◌, cond, List, [], ◌∷◌, length, take, drop}
+use Rattle.std.specs.Prelude.{◌≡◌, ◌+◌, ◌*◌, ◌≤◌, ◌<◌, ◌&&◌, ◌∷◌}
+use Rattle.std.proofs.Common.{◌∙◌}
+use Rattle.lists.specs.Basics.{refl, sym, ap, ap₂, ℕ, suc, eqb, leb, Bool, true, false, cond, List, [], length, take, drop}
 use Rattle.lists.specs.Basics.{get_or, set, replicate, drop_of_length-le, drop-drop, drop-cons, arith, add-one, eq-eqb, ne_eqb, eq_list, bytes}
 use Rattle.decimal.specs.declared.Scan.{Scan}
 use Rattle.decimal.specs.declared.Scan.TheVariants.{Blank, Number, Wrong}

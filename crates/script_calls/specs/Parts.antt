@@ -1,5 +1,6 @@
 -- The part of a sheet that a line of a history asks for: `line` asks for what the look-up hands back.
-use Rattle.lists.specs.Basics.{◌≡◌, sym, ap, ℕ, ◌+◌, Bool, true, false, cond, List, [], get_or}
+use Rattle.std.specs.Prelude.{◌≡◌, ◌+◌}
+use Rattle.lists.specs.Basics.{sym, ap, ℕ, Bool, true, false, cond, List, [], get_or}
 use Rattle.model.specs.Types.{Key, Columns}
 use Rattle.script.specs.declared.scan.Command.{Command}
 use Rattle.script.specs.declared.scan.Kind.{Kind}

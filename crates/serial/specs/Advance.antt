@@ -1,7 +1,9 @@
 -- An advance keeps the invariant of the order: phase by phase, a walk of the step table. A checked transaction never commits in one phase; it gets its position
 -- by its last prepare or on leaving open, validates entry by entry, and commits by its decision or, without puts, by its last step.
-use Rattle.lists.specs.Basics.{◌≡◌, refl, sym, ap, subst, ◌∙◌, ℕ, zero, suc, ◌+◌, ◌≤◌, ◌<◌, eqb, ltb, Bool, true, false, not, cond, true≢false, and-false}
-use Rattle.lists.specs.Basics.{List, ◌∷◌, length, get_or, none, some, none-ne-some, ◌⊎◌, inl, inr, arith, eqb-true, ltb-true, ltb-false, eq-eqb, ne_eqb}
+use Rattle.std.specs.Prelude.{◌≡◌, ◌+◌, ◌≤◌, ◌<◌, ◌∷◌, ◌⊎◌}
+use Rattle.std.proofs.Common.{◌∙◌}
+use Rattle.lists.specs.Basics.{refl, sym, ap, subst, ℕ, zero, suc, eqb, ltb, Bool, true, false, not, cond, true≢false, and-false}
+use Rattle.lists.specs.Basics.{List, length, get_or, none, some, none-ne-some, inl, inr, arith, eqb-true, ltb-true, ltb-false, eq-eqb, ne_eqb}
 use Rattle.lists.specs.Basics.{le-ltb, not-true, all, choose_by, tests}
 use Rattle.lists.specs.Members.{Mem, mem_passes, mem_filter}
 use Rattle.model.specs.Types.{Key, Record, Decision, Undecided, Committed, Aborted, Entry, Transaction}

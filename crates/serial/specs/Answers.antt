@@ -1,6 +1,8 @@
 -- What reads answered: of every read that gave a value, in one call or by the second of two, the transaction still holds what it then had as first read, since
 -- calls add entries and put to them, and none takes an entry away or changes what it has as first read.
-use Rattle.lists.specs.Basics.{◌≡◌, refl, sym, subst, ◌∙◌, eqb, Bool, true, false, List, [], ◌∷◌, eqb-true, eqb-false}
+use Rattle.std.specs.Prelude.{◌≡◌, ◌∷◌}
+use Rattle.std.proofs.Common.{◌∙◌}
+use Rattle.lists.specs.Basics.{refl, sym, subst, eqb, Bool, true, false, List, [], eqb-true, eqb-false}
 use Rattle.lists.specs.Members.{Mem, here, there}
 use Rattle.model.specs.Types.{Key, Transaction, Reading}
 use Rattle.model.specs.Transactions.{held, reading}

@@ -1,5 +1,6 @@
 -- Checked transactions are serializable, over bytes, which are a kind of sheets.
-use Rattle.lists.specs.Basics.{◌≡◌, true, List, [], map, all}
+use Rattle.std.specs.Prelude.{◌≡◌}
+use Rattle.lists.specs.Basics.{true, List, [], map, all}
 use Rattle.model.specs.Spares.{sheet_for}
 use Rattle.model.specs.ByteHistories.{Bytes, saying, Passing, after_on}
 use Rattle.model.specs.RecoveryPass.{Visit, none_prepared, Closing}

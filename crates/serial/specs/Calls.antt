@@ -1,7 +1,9 @@
 -- Every call keeps what is known of the order and of the answers so far: a refused call, a visit, adding and removing take no state, begin returns a new one, read, its second
 -- call and put return one in open, abort one past decide, and advance one of the step table. A new entry is what the visit of its line left, which is the
 -- model's line, but for columns that a second call brings.
-use Rattle.lists.specs.Basics.{◌≡◌, refl, sym, ap, ap₂, subst, ◌∙◌, ℕ, ◌+◌, ◌<◌, eqb, leb, Bool, true, false, not, ◌&&◌, cond, true≢false, List, ◌∷◌, length, get_or}
+use Rattle.std.specs.Prelude.{◌≡◌, ◌+◌, ◌<◌, ◌&&◌, ◌∷◌}
+use Rattle.std.proofs.Common.{◌∙◌}
+use Rattle.lists.specs.Basics.{refl, sym, ap, ap₂, subst, ℕ, eqb, leb, Bool, true, false, not, cond, true≢false, List, length, get_or}
 use Rattle.lists.specs.Basics.{length-set, Option, some, none-ne-some, some-injective, arith, eqb-true, leb-false, not-false, choose_by}
 use Rattle.model.specs.Types.{Key, Image, Record, Committed, Aborted, Found, At, Columns, Entry, Transaction, Recovery, Reading}
 use Rattle.types.specs.declared.Reading.TheVariants.{Again}

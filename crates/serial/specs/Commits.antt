@@ -1,6 +1,8 @@
 -- The commit of a transaction, by its decision or, without puts, by its last step: all its entries are validated by then, so that it commits at its position in
 -- the order (OrderCommits). Where another has prepared it has put nothing, so that what is prepared stays fresh.
-use Rattle.lists.specs.Basics.{◌≡◌, refl, sym, ap, subst, ◌∙◌, ℕ, ◌≤◌, eqb, true, false, List, ◌∷◌, Option, none, some, none-ne-some, ◌⊎◌, inl, inr}
+use Rattle.std.specs.Prelude.{◌≡◌, ◌≤◌, ◌∷◌, ◌⊎◌}
+use Rattle.std.proofs.Common.{◌∙◌}
+use Rattle.lists.specs.Basics.{refl, sym, ap, subst, ℕ, eqb, true, false, List, Option, none, some, none-ne-some, inl, inr}
 use Rattle.lists.specs.Basics.{arith, eqb-true, eq-eqb, ne_eqb, any, or_else, or_left}
 use Rattle.lists.specs.Members.{Mem, here}
 use Rattle.model.specs.Types.{Key, Record, Undecided, Committed, Entry, Transaction}

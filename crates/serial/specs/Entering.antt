@@ -1,6 +1,8 @@
 -- A transaction gets its position, by its last prepare or on leaving open without puts: it comes last in the order. Its puts are fresh, as when they were
 -- prepared, and no one in doubt puts to their lines, which it has prepared itself.
-use Rattle.lists.specs.Basics.{◌≡◌, refl, sym, ap, subst, ◌∙◌, ℕ, ◌≤◌, true, false, true≢false, List, ◌∷◌, none, inl, inr, arith}
+use Rattle.std.specs.Prelude.{◌≡◌, ◌≤◌, ◌∷◌}
+use Rattle.std.proofs.Common.{◌∙◌}
+use Rattle.lists.specs.Basics.{refl, sym, ap, subst, ℕ, true, false, true≢false, List, none, inl, inr, arith}
 use Rattle.lists.specs.Members.{Mem, here, there, mem_none}
 use Rattle.model.specs.Types.{Key, Record, Undecided, Entry, Transaction}
 use Rattle.model.specs.Coordinator.{decision}

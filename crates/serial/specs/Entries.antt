@@ -1,7 +1,9 @@
 -- The entries of a transaction and what they put: what is put for a key is put by an entry of that key, and since keys are distinct by the only one; and every
 -- entry of a checked transaction is a put or is to be validated. Each by induction on the entries.
-use Rattle.lists.specs.Basics.{◌≡◌, refl, sym, ap, ap₂, ◌∙◌, Bool, true, false, not, ◌&&◌, cond, true≢false, and-false, List, [], ◌∷◌, none, some}
-use Rattle.lists.specs.Basics.{none-ne-some, ◌⊎◌, inl, inr, not-true, any, filter, and_fst, and_snd, and_both, or_left, or_right, or_fst, or_snd}
+use Rattle.std.specs.Prelude.{◌≡◌, ◌&&◌, ◌∷◌, ◌⊎◌}
+use Rattle.std.proofs.Common.{◌∙◌}
+use Rattle.lists.specs.Basics.{refl, sym, ap, ap₂, Bool, true, false, not, cond, true≢false, and-false, List, [], none, some}
+use Rattle.lists.specs.Basics.{none-ne-some, inl, inr, not-true, any, filter, and_fst, and_snd, and_both, or_left, or_right, or_fst, or_snd}
 use Rattle.lists.specs.Members.{Mem, here, there, mem_filter}
 use Rattle.model.specs.Types.{Key, Entry, Transaction}
 use Rattle.model.specs.Groups.{is_lower}

@@ -1,7 +1,9 @@
 -- A call that takes a state and returns another keeps the invariant of the order, once its own case is shown: the states of other numbers are as they were, and
 -- its write keeps what is remembered of them.
-use Rattle.lists.specs.Basics.{◌≡◌, refl, sym, ap, subst, ◌∙◌, ℕ, ◌≤◌, eqb, Bool, true, false, List, ◌∷◌, length, Option, none, some, some-injective}
-use Rattle.lists.specs.Basics.{◌⊎◌, inl, inr, eqb-true, eqb-false}
+use Rattle.std.specs.Prelude.{◌≡◌, ◌≤◌, ◌∷◌, ◌⊎◌}
+use Rattle.std.proofs.Common.{◌∙◌}
+use Rattle.lists.specs.Basics.{refl, sym, ap, subst, ℕ, eqb, Bool, true, false, List, length, Option, none, some, some-injective}
+use Rattle.lists.specs.Basics.{inl, inr, eqb-true, eqb-false}
 use Rattle.lists.specs.Members.{Mem, here, there}
 use Rattle.model.specs.Types.{Key, Record, Undecided, Entry, Transaction}
 use Rattle.model.specs.Results.{returns}

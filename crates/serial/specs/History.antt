@@ -1,5 +1,6 @@
 -- A legal history in which every transaction is begun as checked keeps what is known of the order and of the answers, from its first sheets on.
-use Rattle.lists.specs.Basics.{◌≡◌, refl, sym, ℕ, Bool, true, true≢false, List, [], ◌∷◌, all, any, and_fst, and_snd}
+use Rattle.std.specs.Prelude.{◌≡◌, ◌∷◌}
+use Rattle.lists.specs.Basics.{refl, sym, ℕ, Bool, true, true≢false, List, [], all, any, and_fst, and_snd}
 use Rattle.lists.specs.Members.{mem_none}
 use Rattle.model.specs.Types.{Key, Record}
 use Rattle.model.specs.Records.{line_of}

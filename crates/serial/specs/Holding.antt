@@ -1,8 +1,9 @@
 -- What a state holds after a call: a step leaves its entries, a read adds one at the end, and a put replaces one by an entry of the same key that has the same as
 -- first read. So what was held is held on, and no entry becomes newer than its line.
-use Rattle.lists.specs.Basics.{◌≡◌, refl, sym, ap, subst, ◌∙◌, ℕ, ◌+◌, ◌<◌, true, false, true≢false, List, [], ◌∷◌, ◌++◌, length, take, get_or, set, ◌⊎◌, inl}
+use Rattle.std.specs.Prelude.{◌≡◌, ◌+◌, ◌<◌, ◌∷◌, ◌++◌, ◌⊎◌}
+use Rattle.lists.specs.Basics.{refl, sym, ap, subst, ℕ, true, false, true≢false, List, [], length, take, get_or, set, inl}
 use Rattle.lists.specs.Basics.{inr, add-one, not-true}
-use Rattle.std.proofs.Common.{take-suc-set}
+use Rattle.std.proofs.Common.{take-suc-set, ◌∙◌}
 use Rattle.lists.specs.Members.{Mem, mem_before, mem_last, mem_more, mem_set, mem_kept, mem_at, mem_set_at}
 use Rattle.model.specs.Types.{Key, Record, Found, Columns, Entry, Transaction}
 use Rattle.model.specs.Records.{same_key, is_missing, by_found}

@@ -1,7 +1,9 @@
 -- Transactions in doubt: those that have their position and may still commit. What one of them has put it has prepared (recovery's memory), so that two of them
 -- put to different lines, and a line whose condition holds is put to by none; and an entry whose condition holds is as the line, having its version or, where
 -- columns are compared, all that it has.
-use Rattle.lists.specs.Basics.{◌≡◌, refl, sym, ap, ◌∙◌, ℕ, ◌≤◌, eqb, Bool, true, false, not, ◌&&◌, ◌||◌, cond, List, none, some, none-ne-some, arith, eqb-true}
+use Rattle.std.specs.Prelude.{◌≡◌, ◌≤◌, ◌&&◌, ◌||◌}
+use Rattle.std.proofs.Common.{◌∙◌}
+use Rattle.lists.specs.Basics.{refl, sym, ap, ℕ, eqb, Bool, true, false, not, cond, List, none, some, none-ne-some, arith, eqb-true}
 use Rattle.lists.specs.Basics.{eqb-false, not-true, and_snd, tests}
 use Rattle.model.specs.Types.{Key, Record, Undecided, Entry, Transaction}
 use Rattle.model.specs.Records.{line_of, has_line}

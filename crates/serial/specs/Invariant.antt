@@ -1,7 +1,9 @@
 -- The invariant of the order of a history, beside recovery's: the order is consistent, no entry is newer than its line, what is prepared is fresh, and each
 -- position belongs to an available state.
-use Rattle.lists.specs.Basics.{◌≡◌, sym, ap, subst, ◌∙◌, ℕ, ◌≤◌, eqb, true, false, ◌&&◌, ◌||◌, cond, and-false, List, [], ◌∷◌, length, take, Option, none, some}
-use Rattle.lists.specs.Basics.{◌⊎◌, any}
+use Rattle.std.specs.Prelude.{◌≡◌, ◌≤◌, ◌&&◌, ◌||◌, ◌∷◌, ◌⊎◌}
+use Rattle.std.proofs.Common.{◌∙◌}
+use Rattle.lists.specs.Basics.{sym, ap, subst, ℕ, eqb, true, false, cond, and-false, List, [], length, take, Option, none, some}
+use Rattle.lists.specs.Basics.{any}
 use Rattle.lists.specs.Members.{Mem}
 use Rattle.model.specs.Types.{Key, Record, Undecided, Entry, Transaction}
 use Rattle.model.specs.Results.{returns}

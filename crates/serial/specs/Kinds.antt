@@ -1,6 +1,8 @@
 -- Checked transactions are serializable, on sheets of any kind: a legal history of turns on accepted sheets is one on what they say (turns), and so are the calls
 -- that its turns come to, answer by answer.
-use Rattle.lists.specs.Basics.{◌≡◌, refl, sym, ap, subst, ◌∙◌, true, List, [], ◌∷◌, map, all}
+use Rattle.std.specs.Prelude.{◌≡◌, ◌∷◌}
+use Rattle.std.proofs.Common.{◌∙◌}
+use Rattle.lists.specs.Basics.{refl, sym, ap, subst, true, List, [], map, all}
 use Rattle.lists.specs.All.{all_always, map_equal}
 use Rattle.model.specs.Types.{Key, Record}
 use Rattle.model.specs.Spares.{sheet_for}

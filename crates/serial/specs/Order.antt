@@ -1,7 +1,9 @@
 -- An order of transactions and what is known in it, apart from sheets: what each has validated is what the committed ones before it leave, and a committed one
 -- that comes later has not written what it may still commit by. This stays so when a transaction gets its position, since at the end of the order what is fresh
 -- is what all the committed ones leave, and when one more entry of one in doubt is found unchanged, since none after it has written it.
-use Rattle.lists.specs.Basics.{◌≡◌, refl, sym, ap, ◌∙◌, ℕ, Bool, true, false, true≢false, List, [], ◌∷◌, none, ◌⊎◌, inl, inr}
+use Rattle.std.specs.Prelude.{◌≡◌, ◌∷◌, ◌⊎◌}
+use Rattle.std.proofs.Common.{◌∙◌}
+use Rattle.lists.specs.Basics.{refl, sym, ap, ℕ, Bool, true, false, true≢false, List, [], none, inl, inr}
 use Rattle.lists.specs.Members.{Mem, here, there}
 use Rattle.model.specs.Types.{Key, Record, Entry}
 use Rattle.serial.specs.Runs.{Placing, wrote, ran, run_line, unwritten, sight_in, sight_of, Fresh}

@@ -1,7 +1,9 @@
 -- A commit at its position in the order, apart from sheets: its puts are fresh, so that none after it has written their keys and they are the last of the
 -- serial run there; what others have validated is not touched, since no one in doubt before them writes it; and what is fresh afterwards was fresh before and
 -- not written.
-use Rattle.lists.specs.Basics.{◌≡◌, refl, sym, ap, subst, ◌∙◌, ℕ, eqb, Bool, true, false, List, Option, none, some, ◌⊎◌, inl, inr, eqb-true, eqb-false}
+use Rattle.std.specs.Prelude.{◌≡◌, ◌⊎◌}
+use Rattle.std.proofs.Common.{◌∙◌}
+use Rattle.lists.specs.Basics.{refl, sym, ap, subst, ℕ, eqb, Bool, true, false, List, Option, none, some, inl, inr, eqb-true, eqb-false}
 use Rattle.lists.specs.Members.{Mem, here, there}
 use Rattle.model.specs.Types.{Key, Record, Entry}
 use Rattle.model.specs.Images.{Change}

@@ -1,6 +1,8 @@
 -- Calls that commit nothing and return a state that is not in doubt: in open, in prepare, past decide, or aborted by a visitor. The order stays as it is, and who
 -- is in doubt and what is validated afterwards was so before.
-use Rattle.lists.specs.Basics.{◌≡◌, refl, sym, ap, subst, ◌∙◌, ℕ, ◌≤◌, eqb, true, false, true≢false, List, ◌∷◌, length, none, none-ne-some, inl, inr}
+use Rattle.std.specs.Prelude.{◌≡◌, ◌≤◌, ◌∷◌}
+use Rattle.std.proofs.Common.{◌∙◌}
+use Rattle.lists.specs.Basics.{refl, sym, ap, subst, ℕ, eqb, true, false, true≢false, List, length, none, none-ne-some, inl, inr}
 use Rattle.lists.specs.Basics.{arith, any}
 use Rattle.lists.specs.Members.{Mem}
 use Rattle.model.specs.Types.{Key, Record, Undecided, Aborted, Entry, Transaction}

@@ -1,6 +1,8 @@
 -- Serial runs, apart from sheets. The line of a key depends only on those that write it, and a line that is written gets a higher version: so an entry that is
 -- no newer than its line stays so, whether or not it has the line's columns, and where it is as the line afterwards the line was not written.
-use Rattle.lists.specs.Basics.{◌≡◌, refl, sym, ap, ap₂, ◌∙◌, ℕ, ◌+◌, ◌≤◌, Bool, true, false, cond, List, [], ◌∷◌, Option, none, some, ◌⊎◌, inl, inr, arith}
+use Rattle.std.specs.Prelude.{◌≡◌, ◌+◌, ◌≤◌, ◌∷◌, ◌⊎◌}
+use Rattle.std.proofs.Common.{◌∙◌}
+use Rattle.lists.specs.Basics.{refl, sym, ap, ap₂, ℕ, Bool, true, false, cond, List, [], Option, none, some, inl, inr, arith}
 use Rattle.lists.specs.Members.{Mem, here, there}
 use Rattle.model.specs.Types.{Key, Image, Record, Entry}
 use Rattle.model.specs.Images.{is_absent, Change}

@@ -1,6 +1,8 @@
 -- Checked transactions are serializable, over decoded sheets. What is known at the end of a history, of positions and entries, says of numbers what is claimed:
 -- a committed transaction has validated all its entries, which are what its reads answered, and the page of a number is what its entries put.
-use Rattle.lists.specs.Basics.{◌≡◌, refl, sym, ap, ap₂, subst, ◌∙◌, ℕ, suc, eqb, Bool, true, false, cond, List, [], ◌∷◌, map, Option, none, some, inl, eq-eqb}
+use Rattle.std.specs.Prelude.{◌≡◌, ◌∷◌}
+use Rattle.std.proofs.Common.{◌∙◌}
+use Rattle.lists.specs.Basics.{refl, sym, ap, ap₂, subst, ℕ, suc, eqb, Bool, true, false, cond, List, [], map, Option, none, some, inl, eq-eqb}
 use Rattle.lists.specs.Basics.{ne_eqb, all, count, choose_by}
 use Rattle.lists.specs.Members.{Mem, here, there}
 use Rattle.model.specs.Types.{Key, Record, Entry, Transaction, Reading}

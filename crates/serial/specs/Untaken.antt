@@ -1,5 +1,7 @@
 -- A call that takes no state keeps the invariant of the order: its write is away from every number, and a state that it returns is new and holds nothing.
-use Rattle.lists.specs.Basics.{◌≡◌, sym, ap, subst, ◌∙◌, ℕ, ◌≤◌, ◌<◌, eqb, true, List, [], ◌∷◌, length, none, some, none-ne-some, inl, inr, arith, any}
+use Rattle.std.specs.Prelude.{◌≡◌, ◌≤◌, ◌<◌, ◌∷◌}
+use Rattle.std.proofs.Common.{◌∙◌}
+use Rattle.lists.specs.Basics.{sym, ap, subst, ℕ, eqb, true, List, [], length, none, some, none-ne-some, inl, inr, arith, any}
 use Rattle.lists.specs.Members.{Mem}
 use Rattle.model.specs.Types.{Key, Record, Undecided, Entry, Transaction}
 use Rattle.model.specs.Results.{returns}

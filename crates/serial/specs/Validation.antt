@@ -1,6 +1,8 @@
 -- One more entry validated: its condition holds, so that it is fresh and no one in doubt puts to its line, and the order is consistent with it among what is
 -- validated.
-use Rattle.lists.specs.Basics.{◌≡◌, refl, sym, ap, subst, ◌∙◌, ℕ, suc, ◌+◌, ◌≤◌, eqb, Bool, true, false, List, ◌∷◌, length, take, get_or, take_all, none, ◌⊎◌}
+use Rattle.std.specs.Prelude.{◌≡◌, ◌+◌, ◌≤◌, ◌∷◌, ◌⊎◌}
+use Rattle.std.proofs.Common.{◌∙◌}
+use Rattle.lists.specs.Basics.{refl, sym, ap, subst, ℕ, suc, eqb, Bool, true, false, List, length, take, get_or, take_all, none}
 use Rattle.lists.specs.Basics.{inl, inr, arith, add-one, eqb-true, eqb-false, any}
 use Rattle.lists.specs.Members.{Mem, mem_next}
 use Rattle.model.specs.Types.{Key, Record, Undecided, Entry, Transaction}

@@ -1,5 +1,7 @@
 -- A key's line put in and taken out: order, lines by key, lengths, one undoes the other, indices. By induction on the lines, the test of the first one by cases.
-use Rattle.lists.specs.Basics.{ℕ, suc, ◌<◌, ◌≡◌, refl, sym, ap, ◌∙◌, Bool, true, false, ◌||◌, cond, true≢false, List, [], ◌∷◌, ◌++◌, length, take, drop}
+use Rattle.std.specs.Prelude.{◌<◌, ◌≡◌, ◌||◌, ◌∷◌, ◌++◌}
+use Rattle.std.proofs.Common.{◌∙◌}
+use Rattle.lists.specs.Basics.{ℕ, suc, refl, sym, ap, Bool, true, false, cond, true≢false, List, [], length, take, drop}
 use Rattle.lists.specs.Basics.{all, any, count, and_fst, and_snd, and_both, choose_by, or_fst, or_snd}
 use Rattle.lists.specs.Order.{less_irrefl, less-total}
 use Rattle.model.specs.Types.{Key, Record, At}

@@ -1,6 +1,8 @@
 -- A line of an accepted record sheet by its index: what it says, and what replacing it does to the records.
 -- Bytes go by `pieces`; the order of keys stays since a record is replaced by one of the same key.
-use Rattle.lists.specs.Basics.{◌≡◌, refl, sym, ap, ap₂, subst, ◌∙◌, ℕ, zero, suc, ◌*◌, ◌/◌, ◌≤◌, ◌<◌, eqb, leb, ltb, Bool, true, ◌&&◌, cond, List, [], ◌∷◌, map}
+use Rattle.std.specs.Prelude.{◌≡◌, ◌*◌, ◌/◌, ◌≤◌, ◌<◌, ◌&&◌, ◌∷◌}
+use Rattle.std.proofs.Common.{◌∙◌}
+use Rattle.lists.specs.Basics.{refl, sym, ap, ap₂, subst, ℕ, zero, suc, eqb, leb, ltb, Bool, true, cond, List, [], map}
 use Rattle.lists.specs.Basics.{length, take, drop, get_or, set, length-map, length-set, get_or-map, get_or-eq_default, arith, eq-eqb, all, pieces, eq_list}
 use Rattle.lists.specs.Basics.{bytes, and_fst, and_snd, and_both, tests}
 use Rattle.decimal.specs.Field.{number, figure, scanned, within}

@@ -1,6 +1,8 @@
 -- A record line changed in its bytes: other text over the state word, the image, the before state, the image before or the clock, each where its fields begin. A line
 -- that can be read is the text of its record, and that text with a part written over is the text of the record with that part, whatever its numbers.
-use Rattle.lists.specs.Basics.{◌≡◌, refl, sym, ap, ap₂, ◌∙◌, ℕ, ◌+◌, ◌≤◌, Bool, true, false, cond, List, [], ◌∷◌, ◌++◌, append-nil, append_assoc, length, take}
+use Rattle.std.specs.Prelude.{◌≡◌, ◌+◌, ◌≤◌, ◌∷◌, ◌++◌}
+use Rattle.std.proofs.Common.{◌∙◌}
+use Rattle.lists.specs.Basics.{refl, sym, ap, ap₂, ℕ, Bool, true, false, cond, List, [], append-nil, append_assoc, length, take}
 use Rattle.lists.specs.Basics.{drop, length-append, arith}
 use Rattle.lists.specs.Pieces.{over, over_next}
 use Rattle.decimal.specs.Field.{field_text}

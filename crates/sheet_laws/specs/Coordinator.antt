@@ -1,6 +1,8 @@
 -- The coordinator sheet: both round trips, by the head and then line by line, and as numbers; what setting a decision and
 -- raising the issued count do.
-use Rattle.lists.specs.Basics.{◌≡◌, refl, ap, ap₂, ◌∙◌, ℕ, zero, suc, ◌+◌, ◌*◌, ◌/◌, ◌-◌, ◌≤◌, eqb, leb, Bool, true, false, not, ◌&&◌, cond, List, [], ◌∷◌, ◌++◌, map, length, take, drop}
+use Rattle.std.specs.Prelude.{◌≡◌, ◌+◌, ◌*◌, ◌/◌, ◌-◌, ◌≤◌, ◌&&◌, ◌∷◌, ◌++◌}
+use Rattle.std.proofs.Common.{◌∙◌}
+use Rattle.lists.specs.Basics.{refl, ap, ap₂, ℕ, zero, suc, eqb, leb, Bool, true, false, not, cond, List, [], map, length, take, drop}
 use Rattle.lists.specs.Basics.{get_or, length-map, drop_at, take_at, arith, eqb-true, leb-true, leb-false, eq-eqb, le-leb, lt-leb, all, joined, pieces, listed, eq_list, bytes}
 use Rattle.lists.specs.Basics.{and_fst, and_snd, and_both, tests}
 use Rattle.std.proofs.Math.ListN.{take-append-drop}

@@ -1,7 +1,8 @@
 -- A coordinator as numbers, ten for the head and one for each decision: both round trips, part by part.
-use Rattle.lists.specs.Basics.{◌≡◌, sym, ap, ap₂, ◌∙◌, ℕ, ◌≤◌, true, true≢false, List, [], ◌∷◌, ◌++◌, map, length, take, drop, length-map, length-append}
+use Rattle.std.specs.Prelude.{◌≡◌, ◌≤◌, ◌∷◌, ◌++◌}
+use Rattle.lists.specs.Basics.{sym, ap, ap₂, ℕ, true, true≢false, List, [], map, length, take, drop, length-map, length-append}
 use Rattle.lists.specs.Basics.{length-take, drop_at, take_at, arith, le-leb, all, and_both, tests}
-use Rattle.std.proofs.Common.{take-append-drop}
+use Rattle.std.proofs.Common.{take-append-drop, ◌∙◌}
 use Rattle.lists.specs.All.{all_map, all_weaken, all_always, map-map, map_same}
 use Rattle.model.specs.Types.{Decision}
 use Rattle.model.specs.Layouts.{head_layout, decision_column, head_fields}

@@ -1,9 +1,10 @@
 -- A line of the coordinator sheet by its number, and its head's count: what they say, and what replacing one does.
 -- A line goes by `pieces` of what follows the head; the count by the first column of the head.
-use Rattle.lists.specs.Basics.{◌≡◌, refl, sym, ap, ◌∙◌, ℕ, zero, suc, ◌+◌, ◌*◌, ◌/◌, ◌≤◌, ◌<◌, eqb, leb, Bool, true, ◌&&◌, List, [], ◌∷◌, ◌++◌, map, length}
+use Rattle.std.specs.Prelude.{◌≡◌, ◌+◌, ◌*◌, ◌/◌, ◌≤◌, ◌<◌, ◌&&◌, ◌∷◌, ◌++◌}
+use Rattle.lists.specs.Basics.{refl, sym, ap, ℕ, zero, suc, eqb, leb, Bool, true, List, [], map, length}
 use Rattle.lists.specs.Basics.{take, drop, get_or, set, length-map, length-take, length-set, get_or-map, drop-drop, drop_at, take_at, take-add, take-take}
 use Rattle.lists.specs.Basics.{arith, add-one, eq-eqb, le-leb, all, pieces, eq_list, bytes, and_fst, and_snd, and_both, tests}
-use Rattle.std.proofs.Common.{drop-set-lt}
+use Rattle.std.proofs.Common.{drop-set-lt, ◌∙◌}
 use Rattle.std.proofs.Math.Seq.{take-append-add, drop-append-add}
 use Rattle.lists.specs.All.{all_drop, all_set, map-set}
 use Rattle.lists.specs.Pieces.{over, over-after, over_zero, length_over, length-pieces, pieces-over, get_or-pieces}

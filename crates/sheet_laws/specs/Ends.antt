@@ -1,9 +1,10 @@
 -- A list of whole pieces is its front and spares behind it, and pieces that are no spares, with spares behind them, have these as front and spares. All by the list of
 -- pieces. For any width, and any piece d as the spare: the only one of its width that passes the test p. Lines of a sheet are such pieces, and the rows of its numbers.
-use Rattle.lists.specs.Basics.{ℕ, zero, suc, ◌+◌, ◌-◌, ◌*◌, ◌/◌, ◌≤◌, ◌<◌, ◌≡◌, refl, sym, ap, ap₂, ◌∙◌, Bool, true, not, List, [], ◌∷◌, ◌++◌, arith}
+use Rattle.std.specs.Prelude.{◌+◌, ◌-◌, ◌*◌, ◌/◌, ◌≤◌, ◌<◌, ◌≡◌, ◌∷◌, ◌++◌}
+use Rattle.lists.specs.Basics.{ℕ, zero, suc, refl, sym, ap, ap₂, Bool, true, not, List, [], arith}
 use Rattle.lists.specs.Basics.{length, take, drop, take_at, length-append, length-drop, replicate, all, and_fst, and_snd, joined, pieces}
 use Rattle.std.proofs.Math.Nat.{add-mul-div_right, zero-div}
-use Rattle.std.proofs.Common.{zero-add, take-append-drop, length-take-le}
+use Rattle.std.proofs.Common.{zero-add, take-append-drop, length-take-le, ◌∙◌}
 use Rattle.std.proofs.lemmas.List.{length-replicate}
 use Rattle.lists.specs.Pieces.{AllOf, joined-pieces, pieces-joined, length-pieces, length-joined, joined-append, all_join, all_first, all_rest, all-pieces, take-joined}
 use Rattle.model.specs.Spares.{trimmed}

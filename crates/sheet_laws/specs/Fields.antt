@@ -1,8 +1,10 @@
 -- A field, for any column that passes `column_ok`: reading what was written gives the number, and what reads as a number is
 -- what would be written for it. A figure has both from the laws of decimal fields. Of a word, the first is tested for each
 -- word of the set, and the second holds since reading compares with the words themselves.
-use Rattle.lists.specs.Basics.{◌≡◌, refl, sym, ap, subst, ◌∙◌, ℕ, zero, suc, ◌+◌, ◌-◌, ◌^◌, ◌≤◌, ◌<◌, eqb, leb, ltb, Bool, true, false, ◌&&◌, true≢false, List}
-use Rattle.lists.specs.Basics.{[], ◌∷◌, length, get_or, length-drop, arith, eqb-true, eqb-false, leb-true, eq-eqb, le-leb, all, eq_list, bytes, eq_list-true}
+use Rattle.std.specs.Prelude.{◌≡◌, ◌+◌, ◌-◌, ◌^◌, ◌≤◌, ◌<◌, ◌&&◌, ◌∷◌}
+use Rattle.std.proofs.Common.{◌∙◌}
+use Rattle.lists.specs.Basics.{refl, sym, ap, subst, ℕ, zero, suc, eqb, leb, ltb, Bool, true, false, true≢false, List}
+use Rattle.lists.specs.Basics.{[], length, get_or, length-drop, arith, eqb-true, eqb-false, leb-true, eq-eqb, le-leb, all, eq_list, bytes, eq_list-true}
 use Rattle.lists.specs.Basics.{eq_list_refl, and_fst, and_snd, and_both, same_test, tests}
 use Rattle.decimal.specs.declared.Scan.{Scan}
 use Rattle.decimal.specs.declared.Scan.TheVariants.{Blank, Number, Wrong}

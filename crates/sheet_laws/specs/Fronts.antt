@@ -1,9 +1,10 @@
 -- A sheet of whole lines is its front and spares behind it, and lines that are no spares, with spares behind them, have these as front and spares: the laws of `Ends` for
 -- lines, of which a sheet is the bytes. For any width.
-use Rattle.lists.specs.Basics.{ℕ, zero, suc, ◌+◌, ◌-◌, ◌*◌, ◌/◌, ◌≤◌, ◌<◌, ◌≡◌, refl, sym, ap, ap₂, ◌∙◌, Bool, true, false, not, true≢false, List, [], ◌∷◌, ◌++◌, arith}
+use Rattle.std.specs.Prelude.{◌+◌, ◌-◌, ◌*◌, ◌/◌, ◌≤◌, ◌<◌, ◌≡◌, ◌∷◌, ◌++◌}
+use Rattle.lists.specs.Basics.{ℕ, zero, suc, refl, sym, ap, ap₂, Bool, true, false, not, true≢false, List, [], arith}
 use Rattle.lists.specs.Basics.{length, take, drop, drop_at, get_or, get_or-drop, length-append, replicate, all, and_fst, and_snd, and_both, joined, eq_list-true, eq_list_refl}
 use Rattle.lists.specs.Basics.{tests}
-use Rattle.std.proofs.Common.{take-append-drop}
+use Rattle.std.proofs.Common.{take-append-drop, ◌∙◌}
 use Rattle.std.proofs.lemmas.List.{length-replicate}
 use Rattle.lists.specs.Pieces.{AllOf, joined-pieces, get_or-pieces, joined-append, all_join, all-pieces}
 use Rattle.model.specs.Types.{Column}

@@ -1,5 +1,7 @@
 -- Keys in order: keys compared as numbers are equal as keys, and on a sheet in order a later line has a higher key.
-use Rattle.lists.specs.Basics.{◌≡◌, refl, sym, ap, ◌∙◌, Bool, true, false, cond, true≢false, List, [], ◌∷◌, any, eq_list-true, eq_list_refl, and_fst, and_snd, or_else, or_fst, or_snd}
+use Rattle.std.specs.Prelude.{◌≡◌, ◌∷◌}
+use Rattle.std.proofs.Common.{◌∙◌}
+use Rattle.lists.specs.Basics.{refl, sym, ap, Bool, true, false, cond, true≢false, List, [], any, eq_list-true, eq_list_refl, and_fst, and_snd, or_else, or_fst, or_snd}
 use Rattle.lists.specs.Order.{less_irrefl, less_trans}
 use Rattle.model.specs.Types.{Key, Record}
 use Rattle.model.specs.Records.{key_numbers, key_of, key_less, in_order, rising, same_key, found, has_line, absent_at, line_of}

@@ -1,6 +1,8 @@
 -- A key as text: the first twenty bytes of its line. Two keys in range are the same where their texts are, since a key line
 -- reads as its key.
-use Rattle.lists.specs.Basics.{◌≡◌, refl, sym, ap, ◌∙◌, ℕ, Bool, true, ◌&&◌, and_assoc, and-true, List, [], ◌∷◌, ◌++◌, append-nil, length, take, drop, get_or, take_at, arith, all, eq_list}
+use Rattle.std.specs.Prelude.{◌≡◌, ◌&&◌, ◌∷◌, ◌++◌}
+use Rattle.std.proofs.Common.{◌∙◌}
+use Rattle.lists.specs.Basics.{refl, sym, ap, ℕ, Bool, true, and_assoc, and-true, List, [], append-nil, length, take, drop, get_or, take_at, arith, all, eq_list}
 use Rattle.lists.specs.Basics.{eq_list-true, eq_list_refl, and_fst, and_snd, and_both, same_test}
 use Rattle.model.specs.Types.{Key, Record, Column}
 use Rattle.model.specs.Layouts.{record_layout, key_layout, no_column, state_field, offset, key_bytes}

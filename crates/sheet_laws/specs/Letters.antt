@@ -1,6 +1,8 @@
 -- The letters as nine bytes, the part of the coordinator's head that says them: letter by letter from the left, each by the word that it is.
-use Rattle.lists.specs.Basics.{◌≡◌, refl, sym, ap, ap₂, ◌∙◌, ℕ, zero, suc, ◌+◌, ◌≤◌, ◌<◌, eqb, leb, Bool, true, false, not, ◌&&◌, ◌||◌, cond, true≢false, and-false, List, []}
-use Rattle.lists.specs.Basics.{◌∷◌, map, length, take, drop, get_or, replicate, drop-drop, arith, eqb-true, all, eq_list, bytes, and_fst, and_snd}
+use Rattle.std.specs.Prelude.{◌≡◌, ◌+◌, ◌≤◌, ◌<◌, ◌&&◌, ◌||◌, ◌∷◌}
+use Rattle.std.proofs.Common.{◌∙◌}
+use Rattle.lists.specs.Basics.{refl, sym, ap, ap₂, ℕ, zero, suc, eqb, leb, Bool, true, false, not, cond, true≢false, and-false, List, []}
+use Rattle.lists.specs.Basics.{map, length, take, drop, get_or, replicate, drop-drop, arith, eqb-true, all, eq_list, bytes, and_fst, and_snd}
 use Rattle.lists.specs.Pieces.{take-drop-take}
 use Rattle.lists.specs.Walks.{LeftFrom, left_here, left_last}
 use Rattle.decimal.specs.declared.Scan.{Scan}

@@ -1,5 +1,7 @@
 -- A line, for any layout whose columns pass `column_ok`: both round trips, field by field from the left.
-use Rattle.lists.specs.Basics.{◌≡◌, refl, sym, ap, ap₂, ◌∙◌, ℕ, zero, suc, ◌+◌, ◌≤◌, ◌<◌, Bool, true, ◌&&◌, List, [], ◌∷◌, ◌++◌, length, take, drop, get_or}
+use Rattle.std.specs.Prelude.{◌≡◌, ◌+◌, ◌≤◌, ◌<◌, ◌&&◌, ◌∷◌, ◌++◌}
+use Rattle.std.proofs.Common.{◌∙◌}
+use Rattle.lists.specs.Basics.{refl, sym, ap, ap₂, ℕ, zero, suc, Bool, true, List, [], length, take, drop, get_or}
 use Rattle.lists.specs.Basics.{length-take, length-drop, drop-drop, drop_at, take_at, get_or-drop, arith, all, eq_list, eq_list-true, eq_list_refl, and_fst, and_snd}
 use Rattle.lists.specs.Basics.{and_both}
 use Rattle.std.proofs.Math.ListN.{take-append-drop}

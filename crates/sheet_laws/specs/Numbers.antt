@@ -1,5 +1,7 @@
 -- Records as numbers, sixteen to a record: both round trips, record by record.
-use Rattle.lists.specs.Basics.{◌≡◌, sym, ap, ◌∙◌, ℕ, ◌*◌, ◌/◌, eqb, true, ◌&&◌, List, map, length, length-map, arith, eqb-true, eq-eqb, all, joined, pieces}
+use Rattle.std.specs.Prelude.{◌≡◌, ◌*◌, ◌/◌, ◌&&◌}
+use Rattle.std.proofs.Common.{◌∙◌}
+use Rattle.lists.specs.Basics.{sym, ap, ℕ, eqb, true, List, map, length, length-map, arith, eqb-true, eq-eqb, all, joined, pieces}
 use Rattle.lists.specs.Basics.{and_fst, and_snd, and_both, tests}
 use Rattle.lists.specs.All.{all_map, all-and, all_weaken, all_of, pieces_whole, map-map, map_same, map_equal}
 use Rattle.lists.specs.Pieces.{length-pieces, joined-pieces, pieces-joined, length-joined}

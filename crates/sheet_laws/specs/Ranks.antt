@@ -1,5 +1,7 @@
 -- Where a key stands: on a sheet in order the index of its line is the number of smaller keys, since those stand above it and no others do. Document 02, note 5.
-use Rattle.lists.specs.Basics.{◌≡◌, refl, sym, ap, subst, ◌∙◌, ℕ, suc, ◌+◌, ◌-◌, ◌≤◌, ◌<◌, ltb, Bool, true, false, ◌||◌, cond, true≢false, List, [], ◌∷◌, length, take, drop, get_or}
+use Rattle.std.specs.Prelude.{◌≡◌, ◌+◌, ◌-◌, ◌≤◌, ◌<◌, ◌||◌, ◌∷◌}
+use Rattle.std.proofs.Common.{◌∙◌}
+use Rattle.lists.specs.Basics.{refl, sym, ap, subst, ℕ, suc, ltb, Bool, true, false, cond, true≢false, List, [], length, take, drop, get_or}
 use Rattle.lists.specs.Basics.{length-take, length-drop, get_or-take, get_or-drop, arith, ltb-true, ltb-false, all, any, count, and_fst, and_snd, and_both, tests}
 use Rattle.lists.specs.All.{all_at}
 use Rattle.lists.specs.Chosen.{none_at, count_none, count_le, count-all}

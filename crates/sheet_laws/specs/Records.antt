@@ -1,6 +1,8 @@
 -- The record sheet: an accepted sheet is the text of its records, and rule-keeping records are those of their text.
 -- A line goes by the round trips of `record_layout`, a sheet line by line; replacing a line is replacing a record.
-use Rattle.lists.specs.Basics.{◌≡◌, refl, sym, ap, ap₂, ◌∙◌, ℕ, zero, suc, ◌*◌, ◌/◌, ◌≤◌, ◌<◌, leb, Bool, true, List, map, length, get_or, length-map, arith, leb-true, eq-eqb}
+use Rattle.std.specs.Prelude.{◌≡◌, ◌*◌, ◌/◌, ◌≤◌, ◌<◌}
+use Rattle.std.proofs.Common.{◌∙◌}
+use Rattle.lists.specs.Basics.{refl, sym, ap, ap₂, ℕ, zero, suc, leb, Bool, true, List, map, length, get_or, length-map, arith, leb-true, eq-eqb}
 use Rattle.lists.specs.Basics.{all, joined, pieces, listed, eq_list, bytes, and_snd, and_both, tests}
 use Rattle.lists.specs.All.{all_map, all_weaken, all_of, map_same, map-map, listed_is}
 use Rattle.lists.specs.Pieces.{joined-pieces, pieces-joined, length-joined}

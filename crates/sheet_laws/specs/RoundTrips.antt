@@ -1,7 +1,9 @@
 -- T3 over the coordinator's calls: a sheet read into numbers and written again is the same sheet, and numbers written and read are the same
 -- numbers, into any targets of the right length (SparedNumbers has the record sheet's). Each call does what its definition says, and the definitions
 -- undo each other.
-use Rattle.lists.specs.Basics.{◌≡◌, ap, ◌∙◌, ℕ, ◌+◌, ◌*◌, ◌/◌, ◌≤◌, true, List, map, length, drop, length-map, length-append, length-drop, arith, eq-eqb}
+use Rattle.std.specs.Prelude.{◌≡◌, ◌+◌, ◌*◌, ◌/◌, ◌≤◌}
+use Rattle.std.proofs.Common.{◌∙◌}
+use Rattle.lists.specs.Basics.{ap, ℕ, true, List, map, length, drop, length-map, length-append, length-drop, arith, eq-eqb}
 use Rattle.lists.specs.Basics.{tests}
 use Rattle.model.specs.Layouts.{coordinator_bytes, head_fields}
 use Rattle.model.specs.Coordinator.{Coordinator, letter_number, decision_number, head_numbers, coordinator_good, coordinator_of, coordinator_text, coordinator_accepted}

@@ -1,5 +1,7 @@
 -- The search of an element that passes a test, for any list and test: whether something is found, what is known of its index, and when another search finds the same.
-use Rattle.lists.specs.Basics.{◌≡◌, refl, ap, ap₂, subst, ◌∙◌, ℕ, suc, ◌+◌, ◌<◌, Bool, true, false, not, ◌||◌, cond, List, [], ◌∷◌, map, length, take, get_or}
+use Rattle.std.specs.Prelude.{◌≡◌, ◌+◌, ◌<◌, ◌||◌, ◌∷◌}
+use Rattle.std.proofs.Common.{◌∙◌}
+use Rattle.lists.specs.Basics.{refl, ap, ap₂, subst, ℕ, suc, Bool, true, false, not, cond, List, [], map, length, take, get_or}
 use Rattle.lists.specs.Basics.{arith, all, any, and_fst, and_snd, choose_by}
 use Rattle.model.specs.Types.{Found, At, Nothing}
 use Rattle.model.specs.Search.{first_from}

@@ -1,6 +1,8 @@
 -- Single fields of a line by its index, each read without the others: a figure of an accepted record sheet by its digits, and a word of any sheet by
 -- its bytes. The bytes at a field's offset are those of the field, and past the last line every number is 0.
-use Rattle.lists.specs.Basics.{◌≡◌, refl, sym, ap, ap₂, subst, ◌∙◌, ℕ, zero, suc, ◌+◌, ◌*◌, ◌/◌, ◌^◌, ◌≤◌, ◌<◌, eqb, leb, ltb, Bool, true, false, ◌&&◌, cond, List}
+use Rattle.std.specs.Prelude.{◌≡◌, ◌+◌, ◌*◌, ◌/◌, ◌^◌, ◌≤◌, ◌<◌, ◌&&◌}
+use Rattle.std.proofs.Common.{◌∙◌}
+use Rattle.lists.specs.Basics.{refl, sym, ap, ap₂, subst, ℕ, zero, suc, eqb, leb, ltb, Bool, true, false, cond, List}
 use Rattle.lists.specs.Basics.{length, take, drop, get_or, length-take, length-drop, take_all, arith, eqb-true, ne_eqb, leb-true, ltb-true, ltb-false, all, eq_list, and_snd}
 use Rattle.lists.specs.Basics.{choose_by}
 use Rattle.lists.specs.All.{all_at}

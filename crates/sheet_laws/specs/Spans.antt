@@ -1,8 +1,9 @@
 -- Fields that stand one behind another in a line: their text, the bytes where it stands, and the line with other numbers in them. A line is the text
 -- of its fields one after another, each as wide as its column, so that a span begins at its first field's offset.
-use Rattle.lists.specs.Basics.{◌≡◌, refl, sym, ap, ap₂, ◌∙◌, ℕ, zero, suc, ◌+◌, ◌≤◌, ◌<◌, Bool, true, List, [], ◌∷◌, ◌++◌, append-nil, append_assoc, length}
+use Rattle.std.specs.Prelude.{◌≡◌, ◌+◌, ◌≤◌, ◌<◌, ◌∷◌, ◌++◌}
+use Rattle.lists.specs.Basics.{refl, sym, ap, ap₂, ℕ, zero, suc, Bool, true, List, [], append-nil, append_assoc, length}
 use Rattle.lists.specs.Basics.{take, drop, get_or, length-append, length-take, drop-drop, drop-cons, drop_at, take_at, arith, all, and_fst, and_snd}
-use Rattle.std.proofs.Common.{take-append-drop}
+use Rattle.std.proofs.Common.{take-append-drop, ◌∙◌}
 use Rattle.lists.specs.Pieces.{over, over_zero, over-after}
 use Rattle.model.specs.Types.{Column}
 use Rattle.model.specs.Layouts.{no_column, offset}

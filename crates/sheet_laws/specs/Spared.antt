@@ -1,6 +1,8 @@
 -- Record sheets with spares: the records and the size that a sheet says are those for which it is the text. The text's front is that of the records, since a line that can be
 -- read is no spare.
-use Rattle.lists.specs.Basics.{◌≡◌, refl, sym, ap, ap₂, ◌∙◌, ℕ, ◌+◌, ◌-◌, ◌*◌, ◌/◌, ◌≤◌, true, false, not, List, [], ◌∷◌, ◌++◌, map, length, length-map, arith, all, and_fst, and_snd, and_both}
+use Rattle.std.specs.Prelude.{◌≡◌, ◌+◌, ◌-◌, ◌*◌, ◌/◌, ◌≤◌, ◌∷◌, ◌++◌}
+use Rattle.std.proofs.Common.{◌∙◌}
+use Rattle.lists.specs.Basics.{refl, sym, ap, ap₂, ℕ, true, false, not, List, [], map, length, length-map, arith, all, and_fst, and_snd, and_both}
 use Rattle.lists.specs.Basics.{eq-eqb, le-leb, tests, bytes, eq_list}
 use Rattle.lists.specs.All.{all_weaken, all_of}
 use Rattle.lists.specs.Pieces.{AllOf}

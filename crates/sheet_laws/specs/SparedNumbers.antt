@@ -1,6 +1,8 @@
 -- T3 over the record sheet's calls, spares among it: a sheet read into numbers and written again is the same sheet, and numbers written and read are the same numbers,
 -- into any targets of the right length. Sheet and numbers are each those of records and so many spares, and the calls take one to the other.
-use Rattle.lists.specs.Basics.{ℕ, zero, suc, ◌+◌, ◌-◌, ◌*◌, ◌/◌, ◌≤◌, ◌≡◌, refl, sym, ap, ap₂, ◌∙◌, eqb, Bool, true, false, not, ◌&&◌, List, [], ◌∷◌, ◌++◌}
+use Rattle.std.specs.Prelude.{◌+◌, ◌-◌, ◌*◌, ◌/◌, ◌≤◌, ◌≡◌, ◌&&◌, ◌∷◌, ◌++◌}
+use Rattle.std.proofs.Common.{◌∙◌}
+use Rattle.lists.specs.Basics.{ℕ, zero, suc, refl, sym, ap, ap₂, eqb, Bool, true, false, not, List, []}
 use Rattle.lists.specs.Basics.{map, length, length-map, replicate, arith, eqb-true, eq-eqb, ne_eqb, le-leb, all, joined, eq_list, bytes, and_fst, and_snd}
 use Rattle.lists.specs.Basics.{and_both, drop, tests}
 use Rattle.std.proofs.lemmas.List.{replicate-append-replicate}

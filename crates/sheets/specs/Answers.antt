@@ -1,5 +1,7 @@
 -- What each call answers, case by case in the order of its conditions.
-use Rattle.lists.specs.Basics.{◌≡◌, refl, sym, ap, ◌∙◌, ℕ, ◌+◌, ◌*◌, ◌≤◌, Bool, true, false, not, List, [], ◌∷◌, length, length-take, take, drop, arith}
+use Rattle.std.specs.Prelude.{◌≡◌, ◌+◌, ◌*◌, ◌≤◌, ◌∷◌}
+use Rattle.std.proofs.Common.{◌∙◌}
+use Rattle.lists.specs.Basics.{refl, sym, ap, ℕ, Bool, true, false, not, List, [], length, length-take, take, drop, arith}
 use Rattle.model.specs.Types.{Key, Record, Rank, Ranked, Found, At, Nothing}
 use Rattle.model.specs.Layouts.{record_bytes}
 use Rattle.model.specs.Records.{no_record, records, records_accepted, key_in_range, same_key, found, is_missing, ranked, placed}

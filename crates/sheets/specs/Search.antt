@@ -1,7 +1,8 @@
 -- The search of a key, line by line and field by field: the first line whose twenty bytes are those of the key's line; and of its rank, by halves.
-use Rattle.lists.specs.Basics.{◌≡◌, refl, sym, ap, ap₂, ◌∙◌, ℕ, zero, suc, ◌+◌, ◌-◌, ◌*◌, ◌/◌, ◌≤◌, ◌<◌, Bool, true, false, cond, true≢false, List, [], ◌∷◌}
-use Rattle.lists.specs.Basics.{◌++◌, map, length, take, drop, get_or, drop-drop, take-add, arith, add-one, ltb, ltb-true, ltb-false, all, eq_list, eq_list-true, eq_list_refl, tests}
-use Rattle.std.proofs.Common.{zero-add}
+use Rattle.std.specs.Prelude.{◌≡◌, ◌+◌, ◌-◌, ◌*◌, ◌/◌, ◌≤◌, ◌<◌, ◌∷◌, ◌++◌}
+use Rattle.lists.specs.Basics.{refl, sym, ap, ap₂, ℕ, zero, suc, Bool, true, false, cond, true≢false, List, []}
+use Rattle.lists.specs.Basics.{map, length, take, drop, get_or, drop-drop, take-add, arith, add-one, ltb, ltb-true, ltb-false, all, eq_list, eq_list-true, eq_list_refl, tests}
+use Rattle.std.proofs.Common.{zero-add, ◌∙◌}
 use Rattle.lists.specs.Bytes.{ne_eq_list}
 use Rattle.lists.specs.Pieces.{take-drop-take, get_or-pieces}
 use Rattle.lists.specs.Walks.{LeftFrom, left_here, left_last}

@@ -1,7 +1,8 @@
 -- A line is a spare where its tens are those of a spare, and its last ten bytes are. What was compared so far is the same in both; the last ten close what is left.
-use Rattle.lists.specs.Basics.{ℕ, zero, suc, ◌+◌, ◌-◌, ◌*◌, ◌/◌, ◌≤◌, ◌≡◌, refl, sym, ap, ap₂, ◌∙◌, Bool, true, false, true≢false, List, [], ◌∷◌, ◌++◌, arith}
+use Rattle.std.specs.Prelude.{◌+◌, ◌-◌, ◌*◌, ◌/◌, ◌≤◌, ◌≡◌, ◌∷◌, ◌++◌}
+use Rattle.lists.specs.Basics.{ℕ, zero, suc, refl, sym, ap, ap₂, Bool, true, false, true≢false, List, [], arith}
 use Rattle.lists.specs.Basics.{length, take, drop, length-drop, drop-drop, take-add, take_all, replicate, eq_list, eq_list-true, eq_list_refl}
-use Rattle.std.proofs.Common.{take-append-drop, length-take-le}
+use Rattle.std.proofs.Common.{take-append-drop, length-take-le, ◌∙◌}
 use Rattle.lists.specs.Pieces.{take-drop-take}
 use Rattle.model.specs.Layouts.{record_bytes}
 use Rattle.model.specs.Spares.{spare_line, is_spare}

@@ -1,8 +1,9 @@
 -- Where the spares at the end of a sheet begin: the lines behind the first n are spares, and line n - 1 is compared. For any width.
-use Rattle.lists.specs.Basics.{ℕ, zero, suc, ◌+◌, ◌-◌, ◌*◌, ◌/◌, ◌≤◌, ◌<◌, ◌≡◌, sym, ap, ◌∙◌, true, false, List, [], ◌∷◌, ◌++◌, arith}
+use Rattle.std.specs.Prelude.{◌+◌, ◌-◌, ◌*◌, ◌/◌, ◌≤◌, ◌<◌, ◌≡◌, ◌∷◌, ◌++◌}
+use Rattle.lists.specs.Basics.{ℕ, zero, suc, sym, ap, true, false, List, [], arith}
 use Rattle.lists.specs.Basics.{length, take, drop, take_all, pieces}
 use Rattle.std.proofs.Math.Nat.{suc-mul}
-use Rattle.std.proofs.Common.{zero-mul}
+use Rattle.std.proofs.Common.{zero-mul, ◌∙◌}
 use Rattle.std.proofs.Math.Seq.{take-suc, length-take-le}
 use Rattle.lists.specs.Pieces.{length-pieces, get_or-pieces}
 use Rattle.model.specs.Lines.{lines_of}

@@ -1,9 +1,10 @@
 -- Laws of the loops that move bytes, so many at once, and of the lines of a sheet that was moved. For any width.
-use Rattle.lists.specs.Basics.{ℕ, zero, suc, ◌+◌, ◌-◌, ◌*◌, ◌≤◌, ◌<◌, ◌≡◌, refl, sym, ap, ap₂, ◌∙◌, List, [], ◌∷◌, ◌++◌, append_assoc, append-nil, arith}
+use Rattle.std.specs.Prelude.{◌+◌, ◌-◌, ◌*◌, ◌≤◌, ◌<◌, ◌≡◌, ◌∷◌, ◌++◌}
+use Rattle.lists.specs.Basics.{ℕ, zero, suc, refl, sym, ap, ap₂, List, [], append_assoc, append-nil, arith}
 use Rattle.lists.specs.Basics.{add-one, length, take, drop, length-append, length-take, length-drop, drop_of_length-le, drop-drop, take_at, drop_at, take-add}
 use Rattle.lists.specs.Basics.{take_all, take-take, joined, pieces}
 use Rattle.std.proofs.Math.Nat.{suc-mul}
-use Rattle.std.proofs.Common.{zero-mul, add-mul, length-take-le}
+use Rattle.std.proofs.Common.{zero-mul, add-mul, length-take-le, ◌∙◌}
 use Rattle.std.proofs.lemmas.List.{take-append-le}
 use Rattle.lists.specs.Pieces.{over, over-same, over-part, over_next, take-drop-take, joined-append, pieces_add, length-pieces}
 use Rattle.lists.specs.Fill.{fill_room}

@@ -1,5 +1,6 @@
 -- A list with an element put in or taken out, the others shifting by one, and the same of bytes.
-use Rattle.lists.specs.Basics.{ℕ, ◌+◌, ◌-◌, List, [], ◌∷◌, ◌++◌, length, take, drop}
+use Rattle.std.specs.Prelude.{◌+◌, ◌-◌, ◌∷◌, ◌++◌}
+use Rattle.lists.specs.Basics.{ℕ, List, [], length, take, drop}
 
 -- x at index i; what stood there and below stands one further down, and the last goes
 unfoldable pub insert_at {ℓ} : {A : Type ℓ} → ℕ → A → List A → List A

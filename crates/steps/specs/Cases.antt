@@ -1,5 +1,7 @@
 -- The step table by its cases: what each outcome of the tests comes to, so that every arm of the code is one of them.
-use Rattle.lists.specs.Basics.{◌≡◌, refl, sym, ap, subst, ◌∙◌, ℕ, eqb, true, false, List, get_or, all, choose_by}
+use Rattle.std.specs.Prelude.{◌≡◌}
+use Rattle.std.proofs.Common.{◌∙◌}
+use Rattle.lists.specs.Basics.{refl, sym, ap, subst, ℕ, eqb, true, false, List, get_or, all, choose_by}
 use Rattle.model.specs.Types.{Undecided, Committed, Aborted, Transaction}
 use Rattle.lists.specs.Chosen.{Missed}
 use Rattle.transactions.specs.Phases.{phase_past}

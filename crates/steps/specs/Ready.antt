@@ -1,5 +1,7 @@
 -- What the refusals have let pass, in the parts that each phase asks for: accepted bytes, and of a well-formed transaction its body, and its place by its phase.
-use Rattle.lists.specs.Basics.{◌≡◌, refl, sym, ap, ◌∙◌, ℕ, zero, suc, ◌≤◌, ◌<◌, ltb, Bool, true, ◌||◌, List, [], ◌∷◌, length, take, drop, get_or, arith, ltb-true}
+use Rattle.std.specs.Prelude.{◌≡◌, ◌≤◌, ◌<◌, ◌||◌, ◌∷◌}
+use Rattle.std.proofs.Common.{◌∙◌}
+use Rattle.lists.specs.Basics.{refl, sym, ap, ℕ, zero, suc, ltb, Bool, true, List, [], length, take, drop, get_or, arith, ltb-true}
 use Rattle.lists.specs.Basics.{any, or_right}
 use Rattle.model.specs.Types.{Entry, Transaction}
 use Rattle.model.specs.Records.{records, records_accepted, same_key}

@@ -1,5 +1,7 @@
 -- What a step leaves: the transaction, and both sheets as its write leaves them. A sheet that the write does not change is the text of what it says.
-use Rattle.lists.specs.Basics.{◌≡◌, refl, sym, ap, ◌∙◌, ℕ, ◌*◌, true, false, cond, List}
+use Rattle.std.specs.Prelude.{◌≡◌, ◌*◌}
+use Rattle.std.proofs.Common.{◌∙◌}
+use Rattle.lists.specs.Basics.{refl, sym, ap, ℕ, true, false, cond, List}
 use Rattle.lists.specs.Pieces.{over}
 use Rattle.model.specs.Types.{Record, Decision, Transaction}
 use Rattle.model.specs.Layouts.{coordinator_bytes}

@@ -1,5 +1,7 @@
 -- The first line of an input: its figures as they are read from the bytes, and which inputs it fits.
-use Rattle.lists.specs.Basics.{◌≡◌, refl, sym, ap, ap₂, ◌∙◌, ℕ, ◌+◌, ◌-◌, ◌*◌, ◌≤◌, ◌<◌, eqb, Bool, true, false, not, ◌&&◌, and-false, List, [], ◌∷◌, length}
+use Rattle.std.specs.Prelude.{◌≡◌, ◌+◌, ◌-◌, ◌*◌, ◌≤◌, ◌<◌, ◌&&◌, ◌∷◌}
+use Rattle.std.proofs.Common.{◌∙◌}
+use Rattle.lists.specs.Basics.{refl, sym, ap, ap₂, ℕ, eqb, Bool, true, false, not, and-false, List, [], length}
 use Rattle.lists.specs.Basics.{take, drop, get_or, length-take, drop_of_length-le, drop-drop, drop-cons, take-take, get_or-take, arith, eqb-true, not-false, eq_list}
 use Rattle.lists.specs.Basics.{and_fst, and_snd}
 use Rattle.lists.specs.Fill.{rest_part}

@@ -1,5 +1,7 @@
 -- What the visiting program's work answers and leaves in lent memory, and how its parts come together.
-use Rattle.lists.specs.Basics.{◌≡◌, refl, sym, ap, ap₂, ◌∙◌, ℕ, ◌+◌, ◌-◌, ◌≤◌, ◌<◌, eqb, leb, Bool, true, false, ◌&&◌, cond, and-false, List, [], ◌∷◌, ◌++◌}
+use Rattle.std.specs.Prelude.{◌≡◌, ◌+◌, ◌-◌, ◌≤◌, ◌<◌, ◌&&◌, ◌∷◌, ◌++◌}
+use Rattle.std.proofs.Common.{◌∙◌}
+use Rattle.lists.specs.Basics.{refl, sym, ap, ap₂, ℕ, eqb, leb, Bool, true, false, cond, and-false, List, []}
 use Rattle.lists.specs.Basics.{append_assoc, length, take, drop, length-append, length-take, length-drop, drop-drop, drop_at, take_at, arith, le-leb, lt-leb}
 use Rattle.lists.specs.Basics.{bytes, and_both}
 use Rattle.decimal.specs.Field.{field_text}

@@ -1,7 +1,8 @@
 -- The keys of a sheet visited one after another: a visit keeps the keys, so that the key of a line is that of the sheet at first.
-use Rattle.lists.specs.Basics.{◌≡◌, refl, sym, ap, ap₂, subst, ◌∙◌, ℕ, zero, suc, ◌+◌, ◌*◌, ◌/◌, ◌^◌, ◌≤◌, ◌<◌, List, [], ◌∷◌, ◌++◌, map, length, take, drop, get_or}
+use Rattle.std.specs.Prelude.{◌≡◌, ◌+◌, ◌*◌, ◌/◌, ◌^◌, ◌≤◌, ◌<◌, ◌∷◌, ◌++◌}
+use Rattle.lists.specs.Basics.{refl, sym, ap, ap₂, subst, ℕ, zero, suc, List, [], map, length, take, drop, get_or}
 use Rattle.lists.specs.Basics.{length-map, drop_of_length-le, get_or-map, arith, add-one}
-use Rattle.std.proofs.Common.{length-take-le}
+use Rattle.std.proofs.Common.{length-take-le, ◌∙◌}
 use Rattle.lists.specs.Walks.{drop_here}
 use Rattle.model.specs.Types.{Key, Record}
 use Rattle.model.specs.Layouts.{record_bytes}

@@ -1,6 +1,8 @@
 -- How long sheets and inputs are: an accepted sheet keeps its number of lines, so an input longer than the largest that fits is refused by 1,
 -- and reading a byte more than that is enough.
-use Rattle.lists.specs.Basics.{◌≡◌, refl, sym, ap, ◌∙◌, ℕ, ◌+◌, ◌-◌, ◌*◌, ◌/◌, ◌≤◌, ◌<◌, eqb, leb, Bool, true, false, cond, List, length, take, drop}
+use Rattle.std.specs.Prelude.{◌≡◌, ◌+◌, ◌-◌, ◌*◌, ◌/◌, ◌≤◌, ◌<◌}
+use Rattle.std.proofs.Common.{◌∙◌}
+use Rattle.lists.specs.Basics.{refl, sym, ap, ℕ, eqb, leb, Bool, true, false, cond, List, length, take, drop}
 use Rattle.lists.specs.Basics.{length-take, length-drop, take_all, arith, leb-true, leb-false}
 use Rattle.model.specs.Layouts.{record_bytes, coordinator_bytes, most_coordinator_bytes, most_record_bytes}
 use Rattle.model.specs.Spares.{sheet_accepted}

@@ -1,6 +1,8 @@
 -- Acts of two clients, so that the hypotheses of what is proved of clients are met: one closes an order of two groups, crashes after the third write with both lines still PREPARED, and
 -- the other has read one of them and is turned back. That the history is legal follows from the law; what it leaves follows from the definitions by computation.
-use Rattle.lists.specs.Basics.{◌≡◌, refl, ap, subst, ◌∙◌, ℕ, true, false, List, [], ◌∷◌, map, all, bytes}
+use Rattle.std.specs.Prelude.{◌≡◌, ◌∷◌}
+use Rattle.std.proofs.Common.{◌∙◌}
+use Rattle.lists.specs.Basics.{refl, ap, subst, ℕ, true, false, List, [], map, all, bytes}
 use Rattle.model.specs.Types.{Key}
 use Rattle.types.specs.declared.Request.TheVariants as asked
 use Rattle.model.specs.Lines.{text}

@@ -1,7 +1,9 @@
 -- A legal history, so that the hypotheses of demand 3 are met: two clients in turns, a refused call that brings a forged transaction, readings of the clock
 -- beyond 2^31, one commit in one phase and one in two, and a third client that dies with one of its groups prepared. The table says what each turn
 -- answers and leaves; it follows from the definitions by computation, and legality from the table.
-use Rattle.lists.specs.Basics.{◌≡◌, refl, ap, subst, ◌∙◌, ℕ, true, false, List, [], ◌∷◌, map, inl, inr, arith, bytes}
+use Rattle.std.specs.Prelude.{◌≡◌, ◌∷◌}
+use Rattle.std.proofs.Common.{◌∙◌}
+use Rattle.lists.specs.Basics.{refl, ap, subst, ℕ, true, false, List, [], map, inl, inr, arith, bytes}
 use Rattle.model.specs.Types.{Key, Transaction}
 use Rattle.types.specs.declared.Reading.TheVariants.{Absent, Value}
 use Rattle.types.specs.declared.Request.TheVariants as asked

@@ -1,7 +1,9 @@
 -- A legal history in which every transaction is begun as checked, so that the hypotheses of serializability are met. Number 1 puts A and has seen B, number 2 has
 -- seen B and puts nothing, number 3 puts B: they count in this order, and commit in the opposite one. As in Sample the table follows from the definitions by
 -- computation, and the rest from the table.
-use Rattle.lists.specs.Basics.{◌≡◌, refl, sym, ap, ap₂, ◌∙◌, ℕ, true, false, List, [], ◌∷◌, map, inl, inr, arith, all, bytes}
+use Rattle.std.specs.Prelude.{◌≡◌, ◌∷◌}
+use Rattle.std.proofs.Common.{◌∙◌}
+use Rattle.lists.specs.Basics.{refl, sym, ap, ap₂, ℕ, true, false, List, [], map, inl, inr, arith, all, bytes}
 use Rattle.model.specs.Types.{Transaction}
 use Rattle.types.specs.declared.Reading.TheVariants.{Absent, Value}
 use Rattle.model.specs.Lines.{text}

@@ -1,5 +1,6 @@
 -- Spares by computation: which sheets are accepted, and a visit that leaves them. Document 02, note 6.
-use Rattle.lists.specs.Basics.{replicate, ◌≡◌, refl, ℕ, List, [], ◌∷◌, map, bytes}
+use Rattle.std.specs.Prelude.{◌≡◌, ◌∷◌}
+use Rattle.lists.specs.Basics.{replicate, refl, ℕ, List, [], map, bytes}
 use Rattle.model.specs.Lines.{text}
 use Rattle.model.specs.Refusals.{refusal_of}
 use Rattle.model.specs.SheetCalls.{check_conditions}

@@ -1,6 +1,8 @@
 -- A history told as a table: what each turn is, answers and leaves. That the table is true follows from the definitions by computation, and what the history
 -- leaves, its events and whether it is legal follow from the table.
-use Rattle.lists.specs.Basics.{◌≡◌, refl, sym, ap, ap₂, subst, ◌∙◌, ℕ, eqb, false, true≢false, List, [], ◌∷◌, map, none, some, none-ne-some}
+use Rattle.std.specs.Prelude.{◌≡◌, ◌∷◌}
+use Rattle.std.proofs.Common.{◌∙◌}
+use Rattle.lists.specs.Basics.{refl, sym, ap, ap₂, subst, ℕ, eqb, false, true≢false, List, [], map, none, some, none-ne-some}
 use Rattle.lists.specs.Basics.{some-injective, eq-eqb}
 use Rattle.model.specs.Types.{Key, Image, Columns, Transaction, Request}
 use Rattle.model.specs.Results.{Call, Answer}

@@ -4,7 +4,9 @@
 -- holds A by two calls with the right columns and puts B of storage 2: it isn't checked, goes through check for A alone, and commits.
 -- Without the bar on one-phase neither 1 nor 2 would come to prepare, and without comparing columns the prepare of 2 would write: either definition makes the
 -- table false. A second history, of checked transactions, meets the hypotheses of the serial order over two sheets.
-use Rattle.lists.specs.Basics.{◌≡◌, refl, ap, subst, ◌∙◌, ℕ, true, false, List, [], ◌∷◌, map, inl, inr, arith, bytes, all}
+use Rattle.std.specs.Prelude.{◌≡◌, ◌∷◌}
+use Rattle.std.proofs.Common.{◌∙◌}
+use Rattle.lists.specs.Basics.{refl, ap, subst, ℕ, true, false, List, [], map, inl, inr, arith, bytes, all}
 use Rattle.model.specs.Types.{Key, Transaction}
 use Rattle.types.specs.declared.Reading.TheVariants.{Value, First}
 use Rattle.types.specs.declared.Recovery.TheVariants.{Again}

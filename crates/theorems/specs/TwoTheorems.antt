@@ -1,7 +1,8 @@
 -- DOCUMENT 02, NOTE 4: what is proved of the operations on a plain sheet and a bookkeeping sheet, in the words of the definitions of `model` (TwoSheets, TwoCalls),
 -- each by citing the law that proves it. The contracts of the operations on two sheets cite `response_two`, `plain_left` and `bookkeeping_left`, so that what holds of
 -- these holds of the functions that run.
-use Rattle.lists.specs.Basics.{◌≡◌, ℕ, ◌^◌, ◌≤◌, ◌<◌, true, ◌&&◌, false, List, [], ◌∷◌, map, drop, some, all}
+use Rattle.std.specs.Prelude.{◌≡◌, ◌^◌, ◌≤◌, ◌<◌, ◌&&◌, ◌∷◌}
+use Rattle.lists.specs.Basics.{ℕ, true, false, List, [], map, drop, some, all}
 use Rattle.model.specs.Types.{Key, Columns, Transaction, Request}
 use Rattle.types.specs.declared.Reading.TheVariants.{First}
 use Rattle.model.specs.Layouts.{record_bytes}

@@ -1,5 +1,7 @@
 -- The entries in use, one by one: how far a loop over them has come, and what one turn of it does, for each kind of question that a loop answers.
-use Rattle.lists.specs.Basics.{◌≡◌, refl, sym, ap, ◌∙◌, ℕ, suc, ◌+◌, ◌-◌, ◌≤◌, ◌<◌, ltb, Bool, true, false, not, ◌||◌, cond, List, [], ◌∷◌, map, length, take}
+use Rattle.std.specs.Prelude.{◌≡◌, ◌+◌, ◌-◌, ◌≤◌, ◌<◌, ◌||◌, ◌∷◌}
+use Rattle.std.proofs.Common.{◌∙◌}
+use Rattle.lists.specs.Basics.{refl, sym, ap, ℕ, suc, ltb, Bool, true, false, not, cond, List, [], map, length, take}
 use Rattle.lists.specs.Basics.{drop, get_or, length-map, length-take, drop_of_length-le, get_or-map, get_or-take, arith, add-one, lt-ltb, all, any, filter}
 use Rattle.lists.specs.Basics.{choose_by}
 use Rattle.std.proofs.Math.Seq.{length-take-le}

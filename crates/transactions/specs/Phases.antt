@@ -1,5 +1,7 @@
 -- A choice by a number that is none of the phases that a match names: what the choice has past them.
-use Rattle.lists.specs.Basics.{◌≡◌, sym, ◌∙◌, ℕ, ◌≤◌, eqb, cond, arith, ne_eqb}
+use Rattle.std.specs.Prelude.{◌≡◌, ◌≤◌}
+use Rattle.std.proofs.Common.{◌∙◌}
+use Rattle.lists.specs.Basics.{sym, ℕ, eqb, cond, arith, ne_eqb}
 use Rattle.lists.specs.Chosen.{Missed, past_arms}
 use Rattle.model.specs.Transactions.{by_phase}
 

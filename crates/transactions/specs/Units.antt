@@ -1,5 +1,7 @@
 -- The letter of a storage, among the bytes of the head that say the letters: at its index, and that of no letter where there is none.
-use Rattle.lists.specs.Basics.{◌≡◌, refl, ◌∙◌, ℕ, zero, suc, ◌-◌, ◌≤◌, ◌<◌, List, map, length, get_or, length-map, get_or-map, get_or-eq_default, arith}
+use Rattle.std.specs.Prelude.{◌≡◌, ◌-◌, ◌≤◌, ◌<◌}
+use Rattle.std.proofs.Common.{◌∙◌}
+use Rattle.lists.specs.Basics.{refl, ℕ, zero, suc, List, map, length, get_or, length-map, get_or-map, get_or-eq_default, arith}
 use Rattle.lists.specs.All.{get_or_any}
 use Rattle.model.specs.Groups.{no_letter, letter_for}
 unfoldable pub use Rattle.sheet_laws.specs.Letters.{unit_in, letter_in, units_in}

@@ -1,5 +1,6 @@
 -- Demand 3 over bytes: the bytes of both sheets are a kind of sheets, and an accepted record sheet is the text of what it says.
-use Rattle.lists.specs.Basics.{◌≡◌, sym, ap, ℕ, true, List, [], some}
+use Rattle.std.specs.Prelude.{◌≡◌}
+use Rattle.lists.specs.Basics.{sym, ap, ℕ, true, List, [], some}
 use Rattle.model.specs.Types.{Transaction}
 use Rattle.model.specs.Records.{records}
 use Rattle.model.specs.Results.{returns}

@@ -1,6 +1,8 @@
 -- What a close does over bytes. One that isn't refused is a run of the model's steps on what the bytes say; each step is an advance that is accepted, and
 -- changes a byte exactly where it counts.
-use Rattle.lists.specs.Basics.{◌≡◌, refl, sym, ap, subst, ◌∙◌, ℕ, zero, suc, ◌+◌, ◌*◌, ◌^◌, ◌≤◌, ◌<◌, Bool, true, false, eqb, cond, List, length, inl, inr, arith, eqb-true}
+use Rattle.std.specs.Prelude.{◌≡◌, ◌+◌, ◌*◌, ◌^◌, ◌≤◌, ◌<◌}
+use Rattle.std.proofs.Common.{◌∙◌}
+use Rattle.lists.specs.Basics.{refl, sym, ap, subst, ℕ, zero, suc, Bool, true, false, eqb, cond, List, length, inl, inr, arith, eqb-true}
 use Rattle.model.specs.Types.{Transaction}
 use Rattle.model.specs.Refusals.{Condition, refusal_of}
 use Rattle.model.specs.SheetCalls.{check_conditions}

@@ -1,6 +1,8 @@
 -- Demand 3 from decoded sheets to any kind of sheets that say them. A legal history there is a legal history on what they say, turn by turn, since accepted
 -- sheets stay accepted and say what the turn leaves; and accepted sheets have the text of what they say.
-use Rattle.lists.specs.Basics.{◌≡◌, refl, sym, ap, ap₂, subst, ◌∙◌, ℕ, Bool, true, ◌||◌, List, [], ◌∷◌, map, some, any}
+use Rattle.std.specs.Prelude.{◌≡◌, ◌||◌, ◌∷◌}
+use Rattle.std.proofs.Common.{◌∙◌}
+use Rattle.lists.specs.Basics.{refl, sym, ap, ap₂, subst, ℕ, Bool, true, List, [], map, some, any}
 use Rattle.model.specs.Types.{Key, Transaction}
 use Rattle.model.specs.Records.{same_key, keys_in}
 use Rattle.model.specs.Spares.{sheet_for}

@@ -1,5 +1,7 @@
 -- What an operation leaves, on good sheets: a call has these laws already, and a close keeps at every step what the next step asks for.
-use Rattle.lists.specs.Basics.{◌≡◌, refl, sym, ap, subst, ◌∙◌, ℕ, ◌^◌, ◌<◌, true, some, none-ne-some, some-injective}
+use Rattle.std.specs.Prelude.{◌≡◌, ◌^◌, ◌<◌}
+use Rattle.std.proofs.Common.{◌∙◌}
+use Rattle.lists.specs.Basics.{refl, sym, ap, subst, ℕ, true, some, none-ne-some, some-injective}
 use Rattle.model.specs.Types.{Transaction}
 use Rattle.model.specs.Coordinator.{Coordinator}
 use Rattle.model.specs.Refusals.{refusal_of}

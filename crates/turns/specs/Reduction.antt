@@ -1,6 +1,8 @@
 -- Histories of turns are histories of calls: a legal history of turns is a legal history of the calls that they come to, with the same sheets and the same
 -- model. So demand 3 over calls is demand 3 over turns. What a kind of turn owes for it is `Comes`.
-use Rattle.lists.specs.Basics.{◌≡◌, refl, sym, ap, ap₂, subst, ◌∙◌, ℕ, ◌<◌, eqb, Bool, true, false, ◌||◌, cond, List, [], ◌∷◌, ◌++◌, map, length, some}
+use Rattle.std.specs.Prelude.{◌≡◌, ◌<◌, ◌||◌, ◌∷◌, ◌++◌}
+use Rattle.std.proofs.Common.{◌∙◌}
+use Rattle.lists.specs.Basics.{refl, sym, ap, ap₂, subst, ℕ, eqb, Bool, true, false, cond, List, [], map, length, some}
 use Rattle.lists.specs.Basics.{none-ne-some, some-injective, inl, inr, eqb-true, any}
 use Rattle.lists.specs.Chosen.{any-map}
 use Rattle.model.specs.Types.{Key, Record, Transaction, Request}

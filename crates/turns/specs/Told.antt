@@ -1,7 +1,9 @@
 -- What is told of a turn on accepted sheets that adds and removes no line. Sheets keep their lengths, so that nothing is refused; lines that differ are of the one unit that the turn may
 -- write, and then the coordinator sheet stays. Keys rise, so that every line between two of one unit is of it too: the range told begins and ends in lines
 -- that differ, and is of one unit throughout.
-use Rattle.lists.specs.Basics.{◌≡◌, refl, sym, ap, subst, ◌∙◌, ℕ, zero, suc, ◌+◌, ◌-◌, ◌*◌, ◌/◌, ◌%◌, ◌^◌, ◌≤◌, ◌<◌, eqb, ltb, Bool, true, false, not}
+use Rattle.std.specs.Prelude.{◌≡◌, ◌+◌, ◌-◌, ◌*◌, ◌/◌, ◌%◌, ◌^◌, ◌≤◌, ◌<◌}
+use Rattle.std.proofs.Common.{◌∙◌}
+use Rattle.lists.specs.Basics.{refl, sym, ap, subst, ℕ, zero, suc, eqb, ltb, Bool, true, false, not}
 use Rattle.lists.specs.Basics.{true≢false, List, length, take, drop, get_or, all, ltb-true, ltb-false, length-drop, length-set, arith, eqb-true, eqb-false, eq-eqb, lt-leb, tests, eq_list}
 use Rattle.lists.specs.Basics.{eq_list-true, eq_list_refl}
 use Rattle.model.specs.Types.{Key, Record, At}

@@ -1,6 +1,8 @@
 -- A turn on accepted bytes is the turn on what they say, and leaves accepted bytes, as it leaves readable ones readable. An operation has these laws already;
 -- one by place is that of the one named, or refused.
-use Rattle.lists.specs.Basics.{◌≡◌, refl, sym, ap, subst, ◌∙◌, true, some, none-ne-some}
+use Rattle.std.specs.Prelude.{◌≡◌}
+use Rattle.std.proofs.Common.{◌∙◌}
+use Rattle.lists.specs.Basics.{refl, sym, ap, subst, true, some, none-ne-some}
 use Rattle.model.specs.Types.{Transaction}
 use Rattle.model.specs.Coordinator.{Coordinator, all_capitals}
 use Rattle.model.specs.Writes.{Sheets, sheets_good, Write, decisions_after}

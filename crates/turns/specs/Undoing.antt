@@ -1,5 +1,7 @@
 -- Removing what was added gives the sheets back, of any kind: it does so on what they say, and sheets that pass are told apart by what they say.
-use Rattle.lists.specs.Basics.{◌≡◌, sym, ap, ◌∙◌}
+use Rattle.std.specs.Prelude.{◌≡◌}
+use Rattle.std.proofs.Common.{◌∙◌}
+use Rattle.lists.specs.Basics.{sym, ap}
 use Rattle.model.specs.Types.{Key}
 use Rattle.model.specs.Results.{Call, add, remove, acknowledged}
 use Rattle.model.specs.Histories.{answer, after, ClockFits}

@@ -1,6 +1,8 @@
 -- T2 over turns: one that writes at most once writes within one unit, or the coordinator sheet alone, or puts one line in or takes one out. A call on readable
 -- bytes has this law already; by place it is that of the one named, or refused and writes nothing.
-use Rattle.lists.specs.Basics.{◌≡◌, refl, sym, ap, subst, ◌∙◌, true, false, true≢false}
+use Rattle.std.specs.Prelude.{◌≡◌}
+use Rattle.std.proofs.Common.{◌∙◌}
+use Rattle.lists.specs.Basics.{refl, sym, ap, subst, true, false, true≢false}
 use Rattle.model.specs.Writes.{Sheets}
 use Rattle.model.specs.Results.{Call, Answer, Response, Result, answer_of}
 use Rattle.model.specs.ByteCalls.{result_on}

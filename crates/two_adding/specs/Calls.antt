@@ -1,5 +1,7 @@
 -- Adding and removing on both sheets: refused by what is told of them first, by what is told of the place, or accepted and the line put in or taken out of both.
-use Rattle.lists.specs.Basics.{◌≡◌, refl, sym, ap, ◌∙◌, ℕ, ◌-◌, ◌<◌, eqb, Bool, true, false, List, ◌++◌, length, arith, all, joined, tests, eqb-true, eqb-false}
+use Rattle.std.specs.Prelude.{◌≡◌, ◌-◌, ◌<◌, ◌++◌}
+use Rattle.std.proofs.Common.{◌∙◌}
+use Rattle.lists.specs.Basics.{refl, sym, ap, ℕ, eqb, Bool, true, false, List, length, arith, all, joined, tests, eqb-true, eqb-false}
 use Rattle.lists.specs.All.{all_weaken}
 use Rattle.model.specs.Types.{Key, Record, Rank, Ranked}
 use Rattle.model.specs.Lines.{lines_of}

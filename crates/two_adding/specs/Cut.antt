@@ -1,5 +1,7 @@
 -- What is told of a place on the lines before the spares is what is told of both sheets.
-use Rattle.lists.specs.Basics.{◌≡◌, refl, sym, ap, ap₂, ◌∙◌, ℕ, ◌*◌, ◌/◌, ◌≤◌, eqb, leb, Bool, true, false, List, length, take, arith, all, eqb-true, eqb-false, eq-eqb, ne_eqb, leb-true, leb-false}
+use Rattle.std.specs.Prelude.{◌≡◌, ◌*◌, ◌/◌, ◌≤◌}
+use Rattle.std.proofs.Common.{◌∙◌}
+use Rattle.lists.specs.Basics.{refl, sym, ap, ap₂, ℕ, eqb, leb, Bool, true, false, List, length, take, arith, all, eqb-true, eqb-false, eq-eqb, ne_eqb, leb-true, leb-false}
 use Rattle.model.specs.Types.{Key, Record, Ranked}
 use Rattle.model.specs.Records.{records, ranked}
 use Rattle.model.specs.Spares.{filled_lines, front}

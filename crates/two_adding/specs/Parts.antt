@@ -1,5 +1,7 @@
 -- Either sheet with a line put in or taken out is that sheet's part of the records after it: each line is the part of a record's text.
-use Rattle.lists.specs.Basics.{◌≡◌, sym, ap, ◌∙◌, ℕ, ◌-◌, ◌*◌, ◌/◌, ◌≤◌, ◌<◌, true, false, List, [], ◌∷◌, ◌++◌, append-nil, map, length, arith, all, joined}
+use Rattle.std.specs.Prelude.{◌≡◌, ◌-◌, ◌*◌, ◌/◌, ◌≤◌, ◌<◌, ◌∷◌, ◌++◌}
+use Rattle.std.proofs.Common.{◌∙◌}
+use Rattle.lists.specs.Basics.{sym, ap, ℕ, true, false, List, [], append-nil, map, length, arith, all, joined}
 use Rattle.lists.specs.All.{all_of, map-map}
 use Rattle.model.specs.Types.{Key, Record}
 use Rattle.model.specs.Layouts.{record_bytes}

@@ -1,5 +1,7 @@
 -- Where a line goes on both sheets, or goes from: refused by what is asked of the sheets, or what is told of the joined one.
-use Rattle.lists.specs.Basics.{◌≡◌, refl, sym, ap, ap₂, ◌∙◌, ℕ, eqb, Bool, true, false, cond, List, ◌++◌, all, ne_eqb}
+use Rattle.std.specs.Prelude.{◌≡◌, ◌++◌}
+use Rattle.std.proofs.Common.{◌∙◌}
+use Rattle.lists.specs.Basics.{refl, sym, ap, ap₂, ℕ, eqb, Bool, true, false, cond, List, all, ne_eqb}
 use Rattle.model.specs.Types.{Key, Record, Rank, Ranked}
 use Rattle.model.specs.Records.{records, records_accepted, ranked}
 use Rattle.model.specs.Refusals.{Condition, refusal_of}

@@ -1,5 +1,7 @@
 -- What stands in the area of a call on two sheets, by what was told of them: filled lines where the keys don't agree, else the joined sheet.
-use Rattle.lists.specs.Basics.{◌≡◌, refl, sym, ap, ap₂, ◌∙◌, ℕ, ◌*◌, ◌/◌, ◌≤◌, ◌<◌, Bool, true, false, not, ◌&&◌, cond, true≢false, List, [], ◌∷◌, ◌++◌, map, length}
+use Rattle.std.specs.Prelude.{◌≡◌, ◌*◌, ◌/◌, ◌≤◌, ◌<◌, ◌&&◌, ◌∷◌, ◌++◌}
+use Rattle.std.proofs.Common.{◌∙◌}
+use Rattle.lists.specs.Basics.{refl, sym, ap, ap₂, ℕ, Bool, true, false, not, cond, true≢false, List, [], map, length}
 use Rattle.lists.specs.Basics.{take, drop, take_at, length-take, arith, leb, leb-true, eqb-true, eq-eqb, ne_eqb, all, and_fst, and_snd}
 use Rattle.model.specs.Layouts.{record_bytes}
 use Rattle.model.specs.Lines.{lines_of}

@@ -1,5 +1,7 @@
 -- Whether two sheets have their size and as many lines, which is told before anything else, and what is refused where they don't.
-use Rattle.lists.specs.Basics.{◌≡◌, refl, sym, ap, ◌∙◌, ℕ, ◌*◌, ◌/◌, ◌≤◌, Bool, true, false, not, ◌&&◌, List, [], ◌∷◌, length, arith, eq-eqb, eqb-true, ne_eqb, eqb, cond, all, joined, pieces, and-false}
+use Rattle.std.specs.Prelude.{◌≡◌, ◌*◌, ◌/◌, ◌≤◌, ◌&&◌, ◌∷◌}
+use Rattle.std.proofs.Common.{◌∙◌}
+use Rattle.lists.specs.Basics.{refl, sym, ap, ℕ, Bool, true, false, not, List, [], length, arith, eq-eqb, eqb-true, ne_eqb, eqb, cond, all, joined, pieces, and-false}
 use Rattle.model.specs.Spares.{filled_lines, sized}
 use Rattle.model.specs.Refusals.{Condition, refuse, refusal_of}
 use Rattle.model.specs.Types.{Key, Rank, Ranked}

@@ -1,5 +1,7 @@
 -- The look-up on two sheets and its companion: refused by what is told of the sheets first, or what is found among the lines before the spares.
-use Rattle.lists.specs.Basics.{◌≡◌, refl, sym, ap, ap₂, subst, ◌∙◌, ℕ, ◌+◌, ◌*◌, ◌≤◌, eqb, Bool, true, false, not, List, [], ◌∷◌, ◌++◌, cond, length, length-take, take, drop, arith, eqb-true}
+use Rattle.std.specs.Prelude.{◌≡◌, ◌+◌, ◌*◌, ◌≤◌, ◌∷◌, ◌++◌}
+use Rattle.std.proofs.Common.{◌∙◌}
+use Rattle.lists.specs.Basics.{refl, sym, ap, ap₂, subst, ℕ, eqb, Bool, true, false, not, List, [], cond, length, length-take, take, drop, arith, eqb-true}
 use Rattle.lists.specs.Basics.{eq-eqb, ne_eqb}
 use Rattle.model.specs.Types.{Key, Ranked, At}
 use Rattle.model.specs.Records.{records, key_in_range, found, ranked}

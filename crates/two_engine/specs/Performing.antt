@@ -1,6 +1,8 @@
 -- What a call on both sheets comes to: refused by what is told of them first, or the call on the lines before the spares, which stay behind what it leaves. No call sees how
 -- many they are, and none changes how many records.
-use Rattle.lists.specs.Basics.{◌≡◌, refl, sym, ap, ap₂, subst, ◌∙◌, ℕ, ◌-◌, ◌*◌, ◌/◌, eqb, eqb-true, eqb-false, Bool, true, false, List, ◌++◌, length, take, drop, arith}
+use Rattle.std.specs.Prelude.{◌≡◌, ◌-◌, ◌*◌, ◌/◌, ◌++◌}
+use Rattle.std.proofs.Common.{◌∙◌}
+use Rattle.lists.specs.Basics.{refl, sym, ap, ap₂, subst, ℕ, eqb, eqb-true, eqb-false, Bool, true, false, List, length, take, drop, arith}
 use Rattle.std.proofs.Math.ListN.{take-append-drop}
 use Rattle.model.specs.Types.{Transaction}
 use Rattle.model.specs.Layouts.{record_bytes}

@@ -1,8 +1,9 @@
 -- What the loop that compares keys keeps.
-use Rattle.lists.specs.Basics.{ℕ, and-true, suc, ◌+◌, ◌-◌, ◌*◌, ◌/◌, ◌≤◌, ◌<◌, ◌≡◌, refl, sym, ap, ap₂, ◌∙◌, Bool, true, false, ◌&&◌, true≢false, List, [], ◌∷◌}
+use Rattle.std.specs.Prelude.{◌+◌, ◌-◌, ◌*◌, ◌/◌, ◌≤◌, ◌<◌, ◌≡◌, ◌&&◌, ◌∷◌}
+use Rattle.lists.specs.Basics.{ℕ, and-true, suc, refl, sym, ap, ap₂, Bool, true, false, true≢false, List, []}
 use Rattle.lists.specs.Basics.{arith, length, take, drop, get_or, length-take, length-drop, drop_of_length-le, drop-drop, take-take, drop-cons}
 use Rattle.lists.specs.Basics.{take-add, get_or-take, get_or-drop, eqb, eqb-true, eq-eqb, ne_eqb, and_fst, and_snd, eq_list, pieces}
-use Rattle.std.proofs.Common.{zero-mul}
+use Rattle.std.proofs.Common.{zero-mul, ◌∙◌}
 use Rattle.lists.specs.Bytes.{eq_list-append}
 use Rattle.lists.specs.Pieces.{length-pieces}
 use Rattle.model.specs.Lines.{lines_of}

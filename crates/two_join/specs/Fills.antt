@@ -1,6 +1,8 @@
 -- A sheet filled with fixed text, so that the check of a joined sheet tells whether it is good alone: the parts of a filled line, one after another, as the code writes
 -- them.
-use Rattle.lists.specs.Basics.{ℕ, ◌+◌, ◌-◌, ◌*◌, ◌≤◌, ◌≡◌, sym, ap, ap₂, ◌∙◌, List, ◌++◌, append_assoc, arith}
+use Rattle.std.specs.Prelude.{◌+◌, ◌-◌, ◌*◌, ◌≤◌, ◌≡◌, ◌++◌}
+use Rattle.std.proofs.Common.{◌∙◌}
+use Rattle.lists.specs.Basics.{ℕ, sym, ap, ap₂, List, append_assoc, arith}
 use Rattle.lists.specs.Basics.{length, take, drop, length-take, length-drop, length-append, drop-drop, take-take, take_all, bytes}
 use Rattle.lists.specs.Pieces.{over, over_next, take-drop-take}
 use Rattle.model.specs.Layouts.{record_bytes}

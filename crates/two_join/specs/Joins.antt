@@ -1,9 +1,10 @@
 -- What the loop that joins keeps.
-use Rattle.lists.specs.Basics.{ℕ, ◌+◌, ◌-◌, suc, ◌*◌, ◌/◌, ◌≤◌, ◌<◌, ◌≡◌, sym, ap, ap₂, ◌∙◌, List, [], ◌∷◌, ◌++◌, append_assoc, append-nil, arith}
+use Rattle.std.specs.Prelude.{◌+◌, ◌-◌, ◌*◌, ◌/◌, ◌≤◌, ◌<◌, ◌≡◌, ◌∷◌, ◌++◌}
+use Rattle.lists.specs.Basics.{ℕ, suc, sym, ap, ap₂, List, [], append_assoc, append-nil, arith}
 use Rattle.lists.specs.Basics.{length, take, drop, get_or, set, take-add, drop-cons, length-take, length-drop, length-append, take_at, drop-drop, take-take, take_all, joined}
 use Rattle.lists.specs.Basics.{pieces}
 use Rattle.std.proofs.lemmas.List.{set_split}
-use Rattle.std.proofs.Common.{zero-mul}
+use Rattle.std.proofs.Common.{zero-mul, ◌∙◌}
 use Rattle.lists.specs.Pieces.{over, over-same, over-part, over_next, length_over, length-pieces, pieces_add, take-drop-take}
 use Rattle.two_laws.specs.TwoLines.{length-join_line}
 use Rattle.decimal.specs.Word.{put_word, put_fits_lem}

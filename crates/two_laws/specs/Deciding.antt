@@ -1,5 +1,6 @@
 -- What decides the refusals of two sheets by bytes: whole lines, bytes of keys, and sheets filled with fixed text.
-use Rattle.lists.specs.Basics.{ℕ, ◌+◌, ◌*◌, ◌/◌, eqb, Bool, true, false, not, ◌&&◌, List, [], ◌∷◌, ◌++◌, map, length, take, drop, bytes, eq_list, joined}
+use Rattle.std.specs.Prelude.{◌+◌, ◌*◌, ◌/◌, ◌&&◌, ◌∷◌, ◌++◌}
+use Rattle.lists.specs.Basics.{ℕ, eqb, Bool, true, false, not, List, [], map, length, take, drop, bytes, eq_list, joined}
 use Rattle.model.specs.Layouts.{key_bytes}
 use Rattle.model.specs.Lines.{lines_of}
 use Rattle.model.specs.Records.{records_accepted}

@@ -1,6 +1,8 @@
 -- The conditions of refusal, decided by bytes. Where keys agree, byte for byte, they are the joined sheet's; where they do not, each sheet is
 -- checked beside fixed text, and 13 follows 2.
-use Rattle.lists.specs.Basics.{ℕ, ◌/◌, ◌≤◌, ◌<◌, leb, ◌≡◌, refl, sym, ap, ap₂, ◌∙◌, Bool, true, false, ◌&&◌, not, cond, true≢false, and-false, List, [], ◌∷◌, map, length}
+use Rattle.std.specs.Prelude.{◌/◌, ◌≤◌, ◌<◌, ◌≡◌, ◌&&◌, ◌∷◌}
+use Rattle.std.proofs.Common.{◌∙◌}
+use Rattle.lists.specs.Basics.{ℕ, leb, refl, sym, ap, ap₂, Bool, true, false, not, cond, true≢false, and-false, List, [], map, length}
 use Rattle.lists.specs.Basics.{length-map, arith, leb-true, leb-false, lt-leb, and_fst}
 use Rattle.lists.specs.Pieces.{length-pieces}
 use Rattle.lists.specs.Basics.{all}

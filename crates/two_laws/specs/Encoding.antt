@@ -1,5 +1,7 @@
 -- Two sheets without spares that pass are whole lines whose keys agree, and join to lines that break no rule.
-use Rattle.lists.specs.Basics.{◌≡◌, sym, ◌∙◌, true, not, ◌&&◌, [], arith, not-false, and_fst, and_snd}
+use Rattle.std.specs.Prelude.{◌≡◌, ◌&&◌}
+use Rattle.std.proofs.Common.{◌∙◌}
+use Rattle.lists.specs.Basics.{sym, true, not, [], arith, not-false, and_fst, and_snd}
 use Rattle.model.specs.Lines.{lines_of}
 use Rattle.model.specs.Records.{records_accepted}
 use Rattle.model.specs.Coordinator.{coordinator_readable}

@@ -1,5 +1,7 @@
 -- A sheet alone is good exactly if it has whole lines and the sheet filled with fixed text is accepted.
-use Rattle.lists.specs.Basics.{ℕ, ◌*◌, ◌/◌, ◌≡◌, refl, sym, ap, ap₂, ◌∙◌, Bool, true, ◌&&◌, and_assoc, List, [], ◌∷◌, map, arith, length}
+use Rattle.std.specs.Prelude.{◌*◌, ◌/◌, ◌≡◌, ◌&&◌, ◌∷◌}
+use Rattle.std.proofs.Common.{◌∙◌}
+use Rattle.lists.specs.Basics.{ℕ, refl, sym, ap, ap₂, Bool, true, and_assoc, List, [], map, arith, length}
 use Rattle.lists.specs.Basics.{eqb, eqb-true, eq-eqb, and_fst, and_snd, all, joined}
 use Rattle.lists.specs.Tests.{and_same}
 use Rattle.lists.specs.All.{all_map, all_of, map-map, map_equal, pieces_whole}

@@ -1,5 +1,7 @@
 -- Of two sheets good alone, keys are the same exactly if their bytes are; so the conditions of refusal come out of bytes.
-use Rattle.lists.specs.Basics.{ℕ, ◌≡◌, refl, sym, ap, ap₂, ◌∙◌, Bool, true, false, ◌&&◌, List, [], ◌∷◌, map, length, take, and_fst}
+use Rattle.std.specs.Prelude.{◌≡◌, ◌&&◌, ◌∷◌}
+use Rattle.std.proofs.Common.{◌∙◌}
+use Rattle.lists.specs.Basics.{ℕ, refl, sym, ap, ap₂, Bool, true, false, List, [], map, length, take, and_fst}
 use Rattle.lists.specs.Basics.{and_snd, eq_list, eq_list_refl, all}
 use Rattle.model.specs.Types.{Record}
 use Rattle.model.specs.Layouts.{record_layout, key_layout, image_layout, columns_layout, offset, key_bytes}

@@ -1,5 +1,7 @@
 -- A line in parts, for any layout. What a line's layout says of parts put together is what it says of each.
-use Rattle.lists.specs.Basics.{ℕ, ◌+◌, ◌≤◌, ◌≡◌, refl, sym, ap, ap₂, ◌∙◌, Bool, true, ◌&&◌, and_assoc, List, [], ◌∷◌, ◌++◌, arith, length, take}
+use Rattle.std.specs.Prelude.{◌+◌, ◌≤◌, ◌≡◌, ◌&&◌, ◌∷◌, ◌++◌}
+use Rattle.std.proofs.Common.{◌∙◌}
+use Rattle.lists.specs.Basics.{ℕ, refl, sym, ap, ap₂, Bool, true, and_assoc, List, [], arith, length, take}
 use Rattle.lists.specs.Basics.{drop, length-drop}
 use Rattle.std.proofs.lemmas.List.{take-append-le, drop-append-le}
 use Rattle.decimal.specs.Field.{number, is_number}

@@ -1,6 +1,8 @@
 -- Two sheets with as many lines and as many spares join to one with as many spares: a spare joins with a spare to a spare, and a line that is no spare on the bookkeeping
 -- sheet joins to none. So the joined sheet's front is the fronts joined.
-use Rattle.lists.specs.Basics.{ℕ, zero, suc, ◌+◌, ◌-◌, ◌*◌, ◌/◌, ◌≡◌, refl, sym, ap, ap₂, ◌∙◌, Bool, true, false, ◌&&◌, cond, List, [], ◌∷◌, ◌++◌, arith}
+use Rattle.std.specs.Prelude.{◌+◌, ◌-◌, ◌*◌, ◌/◌, ◌≡◌, ◌&&◌, ◌∷◌, ◌++◌}
+use Rattle.std.proofs.Common.{◌∙◌}
+use Rattle.lists.specs.Basics.{ℕ, zero, suc, refl, sym, ap, ap₂, Bool, true, false, cond, List, [], arith}
 use Rattle.lists.specs.Basics.{length, length-append, take, take_at, replicate, eqb, ne_eqb, joined, eq_list-true, eq_list_refl}
 use Rattle.std.proofs.lemmas.List.{length-replicate}
 use Rattle.lists.specs.Pieces.{AllOf, length-joined, joined-append, all_join}

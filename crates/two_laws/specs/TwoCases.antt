@@ -1,5 +1,6 @@
 -- Cases by computation, so that the hypotheses of the laws are met: two lines a sheet.
-use Rattle.lists.specs.Basics.{ℕ, ◌≡◌, refl, true, false, ◌&&◌, List, [], ◌∷◌, ◌++◌, bytes, eq_list, all, joined, pieces, less}
+use Rattle.std.specs.Prelude.{◌≡◌, ◌&&◌, ◌∷◌, ◌++◌}
+use Rattle.lists.specs.Basics.{ℕ, refl, true, false, List, [], bytes, eq_list, all, joined, pieces, less}
 use Rattle.decimal.specs.Field.{figure, within, scanned, stepped, number, is_number}
 use Rattle.model.specs.Layouts.{record_layout, key_layout, image_layout, columns_layout, words}
 use Rattle.model.specs.Lines.{field_value, word_from, row_of, line_set, lines_of, lines_set, row_good, in_range}

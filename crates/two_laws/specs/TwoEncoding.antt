@@ -1,6 +1,8 @@
 -- Two sheets that pass, spares included, join to a readable sheet. So good sheets, encoded and split, pass and say the same, and sheets that pass are those of what they say.
 -- All but the spares is said of the lines before them (Encoding).
-use Rattle.lists.specs.Basics.{ℕ, suc, ◌+◌, ◌-◌, ◌*◌, ◌/◌, ◌<◌, ◌≡◌, refl, sym, ap, ap₂, ◌∙◌, eqb, leb, Bool, true, false, not, ◌&&◌, true≢false, List, [], ◌∷◌, ◌++◌, length, arith}
+use Rattle.std.specs.Prelude.{◌+◌, ◌-◌, ◌*◌, ◌/◌, ◌<◌, ◌≡◌, ◌&&◌, ◌∷◌, ◌++◌}
+use Rattle.std.proofs.Common.{◌∙◌}
+use Rattle.lists.specs.Basics.{ℕ, suc, refl, sym, ap, ap₂, eqb, leb, Bool, true, false, not, true≢false, List, [], length, arith}
 use Rattle.lists.specs.Basics.{map, eqb-true, eq-eqb, not-false, and_fst, and_snd, all, joined}
 use Rattle.decimal.specs.Field.{figure, scanned, stepped, within, is_number}
 use Rattle.model.specs.Types.{Column}

@@ -1,6 +1,8 @@
 -- One line of either sheet, filled and joined. A line of each kind is put together from the same parts: key k,
 -- state, version and TxID m, columns c, rest r, end e.
-use Rattle.lists.specs.Basics.{ℕ, ◌+◌, ◌≡◌, refl, sym, ap, ap₂, ◌∙◌, Bool, true, ◌&&◌, List, [], ◌∷◌, ◌++◌, append_assoc, arith, length, take, drop, get_or}
+use Rattle.std.specs.Prelude.{◌+◌, ◌≡◌, ◌&&◌, ◌∷◌, ◌++◌}
+use Rattle.std.proofs.Common.{◌∙◌}
+use Rattle.lists.specs.Basics.{ℕ, refl, sym, ap, ap₂, Bool, true, List, [], append_assoc, arith, length, take, drop, get_or}
 use Rattle.lists.specs.Basics.{length-take, length-drop, length-append, drop-drop, take-add, take_at, drop_at, and_fst, and_snd, and_both, bytes, eq_list}
 use Rattle.lists.specs.Basics.{eq_list-true, eq_list_refl}
 use Rattle.std.proofs.Math.ListN.{take-append-drop}

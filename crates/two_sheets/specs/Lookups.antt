@@ -1,6 +1,8 @@
 -- The look-up on two sheets and its companion, case by case in the order of their conditions.
-use Rattle.lists.specs.Basics.{◌≡◌, refl, sym, ap, ◌∙◌, ℕ, ◌+◌, ◌*◌, ◌/◌, ◌≤◌, eqb, Bool, true, false, not, true≢false, List, [], ◌∷◌, length, arith}
-use Rattle.lists.specs.Basics.{ne_eqb, all, choose_by, cond, ◌++◌}
+use Rattle.std.specs.Prelude.{◌≡◌, ◌+◌, ◌*◌, ◌/◌, ◌≤◌, ◌∷◌, ◌++◌}
+use Rattle.std.proofs.Common.{◌∙◌}
+use Rattle.lists.specs.Basics.{refl, sym, ap, ℕ, eqb, Bool, true, false, not, true≢false, List, [], length, arith}
+use Rattle.lists.specs.Basics.{ne_eqb, all, choose_by, cond}
 use Rattle.model.specs.Types.{Key, Rank, Ranked, At}
 use Rattle.model.specs.Records.{records, records_accepted, key_in_range, found, is_missing, rank, ranked}
 use Rattle.model.specs.Refusals.{Condition, refuse, refusal_of}

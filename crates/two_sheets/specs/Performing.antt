@@ -1,5 +1,7 @@
 -- What a call on two sheets comes to: refused by what is asked of the sheets, or the call on what they say when joined, split where it is accepted.
-use Rattle.lists.specs.Basics.{◌≡◌, refl, sym, ap, subst, ◌∙◌, ℕ, ◌*◌, ◌/◌, List, length, take, length-take, arith, eqb-true}
+use Rattle.std.specs.Prelude.{◌≡◌, ◌*◌, ◌/◌}
+use Rattle.std.proofs.Common.{◌∙◌}
+use Rattle.lists.specs.Basics.{refl, sym, ap, subst, ℕ, List, length, take, length-take, arith, eqb-true}
 use Rattle.model.specs.Types.{Key, Transaction, Request}
 use Rattle.model.specs.Layouts.{record_bytes}
 use Rattle.model.specs.Refusals.{refusal_of}

@@ -1,6 +1,8 @@
 -- Demand 3 and the serial order over a plain sheet and a bookkeeping sheet: they are a kind of sheets, and the joined sheet of two that pass is the text of what
 -- they say.
-use Rattle.lists.specs.Basics.{◌≡◌, sym, ap, ◌∙◌, ℕ, true, List, [], map, some, all}
+use Rattle.std.specs.Prelude.{◌≡◌}
+use Rattle.std.proofs.Common.{◌∙◌}
+use Rattle.lists.specs.Basics.{sym, ap, ℕ, true, List, [], map, some, all}
 use Rattle.model.specs.Types.{Key, Transaction}
 use Rattle.model.specs.Spares.{sheet_for}
 use Rattle.model.specs.ByteHistories.{Bytes}

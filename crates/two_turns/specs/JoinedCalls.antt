@@ -1,7 +1,9 @@
 -- The joined sheet's answers. Where the lines of both sheets are whole and their keys agree, the refusals of two sheets are those of the joined sheet, letters of
 -- either case (two_laws), and with capitals these are the record sheet's own; what follows is asked of the same decoded sheets. What is left joins to what
 -- that sheet would be, since good sheets, encoded and split, join to their text.
-use Rattle.lists.specs.Basics.{◌≡◌, refl, sym, ap, ap₂, ◌∙◌, ℕ, eqb, Bool, true, false, not, ◌&&◌, cond, true≢false, and-true, and-false, List, [], ◌∷◌}
+use Rattle.std.specs.Prelude.{◌≡◌, ◌&&◌, ◌∷◌}
+use Rattle.std.proofs.Common.{◌∙◌}
+use Rattle.lists.specs.Basics.{refl, sym, ap, ap₂, ℕ, eqb, Bool, true, false, not, cond, true≢false, and-true, and-false, List, []}
 use Rattle.lists.specs.Basics.{eqb-true}
 use Rattle.model.specs.Types.{Key, Columns, Transaction}
 use Rattle.model.specs.Spares.{record_lines, sheet_accepted}

@@ -1,6 +1,8 @@
 -- The first of two calls of a read: it writes nothing and returns its transaction as it came, so that a station that stops between the two leaves nothing behind.
 -- It answers the line's columns as they stand, which are the plain sheet's, and 12 is not among its conditions that hold.
-use Rattle.lists.specs.Basics.{◌≡◌, refl, sym, ap, ap₂, subst, ◌∙◌, ℕ, eqb, Bool, true, false, not, ◌||◌, cond, true≢false, List, [], ◌∷◌, map, length, and_fst, and_snd, all}
+use Rattle.std.specs.Prelude.{◌≡◌, ◌||◌, ◌∷◌}
+use Rattle.std.proofs.Common.{◌∙◌}
+use Rattle.lists.specs.Basics.{refl, sym, ap, ap₂, subst, ℕ, eqb, Bool, true, false, not, cond, true≢false, List, [], map, length, and_fst, and_snd, all}
 use Rattle.lists.specs.Basics.{eqb-true, eq-eqb, arith}
 use Rattle.lists.specs.All.{map-map, map_equal}
 use Rattle.types.specs.declared.Reading.TheVariants.{First}

@@ -1,6 +1,8 @@
 -- The refusals on a plain sheet and a bookkeeping sheet: of an operation's conditions the first in the order of asking, since their numbers keep it, 13 after 2. A
 -- refused operation leaves all three sheets as they were.
-use Rattle.lists.specs.Basics.{◌≡◌, refl, ap, ◌∙◌, ℕ, ◌≤◌, true, List, ◌∷◌, ◌++◌, map, drop, all}
+use Rattle.std.specs.Prelude.{◌≡◌, ◌≤◌, ◌∷◌, ◌++◌}
+use Rattle.std.proofs.Common.{◌∙◌}
+use Rattle.lists.specs.Basics.{refl, ap, ℕ, true, List, map, drop, all}
 use Rattle.model.specs.Types.{Transaction, Request}
 use Rattle.types.specs.declared.Request.TheVariants as asked
 use Rattle.model.specs.Refusals.{Condition, refusal_of, count_before, first_asked}

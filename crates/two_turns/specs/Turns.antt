@@ -1,6 +1,8 @@
 -- A turn on a plain sheet and a bookkeeping sheet that pass is the turn on what they say, and leaves sheets that pass. Sheets that pass are those of what they
 -- say, encoded and split; good sheets, encoded and split, pass; and a turn leaves good sheets good.
-use Rattle.lists.specs.Basics.{◌≡◌, sym, ap, subst, ◌∙◌}
+use Rattle.std.specs.Prelude.{◌≡◌}
+use Rattle.std.proofs.Common.{◌∙◌}
+use Rattle.lists.specs.Basics.{sym, ap, subst}
 use Rattle.model.specs.Writes.{Sheets}
 use Rattle.model.specs.Results.{Call, Answer, Response, answer_of}
 use Rattle.model.specs.Calls.{result_of}

@@ -1,6 +1,8 @@
 -- "An atomic write goes to both, within one unit." The joined sheet has this law already (turns), letters of either case; a line of either sheet is the part of the
 -- line joined, and says its key. So a line that stays joined stays in both parts.
-use Rattle.lists.specs.Basics.{◌≡◌, refl, sym, ap, ap₂, subst, ◌∙◌, ℕ, zero, suc, ◌+◌, ◌-◌, ◌*◌, ◌/◌, ◌^◌, ◌≤◌, ◌<◌, eqb, ltb, Bool, true, false, List, [], ◌∷◌, ◌++◌, map, length, take, get_or, replicate, eq-eqb}
+use Rattle.std.specs.Prelude.{◌≡◌, ◌+◌, ◌-◌, ◌*◌, ◌/◌, ◌^◌, ◌≤◌, ◌<◌, ◌∷◌, ◌++◌}
+use Rattle.std.proofs.Common.{◌∙◌}
+use Rattle.lists.specs.Basics.{refl, sym, ap, ap₂, subst, ℕ, zero, suc, eqb, ltb, Bool, true, false, List, [], map, length, take, get_or, replicate, eq-eqb}
 use Rattle.lists.specs.Basics.{length-map, length-take, length-drop, drop_of_length-le, get_or-map, arith, eqb-true, ltb-true, ltb-false, joined}
 use Rattle.std.proofs.Math.Nat.{mul-le-mul_right}
 use Rattle.std.proofs.lemmas.List.{map-append}

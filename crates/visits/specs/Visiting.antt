@@ -1,5 +1,7 @@
 -- Visit, case by case in the order of its conditions.
-use Rattle.lists.specs.Basics.{◌≡◌, refl, sym, ap, ap₂, subst, ◌∙◌, ℕ, Bool, true, false, not, cond, List, [], ◌∷◌}
+use Rattle.std.specs.Prelude.{◌≡◌, ◌∷◌}
+use Rattle.std.proofs.Common.{◌∙◌}
+use Rattle.lists.specs.Basics.{refl, sym, ap, ap₂, subst, ℕ, Bool, true, false, not, cond, List, []}
 use Rattle.model.specs.Types.{Key, Record, At, Nothing, Recovery, Stays, Forward, Back, Again, Busy}
 use Rattle.model.specs.Records.{records, key_in_range, found, is_missing, has_line, line_of}
 use Rattle.model.specs.Refusals.{refuse, refusal_of}

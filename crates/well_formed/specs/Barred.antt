@@ -1,5 +1,6 @@
 -- What the decision on a transaction's own line forbids in its phase: refusal 4 of an advance, and of a close.
-use Rattle.lists.specs.Basics.{◌≡◌, ℕ, Bool, true, false, ne_eqb}
+use Rattle.std.specs.Prelude.{◌≡◌}
+use Rattle.lists.specs.Basics.{ℕ, Bool, true, false, ne_eqb}
 use Rattle.lists.specs.Chosen.{Missed}
 use Rattle.model.specs.Types.{Decision}
 use Rattle.model.specs.Transactions.{by_phase}

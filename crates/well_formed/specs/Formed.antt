@@ -1,5 +1,7 @@
 -- Well-formedness in the order in which the code asks.
-use Rattle.lists.specs.Basics.{◌≡◌, refl, sym, ap, ◌∙◌, ℕ, ◌+◌, ◌≤◌, ◌<◌, eqb, leb, Bool, true, false, not, ◌&&◌, ◌||◌, and_assoc, and-true, List}
+use Rattle.std.specs.Prelude.{◌≡◌, ◌+◌, ◌≤◌, ◌<◌, ◌&&◌, ◌||◌}
+use Rattle.std.proofs.Common.{◌∙◌}
+use Rattle.lists.specs.Basics.{refl, sym, ap, ℕ, eqb, leb, Bool, true, false, not, and_assoc, and-true, List}
 use Rattle.lists.specs.Basics.{all, any, tests}
 use Rattle.std.proofs.Math.Dec.{leb-zero}
 use Rattle.model.specs.Types.{Image, Columns, Entry, Transaction}

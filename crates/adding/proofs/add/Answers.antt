@@ -1,5 +1,6 @@
 -- Refused by the check or by what is told of the place, or the line put in there.
-use Rattle.lists.specs.Basics.{refl, sym, ap, ◌∙◌, List, ℕ, length, length-take, arith, joined}
+use Rattle.std.proofs.Common.{◌∙◌}
+use Rattle.lists.specs.Basics.{refl, sym, ap, List, ℕ, length, length-take, arith, joined}
 use Rattle.model.specs.Layouts.{record_bytes}
 use Rattle.model.specs.Lines.{lines_of}
 use Rattle.model.specs.Results as calls

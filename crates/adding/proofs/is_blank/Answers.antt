@@ -1,5 +1,6 @@
 -- By the state: only an ABSENT record is looked at further.
-use Rattle.lists.specs.Basics.{sym, ap, eqb, true, false, ◌&&◌}
+use Rattle.std.specs.Prelude.{◌&&◌}
+use Rattle.lists.specs.Basics.{sym, ap, eqb, true, false}
 use Rattle.model.specs.Types.{State}
 use Rattle.model.specs.Records.{by_state}
 use Rattle.model.specs.Conditions.{is_blank}

@@ -1,5 +1,6 @@
 -- Refused by the check or by what is told of the place, or the line taken out there.
-use Rattle.lists.specs.Basics.{sym, ◌∙◌, length-take, arith}
+use Rattle.std.proofs.Common.{◌∙◌}
+use Rattle.lists.specs.Basics.{sym, length-take, arith}
 use Rattle.model.specs.Results as calls
 use Rattle.sheet_laws.specs.Spared.{accepted_whole}
 use Rattle.call_laws.specs.Lifting.{passing_parts}

@@ -1,5 +1,6 @@
 -- Case by case in the order of the refusals.
-use Rattle.lists.specs.Basics.{sym, ap, ◌∙◌, not-true, not-false}
+use Rattle.std.proofs.Common.{◌∙◌}
+use Rattle.lists.specs.Basics.{sym, ap, not-true, not-false}
 use Rattle.model.specs.Types.{Rank}
 use Rattle.adding.specs.Placing.{add_out, add_present, add_full, add_told}
 use borrow.Author.Rules.{rules}

@@ -1,5 +1,6 @@
 -- Case by case in the order of the refusals; the record at the key's rank is the key's line.
-use Rattle.lists.specs.Basics.{sym, ap, ◌∙◌, not-true, not-false}
+use Rattle.std.proofs.Common.{◌∙◌}
+use Rattle.lists.specs.Basics.{sym, ap, not-true, not-false}
 use Rattle.model.specs.Types.{Rank}
 use Rattle.model.specs.Conditions.{is_blank}
 use Rattle.sheet_laws.specs.Ranks.{accepted_order}

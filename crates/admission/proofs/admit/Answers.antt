@@ -1,5 +1,6 @@
 -- One that isn't well formed stands nowhere; of any other the lines are found.
-use Rattle.lists.specs.Basics.{ap, ◌∙◌, Bool, true, false, not-true, not-false}
+use Rattle.std.proofs.Common.{◌∙◌}
+use Rattle.lists.specs.Basics.{ap, Bool, true, false, not-true, not-false}
 use Rattle.model.specs.ByteCalls.{sheets_of}
 use Rattle.put_groups.specs.declared.Groups.{Groups}
 use Rattle.call_laws.specs.Transactions.{well_formed-parts}

@@ -1,5 +1,6 @@
 -- The head is asked first; then the letters of the sheet, which are its units, give the groups and the rest.
-use Rattle.lists.specs.Basics.{sym, ◌∙◌, take, drop, arith, not-true, not-false}
+use Rattle.std.proofs.Common.{◌∙◌}
+use Rattle.lists.specs.Basics.{sym, take, drop, arith, not-true, not-false}
 use Rattle.sheet_laws.specs.Decisions.{readable_length}
 use Rattle.transactions.specs.Units.{units_in}
 use Rattle.well_formed.specs.Formed.{head_few, formed-not}

@@ -1,5 +1,6 @@
 -- Case by case in the order of the refusals.
-use Rattle.lists.specs.Basics.{sym, ◌∙◌, true, false, not-true, not-false}
+use Rattle.std.proofs.Common.{◌∙◌}
+use Rattle.lists.specs.Basics.{sym, true, false, not-true, not-false}
 use Rattle.model.specs.ByteCalls.{sheets_of}
 use Rattle.admission.specs.Admission.{formed_by, open_ill, open_not, open_key}
 use borrow.Author.Rules.{rules}

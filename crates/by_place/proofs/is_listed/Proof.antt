@@ -1,5 +1,6 @@
 -- The second test counts where the first holds.
-use Rattle.lists.specs.Basics.{◌≡◌, refl, leb, true, false, le-leb, lt-leb}
+use Rattle.std.specs.Prelude.{◌≡◌}
+use Rattle.lists.specs.Basics.{refl, leb, true, false, le-leb, lt-leb}
 use Rattle.model.specs.CallByPlace.{listed}
 use Rattle.by_place_lem.proofs.is_listed.Statement.{statement}
 use Rattle.by_place_lem.proofs.is_listed.Tie as tie

@@ -1,5 +1,6 @@
 -- The test decides the choice.
-use Rattle.lists.specs.Basics.{◌≡◌, eqb, true, false, eq-eqb, ne_eqb}
+use Rattle.std.specs.Prelude.{◌≡◌}
+use Rattle.lists.specs.Basics.{eqb, true, false, eq-eqb, ne_eqb}
 use Rattle.by_place_lem.specs.Ranks.{line_number}
 use borrow.Author.Rules.{rules}
 use Rattle.by_place_lem.proofs.line_number.Statement.{statement}

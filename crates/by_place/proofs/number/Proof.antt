@@ -1,5 +1,6 @@
 -- The test decides the choice.
-use Rattle.lists.specs.Basics.{◌≡◌, eqb, true, false, eq-eqb, ne_eqb, rules}
+use Rattle.std.specs.Prelude.{◌≡◌}
+use Rattle.lists.specs.Basics.{eqb, true, false, eq-eqb, ne_eqb, rules}
 use Rattle.by_place_lem.proofs.number.Statement.{statement}
 use Rattle.by_place_lem.proofs.number.Tie as tie
 

@@ -1,5 +1,6 @@
 -- The tests decide the choices.
-use Rattle.lists.specs.Basics.{◌≡◌, eqb, true, false, eq-eqb, ne_eqb}
+use Rattle.std.specs.Prelude.{◌≡◌}
+use Rattle.lists.specs.Basics.{eqb, true, false, eq-eqb, ne_eqb}
 use borrow.Author.Rules.{rules}
 use Rattle.by_place_lem.proofs.number_two.Statement.{statement}
 use Rattle.by_place_lem.proofs.number_two.Tie as tie

@@ -1,5 +1,7 @@
 -- The tests decide the choices; a target of two numbers gets both.
-use Rattle.lists.specs.Basics.{◌≡◌, refl, ap, ◌∙◌, ℕ, eqb, true, false, [], ◌∷◌, length, eq-eqb, ne_eqb}
+use Rattle.std.specs.Prelude.{◌≡◌, ◌∷◌}
+use Rattle.std.proofs.Common.{◌∙◌}
+use Rattle.lists.specs.Basics.{refl, ap, ℕ, eqb, true, false, [], length, eq-eqb, ne_eqb}
 use Rattle.changes.specs.Answers.{stored}
 use Rattle.by_place_lem.specs.Ranks.{rank_number, rank_target}
 use borrow.Author.Rules.{rules}

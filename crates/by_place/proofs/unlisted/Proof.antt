@@ -1,5 +1,7 @@
 -- The check's refusal as one number, or 1003 where it has none.
-use Rattle.lists.specs.Basics.{refl, sym, ap, subst, ◌∙◌, ℕ, ◌+◌, ◌≤◌, eqb, cond, rules}
+use Rattle.std.specs.Prelude.{◌+◌, ◌≤◌}
+use Rattle.std.proofs.Common.{◌∙◌}
+use Rattle.lists.specs.Basics.{refl, sym, ap, subst, ℕ, eqb, cond, rules}
 use Rattle.model.specs.Refusals.{last_refusal}
 use Rattle.by_place_lem.specs.Numbers.{check_numbered}
 use Rattle.by_place_lem.proofs.unlisted.Statement.{statement}

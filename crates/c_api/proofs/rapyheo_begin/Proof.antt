@@ -1,5 +1,7 @@
 -- The engine's answer is that of the definition, and its number is the definition's.
-use Rattle.lists.specs.Basics.{sym, ap, subst, ◌∙◌, ◌+◌, ◌≤◌, eqb, false, cond, rules}
+use Rattle.std.specs.Prelude.{◌+◌, ◌≤◌}
+use Rattle.std.proofs.Common.{◌∙◌}
+use Rattle.lists.specs.Basics.{sym, ap, subst, eqb, false, cond, rules}
 use Rattle.model.specs.Refusals.{last_refusal}
 use Rattle.answers.specs.declared.Issued.{Issued}
 use Rattle.by_place_lem.specs.Numbers.{begin_numbered}

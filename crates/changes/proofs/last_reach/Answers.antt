@@ -1,5 +1,7 @@
 -- No line from n on differs, so that the first n reach as far as all do.
-use Rattle.lists.specs.Basics.{◌≡◌, refl, sym, ◌∙◌, ◌/◌, ◌≤◌, length, arith, rules}
+use Rattle.std.specs.Prelude.{◌≡◌, ◌/◌, ◌≤◌}
+use Rattle.std.proofs.Common.{◌∙◌}
+use Rattle.lists.specs.Basics.{refl, sym, length, arith, rules}
 use Rattle.model.specs.Layouts.{record_bytes}
 use Rattle.model.specs.Changes.{reach_of}
 use Rattle.changes.specs.Lines.{reach_here, reach_less, reach_none}

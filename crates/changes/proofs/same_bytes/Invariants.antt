@@ -1,5 +1,6 @@
 -- The flag says whether the bytes before i are equal.
-use Rattle.lists.specs.Basics.{◌≡◌, refl, ◌-◌, ◌≤◌, length, arith, rules}
+use Rattle.std.specs.Prelude.{◌≡◌, ◌-◌, ◌≤◌}
+use Rattle.lists.specs.Basics.{refl, length, arith, rules}
 use Rattle.changes.specs.Lines.{EqualTo, equal_next, equal_last}
 use Rattle.changes.proofs.same_bytes.Given as goal
 

@@ -1,5 +1,6 @@
 -- The loop's invariant: the records before i are good, so that those from i on decide as all do. A number that is not issued ends it.
-use Rattle.lists.specs.Basics.{◌≡◌, ◌+◌, ◌-◌, leb, ◌&&◌, and-false, drop, arith, le-leb, lt-leb, rules, all}
+use Rattle.std.specs.Prelude.{◌≡◌, ◌+◌, ◌-◌, ◌&&◌}
+use Rattle.lists.specs.Basics.{leb, and-false, drop, arith, le-leb, lt-leb, rules, all}
 use Rattle.lists.specs.Walks.{left-first, left_last}
 use Rattle.sheet_laws.specs.ByIndex.{length-records}
 use Rattle.model.specs.Layouts.{record_layout, offset}

@@ -1,5 +1,6 @@
 -- The transaction of the number issued is that of the begin.
-use Rattle.lists.specs.Basics.{ap, ◌∙◌, rules}
+use Rattle.std.proofs.Common.{◌∙◌}
+use Rattle.lists.specs.Basics.{ap, rules}
 use Rattle.answers.specs.Answers.{of_issued}
 use Rattle.engine.specs.Issuing.{issued-begun}
 use Rattle.engine.proofs.begin.Statement.{statement}

@@ -1,5 +1,6 @@
 -- Refused by the check, or the call on the lines of records of accepted sheets.
-use Rattle.lists.specs.Basics.{refl, sym, ◌∙◌, length-take, arith, rules}
+use Rattle.std.proofs.Common.{◌∙◌}
+use Rattle.lists.specs.Basics.{refl, sym, length-take, arith, rules}
 use Rattle.call_laws.specs.Lifting.{passing_parts}
 use Rattle.model.specs.Results as model
 use Rattle.call_laws.specs.Accepted.{turned_away_lem}

@@ -1,5 +1,7 @@
 -- One turn writes line i: those before it are in the target.
-use Rattle.lists.specs.Basics.{◌≡◌, refl, ◌∙◌, ◌+◌, ◌-◌, ◌*◌, length, length-take, length-drop, arith, rules}
+use Rattle.std.specs.Prelude.{◌≡◌, ◌+◌, ◌-◌, ◌*◌}
+use Rattle.std.proofs.Common.{◌∙◌}
+use Rattle.lists.specs.Basics.{refl, length, length-take, length-drop, arith, rules}
 use Rattle.model.specs.Layouts.{layout, record_layout, record_bytes}
 use Rattle.model.specs.Records.{state_number, before_number, key_numbers, image_numbers, record_numbers, record_text}
 use Rattle.sheet_laws.specs.Lines.{line_bytes}

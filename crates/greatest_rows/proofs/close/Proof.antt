@@ -1,5 +1,6 @@
 -- Neither call changes how long the sheets are.
-use Rattle.lists.specs.Basics.{◌∙◌, rules}
+use Rattle.std.proofs.Common.{◌∙◌}
+use Rattle.lists.specs.Basics.{rules}
 use Rattle.greatest_rows.proofs.close.Statement.{statement}
 use Rattle.greatest_rows.proofs.close.Tie as tie
 

@@ -1,5 +1,6 @@
 -- Before row n the size is that of n - 1 lines, so that it never passes eight.
-use Rattle.lists.specs.Basics.{◌≡◌, ◌+◌, ◌-◌, ◌*◌, ◌≤◌, rules}
+use Rattle.std.specs.Prelude.{◌≡◌, ◌+◌, ◌-◌, ◌*◌, ◌≤◌}
+use Rattle.lists.specs.Basics.{rules}
 use Rattle.greatest_rows.proofs.main.Statement.{statement}
 use Rattle.greatest_rows.proofs.main.Tie as tie
 

@@ -1,5 +1,7 @@
 -- An index that is none of a line fails the condition; else, by whether the letter is a capital, the line alone decides, or its columns too.
-use Rattle.lists.specs.Basics.{sym, ap, ap₂, ◌∙◌, ◌&&◌, List, arith, not-true, not-false}
+use Rattle.std.specs.Prelude.{◌&&◌}
+use Rattle.std.proofs.Common.{◌∙◌}
+use Rattle.lists.specs.Basics.{sym, ap, ap₂, List, arith, not-true, not-false}
 use Rattle.model.specs.Records.{records}
 use Rattle.model.specs.Coordinator.{Letter}
 use Rattle.model.specs.Groups.{is_lower}

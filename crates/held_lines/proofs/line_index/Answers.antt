@@ -1,5 +1,6 @@
 -- By what is found.
-use Rattle.lists.specs.Basics.{sym, ◌∙◌}
+use Rattle.std.proofs.Common.{◌∙◌}
+use Rattle.lists.specs.Basics.{sym}
 use Rattle.model.specs.Records.{records}
 use Rattle.sheet_laws.specs.ByIndex.{length-records}
 use Rattle.sheets.specs.Answers.{is_found}

@@ -1,5 +1,7 @@
 -- Of the entries before i each has its index.
-use Rattle.lists.specs.Basics.{◌≡◌, refl, ap, ◌∙◌, ◌-◌, ◌≤◌, length, length-set, arith}
+use Rattle.std.specs.Prelude.{◌≡◌, ◌-◌, ◌≤◌}
+use Rattle.std.proofs.Common.{◌∙◌}
+use Rattle.lists.specs.Basics.{refl, ap, length, length-set, arith}
 use Rattle.model.specs.Records as sheet
 use Rattle.held_lines.specs.Located.{indices_of, indices_next, entry_ranged}
 use borrow.Author.Rules.{rules}

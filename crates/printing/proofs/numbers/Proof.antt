@@ -1,5 +1,6 @@
 -- A number more keeps the fill within the buffer.
-use Rattle.lists.specs.Basics.{◌-◌, ◌≤◌, rules}
+use Rattle.std.specs.Prelude.{◌-◌, ◌≤◌}
+use Rattle.lists.specs.Basics.{rules}
 use Rattle.printing.proofs.numbers.Statement.{statement}
 use Rattle.printing.proofs.numbers.Tie as tie
 

@@ -1,5 +1,6 @@
 -- A byte more keeps the fill within the buffer.
-use Rattle.lists.specs.Basics.{◌-◌, ◌≤◌, length, rules}
+use Rattle.std.specs.Prelude.{◌-◌, ◌≤◌}
+use Rattle.lists.specs.Basics.{length, rules}
 use Rattle.printing.proofs.text.Statement.{statement}
 use Rattle.printing.proofs.text.Tie as tie
 

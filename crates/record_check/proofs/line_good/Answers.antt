@@ -1,6 +1,8 @@
 -- The law on a line, test by test: a line that has not the words of its kind is not good, each later test that fails makes the answer false, and past them
 -- the clock is the answer, by its first digit where that is enough.
-use Rattle.lists.specs.Basics.{◌≡◌, sym, ap, ◌∙◌, true, ◌&&◌, and-false, length, arith, not-true, not-false, rules, bytes}
+use Rattle.std.specs.Prelude.{◌≡◌, ◌&&◌}
+use Rattle.std.proofs.Common.{◌∙◌}
+use Rattle.lists.specs.Basics.{sym, ap, true, and-false, length, arith, not-true, not-false, rules, bytes}
 use Rattle.model.specs.Layouts.{record_layout, offset}
 use Rattle.line_bytes.specs.Parts.{parts_ok}
 use Rattle.record_check.specs.States.{kind_at, kind_parts, asked}

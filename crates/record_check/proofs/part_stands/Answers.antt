@@ -1,5 +1,7 @@
 -- Each table is a part of the tables lent, at its offset.
-use Rattle.lists.specs.Basics.{◌≡◌, ap, ◌∙◌, ℕ, ◌+◌, ◌-◌, ◌*◌, length, arith, rules}
+use Rattle.std.specs.Prelude.{◌≡◌, ◌+◌, ◌-◌, ◌*◌}
+use Rattle.std.proofs.Common.{◌∙◌}
+use Rattle.lists.specs.Basics.{ap, ℕ, length, arith, rules}
 use Rattle.record_check.specs.States.{kinds}
 use Rattle.record_check.specs.Tables.{row_bytes, table_bytes, tables-length, part_stands, tables_room}
 use Rattle.record_check.proofs.part_stands.Goals as goal

@@ -1,5 +1,6 @@
 -- The words in the tables are those of the kind.
-use Rattle.lists.specs.Basics.{ap, ◌∙◌, length, arith, rules}
+use Rattle.std.proofs.Common.{◌∙◌}
+use Rattle.lists.specs.Basics.{ap, length, arith, rules}
 use Rattle.model.specs.Layouts.{record_layout, offset}
 use Rattle.sheet_laws.specs.Lines.{field_at}
 use Rattle.record_check.specs.States.{kinds}

@@ -1,5 +1,6 @@
 -- The input keeps its length, so that the record sheet stays a part of it, and a line ends after it began.
-use Rattle.lists.specs.Basics.{◌≡◌, ◌-◌, ◌≤◌, length, rules}
+use Rattle.std.specs.Prelude.{◌≡◌, ◌-◌, ◌≤◌}
+use Rattle.lists.specs.Basics.{length, rules}
 use Rattle.replay.proofs.answer_calls.Statement.{statement}
 use Rattle.replay.proofs.answer_calls.Tie as tie
 

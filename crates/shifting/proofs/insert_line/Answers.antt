@@ -1,5 +1,6 @@
 -- The bytes moved down and the line where it goes.
-use Rattle.lists.specs.Basics.{◌/◌, length}
+use Rattle.std.specs.Prelude.{◌/◌}
+use Rattle.lists.specs.Basics.{length}
 use Rattle.model.specs.Lines.{lines_of}
 use Rattle.shifting.specs.Moves.{line_room, insert_done}
 use borrow.Author.Rules.{rules}

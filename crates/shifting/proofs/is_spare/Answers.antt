@@ -1,5 +1,7 @@
 -- The tens before k are those of a spare.
-use Rattle.lists.specs.Basics.{◌*◌, ◌/◌, ◌≤◌, ◌≡◌, refl, sym, ap, ◌∙◌, take, drop, arith, not-true, not-false, length, rules, ◌-◌, ℕ}
+use Rattle.std.specs.Prelude.{◌*◌, ◌/◌, ◌≤◌, ◌≡◌, ◌-◌}
+use Rattle.std.proofs.Common.{◌∙◌}
+use Rattle.lists.specs.Basics.{refl, sym, ap, take, drop, arith, not-true, not-false, length, rules, ℕ}
 use Rattle.model.specs.Spares.{spare_line}
 use Rattle.model.specs.Layouts.{record_bytes}
 use Rattle.sheet_laws.specs.Fronts.{length-spare}

@@ -1,5 +1,7 @@
 -- The bytes moved up and a spare over the last line.
-use Rattle.lists.specs.Basics.{◌/◌, ap, ◌∙◌, length}
+use Rattle.std.specs.Prelude.{◌/◌}
+use Rattle.std.proofs.Common.{◌∙◌}
+use Rattle.lists.specs.Basics.{ap, length}
 use Rattle.model.specs.Lines.{lines_of}
 use Rattle.model.specs.Spares.{spare_line}
 use Rattle.decimal.specs.Word.{put_word}

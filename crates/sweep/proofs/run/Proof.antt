@@ -1,5 +1,6 @@
 -- Case by case: too little room, refused, accepted.
-use Rattle.lists.specs.Basics.{sym, ◌∙◌, arith, ne_eqb, rules}
+use Rattle.std.proofs.Common.{◌∙◌}
+use Rattle.lists.specs.Basics.{sym, arith, ne_eqb, rules}
 use Rattle.sweep.specs.Output.{little_work, little_output, left_refused, left_accepted}
 use Rattle.sweep.proofs.run.Statement.{statement}
 use Rattle.sweep.proofs.run.Tie as tie

@@ -1,5 +1,6 @@
 -- Both slices hold the input's sheets before the passes, which then leave the definition's.
-use Rattle.lists.specs.Basics.{sym, ap, ap₂, subst, ◌∙◌, arith, rules}
+use Rattle.std.proofs.Common.{◌∙◌}
+use Rattle.lists.specs.Basics.{sym, ap, ap₂, subst, arith, rules}
 use Rattle.sweep.specs.declared.FirstLine.{FirstLine}
 use Rattle.model.specs.Visitor.{swept}
 use Rattle.model.specs.ByteHistories.{Bytes, Passing}

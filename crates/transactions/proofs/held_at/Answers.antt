@@ -1,5 +1,7 @@
 -- No entry before i holds the key.
-use Rattle.lists.specs.Basics.{sym, ◌∙◌, ◌-◌, rules}
+use Rattle.std.specs.Prelude.{◌-◌}
+use Rattle.std.proofs.Common.{◌∙◌}
+use Rattle.lists.specs.Basics.{sym, rules}
 use Rattle.model.specs.Types.{Entry}
 use Rattle.model.specs.Search.{first_from}
 use Rattle.model.specs.Records.{same_key}

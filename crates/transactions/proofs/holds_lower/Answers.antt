@@ -1,5 +1,7 @@
 -- No entry before i is of such a storage.
-use Rattle.lists.specs.Basics.{sym, ◌∙◌, ◌-◌, rules, any}
+use Rattle.std.specs.Prelude.{◌-◌}
+use Rattle.std.proofs.Common.{◌∙◌}
+use Rattle.lists.specs.Basics.{sym, rules, any}
 use Rattle.model.specs.Types.{Entry}
 use Rattle.model.specs.Groups.{is_lower}
 use Rattle.model.specs.Transactions.{held}

@@ -1,5 +1,6 @@
 -- Refused by what is asked of the sheets, or what is told of both joined.
-use Rattle.lists.specs.Basics.{sym, ◌∙◌, true, false, length-take, arith}
+use Rattle.std.proofs.Common.{◌∙◌}
+use Rattle.lists.specs.Basics.{sym, true, false, length-take, arith}
 use Rattle.two_adding.specs.Placing.{place_refused, joined_good, place_told}
 use borrow.Author.Rules.{rules}
 use Rattle.two_adding.proofs.place_in.Statement.{statement}

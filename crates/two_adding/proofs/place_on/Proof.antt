@@ -1,5 +1,6 @@
 -- Refused by what is told of both sheets first, or what is told of the lines before the spares.
-use Rattle.lists.specs.Basics.{refl, ◌∙◌, [], length-take, arith}
+use Rattle.std.proofs.Common.{◌∙◌}
+use Rattle.lists.specs.Basics.{refl, [], length-take, arith}
 use Rattle.model.specs.TwoSheets.{plain_bytes, bookkeeping_bytes}
 use Rattle.sheet_laws.specs.Fronts.{sized-whole}
 use Rattle.two_engine.specs.Forms.{front-plain, front-bookkeeping}

@@ -1,5 +1,6 @@
 -- Each sheet gets its part of the line.
-use Rattle.lists.specs.Basics.{ap, ◌∙◌, ℕ, List, length, arith, joined}
+use Rattle.std.proofs.Common.{◌∙◌}
+use Rattle.lists.specs.Basics.{ap, ℕ, List, length, arith, joined}
 use Rattle.model.specs.Lines.{lines_of}
 use Rattle.model.specs.TwoSheets.{plain_bytes, bookkeeping_bytes, plain_line, bookkeeping_line}
 use Rattle.two_laws.specs.TwoLines.{length-plain_line, length-bookkeeping_line}

@@ -1,5 +1,7 @@
 -- Refused first, or by the check of the lines before the spares.
-use Rattle.lists.specs.Basics.{ap₂, ◌∙◌, ℕ, length-take, take, ◌-◌, arith, rules}
+use Rattle.std.specs.Prelude.{◌-◌}
+use Rattle.std.proofs.Common.{◌∙◌}
+use Rattle.lists.specs.Basics.{ap₂, ℕ, length-take, take, arith, rules}
 use Rattle.model.specs.TwoSheets.{plain_bytes, bookkeeping_bytes}
 use Rattle.sheet_laws.specs.Fronts.{sized-whole}
 use Rattle.lists.specs.Basics.{[]}

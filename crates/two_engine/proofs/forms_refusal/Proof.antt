@@ -1,5 +1,7 @@
 -- Case by case, as it is asked.
-use Rattle.lists.specs.Basics.{sym, ◌∙◌, ◌-◌, arith, not-true, not-false}
+use Rattle.std.specs.Prelude.{◌-◌}
+use Rattle.std.proofs.Common.{◌∙◌}
+use Rattle.lists.specs.Basics.{sym, arith, not-true, not-false}
 use Rattle.two_engine.specs.Forms.{plain_unsized, bookkeeping_unsized, as_many_lem, unequal_told}
 use Rattle.two_engine.proofs.forms_refusal.Statement.{statement}
 use Rattle.two_engine.proofs.forms_refusal.Tie as tie

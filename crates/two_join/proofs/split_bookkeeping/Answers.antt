@@ -1,5 +1,7 @@
 -- The first i lines are cut; a turn cuts one more.
-use Rattle.lists.specs.Basics.{◌-◌, ◌*◌, ◌/◌, ◌≤◌, ◌≡◌, refl, ◌∙◌, length, take, arith, rules}
+use Rattle.std.specs.Prelude.{◌-◌, ◌*◌, ◌/◌, ◌≤◌, ◌≡◌}
+use Rattle.std.proofs.Common.{◌∙◌}
+use Rattle.lists.specs.Basics.{refl, length, take, arith, rules}
 use Rattle.model.specs.Layouts.{record_bytes}
 use Rattle.model.specs.TwoSheets.{bookkeeping_bytes, bookkeeping_line, bookkeeping_part}
 use Rattle.two_laws.specs.TwoLines.{length-bookkeeping_line}

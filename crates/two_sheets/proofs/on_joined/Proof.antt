@@ -1,5 +1,7 @@
 -- The call on the joined sheet, split where it is accepted.
-use Rattle.lists.specs.Basics.{sym, ap, ◌∙◌, ℕ, ◌*◌, ◌/◌, rules}
+use Rattle.std.specs.Prelude.{◌*◌, ◌/◌}
+use Rattle.std.proofs.Common.{◌∙◌}
+use Rattle.lists.specs.Basics.{sym, ap, ℕ, rules}
 use Rattle.model.specs.Layouts.{record_bytes}
 use Rattle.model.specs.Requests.{operation_of}
 use Rattle.model.specs.TwoSheets.{plain_bytes, bookkeeping_bytes}

@@ -1,5 +1,6 @@
 -- Refused by what is asked of the sheets, or the visit on both joined.
-use Rattle.lists.specs.Basics.{sym, ◌∙◌, length-take, arith}
+use Rattle.std.proofs.Common.{◌∙◌}
+use Rattle.lists.specs.Basics.{sym, length-take, arith}
 use Rattle.model.specs.Results as model
 use Rattle.model.specs.Operations.{once}
 use Rattle.answers.specs.Answers.{visited_in}

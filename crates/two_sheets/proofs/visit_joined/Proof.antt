@@ -1,5 +1,7 @@
 -- The visit on the joined sheet, split where it is accepted.
-use Rattle.lists.specs.Basics.{sym, ap, ◌∙◌, ℕ, ◌*◌, ◌/◌}
+use Rattle.std.specs.Prelude.{◌*◌, ◌/◌}
+use Rattle.std.proofs.Common.{◌∙◌}
+use Rattle.lists.specs.Basics.{sym, ap, ℕ}
 use Rattle.model.specs.Layouts.{record_bytes}
 use Rattle.model.specs.Results as model
 use Rattle.model.specs.Operations.{once}

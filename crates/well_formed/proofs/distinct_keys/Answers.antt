@@ -1,5 +1,7 @@
 -- No entry before i has the key of a later one, and none between entry i and entry j has that of entry i.
-use Rattle.lists.specs.Basics.{sym, ◌∙◌, ◌-◌, arith, rules, any}
+use Rattle.std.specs.Prelude.{◌-◌}
+use Rattle.std.proofs.Common.{◌∙◌}
+use Rattle.lists.specs.Basics.{sym, arith, rules, any}
 use Rattle.model.specs.Transactions.{held}
 use Rattle.model.specs.WellFormed.{distinct_keys}
 use Rattle.transactions.specs.Held.{PassedTo, entry_at, after, pass-first, pass-from, any_met, any_next, any_last}

@@ -1,5 +1,7 @@
 -- What the companion tells, in the target.
-use Rattle.lists.specs.Basics.{sym, ap, subst, ◌∙◌, ◌≤◌}
+use Rattle.std.specs.Prelude.{◌≤◌}
+use Rattle.std.proofs.Common.{◌∙◌}
+use Rattle.lists.specs.Basics.{sym, ap, subst}
 use Rattle.model.specs.Types.{Ranked}
 use Rattle.model.specs.Refusals.{last_refusal}
 use Rattle.by_place_lem.specs.Ranks.{rank_number, rank_target, rank_small}

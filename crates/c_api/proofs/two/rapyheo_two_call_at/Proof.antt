@@ -1,7 +1,9 @@
 -- A walk of the function's MIR. `is_named_two` says whether the place is one of the list, and the number that of a call. If so the element is copied out, `call_named_two` is called on the
 -- copy and what it returns is put back there; if not, the sheets go to `unlisted_two`. Either way the sheets are given up to the call, which
 -- says their last bytes, and the laws of the call by place turn what was called into the contract. Written by tools/call_walk.py, and changed there.
-use Rattle.lists.specs.Basics.{◌≡◌, refl, sym, ap, subst, ◌∙◌, ℕ, ◌*◌, ◌^◌, ◌<◌, Bool, true, false, List, [], ◌∷◌, length, get_or, set, length-set}
+use Rattle.std.specs.Prelude.{◌≡◌, ◌*◌, ◌^◌, ◌<◌, ◌∷◌}
+use Rattle.std.proofs.Common.{◌∙◌}
+use Rattle.lists.specs.Basics.{refl, sym, ap, subst, ℕ, Bool, true, false, List, [], length, get_or, set, length-set}
 use seplogic.Ra.Ura.{Ura}
 use seplogic.Ra.TreeShare.{full_share}
 use mir.Syntax.{named, w32, w64, ty_ptr, ty_bool}

@@ -1,5 +1,7 @@
 -- Which line has the key, as one number.
-use Rattle.lists.specs.Basics.{sym, ap, subst, ◌∙◌, ◌≤◌}
+use Rattle.std.specs.Prelude.{◌≤◌}
+use Rattle.std.proofs.Common.{◌∙◌}
+use Rattle.lists.specs.Basics.{sym, ap, subst}
 use Rattle.model.specs.Types.{Ranked}
 use Rattle.model.specs.Refusals.{last_refusal}
 use Rattle.by_place_lem.specs.Ranks.{line_number, line_two_small}

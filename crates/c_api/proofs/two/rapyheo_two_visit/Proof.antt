@@ -1,5 +1,7 @@
 -- The answer is that of the definition, and its number is the definition's.
-use Rattle.lists.specs.Basics.{sym, ap, subst, ◌∙◌, ◌+◌, ◌≤◌, eqb, cond}
+use Rattle.std.specs.Prelude.{◌+◌, ◌≤◌}
+use Rattle.std.proofs.Common.{◌∙◌}
+use Rattle.lists.specs.Basics.{sym, ap, subst, eqb, cond}
 use Rattle.model.specs.Refusals.{last_refusal}
 use Rattle.answers.specs.declared.Visited.{Visited}
 use Rattle.two_check.specs.Areas.{two}

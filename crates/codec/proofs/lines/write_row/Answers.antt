@@ -1,5 +1,6 @@
 -- Fields before i are in the line, and the others follow; LF ends it.
-use Rattle.lists.specs.Basics.{◌≡◌, ◌-◌, length, length-take, length-drop, length-set, arith, rules}
+use Rattle.std.specs.Prelude.{◌≡◌, ◌-◌}
+use Rattle.lists.specs.Basics.{length, length-take, length-drop, length-set, arith, rules}
 use Rattle.model.specs.Layouts.{layout}
 use Rattle.codec.specs.Rows.{WrittenTo, write_first, field_ends, write_next, write_last, column_wide}
 use Rattle.codec.proofs.lines.write_row.Goals as goal

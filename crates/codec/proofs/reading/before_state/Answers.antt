@@ -1,5 +1,7 @@
 -- The ten bytes compared tell the before state; past the end nothing is before.
-use Rattle.lists.specs.Basics.{sym, ap, ◌∙◌, ℕ, Bool, cond, ◌+◌, ◌*◌, take, drop, rules, eq_list}
+use Rattle.std.specs.Prelude.{◌+◌, ◌*◌}
+use Rattle.std.proofs.Common.{◌∙◌}
+use Rattle.lists.specs.Basics.{sym, ap, ℕ, Bool, cond, take, drop, rules, eq_list}
 use Rattle.model.specs.Types.{Record, BeforeWord}
 use Rattle.types.specs.declared.State.TheVariants.{Absent, Committed}
 use Rattle.model.specs.Layouts.{record_layout, offset, word_at, record_bytes, record_offset, record_width, before_state_field}

@@ -1,5 +1,6 @@
 -- The row read from line i is that of its record; past the end there is none.
-use Rattle.lists.specs.Basics.{sym, ◌∙◌, rules}
+use Rattle.std.proofs.Common.{◌∙◌}
+use Rattle.lists.specs.Basics.{sym, rules}
 use Rattle.model.specs.Layouts.{layout, record_layout}
 use Rattle.sheet_laws.specs.Lines.{line_bytes}
 use Rattle.sheet_laws.specs.ByIndex.{record_past}

@@ -1,5 +1,6 @@
 -- The image is moved, then before state, state word, image and clock are written, which is the text of the prepared record.
-use Rattle.lists.specs.Basics.{ap, ap₂, ◌∙◌, ℕ, List, rules}
+use Rattle.std.proofs.Common.{◌∙◌}
+use Rattle.lists.specs.Basics.{ap, ap₂, ℕ, List, rules}
 use Rattle.model.specs.Types.{Image, Before}
 use Rattle.types.specs.declared.State.TheVariants.{Prepared}
 use Rattle.model.specs.Layouts.{record_layout, offset, clock_field}

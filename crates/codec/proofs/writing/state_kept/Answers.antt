@@ -1,5 +1,6 @@
 -- The ten bytes compared tell the state.
-use Rattle.lists.specs.Basics.{sym, ap, ◌∙◌, ℕ, Bool, cond, take, drop, rules, eq_list, arith}
+use Rattle.std.proofs.Common.{◌∙◌}
+use Rattle.lists.specs.Basics.{sym, ap, ℕ, Bool, cond, take, drop, rules, eq_list, arith}
 use Rattle.model.specs.Types.{StateWord}
 use Rattle.types.specs.declared.Before.TheVariants.{Absent, Committed}
 use Rattle.model.specs.Layouts.{record_layout, offset, word_at, word_bytes, record_offset, state_field}

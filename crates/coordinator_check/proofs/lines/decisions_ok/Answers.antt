@@ -1,5 +1,6 @@
 -- The first pass starts after number 0, the second after the head's own count; together they are `decisions_made`.
-use Rattle.lists.specs.Basics.{◌∙◌, arith, rules}
+use Rattle.std.proofs.Common.{◌∙◌}
+use Rattle.lists.specs.Basics.{arith, rules}
 use Rattle.coordinator_check.specs.Sheet.{whole_parts, ready_low, ready_high, columns_zero, too_few, passes_are}
 use Rattle.coordinator_check.proofs.lines.decisions_ok.Goals as goal
 

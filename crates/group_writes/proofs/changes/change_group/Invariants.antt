@@ -1,5 +1,7 @@
 -- The changes that are left make of the lines as they are what all of them make of the lines as they were.
-use Rattle.lists.specs.Basics.{◌≡◌, refl, sym, ap, ◌∙◌, ◌-◌, List, length, arith, rules}
+use Rattle.std.specs.Prelude.{◌≡◌, ◌-◌}
+use Rattle.std.proofs.Common.{◌∙◌}
+use Rattle.lists.specs.Basics.{refl, sym, ap, List, length, arith, rules}
 use Rattle.model.specs.Types.{Entry}
 use Rattle.model.specs.Records as sheet
 use Rattle.model.specs.Records.{records_text}

@@ -1,5 +1,7 @@
 -- Every entry before i that is of the group holds.
-use Rattle.lists.specs.Basics.{sym, ap, ◌∙◌, ◌-◌, Bool, not, ◌||◌, not-true, not-false, all, arith}
+use Rattle.std.specs.Prelude.{◌-◌, ◌||◌}
+use Rattle.std.proofs.Common.{◌∙◌}
+use Rattle.lists.specs.Basics.{sym, ap, Bool, not, not-true, not-false, all, arith}
 use Rattle.model.specs.Transactions.{held}
 use Rattle.model.specs.Steps.{holds}
 use Rattle.model.specs.ByteCalls.{sheets_of}

@@ -1,5 +1,7 @@
 -- The head comes back as its row, then the rest of the target as the decisions: both make the whole.
-use Rattle.lists.specs.Basics.{◌≡◌, sym, ap, ap₂, ◌∙◌, ℕ, ◌/◌, List, ◌++◌, map, length, drop, length-take, length-drop, arith, rules}
+use Rattle.std.specs.Prelude.{◌≡◌, ◌/◌, ◌++◌}
+use Rattle.std.proofs.Common.{◌∙◌}
+use Rattle.lists.specs.Basics.{sym, ap, ap₂, ℕ, List, map, length, drop, length-take, length-drop, arith, rules}
 use Rattle.model.specs.Lines.{lines_of}
 use Rattle.numbers.specs.DecisionFills.{decision_field, numbers_in}
 use Rattle.lists.specs.Fill.{front_same, rest_part, front_length, front_rest, front_back}

@@ -1,5 +1,7 @@
 -- The head comes back as its line, then the rest of the target as the lines: both make the whole.
-use Rattle.lists.specs.Basics.{◌≡◌, sym, ap, ap₂, ◌∙◌, ℕ, ◌*◌, List, ◌++◌, length, drop, length-take, length-drop, arith, rules, joined}
+use Rattle.std.specs.Prelude.{◌≡◌, ◌*◌, ◌++◌}
+use Rattle.std.proofs.Common.{◌∙◌}
+use Rattle.lists.specs.Basics.{sym, ap, ap₂, ℕ, List, length, drop, length-take, length-drop, arith, rules, joined}
 use Rattle.model.specs.Layouts.{layout, head_layout, coordinator_bytes, head_fields}
 use Rattle.sheet_laws.specs.Lines.{line_bytes}
 use Rattle.numbers.specs.DecisionFills.{line_texts, sheet_for}

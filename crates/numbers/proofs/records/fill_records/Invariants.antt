@@ -1,5 +1,7 @@
 -- Lines before i are in the target, and those from i on are still to come.
-use Rattle.lists.specs.Basics.{◌≡◌, refl, ◌∙◌, ◌+◌, ◌-◌, ◌*◌, ◌/◌, length, length-take, length-drop, arith, rules}
+use Rattle.std.specs.Prelude.{◌≡◌, ◌+◌, ◌-◌, ◌*◌, ◌/◌}
+use Rattle.std.proofs.Common.{◌∙◌}
+use Rattle.lists.specs.Basics.{refl, length, length-take, length-drop, arith, rules}
 use Rattle.model.specs.Layouts.{layout, record_layout, record_bytes, record_fields}
 use Rattle.model.specs.Lines.{line_text}
 use Rattle.model.specs.Records.{rows}

@@ -1,5 +1,7 @@
 -- The numbers before i are zeros.
-use Rattle.lists.specs.Basics.{◌-◌, sym, ◌∙◌, ℕ, length, replicate, arith, rules}
+use Rattle.std.specs.Prelude.{◌-◌}
+use Rattle.std.proofs.Common.{◌∙◌}
+use Rattle.lists.specs.Basics.{sym, ℕ, length, replicate, arith, rules}
 use lib.ListN.{length-replicate}
 use Rattle.lists.specs.Fill.{StoredTo, store_first, store_last}
 use Rattle.numbers.specs.Spares.{zeros_next}

@@ -1,5 +1,6 @@
 -- The rows behind the first n are spares.
-use Rattle.lists.specs.Basics.{sym, ◌∙◌, arith, not-true, not-false, rules}
+use Rattle.std.proofs.Common.{◌∙◌}
+use Rattle.lists.specs.Basics.{sym, arith, not-true, not-false, rules}
 use Rattle.numbers.specs.Spares.{SparesFrom, spares-first, no_spare_lem, one-spare, none_left}
 use Rattle.numbers.proofs.rows.filled_rows.Goals as goal
 

@@ -1,5 +1,7 @@
 -- The entries before i have their number of fields.
-use Rattle.lists.specs.Basics.{sym, ◌∙◌, ◌-◌, map, arith, rules}
+use Rattle.std.specs.Prelude.{◌-◌}
+use Rattle.std.proofs.Common.{◌∙◌}
+use Rattle.lists.specs.Basics.{sym, map, arith, rules}
 use Rattle.lists.specs.Fill.{StoredTo}
 use Rattle.model.specs.Transactions.{held}
 use Rattle.transactions.specs.Held.{has_room_lem, length_mapped, mapped_at}

@@ -1,5 +1,6 @@
 -- By whether the call asks for a line; one that does is looked up by its key.
-use Rattle.lists.specs.Basics.{sym, ap, ◌∙◌, not-true, not-false, rules}
+use Rattle.std.proofs.Common.{◌∙◌}
+use Rattle.lists.specs.Basics.{sym, ap, not-true, not-false, rules}
 use Rattle.model.specs.SheetCalls.{looked_up}
 use Rattle.script_calls.specs.Parts.{key_from, part_none, part_asked_lem}
 use Rattle.replay.proofs.calls.part.Statement.{statement}

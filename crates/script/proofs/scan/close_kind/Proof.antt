@@ -1,5 +1,6 @@
 -- By whether the word is `close`; any other is no call's name.
-use Rattle.lists.specs.Basics.{sym, ◌∙◌, rules, bytes}
+use Rattle.std.proofs.Common.{◌∙◌}
+use Rattle.lists.specs.Basics.{sym, rules, bytes}
 use Rattle.script.specs.Lines.{close_kind}
 use Rattle.script.proofs.scan.close_kind.Statement.{statement}
 use Rattle.script.proofs.scan.close_kind.Tie as tie

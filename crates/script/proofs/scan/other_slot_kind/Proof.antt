@@ -1,5 +1,6 @@
 -- Word by word, in the order of the definition.
-use Rattle.lists.specs.Basics.{sym, ◌∙◌, rules, bytes}
+use Rattle.std.proofs.Common.{◌∙◌}
+use Rattle.lists.specs.Basics.{sym, rules, bytes}
 use Rattle.script.specs.Lines.{other_slot_kind, first_named_lem, second-named, third-named, fourth-named, none_named}
 use Rattle.script.proofs.scan.other_slot_kind.Statement.{statement}
 use Rattle.script.proofs.scan.other_slot_kind.Tie as tie

@@ -1,5 +1,7 @@
 -- The first word is what stands before the first space, and the other words are read after it.
-use Rattle.lists.specs.Basics.{◌≡◌, ap₂, ◌∙◌, length, length-take, arith, rules}
+use Rattle.std.specs.Prelude.{◌≡◌}
+use Rattle.std.proofs.Common.{◌∙◌}
+use Rattle.lists.specs.Basics.{ap₂, length, length-take, arith, rules}
 use Rattle.script.specs.Lines.{called, up_to, said_read}
 use Rattle.script.proofs.scan.parse.Statement.{statement}
 use Rattle.script.proofs.scan.parse.Tie as tie

@@ -1,5 +1,6 @@
 -- Word by word, in the order of the definition.
-use Rattle.lists.specs.Basics.{sym, ◌∙◌, bytes}
+use Rattle.std.proofs.Common.{◌∙◌}
+use Rattle.lists.specs.Basics.{sym, bytes}
 use Rattle.script.specs.Lines.{shift_kind}
 use borrow.Author.Rules.{rules}
 use Rattle.script.proofs.scan.shift_kind.Statement.{statement}

@@ -1,5 +1,6 @@
 -- By whether there is room for a number more, and by what the word holds.
-use Rattle.lists.specs.Basics.{sym, ◌∙◌, le-leb, lt-leb, rules}
+use Rattle.std.proofs.Common.{◌∙◌}
+use Rattle.lists.specs.Basics.{sym, le-leb, lt-leb, rules}
 use Rattle.script.specs.Lines.{line_numbers, with_figure, with_word}
 use Rattle.script.proofs.scan.with_word.Statement.{statement}
 use Rattle.script.proofs.scan.with_word.Tie as tie

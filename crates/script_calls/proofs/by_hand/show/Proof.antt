@@ -1,5 +1,6 @@
 -- At most eight entries are shown, so that their rows lie in the array.
-use Rattle.lists.specs.Basics.{◌-◌, ◌≤◌, rules}
+use Rattle.std.specs.Prelude.{◌-◌, ◌≤◌}
+use Rattle.lists.specs.Basics.{rules}
 use Rattle.script_calls.proofs.by_hand.show.Statement.{statement}
 use Rattle.script_calls.proofs.by_hand.show.Tie as tie
 

@@ -1,5 +1,7 @@
 -- No line before i begins so; line i agrees from field f on. A field that differs passes the line, and five that agree are a match.
-use Rattle.lists.specs.Basics.{◌≡◌, refl, sym, ◌∙◌, ◌-◌, ◌/◌, ◌≤◌, ◌<◌, length, arith, not-true, not-false, rules}
+use Rattle.std.specs.Prelude.{◌≡◌, ◌-◌, ◌/◌, ◌≤◌, ◌<◌}
+use Rattle.std.proofs.Common.{◌∙◌}
+use Rattle.lists.specs.Basics.{refl, sym, length, arith, not-true, not-false, rules}
 use mathlib.Core.Logic.{⊎_elim}
 use Rattle.sheets.specs.Search.{Passed, Agreed, agree-first, agree_next, pass-met, pass_next, pass_last}
 use Rattle.lists.specs.Walks.{left-first}

@@ -1,5 +1,6 @@
 -- The key's numbers are written as a row of a key line.
-use Rattle.lists.specs.Basics.{ap, ◌∙◌, rules}
+use Rattle.std.proofs.Common.{◌∙◌}
+use Rattle.lists.specs.Basics.{ap, rules}
 use Rattle.model.specs.Layouts.{layout, key_layout, record_layout}
 use Rattle.model.specs.Lines.{line_text}
 use Rattle.sheet_laws.specs.Lines.{line_bytes}

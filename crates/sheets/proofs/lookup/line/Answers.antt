@@ -1,5 +1,7 @@
 -- By what is found.
-use Rattle.lists.specs.Basics.{sym, subst, ◌∙◌, ◌≤◌, arith}
+use Rattle.std.specs.Prelude.{◌≤◌}
+use Rattle.std.proofs.Common.{◌∙◌}
+use Rattle.lists.specs.Basics.{sym, subst, arith}
 use Rattle.model.specs.Types.{Ranked}
 use Rattle.sheet_laws.specs.Ranks.{found-few}
 use Rattle.sheets.specs.Answers.{line-none, line-met, is_found}

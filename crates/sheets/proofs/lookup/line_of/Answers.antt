@@ -1,5 +1,7 @@
 -- Case by case in the order of the refusals; what is found is found among the lines before the spares.
-use Rattle.lists.specs.Basics.{◌≤◌, sym, ap, subst, ◌∙◌, ℕ, length-take, take, arith, not-true, not-false, rules}
+use Rattle.std.specs.Prelude.{◌≤◌}
+use Rattle.std.proofs.Common.{◌∙◌}
+use Rattle.lists.specs.Basics.{sym, ap, subst, ℕ, length-take, take, arith, not-true, not-false, rules}
 use Rattle.model.specs.Records.{records_accepted}
 use Rattle.model.specs.Spares.{front}
 use Rattle.sheet_laws.specs.Spared.{accepted_lines}

@@ -1,5 +1,5 @@
 -- The index of the key's line is its rank; where there is none, the lines with smaller keys are counted.
-use Rattle.lists.specs.Basics.{◌∙◌}
+use Rattle.std.proofs.Common.{◌∙◌}
 use Rattle.sheet_laws.specs.Ranks.{found-ranked, missing-ranked, accepted_order}
 use Rattle.sheets.specs.Answers.{is_found}
 use borrow.Author.Rules.{rules}

@@ -1,5 +1,6 @@
 -- By the tests, in the order of the step table.
-use Rattle.lists.specs.Basics.{sym, ◌∙◌, arith, not-true, not-false}
+use Rattle.std.proofs.Common.{◌∙◌}
+use Rattle.lists.specs.Basics.{sym, arith, not-true, not-false}
 use Rattle.sheet_laws.specs.Decisions.{readable_length}
 use Rattle.steps.specs.Ready.{records_accepted_lem, coordinator_readable_lem, few, units}
 use Rattle.steps.specs.Stepped.{wrote_nothing}

@@ -1,5 +1,6 @@
 -- The keys from line i on, visited from the sheets as they now are, come to what all keys come to from the first sheets.
-use Rattle.lists.specs.Basics.{◌≡◌, refl, ◌-◌, length, arith, rules}
+use Rattle.std.specs.Prelude.{◌≡◌, ◌-◌}
+use Rattle.lists.specs.Basics.{refl, length, arith, rules}
 use Rattle.sweep.specs.Passes.{both, VisitedTo, pass-first, pass_next, pass_last, still_lined}
 use borrow.Author.Rules.{rules}
 use Rattle.sweep.proofs.passes.pass.Statement.{statement}

@@ -1,5 +1,6 @@
 -- Each pass is over the keys of the first sheets, which every pass keeps, and two passes are a sweep.
-use Rattle.lists.specs.Basics.{◌≡◌, refl, ◌-◌, length, arith, rules}
+use Rattle.std.specs.Prelude.{◌≡◌, ◌-◌}
+use Rattle.lists.specs.Basics.{refl, length, arith, rules}
 use Rattle.call_laws.specs.Lifting.{passing_parts}
 use Rattle.sweep.specs.Passes.{both, PassedTo, sweep_first, sweep_next, sweep_last, still_lined}
 use borrow.Author.Rules.{rules}

@@ -1,5 +1,6 @@
 -- Refused first, or told of the lines before the spares.
-use Rattle.lists.specs.Basics.{sym, length-take, ◌-◌, arith, rules}
+use Rattle.std.specs.Prelude.{◌-◌}
+use Rattle.lists.specs.Basics.{sym, length-take, arith, rules}
 use Rattle.model.specs.TwoSheets.{plain_bytes, bookkeeping_bytes}
 use Rattle.sheet_laws.specs.Fronts.{sized-whole}
 use Rattle.lists.specs.Basics.{[]}

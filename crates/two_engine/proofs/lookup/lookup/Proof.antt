@@ -1,5 +1,7 @@
 -- By whether a line has the key, and the sheet's name.
-use Rattle.lists.specs.Basics.{◌≡◌, ap, ◌∙◌, ℕ, ◌+◌, ◌-◌, ◌*◌, take, drop, arith}
+use Rattle.std.specs.Prelude.{◌≡◌, ◌+◌, ◌-◌, ◌*◌}
+use Rattle.std.proofs.Common.{◌∙◌}
+use Rattle.lists.specs.Basics.{ap, ℕ, take, drop, arith}
 use Rattle.model.specs.TwoSheets.{plain_bytes, bookkeeping_bytes}
 use Rattle.two_engine.specs.Lookups.{looked_missing, looked_plain, looked_bookkeeping, looked_none}
 use borrow.Author.Rules.{rules}

@@ -1,5 +1,6 @@
 -- Each sheet without its spares, beside an empty one.
-use Rattle.lists.specs.Basics.{ap, ◌∙◌, [], ℕ, length-take, take, arith, rules}
+use Rattle.std.proofs.Common.{◌∙◌}
+use Rattle.lists.specs.Basics.{ap, [], ℕ, length-take, take, arith, rules}
 use Rattle.model.specs.TwoSheets.{plain_bytes, bookkeeping_bytes}
 use Rattle.sheet_laws.specs.Fronts.{sized-whole}
 use Rattle.model.specs.Spares.{front}

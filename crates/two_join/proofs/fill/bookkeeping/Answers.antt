@@ -1,5 +1,7 @@
 -- The first i lines are filled; a turn fills one more.
-use Rattle.lists.specs.Basics.{◌-◌, ◌*◌, ◌/◌, ◌≤◌, ◌≡◌, refl, ◌∙◌, length, take, arith, rules}
+use Rattle.std.specs.Prelude.{◌-◌, ◌*◌, ◌/◌, ◌≤◌, ◌≡◌}
+use Rattle.std.proofs.Common.{◌∙◌}
+use Rattle.lists.specs.Basics.{refl, length, take, arith, rules}
 use Rattle.model.specs.Layouts.{record_bytes}
 use Rattle.model.specs.TwoSheets.{bookkeeping_bytes}
 use Rattle.two_laws.specs.Deciding.{fill_bookkeeping, filled_bookkeeping}

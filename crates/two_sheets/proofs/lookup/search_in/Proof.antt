@@ -1,5 +1,6 @@
 -- Case by case in the order of the refusals; the search is on the joined sheet.
-use Rattle.lists.specs.Basics.{sym, ap, subst, ◌∙◌, Bool, length-take, arith, not-true, not-false}
+use Rattle.std.proofs.Common.{◌∙◌}
+use Rattle.lists.specs.Basics.{sym, ap, subst, Bool, length-take, arith, not-true, not-false}
 use Rattle.model.specs.Records.{records_accepted}
 use Rattle.two_laws.specs.Decision.{joined_accepted}
 use Rattle.two_sheets.specs.Lookups.{Ranks, ranks_refused, ranks_out, ranks_told, ranks_line}
