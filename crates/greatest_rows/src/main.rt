@@ -3,6 +3,7 @@
 
 ghost use Rattle.std.specs.Prelude.{◌≤◌};
 
+use std::io::{Eprint, Print};
 use types::{LEAST_COORDINATOR_BYTES, RECORD_BYTES};
 
 // Lines for the most puts that a transaction has.
@@ -12,42 +13,42 @@ const MOST_BYTES: usize = RECORD_BYTES * 8;
 const LIMIT: u32 = 17;
 
 // A word, a space and a number.
-fn told(word: &[u8], v: u32) {
+fn told(rt: &(impl Print + Eprint), word: &[u8], v: u32) {
     let mut digits = [0u8; 20];
     let k = io::decimal(v as u64, &mut digits);
-    streams::write(word);
-    streams::write(b" ");
-    streams::write(&digits[..k]);
+    streams::write(rt, word);
+    streams::write(rt, b" ");
+    streams::write(rt, &digits[..k]);
 }
 
 // What the companion gives over both targets, and what is told of the close.
-fn close(count: u32, records: &mut [u8], coordinator: &mut [u8]) {
+fn close(rt: &(impl Print + Eprint), count: u32, records: &mut [u8], coordinator: &mut [u8]) {
     let given = greatest::greatest(count, records, coordinator);
-    told(b"puts", count);
-    streams::write(b"\n");
-    streams::write(coordinator);
-    streams::write(records);
+    told(rt, b"puts", count);
+    streams::write(rt, b"\n");
+    streams::write(rt, coordinator);
+    streams::write(rt, records);
     let t = given.transaction;
     let closed = engine::close(t, 0, LIMIT, records, coordinator);
-    told(b"writes", closed.writes);
-    told(b" phase", closed.transaction.phase);
-    told(b" verdict", closed.transaction.verdict);
-    streams::write(b"\n");
+    told(rt, b"writes", closed.writes);
+    told(rt, b" phase", closed.transaction.phase);
+    told(rt, b" verdict", closed.transaction.verdict);
+    streams::write(rt, b"\n");
 }
 
 // One row: `size` is what so many lines take.
-fn row(count: u32, size: usize)
+fn row(rt: &(impl Print + Eprint), count: u32, size: usize)
     requires { size ≤ 864 }
 {
     let mut records = [0u8; MOST_BYTES];
     let mut coordinator = [0u8; LEAST_COORDINATOR_BYTES];
-    close(count, &mut records[..size], &mut coordinator);
+    close(rt, count, &mut records[..size], &mut coordinator);
 }
 
-fn main() {
+fn main(rt: HostRuntime) {
     let mut size = 0;
     for count in 1..9 {
         size = size + RECORD_BYTES;
-        row(count, size);
+        row(&rt, count, size);
     }
 }

@@ -4,9 +4,10 @@
 ghost use Rattle.std.specs.Prelude.{◌≡◌, ◌≤◌};
 ghost use Rattle.script.specs.Lines.{reply_numbers};
 
+use std::io::{Eprint, Print};
 use script::reply::{Form, REPLY_NUMBERS, Reply};
 
-fn byte(b: u8, out: &mut [u8; 4096], fill: usize) -> usize
+fn byte(rt: &(impl Print + Eprint), b: u8, out: &mut [u8; 4096], fill: usize) -> usize
     requires { fill ≤ 4096 }
     ensures { result ≤ 4096 }
 {
@@ -14,66 +15,66 @@ fn byte(b: u8, out: &mut [u8; 4096], fill: usize) -> usize
         out[fill] = b;
         return fill + 1;
     }
-    streams::write(out);
+    streams::write(rt, out);
     out[0] = b;
     1
 }
 
-fn text(s: &[u8], out: &mut [u8; 4096], fill: usize) -> usize
+fn text(rt: &(impl Print + Eprint), s: &[u8], out: &mut [u8; 4096], fill: usize) -> usize
     requires { fill ≤ 4096 }
     ensures { result ≤ 4096 }
 {
     let n = s.len();
     let mut at = fill;
     for i in 0..n {
-        at = byte(s[i], out, at);
+        at = byte(rt, s[i], out, at);
     }
     at
 }
 
 // A space and a number.
-fn number(v: u32, out: &mut [u8; 4096], fill: usize) -> usize
+fn number(rt: &(impl Print + Eprint), v: u32, out: &mut [u8; 4096], fill: usize) -> usize
     requires { fill ≤ 4096 }
     ensures { result ≤ 4096 }
 {
     let mut digits = [0u8; 20];
     let k = io::decimal(v as u64, &mut digits);
-    let at = byte(b' ', out, fill);
-    text(&digits[..k], out, at)
+    let at = byte(rt, b' ', out, fill);
+    text(rt, &digits[..k], out, at)
 }
 
-fn words(form: Form, out: &mut [u8; 4096], fill: usize) -> usize
+fn words(rt: &(impl Print + Eprint), form: Form, out: &mut [u8; 4096], fill: usize) -> usize
     requires { fill ≤ 4096 }
     ensures { result ≤ 4096 }
 {
     match form {
-        Form::BadLine => text(b"bad line", out, fill),
-        Form::Refused => text(b"refused", out, fill),
-        Form::Made => text(b"ok", out, fill),
-        Form::Absent => text(b"ok absent", out, fill),
-        Form::Columns => text(b"ok columns", out, fill),
-        Form::First => text(b"ok first", out, fill),
-        Form::Again => text(b"ok again", out, fill),
-        Form::Stays => text(b"ok stays", out, fill),
-        Form::Forward => text(b"ok forward", out, fill),
-        Form::Back => text(b"ok back", out, fill),
+        Form::BadLine => text(rt, b"bad line", out, fill),
+        Form::Refused => text(rt, b"refused", out, fill),
+        Form::Made => text(rt, b"ok", out, fill),
+        Form::Absent => text(rt, b"ok absent", out, fill),
+        Form::Columns => text(rt, b"ok columns", out, fill),
+        Form::First => text(rt, b"ok first", out, fill),
+        Form::Again => text(rt, b"ok again", out, fill),
+        Form::Stays => text(rt, b"ok stays", out, fill),
+        Form::Forward => text(rt, b"ok forward", out, fill),
+        Form::Back => text(rt, b"ok back", out, fill),
     }
 }
 
 // The first `count` of the numbers.
-fn numbers(values: [u32; REPLY_NUMBERS], count: usize, out: &mut [u8; 4096], fill: usize) -> usize
+fn numbers(rt: &(impl Print + Eprint), values: [u32; REPLY_NUMBERS], count: usize, out: &mut [u8; 4096], fill: usize) -> usize
     requires { (count ≤ reply_numbers) × (fill ≤ 4096) }
     ensures { result ≤ 4096 }
 {
     let mut at = fill;
     for i in 0..count {
-        at = number(values[i], out, at);
+        at = number(rt, values[i], out, at);
     }
     at
 }
 
 // A space and a part of the sheet without its LF; nothing for an empty part.
-fn part(s: &[u8], out: &mut [u8; 4096], fill: usize) -> usize
+fn part(rt: &(impl Print + Eprint), s: &[u8], out: &mut [u8; 4096], fill: usize) -> usize
     requires { fill ≤ 4096 }
     ensures { result ≤ 4096 }
 {
@@ -82,12 +83,12 @@ fn part(s: &[u8], out: &mut [u8; 4096], fill: usize) -> usize
         return fill;
     }
     let end = n - 1;
-    let at = byte(b' ', out, fill);
-    text(&s[..end], out, at)
+    let at = byte(rt, b' ', out, fill);
+    text(rt, &s[..end], out, at)
 }
 
 // A reply as a line, with the part of the sheet that was asked for.
-pub fn line(r: Reply, s: &[u8], out: &mut [u8; 4096], fill: usize) -> usize
+pub fn line(rt: &(impl Print + Eprint), r: Reply, s: &[u8], out: &mut [u8; 4096], fill: usize) -> usize
     requires count_le_reply_numbers { r.count ≤ reply_numbers }
     requires fill_bound { fill ≤ 4096 }
     ensures { result ≤ 4096 }
@@ -95,28 +96,28 @@ pub fn line(r: Reply, s: &[u8], out: &mut [u8; 4096], fill: usize) -> usize
     let form = r.form;
     let count = r.count;
     let values = r.numbers;
-    let at = words(form, out, fill);
-    let at = numbers(values, count, out, at);
-    let at = part(s, out, at);
-    byte(b'\n', out, at)
+    let at = words(rt, form, out, fill);
+    let at = numbers(rt, values, count, out, at);
+    let at = part(rt, s, out, at);
+    byte(rt, b'\n', out, at)
 }
 
 // What the buffer holds is written, so that nothing of it is taken.
-fn flush(out: &[u8; 4096], fill: usize) -> usize
+fn flush(rt: &(impl Print + Eprint), out: &[u8; 4096], fill: usize) -> usize
     requires { fill ≤ 4096 }
     ensures { result ≡ 0 }
 {
     let text: &[u8] = out;
-    streams::write(&text[..fill]);
+    streams::write(rt, &text[..fill]);
     0
 }
 
 // The line before the sheets, in the middle of a history and at its end. They follow what the buffer holds and don't pass through it.
-pub fn sheets(out: &[u8; 4096], fill: usize) -> usize
+pub fn sheets(rt: &(impl Print + Eprint), out: &[u8; 4096], fill: usize) -> usize
     requires { fill ≤ 4096 }
     ensures { result ≤ 4096 }
 {
-    let taken = flush(out, fill);
-    streams::write(b"sheets\n");
+    let taken = flush(rt, out, fill);
+    streams::write(rt, b"sheets\n");
     taken
 }

@@ -7,25 +7,25 @@ ghost use Rattle.script.specs.Lines.{reply_numbers};
 
 mod calls;
 
+use std::io::{Eprint, Print};
 use script::reply::Reply;
 use script::room;
 use script::scan::{Command, Kind};
 use types::{COORDINATOR_BYTES, RECORD_BYTES};
 
 // Both sheets, which follow what the buffer holds.
-fn print_sheets(coordinator: &[u8], records: &[u8], out: &[u8; 4096], fill: usize) -> usize
+fn print_sheets(rt: &(impl Print + Eprint), coordinator: &[u8], records: &[u8], out: &[u8; 4096], fill: usize) -> usize
     requires { fill ≤ 4096 }
     ensures { result ≤ 4096 }
 {
-    let taken = printing::sheets(out, fill);
-    streams::write(coordinator);
-    streams::write(records);
+    let taken = printing::sheets(rt, out, fill);
+    streams::write(rt, coordinator);
+    streams::write(rt, records);
     taken
 }
 
 // Both sheets where a line asks for them; else the reply to a call as a line, with the part of the record sheet that the call asks for.
-fn answer(
-    command: Command,
+fn answer(rt: &(impl Print + Eprint), command: Command,
     reply: Reply,
     coordinator: &[u8],
     records: &[u8],
@@ -38,17 +38,16 @@ fn answer(
 {
     let kind = command.kind;
     match kind {
-        Kind::Sheets => print_sheets(coordinator, records, out, fill),
+        Kind::Sheets => print_sheets(rt, coordinator, records, out, fill),
         _ => {
             let part = calls::part(command, records);
-            printing::line(reply, part, out, fill)
+            printing::line(rt, reply, part, out, fill)
         }
     }
 }
 
 // The answers to the calls after the sheets, in order. The record sheet is input[from..to].
-fn answer_calls(
-    input: &mut [u8],
+fn answer_calls(rt: &(impl Print + Eprint), input: &mut [u8],
     from: usize,
     to: usize,
     coordinator: &mut [u8],
@@ -68,46 +67,46 @@ fn answer_calls(
         let turn = calls::run(command, slots, &mut input[from..to], coordinator);
         slots = turn.slots;
         let reply = turn.reply;
-        fill = answer(command, reply, coordinator, &input[from..to], out, fill);
+        fill = answer(rt, command, reply, coordinator, &input[from..to], out, fill);
         at = next;
     }
     fill
 }
 
 // A history with input[9..from] its coordinator sheet, which is copied, since two parts of one slice can't be lent for writing at once.
-fn replay(input: &mut [u8], from: usize, to: usize, coordinator: &mut [u8])
+fn replay(rt: &(impl Print + Eprint), input: &mut [u8], from: usize, to: usize, coordinator: &mut [u8])
     requires { (from ≡ 9 + length coordinator.old) × ((from ≤ to) × (to ≤ length input.old)) }
 {
     decimal::put(coordinator, &input[9..from]);
     let mut out = [0u8; 4096];
-    let fill = answer_calls(input, from, to, coordinator, &mut out);
-    print_sheets(coordinator, &input[from..to], &out, fill);
+    let fill = answer_calls(rt, input, from, to, coordinator, &mut out);
+    print_sheets(rt, coordinator, &input[from..to], &out, fill);
 }
 
 // A history, whose first line says how long its sheets are.
-fn history(input: &mut [u8]) {
+fn history(rt: &(impl Print + Eprint), input: &mut [u8]) {
     let head = script::head::read(input);
     if !head.good {
-        streams::write(b"bad input\n");
+        streams::write(rt, b"bad input\n");
         return;
     }
     let size = (head.coordinator + 1) * COORDINATOR_BYTES;
     let from = 9 + size;
     let to = from + head.records * RECORD_BYTES;
     if input.len() < to {
-        streams::write(b"bad input\n");
+        streams::write(rt, b"bad input\n");
         return;
     }
     let mut coordinator = room::blank_sheet();
-    replay(input, from, to, &mut coordinator[..size]);
+    replay(rt, input, from, to, &mut coordinator[..size]);
 }
 
-fn main() {
+fn main(rt: HostRuntime) {
     let mut input = room::blank_input();
-    let n = streams::read(&mut input);
+    let n = streams::read(&rt, &mut input);
     if room::LONGEST < n {
-        streams::write(b"bad input\n");
+        streams::write(&rt, b"bad input\n");
         return;
     }
-    history(&mut input[..n]);
+    history(&rt, &mut input[..n]);
 }

@@ -7,6 +7,7 @@ ghost use Rattle.script.specs.Lines.{reply_numbers};
 
 mod calls;
 
+use std::io::{Eprint, Print};
 use script::reply::Reply;
 use script::room;
 use script::scan::{Command, Kind};
@@ -14,8 +15,7 @@ use two_join::{BOOKKEEPING_BYTES, PLAIN_BYTES};
 use types::{COORDINATOR_BYTES, Transaction};
 
 // The sheets, which follow what the buffer holds.
-fn print_sheets(
-    coordinator: &[u8],
+fn print_sheets(rt: &(impl Print + Eprint), coordinator: &[u8],
     plain: &[u8],
     book: &[u8],
     out: &[u8; 4096],
@@ -24,16 +24,15 @@ fn print_sheets(
     requires { fill ≤ 4096 }
     ensures { result ≤ 4096 }
 {
-    let taken = printing::sheets(out, fill);
-    streams::write(coordinator);
-    streams::write(plain);
-    streams::write(book);
+    let taken = printing::sheets(rt, out, fill);
+    streams::write(rt, coordinator);
+    streams::write(rt, plain);
+    streams::write(rt, book);
     taken
 }
 
 // The sheets where a line asks for them; else the reply to a call as a line, with the part of a sheet that the call asks for.
-fn answer<'a>(
-    command: Command,
+fn answer<'a>(rt: &(impl Print + Eprint), command: Command,
     reply: Reply,
     coordinator: &[u8],
     plain: &'a [u8],
@@ -47,10 +46,10 @@ fn answer<'a>(
 {
     let kind = command.kind;
     match kind {
-        Kind::Sheets => print_sheets(coordinator, plain, book, out, fill),
+        Kind::Sheets => print_sheets(rt, coordinator, plain, book, out, fill),
         _ => {
             let part = calls::part(command, plain, book);
-            printing::line(reply, part, out, fill)
+            printing::line(rt, reply, part, out, fill)
         }
     }
 }
@@ -63,8 +62,7 @@ struct Printed {
 }
 
 // A line's call, and what is printed of it.
-fn line(
-    command: Command,
+fn line(rt: &(impl Print + Eprint), command: Command,
     slots: [Transaction; 16],
     plain: &mut [u8],
     book: &mut [u8],
@@ -77,7 +75,7 @@ fn line(
 {
     let turn = calls::run(command, slots, plain, book, coordinator);
     let reply = turn.reply;
-    let taken = answer(command, reply, coordinator, plain, book, out, fill);
+    let taken = answer(rt, command, reply, coordinator, plain, book, out, fill);
     let after = turn.slots;
     Printed {
         slots: after,
@@ -86,8 +84,7 @@ fn line(
 }
 
 // The answers to the calls after the sheets, in order. The bookkeeping sheet is input[from..to].
-fn answer_calls(
-    input: &mut [u8],
+fn answer_calls(rt: &(impl Print + Eprint), input: &mut [u8],
     from: usize,
     to: usize,
     coordinator: &mut [u8],
@@ -106,7 +103,7 @@ fn answer_calls(
         let next = end + 1;
         let command = script::scan::parse(true, &input[at..end]);
         let book = &mut input[from..to];
-        let printed = line(command, slots, plain, book, coordinator, out, fill);
+        let printed = line(rt, command, slots, plain, book, coordinator, out, fill);
         slots = printed.slots;
         fill = printed.fill;
         at = next;
@@ -115,8 +112,7 @@ fn answer_calls(
 }
 
 // A history with the coordinator sheet from input[13] on and then the plain sheet, which are copied, since two parts of one slice can't be lent for writing at once.
-fn replay(
-    input: &mut [u8],
+fn replay(rt: &(impl Print + Eprint), input: &mut [u8],
     middle: usize,
     from: usize,
     to: usize,
@@ -130,15 +126,15 @@ fn replay(
     decimal::put(coordinator, &input[13..middle]);
     decimal::put(plain, &input[middle..from]);
     let mut out = [0u8; 4096];
-    let fill = answer_calls(input, from, to, coordinator, plain, &mut out);
-    print_sheets(coordinator, plain, &input[from..to], &out, fill);
+    let fill = answer_calls(rt, input, from, to, coordinator, plain, &mut out);
+    print_sheets(rt, coordinator, plain, &input[from..to], &out, fill);
 }
 
 // A history, whose first line says how long its sheets are.
-fn history(input: &mut [u8]) {
+fn history(rt: &(impl Print + Eprint), input: &mut [u8]) {
     let head = script::head::read_two(input);
     if !head.good {
-        streams::write(b"bad input\n");
+        streams::write(rt, b"bad input\n");
         return;
     }
     let size = (head.coordinator + 1) * COORDINATOR_BYTES;
@@ -147,12 +143,12 @@ fn history(input: &mut [u8]) {
     let from = middle + plain_size;
     let to = from + head.bookkeeping * BOOKKEEPING_BYTES;
     if input.len() < to {
-        streams::write(b"bad input\n");
+        streams::write(rt, b"bad input\n");
         return;
     }
     let mut coordinator = room::blank_sheet();
     let mut plain = room::blank_plain();
-    replay(
+    replay(rt, 
         input,
         middle,
         from,
@@ -162,12 +158,12 @@ fn history(input: &mut [u8]) {
     );
 }
 
-fn main() {
+fn main(rt: HostRuntime) {
     let mut input = room::blank_input();
-    let n = streams::read(&mut input);
+    let n = streams::read(&rt, &mut input);
     if room::LONGEST < n {
-        streams::write(b"bad input\n");
+        streams::write(&rt, b"bad input\n");
         return;
     }
-    history(&mut input[..n]);
+    history(&rt, &mut input[..n]);
 }

@@ -1,0 +1,35 @@
+-- Refused by the check, or the call on the lines of records of accepted sheets.
+use Rattle.std.proofs.Common.{◌∙◌}
+use Rattle.lists.specs.Basics.{refl, sym, length-take, arith, rules}
+use Rattle.call_laws.specs.Lifting.{passing_parts}
+use Rattle.model.specs.Results as model
+use Rattle.call_laws.specs.Accepted.{turned_away_lem}
+use Rattle.engine.specs.Fronts.{front-within, accepted_front, answer-passed}
+use Rattle.answers.specs.Answers.{to_returned}
+use borrow.Author.Rules.{rules}
+use Rattle.engine.proofs.abort.Goals as goal
+
+pub returns-then-checked-ne0 : goal.returns-then-checked-ne0
+returns-then-checked-ne0 c =
+    let a = c.args in
+    (turned_away_lem (to_returned a.t) (model.abort a.t) a.records.now a.coordinator.now _ c.check-checked.ensures c.if-checked-ne0.true c.refusal.ensures).said
+
+pub lines_end-end-requires : goal.lines_end-end-requires
+lines_end-end-requires c =
+    let a = c.args in
+    (passing_parts (record { records = a.records.now; coordinator = a.coordinator.now }) (sym c.check-checked.ensures ∙ c.if-checked-ne0.false)).0
+
+pub slice_bounds-abort-end : goal.slice_bounds-abort-end
+slice_bounds-abort-end c =
+    let a = c.args in
+    simp length-take (omega (arith, front-within a.records.now a.coordinator.now (sym c.check-checked.ensures ∙ c.if-checked-ne0.false) _ c.lines_end-end.ensures.is))
+
+pub abort-requires : goal.abort-requires
+abort-requires c =
+    let a = c.args in
+    accepted_front a.records.now a.coordinator.now (sym c.check-checked.ensures ∙ c.if-checked-ne0.false) _ c.lines_end-end.ensures.is
+
+pub returns : goal.returns
+returns c =
+    let a = c.args in
+    answer-passed a.records.now a.coordinator.now (sym c.check-checked.ensures ∙ c.if-checked-ne0.false) _ c.lines_end-end.ensures.is (to_returned a.t) (model.abort a.t) refl c.abort.ensures

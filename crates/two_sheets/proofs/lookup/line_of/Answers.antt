@@ -1,0 +1,6 @@
+-- What the search tells.
+use borrow.Author.Rules.{rules}
+use Rattle.two_sheets.proofs.lookup.line_of.Goals as goal
+
+pub returns : goal.returns
+returns c = c.search.ensures
