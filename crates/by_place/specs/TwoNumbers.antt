@@ -22,8 +22,8 @@ use Rattle.call_laws.specs.Choices.{unless_by}
 use Rattle.call_laws.specs.Exactness.{small, Sound, sound_refused, sound_made, sound_unless}
 use Rattle.call_laws.specs.Operations.{response_sound}
 use Rattle.answers.specs.Answers.{to_performed, visited_in, recovery_in, reply_number, reply_in, columns_in}
-use Rattle.by_place_lem.specs.Asked.{request_of}
-use Rattle.by_place_lem.specs.Numbers.{as_number, visit_number, Numbered, numbered}
+use Rattle.by_place.specs.Asked.{request_of}
+use Rattle.by_place.specs.Numbers.{as_number, visit_number, Numbered, numbered}
 
 -- the columns that a first call answers, each up to 99999999; every other answer is under 10000
 abbrev pub first_number : Columns → ℕ

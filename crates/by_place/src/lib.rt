@@ -5,10 +5,10 @@
 ghost use Rattle.std.specs.Prelude.{◌≡◌, cond, ◌+◌, ◌≤◌, eqb};
 ghost use Rattle.model.specs.Refusals.{last_refusal};
 ghost use Rattle.model.specs.CallByPlace.{listed};
-ghost use Rattle.by_place_lem.specs.Numbers.{unlisted_number};
-ghost use Rattle.by_place_lem.specs.Ranks.{one_if, line_number, rank_number, rank_target};
-ghost use Rattle.by_place_lem.specs.Asked.{request_of, calls, calls_two, naming};
-ghost use Rattle.by_place_lem.specs.TwoNumbers.{number_of, unlisted_number_two};
+ghost use Rattle.by_place.specs.Numbers.{unlisted_number};
+ghost use Rattle.by_place.specs.Ranks.{one_if, line_number, rank_number, rank_target};
+ghost use Rattle.by_place.specs.Asked.{request_of, calls, calls_two, naming};
+ghost use Rattle.by_place.specs.TwoNumbers.{number_of, unlisted_number_two};
 ghost use Rattle.two_check.specs.Areas.{two};
 
 use types::{Columns, Key, Ranked, Request};

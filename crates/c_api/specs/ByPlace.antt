@@ -14,8 +14,8 @@ use Rattle.model.specs.CallByPlace.{listed, named, operation_at, list_after}
 use Rattle.call_laws.specs.ByPlace.{left_with, listed-within, named-response_on, unlisted_refused, refusal_leaves}
 use Rattle.answers.specs.Answers.{to_performed}
 use Rattle.c_api.specs.declared.Called.{Called}
-use Rattle.by_place_lem.specs.Numbers.{call_number, unlisted_number}
-use Rattle.by_place_lem.specs.Asked.{calls, is_call, asks, naming, or_no_call, called_at_on}
+use Rattle.by_place.specs.Numbers.{call_number, unlisted_number}
+use Rattle.by_place.specs.Asked.{calls, is_call, asks, naming, or_no_call, called_at_on}
 
 -- what a call answers as one number, and the transaction, as it came where the call is refused
 abbrev pub called : Transaction → Response Answer Sheets → Called

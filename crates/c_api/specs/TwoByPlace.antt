@@ -13,8 +13,8 @@ use Rattle.model.specs.TwoCalls.{TwoBytes, saying_two, conditions_of, response_t
 use Rattle.call_laws.specs.ByPlace.{left_with, named-response, unlisted_response}
 use Rattle.c_api.specs.declared.two.CalledTwo.{CalledTwo}
 use Rattle.two_check.specs.Areas.{two}
-use Rattle.by_place_lem.specs.TwoNumbers.{call_number_two, unlisted_number_two}
-use Rattle.by_place_lem.specs.Asked.{calls_two, asks, naming, called_at_two}
+use Rattle.by_place.specs.TwoNumbers.{call_number_two, unlisted_number_two}
+use Rattle.by_place.specs.Asked.{calls_two, asks, naming, called_at_two}
 use Rattle.c_api.specs.ByPlace.{called-named, called_unnamed, put_back}
 
 -- what a call answers as one number, and the transaction, as it came where the call is refused

@@ -9,8 +9,8 @@ ghost use Rattle.model.specs.ByteCalls.{result_on, sheet_after, coordinator_afte
 ghost use Rattle.model.specs.Operations.{response_on, sheet_left, coordinator_left};
 ghost use Rattle.model.specs.Requests.{operation_of};
 ghost use Rattle.model.specs.CallByPlace.{list_after};
-ghost use Rattle.by_place_lem.specs.Numbers.{begin_number, visit_number, call_number};
-ghost use Rattle.by_place_lem.specs.Asked.{asks, called_at_on};
+ghost use Rattle.by_place.specs.Numbers.{begin_number, visit_number, call_number};
+ghost use Rattle.by_place.specs.Asked.{asks, called_at_on};
 ghost use Rattle.c_api.specs.ByPlace.{called};
 
 pub mod conversions;

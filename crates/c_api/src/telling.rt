@@ -2,7 +2,7 @@
 ghost use Rattle.std.specs.Prelude.{◌≡◌};
 ghost use Rattle.model.specs.Changes.{written_number, written_lines};
 ghost use Rattle.model.specs.SheetCalls.{rank_on, line_on};
-ghost use Rattle.by_place_lem.specs.Ranks.{line_number, rank_number, rank_target};
+ghost use Rattle.by_place.specs.Ranks.{line_number, rank_number, rank_target};
 ghost use Rattle.c_api.specs.Telling.{version};
 
 use types::Key;

@@ -8,10 +8,10 @@ ghost use Rattle.model.specs.CallByPlace.{list_after};
 ghost use Rattle.model.specs.TwoSpares.{two_conditions, rank_two, line_two};
 ghost use Rattle.model.specs.TwoCalls.{response_two, plain_left, bookkeeping_left};
 ghost use Rattle.two_check.specs.Areas.{two};
-ghost use Rattle.by_place_lem.specs.Numbers.{visit_number};
-ghost use Rattle.by_place_lem.specs.TwoNumbers.{call_number_two};
-ghost use Rattle.by_place_lem.specs.Asked.{asks, called_at_two};
-ghost use Rattle.by_place_lem.specs.Ranks.{line_number, rank_number, rank_target};
+ghost use Rattle.by_place.specs.Numbers.{visit_number};
+ghost use Rattle.by_place.specs.TwoNumbers.{call_number_two};
+ghost use Rattle.by_place.specs.Asked.{asks, called_at_two};
+ghost use Rattle.by_place.specs.Ranks.{line_number, rank_number, rank_target};
 ghost use Rattle.c_api.specs.TwoByPlace.{called_two};
 
 use types::{Columns, Key, Transaction};

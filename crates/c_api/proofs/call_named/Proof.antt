@@ -8,7 +8,7 @@ use Rattle.model.specs.Operations.{response_on}
 use Rattle.model.specs.Requests.{operation_of}
 use Rattle.answers.specs.declared.Performed.{Performed}
 use Rattle.c_api.specs.declared.Called.{Called}
-use Rattle.by_place_lem.specs.Numbers.{call_numbered}
+use Rattle.by_place.specs.Numbers.{call_numbered}
 use Rattle.c_api.specs.ByPlace.{performed_left}
 use Rattle.c_api.proofs.call_named.Statement.{statement}
 use Rattle.c_api.proofs.call_named.Tie as tie

@@ -4,7 +4,7 @@ use Rattle.std.proofs.Common.{◌∙◌}
 use Rattle.lists.specs.Basics.{sym, ap, subst, eqb, false, cond, rules}
 use Rattle.model.specs.Refusals.{last_refusal}
 use Rattle.answers.specs.declared.Issued.{Issued}
-use Rattle.by_place_lem.specs.Numbers.{begin_numbered}
+use Rattle.by_place.specs.Numbers.{begin_numbered}
 use Rattle.c_api.proofs.rapyheo_begin.Statement.{statement}
 use Rattle.c_api.proofs.rapyheo_begin.Tie as tie
 

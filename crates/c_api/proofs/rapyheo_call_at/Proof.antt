@@ -53,22 +53,22 @@ use Rattle.c_api.proofs.Called.TheLaws as O'
 use Rattle.model.specs.Calls.{new_transaction}
 use Rattle.model.specs.Operations.{response_on, sheet_left, coordinator_left}
 use Rattle.model.specs.Requests.{operation_of}
-use Rattle.by_place_lem.specs.Numbers.{unlisted_number}
-use Rattle.by_place_lem.specs.Asked.{calls, asks, naming}
+use Rattle.by_place.specs.Numbers.{unlisted_number}
+use Rattle.by_place.specs.Asked.{calls, asks, naming}
 use Rattle.c_api.specs.ByPlace.{called, naming-within, CallsAt, calls-named, calls_unnamed}
 use Rattle.c_api.specs.Facts.{also, beside}
 use Rattle.c_api.specs.contracts.call_named as core
 use Rattle.c_api.proofs.call_named.Symbol as core-def
 use Rattle.c_api.proofs.call_named.Symbol.{name as #c_api·call-named}
 use Rattle.c_api.proofs.call_named.Met as core-thm
-use Rattle.by_place_lem.specs.contracts.unlisted as unlisted
-use Rattle.by_place_lem.proofs.unlisted.Symbol as unlisted-def
-use Rattle.by_place_lem.proofs.unlisted.Symbol.{name as #by_place·unlisted}
-use Rattle.by_place_lem.proofs.unlisted.Met as unlisted-thm
-use Rattle.by_place_lem.specs.contracts.is_named as is-named
-use Rattle.by_place_lem.proofs.is_named.Symbol as is-named-def
-use Rattle.by_place_lem.proofs.is_named.Symbol.{name as #by_place·is-named}
-use Rattle.by_place_lem.proofs.is_named.Met as is-named-thm
+use Rattle.by_place.specs.contracts.unlisted as unlisted
+use Rattle.by_place.proofs.unlisted.Symbol as unlisted-def
+use Rattle.by_place.proofs.unlisted.Symbol.{name as #by_place·unlisted}
+use Rattle.by_place.proofs.unlisted.Met as unlisted-thm
+use Rattle.by_place.specs.contracts.is_named as is-named
+use Rattle.by_place.proofs.is_named.Symbol as is-named-def
+use Rattle.by_place.proofs.is_named.Symbol.{name as #by_place·is-named}
+use Rattle.by_place.proofs.is_named.Met as is-named-thm
 use Rattle.c_api.specs.contracts.rapyheo_call_at.Key.{name as #c_api·rapyheo-call-at}
 use Rattle.c_api.specs.contracts.rapyheo_call_at as f
 use Rattle.c_api.proofs.rapyheo_call_at.Statement as stated

@@ -4,7 +4,7 @@ use Rattle.std.proofs.Common.{◌∙◌}
 use Rattle.lists.specs.Basics.{sym, ap, subst, eqb, cond, rules}
 use Rattle.model.specs.Refusals.{last_refusal}
 use Rattle.answers.specs.declared.Visited.{Visited}
-use Rattle.by_place_lem.specs.Numbers.{visit_numbered}
+use Rattle.by_place.specs.Numbers.{visit_numbered}
 use Rattle.c_api.proofs.rapyheo_visit.Statement.{statement}
 use Rattle.c_api.proofs.rapyheo_visit.Tie as tie
 

@@ -4,7 +4,7 @@ use Rattle.std.proofs.Common.{◌∙◌}
 use Rattle.lists.specs.Basics.{sym, ap, subst}
 use Rattle.model.specs.Types.{Ranked}
 use Rattle.model.specs.Refusals.{last_refusal}
-use Rattle.by_place_lem.specs.Ranks.{line_number, line_small}
+use Rattle.by_place.specs.Ranks.{line_number, line_small}
 use borrow.Author.Rules.{rules}
 use Rattle.c_api.proofs.telling.rapyheo_lookup.Statement.{statement}
 use Rattle.c_api.proofs.telling.rapyheo_lookup.Tie as tie

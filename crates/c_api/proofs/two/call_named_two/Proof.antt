@@ -9,7 +9,7 @@ use Rattle.model.specs.TwoCalls.{response_two}
 use Rattle.answers.specs.declared.Performed.{Performed}
 use Rattle.two_check.specs.Areas.{two}
 use Rattle.c_api.specs.declared.two.CalledTwo.{CalledTwo}
-use Rattle.by_place_lem.specs.TwoNumbers.{number_of, call_numbered_two}
+use Rattle.by_place.specs.TwoNumbers.{number_of, call_numbered_two}
 use Rattle.c_api.specs.ByPlace.{performed_left}
 use borrow.Author.Rules.{rules}
 use Rattle.c_api.proofs.two.call_named_two.Statement.{statement}

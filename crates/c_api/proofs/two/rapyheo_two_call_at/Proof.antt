@@ -55,8 +55,8 @@ use Rattle.model.specs.Operations.{coordinator_left}
 use Rattle.model.specs.Requests.{operation_of}
 use Rattle.model.specs.TwoCalls.{response_two, plain_left, bookkeeping_left}
 use Rattle.two_check.specs.Areas.{two}
-use Rattle.by_place_lem.specs.TwoNumbers.{unlisted_number_two}
-use Rattle.by_place_lem.specs.Asked.{calls_two, asks, naming}
+use Rattle.by_place.specs.TwoNumbers.{unlisted_number_two}
+use Rattle.by_place.specs.Asked.{calls_two, asks, naming}
 use Rattle.c_api.specs.ByPlace.{naming-within}
 use Rattle.c_api.specs.TwoByPlace.{called_two, CallsAtTwo, calls-named-two, calls_unnamed_two}
 use Rattle.c_api.specs.Facts.{also, beside}
@@ -64,14 +64,14 @@ use Rattle.c_api.specs.contracts.two.call_named_two as core
 use Rattle.c_api.proofs.two.call_named_two.Symbol as core-def
 use Rattle.c_api.proofs.two.call_named_two.Symbol.{name as #c_api·call-named}
 use Rattle.c_api.proofs.two.call_named_two.Met as core-thm
-use Rattle.by_place_lem.specs.contracts.unlisted_two as unlisted
-use Rattle.by_place_lem.proofs.unlisted_two.Symbol as unlisted-def
-use Rattle.by_place_lem.proofs.unlisted_two.Symbol.{name as #by_place·unlisted}
-use Rattle.by_place_lem.proofs.unlisted_two.Met as unlisted-thm
-use Rattle.by_place_lem.specs.contracts.is_named_two as is-named
-use Rattle.by_place_lem.proofs.is_named_two.Symbol as is-named-def
-use Rattle.by_place_lem.proofs.is_named_two.Symbol.{name as #by_place·is-named}
-use Rattle.by_place_lem.proofs.is_named_two.Met as is-named-thm
+use Rattle.by_place.specs.contracts.unlisted_two as unlisted
+use Rattle.by_place.proofs.unlisted_two.Symbol as unlisted-def
+use Rattle.by_place.proofs.unlisted_two.Symbol.{name as #by_place·unlisted}
+use Rattle.by_place.proofs.unlisted_two.Met as unlisted-thm
+use Rattle.by_place.specs.contracts.is_named_two as is-named
+use Rattle.by_place.proofs.is_named_two.Symbol as is-named-def
+use Rattle.by_place.proofs.is_named_two.Symbol.{name as #by_place·is-named}
+use Rattle.by_place.proofs.is_named_two.Met as is-named-thm
 use Rattle.c_api.specs.contracts.two.rapyheo_two_call_at.Key.{name as #c_api·rapyheo-two-call-at}
 use Rattle.c_api.specs.contracts.two.rapyheo_two_call_at as f
 use Rattle.c_api.proofs.two.rapyheo_two_call_at.Statement as stated

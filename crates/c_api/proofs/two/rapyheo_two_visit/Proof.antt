@@ -5,7 +5,7 @@ use Rattle.lists.specs.Basics.{sym, ap, subst, eqb, cond}
 use Rattle.model.specs.Refusals.{last_refusal}
 use Rattle.answers.specs.declared.Visited.{Visited}
 use Rattle.two_check.specs.Areas.{two}
-use Rattle.by_place_lem.specs.TwoNumbers.{visit_numbered_two}
+use Rattle.by_place.specs.TwoNumbers.{visit_numbered_two}
 use borrow.Author.Rules.{rules}
 use Rattle.c_api.proofs.two.rapyheo_two_visit.Statement.{statement}
 use Rattle.c_api.proofs.two.rapyheo_two_visit.Tie as tie

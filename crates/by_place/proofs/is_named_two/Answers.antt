@@ -1,0 +1,6 @@
+-- Both tests, as the definition has them.
+use Rattle.lists.specs.Basics.{rules}
+use Rattle.by_place.proofs.is_named_two.Goals as goal
+
+pub returns : goal.returns
+returns c = rw c.is_listed.ensures

@@ -1,0 +1,49 @@
+-- Each sheet without its spares, beside an empty one.
+use Rattle.std.proofs.Common.{◌∙◌}
+use Rattle.lists.specs.Basics.{ap, [], ℕ, length-take, take, arith, rules}
+use Rattle.model.specs.TwoSheets.{plain_bytes, bookkeeping_bytes}
+use Rattle.sheet_laws.specs.Fronts.{sized-whole}
+use Rattle.model.specs.Spares.{front}
+use Rattle.model.specs.TwoSheets.{plain_alone, bookkeeping_alone, rank_full}
+use Rattle.model.specs.TwoSpares.{plain_lines, bookkeeping_lines}
+use Rattle.two_engine.specs.Forms.{unequal_keys, front-plain, front-bookkeeping, keys_plain, keys_bookkeeping, keys_first, keys_second, keys_last}
+use borrow.Author.Rules.{rules}
+use Rattle.two_engine.proofs.lookup.unequal.Goals as goal
+
+pub front_end-p-requires : goal.front_end-p-requires
+front_end-p-requires c =
+    let a = c.args in 
+      record { s_len = sized-whole plain_bytes a.plain.now c.requires.0; le_width = omega arith; width_le_record_bytes = omega arith }
+
+pub slice_bounds-rank_of-end : goal.slice_bounds-rank_of-end
+slice_bounds-rank_of-end c =
+    let a = c.args in
+    simp length-take (omega (arith, c.front_end-p.ensures, front-plain a.plain.now a.book.now [] c.requires.0 c.requires.1))
+
+pub returns-then-first-eq1 : goal.returns-then-first-eq1
+unfolding front unequal_keys
+returns-then-first-eq1 c =
+    let a = c.args in
+    keys_first a.key (plain_alone (plain_lines a.plain.now)) (bookkeeping_alone (bookkeeping_lines a.book.now)) ((keys_plain a.key (plain_lines a.plain.now) (bookkeeping_lines a.book.now) _ (c.rank_of-first.ensures.told ∙ ap (λ (n : ℕ). rank_full (take n a.plain.now) [] a.key) c.front_end-p.ensures)).0 c.if-first-eq1.true)
+
+pub front_end-b-requires : goal.front_end-b-requires
+front_end-b-requires c =
+    let a = c.args in 
+      record { s_len = sized-whole bookkeeping_bytes a.book.now c.requires.1; le_width = omega arith; width_le_record_bytes = omega arith }
+
+pub slice_bounds-rank_of-end-4 : goal.slice_bounds-rank_of-end-4
+slice_bounds-rank_of-end-4 c =
+    let a = c.args in
+    simp length-take (omega (arith, c.front_end-b.ensures, front-bookkeeping a.plain.now a.book.now [] c.requires.0 c.requires.1))
+
+pub returns-then-second-eq1 : goal.returns-then-second-eq1
+unfolding front unequal_keys
+returns-then-second-eq1 c =
+    let a = c.args in
+    keys_second a.key (plain_alone (plain_lines a.plain.now)) (bookkeeping_alone (bookkeeping_lines a.book.now)) ((keys_plain a.key (plain_lines a.plain.now) (bookkeeping_lines a.book.now) _ (c.rank_of-first.ensures.told ∙ ap (λ (n : ℕ). rank_full (take n a.plain.now) [] a.key) c.front_end-p.ensures)).1 c.if-first-eq1.false) ((keys_bookkeeping a.key (plain_lines a.plain.now) (bookkeeping_lines a.book.now) _ (c.rank_of-second.ensures.told ∙ ap (λ (n : ℕ). rank_full [] (take n a.book.now) a.key) c.front_end-b.ensures)).0 c.if-second-eq1.true)
+
+pub returns : goal.returns
+unfolding front unequal_keys
+returns c =
+    let a = c.args in
+    keys_last a.key (plain_alone (plain_lines a.plain.now)) (bookkeeping_alone (bookkeeping_lines a.book.now)) ((keys_plain a.key (plain_lines a.plain.now) (bookkeeping_lines a.book.now) _ (c.rank_of-first.ensures.told ∙ ap (λ (n : ℕ). rank_full (take n a.plain.now) [] a.key) c.front_end-p.ensures)).1 c.if-first-eq1.false) ((keys_bookkeeping a.key (plain_lines a.plain.now) (bookkeeping_lines a.book.now) _ (c.rank_of-second.ensures.told ∙ ap (λ (n : ℕ). rank_full [] (take n a.book.now) a.key) c.front_end-b.ensures)).1 c.if-second-eq1.false)
