@@ -4,8 +4,8 @@
 ghost use Rattle.std.specs.Prelude.{◌≡◌, ◌≤◌};
 ghost use Rattle.script.specs.Lines.{reply_numbers};
 
-use std::io::{Eprint, Print};
 use script::reply::{Form, REPLY_NUMBERS, Reply};
+use std::io::{Eprint, Print};
 
 fn byte(rt: &(impl Print + Eprint), b: u8, out: &mut [u8; 4096], fill: usize) -> usize
     requires { fill ≤ 4096 }
@@ -62,7 +62,13 @@ fn words(rt: &(impl Print + Eprint), form: Form, out: &mut [u8; 4096], fill: usi
 }
 
 // The first `count` of the numbers.
-fn numbers(rt: &(impl Print + Eprint), values: [u32; REPLY_NUMBERS], count: usize, out: &mut [u8; 4096], fill: usize) -> usize
+fn numbers(
+    rt: &(impl Print + Eprint),
+    values: [u32; REPLY_NUMBERS],
+    count: usize,
+    out: &mut [u8; 4096],
+    fill: usize,
+) -> usize
     requires { (count ≤ reply_numbers) × (fill ≤ 4096) }
     ensures { result ≤ 4096 }
 {
@@ -88,7 +94,13 @@ fn part(rt: &(impl Print + Eprint), s: &[u8], out: &mut [u8; 4096], fill: usize)
 }
 
 // A reply as a line, with the part of the sheet that was asked for.
-pub fn line(rt: &(impl Print + Eprint), r: Reply, s: &[u8], out: &mut [u8; 4096], fill: usize) -> usize
+pub fn line(
+    rt: &(impl Print + Eprint),
+    r: Reply,
+    s: &[u8],
+    out: &mut [u8; 4096],
+    fill: usize,
+) -> usize
     requires count_le_reply_numbers { r.count ≤ reply_numbers }
     requires fill_bound { fill ≤ 4096 }
     ensures { result ≤ 4096 }

@@ -7,14 +7,20 @@ ghost use Rattle.script.specs.Lines.{reply_numbers};
 
 mod calls;
 
-use std::io::{Eprint, Print};
 use script::reply::Reply;
 use script::room;
 use script::scan::{Command, Kind};
+use std::io::{Eprint, Print};
 use types::{COORDINATOR_BYTES, RECORD_BYTES};
 
 // Both sheets, which follow what the buffer holds.
-fn print_sheets(rt: &(impl Print + Eprint), coordinator: &[u8], records: &[u8], out: &[u8; 4096], fill: usize) -> usize
+fn print_sheets(
+    rt: &(impl Print + Eprint),
+    coordinator: &[u8],
+    records: &[u8],
+    out: &[u8; 4096],
+    fill: usize,
+) -> usize
     requires { fill ≤ 4096 }
     ensures { result ≤ 4096 }
 {
@@ -25,7 +31,9 @@ fn print_sheets(rt: &(impl Print + Eprint), coordinator: &[u8], records: &[u8], 
 }
 
 // Both sheets where a line asks for them; else the reply to a call as a line, with the part of the record sheet that the call asks for.
-fn answer(rt: &(impl Print + Eprint), command: Command,
+fn answer(
+    rt: &(impl Print + Eprint),
+    command: Command,
     reply: Reply,
     coordinator: &[u8],
     records: &[u8],
@@ -47,7 +55,9 @@ fn answer(rt: &(impl Print + Eprint), command: Command,
 }
 
 // The answers to the calls after the sheets, in order. The record sheet is input[from..to].
-fn answer_calls(rt: &(impl Print + Eprint), input: &mut [u8],
+fn answer_calls(
+    rt: &(impl Print + Eprint),
+    input: &mut [u8],
     from: usize,
     to: usize,
     coordinator: &mut [u8],
@@ -74,7 +84,13 @@ fn answer_calls(rt: &(impl Print + Eprint), input: &mut [u8],
 }
 
 // A history with input[9..from] its coordinator sheet, which is copied, since two parts of one slice can't be lent for writing at once.
-fn replay(rt: &(impl Print + Eprint), input: &mut [u8], from: usize, to: usize, coordinator: &mut [u8])
+fn replay(
+    rt: &(impl Print + Eprint),
+    input: &mut [u8],
+    from: usize,
+    to: usize,
+    coordinator: &mut [u8],
+)
     requires { (from ≡ 9 + length coordinator.old) × ((from ≤ to) × (to ≤ length input.old)) }
 {
     decimal::put(coordinator, &input[9..from]);

@@ -7,15 +7,17 @@ ghost use Rattle.script.specs.Lines.{reply_numbers};
 
 mod calls;
 
-use std::io::{Eprint, Print};
 use script::reply::Reply;
 use script::room;
 use script::scan::{Command, Kind};
+use std::io::{Eprint, Print};
 use two_join::{BOOKKEEPING_BYTES, PLAIN_BYTES};
 use types::{COORDINATOR_BYTES, Transaction};
 
 // The sheets, which follow what the buffer holds.
-fn print_sheets(rt: &(impl Print + Eprint), coordinator: &[u8],
+fn print_sheets(
+    rt: &(impl Print + Eprint),
+    coordinator: &[u8],
     plain: &[u8],
     book: &[u8],
     out: &[u8; 4096],
@@ -32,7 +34,9 @@ fn print_sheets(rt: &(impl Print + Eprint), coordinator: &[u8],
 }
 
 // The sheets where a line asks for them; else the reply to a call as a line, with the part of a sheet that the call asks for.
-fn answer<'a>(rt: &(impl Print + Eprint), command: Command,
+fn answer<'a>(
+    rt: &(impl Print + Eprint),
+    command: Command,
     reply: Reply,
     coordinator: &[u8],
     plain: &'a [u8],
@@ -62,7 +66,9 @@ struct Printed {
 }
 
 // A line's call, and what is printed of it.
-fn line(rt: &(impl Print + Eprint), command: Command,
+fn line(
+    rt: &(impl Print + Eprint),
+    command: Command,
     slots: [Transaction; 16],
     plain: &mut [u8],
     book: &mut [u8],
@@ -84,7 +90,9 @@ fn line(rt: &(impl Print + Eprint), command: Command,
 }
 
 // The answers to the calls after the sheets, in order. The bookkeeping sheet is input[from..to].
-fn answer_calls(rt: &(impl Print + Eprint), input: &mut [u8],
+fn answer_calls(
+    rt: &(impl Print + Eprint),
+    input: &mut [u8],
     from: usize,
     to: usize,
     coordinator: &mut [u8],
@@ -112,7 +120,9 @@ fn answer_calls(rt: &(impl Print + Eprint), input: &mut [u8],
 }
 
 // A history with the coordinator sheet from input[13] on and then the plain sheet, which are copied, since two parts of one slice can't be lent for writing at once.
-fn replay(rt: &(impl Print + Eprint), input: &mut [u8],
+fn replay(
+    rt: &(impl Print + Eprint),
+    input: &mut [u8],
     middle: usize,
     from: usize,
     to: usize,
@@ -148,7 +158,8 @@ fn history(rt: &(impl Print + Eprint), input: &mut [u8]) {
     }
     let mut coordinator = room::blank_sheet();
     let mut plain = room::blank_plain();
-    replay(rt, 
+    replay(
+        rt,
         input,
         middle,
         from,
