@@ -2,10 +2,9 @@
 .PHONY: test help proofs apart wrong reference-tests programs outside histories visits streams visit differ soak faults bench archive shared client client-test stack install clean
 
 ## everything that is claimed, from nothing; the last line is `N passed, 0 failed`
-# Everything is proved from nothing first, since `rt ci` removes what was built; beside it runs what needs nothing that is built. What is built is then held
-# from outside, and the last line is that of `rt ci`.
+# Everything is proved first, and laid out as `rt fmt` has it; beside it runs what needs nothing that is built. What is built is then held from outside, and the
+# last line is that of `rt ci`.
 test:
-	rt fmt --check
 	$(MAKE) --no-print-directory -j2 -O proofs apart
 	$(MAKE) --no-print-directory archive programs
 	$(MAKE) --no-print-directory outside
@@ -15,7 +14,7 @@ test:
 help:
 	@awk '/^## / { text = substr($$0, 4) } /^[a-z-]+:/ && text { sub(":.*", ""); printf "make %-16s%s\n", $$0, text; text = "" }' Makefile
 
-## every crate from nothing by `rt ci`, and the seconds of each
+## every crate by `rt ci`, its must-fail edits and the programs' runs
 proofs:
 	tests/prove.sh
 
@@ -36,7 +35,7 @@ outside: histories visits streams client-test differ
 
 ## the programs replay, replay_two and visitor, proved and built in target/bin
 programs:
-	@tools/quiet.sh programs rt check replay replay_two visitor
+	@tools/quiet.sh programs tools/programs.sh replay replay_two visitor
 
 ## the learners' histories, and what the replay program must print of each
 histories: programs
@@ -52,7 +51,7 @@ streams: programs
 
 ## the visiting program on an example, before and after side by side
 visit:
-	@tools/quiet.sh visitor rt check visitor
+	@tools/quiet.sh visitor tools/programs.sh visitor
 	@python3 examples/visit.py
 
 ## the engine held against the separate implementation, byte for byte
@@ -78,8 +77,8 @@ ARCHIVE = target/staticlib/libc_api.a
 ## the engine as an archive for C and Rust, target/staticlib/libc_api.a
 archive: $(ARCHIVE)
 
-$(ARCHIVE): crates.txt $(shell find crates -name '*.rt' -o -name '*.antt')
-	@tools/quiet.sh archive rt staticlib c_api
+$(ARCHIVE): crates.txt $(shell find crates -name out -prune -o \( -name '*.rt' -o -name '*.antt' \) -print)
+	@tools/quiet.sh archive tools/archive.sh
 
 # The header has the version. A library with another major number is another library.
 VERSION := $(shell sed -n 's/^\#define RAPYHEO_VERSION_M[A-Z]* \|^\#define RAPYHEO_VERSION_PATCH //p' include/rapyheo.h | paste -s -d .)
@@ -120,4 +119,4 @@ install: archive shared
 
 ## removes all that was built
 clean:
-	rm -rf target reference/target
+	rm -rf target reference/target crates/*/out

@@ -1,8 +1,8 @@
 #!/usr/bin/env python3
 """The learners' histories, run by the replay programs.
 
-Each examples/histories/NAME.txt is a history (docs/REPLAY.md), and NAME.out beside it is what the program must print; those of the folder two_sheets are for the program on two sheets. `rt check replay
-replay_two` builds the programs.
+Each examples/histories/NAME.txt is a history (docs/REPLAY.md), and NAME.out beside it is what the program must print; those of the folder two_sheets are for the program on two sheets. `make programs`
+builds them.
 """
 import pathlib
 import subprocess
@@ -30,7 +30,7 @@ def main():
     histories += [("replay_two", history) for history in sorted(HISTORIES.glob("two_sheets/*.txt"))]
     for program in "replay", "replay_two":
         if not (PROGRAMS / program).exists():
-            sys.exit(f"no target/bin/{program}: `rt check {program}` builds it")
+            sys.exit(f"no target/bin/{program}: `make programs` builds it")
     differences = sum(differs(program, history) for program, history in histories)
     print(f"{len(histories)} histories, {differences} differences")
     sys.exit(1 if differences or not histories else 0)

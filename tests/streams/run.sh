@@ -1,5 +1,5 @@
 #!/usr/bin/env bash
-# What the programs tell where standard input can't be read, or fails midway, or standard output can't be written: they have no exit status.
+# What the programs tell where standard input can't be read, or fails midway, or standard output can't be written: they give no exit status.
 set -uo pipefail
 cd "$(dirname "$0")/../.."
 

@@ -4,7 +4,7 @@
 `cases/NAME.in` and `cases/NAME.out` are inputs and outputs. The outputs come from the separate implementation (`cargo run --release --bin visitor` in
 reference/) and were read against the paper. Larger inputs are made here: the refusals beside them are written from the paper, and an accepted one has the SHA-256
 of that implementation's output.
-Run from the repository's root, after `rt check visitor`; `--quiet` prints differences only.
+Run from the repository's root, after `make programs`; `--quiet` prints differences only.
 """
 import hashlib
 import pathlib
@@ -90,7 +90,7 @@ def agrees(output, expected):
 
 def main():
     if not PROGRAM.exists():
-        sys.exit(f"no {PROGRAM}: build it first with `rt check visitor`, in the repository's root")
+        sys.exit(f"no {PROGRAM}: build it first with `make programs`")
     runs = differences = 0
     for name, text, expected in [*stored(), *LARGE]:
         run = subprocess.run([PROGRAM], input=text, capture_output=True)

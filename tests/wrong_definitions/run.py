@@ -36,13 +36,17 @@ def needed():
 
 
 CRATES = needed()
+# lowest first, as they are listed
+LISTED = [line.split(":")[0] for line in (ROOT / "crates.txt").read_text().splitlines() if ":" in line and line[0] != "#"]
 
 
 def lay_out(tree):
-    """A fresh copy of the crates, without what the build left in an earlier one."""
-    shutil.rmtree(tree / "crates", ignore_errors=True)
+    """A fresh copy of the crates' texts. What an earlier check kept beside them stays, so that only what changed is checked again."""
     for crate in CRATES:
-        shutil.copytree(ROOT / "crates" / crate, tree / "crates" / crate, ignore=shutil.ignore_patterns("must-fail"))
+        for part in "src", "specs", "proofs":
+            shutil.rmtree(tree / "crates" / crate / part, ignore_errors=True)
+            if (ROOT / "crates" / crate / part).exists():
+                shutil.copytree(ROOT / "crates" / crate / part, tree / "crates" / crate / part)
     (tree / "crates.txt").write_text("\n".join(CRATES.values()) + "\n")
     for name in LEFT_OUT:
         specs = tree / "crates" / "model" / "specs"
@@ -72,30 +76,39 @@ def apply(edit, tree):
 
 
 def prove(tree, crates):
-    done = subprocess.run(["rt", "check", *crates], cwd=tree, capture_output=True, text=True)
-    return done.returncode, done.stdout + done.stderr
+    """Proves the crates and those that they stand on, lowest first, up to the first that isn't: that one, or none, and what the check said."""
+    todo, order = list(crates), []
+    while todo:
+        crate = todo.pop()
+        order.append(crate)
+        todo += CRATES[crate].split(":")[1].split()
+    for crate in [it for it in LISTED if it in order]:
+        done = subprocess.run(["rt", "check"], cwd=tree / "crates" / crate, capture_output=True, text=True)
+        if done.returncode != 0:
+            return crate, done.stdout + done.stderr
+    return None, ""
 
 
 def refusals(log):
     """The theorems that have an error of their own, in order."""
-    return re.findall(r"/crates/(\w+)/\S+: error: `([^`]+)`(?!: `[^`]+` was not admitted)", log)
+    return re.findall(r"^\./\S+: error: `([^`]+)`(?!: `[^`]+` was not admitted)", log, re.M)
 
 
 def try_all(tree):
     lay_out(tree)
-    status, log = prove(tree, CRATES)
-    if status != 0:
+    crate, log = prove(tree, CRATES)
+    if crate:
         sys.exit("the definitions as they are must be proved:\n" + log[-2000:])
     for edit in EDITS:
         lay_out(tree)
-        crate, name = apply(edit, tree)
-        status, log = prove(tree, [crate])
+        wanted, name = apply(edit, tree)
+        crate, log = prove(tree, [wanted])
         found = refusals(log)
-        if status == 0 or not found:
+        if not crate or not found:
             sys.exit(f"wrong definition {edit.stem}: NOT REFUSED")
-        if (crate, name) != found[0]:
-            sys.exit(f"wrong definition {edit.stem}: refused by {found[0]}, not by {crate} {name}")
-        print(f"wrong definition {edit.stem}: refused by {crate} `{name}`")
+        if (wanted, name) != (crate, found[0]):
+            sys.exit(f"wrong definition {edit.stem}: refused by {crate} {found[0]}, not by {wanted} {name}")
+        print(f"wrong definition {edit.stem}: refused by {crate} `{name}`", flush=True)
 
 
 with tempfile.TemporaryDirectory() as folder:

@@ -2,7 +2,7 @@
 -- A write of a group changes only lines whose keys are in it, and those agree in the fields of their unit; a visit changes one line.
 use Rattle.std.specs.Prelude.{◌≡◌, ◌∷◌}
 use Rattle.std.proofs.Common.{◌∙◌}
-use Rattle.lists.specs.Basics.{refl, sym, ap, ℕ, Bool, true, false, cond, true≢false, and-false, List, [], get_or, Option, none, all, any}
+use Rattle.lists.specs.Basics.{refl, sym, ap, ℕ, Bool, true, false, cond, true≢false, and-false, List, [], get_or, Option, all, any}
 use Rattle.lists.specs.Basics.{choose_by, or_left}
 use Rattle.lists.specs.Chosen.{any-map}
 use Rattle.model.specs.Types.{Key, Image, Record, Decision, Committed, Aborted, Entry, Transaction, Recovery, Stays, Forward, Back, Again, Busy}

@@ -5,7 +5,7 @@ use Rattle.lists.specs.Basics.{refl, sym, ap, ℕ, zero, suc, leb, ltb, Bool, tr
 use Rattle.lists.specs.Basics.{length, take, drop, get_or, length-take, length-drop, get_or-eq_default, take_all, arith, leb-true, leb-false, le-leb}
 use Rattle.lists.specs.Basics.{lt-ltb, eq_list, and_snd, tests}
 use Rattle.lists.specs.Pieces.{over, over-part, over_zero}
-use Rattle.model.specs.Types.{Record, Before, Undecided, Committed, Aborted, DecisionWord}
+use Rattle.model.specs.Types.{Record, Undecided, Committed, Aborted, DecisionWord}
 use Rattle.types.specs.declared.State.TheVariants.{Prepared}
 use Rattle.types.specs.declared.Before.TheVariants as Was
 use Rattle.decimal.specs.Field.{number, figure, field_text}

@@ -7,7 +7,7 @@ use Rattle.lists.specs.All.{all-and, all_weaken}
 use Rattle.model.specs.Types.{Record, Entry, Transaction}
 use Rattle.model.specs.Records.{records, records_accepted, good_alone, key_in_range, has_line, line_of}
 use Rattle.model.specs.Coordinator.{coordinator_of, names_issued}
-use Rattle.model.specs.Transactions.{is_put, held}
+use Rattle.model.specs.Transactions.{is_put}
 use Rattle.model.specs.Images.{change_of, is_prepared, prepared_by}
 use Rattle.model.specs.WellFormed.{entry_formed}
 use Rattle.model.specs.Steps.{holds, group_at}

@@ -4,7 +4,6 @@ use Rattle.std.proofs.Common.{◌∙◌}
 use Rattle.lists.specs.Kit.{refl, sym, ap, ap₂, ℕ, zero, suc, eqb, Bool, true, false, true≢false, and_assoc, List, []}
 use Rattle.lists.specs.Kit.{length, get_or, arith, eqb-true, eq-eqb}
 use Prim.Native.Char.{code}
-use Prim.Native.String as String
 use Prim.Native.String.{String}
 use Rattle.lists.specs.Tests.{and_fst, and_snd, and_both}
 

@@ -10,25 +10,11 @@ use Rattle.model.specs.Groups.{unit_fields}
 use Rattle.model.specs.Results.{visit, add, remove, answer_of}
 use Rattle.model.specs.Operations.{Operation, once, close, response_on, sheet_left, coordinator_left}
 use Rattle.model.specs.Cases.{Case, cases, told, transaction_as, committed_line, written_line, coordinator_with, undecided_line, decided_line, aborted_line}
-use Rattle.lists.specs.Bytes as Bytes
 use Rattle.lists.specs.Each as Each
-use Rattle.decimal.specs.Field as Field
-use Rattle.model.specs.Layouts as Layouts
-use Rattle.model.specs.Lines as Lines
-use Rattle.model.specs.Search as Search
 use Rattle.model.specs.Records as Records
-use Rattle.model.specs.Coordinator as Coordinator
-use Rattle.model.specs.Refusals as Refusals
 use Rattle.model.specs.SheetCalls as SheetCalls
-use Rattle.model.specs.Transactions as Transactions
-use Rattle.model.specs.Groups as Groups
-use Rattle.model.specs.Images as Images
 use Rattle.model.specs.Writes as Writes
-use Rattle.model.specs.WellFormed as WellFormed
-use Rattle.model.specs.Visits as Visits
 use Rattle.model.specs.Conditions as Conditions
-use Rattle.model.specs.Steps as Steps
-use Rattle.model.specs.Calls as Calls
 use Rattle.model.specs.Closing as Closing
 use Rattle.model.specs.Operations as Operations
 

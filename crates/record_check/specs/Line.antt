@@ -1,7 +1,7 @@
 -- A line of the record sheet, as the code judges it: the parts of its kind, the relations that it asks for, and the clock. Both this and the plain
 -- rule are the line read by the widest ranges, with limits on its numbers. In a line that can be read, the bytes that tell its kind are those of its
 -- state and its before state.
-use Rattle.std.specs.Prelude.{◌≡◌, ◌+◌, ◌-◌, ◌≤◌, ◌<◌, ◌&&◌}
+use Rattle.std.specs.Prelude.{◌≡◌, ◌+◌, ◌≤◌, ◌<◌, ◌&&◌}
 use Rattle.std.proofs.Common.{◌∙◌}
 use Rattle.lists.specs.Basics.{refl, sym, ap, ap₂, ℕ, Bool, true, false, true≢false, and_assoc, List}
 use Rattle.lists.specs.Basics.{map, length, take, drop, get_or, length-take, length-drop, take-take, get_or-take, get_or-drop, arith, all, eq_list, bytes}

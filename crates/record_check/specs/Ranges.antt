@@ -16,7 +16,7 @@ use Rattle.model.specs.Layouts.{words}
 use Rattle.model.specs.Lines.{by_kind, field_value, in_range, row_of, line_set, row_good}
 use Rattle.sheet_laws.specs.Fields.{column_ok, field_written_read}
 use Rattle.sheet_laws.specs.Lines.{line_bytes, each_field, field_length, set_fields}
-use Rattle.line_bytes.specs.Parts.{width, most}
+use Rattle.line_bytes.specs.Parts.{most}
 
 -- Lines judged field by field.
 

@@ -1,6 +1,6 @@
 -- What a state holds after a call: a step leaves its entries, a read adds one at the end, and a put replaces one by an entry of the same key that has the same as
 -- first read. So what was held is held on, and no entry becomes newer than its line.
-use Rattle.std.specs.Prelude.{◌≡◌, ◌+◌, ◌<◌, ◌∷◌, ◌++◌, ◌⊎◌}
+use Rattle.std.specs.Prelude.{◌≡◌, ◌<◌, ◌∷◌, ◌++◌, ◌⊎◌}
 use Rattle.lists.specs.Basics.{refl, sym, ap, subst, ℕ, true, false, true≢false, List, [], length, take, get_or, set, inl}
 use Rattle.lists.specs.Basics.{inr, add-one, not-true}
 use Rattle.std.proofs.Common.{take-suc-set, ◌∙◌}

@@ -1,5 +1,5 @@
 -- A list without the elements at its end that pass a test: what the check of a sheet with spares counts.
-use Rattle.std.specs.Prelude.{◌+◌, ◌-◌, ◌≤◌, ◌≡◌, ◌&&◌, ◌∷◌, ◌++◌}
+use Rattle.std.specs.Prelude.{◌≤◌, ◌≡◌, ◌&&◌, ◌∷◌, ◌++◌}
 use Rattle.std.proofs.Common.{◌∙◌}
 use Rattle.lists.specs.Basics.{ℕ, zero, suc, refl, sym, ap, ap₂, Bool, true, false, not, cond, List, []}
 use Rattle.lists.specs.Basics.{map, arith, length, take, drop, replicate, eqb, eqb-true, ne_eqb, and_fst, and_snd, and_both, choose_by}

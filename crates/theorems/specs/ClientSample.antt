@@ -6,7 +6,6 @@ use Rattle.lists.specs.Basics.{refl, ap, subst, ℕ, true, false, List, [], map,
 use Rattle.model.specs.Types.{Key}
 use Rattle.types.specs.declared.Request.TheVariants as asked
 use Rattle.model.specs.Lines.{text}
-use Rattle.model.specs.Records.{records}
 use Rattle.model.specs.CallByPlace.{list_after}
 use Rattle.model.specs.Results.{refusal_in}
 use Rattle.model.specs.Closing.{changes, turn, closing, close_barred, close_conditions}
@@ -21,7 +20,6 @@ use Rattle.clients.specs.Clients.{unused-number, clients_legal}
 use Rattle.recovery.specs.PassExists.{recovery_pass}
 use Rattle.turns.specs.Bytes.{recovery_pass-told}
 use Rattle.theorems.specs.Tables.{key_a, key_b, columns, told}
-use Rattle.model.specs.Steps as Steps
 
 -- The sheets: the head, the lines of numbers 1 and 2, and both record lines. The records lie in two storages, and so in two groups.
 

@@ -8,7 +8,7 @@ use Rattle.model.specs.Types.{Key, Transaction}
 use Rattle.types.specs.declared.Reading.TheVariants.{Absent, Value}
 use Rattle.types.specs.declared.Request.TheVariants as asked
 use Rattle.model.specs.Lines.{text}
-use Rattle.model.specs.Records.{no_image, records}
+use Rattle.model.specs.Records.{no_image}
 use Rattle.model.specs.Transactions.{prepare_phase, validate_phase, decide_phase, finish_phase, done_phase, no_verdict, committed_verdict, entry_as, with_put, moved}
 use Rattle.model.specs.Transactions.{with_entry}
 use Rattle.model.specs.Calls.{new_transaction}

@@ -7,7 +7,7 @@ use Rattle.lists.specs.Basics.{refl, sym, ap, ap₂, ℕ, true, false, List, [],
 use Rattle.model.specs.Types.{Transaction}
 use Rattle.types.specs.declared.Reading.TheVariants.{Absent, Value}
 use Rattle.model.specs.Lines.{text}
-use Rattle.model.specs.Records.{no_image, records}
+use Rattle.model.specs.Records.{no_image}
 use Rattle.model.specs.Transactions.{prepare_phase, validate_phase, decide_phase, finish_phase, done_phase, entry_as, with_put, moved, with_entry}
 use Rattle.model.specs.Calls.{new_transaction}
 use Rattle.model.specs.Results.{Call, begin, read, put, advance, Answer, turned_away, returned, answered}

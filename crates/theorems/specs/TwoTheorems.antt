@@ -34,7 +34,6 @@ use Rattle.recovery.specs.PassExists.{recovery_pass}
 use Rattle.two_laws.specs.Deciding.{whole}
 use Rattle.two_laws.specs.JoinedSheets as JoinedSheets
 use Rattle.two_laws.specs.TwoEncoding.{joined_bytes, JoinableTwo, alone_joinable_two, passing_two}
-use Rattle.two_laws.specs.TwoEncoding as Encoding
 use Rattle.two_turns.specs.Turns as TwoTurns
 use Rattle.two_turns.specs.History as History
 use Rattle.two_turns.specs.JoinedCalls as JoinedCalls

@@ -2,7 +2,6 @@
 use Rattle.std.specs.Prelude.{◌≡◌}
 use Rattle.lists.specs.Basics.{sym, ap, ℕ, true, List, [], some}
 use Rattle.model.specs.Types.{Transaction}
-use Rattle.model.specs.Records.{records}
 use Rattle.model.specs.Results.{returns}
 use Rattle.model.specs.WellFormed.{well_formed}
 use Rattle.model.specs.Histories.{ClockFits}

@@ -31,7 +31,6 @@ use Rattle.adding.specs.Placing.{told_refused, told_free}
 use Rattle.two_laws.specs.TwoLines.{length-plain_line, length-bookkeeping_line}
 use Rattle.two_laws.specs.TwoEncoding.{passing_two, count-joined, passing_two_good, passing_encoded_two}
 use Rattle.two_check.specs.Areas.{two}
-use Rattle.two_engine.specs.Performing.{size, said}
 use Rattle.two_adding.specs.Placing.{place_two, call_of}
 use Rattle.two_adding.specs.Parts.{Shiftable, part_added, part_removed}
 

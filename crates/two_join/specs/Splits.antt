@@ -1,5 +1,5 @@
 -- What the loops keep that write a sheet line by line from another: the first i lines have been made of it and written. The law is one for all, by how a line is made.
-use Rattle.std.specs.Prelude.{◌+◌, ◌-◌, ◌*◌, ◌/◌, ◌≤◌, ◌≡◌, ◌∷◌, ◌++◌}
+use Rattle.std.specs.Prelude.{◌+◌, ◌*◌, ◌/◌, ◌≤◌, ◌≡◌, ◌∷◌, ◌++◌}
 use Rattle.std.proofs.Common.{◌∙◌}
 use Rattle.lists.specs.Basics.{ℕ, sym, ap, ap₂, List, [], append_assoc, append-nil, map, arith}
 use Rattle.lists.specs.Basics.{length, take, drop, set, length-take, length-drop, length-append, take_at, drop-drop, take-take, take_all, joined, pieces}

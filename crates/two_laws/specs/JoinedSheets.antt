@@ -1,7 +1,7 @@
 -- Sheets joined and split. Two sheets whose keys agree, byte for byte, are pairs of lines; each law goes by induction on the pairs.
-use Rattle.std.specs.Prelude.{◌+◌, ◌*◌, ◌/◌, ◌≡◌, ◌&&◌, ◌∷◌, ◌++◌}
+use Rattle.std.specs.Prelude.{◌*◌, ◌/◌, ◌≡◌, ◌&&◌, ◌∷◌, ◌++◌}
 use Rattle.std.proofs.Common.{◌∙◌}
-use Rattle.lists.specs.Basics.{cond, ℕ, refl, sym, ap, ap₂, Bool, true, false, true≢false, List, [], map, arith}
+use Rattle.lists.specs.Basics.{cond, ℕ, refl, sym, ap, ap₂, Bool, true, true≢false, List, [], map, arith}
 use Rattle.lists.specs.Basics.{length, length-map, eqb, leb, eqb-true, eq-eqb, and_fst, and_snd, and_both, tests, all, joined}
 use Rattle.lists.specs.All.{all_map, all_of, all_weaken}
 use Rattle.lists.specs.Pieces.{AllOf, joined-pieces, length-joined}

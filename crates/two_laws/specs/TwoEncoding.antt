@@ -8,7 +8,7 @@ use Rattle.decimal.specs.Field.{figure, scanned, stepped, within, is_number}
 use Rattle.model.specs.Types.{Column}
 use Rattle.model.specs.Layouts.{record_bytes, record_layout, key_layout, columns_layout}
 use Rattle.model.specs.Lines.{lines_of, lines_set, line_set, field_value}
-use Rattle.model.specs.Records.{records, records_text, records_good, records_accepted}
+use Rattle.model.specs.Records.{records_text, records_good, records_accepted}
 use Rattle.model.specs.Spares.{spare_line, is_spare, filled_lines, front, spares_text, sized, record_lines, sheet_for, sheet_accepted}
 use Rattle.model.specs.Coordinator.{coordinator_text, coordinator_readable}
 use Rattle.model.specs.Refusals.{refuse, refusal_of}

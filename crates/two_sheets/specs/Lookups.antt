@@ -4,7 +4,7 @@ use Rattle.std.proofs.Common.{◌∙◌}
 use Rattle.lists.specs.Basics.{refl, sym, ap, ℕ, eqb, Bool, true, false, not, true≢false, List, [], length, arith}
 use Rattle.lists.specs.Basics.{ne_eqb, all, choose_by, cond}
 use Rattle.model.specs.Types.{Key, Rank, Ranked, At}
-use Rattle.model.specs.Records.{records, records_accepted, key_in_range, found, is_missing, rank, ranked}
+use Rattle.model.specs.Records.{records, records_accepted, key_in_range, found, is_missing, ranked}
 use Rattle.model.specs.Refusals.{Condition, refuse, refusal_of}
 use Rattle.model.specs.SheetCalls.{told_rank, line_among}
 use Rattle.model.specs.TwoSheets.{plain_bytes, bookkeeping_bytes, joined_sheet, lines_conditions, key_conditions, rank_full_conditions, rank_full, lookup_full_conditions}

@@ -3,7 +3,6 @@ use Rattle.lists.specs.Basics.{refl}
 use Rattle.model.specs.Layouts.{layout, record_layout}
 use Rattle.model.specs.Records.{record_text, record_numbers, key_numbers, image_numbers, state_number, before_number}
 use Rattle.sheet_laws.specs.Lines.{line_bytes}
-use borrow.Author.Rules.{rules}
 use Rattle.adding.proofs.absent_line.Goals as goal
 
 pub write_row-requires : goal.write_row-requires

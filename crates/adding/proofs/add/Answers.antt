@@ -8,7 +8,6 @@ use Rattle.sheet_laws.specs.Spared.{accepted_whole}
 use Rattle.call_laws.specs.Lifting.{passing_parts}
 use Rattle.shifting.specs.Shifted.{insert_at}
 use Rattle.adding.specs.Calls.{check_refuses, accepted_front, add_refuses, add_within, add_wide, add_made}
-use borrow.Author.Rules.{rules}
 use Rattle.adding.proofs.add.Goals as goal
 
 pub returns-then-checked-ne0 : goal.returns-then-checked-ne0

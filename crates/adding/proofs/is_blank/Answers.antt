@@ -4,7 +4,6 @@ use Rattle.lists.specs.Basics.{sym, ap, eqb, true, false}
 use Rattle.model.specs.Types.{State}
 use Rattle.model.specs.Records.{by_state}
 use Rattle.model.specs.Conditions.{is_blank}
-use borrow.Author.Rules.{rules}
 use Rattle.adding.proofs.is_blank.Goals as goal
 
 pub returns-in-Absent : goal.returns-in-Absent

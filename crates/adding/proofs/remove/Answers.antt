@@ -5,7 +5,6 @@ use Rattle.model.specs.Results as calls
 use Rattle.sheet_laws.specs.Spared.{accepted_whole}
 use Rattle.call_laws.specs.Lifting.{passing_parts}
 use Rattle.adding.specs.Calls.{check_refuses, accepted_front, remove_refuses, remove_within, remove_made}
-use borrow.Author.Rules.{rules}
 use Rattle.adding.proofs.remove.Goals as goal
 
 pub returns-then-checked-ne0 : goal.returns-then-checked-ne0

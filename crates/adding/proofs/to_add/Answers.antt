@@ -1,9 +1,8 @@
 -- Case by case in the order of the refusals.
 use Rattle.std.proofs.Common.{◌∙◌}
-use Rattle.lists.specs.Basics.{sym, ap, not-true, not-false}
+use Rattle.lists.specs.Basics.{sym, ap}
 use Rattle.model.specs.Types.{Rank}
 use Rattle.adding.specs.Placing.{add_out, add_present, add_full, add_told}
-use borrow.Author.Rules.{rules}
 use Rattle.adding.proofs.to_add.Goals as goal
 
 pub returns-then-not-key_in_range : goal.returns-then-not-key_in_range

@@ -5,7 +5,6 @@ use Rattle.model.specs.Types.{Rank}
 use Rattle.model.specs.Conditions.{is_blank}
 use Rattle.sheet_laws.specs.Ranks.{accepted_order}
 use Rattle.adding.specs.Placing.{remove_out, remove_missing, remove_kept, remove_told, at_rank}
-use borrow.Author.Rules.{rules}
 use Rattle.adding.proofs.to_remove.Goals as goal
 
 pub returns-then-not-key_in_range : goal.returns-then-not-key_in_range

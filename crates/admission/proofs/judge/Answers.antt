@@ -1,11 +1,10 @@
 -- The head is asked first; then the letters of the sheet, which are its units, give the groups and the rest.
 use Rattle.std.proofs.Common.{◌∙◌}
-use Rattle.lists.specs.Basics.{sym, take, drop, arith, not-true, not-false}
+use Rattle.lists.specs.Basics.{sym, take, drop, arith}
 use Rattle.sheet_laws.specs.Decisions.{readable_length}
 use Rattle.transactions.specs.Units.{units_in}
 use Rattle.well_formed.specs.Formed.{head_few, formed-not}
 use Rattle.admission.specs.Admission.{judged-not, judged-formed}
-use borrow.Author.Rules.{rules}
 use Rattle.admission.proofs.judge.Goals as goal
 
 pub returns-then-not-head_formed : goal.returns-then-not-head_formed

@@ -3,7 +3,6 @@ use Rattle.std.proofs.Common.{◌∙◌}
 use Rattle.lists.specs.Basics.{sym, true, false, not-true, not-false}
 use Rattle.model.specs.ByteCalls.{sheets_of}
 use Rattle.admission.specs.Admission.{formed_by, open_ill, open_not, open_key}
-use borrow.Author.Rules.{rules}
 use Rattle.admission.proofs.open_refusal.Goals as goal
 
 pub returns-then-not-judge : goal.returns-then-not-judge

@@ -1,5 +1,5 @@
 -- By the refusal.
-use Rattle.lists.specs.Basics.{eq-eqb, ne_eqb, rules}
+use Rattle.lists.specs.Basics.{eq-eqb, ne_eqb}
 use Rattle.answers.proofs.of_begun.Goals as goal
 
 pub returns-then-r-eq0 : goal.returns-then-r-eq0

@@ -1,5 +1,4 @@
 -- Both tests, as the definition has them.
-use Rattle.lists.specs.Basics.{rules}
 use Rattle.by_place.proofs.is_named.Goals as goal
 
 pub returns : goal.returns

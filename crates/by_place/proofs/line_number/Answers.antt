@@ -2,7 +2,6 @@
 use Rattle.std.specs.Prelude.{◌≡◌}
 use Rattle.lists.specs.Basics.{eqb, true, false, eq-eqb, ne_eqb}
 use Rattle.by_place.specs.Ranks.{line_number}
-use borrow.Author.Rules.{rules}
 use Rattle.by_place.proofs.line_number.Goals as goal
 
 pub returns-then-told-ne0 : goal.returns-then-told-ne0

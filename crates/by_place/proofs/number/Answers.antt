@@ -1,6 +1,6 @@
 -- The test decides the choice.
 use Rattle.std.specs.Prelude.{◌≡◌}
-use Rattle.lists.specs.Basics.{eqb, true, false, eq-eqb, ne_eqb, rules}
+use Rattle.lists.specs.Basics.{eqb, true, false, eq-eqb, ne_eqb}
 use Rattle.by_place.proofs.number.Goals as goal
 
 pub returns-then-refusal-eq0 : goal.returns-then-refusal-eq0

@@ -1,7 +1,6 @@
 -- The tests decide the choices.
 use Rattle.std.specs.Prelude.{◌≡◌}
 use Rattle.lists.specs.Basics.{eqb, true, false, eq-eqb, ne_eqb}
-use borrow.Author.Rules.{rules}
 use Rattle.by_place.proofs.number_two.Goals as goal
 
 pub returns-then-refusal-ne0 : goal.returns-then-refusal-ne0

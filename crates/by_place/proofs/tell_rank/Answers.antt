@@ -1,10 +1,9 @@
 -- The tests decide the choices; a target of two numbers gets both.
 use Rattle.std.specs.Prelude.{◌≡◌, ◌∷◌}
 use Rattle.std.proofs.Common.{◌∙◌}
-use Rattle.lists.specs.Basics.{refl, ap, ℕ, eqb, true, false, [], length, eq-eqb, ne_eqb}
+use Rattle.lists.specs.Basics.{ap, ℕ, eqb, true, false, [], length, eq-eqb, ne_eqb}
 use Rattle.changes.specs.Answers.{stored}
 use Rattle.by_place.specs.Ranks.{rank_number, rank_target}
-use borrow.Author.Rules.{rules}
 use Rattle.by_place.proofs.tell_rank.Goals as goal
 
 pub returns-then-target-ne2 : goal.returns-then-target-ne2

@@ -1,7 +1,7 @@
 -- The check's refusal as one number, or 1003 where it has none.
 use Rattle.std.specs.Prelude.{◌+◌, ◌≤◌}
 use Rattle.std.proofs.Common.{◌∙◌}
-use Rattle.lists.specs.Basics.{refl, sym, ap, subst, ℕ, eqb, cond, rules}
+use Rattle.lists.specs.Basics.{refl, sym, ap, subst, ℕ, eqb, cond}
 use Rattle.model.specs.Refusals.{last_refusal}
 use Rattle.by_place.specs.Numbers.{check_numbered}
 use Rattle.by_place.proofs.unlisted.Goals as goal
@@ -14,7 +14,11 @@ number-requires c =
 
 pub returns : goal.returns
 returns c =
-    let a = c.args in 
-      record { answer = c.number.ensures
+    let a = c.args in
+    record {
+      answer = c.number.ensures
           ∙ (ap (λ (n : ℕ). cond (eqb n 0) 1003 (1000 + n)) c.check-refused.ensures
-          ∙ (check_numbered a.records.now a.coordinator.now).1); lines = refl; decisions = refl }
+          ∙ (check_numbered a.records.now a.coordinator.now).1);
+      lines = refl;
+      decisions = refl;
+    }

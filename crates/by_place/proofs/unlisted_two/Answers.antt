@@ -5,7 +5,6 @@ use Rattle.lists.specs.Basics.{refl, sym, ap, subst, ℕ, eqb, cond}
 use Rattle.model.specs.Refusals.{last_refusal}
 use Rattle.two_check.specs.Areas.{two}
 use Rattle.by_place.specs.TwoNumbers.{check_numbered_two}
-use borrow.Author.Rules.{rules}
 use Rattle.by_place.proofs.unlisted_two.Goals as goal
 
 pub number-requires : goal.number-requires
@@ -15,5 +14,5 @@ number-requires c =
 
 pub returns : goal.returns
 returns c =
-    let a = c.args in 
-      record { answer = c.number.ensures ∙ (ap (λ (n : ℕ). cond (eqb n 0) 1003 (1000 + n)) c.check-refused.ensures ∙ (check_numbered_two (two a.plain.now a.book.now a.coordinator.now)).1); plain = refl; bookkeeping = refl; decisions = refl }
+    let a = c.args in
+    record { answer = c.number.ensures ∙ (ap (λ (n : ℕ). cond (eqb n 0) 1003 (1000 + n)) c.check-refused.ensures ∙ (check_numbered_two (two a.plain.now a.book.now a.coordinator.now)).1); plain = refl; bookkeeping = refl; decisions = refl }

@@ -1,7 +1,7 @@
 -- The engine's answer is that of the definition, and its number is the definition's.
 use Rattle.std.specs.Prelude.{◌+◌, ◌≤◌}
 use Rattle.std.proofs.Common.{◌∙◌}
-use Rattle.lists.specs.Basics.{sym, ap, ap₂, subst, ℕ, eqb, cond, rules}
+use Rattle.lists.specs.Basics.{sym, ap, ap₂, subst, ℕ, eqb, cond}
 use Rattle.model.specs.Types.{Transaction}
 use Rattle.model.specs.Refusals.{last_refusal}
 use Rattle.model.specs.Operations.{response_on}
@@ -32,10 +32,10 @@ returns c =
     record {
       answer =
           rw (sym q.ensures) (
-            ap (λ (n : ℕ). as_called n o.result.transaction) c.number-answer.ensures
-                ∙
-                (ap (λ (s : Performed). as_called (cond (eqb s.refusal 0) s.reply (1000 + s.refusal)) s.transaction) o.ensures.answer
-                ∙ ap₂ as_called numbered.1 (performed_left a.t response))
+          ap (λ (n : ℕ). as_called n o.result.transaction) c.number-answer.ensures
+          ∙
+          (ap (λ (s : Performed). as_called (cond (eqb s.refusal 0) s.reply (1000 + s.refusal)) s.transaction) o.ensures.answer
+          ∙ ap₂ as_called numbered.1 (performed_left a.t response))
           );
       lines = rw (sym q.ensures) o.ensures.lines;
       decisions = rw (sym q.ensures) o.ensures.decisions;

@@ -1,6 +1,6 @@
 -- `is_named` says whether the place is one of the list, and the number that of a call. If so `call_named` is called on the transaction there and what it
 -- returns is put back; if not, the sheets go to `unlisted`. The laws of the call by place turn what was called into the contract.
-use Rattle.std.specs.Prelude.{◌≡◌, ◌<◌}
+use Rattle.std.specs.Prelude.{◌<◌}
 use Rattle.std.proofs.Common.{◌∙◌}
 use Rattle.lists.specs.Basics.{sym, false, [], length, rules}
 use Rattle.lists.specs.All.{get_or_any}

@@ -1,9 +1,6 @@
 -- No line before i differs, so that the first of those from i on is the first of all.
 use Rattle.std.specs.Prelude.{◌≡◌, ◌-◌, ◌≤◌}
-use Rattle.std.proofs.Common.{◌∙◌}
-use Rattle.lists.specs.Basics.{sym, arith, rules}
 use Rattle.model.specs.Changes.{first_of}
-use Rattle.changes.specs.Lines.{first-all, first-here, first_later, first-none}
 use Rattle.changes.proofs.first_differing.Given as goal
 
 abbrev pub invariant-loop-i : goal.invariant-loop-i

@@ -1,9 +1,6 @@
 -- No line from n on differs, so that the first n reach as far as all do.
-use Rattle.std.specs.Prelude.{◌≡◌, ◌/◌, ◌≤◌}
 use Rattle.std.proofs.Common.{◌∙◌}
-use Rattle.lists.specs.Basics.{refl, sym, length, arith, rules}
-use Rattle.model.specs.Layouts.{record_bytes}
-use Rattle.model.specs.Changes.{reach_of}
+use Rattle.lists.specs.Basics.{refl, sym, arith}
 use Rattle.changes.specs.Lines.{reach_here, reach_less, reach_none}
 use Rattle.changes.proofs.last_reach.Goals as goal
 

@@ -1,6 +1,6 @@
 -- The two parts lent are the lines at i.
 use Rattle.std.proofs.Common.{◌∙◌}
-use Rattle.lists.specs.Basics.{ap, ap₂, not, rules, eq_list}
+use Rattle.lists.specs.Basics.{ap, ap₂, not, eq_list}
 use Rattle.changes.specs.Lines.{line-part}
 use Rattle.changes.proofs.line_differs.Goals as goal
 

@@ -1,7 +1,6 @@
 -- The flag says whether the bytes before i are equal.
-use Rattle.std.specs.Prelude.{◌≡◌, ◌-◌, ◌≤◌}
-use Rattle.lists.specs.Basics.{refl, length, arith, rules}
-use Rattle.changes.specs.Lines.{EqualTo, equal_next, equal_last}
+use Rattle.lists.specs.Basics.{refl, arith}
+use Rattle.changes.specs.Lines.{equal_next, equal_last}
 use Rattle.changes.proofs.same_bytes.Goals as goal
 
 pub loop-i-init : goal.loop-i-init

@@ -1,7 +1,7 @@
 -- The flag says whether the bytes before i are equal.
 use Rattle.std.specs.Prelude.{◌≡◌, ◌-◌, ◌≤◌}
-use Rattle.lists.specs.Basics.{refl, length, arith, rules}
-use Rattle.changes.specs.Lines.{EqualTo, equal_next, equal_last}
+use Rattle.lists.specs.Basics.{length}
+use Rattle.changes.specs.Lines.{EqualTo}
 use Rattle.changes.proofs.same_bytes.Given as goal
 
 abbrev pub invariant-loop-i : goal.invariant-loop-i

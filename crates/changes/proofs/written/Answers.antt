@@ -1,7 +1,7 @@
 -- Refused by a length, or both loops told: what they ensure gives the room for the two stores and then the answer.
 use Rattle.std.specs.Prelude.{◌≤◌}
 use Rattle.std.proofs.Common.{◌∙◌}
-use Rattle.lists.specs.Basics.{refl, sym, subst, ℕ, length-set, arith, rules}
+use Rattle.lists.specs.Basics.{refl, sym, subst, ℕ, length-set, arith}
 use Rattle.model.specs.Refusals.{last_refusal}
 use Rattle.changes.specs.Answers.{refusal_small, fits, room, written_refused, written-told}
 use Rattle.changes.proofs.written.Goals as goal

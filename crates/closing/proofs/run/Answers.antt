@@ -1,8 +1,6 @@
 -- The turns from i on, from the close as it now stands, come to what all turns come to from its start.
-use Rattle.std.specs.Prelude.{◌≡◌, ◌-◌}
-use Rattle.lists.specs.Basics.{refl, length, arith, rules}
-use Rattle.model.specs.Closing.{closing, most_steps}
-use Rattle.closing.specs.Running.{running, Underway, underway_next, underway_last}
+use Rattle.lists.specs.Basics.{refl, arith}
+use Rattle.closing.specs.Running.{underway_next, underway_last}
 use Rattle.closing.proofs.run.Goals as goal
 
 pub loop-i-init : goal.loop-i-init

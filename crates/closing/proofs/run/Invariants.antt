@@ -1,8 +1,8 @@
 -- The turns from i on, from the close as it now stands, come to what all turns come to from its start.
 use Rattle.std.specs.Prelude.{◌≡◌, ◌-◌}
-use Rattle.lists.specs.Basics.{refl, length, arith, rules}
+use Rattle.lists.specs.Basics.{length}
 use Rattle.model.specs.Closing.{closing, most_steps}
-use Rattle.closing.specs.Running.{running, Underway, underway_next, underway_last}
+use Rattle.closing.specs.Running.{running, Underway}
 use Rattle.closing.proofs.run.Given as goal
 
 abbrev pub invariant-loop-i : goal.invariant-loop-i

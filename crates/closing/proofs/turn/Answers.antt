@@ -1,6 +1,6 @@
 -- By the tests, in the order in which the code asks: done, a step that writes nothing, the limit used up, a step that writes.
 use Rattle.std.proofs.Common.{◌∙◌}
-use Rattle.lists.specs.Basics.{refl, sym, arith, not-true, not-false, rules}
+use Rattle.lists.specs.Basics.{refl, sym, arith, rules}
 use Rattle.closing.specs.Running.{sure_ready, turned_done, turned_quiet, turned_spent, turned_writes}
 use Rattle.closing.proofs.turn.Goals as goal
 
@@ -15,7 +15,7 @@ step-next-requires c = sure_ready _ _ _ _ c.requires
 
 pub returns-then-not-writes : goal.returns-then-not-writes
 returns-then-not-writes c =
-        let f = c.ranges in
+    let f = c.ranges in
     turned_quiet c.args.clock _ _ _ _ c.requires (omega (arith, f)) _ _ _ c.step-next.ensures
     c.if-x-eq-DONE.false
     (sym (c.writes.ensures _)
@@ -32,13 +32,13 @@ step-next-requires-2 c = sure_ready _ _ _ _ c.requires
 
 pub overflow_add-result : goal.overflow_add-result
 overflow_add-result c =
-        let h = c.requires.counted in
+    let h = c.requires.counted in
     let z = c.if-x-eq0.false in
     search (rules, h, z)
 
 pub returns : goal.returns
 returns c =
-            let f = c.ranges in
+    let f = c.ranges in
     turned_writes c.args.clock _ _ _ _ c.requires (omega (arith, f)) _ _ _ c.step-next-2.ensures
     c.if-x-eq-DONE.false
     (sym (c.writes.ensures _) ∙ c.if-not-writes.false)

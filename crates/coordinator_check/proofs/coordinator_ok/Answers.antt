@@ -1,7 +1,7 @@
 -- A sheet that keeps the rules has nine letters, and those that it is read to have are theirs.
 use Rattle.std.specs.Prelude.{◌≡◌}
 use Rattle.std.proofs.Common.{◌∙◌}
-use Rattle.lists.specs.Basics.{sym, ap, true, false, arith, not-true, not-false, rules}
+use Rattle.lists.specs.Basics.{sym, ap, true, false, arith}
 use Rattle.model.specs.Coordinator.{coordinator_readable, all_capitals, coordinator_accepted}
 use Rattle.sheet_laws.specs.Decisions.{readable_length}
 use Rattle.sheet_laws.specs.Letters.{units-said}

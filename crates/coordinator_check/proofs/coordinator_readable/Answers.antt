@@ -1,7 +1,7 @@
 -- Each test is one of `sheet_made`, in its order, and `sheet_made` is whether the sheet keeps the rules.
 use Rattle.std.specs.Prelude.{◌≡◌}
 use Rattle.std.proofs.Common.{◌∙◌}
-use Rattle.lists.specs.Basics.{sym, true, length, take, length-take, arith, not-true, not-false, rules}
+use Rattle.lists.specs.Basics.{sym, true, length, take, length-take, arith}
 use Rattle.model.specs.Layouts.{coordinator_bytes}
 use Rattle.model.specs.Coordinator.{coordinator_readable}
 use Rattle.coordinator_check.specs.Head.{letters_set}

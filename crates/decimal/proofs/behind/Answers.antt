@@ -1,7 +1,7 @@
 -- By what the first digit makes: a figure, behind which the others are read, or none.
 use Rattle.std.specs.Prelude.{◌≡◌, ◌+◌}
 use Rattle.std.proofs.Common.{◌∙◌}
-use Rattle.lists.specs.Basics.{sym, ap, drop, get_or, rules}
+use Rattle.lists.specs.Basics.{sym, ap, drop, get_or}
 use Rattle.decimal.specs.declared.Scan.{Scan}
 use Rattle.decimal.specs.declared.Scan.TheVariants.{Wrong}
 use Rattle.decimal.specs.Cut.{longer, scanned_to, longer_unblank, scan_to_wrong, first_byte}

@@ -1,5 +1,5 @@
 -- Each return knows the state and which bound was kept or missed.
-use Rattle.lists.specs.Basics.{le-leb, lt-leb, rules}
+use Rattle.lists.specs.Basics.{le-leb, lt-leb}
 use Rattle.decimal.specs.Field.{within}
 use Rattle.decimal.proofs.bounded.Goals as goal
 

@@ -1,5 +1,5 @@
 -- The two returns are the two cases of `column_byte`.
-use Rattle.lists.specs.Basics.{eq-eqb, ne_eqb, rules}
+use Rattle.lists.specs.Basics.{eq-eqb, ne_eqb}
 use Rattle.decimal.proofs.column.Goals as goal
 
 pub returns-then-rest-eq0 : goal.returns-then-rest-eq0

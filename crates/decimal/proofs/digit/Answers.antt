@@ -1,6 +1,6 @@
 -- Each return knows which tests held, and the limited step is the same tests.
 use Rattle.std.specs.Prelude.{◌≡◌, ◌+◌, ◌-◌, ◌*◌}
-use Rattle.lists.specs.Basics.{true, le-leb, lt-leb, rules, and_both}
+use Rattle.lists.specs.Basics.{true, le-leb, lt-leb, and_both}
 use Rattle.decimal.specs.Field.{is_digit}
 use Rattle.decimal.specs.Cut.{capped}
 use Rattle.decimal.proofs.digit.Goals as goal

@@ -1,8 +1,7 @@
 -- The loop keeps that the bytes passed are the word's.
-use Rattle.std.specs.Prelude.{◌≡◌, ◌+◌, ◌-◌, ◌≤◌, ◌<◌}
+use Rattle.std.specs.Prelude.{◌≡◌, ◌+◌, ◌≤◌, ◌<◌}
 use Rattle.std.proofs.Common.{◌∙◌}
 use Rattle.lists.specs.Basics.{refl, sym, ℕ, List, length, take, get_or, set, length-set, take_all, arith, add-one, eq-eqb, ne_eqb}
-use Rattle.lists.specs.Basics.{rules}
 use lib.Seq.{take-suc, take-suc-set}
 use Rattle.decimal.specs.Word.{put_word}
 use Rattle.decimal.proofs.put.Goals as goal

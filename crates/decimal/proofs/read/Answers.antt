@@ -1,7 +1,7 @@
 -- The spaces in front change nothing, and what the limit cuts off changes no figure.
 use Rattle.std.specs.Prelude.{◌≡◌, ◌≤◌, ◌<◌}
 use Rattle.std.proofs.Common.{◌∙◌}
-use Rattle.lists.specs.Basics.{sym, ap, subst, ℕ, eqb, false, List, length, drop, get_or, arith, rules}
+use Rattle.lists.specs.Basics.{sym, ap, subst, ℕ, eqb, false, List, length, drop, get_or, arith}
 use Rattle.decimal.specs.declared.Scan.{Scan}
 use Rattle.decimal.specs.declared.Scan.TheVariants.{Blank, Wrong}
 use Rattle.decimal.specs.Field.{within, figure}

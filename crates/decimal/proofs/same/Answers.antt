@@ -2,7 +2,7 @@
 use Rattle.std.specs.Prelude.{◌≡◌, ◌+◌, ◌-◌, ◌≤◌, ◌<◌, ◌∷◌}
 use Rattle.std.proofs.Common.{◌∙◌}
 use Rattle.lists.specs.Basics.{refl, sym, ap, ap₂, subst, ℕ, true, List, length, drop, get_or, drop_of_length-le, drop-cons}
-use Rattle.lists.specs.Basics.{arith, add-one, rules, eq_list, eq_list_refl}
+use Rattle.lists.specs.Basics.{arith, add-one, eq_list, eq_list_refl}
 use Rattle.lists.specs.Bytes.{ne_eq_list}
 use Rattle.decimal.proofs.same.Goals as goal
 

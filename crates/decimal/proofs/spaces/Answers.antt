@@ -1,7 +1,7 @@
 -- The loop keeps that the spaces passed, and those that the rest begins with, are the field's.
-use Rattle.std.specs.Prelude.{◌≡◌, ◌+◌, ◌-◌, ◌≤◌, ◌<◌}
+use Rattle.std.specs.Prelude.{◌≡◌, ◌+◌, ◌≤◌, ◌<◌}
 use Rattle.lists.specs.Basics.{ℕ, suc, eqb, cond, List, length, drop, get_or, drop_of_length-le, drop-cons, arith, add-one, eq-eqb}
-use Rattle.lists.specs.Basics.{ne_eqb, rules}
+use Rattle.lists.specs.Basics.{ne_eqb}
 use Rattle.decimal.specs.Cut.{spaces}
 use Rattle.decimal.proofs.spaces.Goals as goal
 

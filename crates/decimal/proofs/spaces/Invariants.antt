@@ -1,7 +1,6 @@
 -- The loop keeps that the spaces passed, and those that the rest begins with, are the field's.
-use Rattle.std.specs.Prelude.{◌≡◌, ◌+◌, ◌-◌, ◌≤◌, ◌<◌}
-use Rattle.lists.specs.Basics.{ℕ, suc, eqb, cond, List, length, drop, get_or, drop_of_length-le, drop-cons, arith, add-one, eq-eqb}
-use Rattle.lists.specs.Basics.{ne_eqb, rules}
+use Rattle.std.specs.Prelude.{◌≡◌, ◌+◌, ◌-◌, ◌≤◌}
+use Rattle.lists.specs.Basics.{length, drop}
 use Rattle.decimal.specs.Cut.{spaces}
 use Rattle.decimal.proofs.spaces.Given as goal
 

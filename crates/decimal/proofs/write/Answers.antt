@@ -2,7 +2,7 @@
 use Rattle.std.specs.Prelude.{◌≡◌, ◌+◌, ◌-◌, ◌/◌, ◌%◌, ◌≤◌, ◌<◌, ◌∷◌, ◌++◌}
 use Rattle.std.proofs.Common.{◌∙◌}
 use Rattle.lists.specs.Basics.{refl, ℕ, zero, suc, List, [], append-nil, length, drop, set, length-set}
-use Rattle.lists.specs.Basics.{drop_of_length-le, drop-cons, arith, rules}
+use Rattle.lists.specs.Basics.{drop_of_length-le, drop-cons, arith}
 use lib.Seq.{drop-set-lt, get_or-set_same, append_snoc}
 use Rattle.decimal.specs.Field.{column_byte, ahead, field_text}
 use Rattle.decimal.proofs.write.Goals as goal

@@ -1,10 +1,7 @@
 -- The loop keeps that the columns set, behind the text of what is left of the figure, are the whole field's text.
-use Rattle.std.specs.Prelude.{◌≡◌, ◌+◌, ◌-◌, ◌/◌, ◌%◌, ◌≤◌, ◌<◌, ◌∷◌, ◌++◌}
-use Rattle.std.proofs.Common.{◌∙◌}
-use Rattle.lists.specs.Basics.{refl, ℕ, zero, suc, List, [], append-nil, length, drop, set, length-set}
-use Rattle.lists.specs.Basics.{drop_of_length-le, drop-cons, arith, rules}
-use lib.Seq.{drop-set-lt, get_or-set_same, append_snoc}
-use Rattle.decimal.specs.Field.{column_byte, ahead, field_text}
+use Rattle.std.specs.Prelude.{◌≡◌, ◌≤◌, ◌++◌}
+use Rattle.lists.specs.Basics.{length, drop}
+use Rattle.decimal.specs.Field.{ahead, field_text}
 use Rattle.decimal.proofs.write.Given as goal
 
 abbrev pub invariant-loop-i : goal.invariant-loop-i

@@ -1,13 +1,12 @@
 -- Refused by the check, or the call on the lines of records of accepted sheets.
 use Rattle.std.proofs.Common.{◌∙◌}
-use Rattle.lists.specs.Basics.{refl, sym, length-take, arith, rules}
+use Rattle.lists.specs.Basics.{refl, sym, length-take, arith}
 use Rattle.call_laws.specs.Lifting.{passing_parts}
 use Rattle.model.specs.Operations as operations
 use Rattle.engine.specs.Fronts.{front-within, accepted_front, operation_passed}
 use Rattle.engine.specs.Responses.{turned_away_as}
 use Rattle.answers.specs.Answers.{to_closed}
 use Rattle.engine.specs.Fronts.{closed_blind}
-use borrow.Author.Rules.{rules}
 use Rattle.engine.proofs.close.Goals as goal
 
 pub returns-then-checked-ne0 : goal.returns-then-checked-ne0

@@ -1,7 +1,7 @@
 -- Refused by the check, or a number issued beside an accepted record sheet.
 use Rattle.std.specs.Prelude.{◌≡◌}
 use Rattle.std.proofs.Common.{◌∙◌}
-use Rattle.lists.specs.Basics.{refl, sym, rules}
+use Rattle.lists.specs.Basics.{refl, sym}
 use Rattle.model.specs.Spares.{record_lines}
 use Rattle.model.specs.Refusals.{refusal_of}
 use Rattle.model.specs.SheetCalls.{check_conditions}

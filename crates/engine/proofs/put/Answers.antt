@@ -1,12 +1,11 @@
 -- Refused by the check, or the call on the lines of records of accepted sheets.
 use Rattle.std.proofs.Common.{◌∙◌}
-use Rattle.lists.specs.Basics.{refl, sym, length-take, arith, rules}
+use Rattle.lists.specs.Basics.{refl, sym, length-take, arith}
 use Rattle.call_laws.specs.Lifting.{passing_parts}
 use Rattle.model.specs.Results as model
 use Rattle.call_laws.specs.Accepted.{turned_away_lem}
 use Rattle.engine.specs.Fronts.{front-within, accepted_front, answer-passed}
 use Rattle.answers.specs.Answers.{to_returned}
-use borrow.Author.Rules.{rules}
 use Rattle.engine.proofs.put.Goals as goal
 
 pub returns-then-checked-ne0 : goal.returns-then-checked-ne0

@@ -1,19 +1,18 @@
 -- Refused by the check, or the call on the lines of records of accepted sheets.
 use Rattle.std.proofs.Common.{◌∙◌}
-use Rattle.lists.specs.Basics.{refl, sym, length-take, arith, rules}
+use Rattle.lists.specs.Basics.{refl, sym, length-take, arith}
 use Rattle.call_laws.specs.Lifting.{passing_parts}
 use Rattle.model.specs.Results as model
 use Rattle.call_laws.specs.Accepted.{turned_away_lem}
 use Rattle.engine.specs.Fronts.{front-within, accepted_front, call_passed}
 use Rattle.answers.specs.Answers.{to_performed}
-use borrow.Author.Rules.{rules}
 use Rattle.engine.proofs.read.Goals as goal
 
 pub returns-then-checked-ne0 : goal.returns-then-checked-ne0
 returns-then-checked-ne0 c =
     let a = c.args in
-    let o = turned_away_lem (to_performed a.t) (model.read a.t a.key a.clock) a.records.now a.coordinator.now _ c.check-checked.ensures c.if-checked-ne0.true c.refusal.ensures in 
-      record { answer = o.said; lines = o.sheet; decisions = o.decisions }
+    let o = turned_away_lem (to_performed a.t) (model.read a.t a.key a.clock) a.records.now a.coordinator.now _ c.check-checked.ensures c.if-checked-ne0.true c.refusal.ensures in
+    record { answer = o.said; lines = o.sheet; decisions = o.decisions }
 
 pub lines_end-end-requires : goal.lines_end-end-requires
 lines_end-end-requires c =
@@ -38,5 +37,5 @@ read-requires c =
 pub returns : goal.returns
 returns c =
     let a = c.args in
-    let o = call_passed a.records.now a.coordinator.now (sym c.check-checked.ensures ∙ c.if-checked-ne0.false) _ c.lines_end-end.ensures.is (to_performed a.t) (model.read a.t a.key a.clock) refl c.read.ensures in 
-      record { answer = o.said; lines = o.sheet; decisions = o.decisions }
+    let o = call_passed a.records.now a.coordinator.now (sym c.check-checked.ensures ∙ c.if-checked-ne0.false) _ c.lines_end-end.ensures.is (to_performed a.t) (model.read a.t a.key a.clock) refl c.read.ensures in
+    record { answer = o.said; lines = o.sheet; decisions = o.decisions }

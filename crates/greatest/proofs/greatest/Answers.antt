@@ -1,6 +1,6 @@
 -- Refused as the conditions say, with both targets as they came; else both are filled, the coordinator's with the bytes of its definition.
 use Rattle.std.proofs.Common.{◌∙◌}
-use Rattle.lists.specs.Basics.{sym, bytes, joined, rules}
+use Rattle.lists.specs.Basics.{sym, bytes, joined}
 use Rattle.decimal.specs.Word.{put_fits_lem}
 use Rattle.greatest.specs.Answers.{Fits, coordinator_bytes_lem, fits, answer_refused, answer_made}
 use Rattle.greatest.proofs.greatest.Goals as goal

@@ -1,5 +1,5 @@
 -- Condition by condition, in their order.
-use Rattle.lists.specs.Basics.{eq-eqb, ne_eqb, le-leb, lt-leb, rules}
+use Rattle.lists.specs.Basics.{eq-eqb, ne_eqb, le-leb, lt-leb}
 use Rattle.model.specs.Refusals.{refusal_of}
 use Rattle.model.specs.Greatest.{greatest_conditions}
 use Rattle.greatest.proofs.refusal.Goals as goal

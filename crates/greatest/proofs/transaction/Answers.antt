@@ -1,7 +1,7 @@
 -- One turn makes one more entry.
-use Rattle.std.specs.Prelude.{◌≡◌, ◌-◌, ◌≤◌}
+use Rattle.std.specs.Prelude.{◌≡◌}
 use Rattle.std.proofs.Common.{◌∙◌}
-use Rattle.lists.specs.Basics.{ap, arith, rules}
+use Rattle.lists.specs.Basics.{ap, arith}
 use Rattle.model.specs.Greatest.{greatest_transaction}
 use Rattle.greatest.specs.Filling.{entry_next}
 use Rattle.greatest.proofs.transaction.Goals as goal

@@ -1,9 +1,6 @@
 -- One turn makes one more entry.
 use Rattle.std.specs.Prelude.{◌≡◌, ◌-◌, ◌≤◌}
-use Rattle.std.proofs.Common.{◌∙◌}
-use Rattle.lists.specs.Basics.{ap, arith, rules}
 use Rattle.model.specs.Greatest.{greatest_transaction}
-use Rattle.greatest.specs.Filling.{entry_next}
 use Rattle.greatest.proofs.transaction.Given as goal
 
 abbrev pub invariant-loop-i : goal.invariant-loop-i

@@ -1,7 +1,7 @@
 -- An index that is none of a line fails the condition; else, by whether the letter is a capital, the line alone decides, or its columns too.
 use Rattle.std.specs.Prelude.{◌&&◌}
 use Rattle.std.proofs.Common.{◌∙◌}
-use Rattle.lists.specs.Basics.{sym, ap, ap₂, List, arith, not-true, not-false}
+use Rattle.lists.specs.Basics.{sym, ap, ap₂, List, arith}
 use Rattle.model.specs.Records.{records}
 use Rattle.model.specs.Coordinator.{Letter}
 use Rattle.model.specs.Groups.{is_lower}
@@ -9,7 +9,6 @@ use Rattle.model.specs.ByteCalls.{sheets_of}
 use Rattle.sheet_laws.specs.ByIndex.{length-records}
 use Rattle.held_lines.specs.Located.{line-there, line-nowhere}
 use Rattle.held_lines.specs.Lookup.{holds-none, holds_capital, holds_lower_lem}
-use borrow.Author.Rules.{rules}
 use Rattle.held_lines.proofs.holds.Goals as goal
 
 pub returns-then-count-index : goal.returns-then-count-index

@@ -1,6 +1,6 @@
 -- By the two cases of what is held.
 use Rattle.std.proofs.Common.{◌∙◌}
-use Rattle.lists.specs.Basics.{sym, arith, rules}
+use Rattle.lists.specs.Basics.{sym, arith}
 use Rattle.transactions.specs.Held.{held_below}
 use Rattle.held_lines.proofs.index_of.Goals as goal
 

@@ -1,6 +1,5 @@
 -- The three tests are those of the line.
 use Rattle.model.specs.Images.{unchanged}
-use borrow.Author.Rules.{rules}
 use Rattle.held_lines.proofs.is_unchanged.Goals as goal
 
 pub returns : goal.returns

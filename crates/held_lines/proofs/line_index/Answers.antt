@@ -5,7 +5,6 @@ use Rattle.model.specs.Records.{records}
 use Rattle.sheet_laws.specs.ByIndex.{length-records}
 use Rattle.sheets.specs.Answers.{is_found}
 use Rattle.held_lines.specs.Located.{index_found, index_none}
-use borrow.Author.Rules.{rules}
 use Rattle.held_lines.proofs.line_index.Goals as goal
 
 pub returns-in-At : goal.returns-in-At

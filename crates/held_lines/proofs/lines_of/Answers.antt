@@ -1,10 +1,8 @@
 -- Of the entries before i each has its index.
-use Rattle.std.specs.Prelude.{◌≡◌, ◌-◌, ◌≤◌}
 use Rattle.std.proofs.Common.{◌∙◌}
-use Rattle.lists.specs.Basics.{refl, ap, length, length-set, arith}
+use Rattle.lists.specs.Basics.{refl, ap, length-set, arith}
 use Rattle.model.specs.Records as sheet
 use Rattle.held_lines.specs.Located.{indices_of, indices_next, entry_ranged}
-use borrow.Author.Rules.{rules}
 use Rattle.held_lines.proofs.lines_of.Goals as goal
 
 pub loop-i-init : goal.loop-i-init

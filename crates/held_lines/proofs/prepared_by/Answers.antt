@@ -1,5 +1,4 @@
 -- The definition's two tests, each of one field.
-use Rattle.lists.specs.Basics.{rules}
 use Rattle.model.specs.Images.{prepared_by}
 use Rattle.held_lines.proofs.prepared_by.Goals as goal
 

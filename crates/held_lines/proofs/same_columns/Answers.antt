@@ -1,6 +1,5 @@
 -- The two tests are those of the line.
 use Rattle.model.specs.Images.{same_columns}
-use borrow.Author.Rules.{rules}
 use Rattle.held_lines.proofs.same_columns.Goals as goal
 
 pub returns : goal.returns

@@ -1,8 +1,8 @@
 -- The loop's invariant: i digits are taken in, as a number below 16 ^ i, and that number with the digits that are left is the figure.
-use Rattle.std.specs.Prelude.{◌≡◌, ◌+◌, ◌-◌, ◌^◌, ◌≤◌, ◌<◌}
+use Rattle.std.specs.Prelude.{◌≡◌, ◌+◌, ◌-◌}
 use Rattle.std.proofs.Common.{◌∙◌}
-use Rattle.lists.specs.Basics.{sym, arith, rules}
-use Rattle.decimal.specs.Digits.{digits_from, figure_at, digits_left, digits_next, digits_room, digits_fit}
+use Rattle.lists.specs.Basics.{sym, arith}
+use Rattle.decimal.specs.Digits.{digits_from, digits_next, digits_room, digits_fit}
 use Rattle.line_bytes.proofs.figure.Goals as goal
 
 pub loop-i-init : goal.loop-i-init

@@ -1,5 +1,5 @@
 -- The bytes that are loaded are turned.
-use Rattle.lists.specs.Basics.{arith, rules}
+use Rattle.lists.specs.Basics.{arith}
 use Rattle.line_bytes.specs.Loads.{turned_is}
 use Rattle.line_bytes.proofs.half.Goals as goal
 

@@ -1,7 +1,7 @@
 -- The law on two parts, by the test that the first parts are equal.
 use Rattle.std.specs.Prelude.{◌<◌}
 use Rattle.std.proofs.Common.{◌∙◌}
-use Rattle.lists.specs.Basics.{sym, ℕ, get_or, arith, rules}
+use Rattle.lists.specs.Basics.{sym, ℕ, get_or, arith}
 use Rattle.line_bytes.specs.Order.{first-decides, rest-decides}
 use Rattle.line_bytes.proofs.key_less.Goals as goal
 

@@ -1,7 +1,7 @@
 -- The loop's invariant: what is judged so far, and what is left from byte i on, make up the whole pass.
-use Rattle.std.specs.Prelude.{◌≡◌, ◌-◌, ◌≤◌, ◌&&◌}
+use Rattle.std.specs.Prelude.{◌≡◌}
 use Rattle.std.proofs.Common.{◌∙◌}
-use Rattle.lists.specs.Basics.{refl, sym, true, arith, not-true, not-false, rules}
+use Rattle.lists.specs.Basics.{refl, sym, true, arith}
 use Rattle.line_bytes.specs.Tables.{as_long, rest, line_ok}
 use Rattle.line_bytes.specs.Turns.{Lengths, lengths, rest_next, rest_end}
 use Rattle.line_bytes.proofs.line_ok.Goals as goal

@@ -1,9 +1,6 @@
 -- The loop's invariant: what is judged so far, and what is left from byte i on, make up the whole pass.
 use Rattle.std.specs.Prelude.{◌≡◌, ◌-◌, ◌≤◌, ◌&&◌}
-use Rattle.std.proofs.Common.{◌∙◌}
-use Rattle.lists.specs.Basics.{refl, sym, true, arith, not-true, not-false, rules}
-use Rattle.line_bytes.specs.Tables.{as_long, rest, line_ok}
-use Rattle.line_bytes.specs.Turns.{Lengths, lengths, rest_next, rest_end}
+use Rattle.line_bytes.specs.Tables.{rest}
 use Rattle.line_bytes.proofs.line_ok.Given as goal
 
 abbrev pub invariant-loop-i : goal.invariant-loop-i

@@ -1,5 +1,5 @@
 -- Eight bytes are twice four, of which the last weigh 2 ^ 32.
-use Rattle.lists.specs.Basics.{arith, rules}
+use Rattle.lists.specs.Basics.{arith}
 use Rattle.line_bytes.specs.Loads.{loaded_eight}
 use Rattle.line_bytes.proofs.load_eight.Goals as goal
 

@@ -1,5 +1,5 @@
 -- The sum is that of the four bytes, from the law on four bytes; each is below 256.
-use Rattle.lists.specs.Basics.{arith, rules}
+use Rattle.lists.specs.Basics.{arith}
 use Rattle.line_bytes.specs.Loads.{loaded_four}
 use Rattle.line_bytes.proofs.load_four.Goals as goal
 

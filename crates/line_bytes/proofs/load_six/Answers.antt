@@ -1,5 +1,5 @@
 -- Eight bytes without the first two are the six.
-use Rattle.lists.specs.Basics.{arith, rules}
+use Rattle.lists.specs.Basics.{arith}
 use Rattle.line_bytes.specs.Loads.{loaded_six}
 use Rattle.line_bytes.proofs.load_six.Goals as goal
 

@@ -1,5 +1,5 @@
 -- The sum is that of the two bytes, from the law on two bytes.
-use Rattle.lists.specs.Basics.{arith, rules}
+use Rattle.lists.specs.Basics.{arith}
 use Rattle.line_bytes.specs.Loads.{loaded-two}
 use Rattle.line_bytes.proofs.load_two.Goals as goal
 

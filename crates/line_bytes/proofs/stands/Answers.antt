@@ -1,5 +1,4 @@
 -- Each step is what the definition names.
-use Rattle.lists.specs.Basics.{rules}
 use Rattle.line_bytes.proofs.stands.Goals as goal
 
 pub returns : goal.returns

@@ -1,6 +1,6 @@
 -- The law on two parts, of eight and of two bytes.
 use Rattle.std.specs.Prelude.{◌<◌}
-use Rattle.lists.specs.Basics.{ℕ, get_or, arith, rules}
+use Rattle.lists.specs.Basics.{ℕ, get_or, arith}
 use Rattle.line_bytes.specs.Loads.{split_equal}
 use Rattle.line_bytes.proofs.ten_equal.Goals as goal
 

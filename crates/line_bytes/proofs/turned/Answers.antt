@@ -1,7 +1,7 @@
 -- The loop's invariant: i bytes are taken over, as a number below 256 ^ i, and the number with the bytes that are left is that of all n.
-use Rattle.std.specs.Prelude.{◌≡◌, ◌-◌, ◌%◌, ◌^◌, ◌≤◌, ◌<◌}
+use Rattle.std.specs.Prelude.{◌≡◌, ◌-◌, ◌%◌}
 use Rattle.std.proofs.Common.{◌∙◌}
-use Rattle.lists.specs.Basics.{sym, arith, rules}
+use Rattle.lists.specs.Basics.{sym, arith}
 use Rattle.line_bytes.specs.Order.{number_room, number_fits}
 use Rattle.line_bytes.specs.Loads.{turned, turned_next}
 use Rattle.line_bytes.proofs.turned.Goals as goal

@@ -1,5 +1,4 @@
 -- Case by case, what the call answers and leaves is what the law of its kind wants.
-use Rattle.lists.specs.Basics.{rules}
 use Rattle.perform.specs.Performing.{begun, was_read, was_second, was_put, advanced, aborted, was_visited, was_closed}
 use Rattle.perform.proofs.perform.Goals as goal
 

@@ -1,7 +1,7 @@
 -- What each call leaves, one after another.
 use Rattle.std.specs.Prelude.{◌≡◌, ◌-◌, ◌++◌}
 use Rattle.std.proofs.Common.{◌∙◌}
-use Rattle.lists.specs.Basics.{ap, ap₂, ℕ, length, drop, length-append, length-drop, arith, rules}
+use Rattle.lists.specs.Basics.{ap, ap₂, ℕ, length, drop, length-append, length-drop, arith}
 use Rattle.put_groups.specs.GroupsIn.{no_groups}
 use Rattle.put_groups.specs.Scopes.{count_lasts, places_of, length_each, lent_front}
 use Rattle.put_groups.proofs.groups_by.Goals as goal

@@ -1,6 +1,6 @@
 -- The numbers lent are those of the entries in use, and what is found by them are the groups.
 use Rattle.std.proofs.Common.{◌∙◌}
-use Rattle.lists.specs.Basics.{ap, length, length-append, length-drop, arith, rules}
+use Rattle.lists.specs.Basics.{ap, length, length-append, length-drop, arith}
 use Rattle.transactions.specs.Held.{has_room_lem, length_mapped}
 use Rattle.transactions.specs.Units.{units_in}
 use Rattle.put_groups.specs.Scopes.{put_fields, length-rows, lent_front}

@@ -1,5 +1,4 @@
 -- By what was read.
-use Rattle.lists.specs.Basics.{rules}
 use Rattle.reads.proofs.answer.Goals as goal
 
 pub returns-in-Absent : goal.returns-in-Absent

@@ -1,5 +1,4 @@
 -- Field by field.
-use borrow.Author.Rules.{rules}
 use Rattle.reads.proofs.entry_of.Goals as goal
 
 pub returns : goal.returns

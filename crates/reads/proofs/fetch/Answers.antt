@@ -7,7 +7,6 @@ use Rattle.call_laws.specs.Accepted.{outcome_refused}
 use Rattle.admission.specs.Admission.{opened}
 use Rattle.answers.specs.Answers.{to_performed}
 use Rattle.reads.specs.Fetching.{fetch_away, fetch_none}
-use borrow.Author.Rules.{rules}
 use Rattle.reads.proofs.fetch.Goals as goal
 
 pub open_refusal-refused-requires : goal.open_refusal-refused-requires

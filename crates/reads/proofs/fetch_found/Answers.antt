@@ -1,6 +1,6 @@
 -- A held key is read from its entry, a new one from its line.
 use Rattle.std.proofs.Common.{◌∙◌}
-use Rattle.lists.specs.Basics.{sym, arith, rules}
+use Rattle.lists.specs.Basics.{sym, arith}
 use Rattle.transactions.specs.Held.{held_below}
 use Rattle.reads.specs.Fetching.{read_few, read_held_lem, new_read_lem, read_found}
 use Rattle.reads.proofs.fetch_found.Goals as goal

@@ -1,7 +1,7 @@
 -- By which call it is, and the case of the letter of the line's storage.
 use Rattle.std.specs.Prelude.{◌&&◌}
 use Rattle.std.proofs.Common.{◌∙◌}
-use Rattle.lists.specs.Basics.{sym, ap₂, Bool, not, arith, rules}
+use Rattle.lists.specs.Basics.{sym, ap₂, Bool, not, arith}
 use Rattle.recover.specs.Recovering.{line_at}
 use Rattle.call_laws.specs.Accepted.{outcome_refused}
 use Rattle.answers.specs.Answers.{to_performed}

@@ -1,6 +1,6 @@
 -- The ninth key is refused; otherwise the columns are those of the line.
 use Rattle.std.proofs.Common.{◌∙◌}
-use Rattle.lists.specs.Basics.{ap, le-leb, lt-leb, rules}
+use Rattle.lists.specs.Basics.{ap, le-leb, lt-leb}
 use Rattle.types.specs.declared.Reading.TheVariants.{First}
 use Rattle.model.specs.Types.{Columns}
 use Rattle.answers.specs.Answers.{performed_as}

@@ -1,6 +1,6 @@
 -- The new entry is what the record shows.
 use Rattle.std.proofs.Common.{◌∙◌}
-use Rattle.lists.specs.Basics.{ap₂, rules}
+use Rattle.lists.specs.Basics.{ap₂}
 use Rattle.answers.specs.Answers.{performed_as}
 use Rattle.reads.proofs.hold.Goals as goal
 

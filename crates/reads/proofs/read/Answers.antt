@@ -1,5 +1,4 @@
 -- The first call.
-use Rattle.lists.specs.Basics.{rules}
 use Rattle.reads.proofs.read.Goals as goal
 
 pub fetch-requires : goal.fetch-requires

@@ -1,6 +1,6 @@
 -- The entry's reading, with the transaction as it came.
 use Rattle.std.proofs.Common.{◌∙◌}
-use Rattle.lists.specs.Basics.{ap, rules}
+use Rattle.lists.specs.Basics.{ap}
 use Rattle.model.specs.Types.{Reading}
 use Rattle.model.specs.Transactions.{reading}
 use Rattle.answers.specs.Answers.{performed_as}

@@ -1,5 +1,4 @@
 -- By what the visit came to.
-use Rattle.lists.specs.Basics.{rules}
 use Rattle.reads.proofs.read_met.Goals as goal
 
 pub returns-in-Stays : goal.returns-in-Stays

@@ -1,5 +1,4 @@
 -- The ninth key is refused; otherwise the line as the visit leaves it is read.
-use Rattle.lists.specs.Basics.{rules}
 use Rattle.call_laws.specs.Accepted.{outcome_refused}
 use Rattle.answers.specs.Answers.{to_performed}
 use Rattle.reads.specs.Fetching.{read_standing, read_full, read_outcome}

@@ -1,5 +1,4 @@
 -- The second call.
-use Rattle.lists.specs.Basics.{rules}
 use Rattle.reads.proofs.second.Goals as goal
 
 pub fetch-requires : goal.fetch-requires

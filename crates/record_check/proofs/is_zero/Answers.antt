@@ -1,6 +1,6 @@
 -- The two bytes as a number are those of the definition.
 use Rattle.std.specs.Prelude.{◌≡◌, ◌-◌}
-use Rattle.lists.specs.Basics.{length, take, drop, length-take, length-drop, arith, rules, bytes}
+use Rattle.lists.specs.Basics.{length, take, drop, length-take, length-drop, arith, bytes}
 use Rattle.line_bytes.specs.Loads.{loaded}
 use Rattle.record_check.specs.Asked.{zero_end, zero_up_to, zero_loaded}
 use Rattle.record_check.proofs.is_zero.Goals as goal

@@ -1,6 +1,6 @@
 -- The last line has no next key; of any other, the next line's key stands a line's bytes on.
 use Rattle.std.specs.Prelude.{◌≡◌, ◌+◌, ◌-◌, ◌*◌}
-use Rattle.lists.specs.Basics.{suc, drop-drop, arith, rules}
+use Rattle.lists.specs.Basics.{suc, drop-drop, arith}
 use Rattle.record_check.specs.Sheet.{key_before}
 use Rattle.model.specs.Layouts.{record_bytes}
 use Rattle.record_check.proofs.key_rises.Goals as goal

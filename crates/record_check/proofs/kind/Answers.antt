@@ -1,11 +1,10 @@
 -- Eight bytes of the line as a number are compared with those of the words, one byte with that of a before state, and the rest is what the definition names.
 use Rattle.std.specs.Prelude.{◌≡◌, ◌+◌, ◌*◌}
-use Rattle.lists.specs.Basics.{arith, rules, bytes}
+use Rattle.lists.specs.Basics.{arith, bytes}
 use Rattle.model.specs.Layouts.{record_layout, words, offset}
 use Rattle.line_bytes.specs.Loads.{loaded}
 use Rattle.record_check.specs.States.{kinds, kind_told}
 use Rattle.record_check.specs.Line.{kind_of, kind_known}
-use borrow.Author.Rules.{rules}
 use Rattle.record_check.proofs.kind.Goals as goal
 
 pub returns : goal.returns

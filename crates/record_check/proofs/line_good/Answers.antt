@@ -2,7 +2,7 @@
 -- the clock is the answer, by its first digit where that is enough.
 use Rattle.std.specs.Prelude.{◌≡◌, ◌&&◌}
 use Rattle.std.proofs.Common.{◌∙◌}
-use Rattle.lists.specs.Basics.{sym, ap, true, and-false, length, arith, not-true, not-false, rules, bytes}
+use Rattle.lists.specs.Basics.{sym, ap, true, and-false, length, arith, bytes}
 use Rattle.model.specs.Layouts.{record_layout, offset}
 use Rattle.line_bytes.specs.Parts.{parts_ok}
 use Rattle.record_check.specs.States.{kind_at, kind_parts, asked}

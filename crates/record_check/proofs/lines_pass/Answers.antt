@@ -1,7 +1,7 @@
 -- The loop's invariant: what is left from line i on decides as the whole does. A line that is not good, or a key that does not rise, ends it.
-use Rattle.std.specs.Prelude.{◌≡◌, ◌+◌, ◌-◌, ◌*◌, ◌≤◌}
+use Rattle.std.specs.Prelude.{◌≡◌, ◌+◌, ◌-◌, ◌*◌}
 use Rattle.std.proofs.Common.{◌∙◌}
-use Rattle.lists.specs.Basics.{sym, and-false, take, drop, arith, not-true, not-false, rules}
+use Rattle.lists.specs.Basics.{sym, and-false, take, drop, arith}
 use Rattle.record_check.specs.Line.{line_good}
 use Rattle.record_check.specs.Sheet.{lines_pass, pass_next}
 use Rattle.model.specs.Layouts.{record_bytes}

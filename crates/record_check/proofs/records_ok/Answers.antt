@@ -1,6 +1,6 @@
 -- The law on accepted lines: whole, at most 500 of them, and they pass. What is lent is what the laws ask for, byte by byte.
 use Rattle.std.specs.Prelude.{◌*◌, ◌/◌}
-use Rattle.lists.specs.Basics.{refl, sym, and-false, length, arith, eq-eqb, ne_eqb, le-leb, lt-leb, rules, joined, bytes}
+use Rattle.lists.specs.Basics.{refl, sym, and-false, length, arith, eq-eqb, ne_eqb, le-leb, lt-leb, joined, bytes}
 use Rattle.decimal.specs.Field.{field_text, ahead}
 use Rattle.model.specs.Layouts.{record_layout, words, record_bytes}
 use Rattle.model.specs.Lines.{field_bytes}

@@ -1,5 +1,4 @@
 -- What each kind asks for, by the test of its number.
-use Rattle.lists.specs.Basics.{rules}
 use Rattle.model.specs.Layouts.{record_layout, offset}
 use Rattle.record_check.specs.States.{asked_alone, asked-over}
 use Rattle.record_check.proofs.related.Goals as goal

@@ -1,6 +1,6 @@
 -- The front's lines decide, where the sheet has its size.
 use Rattle.std.proofs.Common.{◌∙◌}
-use Rattle.lists.specs.Basics.{sym, ap, ℕ, length-take, take, arith, rules, not-true, not-false}
+use Rattle.lists.specs.Basics.{sym, ap, ℕ, length-take, take, arith, rules}
 use Rattle.model.specs.Layouts.{record_bytes}
 use Rattle.model.specs.Records.{records_accepted}
 use Rattle.model.specs.Spares.{front}

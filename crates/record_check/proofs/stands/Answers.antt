@@ -1,7 +1,7 @@
 -- Both parts, the first column and LF, by the law on the tables of a kind.
 use Rattle.std.specs.Prelude.{◌≡◌, ◌-◌}
 use Rattle.std.proofs.Common.{◌∙◌}
-use Rattle.lists.specs.Basics.{sym, and-false, arith, not-true, not-false, rules}
+use Rattle.lists.specs.Basics.{sym, and-false, arith}
 use Rattle.record_check.specs.Tables.{row_bytes, part_stands, front_bytes, back_at, tables_are}
 use Rattle.record_check.proofs.stands.Goals as goal
 

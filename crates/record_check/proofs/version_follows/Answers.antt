@@ -1,5 +1,5 @@
 -- By the test for a 9 at the end of before version.
-use Rattle.lists.specs.Basics.{eq-eqb, ne_eqb, rules}
+use Rattle.lists.specs.Basics.{eq-eqb, ne_eqb}
 use Rattle.model.specs.Layouts.{record_layout, offset}
 use Rattle.record_check.specs.Relations.{follows}
 use Rattle.record_check.proofs.version_follows.Goals as goal

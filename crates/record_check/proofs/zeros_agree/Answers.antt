@@ -1,5 +1,4 @@
 -- Both tests are those of the definition.
-use Rattle.lists.specs.Basics.{rules}
 use Rattle.model.specs.Layouts.{record_layout}
 use Rattle.record_check.specs.Asked.{zeros_agree}
 use Rattle.record_check.proofs.zeros_agree.Goals as goal

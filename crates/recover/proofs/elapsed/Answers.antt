@@ -1,5 +1,5 @@
 -- What added to the earlier reading wraps to the later one is what has elapsed.
-use Rattle.lists.specs.Basics.{arith, rules}
+use Rattle.lists.specs.Basics.{arith}
 use Rattle.recover.specs.Clocks.{elapsed_is}
 use Rattle.recover.proofs.elapsed.Goals as goal
 

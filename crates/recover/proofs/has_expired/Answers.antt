@@ -1,5 +1,4 @@
 -- The code is the definition, with the ticks counted by `elapsed`.
-use Rattle.lists.specs.Basics.{rules}
 use Rattle.recover.proofs.has_expired.Goals as goal
 
 pub returns : goal.returns

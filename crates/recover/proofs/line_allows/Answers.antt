@@ -1,6 +1,6 @@
 -- By whose line it is: nobody's, another number's, the number's own.
 use Rattle.std.proofs.Common.{◌∙◌}
-use Rattle.lists.specs.Basics.{sym, not-true, not-false, rules}
+use Rattle.lists.specs.Basics.{sym}
 use Rattle.model.specs.Images.{line_expired}
 use Rattle.recover.specs.Clocks.{allows_still, allows_other, allows_own}
 use Rattle.recover.specs.Recovering.{line_at}

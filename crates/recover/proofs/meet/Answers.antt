@@ -1,6 +1,6 @@
 -- The definition's parts in turn: whether the line is prepared, its owner's decision, whether the owner has expired.
 use Rattle.std.proofs.Common.{◌∙◌}
-use Rattle.lists.specs.Basics.{sym, not-true, not-false, rules}
+use Rattle.lists.specs.Basics.{sym}
 use Rattle.model.specs.Images.{recovery}
 use Rattle.model.specs.Visits.{meeting}
 use Rattle.recover.proofs.meet.Goals as goal

@@ -1,9 +1,9 @@
 -- The loop's invariant: no line before i has kept the number from having expired, so that those from i on decide as all do. One that does ends it.
-use Rattle.std.specs.Prelude.{◌-◌, ◌/◌, ◌≤◌, ◌<◌}
+use Rattle.std.specs.Prelude.{◌/◌, ◌≤◌, ◌<◌}
 use Rattle.std.proofs.Common.{◌∙◌}
-use Rattle.lists.specs.Basics.{sym, length, arith, not-true, not-false, rules}
+use Rattle.lists.specs.Basics.{sym, length, arith}
 use Rattle.model.specs.Layouts.{record_bytes}
-use Rattle.recover.specs.Clocks.{AllowedTo, allow_first, allow_not, allow_next, allow_last}
+use Rattle.recover.specs.Clocks.{allow_first, allow_not, allow_next, allow_last}
 use Rattle.recover.proofs.number_expired.Goals as goal
 
 pub loop-i-init : goal.loop-i-init

@@ -1,5 +1,4 @@
 -- Each decision has its own answer, and undecided the number's.
-use Rattle.lists.specs.Basics.{rules}
 use Rattle.recover.proofs.pending.Goals as goal
 
 pub returns-in-Undecided : goal.returns-in-Undecided

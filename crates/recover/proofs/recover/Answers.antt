@@ -1,5 +1,4 @@
 -- A visit writes only where the line is prepared, as what it came to tells.
-use Rattle.lists.specs.Basics.{rules}
 use Rattle.model.specs.ByteCalls.{sheets_of}
 use Rattle.recover.specs.Recovering.{line_at, meeting-pending}
 use Rattle.recover.proofs.recover.Goals as goal

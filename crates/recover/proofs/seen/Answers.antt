@@ -1,5 +1,4 @@
 -- By the case of the letter, and the record's state.
-use Rattle.lists.specs.Basics.{not-true, not-false, rules}
 use Rattle.model.specs.Calls.{seen_second}
 use Rattle.recover.proofs.seen.Goals as goal
 

@@ -1,5 +1,4 @@
 -- By what the visit came to: nothing written, one line, or one decision.
-use Rattle.lists.specs.Basics.{rules}
 use Rattle.model.specs.Visits.{recovery_write}
 use Rattle.call_laws.specs.Accepted.{written_nothing}
 use Rattle.recover.specs.Recovering.{pending, settle_forward, settle_back, settle_again}

@@ -1,11 +1,7 @@
 -- The lines behind the last one compared are spares.
-use Rattle.std.specs.Prelude.{◌≡◌, ◌≤◌}
 use Rattle.std.proofs.Common.{◌∙◌}
-use Rattle.lists.specs.Basics.{sym, arith, not-true, not-false, rules, length}
-use Rattle.model.specs.Layouts.{record_bytes}
-use Rattle.model.specs.Spares.{spare_line}
-use Rattle.shifting.specs.Counting.{SparesFrom, spares-first, line_before, at_least, no_spare_lem, one-spare, none_left}
-use borrow.Author.Rules.{rules}
+use Rattle.lists.specs.Basics.{sym, arith}
+use Rattle.shifting.specs.Counting.{spares-first, line_before, at_least, no_spare_lem, one-spare, none_left}
 use Rattle.shifting.proofs.front_end.Goals as goal
 
 pub loop-end-init : goal.loop-end-init

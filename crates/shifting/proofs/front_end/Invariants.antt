@@ -1,11 +1,9 @@
 -- The lines behind the last one compared are spares.
 use Rattle.std.specs.Prelude.{◌≡◌, ◌≤◌}
-use Rattle.std.proofs.Common.{◌∙◌}
-use Rattle.lists.specs.Basics.{sym, arith, not-true, not-false, rules, length}
+use Rattle.lists.specs.Basics.{length}
 use Rattle.model.specs.Layouts.{record_bytes}
 use Rattle.model.specs.Spares.{spare_line}
-use Rattle.shifting.specs.Counting.{SparesFrom, spares-first, line_before, at_least, no_spare_lem, one-spare, none_left}
-use borrow.Author.Rules.{rules}
+use Rattle.shifting.specs.Counting.{SparesFrom}
 use Rattle.shifting.proofs.front_end.Given as goal
 
 abbrev pub invariant-loop-end : goal.invariant-loop-end

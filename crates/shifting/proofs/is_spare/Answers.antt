@@ -1,12 +1,11 @@
 -- The tens before k are those of a spare.
-use Rattle.std.specs.Prelude.{◌*◌, ◌/◌, ◌≤◌, ◌≡◌, ◌-◌}
+use Rattle.std.specs.Prelude.{◌*◌, ◌/◌, ◌≡◌}
 use Rattle.std.proofs.Common.{◌∙◌}
-use Rattle.lists.specs.Basics.{refl, sym, ap, take, drop, arith, not-true, not-false, length, rules, ℕ}
+use Rattle.lists.specs.Basics.{refl, sym, ap, take, drop, arith, length, ℕ}
 use Rattle.model.specs.Spares.{spare_line}
 use Rattle.model.specs.Layouts.{record_bytes}
 use Rattle.sheet_laws.specs.Fronts.{length-spare}
 use Rattle.shifting.specs.Comparing.{ten-differs, ten_more, last_ten}
-use borrow.Author.Rules.{rules}
 use Rattle.shifting.proofs.is_spare.Goals as goal
 
 pub overflow_sub-from : goal.overflow_sub-from

@@ -1,12 +1,7 @@
 -- The tens before k are those of a spare.
 use Rattle.std.specs.Prelude.{◌*◌, ◌/◌, ◌≤◌, ◌≡◌, ◌-◌}
-use Rattle.std.proofs.Common.{◌∙◌}
-use Rattle.lists.specs.Basics.{refl, sym, ap, take, drop, arith, not-true, not-false, length, rules, ℕ}
+use Rattle.lists.specs.Basics.{take, drop}
 use Rattle.model.specs.Spares.{spare_line}
-use Rattle.model.specs.Layouts.{record_bytes}
-use Rattle.sheet_laws.specs.Fronts.{length-spare}
-use Rattle.shifting.specs.Comparing.{ten-differs, ten_more, last_ten}
-use borrow.Author.Rules.{rules}
 use Rattle.shifting.proofs.is_spare.Given as goal
 
 abbrev pub invariant-loop-k : goal.invariant-loop-k

@@ -2,7 +2,6 @@
 use Rattle.lists.specs.Basics.{sym}
 use lib.Seq.{length-take-le}
 use Rattle.shifting.specs.Moves.{held_room, held_lent, block_moved}
-use borrow.Author.Rules.{rules}
 use Rattle.shifting.proofs.move_block.Goals as goal
 
 pub slice_bounds-put-end : goal.slice_bounds-put-end

@@ -1,10 +1,9 @@
 -- The loop keeps that what stands from i on is what stood a line further up; less than a block is left at its end.
-use Rattle.std.specs.Prelude.{◌+◌, ◌-◌, ◌≤◌, ◌≡◌}
+use Rattle.std.specs.Prelude.{◌+◌, ◌-◌, ◌≡◌}
 use Rattle.std.proofs.Common.{◌∙◌}
-use Rattle.lists.specs.Basics.{ℕ, refl, ap, arith, length}
+use Rattle.lists.specs.Basics.{ℕ, refl, ap, arith}
 use Rattle.shifting.specs.Shifted.{block_bytes}
 use Rattle.shifting.specs.Moves.{down_to, down_first, down_more, down_last}
-use borrow.Author.Rules.{rules}
 use Rattle.shifting.proofs.move_down.Goals as goal
 
 pub loop-i-init : goal.loop-i-init

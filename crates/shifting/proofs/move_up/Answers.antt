@@ -1,10 +1,8 @@
 -- The loop keeps that what stands up to i is what stood a line further down; less than a block is left at its end.
-use Rattle.std.specs.Prelude.{◌-◌, ◌≤◌, ◌≡◌}
 use Rattle.std.proofs.Common.{◌∙◌}
-use Rattle.lists.specs.Basics.{refl, arith, length}
+use Rattle.lists.specs.Basics.{refl, arith}
 use Rattle.shifting.specs.Shifted.{block_bytes}
-use Rattle.shifting.specs.Moves.{up_to, up_first, up_more, up_last}
-use borrow.Author.Rules.{rules}
+use Rattle.shifting.specs.Moves.{up_first, up_more, up_last}
 use Rattle.shifting.proofs.move_up.Goals as goal
 
 pub loop-i-init : goal.loop-i-init

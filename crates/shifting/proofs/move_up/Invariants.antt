@@ -1,10 +1,7 @@
 -- The loop keeps that what stands up to i is what stood a line further down; less than a block is left at its end.
 use Rattle.std.specs.Prelude.{◌-◌, ◌≤◌, ◌≡◌}
-use Rattle.std.proofs.Common.{◌∙◌}
-use Rattle.lists.specs.Basics.{refl, arith, length}
-use Rattle.shifting.specs.Shifted.{block_bytes}
-use Rattle.shifting.specs.Moves.{up_to, up_first, up_more, up_last}
-use borrow.Author.Rules.{rules}
+use Rattle.lists.specs.Basics.{length}
+use Rattle.shifting.specs.Moves.{up_to}
 use Rattle.shifting.proofs.move_up.Given as goal
 
 abbrev pub invariant-loop-i : goal.invariant-loop-i

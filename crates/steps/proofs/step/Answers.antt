@@ -1,5 +1,5 @@
 -- By the phase; in done, or in no phase, nothing is done.
-use Rattle.lists.specs.Basics.{refl, rules}
+use Rattle.lists.specs.Basics.{refl}
 use Rattle.steps.specs.Ready.{records_accepted_lem, coordinator_readable_lem, known}
 use Rattle.steps.specs.Stepped.{wrote_nothing}
 use Rattle.steps.specs.Cases.{stepped_as, step_at_lem, step-none}

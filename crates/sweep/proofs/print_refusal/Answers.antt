@@ -1,5 +1,5 @@
 -- The text is made in an array, and put over the first bytes.
-use Rattle.lists.specs.Basics.{length-append, length-take, arith, rules, bytes}
+use Rattle.lists.specs.Basics.{length-append, length-take, arith, bytes}
 use Rattle.sweep.specs.Output.{refusal_printed}
 use Rattle.sweep.proofs.print_refusal.Goals as goal
 

@@ -1,7 +1,7 @@
 -- The sheets are visited in two beginnings, and the record sheet is then put after the coordinator sheet.
 use Rattle.std.specs.Prelude.{◌-◌}
 use Rattle.std.proofs.Common.{◌∙◌}
-use Rattle.lists.specs.Basics.{sym, ap, subst, length, length-take, arith, rules}
+use Rattle.lists.specs.Basics.{sym, ap, subst, length, length-take, arith}
 use Rattle.sweep.specs.FirstLine.{Small, records_from, first_small, accepted_input}
 use Rattle.sweep.specs.Sizes.{parts}
 use Rattle.sweep.specs.Output.{sheets-printed}

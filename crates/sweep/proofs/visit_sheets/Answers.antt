@@ -1,6 +1,6 @@
 -- Both slices hold the input's sheets before the passes, which then leave the definition's.
 use Rattle.std.proofs.Common.{◌∙◌}
-use Rattle.lists.specs.Basics.{sym, ap, ap₂, subst, arith, rules}
+use Rattle.lists.specs.Basics.{sym, ap, ap₂, subst, arith}
 use Rattle.sweep.specs.declared.FirstLine.{FirstLine}
 use Rattle.model.specs.Visitor.{swept}
 use Rattle.model.specs.ByteHistories.{Bytes, Passing}
@@ -33,5 +33,5 @@ pub returns : goal.returns
 returns c =
     let a = c.args in
     let e = loaded a.input.now a.records.now a.coordinator.now _ _ c.records_from-from.result c.requires (c.records_from-from.ensures ∙ ap records_from c.numbers-first.ensures) c.put-2.ensures c.put.ensures in
-    let v = c.sweep.ensures ∙ ap₂ swept (ap (λ (f : FirstLine). f.clock) c.numbers-first.ensures) e in 
-      record { lines = ap (λ (b : Bytes). b.records) v; decisions = ap (λ (b : Bytes). b.coordinator) v }
+    let v = c.sweep.ensures ∙ ap₂ swept (ap (λ (f : FirstLine). f.clock) c.numbers-first.ensures) e in
+    record { lines = ap (λ (b : Bytes). b.records) v; decisions = ap (λ (b : Bytes). b.coordinator) v }

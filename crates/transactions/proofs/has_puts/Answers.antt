@@ -1,9 +1,8 @@
 -- No entry before i has a put.
-use Rattle.std.specs.Prelude.{◌-◌}
 use Rattle.std.proofs.Common.{◌∙◌}
-use Rattle.lists.specs.Basics.{eq-eqb, ne_eqb, rules, any}
+use Rattle.lists.specs.Basics.{eq-eqb, ne_eqb}
 use Rattle.model.specs.Transactions.{held, is_put, puts}
-use Rattle.transactions.specs.Held.{PassedTo, pass-first, any_met, any_next, any_last, some_kept}
+use Rattle.transactions.specs.Held.{pass-first, any_met, any_next, any_last, some_kept}
 use Rattle.transactions.proofs.has_puts.Goals as goal
 
 pub loop-i-init : goal.loop-i-init

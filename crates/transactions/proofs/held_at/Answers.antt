@@ -1,12 +1,8 @@
 -- No entry before i holds the key.
-use Rattle.std.specs.Prelude.{◌-◌}
 use Rattle.std.proofs.Common.{◌∙◌}
 use Rattle.lists.specs.Basics.{sym, rules}
-use Rattle.model.specs.Types.{Entry}
-use Rattle.model.specs.Search.{first_from}
-use Rattle.model.specs.Records.{same_key}
 use Rattle.model.specs.Transactions.{held_at}
-use Rattle.transactions.specs.Held.{PassedTo, pass-first, first-met, first_next, first_last}
+use Rattle.transactions.specs.Held.{pass-first, first-met, first_next, first_last}
 use Rattle.transactions.proofs.held_at.Goals as goal
 
 pub overflow_cast-n : goal.overflow_cast-n

@@ -1,12 +1,7 @@
 -- No entry before i is of such a storage.
-use Rattle.std.specs.Prelude.{◌-◌}
 use Rattle.std.proofs.Common.{◌∙◌}
-use Rattle.lists.specs.Basics.{sym, rules, any}
-use Rattle.model.specs.Types.{Entry}
-use Rattle.model.specs.Groups.{is_lower}
-use Rattle.model.specs.Transactions.{held}
-use Rattle.transactions.specs.Held.{PassedTo, pass-first, any_met, any_next, any_last}
-use Rattle.transactions.specs.Units.{units_in}
+use Rattle.lists.specs.Basics.{sym}
+use Rattle.transactions.specs.Held.{pass-first, any_met, any_next, any_last}
 use Rattle.transactions.proofs.holds_lower.Goals as goal
 
 pub loop-i-init : goal.loop-i-init

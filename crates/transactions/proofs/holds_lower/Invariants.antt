@@ -1,11 +1,10 @@
 -- No entry before i is of such a storage.
 use Rattle.std.specs.Prelude.{◌-◌}
-use Rattle.std.proofs.Common.{◌∙◌}
-use Rattle.lists.specs.Basics.{sym, rules, any}
+use Rattle.lists.specs.Basics.{any}
 use Rattle.model.specs.Types.{Entry}
 use Rattle.model.specs.Groups.{is_lower}
 use Rattle.model.specs.Transactions.{held}
-use Rattle.transactions.specs.Held.{PassedTo, pass-first, any_met, any_next, any_last}
+use Rattle.transactions.specs.Held.{PassedTo}
 use Rattle.transactions.specs.Units.{units_in}
 use Rattle.transactions.proofs.holds_lower.Given as goal
 

@@ -1,5 +1,5 @@
 -- The letter of the storage, case by case in the order of the code's tests.
-use Rattle.lists.specs.Basics.{sym, ap, rules}
+use Rattle.lists.specs.Basics.{sym, ap}
 use Rattle.model.specs.Coordinator.{Letter}
 use Rattle.transactions.specs.Units.{letter_in, letter-none, letter_past, letter_at}
 use Rattle.transactions.proofs.is_lower.Goals as goal

@@ -1,5 +1,5 @@
 -- The tests in turn are those of the definition, by the number that says whether the transaction is serializable.
-use Rattle.lists.specs.Basics.{eq-eqb, ne_eqb, rules}
+use Rattle.lists.specs.Basics.{eq-eqb, ne_eqb}
 use Rattle.transactions.proofs.must_validate.Goals as goal
 
 pub returns-then-e-eq1 : goal.returns-then-e-eq1

@@ -1,5 +1,4 @@
 -- By the test.
-use Rattle.lists.specs.Basics.{rules}
 use Rattle.transactions.proofs.tally.Goals as goal
 
 pub returns-then-counts : goal.returns-then-counts

@@ -1,10 +1,8 @@
 -- The entry wanted is the one at index `ahead` among those still to come.
-use Rattle.std.specs.Prelude.{◌-◌}
 use Rattle.std.proofs.Common.{◌∙◌}
 use Rattle.lists.specs.Basics.{refl, sym, rules}
-use Rattle.model.specs.Transactions.{held, must_validate, to_validate}
-use Rattle.transactions.specs.Held.{PassedTo, kept_at, pass-first, kept_met, kept_next, kept_skip, kept_last}
-use Rattle.transactions.specs.Units.{units_in}
+use Rattle.model.specs.Transactions.{to_validate}
+use Rattle.transactions.specs.Held.{pass-first, kept_met, kept_next, kept_skip, kept_last}
 use Rattle.transactions.proofs.to_validate.Goals as goal
 use Rattle.transactions.proofs.to_validate.Goals.{then-must_validate+else-ahead-eq0, else-must_validate}
 

@@ -1,11 +1,8 @@
 -- As many of the entries before i are to be validated as were found.
-use Rattle.std.specs.Prelude.{◌-◌}
 use Rattle.std.proofs.Common.{◌∙◌}
-use Rattle.lists.specs.Basics.{refl, List, rules}
-use Rattle.model.specs.Types.{Entry}
-use Rattle.model.specs.Transactions.{held, must_validate, to_validate}
-use Rattle.transactions.specs.Held.{TalliedTo, tallied, tally_first, tally_next, tally_last, tallied_kept}
-use Rattle.transactions.specs.Units.{units_in}
+use Rattle.lists.specs.Basics.{refl}
+use Rattle.model.specs.Transactions.{held, to_validate}
+use Rattle.transactions.specs.Held.{tally_first, tally_next, tally_last, tallied_kept}
 use Rattle.transactions.proofs.validate_count.Goals as goal
 
 pub loop-i-init : goal.loop-i-init

@@ -1,10 +1,9 @@
 -- As many of the entries before i are to be validated as were found.
 use Rattle.std.specs.Prelude.{◌-◌}
-use Rattle.std.proofs.Common.{◌∙◌}
-use Rattle.lists.specs.Basics.{refl, List, rules}
+use Rattle.lists.specs.Basics.{List}
 use Rattle.model.specs.Types.{Entry}
-use Rattle.model.specs.Transactions.{held, must_validate, to_validate}
-use Rattle.transactions.specs.Held.{TalliedTo, tallied, tally_first, tally_next, tally_last, tallied_kept}
+use Rattle.model.specs.Transactions.{held, must_validate}
+use Rattle.transactions.specs.Held.{TalliedTo, tallied}
 use Rattle.transactions.specs.Units.{units_in}
 use Rattle.transactions.proofs.validate_count.Given as goal
 

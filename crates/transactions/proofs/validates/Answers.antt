@@ -1,5 +1,4 @@
 -- Something is to be validated exactly if the count is not 0.
-use Rattle.lists.specs.Basics.{rules}
 use Rattle.model.specs.Transactions.{to_validate}
 use Rattle.transactions.specs.Held.{some_counted}
 use Rattle.transactions.specs.Units.{units_in}

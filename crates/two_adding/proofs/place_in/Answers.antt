@@ -2,7 +2,6 @@
 use Rattle.std.proofs.Common.{◌∙◌}
 use Rattle.lists.specs.Basics.{sym, true, false, length-take, arith}
 use Rattle.two_adding.specs.Placing.{place_refused, joined_good, place_told}
-use borrow.Author.Rules.{rules}
 use Rattle.two_adding.proofs.place_in.Goals as goal
 
 pub returns-then-refused-ne0 : goal.returns-then-refused-ne0

@@ -5,7 +5,6 @@ use Rattle.model.specs.TwoSheets.{plain_bytes, bookkeeping_bytes}
 use Rattle.sheet_laws.specs.Fronts.{sized-whole}
 use Rattle.two_engine.specs.Forms.{front-plain, front-bookkeeping}
 use Rattle.two_adding.specs.Cut.{forms_told, place_of}
-use borrow.Author.Rules.{rules}
 use Rattle.two_adding.proofs.place_on.Goals as goal
 
 pub returns-then-refused-ne0 : goal.returns-then-refused-ne0
@@ -15,13 +14,13 @@ returns-then-refused-ne0 c =
 
 pub front_end-p-requires : goal.front_end-p-requires
 front_end-p-requires c =
-    let a = c.args in 
-      record { s_len = sized-whole plain_bytes a.plain.now (c.forms_refusal-refused.ensures.fit c.if-refused-ne0.false).plain; le_width = omega arith; width_le_record_bytes = omega arith }
+    let a = c.args in
+    record { s_len = sized-whole plain_bytes a.plain.now (c.forms_refusal-refused.ensures.fit c.if-refused-ne0.false).plain; le_width = omega arith; width_le_record_bytes = omega arith }
 
 pub front_end-b-requires : goal.front_end-b-requires
 front_end-b-requires c =
-    let a = c.args in 
-      record { s_len = sized-whole bookkeeping_bytes a.book.now (c.forms_refusal-refused.ensures.fit c.if-refused-ne0.false).bookkeeping; le_width = omega arith; width_le_record_bytes = omega arith }
+    let a = c.args in
+    record { s_len = sized-whole bookkeeping_bytes a.book.now (c.forms_refusal-refused.ensures.fit c.if-refused-ne0.false).bookkeeping; le_width = omega arith; width_le_record_bytes = omega arith }
 
 pub slice_bounds-place-end : goal.slice_bounds-place-end
 slice_bounds-place-end c =

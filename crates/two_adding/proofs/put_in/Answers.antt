@@ -7,7 +7,6 @@ use Rattle.two_laws.specs.TwoLines.{length-plain_line, length-bookkeeping_line}
 use Rattle.shifting.specs.Shifted.{insert_at}
 use Rattle.adding.specs.Placing.{absent_wide}
 use Rattle.two_adding.specs.Parts.{plain_alone_lem, bookkeeping_alone_lem}
-use borrow.Author.Rules.{rules}
 use Rattle.two_adding.proofs.put_in.Goals as goal
 
 pub split_plain-requires : goal.split_plain-requires
@@ -17,8 +16,8 @@ split_plain-requires c =
 
 pub insert_line-requires : goal.insert_line-requires
 insert_line-requires c =
-    let a = c.args in 
-      record { s_len = c.requires.shiftable.plain; at_in_bounds = c.requires.shiftable.in_plain; text_len = ap length (c.split_plain.ensures ∙ plain_alone_lem _ (ap length c.absent_line-line.ensures ∙ absent_wide a.key c.requires.key_value)) ∙ length-plain_line _ (ap length c.absent_line-line.ensures ∙ absent_wide a.key c.requires.key_value) }
+    let a = c.args in
+    record { s_len = c.requires.shiftable.plain; at_in_bounds = c.requires.shiftable.in_plain; text_len = ap length (c.split_plain.ensures ∙ plain_alone_lem _ (ap length c.absent_line-line.ensures ∙ absent_wide a.key c.requires.key_value)) ∙ length-plain_line _ (ap length c.absent_line-line.ensures ∙ absent_wide a.key c.requires.key_value) }
 
 pub split_bookkeeping-requires : goal.split_bookkeeping-requires
 split_bookkeeping-requires c =
@@ -27,10 +26,10 @@ split_bookkeeping-requires c =
 
 pub insert_line-requires-2 : goal.insert_line-requires-2
 insert_line-requires-2 c =
-    let a = c.args in 
-      record { s_len = c.requires.shiftable.bookkeeping; at_in_bounds = omega (arith, c.requires.shiftable.in_bookkeeping); text_len = ap length (c.split_bookkeeping.ensures ∙ bookkeeping_alone_lem _ (ap length c.absent_line-line.ensures ∙ absent_wide a.key c.requires.key_value)) ∙ length-bookkeeping_line _ (ap length c.absent_line-line.ensures ∙ absent_wide a.key c.requires.key_value) }
+    let a = c.args in
+    record { s_len = c.requires.shiftable.bookkeeping; at_in_bounds = omega (arith, c.requires.shiftable.in_bookkeeping); text_len = ap length (c.split_bookkeeping.ensures ∙ bookkeeping_alone_lem _ (ap length c.absent_line-line.ensures ∙ absent_wide a.key c.requires.key_value)) ∙ length-bookkeeping_line _ (ap length c.absent_line-line.ensures ∙ absent_wide a.key c.requires.key_value) }
 
 pub returns : goal.returns
 returns c =
-    let a = c.args in 
-      record { plain = c.insert_line.ensures ∙ ap (λ (t : List ℕ). joined (insert_at a.at t (lines_of plain_bytes a.plain.now))) ((c.split_plain.ensures ∙ plain_alone_lem _ (ap length c.absent_line-line.ensures ∙ absent_wide a.key c.requires.key_value)) ∙ ap plain_line c.absent_line-line.ensures); bookkeeping = c.insert_line-2.ensures ∙ ap (λ (t : List ℕ). joined (insert_at a.at t (lines_of bookkeeping_bytes a.book.now))) ((c.split_bookkeeping.ensures ∙ bookkeeping_alone_lem _ (ap length c.absent_line-line.ensures ∙ absent_wide a.key c.requires.key_value)) ∙ ap bookkeeping_line c.absent_line-line.ensures) }
+    let a = c.args in
+    record { plain = c.insert_line.ensures ∙ ap (λ (t : List ℕ). joined (insert_at a.at t (lines_of plain_bytes a.plain.now))) ((c.split_plain.ensures ∙ plain_alone_lem _ (ap length c.absent_line-line.ensures ∙ absent_wide a.key c.requires.key_value)) ∙ ap plain_line c.absent_line-line.ensures); bookkeeping = c.insert_line-2.ensures ∙ ap (λ (t : List ℕ). joined (insert_at a.at t (lines_of bookkeeping_bytes a.book.now))) ((c.split_bookkeeping.ensures ∙ bookkeeping_alone_lem _ (ap length c.absent_line-line.ensures ∙ absent_wide a.key c.requires.key_value)) ∙ ap bookkeeping_line c.absent_line-line.ensures) }

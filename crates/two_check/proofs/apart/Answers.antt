@@ -1,6 +1,6 @@
 -- Either sheet alone, one after the other.
 use Rattle.std.proofs.Common.{◌∙◌}
-use Rattle.lists.specs.Basics.{sym, arith, not-true, not-false, rules}
+use Rattle.lists.specs.Basics.{sym, arith}
 use Rattle.two_check.specs.Areas.{apart-plain, apart-bookkeeping, apart_keys}
 use Rattle.two_check.proofs.apart.Goals as goal
 

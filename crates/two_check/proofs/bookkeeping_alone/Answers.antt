@@ -1,6 +1,6 @@
 -- Lines that aren't whole or too many are refused by their number, the others by the check of the filled sheet, which stays in the area.
 use Rattle.std.proofs.Common.{◌∙◌}
-use Rattle.lists.specs.Basics.{length-take, arith, rules}
+use Rattle.lists.specs.Basics.{length-take, arith}
 use Rattle.model.specs.TwoSheets.{bookkeeping_bytes}
 use Rattle.two_check.specs.Areas.{joined_size, front_is, bookkeeping-cut, bookkeeping_many, bookkeeping-filled}
 use Rattle.two_check.proofs.bookkeeping_alone.Goals as goal

@@ -1,6 +1,6 @@
 -- The check speaks of what was joined.
 use Rattle.std.proofs.Common.{◌∙◌}
-use Rattle.lists.specs.Basics.{ap, rules}
+use Rattle.lists.specs.Basics.{ap}
 use Rattle.model.specs.Records.{records_accepted}
 use Rattle.two_check.proofs.both_join.Goals as goal
 

@@ -1,7 +1,7 @@
 -- The coordinator sheet by itself, and then the numbers.
 use Rattle.std.specs.Prelude.{◌&&◌}
 use Rattle.std.proofs.Common.{◌∙◌}
-use Rattle.lists.specs.Basics.{sym, ap, Bool, not-true, not-false, rules}
+use Rattle.lists.specs.Basics.{sym, ap, Bool}
 use Rattle.model.specs.SheetCalls.{all_issued}
 use Rattle.two_check.proofs.fits.Goals as goal
 

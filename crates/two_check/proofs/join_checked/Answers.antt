@@ -1,6 +1,6 @@
 -- The lines first, then the coordinator sheet beside what stands in the area.
 use Rattle.std.proofs.Common.{◌∙◌}
-use Rattle.lists.specs.Basics.{length-take, arith, not-true, not-false, rules}
+use Rattle.lists.specs.Basics.{length-take, arith}
 use Rattle.two_check.specs.Areas.{few, check_bad, check_unfit, check_fit}
 use Rattle.two_check.proofs.join_checked.Goals as goal
 

@@ -1,6 +1,6 @@
 -- By whether the keys agree: then the joined sheet decides, else either sheet alone.
 use Rattle.std.proofs.Common.{◌∙◌}
-use Rattle.lists.specs.Basics.{sym, take, length-take, arith, not-true, not-false, rules}
+use Rattle.lists.specs.Basics.{sym, take, length-take, arith}
 use Rattle.model.specs.TwoSheets.{plain_bytes}
 use Rattle.lists.specs.Fill.{front_length}
 use Rattle.two_check.specs.Areas.{joined_size, front_is, joined_sizes, lines_differ, lines_many, lines_bad, lines_good}

@@ -1,5 +1,5 @@
 -- Lines that aren't whole or too many are refused by their number, the others by the check of the filled sheet.
-use Rattle.lists.specs.Basics.{length-take, arith, rules}
+use Rattle.lists.specs.Basics.{length-take, arith}
 use Rattle.two_check.specs.Areas.{plain-cut, plain_many, plain_filled_lem}
 use Rattle.two_check.proofs.plain_alone.Goals as goal
 

@@ -1,5 +1,4 @@
 -- What is asked is the call of this name.
-use Rattle.lists.specs.Basics.{rules}
 use Rattle.model.specs.Requests.{operation_of}
 use Rattle.two_engine.proofs.advance.Goals as goal
 

@@ -1,6 +1,6 @@
 -- What is asked is the call of this name, of a new transaction.
 use Rattle.std.proofs.Common.{◌∙◌}
-use Rattle.lists.specs.Basics.{ap, rules}
+use Rattle.lists.specs.Basics.{ap}
 use Rattle.model.specs.Types.{Transaction}
 use Rattle.model.specs.Results as model
 use Rattle.model.specs.Operations.{once}

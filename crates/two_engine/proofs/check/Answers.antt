@@ -1,7 +1,6 @@
 -- Refused first, or by the check of the lines before the spares.
-use Rattle.std.specs.Prelude.{◌-◌}
 use Rattle.std.proofs.Common.{◌∙◌}
-use Rattle.lists.specs.Basics.{ap₂, ℕ, length-take, take, arith, rules}
+use Rattle.lists.specs.Basics.{ap₂, ℕ, length-take, take, arith}
 use Rattle.model.specs.TwoSheets.{plain_bytes, bookkeeping_bytes}
 use Rattle.sheet_laws.specs.Fronts.{sized-whole}
 use Rattle.lists.specs.Basics.{[]}
@@ -9,7 +8,6 @@ use Rattle.model.specs.Spares.{front}
 use Rattle.model.specs.Refusals.{refusal_of}
 use Rattle.model.specs.TwoSheets.{full_conditions}
 use Rattle.two_engine.specs.Forms.{front-plain, front-bookkeeping, refusal_cut}
-use borrow.Author.Rules.{rules}
 use Rattle.two_engine.proofs.check.Goals as goal
 
 pub returns-then-refused-ne0 : goal.returns-then-refused-ne0
@@ -17,13 +15,13 @@ returns-then-refused-ne0 c = c.forms_refusal-refused.ensures.refused c.if-refuse
 
 pub front_end-p-requires : goal.front_end-p-requires
 front_end-p-requires c =
-    let a = c.args in 
-      record { s_len = sized-whole plain_bytes a.plain.now (c.forms_refusal-refused.ensures.fit c.if-refused-ne0.false).plain; le_width = omega arith; width_le_record_bytes = omega arith }
+    let a = c.args in
+    record { s_len = sized-whole plain_bytes a.plain.now (c.forms_refusal-refused.ensures.fit c.if-refused-ne0.false).plain; le_width = omega arith; width_le_record_bytes = omega arith }
 
 pub front_end-b-requires : goal.front_end-b-requires
 front_end-b-requires c =
-    let a = c.args in 
-      record { s_len = sized-whole bookkeeping_bytes a.book.now (c.forms_refusal-refused.ensures.fit c.if-refused-ne0.false).bookkeeping; le_width = omega arith; width_le_record_bytes = omega arith }
+    let a = c.args in
+    record { s_len = sized-whole bookkeeping_bytes a.book.now (c.forms_refusal-refused.ensures.fit c.if-refused-ne0.false).bookkeeping; le_width = omega arith; width_le_record_bytes = omega arith }
 
 pub slice_bounds-check-end : goal.slice_bounds-check-end
 slice_bounds-check-end c =

@@ -1,13 +1,12 @@
 -- Case by case, as it is asked.
-use Rattle.std.specs.Prelude.{◌-◌}
 use Rattle.std.proofs.Common.{◌∙◌}
-use Rattle.lists.specs.Basics.{sym, arith, not-true, not-false}
+use Rattle.lists.specs.Basics.{sym, arith}
 use Rattle.two_engine.specs.Forms.{plain_unsized, bookkeeping_unsized, as_many_lem, unequal_told}
 use Rattle.two_engine.proofs.forms_refusal.Goals as goal
 
 pub is_sized-requires : goal.is_sized-requires
-is_sized-requires c = 
-      record { le_width = omega arith; width_le_record_bytes = omega arith }
+is_sized-requires c =
+    record { le_width = omega arith; width_le_record_bytes = omega arith }
 
 pub returns-then-not-is_sized : goal.returns-then-not-is_sized
 returns-then-not-is_sized c =
@@ -15,8 +14,8 @@ returns-then-not-is_sized c =
     (plain_unsized a.plain.now a.book.now a.coordinator.now (sym c.is_sized.ensures ∙ c.if-not-is_sized.true)).0
 
 pub is_sized-requires-2 : goal.is_sized-requires-2
-is_sized-requires-2 c = 
-      record { le_width = omega arith; width_le_record_bytes = omega arith }
+is_sized-requires-2 c =
+    record { le_width = omega arith; width_le_record_bytes = omega arith }
 
 pub returns-then-not-is_sized-2 : goal.returns-then-not-is_sized-2
 returns-then-not-is_sized-2 c =

@@ -1,6 +1,6 @@
 -- Each sheet without its spares, beside an empty one.
 use Rattle.std.proofs.Common.{◌∙◌}
-use Rattle.lists.specs.Basics.{ap, [], ℕ, length-take, take, arith, rules}
+use Rattle.lists.specs.Basics.{ap, [], ℕ, length-take, take, arith}
 use Rattle.model.specs.TwoSheets.{plain_bytes, bookkeeping_bytes}
 use Rattle.sheet_laws.specs.Fronts.{sized-whole}
 use Rattle.model.specs.Spares.{front}
@@ -8,13 +8,12 @@ use Rattle.model.specs.Refusals.{refusal_of}
 use Rattle.model.specs.TwoSheets.{full_conditions}
 use Rattle.model.specs.TwoSpares.{plain_lines, bookkeeping_lines}
 use Rattle.two_engine.specs.Forms.{front-plain, front-bookkeeping, unequal_plain, unequal_passed, unequal_refused}
-use borrow.Author.Rules.{rules}
 use Rattle.two_engine.proofs.unequal.Goals as goal
 
 pub front_end-p-requires : goal.front_end-p-requires
 front_end-p-requires c =
-    let a = c.args in 
-      record { s_len = sized-whole plain_bytes a.plain.now c.requires.0; le_width = omega arith; width_le_record_bytes = omega arith }
+    let a = c.args in
+    record { s_len = sized-whole plain_bytes a.plain.now c.requires.0; le_width = omega arith; width_le_record_bytes = omega arith }
 
 pub slice_bounds-check-end : goal.slice_bounds-check-end
 slice_bounds-check-end c =
@@ -29,8 +28,8 @@ returns-then-check-eq1 c =
 
 pub front_end-b-requires : goal.front_end-b-requires
 front_end-b-requires c =
-    let a = c.args in 
-      record { s_len = sized-whole bookkeeping_bytes a.book.now c.requires.1; le_width = omega arith; width_le_record_bytes = omega arith }
+    let a = c.args in
+    record { s_len = sized-whole bookkeeping_bytes a.book.now c.requires.1; le_width = omega arith; width_le_record_bytes = omega arith }
 
 pub slice_bounds-check-end-4 : goal.slice_bounds-check-end-4
 slice_bounds-check-end-4 c =

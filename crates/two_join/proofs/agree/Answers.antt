@@ -1,9 +1,9 @@
 -- Whole lines, as many, or not; then line by line: the lines from i on agree as all do.
-use Rattle.std.specs.Prelude.{◌-◌, ◌*◌, ◌/◌, ◌≤◌, ◌≡◌}
+use Rattle.std.specs.Prelude.{◌*◌, ◌/◌, ◌≤◌, ◌≡◌}
 use Rattle.std.proofs.Common.{◌∙◌}
-use Rattle.lists.specs.Basics.{sym, true, false, arith, length, take, drop, not-true, not-false, rules, pieces}
-use Rattle.two_laws.specs.Deciding.{lines_agree, keys_agree}
-use Rattle.two_join.specs.Agrees.{agree_from, agree-first, agree_last, agree-whole, plain_cut_short, counts_differ, book_cut_short, agree_stop}
+use Rattle.lists.specs.Basics.{sym, true, false, arith, length, take, drop}
+use Rattle.two_laws.specs.Deciding.{keys_agree}
+use Rattle.two_join.specs.Agrees.{agree-first, agree_last, agree-whole, plain_cut_short, counts_differ, book_cut_short, agree_stop}
 use Rattle.two_join.specs.Agrees.{agree_on}
 use Rattle.model.specs.TwoSheets.{plain_bytes, bookkeeping_bytes}
 use Rattle.two_join.proofs.agree.Goals as goal

@@ -1,6 +1,5 @@
 -- Ten bytes of both keys, ten more, and the last byte, as the definition compares them.
 use Rattle.two_join.specs.Agrees.{line-agrees}
-use borrow.Author.Rules.{rules}
 use Rattle.two_join.proofs.agree_at.Goals as goal
 
 pub returns : goal.returns

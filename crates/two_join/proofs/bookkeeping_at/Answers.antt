@@ -1,7 +1,7 @@
 -- Two parts, one after another, are the line cut.
 use Rattle.std.specs.Prelude.{◌+◌, ◌*◌}
 use Rattle.std.proofs.Common.{◌∙◌}
-use Rattle.lists.specs.Basics.{ℕ, ap, List, take, drop, rules}
+use Rattle.lists.specs.Basics.{ℕ, ap, List, take, drop}
 use Rattle.lists.specs.Pieces.{over}
 use Rattle.model.specs.Layouts.{record_bytes}
 use Rattle.model.specs.TwoSheets.{bookkeeping_bytes}

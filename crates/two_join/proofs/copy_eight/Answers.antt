@@ -1,7 +1,6 @@
 -- Each byte written is the next one of the other slice.
 use Rattle.lists.specs.Basics.{length-set, arith}
 use Rattle.two_join.specs.Joins.{eight_written}
-use borrow.Author.Rules.{rules}
 use Rattle.two_join.proofs.copy_eight.Goals as goal
 
 pub bounds-target-at-2 : goal.bounds-target-at-2

@@ -1,10 +1,9 @@
 -- So many times eight bytes are written, and then the rest.
-use Rattle.std.specs.Prelude.{◌≡◌, ◌+◌, ◌-◌, ◌*◌, ◌/◌, ◌≤◌}
+use Rattle.std.specs.Prelude.{◌+◌, ◌*◌}
 use Rattle.std.proofs.Common.{◌∙◌}
 use Rattle.lists.specs.Basics.{refl, sym, ap, ℕ, List, length, take, drop, arith}
 use Rattle.lists.specs.Pieces.{over}
-use Rattle.two_join.specs.Joins.{written, written_none, written_eights, written-rest, length-written}
-use borrow.Author.Rules.{rules}
+use Rattle.two_join.specs.Joins.{written_none, written_eights, written-rest, length-written}
 use Rattle.two_join.proofs.copy_part.Goals as goal
 
 pub loop-k-init : goal.loop-k-init

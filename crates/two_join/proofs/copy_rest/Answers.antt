@@ -1,6 +1,4 @@
 -- A part lent and come back as so many bytes of the other slice.
-use Rattle.std.specs.Prelude.{◌-◌}
-use Rattle.lists.specs.Basics.{rules}
 use Rattle.two_join.specs.Joins.{part-over}
 use Rattle.two_join.proofs.copy_rest.Goals as goal
 

@@ -1,8 +1,8 @@
 -- The first i lines are joined; a turn joins one more.
-use Rattle.std.specs.Prelude.{◌-◌, ◌*◌, ◌/◌, ◌≤◌, ◌≡◌}
+use Rattle.std.specs.Prelude.{◌/◌, ◌≡◌}
 use Rattle.std.proofs.Common.{◌∙◌}
-use Rattle.lists.specs.Basics.{refl, arith, length, take, rules}
-use Rattle.two_join.specs.Joins.{first_joined, turn, all-joined, no_line}
+use Rattle.lists.specs.Basics.{refl, arith, length}
+use Rattle.two_join.specs.Joins.{turn, all-joined, no_line}
 use Rattle.model.specs.Layouts.{record_bytes}
 use Rattle.two_join.proofs.join.Goals as goal
 

@@ -1,8 +1,7 @@
 -- The first i lines are joined; a turn joins one more.
-use Rattle.std.specs.Prelude.{◌-◌, ◌*◌, ◌/◌, ◌≤◌, ◌≡◌}
-use Rattle.std.proofs.Common.{◌∙◌}
-use Rattle.lists.specs.Basics.{refl, arith, length, take, rules}
-use Rattle.two_join.specs.Joins.{first_joined, turn, all-joined, no_line}
+use Rattle.std.specs.Prelude.{◌-◌, ◌*◌, ◌≤◌, ◌≡◌}
+use Rattle.lists.specs.Basics.{length, take}
+use Rattle.two_join.specs.Joins.{first_joined}
 use Rattle.model.specs.Layouts.{record_bytes}
 use Rattle.two_join.proofs.join.Given as goal
 

@@ -1,7 +1,7 @@
 -- Three parts, one after another, are the line joined.
-use Rattle.std.specs.Prelude.{◌+◌, ◌-◌, ◌*◌}
+use Rattle.std.specs.Prelude.{◌+◌, ◌*◌}
 use Rattle.std.proofs.Common.{◌∙◌}
-use Rattle.lists.specs.Basics.{ℕ, ap, List, take, drop, rules}
+use Rattle.lists.specs.Basics.{ℕ, ap, List, take, drop}
 use Rattle.lists.specs.Pieces.{over}
 use Rattle.two_join.specs.Joins.{rest_bytes, three-parts}
 use Rattle.model.specs.TwoSheets.{plain_bytes, bookkeeping_bytes}

@@ -1,7 +1,7 @@
 -- Three writes, one after another, are the line cut.
 use Rattle.std.specs.Prelude.{◌+◌, ◌*◌}
 use Rattle.std.proofs.Common.{◌∙◌}
-use Rattle.lists.specs.Basics.{ℕ, ap, List, take, drop, set, length-set, rules}
+use Rattle.lists.specs.Basics.{ℕ, ap, List, take, drop, set, length-set}
 use Rattle.lists.specs.Pieces.{over}
 use Rattle.model.specs.Layouts.{record_bytes}
 use Rattle.model.specs.TwoSheets.{plain_bytes}

@@ -1,11 +1,11 @@
 -- The first i lines are cut; a turn cuts one more.
-use Rattle.std.specs.Prelude.{◌-◌, ◌*◌, ◌/◌, ◌≤◌, ◌≡◌}
+use Rattle.std.specs.Prelude.{◌*◌, ◌/◌, ◌≡◌}
 use Rattle.std.proofs.Common.{◌∙◌}
-use Rattle.lists.specs.Basics.{refl, length, take, arith, rules}
+use Rattle.lists.specs.Basics.{refl, length, arith}
 use Rattle.model.specs.Layouts.{record_bytes}
 use Rattle.model.specs.TwoSheets.{plain_bytes, plain_line, plain_part}
 use Rattle.two_laws.specs.TwoLines.{length-plain_line}
-use Rattle.two_join.specs.Splits.{first_cut, line-turn, no_cut, all-cut}
+use Rattle.two_join.specs.Splits.{line-turn, no_cut, all-cut}
 use Rattle.two_join.proofs.split_plain.Goals as goal
 
 pub loop-i-init : goal.loop-i-init

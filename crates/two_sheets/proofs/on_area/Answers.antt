@@ -1,6 +1,6 @@
 -- Refused by what is asked of the sheets, or the call on both joined.
 use Rattle.std.proofs.Common.{◌∙◌}
-use Rattle.lists.specs.Basics.{sym, length-take, arith, rules}
+use Rattle.lists.specs.Basics.{sym, length-take, arith}
 use Rattle.model.specs.Requests.{operation_of}
 use Rattle.answers.specs.Answers.{to_performed}
 use Rattle.two_sheets.specs.Performing.{on_joined, sheets_refused}

@@ -1,7 +1,7 @@
 -- The call on the joined sheet, split where it is accepted.
 use Rattle.std.specs.Prelude.{◌*◌, ◌/◌}
 use Rattle.std.proofs.Common.{◌∙◌}
-use Rattle.lists.specs.Basics.{sym, ap, ℕ, rules}
+use Rattle.lists.specs.Basics.{sym, ap, ℕ}
 use Rattle.model.specs.Layouts.{record_bytes}
 use Rattle.model.specs.Requests.{operation_of}
 use Rattle.model.specs.TwoSheets.{plain_bytes, bookkeeping_bytes}

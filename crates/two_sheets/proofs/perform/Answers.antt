@@ -1,7 +1,6 @@
 -- Sheets within so many lines have room in an area for so many, any sheets in the last.
 use Rattle.lists.specs.Basics.{arith}
 use Rattle.two_check.specs.Areas.{rooms_within}
-use borrow.Author.Rules.{rules}
 use Rattle.two_sheets.proofs.perform.Goals as goal
 
 pub on_area-requires : goal.on_area-requires

@@ -5,7 +5,6 @@ use Rattle.model.specs.Results as model
 use Rattle.model.specs.Operations.{once}
 use Rattle.answers.specs.Answers.{visited_in}
 use Rattle.two_sheets.specs.Performing.{on_joined, sheets_refused}
-use borrow.Author.Rules.{rules}
 use Rattle.two_sheets.proofs.visit_area.Goals as goal
 
 pub returns-then-refused-ne0 : goal.returns-then-refused-ne0

@@ -9,7 +9,6 @@ use Rattle.model.specs.TwoSheets.{plain_bytes, bookkeeping_bytes}
 use Rattle.answers.specs.declared.Visited.{Visited}
 use Rattle.answers.specs.Answers.{visited_in}
 use Rattle.two_sheets.specs.Performing.{accepted_area, plain_size, bookkeeping-size, nothing_split, both_split, visited_tells, visit_said, visit_lines, visit_decisions}
-use borrow.Author.Rules.{rules}
 use Rattle.two_sheets.proofs.visit_joined.Goals as goal
 
 pub visit-visited-requires : goal.visit-visited-requires

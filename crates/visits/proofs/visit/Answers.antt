@@ -1,6 +1,6 @@
 -- Case by case in the order of the refusals; a line that was found is visited there.
 use Rattle.std.proofs.Common.{◌∙◌}
-use Rattle.lists.specs.Basics.{sym, not-true, not-false, rules}
+use Rattle.lists.specs.Basics.{sym}
 use Rattle.model.specs.ByteCalls.{sheets_of}
 use Rattle.sheets.specs.Answers.{is_found}
 use Rattle.call_laws.specs.Accepted.{outcome_refused}

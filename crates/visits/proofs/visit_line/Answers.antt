@@ -1,5 +1,4 @@
 -- The answer by what the visit came to, with what it wrote.
-use Rattle.lists.specs.Basics.{rules}
 use Rattle.visits.specs.Visiting.{visit_outcome}
 use Rattle.visits.proofs.visit_line.Goals as goal
 

@@ -1,5 +1,4 @@
 -- The code is the definition, with the puts asked of `has_puts`.
-use Rattle.lists.specs.Basics.{rules}
 use Rattle.well_formed.proofs.decide_formed.Goals as goal
 
 pub returns : goal.returns

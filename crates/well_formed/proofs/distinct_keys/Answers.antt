@@ -1,11 +1,8 @@
 -- No entry before i has the key of a later one, and none between entry i and entry j has that of entry i.
-use Rattle.std.specs.Prelude.{◌-◌}
 use Rattle.std.proofs.Common.{◌∙◌}
-use Rattle.lists.specs.Basics.{sym, arith, rules, any}
-use Rattle.model.specs.Transactions.{held}
-use Rattle.model.specs.WellFormed.{distinct_keys}
-use Rattle.transactions.specs.Held.{PassedTo, entry_at, after, pass-first, pass-from, any_met, any_next, any_last}
-use Rattle.well_formed.specs.Formed.{same_key_as, distinct_not, distinct_next, distinct_last}
+use Rattle.lists.specs.Basics.{sym, arith}
+use Rattle.transactions.specs.Held.{pass-first, pass-from, any_met, any_next, any_last}
+use Rattle.well_formed.specs.Formed.{distinct_not, distinct_next, distinct_last}
 use Rattle.well_formed.proofs.distinct_keys.Goals as goal
 
 pub loop-i-init : goal.loop-i-init

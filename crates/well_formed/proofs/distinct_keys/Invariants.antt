@@ -1,11 +1,10 @@
 -- No entry before i has the key of a later one, and none between entry i and entry j has that of entry i.
 use Rattle.std.specs.Prelude.{◌-◌}
-use Rattle.std.proofs.Common.{◌∙◌}
-use Rattle.lists.specs.Basics.{sym, arith, rules, any}
+use Rattle.lists.specs.Basics.{any}
 use Rattle.model.specs.Transactions.{held}
 use Rattle.model.specs.WellFormed.{distinct_keys}
-use Rattle.transactions.specs.Held.{PassedTo, entry_at, after, pass-first, pass-from, any_met, any_next, any_last}
-use Rattle.well_formed.specs.Formed.{same_key_as, distinct_not, distinct_next, distinct_last}
+use Rattle.transactions.specs.Held.{PassedTo, entry_at, after}
+use Rattle.well_formed.specs.Formed.{same_key_as}
 use Rattle.well_formed.proofs.distinct_keys.Given as goal
 
 abbrev pub invariant-loop-j : goal.invariant-loop-j

@@ -1,10 +1,7 @@
 -- Every entry before i is well formed.
-use Rattle.std.specs.Prelude.{◌-◌}
 use Rattle.std.proofs.Common.{◌∙◌}
-use Rattle.lists.specs.Basics.{sym, not-true, not-false, rules, all}
-use Rattle.model.specs.Transactions.{held}
-use Rattle.model.specs.WellFormed.{entry_formed}
-use Rattle.transactions.specs.Held.{PassedTo, pass-first, all_unmet, all_next, all_last}
+use Rattle.lists.specs.Basics.{sym}
+use Rattle.transactions.specs.Held.{pass-first, all_unmet, all_next, all_last}
 use Rattle.well_formed.proofs.entries_formed.Goals as goal
 
 pub loop-i-init : goal.loop-i-init

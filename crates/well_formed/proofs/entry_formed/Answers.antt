@@ -1,6 +1,5 @@
 -- The code is the definition, clause by clause.
 use Rattle.model.specs.WellFormed.{entry_formed}
-use borrow.Author.Rules.{rules}
 use Rattle.well_formed.proofs.entry_formed.Goals as goal
 
 pub returns : goal.returns

@@ -1,5 +1,4 @@
 -- Where the head is well formed, at most eight entries are in use, and the rest is all that is left to ask.
-use Rattle.lists.specs.Basics.{rules}
 use Rattle.transactions.specs.Units.{units_in}
 use Rattle.well_formed.specs.Formed.{head_few, formed-rest}
 use Rattle.well_formed.proofs.formed.Goals as goal

@@ -1,6 +1,5 @@
 -- By the flag.
 use Rattle.lists.specs.Basics.{eq-eqb, ne_eqb}
-use borrow.Author.Rules.{rules}
 use Rattle.well_formed.proofs.version_formed.Goals as goal
 
 pub returns-then-e-eq1 : goal.returns-then-e-eq1

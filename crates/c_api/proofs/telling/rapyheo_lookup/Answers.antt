@@ -5,7 +5,6 @@ use Rattle.lists.specs.Basics.{sym, ap, subst}
 use Rattle.model.specs.Types.{Ranked}
 use Rattle.model.specs.Refusals.{last_refusal}
 use Rattle.by_place.specs.Ranks.{line_number, line_small}
-use borrow.Author.Rules.{rules}
 use Rattle.c_api.proofs.telling.rapyheo_lookup.Goals as goal
 
 pub line_number-requires : goal.line_number-requires

@@ -11,7 +11,6 @@ use Rattle.two_check.specs.Areas.{two}
 use Rattle.c_api.specs.declared.two.CalledTwo.{CalledTwo}
 use Rattle.by_place.specs.TwoNumbers.{number_of, call_numbered_two}
 use Rattle.c_api.specs.ByPlace.{performed_left}
-use borrow.Author.Rules.{rules}
 use Rattle.c_api.proofs.two.call_named_two.Goals as goal
 
 abbrev as_called : ℕ → Transaction → CalledTwo

@@ -5,7 +5,6 @@ use Rattle.lists.specs.Basics.{sym, ap, subst}
 use Rattle.model.specs.Types.{Ranked}
 use Rattle.model.specs.Refusals.{last_refusal}
 use Rattle.by_place.specs.Ranks.{rank_number, rank_target, rank_two_small}
-use borrow.Author.Rules.{rules}
 use Rattle.c_api.proofs.two.rapyheo_two_rank.Goals as goal
 
 pub tell_rank-requires : goal.tell_rank-requires
@@ -15,5 +14,5 @@ tell_rank-requires c =
 
 pub returns : goal.returns
 returns c =
-    let a = c.args in 
-      record { answer = c.tell_rank.ensures.answer ∙ ap (rank_number a.rank.now) c.rank_of.ensures.told; target = c.tell_rank.ensures.target ∙ ap (rank_target a.rank.now) c.rank_of.ensures.told }
+    let a = c.args in
+    record { answer = c.tell_rank.ensures.answer ∙ ap (rank_number a.rank.now) c.rank_of.ensures.told; target = c.tell_rank.ensures.target ∙ ap (rank_target a.rank.now) c.rank_of.ensures.told }

@@ -6,7 +6,6 @@ use Rattle.model.specs.Refusals.{last_refusal}
 use Rattle.answers.specs.declared.Visited.{Visited}
 use Rattle.two_check.specs.Areas.{two}
 use Rattle.by_place.specs.TwoNumbers.{visit_numbered_two}
-use borrow.Author.Rules.{rules}
 use Rattle.c_api.proofs.two.rapyheo_two_visit.Goals as goal
 
 pub number-requires : goal.number-requires

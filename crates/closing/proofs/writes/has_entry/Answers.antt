@@ -1,10 +1,7 @@
 -- No entry before i is of the group.
-use Rattle.std.specs.Prelude.{◌-◌}
 use Rattle.std.proofs.Common.{◌∙◌}
-use Rattle.lists.specs.Basics.{sym, eq-eqb, ne_eqb, rules, any}
-use Rattle.model.specs.Transactions.{held}
-use Rattle.transactions.specs.Held.{PassedTo, pass-first, any_met, any_next, any_last}
-use Rattle.group_writes.specs.Groups.{of_group}
+use Rattle.lists.specs.Basics.{sym, eq-eqb, ne_eqb}
+use Rattle.transactions.specs.Held.{pass-first, any_met, any_next, any_last}
 use Rattle.closing.specs.Writes.{group_some}
 use Rattle.closing.proofs.writes.has_entry.Goals as goal
 

@@ -1,11 +1,9 @@
 -- No entry before i is of the group.
 use Rattle.std.specs.Prelude.{◌-◌}
-use Rattle.std.proofs.Common.{◌∙◌}
-use Rattle.lists.specs.Basics.{sym, eq-eqb, ne_eqb, rules, any}
+use Rattle.lists.specs.Basics.{any}
 use Rattle.model.specs.Transactions.{held}
-use Rattle.transactions.specs.Held.{PassedTo, pass-first, any_met, any_next, any_last}
+use Rattle.transactions.specs.Held.{PassedTo}
 use Rattle.group_writes.specs.Groups.{of_group}
-use Rattle.closing.specs.Writes.{group_some}
 use Rattle.closing.proofs.writes.has_entry.Given as goal
 
 abbrev pub invariant-loop-i : goal.invariant-loop-i

@@ -2,7 +2,6 @@
 use Rattle.std.specs.Prelude.{◌&&◌}
 use Rattle.lists.specs.Basics.{ap₂, arith}
 use Rattle.group_writes.specs.Ready.{units, has_letters}
-use borrow.Author.Rules.{rules}
 use Rattle.closing.proofs.writes.open_writes.Goals as goal
 
 pub slice_bounds-one_phase_allowed-end : goal.slice_bounds-one_phase_allowed-end

@@ -1,6 +1,6 @@
 -- The definition's two tests, each by its function.
 use Rattle.std.specs.Prelude.{◌&&◌}
-use Rattle.lists.specs.Basics.{ap₂, rules}
+use Rattle.lists.specs.Basics.{ap₂}
 use Rattle.closing.proofs.writes.puts_group.Goals as goal
 
 pub returns : goal.returns

@@ -1,11 +1,10 @@
 -- No entry before i is of the group with a line that the transaction has prepared.
-use Rattle.std.specs.Prelude.{◌-◌, ◌&&◌}
+use Rattle.std.specs.Prelude.{◌&&◌}
 use Rattle.std.proofs.Common.{◌∙◌}
-use Rattle.lists.specs.Basics.{sym, ap, eqb, Bool, get_or, rules, any}
-use Rattle.model.specs.Transactions.{held}
-use Rattle.transactions.specs.Held.{PassedTo, pass-first, any_met, any_next, any_last}
+use Rattle.lists.specs.Basics.{sym, ap, eqb, Bool, get_or}
+use Rattle.transactions.specs.Held.{pass-first, any_met, any_next, any_last}
 use Rattle.group_writes.specs.Ready.{accepted}
-use Rattle.closing.specs.Writes.{rolled_in_group, group_rolls, rolled_here}
+use Rattle.closing.specs.Writes.{group_rolls, rolled_here}
 use Rattle.closing.proofs.writes.rolls_group.Goals as goal
 
 pub loop-i-init : goal.loop-i-init

@@ -1,11 +1,9 @@
 -- No entry before i is of the group with a line that the transaction has prepared.
-use Rattle.std.specs.Prelude.{◌-◌, ◌&&◌}
-use Rattle.std.proofs.Common.{◌∙◌}
-use Rattle.lists.specs.Basics.{sym, ap, eqb, Bool, get_or, rules, any}
+use Rattle.std.specs.Prelude.{◌-◌}
+use Rattle.lists.specs.Basics.{any}
 use Rattle.model.specs.Transactions.{held}
-use Rattle.transactions.specs.Held.{PassedTo, pass-first, any_met, any_next, any_last}
-use Rattle.group_writes.specs.Ready.{accepted}
-use Rattle.closing.specs.Writes.{rolled_in_group, group_rolls, rolled_here}
+use Rattle.transactions.specs.Held.{PassedTo}
+use Rattle.closing.specs.Writes.{rolled_in_group}
 use Rattle.closing.proofs.writes.rolls_group.Given as goal
 
 abbrev pub invariant-loop-i : goal.invariant-loop-i

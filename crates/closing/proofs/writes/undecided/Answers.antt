@@ -1,6 +1,6 @@
 -- By the decision of the transaction's number.
 use Rattle.std.proofs.Common.{◌∙◌}
-use Rattle.lists.specs.Basics.{sym, ap, true, false, rules}
+use Rattle.lists.specs.Basics.{sym, ap, true, false}
 use Rattle.model.specs.Types.{Decision}
 use Rattle.model.specs.Images.{by_decision}
 use Rattle.closing.proofs.writes.undecided.Goals as goal

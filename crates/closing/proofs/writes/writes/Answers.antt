@@ -1,6 +1,6 @@
 -- By the phase; in done, or in no phase, nothing is written.
 use Rattle.std.proofs.Common.{◌∙◌}
-use Rattle.lists.specs.Basics.{refl, rules}
+use Rattle.lists.specs.Basics.{refl}
 use Rattle.model.specs.Closing.{changes}
 use Rattle.steps.specs.Ready.{may_write}
 use Rattle.closing.specs.Writes.{in_order_lem, writes_at, none_writes, open_writes, prepare_writes, validate_writes, decide_writes, withdraw_writes}

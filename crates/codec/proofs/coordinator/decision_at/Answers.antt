@@ -1,6 +1,6 @@
 -- By the words that may stand in the line of the number; a number without a line is undecided.
 use Rattle.std.proofs.Common.{◌∙◌}
-use Rattle.lists.specs.Basics.{sym, not-true, not-false, rules}
+use Rattle.lists.specs.Basics.{sym}
 use Rattle.codec.specs.Parts.{decision-part, decision_past}
 use Rattle.codec.proofs.coordinator.decision_at.Goals as goal
 

@@ -1,6 +1,6 @@
 -- By whether the number is at least 1 and at most the lines.
 use Rattle.std.specs.Prelude.{◌≡◌}
-use Rattle.lists.specs.Basics.{leb, true, false, le-leb, lt-leb, rules}
+use Rattle.lists.specs.Basics.{leb, true, false, le-leb, lt-leb}
 use Rattle.codec.proofs.coordinator.has_line.Goals as goal
 
 pub returns-then-n-lt1 : goal.returns-then-n-lt1

@@ -1,6 +1,6 @@
 -- The ten bytes behind the line's number are compared with the word of the decision's number.
 use Rattle.std.proofs.Common.{◌∙◌}
-use Rattle.lists.specs.Basics.{ap, ℕ, arith, rules, eq_list}
+use Rattle.lists.specs.Basics.{ap, ℕ, arith, eq_list}
 use Rattle.model.specs.Types.{DecisionWord}
 use Rattle.model.specs.Layouts.{offset, line_layout, word_at}
 use Rattle.sheet_laws.specs.Singles.{decision_word}

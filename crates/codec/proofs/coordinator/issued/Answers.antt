@@ -1,6 +1,6 @@
 -- The count is the figure of the first four bytes, or of all of them where there are fewer.
 use Rattle.std.proofs.Common.{◌∙◌}
-use Rattle.lists.specs.Basics.{ap, length-take, arith, rules}
+use Rattle.lists.specs.Basics.{ap, length-take, arith}
 use Rattle.decimal.specs.Field.{number}
 use Rattle.sheet_laws.specs.Decisions.{issued_at}
 use Rattle.codec.specs.Parts.{issued_short}

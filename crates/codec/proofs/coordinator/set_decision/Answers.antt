@@ -1,7 +1,7 @@
 -- The part of the line comes back as the new line, and nothing else was lent.
 use Rattle.std.specs.Prelude.{◌≡◌, ◌+◌, ◌-◌, ◌*◌, ◌≤◌, ◌∷◌}
 use Rattle.std.proofs.Common.{◌∙◌}
-use Rattle.lists.specs.Basics.{refl, sym, ap, ℕ, false, [], length, length-take, length-drop, arith, rules}
+use Rattle.lists.specs.Basics.{refl, sym, ap, ℕ, false, [], length, length-take, length-drop, arith}
 use Rattle.model.specs.Layouts.{layout, line_layout, coordinator_bytes}
 use Rattle.model.specs.Lines.{line_text}
 use Rattle.sheet_laws.specs.Lines.{line_bytes}

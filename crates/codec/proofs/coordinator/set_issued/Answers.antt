@@ -1,6 +1,6 @@
 -- The first four bytes come back as the new count, and nothing else was lent.
 use Rattle.std.specs.Prelude.{◌≡◌}
-use Rattle.lists.specs.Basics.{leb, false, length, length-take, arith, lt-leb, rules}
+use Rattle.lists.specs.Basics.{leb, false, length, length-take, arith, lt-leb}
 use Rattle.codec.specs.Parts.{count-part}
 use Rattle.codec.proofs.coordinator.set_issued.Goals as goal
 

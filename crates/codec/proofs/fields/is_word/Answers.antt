@@ -1,6 +1,6 @@
 -- The part of the word that is compared is its last bytes, as many as the field has columns.
 use Rattle.std.proofs.Common.{◌∙◌}
-use Rattle.lists.specs.Basics.{ap, rules, eq_list}
+use Rattle.lists.specs.Basics.{ap, eq_list}
 use Rattle.codec.specs.Turns.{word-part}
 use Rattle.codec.proofs.fields.is_word.Goals as goal
 

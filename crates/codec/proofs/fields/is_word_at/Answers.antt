@@ -1,6 +1,6 @@
 -- The ten bytes that are compared are the whole word.
 use Rattle.std.proofs.Common.{◌∙◌}
-use Rattle.lists.specs.Basics.{ap, take, drop, take_all, arith, rules, eq_list}
+use Rattle.lists.specs.Basics.{ap, take, drop, take_all, arith, eq_list}
 use Rattle.model.specs.Layouts.{word_at, word_bytes}
 use Rattle.sheet_laws.specs.Fields.{length-word_at}
 use Rattle.codec.proofs.fields.is_word_at.Goals as goal

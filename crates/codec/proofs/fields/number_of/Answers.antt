@@ -1,5 +1,4 @@
 -- By what was read.
-use Rattle.lists.specs.Basics.{rules}
 use Rattle.decimal.specs.Field.{number}
 use Rattle.codec.proofs.fields.number_of.Goals as goal
 

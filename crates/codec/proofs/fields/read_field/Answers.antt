@@ -1,6 +1,6 @@
 -- By the kind: a figure is read as decimal, any other as one of its words.
 use Rattle.std.proofs.Common.{◌∙◌}
-use Rattle.lists.specs.Basics.{refl, rules}
+use Rattle.lists.specs.Basics.{refl}
 use Rattle.codec.specs.Turns.{read_figure, read_a_word}
 use Rattle.codec.proofs.fields.read_field.Goals as goal
 

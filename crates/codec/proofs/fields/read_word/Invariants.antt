@@ -1,10 +1,8 @@
 -- The words from i on are searched as the whole set is: none before i was met.
 use Rattle.std.specs.Prelude.{◌≡◌, ◌-◌, ◌≤◌}
-use Rattle.std.proofs.Common.{◌∙◌}
-use Rattle.lists.specs.Basics.{sym, length, drop, arith, rules}
+use Rattle.lists.specs.Basics.{drop}
 use Rattle.model.specs.Layouts.{words}
 use Rattle.model.specs.Lines.{word_from}
-use Rattle.codec.specs.Turns.{word-met, word_missed, word_none}
 use Rattle.codec.proofs.fields.read_word.Given as goal
 
 abbrev pub invariant-loop-i : goal.invariant-loop-i

@@ -1,6 +1,6 @@
 -- By the kind: a figure is written as decimal, any other as its word.
 use Rattle.std.proofs.Common.{◌∙◌}
-use Rattle.lists.specs.Basics.{refl, rules}
+use Rattle.lists.specs.Basics.{refl}
 use Rattle.codec.specs.Turns.{write_figure, write_a_word}
 use Rattle.codec.proofs.fields.write_field.Goals as goal
 

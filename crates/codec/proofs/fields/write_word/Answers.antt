@@ -1,6 +1,6 @@
 -- The part of the word that is written is its last bytes, as many as the field has columns.
 use Rattle.std.proofs.Common.{◌∙◌}
-use Rattle.lists.specs.Basics.{ap, rules}
+use Rattle.lists.specs.Basics.{ap}
 use Rattle.decimal.specs.Word.{put_word}
 use Rattle.codec.specs.Turns.{word-part}
 use Rattle.codec.proofs.fields.write_word.Goals as goal

@@ -1,5 +1,4 @@
 -- Five tests by the columns of a key, which are those of the definition.
-use Rattle.lists.specs.Basics.{rules}
 use Rattle.model.specs.Layouts.{key_layout, record_layout}
 use Rattle.sheet_laws.specs.Keys.{key_tests}
 use Rattle.codec.proofs.keys.key_in_range.Goals as goal

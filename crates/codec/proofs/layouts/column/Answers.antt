@@ -1,5 +1,4 @@
 -- By the layout.
-use Rattle.lists.specs.Basics.{rules}
 use Rattle.model.specs.Layouts.{layout}
 use Rattle.codec.proofs.layouts.column.Goals as goal
 

@@ -1,5 +1,4 @@
 -- By the kind.
-use Rattle.lists.specs.Basics.{rules}
 use Rattle.model.specs.Layouts.{words}
 use Rattle.codec.proofs.layouts.count.Goals as goal
 

@@ -1,7 +1,7 @@
 -- The first five columns are those of a record line, and past them there is none.
 use Rattle.std.specs.Prelude.{◌≤◌}
 use Rattle.std.proofs.Common.{◌∙◌}
-use Rattle.lists.specs.Basics.{sym, get_or-eq_default, get_or-take, arith, rules}
+use Rattle.lists.specs.Basics.{sym, get_or-eq_default, get_or-take, arith}
 use Rattle.model.specs.Layouts.{no_column, record_layout, key_layout}
 use Rattle.codec.proofs.layouts.key_column.Goals as goal
 

@@ -1,5 +1,5 @@
 -- By the kind and the number; past the last word there are spaces.
-use Rattle.lists.specs.Basics.{sym, get_or-eq_default, rules, bytes}
+use Rattle.lists.specs.Basics.{sym, get_or-eq_default, bytes}
 use Rattle.lists.specs.Chosen.{past_arms}
 use Rattle.model.specs.Types.{StateWord, BeforeWord, DecisionWord, UnitLetter}
 use Rattle.model.specs.Layouts.{words}

@@ -1,10 +1,9 @@
 -- Fields before i are in the row, and the bytes from `at` on are those of the others.
-use Rattle.std.specs.Prelude.{◌≡◌, ◌-◌}
 use Rattle.std.proofs.Common.{◌∙◌}
-use Rattle.lists.specs.Basics.{ap, length, arith, rules}
+use Rattle.lists.specs.Basics.{ap, length, arith}
 use Rattle.decimal.specs.Field.{number}
 use Rattle.model.specs.Layouts.{layout}
-use Rattle.codec.specs.Rows.{ReadTo, read_first, field_ends, read_next, read_last}
+use Rattle.codec.specs.Rows.{read_first, field_ends, read_next, read_last}
 use Rattle.codec.proofs.lines.read_row.Goals as goal
 
 pub loop-i-init : goal.loop-i-init

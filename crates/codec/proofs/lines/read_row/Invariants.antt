@@ -1,10 +1,8 @@
 -- Fields before i are in the row, and the bytes from `at` on are those of the others.
 use Rattle.std.specs.Prelude.{◌≡◌, ◌-◌}
-use Rattle.std.proofs.Common.{◌∙◌}
-use Rattle.lists.specs.Basics.{ap, length, arith, rules}
-use Rattle.decimal.specs.Field.{number}
+use Rattle.lists.specs.Basics.{length}
 use Rattle.model.specs.Layouts.{layout}
-use Rattle.codec.specs.Rows.{ReadTo, read_first, field_ends, read_next, read_last}
+use Rattle.codec.specs.Rows.{ReadTo}
 use Rattle.codec.proofs.lines.read_row.Given as goal
 
 abbrev pub invariant-loop-i : goal.invariant-loop-i

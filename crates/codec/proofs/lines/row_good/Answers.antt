@@ -1,9 +1,7 @@
 -- The numbers from i on are in range exactly if all are: none before i was out of range.
-use Rattle.std.specs.Prelude.{◌≡◌, ◌-◌}
 use Rattle.std.proofs.Common.{◌∙◌}
-use Rattle.lists.specs.Basics.{sym, length, arith, not-true, not-false, rules}
-use Rattle.model.specs.Layouts.{layout}
-use Rattle.codec.specs.Rows.{GoodTo, good_first, good_next, good_not, good_last}
+use Rattle.lists.specs.Basics.{sym, arith}
+use Rattle.codec.specs.Rows.{good_first, good_next, good_not, good_last}
 use Rattle.codec.proofs.lines.row_good.Goals as goal
 
 pub loop-i-init : goal.loop-i-init

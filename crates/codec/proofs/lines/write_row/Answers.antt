@@ -1,8 +1,7 @@
 -- Fields before i are in the line, and the others follow; LF ends it.
-use Rattle.std.specs.Prelude.{◌≡◌, ◌-◌}
-use Rattle.lists.specs.Basics.{length, length-take, length-drop, length-set, arith, rules}
+use Rattle.lists.specs.Basics.{length, length-take, length-drop, length-set, arith}
 use Rattle.model.specs.Layouts.{layout}
-use Rattle.codec.specs.Rows.{WrittenTo, write_first, field_ends, write_next, write_last, column_wide}
+use Rattle.codec.specs.Rows.{write_first, field_ends, write_next, write_last, column_wide}
 use Rattle.codec.proofs.lines.write_row.Goals as goal
 
 pub loop-i-init : goal.loop-i-init

@@ -1,8 +1,8 @@
 -- Fields before i are in the line, and the others follow; LF ends it.
 use Rattle.std.specs.Prelude.{◌≡◌, ◌-◌}
-use Rattle.lists.specs.Basics.{length, length-take, length-drop, length-set, arith, rules}
+use Rattle.lists.specs.Basics.{length}
 use Rattle.model.specs.Layouts.{layout}
-use Rattle.codec.specs.Rows.{WrittenTo, write_first, field_ends, write_next, write_last, column_wide}
+use Rattle.codec.specs.Rows.{WrittenTo}
 use Rattle.codec.proofs.lines.write_row.Given as goal
 
 abbrev pub invariant-loop-i : goal.invariant-loop-i

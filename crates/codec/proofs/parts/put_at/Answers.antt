@@ -1,5 +1,4 @@
 -- The part comes back as the text, which has its length.
-use Rattle.lists.specs.Basics.{rules}
 use Rattle.codec.specs.Parts.{text-over}
 use Rattle.codec.proofs.parts.put_at.Goals as goal
 

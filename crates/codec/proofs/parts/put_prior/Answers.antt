@@ -1,6 +1,6 @@
 -- The text that is put is the word of the before state's number.
 use Rattle.std.proofs.Common.{◌∙◌}
-use Rattle.lists.specs.Basics.{ap, rules}
+use Rattle.lists.specs.Basics.{ap}
 use Rattle.lists.specs.Pieces.{over}
 use Rattle.model.specs.Types.{BeforeWord}
 use Rattle.model.specs.Layouts.{offset, record_layout, record_offset, before_state_field, word_at}

@@ -1,5 +1,4 @@
 -- The part comes back as the figure, as wide as the part.
-use Rattle.lists.specs.Basics.{rules}
 use Rattle.codec.specs.Parts.{figure_over_lem}
 use Rattle.codec.proofs.parts.write_at.Goals as goal
 

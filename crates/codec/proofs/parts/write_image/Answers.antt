@@ -1,7 +1,7 @@
 -- Four figures are written one behind another, which is the image's text.
 use Rattle.std.specs.Prelude.{◌+◌}
 use Rattle.std.proofs.Common.{◌∙◌}
-use Rattle.lists.specs.Basics.{ap, arith, rules}
+use Rattle.lists.specs.Basics.{ap, arith}
 use Rattle.model.specs.Layouts.{offset, record_layout, image_field}
 use Rattle.sheet_laws.specs.Changed.{image-written, figure_over}
 use Rattle.codec.proofs.parts.write_image.Goals as goal

@@ -1,14 +1,13 @@
 -- The ten bytes compared tell the before state; past the end nothing is before.
 use Rattle.std.specs.Prelude.{◌+◌, ◌*◌}
 use Rattle.std.proofs.Common.{◌∙◌}
-use Rattle.lists.specs.Basics.{sym, ap, ℕ, Bool, cond, take, drop, rules, eq_list}
+use Rattle.lists.specs.Basics.{sym, ap, ℕ, Bool, cond, take, drop, eq_list}
 use Rattle.model.specs.Types.{Record, BeforeWord}
 use Rattle.types.specs.declared.State.TheVariants.{Absent, Committed}
 use Rattle.model.specs.Layouts.{record_layout, offset, word_at, record_bytes, record_offset, record_width, before_state_field}
 use Rattle.model.specs.Images.{state_back}
 use Rattle.sheet_laws.specs.Singles.{back_told}
 use Rattle.sheet_laws.specs.ByIndex.{record_past}
-use borrow.Author.Rules.{rules}
 use Rattle.codec.proofs.reading.before_state.Goals as goal
 
 pub returns-then-is_word_at : goal.returns-then-is_word_at

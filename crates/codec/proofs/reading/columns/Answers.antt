@@ -1,6 +1,6 @@
 -- The figures are those of the image's last two fields.
 use Rattle.std.specs.Prelude.{◌+◌}
-use Rattle.lists.specs.Basics.{refl, arith, rules}
+use Rattle.lists.specs.Basics.{refl, arith}
 use Rattle.model.specs.Layouts.{image_field, record_layout, offset}
 use Rattle.model.specs.Records.{record_numbers, key_numbers, image_numbers}
 use Rattle.sheet_laws.specs.Singles.{figure-told}

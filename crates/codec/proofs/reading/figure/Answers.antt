@@ -1,5 +1,5 @@
 -- The digits in the line, or 0 past the end.
-use Rattle.lists.specs.Basics.{lt-ltb, le-ltb, rules}
+use Rattle.lists.specs.Basics.{lt-ltb, le-ltb}
 use Rattle.codec.proofs.reading.figure.Goals as goal
 
 pub returns-then-i-records : goal.returns-then-i-records

@@ -1,7 +1,7 @@
 -- The ten bytes compared tell the state; past the end no line is pending.
 use Rattle.std.specs.Prelude.{◌+◌, ◌*◌}
 use Rattle.std.proofs.Common.{◌∙◌}
-use Rattle.lists.specs.Basics.{sym, ap, ℕ, take, drop, rules, eq_list}
+use Rattle.lists.specs.Basics.{sym, ap, ℕ, take, drop, eq_list}
 use Rattle.model.specs.Types.{StateWord}
 use Rattle.model.specs.Layouts.{record_layout, offset, word_at, record_bytes, record_offset, record_width, state_field}
 use Rattle.model.specs.Images.{is_prepared}

@@ -1,5 +1,5 @@
 -- The figures are those of the first five fields.
-use Rattle.lists.specs.Basics.{refl, arith, rules}
+use Rattle.lists.specs.Basics.{refl, arith}
 use Rattle.model.specs.Layouts.{record_layout, offset}
 use Rattle.model.specs.Records.{record_numbers, key_numbers, image_numbers}
 use Rattle.sheet_laws.specs.Singles.{figure-told}

@@ -1,5 +1,5 @@
 -- The figure is that of the image's first field.
-use Rattle.lists.specs.Basics.{refl, arith, rules}
+use Rattle.lists.specs.Basics.{refl, arith}
 use Rattle.model.specs.Layouts.{image_field, record_layout, offset}
 use Rattle.model.specs.Records.{record_numbers, key_numbers, image_numbers}
 use Rattle.sheet_laws.specs.Singles.{figure-told}

@@ -1,6 +1,5 @@
 -- Field by field, both words by their numbers.
 use Rattle.model.specs.Records.{record_of, key_of, image_from}
-use borrow.Author.Rules.{rules}
 use Rattle.codec.proofs.records.record_of.Goals as goal
 
 pub returns : goal.returns

@@ -1,7 +1,7 @@
 -- The bytes that are put are those of the image before; the line's own stand where they are.
 use Rattle.std.specs.Prelude.{◌≡◌}
 use Rattle.std.proofs.Common.{◌∙◌}
-use Rattle.lists.specs.Basics.{sym, ap, ℕ, true, false, List, arith, rules}
+use Rattle.lists.specs.Basics.{sym, ap, ℕ, true, false, List, arith}
 use Rattle.lists.specs.Pieces.{over-same}
 use Rattle.model.specs.Layouts.{offset, record_layout, image_layout, image_field, record_offset, image_bytes}
 use Rattle.sheet_laws.specs.Changed.{image_over}

@@ -1,5 +1,5 @@
 -- Rolled back is settled with the before image and its state.
-use Rattle.lists.specs.Basics.{sym, rules}
+use Rattle.lists.specs.Basics.{sym}
 use Rattle.model.specs.Images.{rolled_back}
 use Rattle.codec.proofs.settling.roll_back.Goals as goal
 

@@ -1,5 +1,5 @@
 -- The part of the line comes back as the text of its record settled.
-use Rattle.lists.specs.Basics.{le-ltb, rules}
+use Rattle.lists.specs.Basics.{le-ltb}
 use Rattle.sheet_laws.specs.Changed.{settled_as}
 use Rattle.codec.specs.Parts.{part_readable, part-changed}
 use Rattle.codec.proofs.settling.settle.Goals as goal

@@ -1,6 +1,6 @@
 -- Three parts are written one after another, which is the text of the settled record.
 use Rattle.std.proofs.Common.{◌∙◌}
-use Rattle.lists.specs.Basics.{ap, rules}
+use Rattle.lists.specs.Basics.{ap}
 use Rattle.sheet_laws.specs.Changed.{nothing_text, state_over, settled_over, line-settled}
 use Rattle.codec.proofs.settling.settle_line.Goals as goal
 

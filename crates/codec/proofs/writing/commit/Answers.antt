@@ -1,5 +1,5 @@
 -- The part of the line comes back as the text of its record committed.
-use Rattle.lists.specs.Basics.{le-ltb, rules}
+use Rattle.lists.specs.Basics.{le-ltb}
 use Rattle.model.specs.Images.{committed}
 use Rattle.codec.specs.Parts.{part_readable, part-changed}
 use Rattle.codec.proofs.writing.commit.Goals as goal

@@ -1,6 +1,6 @@
 -- State word, image and nothing are written, which is the text of the committed record.
 use Rattle.std.proofs.Common.{◌∙◌}
-use Rattle.lists.specs.Basics.{ap, ap₂, ℕ, List, rules}
+use Rattle.lists.specs.Basics.{ap, ap₂, ℕ, List}
 use Rattle.model.specs.Types.{Image}
 use Rattle.sheet_laws.specs.Changed.{image_text, nothing_text, image_over, settled_over, line-committed}
 use Rattle.codec.proofs.writing.commit_line.Goals as goal

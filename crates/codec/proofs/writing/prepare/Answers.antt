@@ -1,5 +1,5 @@
 -- The part of the line comes back as the text of its record prepared.
-use Rattle.lists.specs.Basics.{le-ltb, rules}
+use Rattle.lists.specs.Basics.{le-ltb}
 use Rattle.model.specs.Images.{prepared}
 use Rattle.codec.specs.Parts.{part_readable, part-changed}
 use Rattle.codec.proofs.writing.prepare.Goals as goal

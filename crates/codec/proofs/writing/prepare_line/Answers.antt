@@ -1,11 +1,10 @@
 -- The image is moved, then before state, state word, image and clock are written, which is the text of the prepared record.
 use Rattle.std.proofs.Common.{◌∙◌}
-use Rattle.lists.specs.Basics.{ap, ap₂, ℕ, List, rules}
+use Rattle.lists.specs.Basics.{ap, ap₂, ℕ, List}
 use Rattle.model.specs.Types.{Image, Before}
 use Rattle.types.specs.declared.State.TheVariants.{Prepared}
 use Rattle.model.specs.Layouts.{record_layout, offset, clock_field}
 use Rattle.sheet_laws.specs.Changed.{image_text, image_over, state_over, prior_over, before_over, figure_over, line-prepared}
-use borrow.Author.Rules.{rules}
 use Rattle.codec.proofs.writing.prepare_line.Goals as goal
 
 pub returns : goal.returns

@@ -1,11 +1,10 @@
 -- The ten bytes compared tell the state.
 use Rattle.std.proofs.Common.{◌∙◌}
-use Rattle.lists.specs.Basics.{sym, ap, ℕ, Bool, cond, take, drop, rules, eq_list, arith}
+use Rattle.lists.specs.Basics.{sym, ap, ℕ, Bool, cond, take, drop, eq_list, arith}
 use Rattle.model.specs.Types.{StateWord}
 use Rattle.types.specs.declared.Before.TheVariants.{Absent, Committed}
 use Rattle.model.specs.Layouts.{record_layout, offset, word_at, word_bytes, record_offset, state_field}
 use Rattle.sheet_laws.specs.Singles.{kept_told}
-use borrow.Author.Rules.{rules}
 use Rattle.codec.proofs.writing.state_kept.Goals as goal
 
 pub is_word_at-requires : goal.is_word_at-requires

@@ -1,5 +1,5 @@
 -- The digits make the version, which is low enough for one more.
-use Rattle.lists.specs.Basics.{refl, arith, rules}
+use Rattle.lists.specs.Basics.{refl, arith}
 use Rattle.model.specs.Layouts.{image_field, record_layout, offset}
 use Rattle.model.specs.Records.{record_numbers, key_numbers, image_numbers}
 use Rattle.sheet_laws.specs.Singles.{line_number_lem, line-figure}

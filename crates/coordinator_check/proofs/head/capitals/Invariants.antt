@@ -1,8 +1,6 @@
 -- The loop's invariant: the letters before i are capitals, so that those from i on decide as all do.
 use Rattle.std.specs.Prelude.{◌-◌}
-use Rattle.lists.specs.Basics.{arith, le-leb, lt-leb, rules}
-use Rattle.lists.specs.Walks.{left-first}
-use Rattle.sheet_laws.specs.Letters.{letter_in, units_in, CapitalsTo, capitals_here, capitals_last}
+use Rattle.sheet_laws.specs.Letters.{letter_in, CapitalsTo}
 use Rattle.coordinator_check.proofs.head.capitals.Given as goal
 
 abbrev pub invariant-loop-i : goal.invariant-loop-i

@@ -1,8 +1,7 @@
 -- The loop's invariant: the letters before column i are units, or one is not, and the others decide with them.
 use Rattle.std.specs.Prelude.{◌-◌}
-use Rattle.lists.specs.Basics.{rules}
 use Rattle.model.specs.Layouts.{line_end}
-use Rattle.coordinator_check.specs.Head.{LettersTo, letters_first, letters_next, letters_last}
+use Rattle.coordinator_check.specs.Head.{LettersTo}
 use Rattle.coordinator_check.proofs.head.letters_ok.Given as goal
 
 abbrev pub invariant-loop-i : goal.invariant-loop-i

@@ -1,8 +1,6 @@
 -- The loop's invariant: the lines up to k, whose columns are `number`, are good, or one is not, and the others decide with them.
 use Rattle.std.specs.Prelude.{◌-◌}
-use Rattle.lists.specs.Basics.{arith, rules}
-use Rattle.coordinator_check.specs.Numbers.{now_fits, next_fits}
-use Rattle.coordinator_check.specs.Passes.{JudgedTo, judged-first, judged_next, judged_last}
+use Rattle.coordinator_check.specs.Passes.{JudgedTo}
 use Rattle.coordinator_check.proofs.lines.lines_ok.Given as goal
 
 abbrev pub invariant-loop-k : goal.invariant-loop-k

@@ -1,6 +1,6 @@
 -- Each return is one case of `following`.
 use Rattle.std.specs.Prelude.{◌*◌, ◌/◌, ◌%◌, ◌^◌}
-use Rattle.lists.specs.Basics.{eq-eqb, ne_eqb, lt-ltb, le-ltb, rules}
+use Rattle.lists.specs.Basics.{eq-eqb, ne_eqb, lt-ltb, le-ltb}
 use Rattle.coordinator_check.specs.Numbers.{following}
 use Rattle.coordinator_check.proofs.lines.next.Goals as goal
 

@@ -1,6 +1,6 @@
 -- Case by case in the order of the refusals.
 use Rattle.std.proofs.Common.{◌∙◌}
-use Rattle.lists.specs.Basics.{sym, ap, true, false, not-true, not-false, rules}
+use Rattle.lists.specs.Basics.{sym, ap, true, false, not-true, not-false}
 use Rattle.model.specs.Writes.{nothing}
 use Rattle.model.specs.ByteCalls.{sheets_of}
 use Rattle.admission.specs.Admission.{formed_by}

@@ -1,6 +1,6 @@
 -- Case by case in the order of the refusals; an accepted call is the step of its phase.
 use Rattle.std.proofs.Common.{◌∙◌}
-use Rattle.lists.specs.Basics.{sym, ap, true, false, not-true, not-false, rules}
+use Rattle.lists.specs.Basics.{sym, ap, true, false, not-true, not-false}
 use Rattle.model.specs.Types.{Decision}
 use Rattle.model.specs.ByteCalls.{sheets_of}
 use Rattle.call_laws.specs.Accepted.{outcome_refused}

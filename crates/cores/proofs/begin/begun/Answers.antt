@@ -1,5 +1,4 @@
 -- The transaction is that of the number.
-use Rattle.lists.specs.Basics.{rules}
 use Rattle.cores.proofs.begin.begun.Goals as goal
 
 pub returns : goal.returns

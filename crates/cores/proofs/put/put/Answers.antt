@@ -1,6 +1,6 @@
 -- Case by case in the order of the refusals; a key that has a line is put as its entry tells.
 use Rattle.std.proofs.Common.{◌∙◌}
-use Rattle.lists.specs.Basics.{sym, ap, rules}
+use Rattle.lists.specs.Basics.{sym, ap}
 use Rattle.model.specs.ByteCalls.{sheets_of}
 use Rattle.sheets.specs.Answers.{is_found}
 use Rattle.admission.specs.Admission.{opened}
@@ -18,8 +18,8 @@ returns-then-refused-ne0 c =
 pub find-requires : goal.find-requires
 find-requires c =
     let a = c.args in
-    let s = sheets_of a.records.now a.coordinator.now in 
-      record { records_value = c.requires.lines; key_value = (opened a.t a.key s (sym (c.open_refusal-refused.ensures a.records.now) ∙ c.if-refused-ne0.false)).ranged }
+    let s = sheets_of a.records.now a.coordinator.now in
+    record { records_value = c.requires.lines; key_value = (opened a.t a.key s (sym (c.open_refusal-refused.ensures a.records.now) ∙ c.if-refused-ne0.false)).ranged }
 
 pub put_held-requires : goal.put_held-requires
 put_held-requires c =

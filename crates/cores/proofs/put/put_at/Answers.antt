@@ -1,6 +1,6 @@
 -- By the version that was read.
 use Rattle.std.proofs.Common.{◌∙◌}
-use Rattle.lists.specs.Basics.{sym, ap, rules}
+use Rattle.lists.specs.Basics.{sym, ap}
 use Rattle.model.specs.Writes.{nothing}
 use Rattle.answers.specs.Answers.{to_returned, returned_made}
 use Rattle.cores.specs.Putting.{put_late, put_made}

@@ -1,6 +1,6 @@
 -- Case by case in the order of the refusals.
 use Rattle.std.proofs.Common.{◌∙◌}
-use Rattle.lists.specs.Basics.{sym, ap, arith, not-true, not-false, rules}
+use Rattle.lists.specs.Basics.{sym, ap, arith, not-false}
 use Rattle.transactions.specs.Held.{held_below}
 use Rattle.answers.specs.Answers.{to_returned}
 use Rattle.cores.specs.Putting.{put_large, put_new, put_over_lem}

@@ -1,5 +1,4 @@
 -- By the two cases of whether the entry is of the group.
-use Rattle.lists.specs.Basics.{not-true, not-false, rules}
 use Rattle.group_writes.specs.Turns.{turned-not, turned-own}
 use Rattle.group_writes.proofs.changes.change_entry.Goals as goal
 

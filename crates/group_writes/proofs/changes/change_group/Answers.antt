@@ -1,15 +1,13 @@
 -- The changes that are left make of the lines as they are what all of them make of the lines as they were.
-use Rattle.std.specs.Prelude.{◌≡◌, ◌-◌}
 use Rattle.std.proofs.Common.{◌∙◌}
-use Rattle.lists.specs.Basics.{refl, sym, ap, List, length, arith, rules}
+use Rattle.lists.specs.Basics.{refl, sym, ap, List, arith}
 use Rattle.model.specs.Types.{Entry}
 use Rattle.model.specs.Records as sheet
 use Rattle.model.specs.Records.{records_text}
-use Rattle.model.specs.Transactions.{held}
 use Rattle.model.specs.Writes.{lines_after}
 use Rattle.group_writes.specs.Groups.{group_in_lem}
 use Rattle.group_writes.specs.Changes.{written}
-use Rattle.group_writes.specs.Turns.{leaves, Underway, underway_first, underway_next, underway_last, turn-fits}
+use Rattle.group_writes.specs.Turns.{underway_first, underway_next, underway_last, turn-fits}
 use Rattle.group_writes.proofs.changes.change_group.Goals as goal
 
 pub loop-i-init : goal.loop-i-init

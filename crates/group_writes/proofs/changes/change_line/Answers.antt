@@ -1,6 +1,6 @@
 -- By the effect; a line that the number has not prepared stays, and is its own text.
 use Rattle.std.proofs.Common.{◌∙◌}
-use Rattle.lists.specs.Basics.{sym, rules}
+use Rattle.lists.specs.Basics.{sym}
 use Rattle.group_writes.specs.Changes.{changed, line_stays}
 use Rattle.group_writes.proofs.changes.change_line.Goals as goal
 

@@ -1,6 +1,5 @@
 -- By the two cases of whether the entry is of the group.
 use Rattle.std.proofs.Common.{◌∙◌}
-use Rattle.lists.specs.Basics.{not-true, not-false}
 use Rattle.model.specs.Steps.{holds}
 use Rattle.model.specs.ByteCalls.{sheets_of}
 use Rattle.group_writes.specs.Groups.{other_group, own-group}

@@ -1,14 +1,12 @@
 -- Every entry before i that is of the group holds.
-use Rattle.std.specs.Prelude.{◌-◌, ◌||◌}
+use Rattle.std.specs.Prelude.{◌||◌}
 use Rattle.std.proofs.Common.{◌∙◌}
-use Rattle.lists.specs.Basics.{sym, ap, Bool, not, not-true, not-false, all, arith}
-use Rattle.model.specs.Transactions.{held}
+use Rattle.lists.specs.Basics.{sym, ap, Bool, not, arith}
 use Rattle.model.specs.Steps.{holds}
 use Rattle.model.specs.ByteCalls.{sheets_of}
-use Rattle.transactions.specs.Held.{PassedTo, entry_at, pass-first, all_unmet, all_next, all_last}
-use Rattle.group_writes.specs.Groups.{holds_in_group, group-all}
+use Rattle.transactions.specs.Held.{entry_at, pass-first, all_unmet, all_next, all_last}
+use Rattle.group_writes.specs.Groups.{group-all}
 use Rattle.group_writes.specs.Ready.{accepted, units, has_letters}
-use borrow.Author.Rules.{rules}
 use Rattle.group_writes.proofs.groups.group_holds.Goals as goal
 
 pub slice_bounds-letters-end : goal.slice_bounds-letters-end

@@ -1,14 +1,9 @@
 -- Every entry before i that is of the group holds.
-use Rattle.std.specs.Prelude.{◌-◌, ◌||◌}
-use Rattle.std.proofs.Common.{◌∙◌}
-use Rattle.lists.specs.Basics.{sym, ap, Bool, not, not-true, not-false, all, arith}
+use Rattle.std.specs.Prelude.{◌-◌}
+use Rattle.lists.specs.Basics.{all}
 use Rattle.model.specs.Transactions.{held}
-use Rattle.model.specs.Steps.{holds}
-use Rattle.model.specs.ByteCalls.{sheets_of}
-use Rattle.transactions.specs.Held.{PassedTo, entry_at, pass-first, all_unmet, all_next, all_last}
-use Rattle.group_writes.specs.Groups.{holds_in_group, group-all}
-use Rattle.group_writes.specs.Ready.{accepted, units, has_letters}
-use borrow.Author.Rules.{rules}
+use Rattle.transactions.specs.Held.{PassedTo}
+use Rattle.group_writes.specs.Groups.{holds_in_group}
 use Rattle.group_writes.proofs.groups.group_holds.Given as goal
 
 abbrev pub invariant-loop-i : goal.invariant-loop-i

@@ -1,9 +1,7 @@
 -- The loop's invariant: the letters before i are capitals, so that those from i on decide as all do.
 use Rattle.std.specs.Prelude.{◌-◌}
-use Rattle.lists.specs.Basics.{arith, le-leb, lt-leb, rules}
-use Rattle.lists.specs.Walks.{left-first}
 use Rattle.model.specs.Coordinator.{letter_of}
-use Rattle.sheet_laws.specs.Letters.{CapitalsTo, capitals_here, capitals_last}
+use Rattle.sheet_laws.specs.Letters.{CapitalsTo}
 use Rattle.numbers.proofs.decisions.capitals.Given as goal
 
 abbrev pub invariant-loop-i : goal.invariant-loop-i

@@ -1,5 +1,5 @@
 -- By whether there is a whole head.
-use Rattle.lists.specs.Basics.{length-drop, arith, rules}
+use Rattle.lists.specs.Basics.{length-drop, arith}
 use Rattle.numbers.proofs.decisions.decision_count.Goals as goal
 
 pub returns-then-numbers-lt-HEAD_FIELDS : goal.returns-then-numbers-lt-HEAD_FIELDS

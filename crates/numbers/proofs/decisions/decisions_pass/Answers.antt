@@ -1,7 +1,6 @@
 -- One turn judges the decision at i; what is left to judge from i on decides the whole.
-use Rattle.std.specs.Prelude.{◌≡◌, ◌-◌}
-use Rattle.lists.specs.Basics.{refl, length, rules}
-use Rattle.numbers.specs.Decisions.{PassedTo, pass-first, pass_bad, pass_next, pass_last}
+use Rattle.lists.specs.Basics.{refl}
+use Rattle.numbers.specs.Decisions.{pass-first, pass_bad, pass_next, pass_last}
 use Rattle.numbers.proofs.decisions.decisions_pass.Goals as goal
 
 pub loop-i-init : goal.loop-i-init

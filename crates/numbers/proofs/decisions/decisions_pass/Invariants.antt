@@ -1,7 +1,7 @@
 -- One turn judges the decision at i; what is left to judge from i on decides the whole.
 use Rattle.std.specs.Prelude.{◌≡◌, ◌-◌}
-use Rattle.lists.specs.Basics.{refl, length, rules}
-use Rattle.numbers.specs.Decisions.{PassedTo, pass-first, pass_bad, pass_next, pass_last}
+use Rattle.lists.specs.Basics.{length}
+use Rattle.numbers.specs.Decisions.{PassedTo}
 use Rattle.numbers.proofs.decisions.decisions_pass.Given as goal
 
 abbrev pub invariant-loop-i : goal.invariant-loop-i

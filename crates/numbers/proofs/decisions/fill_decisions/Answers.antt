@@ -1,9 +1,8 @@
 -- One turn reads line i and stores its decision: those before i are there.
-use Rattle.std.specs.Prelude.{◌≡◌, ◌-◌, ◌/◌}
-use Rattle.lists.specs.Basics.{refl, length, length-take, length-drop, arith, rules}
-use Rattle.model.specs.Layouts.{layout, line_layout, coordinator_bytes}
+use Rattle.lists.specs.Basics.{refl, length-take, length-drop, arith}
+use Rattle.model.specs.Layouts.{layout, line_layout}
 use Rattle.sheet_laws.specs.Lines.{line_bytes}
-use Rattle.numbers.specs.DecisionFills.{ReadTo, read_first, read_room, read_next, read_last}
+use Rattle.numbers.specs.DecisionFills.{read_first, read_room, read_next, read_last}
 use Rattle.numbers.proofs.decisions.fill_decisions.Goals as goal
 
 pub loop-i-init : goal.loop-i-init

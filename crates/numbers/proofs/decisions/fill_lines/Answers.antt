@@ -1,10 +1,10 @@
 -- One turn writes line i over its part of the target: those before i are there.
 use Rattle.std.specs.Prelude.{◌≡◌, ◌+◌, ◌-◌, ◌*◌}
 use Rattle.std.proofs.Common.{◌∙◌}
-use Rattle.lists.specs.Basics.{refl, length, length-take, length-drop, arith, rules}
+use Rattle.lists.specs.Basics.{refl, length, length-take, length-drop, arith}
 use Rattle.model.specs.Layouts.{layout, line_layout, coordinator_bytes}
 use Rattle.sheet_laws.specs.Lines.{line_bytes}
-use Rattle.numbers.specs.DecisionFills.{WrittenTo, written-first, written_room, written_next, written_last}
+use Rattle.numbers.specs.DecisionFills.{written-first, written_room, written_next, written_last}
 use Rattle.numbers.proofs.decisions.fill_lines.Goals as goal
 
 pub loop-i-init : goal.loop-i-init

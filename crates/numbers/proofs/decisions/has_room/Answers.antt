@@ -1,6 +1,6 @@
 -- A length of 15 + n * 15 is whole lines, and one more than n of them.
 use Rattle.std.proofs.Common.{◌∙◌}
-use Rattle.lists.specs.Basics.{ap, eqb, length, drop, rules}
+use Rattle.lists.specs.Basics.{ap, eqb, length, drop}
 use Rattle.model.specs.Layouts.{head_fields}
 use Rattle.numbers.specs.Decisions.{room_short, room_broken, room_lines}
 use Rattle.numbers.proofs.decisions.has_room.Goals as goal

@@ -1,7 +1,7 @@
 -- The tests in the order in which the acceptance of numbers lists them, up to the first that fails.
 use Rattle.std.specs.Prelude.{◌≡◌}
 use Rattle.std.proofs.Common.{◌∙◌}
-use Rattle.lists.specs.Basics.{sym, ap₂, true, false, map, take, drop, length-take, arith, le-leb, lt-leb, not-true, not-false, rules}
+use Rattle.lists.specs.Basics.{sym, ap₂, true, false, map, take, drop, length-take, arith, le-leb, lt-leb, rules}
 use Rattle.lists.specs.Fill.{rest_part}
 use Rattle.model.specs.Layouts.{layout, head_layout, head_fields}
 use Rattle.model.specs.Lines.{row_good}

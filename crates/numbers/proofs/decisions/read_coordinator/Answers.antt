@@ -1,7 +1,7 @@
 -- By the conditions in order; where none holds, what was filled is what the coordinator's numbers are.
 use Rattle.std.specs.Prelude.{◌+◌}
 use Rattle.std.proofs.Common.{◌∙◌}
-use Rattle.lists.specs.Basics.{sym, ap, ℕ, length-drop, arith, not-true, not-false, rules}
+use Rattle.lists.specs.Basics.{sym, ap, ℕ, length-drop, arith}
 use Rattle.model.specs.Layouts.{coordinator_bytes, head_fields}
 use Rattle.sheet_laws.specs.Decisions.{accepted_parts, readable_length}
 use Rattle.numbers.specs.DecisionAnswers.{read_misfit, read_bad, read_done}

@@ -1,7 +1,7 @@
 -- By the conditions in order; where none holds, what was filled is the coordinator's text.
 use Rattle.std.specs.Prelude.{◌+◌, ◌*◌}
 use Rattle.std.proofs.Common.{◌∙◌}
-use Rattle.lists.specs.Basics.{sym, length, drop, eqb-true, not-true, not-false, rules}
+use Rattle.lists.specs.Basics.{sym, length, drop, eqb-true}
 use Rattle.model.specs.Layouts.{coordinator_bytes, head_fields}
 use Rattle.numbers.specs.DecisionAnswers.{sized, write_misfit, write_bad, write_done}
 use Rattle.numbers.proofs.decisions.write_coordinator.Goals as goal

@@ -1,11 +1,9 @@
 -- Rows before i are in the target, and those from i on are still to come.
-use Rattle.std.specs.Prelude.{◌≡◌, ◌+◌, ◌-◌, ◌*◌, ◌/◌}
-use Rattle.std.proofs.Common.{◌∙◌}
-use Rattle.lists.specs.Basics.{refl, length, length-take, length-drop, arith, rules}
-use Rattle.model.specs.Layouts.{layout, record_layout, record_bytes, record_fields}
-use Rattle.model.specs.Lines.{row_of, lines_of}
-use Rattle.sheet_laws.specs.Lines.{line_bytes}
-use Rattle.numbers.specs.Filling.{MadeTo, made_first, made_next, made_last, made_room}
+use Rattle.std.specs.Prelude.{◌≡◌, ◌-◌, ◌/◌}
+use Rattle.lists.specs.Basics.{length}
+use Rattle.model.specs.Layouts.{record_layout, record_bytes, record_fields}
+use Rattle.model.specs.Lines.{row_of}
+use Rattle.numbers.specs.Filling.{MadeTo}
 use Rattle.numbers.proofs.records.fill_numbers.Given as goal
 
 abbrev pub invariant-loop-i : goal.invariant-loop-i

@@ -1,5 +1,5 @@
 -- The first part of the target comes back as the numbers of the record lines, then the rest as zeros: both make the whole.
-use Rattle.lists.specs.Basics.{length-take, arith, rules}
+use Rattle.lists.specs.Basics.{length-take, arith}
 use Rattle.numbers.specs.Spares.{read_few, read_room, read_fits, read_rest, read_behind}
 use Rattle.numbers.proofs.records.fill_rows.Goals as goal
 

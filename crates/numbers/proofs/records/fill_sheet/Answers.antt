@@ -1,5 +1,5 @@
 -- The first part of the target comes back as the lines of the records, then the rest as spares: both make the whole.
-use Rattle.lists.specs.Basics.{length-take, arith, rules}
+use Rattle.lists.specs.Basics.{length-take, arith}
 use Rattle.numbers.specs.Spares.{write_few, write_room, write_fits, write_rest, write_whole, write_behind}
 use Rattle.numbers.proofs.records.fill_sheet.Goals as goal
 

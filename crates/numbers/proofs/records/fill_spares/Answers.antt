@@ -1,8 +1,8 @@
 -- The lines before i are spares.
-use Rattle.std.specs.Prelude.{◌-◌, ◌/◌}
+use Rattle.std.specs.Prelude.{◌/◌}
 use Rattle.lists.specs.Basics.{length, arith, rules}
 use Rattle.model.specs.Layouts.{record_bytes}
-use Rattle.numbers.specs.Spares.{SparedTo, spared-first, spared_room, spared_next, spared_last}
+use Rattle.numbers.specs.Spares.{spared-first, spared_room, spared_next, spared_last}
 use Rattle.numbers.proofs.records.fill_spares.Goals as goal
 
 pub loop-i-init : goal.loop-i-init

@@ -1,8 +1,6 @@
 -- The lines before i are spares.
-use Rattle.std.specs.Prelude.{◌-◌, ◌/◌}
-use Rattle.lists.specs.Basics.{length, arith, rules}
-use Rattle.model.specs.Layouts.{record_bytes}
-use Rattle.numbers.specs.Spares.{SparedTo, spared-first, spared_room, spared_next, spared_last}
+use Rattle.std.specs.Prelude.{◌-◌}
+use Rattle.numbers.specs.Spares.{SparedTo}
 use Rattle.numbers.proofs.records.fill_spares.Given as goal
 
 abbrev pub invariant-loop-i : goal.invariant-loop-i

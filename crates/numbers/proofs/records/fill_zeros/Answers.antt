@@ -1,9 +1,8 @@
 -- The numbers before i are zeros.
-use Rattle.std.specs.Prelude.{◌-◌}
 use Rattle.std.proofs.Common.{◌∙◌}
-use Rattle.lists.specs.Basics.{sym, ℕ, length, replicate, arith, rules}
+use Rattle.lists.specs.Basics.{sym, ℕ, length, replicate, arith}
 use lib.ListN.{length-replicate}
-use Rattle.lists.specs.Fill.{StoredTo, store_first, store_last}
+use Rattle.lists.specs.Fill.{store_first, store_last}
 use Rattle.numbers.specs.Spares.{zeros_next}
 use Rattle.numbers.proofs.records.fill_zeros.Goals as goal
 

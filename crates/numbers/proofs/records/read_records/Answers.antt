@@ -1,6 +1,6 @@
 -- Case by case in the order of the refusals.
 use Rattle.std.proofs.Common.{◌∙◌}
-use Rattle.lists.specs.Basics.{sym, not-true, not-false, rules}
+use Rattle.lists.specs.Basics.{sym}
 use Rattle.numbers.specs.Answers.{sheet-whole, read_bad, read_misfit, read_done}
 use Rattle.numbers.proofs.records.read_records.Goals as goal
 

@@ -1,7 +1,7 @@
 -- The rows behind the first n are spares.
 use Rattle.std.proofs.Common.{◌∙◌}
-use Rattle.lists.specs.Basics.{sym, arith, not-true, not-false, rules}
-use Rattle.numbers.specs.Spares.{SparesFrom, spares-first, no_spare_lem, one-spare, none_left}
+use Rattle.lists.specs.Basics.{sym, arith}
+use Rattle.numbers.specs.Spares.{spares-first, no_spare_lem, one-spare, none_left}
 use Rattle.numbers.proofs.rows.filled_rows.Goals as goal
 
 pub loop-n-init : goal.loop-n-init

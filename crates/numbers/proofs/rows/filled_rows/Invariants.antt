@@ -1,7 +1,5 @@
 -- The rows behind the first n are spares.
-use Rattle.std.proofs.Common.{◌∙◌}
-use Rattle.lists.specs.Basics.{sym, arith, not-true, not-false, rules}
-use Rattle.numbers.specs.Spares.{SparesFrom, spares-first, no_spare_lem, one-spare, none_left}
+use Rattle.numbers.specs.Spares.{SparesFrom}
 use Rattle.numbers.proofs.rows.filled_rows.Given as goal
 
 abbrev pub invariant-loop-n : goal.invariant-loop-n

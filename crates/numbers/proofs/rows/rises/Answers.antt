@@ -1,6 +1,6 @@
 -- The two rows lent are row i and the next; the last row comes before none.
 use Rattle.std.proofs.Common.{◌∙◌}
-use Rattle.lists.specs.Basics.{ap, ap₂, rules}
+use Rattle.lists.specs.Basics.{ap, ap₂}
 use Rattle.model.specs.Types.{Record}
 use Rattle.model.specs.Records.{record_of, key_less}
 use Rattle.numbers.specs.RowsPass.{row-part, row_part_next, before-none, before_next}

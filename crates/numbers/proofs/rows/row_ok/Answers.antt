@@ -1,6 +1,6 @@
 -- The row lent is row i: in range, and its record keeps the rule of its state.
 use Rattle.std.proofs.Common.{◌∙◌}
-use Rattle.lists.specs.Basics.{sym, ap, not-true, not-false, rules}
+use Rattle.lists.specs.Basics.{sym, ap, rules}
 use Rattle.model.specs.Layouts.{layout, record_layout}
 use Rattle.model.specs.Lines.{row_good}
 use Rattle.model.specs.Records.{record_of, state_rule}

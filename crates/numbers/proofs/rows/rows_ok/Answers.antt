@@ -1,7 +1,7 @@
 -- The rows before the spares decide, where the numbers have their size.
 use Rattle.std.specs.Prelude.{◌*◌}
 use Rattle.std.proofs.Common.{◌∙◌}
-use Rattle.lists.specs.Basics.{sym, ap, ℕ, take, length-take, arith, not-true, not-false, rules}
+use Rattle.lists.specs.Basics.{sym, ap, ℕ, take, length-take, arith}
 use Rattle.model.specs.Layouts.{record_fields}
 use Rattle.model.specs.Records.{rows}
 use Rattle.model.specs.SheetCalls.{rows_front}

@@ -1,10 +1,8 @@
 -- The rows from i on pass exactly if all do: none before i was bad or out of order.
-use Rattle.std.specs.Prelude.{◌≡◌, ◌-◌, ◌/◌}
 use Rattle.std.proofs.Common.{◌∙◌}
-use Rattle.lists.specs.Basics.{refl, sym, length, not-true, not-false, rules}
+use Rattle.lists.specs.Basics.{refl, sym}
 use Rattle.lists.specs.Walks.{left-first}
-use Rattle.model.specs.Layouts.{record_fields}
-use Rattle.numbers.specs.RowsPass.{JudgedTo, judge_bad, judge_late, judge_next, judge_last}
+use Rattle.numbers.specs.RowsPass.{judge_bad, judge_late, judge_next, judge_last}
 use Rattle.numbers.proofs.rows.rows_pass.Goals as goal
 
 pub loop-i-init : goal.loop-i-init

@@ -1,6 +1,6 @@
 -- By the before state.
 use Rattle.std.proofs.Common.{◌∙◌}
-use Rattle.lists.specs.Basics.{sym, ap, leb, Bool, false, rules}
+use Rattle.lists.specs.Basics.{sym, ap, leb, Bool, false}
 use Rattle.model.specs.Types.{Record, Before}
 use Rattle.model.specs.Records.{by_before, absence, before_rule}
 use Rattle.numbers.proofs.rules.before_rule.Goals as goal

@@ -1,6 +1,6 @@
 -- By the state.
 use Rattle.std.proofs.Common.{◌∙◌}
-use Rattle.lists.specs.Basics.{sym, ap, rules}
+use Rattle.lists.specs.Basics.{sym, ap}
 use Rattle.model.specs.Types.{State}
 use Rattle.model.specs.Records.{by_state, absent_rule, committed_rule, prepared_rule}
 use Rattle.numbers.proofs.rules.state_rule.Goals as goal

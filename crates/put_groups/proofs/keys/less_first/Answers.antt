@@ -1,5 +1,5 @@
 -- The code is the comparison of five numbers, one after another.
-use Rattle.lists.specs.Basics.{get_or, rules}
+use Rattle.lists.specs.Basics.{get_or}
 use Rattle.put_groups.specs.Keys.{first_five, less_first_lem}
 use Rattle.put_groups.proofs.keys.less_first.Goals as goal
 

@@ -1,7 +1,6 @@
 -- As many of the entries before i are the last put of their scope as were found.
-use Rattle.std.specs.Prelude.{◌-◌}
-use Rattle.lists.specs.Basics.{ℕ, ltb, List, [], arith, rules}
-use Rattle.put_groups.specs.Scopes.{CountedTo, count_lasts, count_rows-first, count_rows_next, count_rows_last}
+use Rattle.lists.specs.Basics.{arith}
+use Rattle.put_groups.specs.Scopes.{count_rows-first, count_rows_next, count_rows_last}
 use Rattle.put_groups.proofs.scopes.counted.Goals as goal
 
 pub loop-i-init : goal.loop-i-init

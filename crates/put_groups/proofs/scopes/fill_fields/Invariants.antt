@@ -1,12 +1,10 @@
 -- The entries before i have their number of fields.
 use Rattle.std.specs.Prelude.{◌-◌}
-use Rattle.std.proofs.Common.{◌∙◌}
-use Rattle.lists.specs.Basics.{sym, map, arith, rules}
+use Rattle.lists.specs.Basics.{map}
 use Rattle.lists.specs.Fill.{StoredTo}
 use Rattle.model.specs.Transactions.{held}
-use Rattle.transactions.specs.Held.{has_room_lem, length_mapped, mapped_at}
 use Rattle.transactions.specs.Units.{units_in}
-use Rattle.put_groups.specs.Scopes.{put_fields, stored_first, stored_room, stored_next, stored_last}
+use Rattle.put_groups.specs.Scopes.{put_fields}
 use Rattle.put_groups.proofs.scopes.fill_fields.Given as goal
 
 abbrev pub invariant-loop-i : goal.invariant-loop-i

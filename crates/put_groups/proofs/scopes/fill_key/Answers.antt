@@ -1,5 +1,5 @@
 -- Five numbers are set, one after another.
-use Rattle.lists.specs.Basics.{length-set, arith, rules}
+use Rattle.lists.specs.Basics.{length-set, arith}
 use Rattle.model.specs.Records.{key_numbers}
 use Rattle.put_groups.specs.Keys.{five_set}
 use Rattle.put_groups.proofs.scopes.fill_key.Goals as goal

@@ -1,9 +1,8 @@
 -- The keys of the entries before i stand there.
-use Rattle.std.specs.Prelude.{◌-◌}
 use Rattle.std.proofs.Common.{◌∙◌}
-use Rattle.lists.specs.Basics.{sym, length-take, length-drop, arith, rules}
+use Rattle.lists.specs.Basics.{sym, length-take, length-drop, arith}
 use Rattle.transactions.specs.Held.{has_room_lem}
-use Rattle.put_groups.specs.Scopes.{KeysTo, keys_first, keys_room, keys_next, keys_last}
+use Rattle.put_groups.specs.Scopes.{keys_first, keys_room, keys_next, keys_last}
 use Rattle.put_groups.proofs.scopes.fill_keys.Goals as goal
 
 pub loop-i-init : goal.loop-i-init

@@ -1,9 +1,7 @@
 -- The entries before i are judged.
 use Rattle.std.specs.Prelude.{◌-◌}
-use Rattle.std.proofs.Common.{◌∙◌}
-use Rattle.lists.specs.Basics.{sym, length-take, length-drop, arith, rules}
-use Rattle.lists.specs.Fill.{StoredTo, rest_part}
-use Rattle.put_groups.specs.Scopes.{last_fields, lasts_of, length_each, each_at, stored_first, stored_room, stored_next, stored_last}
+use Rattle.lists.specs.Fill.{StoredTo}
+use Rattle.put_groups.specs.Scopes.{lasts_of}
 use Rattle.put_groups.proofs.scopes.fill_lasts.Given as goal
 
 abbrev pub invariant-loop-i : goal.invariant-loop-i

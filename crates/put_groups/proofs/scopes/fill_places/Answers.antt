@@ -1,9 +1,8 @@
 -- The entries before i are placed.
-use Rattle.std.specs.Prelude.{◌-◌}
 use Rattle.std.proofs.Common.{◌∙◌}
-use Rattle.lists.specs.Basics.{sym, length-take, length-drop, arith, rules}
-use Rattle.lists.specs.Fill.{StoredTo, rest_part}
-use Rattle.put_groups.specs.Scopes.{placing, places_of, length_each, each_at, number-here, stored_first, stored_room, stored_next, stored_last}
+use Rattle.lists.specs.Basics.{sym, length-take, length-drop, arith}
+use Rattle.lists.specs.Fill.{rest_part}
+use Rattle.put_groups.specs.Scopes.{placing, length_each, each_at, number-here, stored_first, stored_room, stored_next, stored_last}
 use Rattle.put_groups.proofs.scopes.fill_places.Goals as goal
 
 pub loop-i-init : goal.loop-i-init

@@ -1,8 +1,7 @@
 -- No put between the first entry and entry j has its scope.
-use Rattle.std.specs.Prelude.{◌-◌}
-use Rattle.lists.specs.Basics.{refl, drop, length-take, length-drop, arith, rules}
+use Rattle.lists.specs.Basics.{refl, length-take, length-drop, arith}
 use Rattle.lists.specs.Fill.{rest_part}
-use Rattle.put_groups.specs.Scopes.{WalkedTo, recurs, any_row-met, any_row_next, any_row_last, last_not, last_put}
+use Rattle.put_groups.specs.Scopes.{any_row-met, any_row_next, any_row_last, last_not, last_put}
 use Rattle.put_groups.proofs.scopes.last_fields.Goals as goal
 
 pub bounds-fields-0 : goal.bounds-fields-0

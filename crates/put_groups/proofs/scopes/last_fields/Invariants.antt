@@ -1,8 +1,7 @@
 -- No put between the first entry and entry j has its scope.
 use Rattle.std.specs.Prelude.{◌-◌}
-use Rattle.lists.specs.Basics.{refl, drop, length-take, length-drop, arith, rules}
-use Rattle.lists.specs.Fill.{rest_part}
-use Rattle.put_groups.specs.Scopes.{WalkedTo, recurs, any_row-met, any_row_next, any_row_last, last_not, last_put}
+use Rattle.lists.specs.Basics.{drop}
+use Rattle.put_groups.specs.Scopes.{WalkedTo, recurs}
 use Rattle.put_groups.proofs.scopes.last_fields.Given as goal
 
 abbrev pub invariant-loop-j : goal.invariant-loop-j

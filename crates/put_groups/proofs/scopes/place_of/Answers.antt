@@ -1,8 +1,7 @@
 -- As many of the entries before j are the last put of a scope before that of the key as were found.
-use Rattle.std.specs.Prelude.{◌-◌}
-use Rattle.lists.specs.Basics.{length-take, length-drop, arith, lt-ltb, le-ltb, rules}
+use Rattle.lists.specs.Basics.{length-take, length-drop, arith, lt-ltb, le-ltb}
 use Rattle.lists.specs.Fill.{rest_part}
-use Rattle.put_groups.specs.Scopes.{CountedTo, count_rows, before, count_rows-first, count_rows_next, count_rows_last}
+use Rattle.put_groups.specs.Scopes.{count_rows-first, count_rows_next, count_rows_last}
 use Rattle.put_groups.proofs.scopes.place_of.Goals as goal
 
 pub returns-then-fields-lt1 : goal.returns-then-fields-lt1

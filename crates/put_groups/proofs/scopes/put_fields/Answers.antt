@@ -1,5 +1,5 @@
 -- By whether there is a put.
-use Rattle.lists.specs.Basics.{eq-eqb, ne_eqb, rules}
+use Rattle.lists.specs.Basics.{eq-eqb, ne_eqb}
 use Rattle.put_groups.proofs.scopes.put_fields.Goals as goal
 
 pub returns-then-wrote-ne1 : goal.returns-then-wrote-ne1

@@ -1,6 +1,6 @@
 -- The letter of the storage, case by case in the order of the code's tests.
 use Rattle.std.proofs.Common.{◌∙◌}
-use Rattle.lists.specs.Basics.{sym, ap, rules}
+use Rattle.lists.specs.Basics.{sym, ap}
 use Rattle.model.specs.Coordinator.{Letter}
 use Rattle.model.specs.Groups.{unit_fields}
 use Rattle.transactions.specs.Units.{letter_in, letter-none, letter_past, letter_at}

@@ -1,5 +1,4 @@
 -- By the kind of the call.
-use borrow.Author.Rules.{rules}
 use Rattle.script.proofs.scan.arity.Goals as goal
 
 pub returns-in-Check : goal.returns-in-Check

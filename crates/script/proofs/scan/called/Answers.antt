@@ -1,6 +1,6 @@
 -- By whether all words are numbers, and by how many there are.
 use Rattle.std.proofs.Common.{◌∙◌}
-use Rattle.lists.specs.Basics.{refl, sym, true, false, eq-eqb, ne_eqb, not-true, not-false, rules}
+use Rattle.lists.specs.Basics.{refl, sym, true, false, eq-eqb, ne_eqb, not-true, not-false}
 use Rattle.script.specs.Lines.{called_by_lem}
 use Rattle.script.proofs.scan.called.Goals as goal
 

@@ -1,7 +1,7 @@
 -- The column stays between the first and the end of the slice, and what is before the mark from there on ends where all of it does.
 use Rattle.std.specs.Prelude.{◌≡◌, ◌+◌, ◌-◌, ◌≤◌}
-use Rattle.lists.specs.Basics.{refl, length, drop, arith, rules}
-use Rattle.script.specs.Lines.{up_to, mark_here, mark_later, mark_none}
+use Rattle.lists.specs.Basics.{length, drop}
+use Rattle.script.specs.Lines.{up_to}
 use Rattle.script.proofs.scan.end_of.Given as goal
 
 abbrev pub invariant-loop-i : goal.invariant-loop-i

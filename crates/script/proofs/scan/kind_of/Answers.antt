@@ -1,7 +1,7 @@
 -- By whether the word is `sheets` or, where there are two sheets, `second`; any other is a call's name or none.
 use Rattle.std.specs.Prelude.{◌&&◌}
 use Rattle.std.proofs.Common.{◌∙◌}
-use Rattle.lists.specs.Basics.{sym, ap, Bool, bytes, rules}
+use Rattle.lists.specs.Basics.{sym, ap, Bool, bytes}
 use Rattle.script.specs.Lines.{kind_of}
 use Rattle.script.proofs.scan.kind_of.Goals as goal
 

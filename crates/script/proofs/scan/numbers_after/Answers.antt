@@ -1,9 +1,9 @@
 -- A word ends after the space before it, so that the column rises to the end of the line; the words to come, after the numbers so far, give what all words do.
-use Rattle.std.specs.Prelude.{◌≡◌, ◌+◌, ◌-◌, ◌≤◌}
+use Rattle.std.specs.Prelude.{◌≡◌, ◌+◌, ◌-◌}
 use Rattle.std.proofs.Common.{◌∙◌}
-use Rattle.lists.specs.Basics.{refl, sym, ap, length, drop, arith, rules}
+use Rattle.lists.specs.Basics.{refl, sym, ap, drop, arith}
 use Rattle.script.specs.declared.scan.Numbers.{Numbers}
-use Rattle.script.specs.Lines.{no_numbers, with_words, words_after, next_word, no_word}
+use Rattle.script.specs.Lines.{with_words, words_after, next_word, no_word}
 use Rattle.script.proofs.scan.numbers_after.Goals as goal
 
 pub loop-at-init : goal.loop-at-init

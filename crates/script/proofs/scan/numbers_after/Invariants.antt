@@ -1,9 +1,7 @@
 -- A word ends after the space before it, so that the column rises to the end of the line; the words to come, after the numbers so far, give what all words do.
-use Rattle.std.specs.Prelude.{◌≡◌, ◌+◌, ◌-◌, ◌≤◌}
-use Rattle.std.proofs.Common.{◌∙◌}
-use Rattle.lists.specs.Basics.{refl, sym, ap, length, drop, arith, rules}
-use Rattle.script.specs.declared.scan.Numbers.{Numbers}
-use Rattle.script.specs.Lines.{no_numbers, with_words, words_after, next_word, no_word}
+use Rattle.std.specs.Prelude.{◌≡◌, ◌-◌, ◌≤◌}
+use Rattle.lists.specs.Basics.{length, drop}
+use Rattle.script.specs.Lines.{no_numbers, with_words, words_after}
 use Rattle.script.proofs.scan.numbers_after.Given as goal
 
 abbrev pub invariant-loop-at : goal.invariant-loop-at

@@ -1,7 +1,7 @@
 -- The first word is what stands before the first space, and the other words are read after it.
 use Rattle.std.specs.Prelude.{◌≡◌}
 use Rattle.std.proofs.Common.{◌∙◌}
-use Rattle.lists.specs.Basics.{ap₂, length, length-take, arith, rules}
+use Rattle.lists.specs.Basics.{ap₂, length, length-take, arith}
 use Rattle.script.specs.Lines.{called, up_to, said_read}
 use Rattle.script.proofs.scan.parse.Goals as goal
 

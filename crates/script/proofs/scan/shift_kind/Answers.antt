@@ -2,7 +2,6 @@
 use Rattle.std.proofs.Common.{◌∙◌}
 use Rattle.lists.specs.Basics.{sym, bytes}
 use Rattle.script.specs.Lines.{shift_kind}
-use borrow.Author.Rules.{rules}
 use Rattle.script.proofs.scan.shift_kind.Goals as goal
 
 pub returns-then-same : goal.returns-then-same

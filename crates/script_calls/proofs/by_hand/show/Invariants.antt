@@ -1,6 +1,5 @@
 -- At most eight entries are shown, so that their rows lie in the array.
 use Rattle.std.specs.Prelude.{◌-◌, ◌≤◌}
-use Rattle.lists.specs.Basics.{rules}
 use Rattle.script_calls.proofs.by_hand.show.Given as goal
 
 abbrev pub invariant-loop-k : goal.invariant-loop-k

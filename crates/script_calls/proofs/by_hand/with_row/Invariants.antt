@@ -1,6 +1,6 @@
 -- The array keeps its length, and the numbers of an entry from `at` on lie in it.
 use Rattle.std.specs.Prelude.{◌≡◌, ◌-◌, ◌≤◌}
-use Rattle.lists.specs.Basics.{length, rules}
+use Rattle.lists.specs.Basics.{length}
 use Rattle.script.specs.Lines.{entry_numbers, reply_numbers}
 use Rattle.script_calls.proofs.by_hand.with_row.Given as goal
 

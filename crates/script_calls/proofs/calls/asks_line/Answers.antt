@@ -1,5 +1,4 @@
 -- By the kind of the line.
-use borrow.Author.Rules.{rules}
 use Rattle.script_calls.proofs.calls.asks_line.Goals as goal
 
 pub returns-in-Check : goal.returns-in-Check

@@ -1,5 +1,4 @@
 -- By the kind of the line, each with its own numbers.
-use borrow.Author.Rules.{rules}
 use Rattle.script_calls.proofs.calls.request.Goals as goal
 
 pub returns-in-Check : goal.returns-in-Check

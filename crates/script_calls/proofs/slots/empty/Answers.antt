@@ -1,5 +1,5 @@
 -- The same new transaction sixteen times.
-use Rattle.lists.specs.Basics.{ap, replicate, rules}
+use Rattle.lists.specs.Basics.{ap, replicate}
 use Rattle.script_calls.proofs.slots.empty.Goals as goal
 
 pub returns : goal.returns

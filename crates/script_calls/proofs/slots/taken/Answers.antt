@@ -1,5 +1,5 @@
 -- By whether there is such a slot.
-use Rattle.lists.specs.Basics.{le-leb, lt-leb, get_or, rules}
+use Rattle.lists.specs.Basics.{le-leb, lt-leb, get_or}
 use Rattle.script_calls.proofs.slots.taken.Goals as goal
 
 pub returns-then-slot-ge16 : goal.returns-then-slot-ge16

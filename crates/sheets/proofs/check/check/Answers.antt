@@ -1,13 +1,12 @@
 -- Case by case in the order of the refusals; what is asked of the records is asked of the lines before the spares.
 use Rattle.std.proofs.Common.{◌∙◌}
-use Rattle.lists.specs.Basics.{sym, ap, ℕ, length-take, take, arith, not-true, not-false, rules}
+use Rattle.lists.specs.Basics.{sym, ap, ℕ, length-take, take, arith}
 use Rattle.model.specs.Records.{records_accepted}
 use Rattle.model.specs.Spares.{front}
 use Rattle.sheet_laws.specs.Spared.{accepted_lines}
 use Rattle.model.specs.SheetCalls.{all_issued}
 use Rattle.sheet_laws.specs.Decisions.{accepted_parts}
 use Rattle.sheets.specs.Answers.{check_bad, check_coordinator, check_unissued, check_good}
-use borrow.Author.Rules.{rules}
 use Rattle.sheets.proofs.check.check.Goals as goal
 
 pub returns-then-not-sheet_ok : goal.returns-then-not-sheet_ok

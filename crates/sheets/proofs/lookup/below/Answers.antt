@@ -1,10 +1,10 @@
 -- The rank is kept between low and high: the line in the middle has a smaller key exactly if it stands below the rank.
 use Rattle.std.specs.Prelude.{◌+◌, ◌-◌, ◌/◌}
 use Rattle.std.proofs.Common.{◌∙◌}
-use Rattle.lists.specs.Basics.{ap, arith, rules}
+use Rattle.lists.specs.Basics.{ap, arith}
 use Rattle.model.specs.Types.{Key}
 use Rattle.model.specs.Records.{key_less}
-use Rattle.sheets.specs.Search.{Between, between_first, between_last, between_behind, between_before}
+use Rattle.sheets.specs.Search.{between_first, between_last, between_behind, between_before}
 use Rattle.sheets.proofs.lookup.below.Goals as goal
 
 pub loop-low-init : goal.loop-low-init

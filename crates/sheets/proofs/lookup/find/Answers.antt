@@ -1,6 +1,6 @@
 -- The line that begins as the key line does is the one that has the key, and stands at its rank.
 use Rattle.std.proofs.Common.{◌∙◌}
-use Rattle.lists.specs.Basics.{ap, ℕ, List, rules}
+use Rattle.lists.specs.Basics.{ap, ℕ, List}
 use Rattle.model.specs.Layouts.{record_bytes}
 use Rattle.model.specs.Lines.{lines_of}
 use Rattle.model.specs.Records.{records}

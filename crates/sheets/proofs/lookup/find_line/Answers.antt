@@ -1,8 +1,8 @@
 -- No line before i begins so; line i agrees from field f on. A field that differs passes the line, and five that agree are a match.
-use Rattle.std.specs.Prelude.{◌≡◌, ◌-◌, ◌/◌, ◌≤◌, ◌<◌}
+use Rattle.std.specs.Prelude.{◌-◌, ◌/◌, ◌≤◌, ◌<◌}
 use Rattle.std.proofs.Common.{◌∙◌}
-use Rattle.lists.specs.Basics.{refl, sym, length, arith, not-true, not-false, rules}
-use Rattle.sheets.specs.Search.{Passed, Agreed, agree-first, agree_next, pass-met, pass_next, pass_last}
+use Rattle.lists.specs.Basics.{refl, sym, length, arith}
+use Rattle.sheets.specs.Search.{agree-first, agree_next, pass-met, pass_next, pass_last}
 use Rattle.lists.specs.Walks.{left-first}
 use Rattle.model.specs.Layouts.{record_bytes}
 use Rattle.sheets.proofs.lookup.find_line.Goals as goal

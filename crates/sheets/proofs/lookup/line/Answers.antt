@@ -5,7 +5,6 @@ use Rattle.lists.specs.Basics.{sym, subst, arith}
 use Rattle.model.specs.Types.{Ranked}
 use Rattle.sheet_laws.specs.Ranks.{found-few}
 use Rattle.sheets.specs.Answers.{line-none, line-met, is_found}
-use borrow.Author.Rules.{rules}
 use Rattle.sheets.proofs.lookup.line.Goals as goal
 
 pub returns-in-At : goal.returns-in-At

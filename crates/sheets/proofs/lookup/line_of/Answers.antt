@@ -1,7 +1,7 @@
 -- Case by case in the order of the refusals; what is found is found among the lines before the spares.
 use Rattle.std.specs.Prelude.{◌≤◌}
 use Rattle.std.proofs.Common.{◌∙◌}
-use Rattle.lists.specs.Basics.{sym, ap, subst, ℕ, length-take, take, arith, not-true, not-false, rules}
+use Rattle.lists.specs.Basics.{sym, ap, subst, ℕ, length-take, take, arith}
 use Rattle.model.specs.Records.{records_accepted}
 use Rattle.model.specs.Spares.{front}
 use Rattle.sheet_laws.specs.Spared.{accepted_lines}
@@ -9,7 +9,6 @@ use Rattle.model.specs.Types.{Ranked}
 use Rattle.model.specs.Records.{records}
 use Rattle.model.specs.SheetCalls.{line_among}
 use Rattle.sheets.specs.Answers.{lookup_bad, lookup_out, line-told}
-use borrow.Author.Rules.{rules}
 use Rattle.sheets.proofs.lookup.line_of.Goals as goal
 
 pub returns-then-not-sheet_ok : goal.returns-then-not-sheet_ok

@@ -1,7 +1,7 @@
 -- Case by case in the order of the refusals; an index that was found is that of a line before the spares.
 use Rattle.std.specs.Prelude.{◌≡◌, ◌+◌, ◌-◌, ◌*◌}
 use Rattle.std.proofs.Common.{◌∙◌}
-use Rattle.lists.specs.Basics.{sym, ap, ℕ, length-take, take, arith, not-true, not-false, rules}
+use Rattle.lists.specs.Basics.{sym, ap, ℕ, length-take, take, arith}
 use Rattle.model.specs.Records.{records_accepted}
 use Rattle.model.specs.Spares.{front}
 use Rattle.sheet_laws.specs.Spared.{accepted_lines}
@@ -9,7 +9,6 @@ use Rattle.model.specs.Records.{records, ranked, placed}
 use Rattle.lists.specs.Basics.{drop}
 use Rattle.model.specs.Layouts.{record_bytes}
 use Rattle.sheets.specs.Answers.{lookup_bad, lookup_out, lookup_none, lookup_met, is_found, front_fits}
-use borrow.Author.Rules.{rules}
 use Rattle.sheets.proofs.lookup.lookup.Goals as goal
 
 pub returns-then-not-sheet_ok : goal.returns-then-not-sheet_ok

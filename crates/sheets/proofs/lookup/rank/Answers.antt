@@ -2,7 +2,6 @@
 use Rattle.std.proofs.Common.{◌∙◌}
 use Rattle.sheet_laws.specs.Ranks.{found-ranked, missing-ranked, accepted_order}
 use Rattle.sheets.specs.Answers.{is_found}
-use borrow.Author.Rules.{rules}
 use Rattle.sheets.proofs.lookup.rank.Goals as goal
 
 pub returns-in-At : goal.returns-in-At

@@ -1,7 +1,7 @@
 -- Case by case in the order of the refusals; what is found is found among the lines before the spares.
 use Rattle.std.specs.Prelude.{◌≤◌}
 use Rattle.std.proofs.Common.{◌∙◌}
-use Rattle.lists.specs.Basics.{sym, ap, subst, ℕ, length-take, take, arith, not-true, not-false, rules}
+use Rattle.lists.specs.Basics.{sym, ap, subst, ℕ, length-take, take, arith}
 use Rattle.model.specs.Records.{records_accepted}
 use Rattle.model.specs.Spares.{front}
 use Rattle.model.specs.Layouts.{record_bytes}
@@ -10,7 +10,6 @@ use Rattle.model.specs.Types.{Rank, Ranked}
 use Rattle.model.specs.Records.{records, ranked}
 use Rattle.sheet_laws.specs.Ranks.{rank-few}
 use Rattle.sheets.specs.Answers.{lookup_bad, lookup_out, told}
-use borrow.Author.Rules.{rules}
 use Rattle.sheets.proofs.lookup.rank_of.Goals as goal
 
 pub returns-then-not-sheet_ok : goal.returns-then-not-sheet_ok

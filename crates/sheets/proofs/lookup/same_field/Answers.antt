@@ -1,6 +1,6 @@
 -- The parts lent are the key field of the line and of the key line; the edges bound them.
 use Rattle.std.proofs.Common.{◌∙◌}
-use Rattle.lists.specs.Basics.{sym, ap, arith, rules, eq_list}
+use Rattle.lists.specs.Basics.{sym, ap, arith, eq_list}
 use Rattle.sheets.specs.Search.{edge, edges, key_field, field_of_text}
 use Rattle.sheets.proofs.lookup.same_field.Goals as goal
 

@@ -1,6 +1,6 @@
 -- By the decision of the transaction's number.
 use Rattle.std.proofs.Common.{◌∙◌}
-use Rattle.lists.specs.Basics.{refl, sym, rules}
+use Rattle.lists.specs.Basics.{refl, sym}
 use Rattle.steps.specs.Stepped.{wrote_nothing, wrote-decision}
 use Rattle.steps.specs.Cases.{stepped_as, decide_commits, decide_stays, decide_undoes}
 use Rattle.model.specs.ByteCalls.{sheets_of}

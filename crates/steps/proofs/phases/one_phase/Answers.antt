@@ -1,6 +1,6 @@
 -- By whether the conditions hold.
 use Rattle.std.proofs.Common.{◌∙◌}
-use Rattle.lists.specs.Basics.{refl, sym, rules}
+use Rattle.lists.specs.Basics.{refl, sym}
 use Rattle.steps.specs.Ready.{records_accepted_lem, coordinator_readable_lem, may_write}
 use Rattle.steps.specs.Stepped.{wrote_nothing, wrote-lines}
 use Rattle.model.specs.Writes.{decisions_after}

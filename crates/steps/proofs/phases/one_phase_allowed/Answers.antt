@@ -1,6 +1,5 @@
 -- The definition, with the number of groups and the letters at hand.
 use Rattle.model.specs.Steps.{one_phase_allowed}
-use borrow.Author.Rules.{rules}
 use Rattle.steps.proofs.phases.one_phase_allowed.Goals as goal
 
 pub returns : goal.returns

@@ -5,7 +5,6 @@ use Rattle.sheet_laws.specs.Decisions.{readable_length}
 use Rattle.steps.specs.Ready.{records_accepted_lem, coordinator_readable_lem, few, units}
 use Rattle.steps.specs.Stepped.{wrote_nothing}
 use Rattle.steps.specs.Cases.{stepped_as, open_done, open_validates, open_prepares, open_one_phase}
-use borrow.Author.Rules.{rules}
 use Rattle.steps.proofs.phases.open.Goals as goal
 
 pub has_puts-requires : goal.has_puts-requires

@@ -1,6 +1,6 @@
 -- By whether the conditions hold.
 use Rattle.std.proofs.Common.{◌∙◌}
-use Rattle.lists.specs.Basics.{refl, sym, ap, ℕ, arith, not-true, not-false, rules}
+use Rattle.lists.specs.Basics.{refl, sym, ap, ℕ, arith, not-false}
 use Rattle.sheet_laws.specs.Decisions.{readable_length}
 use Rattle.steps.specs.Ready.{records_accepted_lem, coordinator_readable_lem, few, units, may_write, place_prepare}
 use Rattle.steps.specs.Stepped.{wrote_nothing, wrote-lines}

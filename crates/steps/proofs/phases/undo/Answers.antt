@@ -1,5 +1,5 @@
 -- The group's lines are written, and the next group comes.
-use Rattle.lists.specs.Basics.{refl, rules}
+use Rattle.lists.specs.Basics.{refl}
 use Rattle.steps.specs.Ready.{coordinator_readable_lem, may_write, place_undo}
 use Rattle.steps.specs.Stepped.{wrote-lines}
 use Rattle.model.specs.Writes.{decisions_after}

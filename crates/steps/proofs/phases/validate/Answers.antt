@@ -1,6 +1,6 @@
 -- By whether the entry's condition holds; nothing is written.
 use Rattle.std.proofs.Common.{◌∙◌}
-use Rattle.lists.specs.Basics.{sym, arith, not-true, not-false, rules}
+use Rattle.lists.specs.Basics.{sym, arith}
 use Rattle.sheet_laws.specs.Decisions.{readable_length}
 use Rattle.held_lines.specs.Located.{indexed_in}
 use Rattle.steps.specs.Ready.{records_accepted_lem, coordinator_readable_lem, few, units, place_validate, validate_held}

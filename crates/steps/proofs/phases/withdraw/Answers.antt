@@ -1,7 +1,6 @@
 -- By the decision of the transaction's number.
 use Rattle.std.proofs.Common.{◌∙◌}
-use Rattle.lists.specs.Basics.{refl, sym, rules}
-use Rattle.steps.specs.Ready.{few}
+use Rattle.lists.specs.Basics.{refl, sym}
 use Rattle.steps.specs.Stepped.{wrote_nothing, wrote-decision}
 use Rattle.steps.specs.Cases.{stepped_as, withdraw_aborts, withdraw_stays, withdraw_moves}
 use Rattle.model.specs.ByteCalls.{sheets_of}

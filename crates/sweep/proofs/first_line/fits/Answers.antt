@@ -1,7 +1,7 @@
 -- Case by case: too short, not well set, or as long as its numbers say.
 use Rattle.std.specs.Prelude.{◌+◌, ◌*◌}
 use Rattle.std.proofs.Common.{◌∙◌}
-use Rattle.lists.specs.Basics.{sym, ap, subst, ℕ, eqb, length, arith, not-true, not-false, rules}
+use Rattle.lists.specs.Basics.{sym, ap, subst, ℕ, eqb, length, arith}
 use Rattle.sweep.specs.declared.FirstLine.{FirstLine}
 use Rattle.sweep.specs.FirstLine.{Small, records_from, short_unfit, unset_unfit, set-fits, first_small}
 use Rattle.model.specs.Layouts.{record_bytes}

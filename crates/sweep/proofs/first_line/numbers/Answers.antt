@@ -1,6 +1,6 @@
 -- Each figure, read from the input itself, is the definition's number.
 use Rattle.std.proofs.Common.{◌∙◌}
-use Rattle.lists.specs.Basics.{ap, rules}
+use Rattle.lists.specs.Basics.{ap}
 use Rattle.decimal.specs.Field.{number}
 use Rattle.sweep.specs.FirstLine.{lines_read, decisions_read_lem, clock_read}
 use Rattle.sweep.proofs.first_line.numbers.Goals as goal

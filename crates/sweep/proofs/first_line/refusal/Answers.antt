@@ -1,6 +1,6 @@
 -- An input that does not fit is refused by 1; one that fits is refused as its two parts are.
 use Rattle.std.proofs.Common.{◌∙◌}
-use Rattle.lists.specs.Basics.{sym, ap, ap₂, subst, ℕ, List, arith, not-true, not-false, rules}
+use Rattle.lists.specs.Basics.{sym, ap, ap₂, subst, ℕ, List, arith}
 use Rattle.model.specs.Refusals.{refusal_of}
 use Rattle.model.specs.SheetCalls.{check_conditions}
 use Rattle.sweep.specs.FirstLine.{Small, fit, records_from, records-within, unfit_refused, fit_refused, first_small, coordinator-part, records-part}

@@ -1,6 +1,6 @@
 -- The definition's three figures and LF, read from the input itself; the first that cannot be read decides.
 use Rattle.std.proofs.Common.{◌∙◌}
-use Rattle.lists.specs.Basics.{sym, ap, not-true, not-false, rules}
+use Rattle.lists.specs.Basics.{sym, ap}
 use Rattle.decimal.specs.Field.{is_number}
 use Rattle.sweep.specs.FirstLine.{first_wrong, second_wrong, third_wrong, figures-set}
 use Rattle.sweep.proofs.first_line.well_set.Goals as goal

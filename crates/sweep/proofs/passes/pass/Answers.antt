@@ -1,8 +1,6 @@
 -- The keys from line i on, visited from the sheets as they now are, come to what all keys come to from the first sheets.
-use Rattle.std.specs.Prelude.{◌≡◌, ◌-◌}
-use Rattle.lists.specs.Basics.{refl, length, arith, rules}
-use Rattle.sweep.specs.Passes.{both, VisitedTo, pass-first, pass_next, pass_last, still_lined}
-use borrow.Author.Rules.{rules}
+use Rattle.lists.specs.Basics.{refl, arith}
+use Rattle.sweep.specs.Passes.{both, pass-first, pass_next, pass_last, still_lined}
 use Rattle.sweep.proofs.passes.pass.Goals as goal
 
 pub loop-i-init : goal.loop-i-init
@@ -10,8 +8,8 @@ loop-i-init c = (refl, (refl, pass-first _ _ c.requires.passing))
 
 pub visit_line-requires : goal.visit_line-requires
 visit_line-requires c =
-    let a = c.args in 
-      record { lined = still_lined _ _ a.end c.requires c.loop-i.invariant.1.1.kept; i_bound = omega (arith, c.loop-i-test.true) }
+    let a = c.args in
+    record { lined = still_lined _ _ a.end c.requires c.loop-i.invariant.1.1.kept; i_bound = omega (arith, c.loop-i-test.true) }
 
 pub loop-i-preserved : goal.loop-i-preserved
 loop-i-preserved c =

@@ -1,8 +1,7 @@
 -- The keys from line i on, visited from the sheets as they now are, come to what all keys come to from the first sheets.
 use Rattle.std.specs.Prelude.{◌≡◌, ◌-◌}
-use Rattle.lists.specs.Basics.{refl, length, arith, rules}
-use Rattle.sweep.specs.Passes.{both, VisitedTo, pass-first, pass_next, pass_last, still_lined}
-use borrow.Author.Rules.{rules}
+use Rattle.lists.specs.Basics.{length}
+use Rattle.sweep.specs.Passes.{both, VisitedTo}
 use Rattle.sweep.proofs.passes.pass.Given as goal
 
 abbrev pub invariant-loop-i : goal.invariant-loop-i

@@ -1,9 +1,7 @@
 -- Each pass is over the keys of the first sheets, which every pass keeps, and two passes are a sweep.
-use Rattle.std.specs.Prelude.{◌≡◌, ◌-◌}
-use Rattle.lists.specs.Basics.{refl, length, arith, rules}
+use Rattle.lists.specs.Basics.{refl, arith}
 use Rattle.call_laws.specs.Lifting.{passing_parts}
-use Rattle.sweep.specs.Passes.{both, PassedTo, sweep_first, sweep_next, sweep_last, still_lined}
-use borrow.Author.Rules.{rules}
+use Rattle.sweep.specs.Passes.{both, sweep_first, sweep_next, sweep_last, still_lined}
 use Rattle.sweep.proofs.passes.sweep.Goals as goal
 
 pub lines_end-end-requires : goal.lines_end-end-requires

@@ -1,9 +1,7 @@
 -- Each pass is over the keys of the first sheets, which every pass keeps, and two passes are a sweep.
 use Rattle.std.specs.Prelude.{◌≡◌, ◌-◌}
-use Rattle.lists.specs.Basics.{refl, length, arith, rules}
-use Rattle.call_laws.specs.Lifting.{passing_parts}
-use Rattle.sweep.specs.Passes.{both, PassedTo, sweep_first, sweep_next, sweep_last, still_lined}
-use borrow.Author.Rules.{rules}
+use Rattle.lists.specs.Basics.{length}
+use Rattle.sweep.specs.Passes.{both, PassedTo}
 use Rattle.sweep.proofs.passes.sweep.Given as goal
 
 abbrev pub invariant-loop-turn : goal.invariant-loop-turn

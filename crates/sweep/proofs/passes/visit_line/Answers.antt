@@ -1,8 +1,7 @@
 -- The line is that of its key, and its visit on the lines of sheets that pass is the definition's.
-use Rattle.lists.specs.Basics.{length-take, arith, rules}
+use Rattle.lists.specs.Basics.{length-take, arith}
 use Rattle.engine.specs.Fronts.{front-within}
 use Rattle.sweep.specs.Passes.{line_stands, line-visited}
-use borrow.Author.Rules.{rules}
 use Rattle.sweep.proofs.passes.visit_line.Goals as goal
 
 pub slice_bounds-visit_line-end : goal.slice_bounds-visit_line-end

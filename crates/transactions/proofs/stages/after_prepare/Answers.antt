@@ -1,7 +1,7 @@
 -- By whether an entry is to be validated.
 use Rattle.std.specs.Prelude.{◌≡◌}
 use Rattle.std.proofs.Common.{◌∙◌}
-use Rattle.lists.specs.Basics.{sym, true, false, not-true, not-false, rules}
+use Rattle.lists.specs.Basics.{sym, true, false, not-true, not-false}
 use Rattle.model.specs.Transactions.{is_empty, to_validate}
 use Rattle.transactions.specs.Units.{units_in}
 use Rattle.transactions.proofs.stages.after_prepare.Goals as goal

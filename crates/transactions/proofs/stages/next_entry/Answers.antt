@@ -1,7 +1,7 @@
 -- By whether another entry is to be validated, and after the last by whether there are puts.
 use Rattle.std.specs.Prelude.{◌≡◌}
 use Rattle.std.proofs.Common.{◌∙◌}
-use Rattle.lists.specs.Basics.{sym, true, false, arith, lt-ltb, le-ltb, not-true, not-false, rules}
+use Rattle.lists.specs.Basics.{sym, true, false, arith, lt-ltb, le-ltb, not-true, not-false}
 use Rattle.model.specs.Transactions.{is_empty, puts}
 use Rattle.model.specs.Steps.{next_entry}
 use Rattle.transactions.proofs.stages.next_entry.Goals as goal

@@ -1,7 +1,7 @@
 -- By whether there are puts.
 use Rattle.std.specs.Prelude.{◌≡◌}
 use Rattle.std.proofs.Common.{◌∙◌}
-use Rattle.lists.specs.Basics.{sym, true, false, not-true, not-false, rules}
+use Rattle.lists.specs.Basics.{sym, true, false, not-true, not-false}
 use Rattle.model.specs.Transactions.{is_empty, puts}
 use Rattle.transactions.proofs.stages.withdrawn.Goals as goal
 

@@ -1,8 +1,6 @@
 -- What is told.
-use Rattle.lists.specs.Basics.{rules}
-use borrow.Author.Rules.{rules}
 use Rattle.two_engine.proofs.lookup.line_of.Goals as goal
 
 pub returns : goal.returns
-returns c = 
-      record { told = c.line_told.ensures.told; few = c.line_told.ensures.few }
+returns c =
+    record { told = c.line_told.ensures.told; few = c.line_told.ensures.few }

@@ -1,6 +1,5 @@
 -- Refused first, or told of the lines before the spares.
-use Rattle.std.specs.Prelude.{◌-◌}
-use Rattle.lists.specs.Basics.{sym, length-take, arith, rules}
+use Rattle.lists.specs.Basics.{sym, length-take, arith}
 use Rattle.model.specs.TwoSheets.{plain_bytes, bookkeeping_bytes}
 use Rattle.sheet_laws.specs.Fronts.{sized-whole}
 use Rattle.lists.specs.Basics.{[]}
@@ -8,7 +7,6 @@ use Rattle.lists.specs.Basics.{subst}
 use Rattle.model.specs.Types.{Ranked}
 use Rattle.two_engine.specs.Forms.{front-plain, front-bookkeeping}
 use Rattle.two_engine.specs.Lookups.{Ranks, line_refused, line-passed}
-use borrow.Author.Rules.{rules}
 use Rattle.two_engine.proofs.lookup.line_told.Goals as goal
 
 pub returns-then-refused-ne0 : goal.returns-then-refused-ne0
@@ -18,13 +16,13 @@ returns-then-refused-ne0 c =
 
 pub front_end-p-requires : goal.front_end-p-requires
 front_end-p-requires c =
-    let a = c.args in 
-      record { s_len = sized-whole plain_bytes a.plain.now (c.forms_refusal-refused.ensures.fit c.if-refused-ne0.false).plain; le_width = omega arith; width_le_record_bytes = omega arith }
+    let a = c.args in
+    record { s_len = sized-whole plain_bytes a.plain.now (c.forms_refusal-refused.ensures.fit c.if-refused-ne0.false).plain; le_width = omega arith; width_le_record_bytes = omega arith }
 
 pub front_end-b-requires : goal.front_end-b-requires
 front_end-b-requires c =
-    let a = c.args in 
-      record { s_len = sized-whole bookkeeping_bytes a.book.now (c.forms_refusal-refused.ensures.fit c.if-refused-ne0.false).bookkeeping; le_width = omega arith; width_le_record_bytes = omega arith }
+    let a = c.args in
+    record { s_len = sized-whole bookkeeping_bytes a.book.now (c.forms_refusal-refused.ensures.fit c.if-refused-ne0.false).bookkeeping; le_width = omega arith; width_le_record_bytes = omega arith }
 
 pub slice_bounds-line_of-end : goal.slice_bounds-line_of-end
 slice_bounds-line_of-end c =

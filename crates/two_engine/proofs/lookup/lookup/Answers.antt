@@ -4,7 +4,6 @@ use Rattle.std.proofs.Common.{◌∙◌}
 use Rattle.lists.specs.Basics.{ap, ℕ, take, drop, arith}
 use Rattle.model.specs.TwoSheets.{plain_bytes, bookkeeping_bytes}
 use Rattle.two_engine.specs.Lookups.{looked_missing, looked_plain, looked_bookkeeping, looked_none}
-use borrow.Author.Rules.{rules}
 use Rattle.two_engine.proofs.lookup.lookup.Goals as goal
 
 pub returns-then-told-ne0 : goal.returns-then-told-ne0

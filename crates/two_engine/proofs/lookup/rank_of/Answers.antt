@@ -1,7 +1,7 @@
 -- Refused first, or told of the lines before the spares.
-use Rattle.std.specs.Prelude.{◌≤◌, ◌-◌}
+use Rattle.std.specs.Prelude.{◌≤◌}
 use Rattle.std.proofs.Common.{◌∙◌}
-use Rattle.lists.specs.Basics.{sym, length-take, arith, rules}
+use Rattle.lists.specs.Basics.{sym, length-take, arith}
 use Rattle.model.specs.TwoSheets.{plain_bytes, bookkeeping_bytes}
 use Rattle.sheet_laws.specs.Fronts.{sized-whole}
 use Rattle.lists.specs.Basics.{[]}
@@ -9,23 +9,22 @@ use Rattle.lists.specs.Basics.{subst}
 use Rattle.model.specs.Types.{Ranked}
 use Rattle.two_engine.specs.Forms.{front-plain, front-bookkeeping}
 use Rattle.two_engine.specs.Lookups.{rank_refused, rank-passed}
-use borrow.Author.Rules.{rules}
 use Rattle.two_engine.proofs.lookup.rank_of.Goals as goal
 
 pub returns-then-refused-ne0 : goal.returns-then-refused-ne0
 returns-then-refused-ne0 c =
-    let a = c.args in 
-      record { told = c.no_rank.ensures ∙ rank_refused a.plain.now a.book.now a.key _ (c.forms_refusal-refused.ensures.refused c.if-refused-ne0.true) c.if-refused-ne0.true; few = subst (λ (r : Ranked). r.rank.below ≤ 500) (sym c.no_rank.ensures) (omega arith) }
+    let a = c.args in
+    record { told = c.no_rank.ensures ∙ rank_refused a.plain.now a.book.now a.key _ (c.forms_refusal-refused.ensures.refused c.if-refused-ne0.true) c.if-refused-ne0.true; few = subst (λ (r : Ranked). r.rank.below ≤ 500) (sym c.no_rank.ensures) (omega arith) }
 
 pub front_end-p-requires : goal.front_end-p-requires
 front_end-p-requires c =
-    let a = c.args in 
-      record { s_len = sized-whole plain_bytes a.plain.now (c.forms_refusal-refused.ensures.fit c.if-refused-ne0.false).plain; le_width = omega arith; width_le_record_bytes = omega arith }
+    let a = c.args in
+    record { s_len = sized-whole plain_bytes a.plain.now (c.forms_refusal-refused.ensures.fit c.if-refused-ne0.false).plain; le_width = omega arith; width_le_record_bytes = omega arith }
 
 pub front_end-b-requires : goal.front_end-b-requires
 front_end-b-requires c =
-    let a = c.args in 
-      record { s_len = sized-whole bookkeeping_bytes a.book.now (c.forms_refusal-refused.ensures.fit c.if-refused-ne0.false).bookkeeping; le_width = omega arith; width_le_record_bytes = omega arith }
+    let a = c.args in
+    record { s_len = sized-whole bookkeeping_bytes a.book.now (c.forms_refusal-refused.ensures.fit c.if-refused-ne0.false).bookkeeping; le_width = omega arith; width_le_record_bytes = omega arith }
 
 pub slice_bounds-rank_of-end : goal.slice_bounds-rank_of-end
 slice_bounds-rank_of-end c =
@@ -39,5 +38,5 @@ slice_bounds-rank_of-end-2 c =
 
 pub returns : goal.returns
 returns c =
-    let a = c.args in 
-      record { told = rank-passed a.plain.now a.book.now a.key ((c.forms_refusal-refused.ensures.fit c.if-refused-ne0.false)) _ _ c.front_end-p.ensures c.front_end-b.ensures _ c.rank_of.ensures.told; few = c.rank_of.ensures.few }
+    let a = c.args in
+    record { told = rank-passed a.plain.now a.book.now a.key ((c.forms_refusal-refused.ensures.fit c.if-refused-ne0.false)) _ _ c.front_end-p.ensures c.front_end-b.ensures _ c.rank_of.ensures.told; few = c.rank_of.ensures.few }

@@ -1,19 +1,18 @@
 -- Each sheet without its spares, beside an empty one.
 use Rattle.std.proofs.Common.{◌∙◌}
-use Rattle.lists.specs.Basics.{ap, [], ℕ, length-take, take, arith, rules}
+use Rattle.lists.specs.Basics.{ap, [], ℕ, length-take, take, arith}
 use Rattle.model.specs.TwoSheets.{plain_bytes, bookkeeping_bytes}
 use Rattle.sheet_laws.specs.Fronts.{sized-whole}
 use Rattle.model.specs.Spares.{front}
 use Rattle.model.specs.TwoSheets.{plain_alone, bookkeeping_alone, rank_full}
 use Rattle.model.specs.TwoSpares.{plain_lines, bookkeeping_lines}
 use Rattle.two_engine.specs.Forms.{unequal_keys, front-plain, front-bookkeeping, keys_plain, keys_bookkeeping, keys_first, keys_second, keys_last}
-use borrow.Author.Rules.{rules}
 use Rattle.two_engine.proofs.lookup.unequal.Goals as goal
 
 pub front_end-p-requires : goal.front_end-p-requires
 front_end-p-requires c =
-    let a = c.args in 
-      record { s_len = sized-whole plain_bytes a.plain.now c.requires.0; le_width = omega arith; width_le_record_bytes = omega arith }
+    let a = c.args in
+    record { s_len = sized-whole plain_bytes a.plain.now c.requires.0; le_width = omega arith; width_le_record_bytes = omega arith }
 
 pub slice_bounds-rank_of-end : goal.slice_bounds-rank_of-end
 slice_bounds-rank_of-end c =
@@ -28,8 +27,8 @@ returns-then-first-eq1 c =
 
 pub front_end-b-requires : goal.front_end-b-requires
 front_end-b-requires c =
-    let a = c.args in 
-      record { s_len = sized-whole bookkeeping_bytes a.book.now c.requires.1; le_width = omega arith; width_le_record_bytes = omega arith }
+    let a = c.args in
+    record { s_len = sized-whole bookkeeping_bytes a.book.now c.requires.1; le_width = omega arith; width_le_record_bytes = omega arith }
 
 pub slice_bounds-rank_of-end-4 : goal.slice_bounds-rank_of-end-4
 slice_bounds-rank_of-end-4 c =

@@ -1,12 +1,10 @@
 -- The first i lines are filled; a turn fills one more.
-use Rattle.std.specs.Prelude.{◌-◌, ◌*◌, ◌/◌, ◌≤◌, ◌≡◌}
-use Rattle.std.proofs.Common.{◌∙◌}
-use Rattle.lists.specs.Basics.{refl, length, take, arith, rules}
+use Rattle.std.specs.Prelude.{◌-◌, ◌*◌, ◌≤◌, ◌≡◌}
+use Rattle.lists.specs.Basics.{length, take}
 use Rattle.model.specs.Layouts.{record_bytes}
 use Rattle.model.specs.TwoSheets.{bookkeeping_bytes}
-use Rattle.two_laws.specs.Deciding.{fill_bookkeeping, filled_bookkeeping}
-use Rattle.two_laws.specs.TwoLines.{length-fill_bookkeeping}
-use Rattle.two_join.specs.Splits.{first_cut, line-turn, no_cut, all-cut}
+use Rattle.two_laws.specs.Deciding.{fill_bookkeeping}
+use Rattle.two_join.specs.Splits.{first_cut}
 use Rattle.two_join.proofs.fill.bookkeeping.Given as goal
 
 abbrev pub invariant-loop-i : goal.invariant-loop-i

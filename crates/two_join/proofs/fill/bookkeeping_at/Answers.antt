@@ -1,7 +1,7 @@
 -- Three parts, one after another, are the line filled.
 use Rattle.std.specs.Prelude.{◌+◌, ◌*◌}
 use Rattle.std.proofs.Common.{◌∙◌}
-use Rattle.lists.specs.Basics.{ℕ, ap, List, take, drop, bytes, rules}
+use Rattle.lists.specs.Basics.{ℕ, ap, List, take, drop, bytes}
 use Rattle.lists.specs.Pieces.{over}
 use Rattle.model.specs.Layouts.{record_bytes}
 use Rattle.model.specs.TwoSheets.{bookkeeping_bytes}

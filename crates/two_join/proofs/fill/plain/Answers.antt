@@ -1,12 +1,12 @@
 -- The first i lines are filled; a turn fills one more.
-use Rattle.std.specs.Prelude.{◌-◌, ◌*◌, ◌/◌, ◌≤◌, ◌≡◌}
+use Rattle.std.specs.Prelude.{◌*◌, ◌/◌, ◌≡◌}
 use Rattle.std.proofs.Common.{◌∙◌}
-use Rattle.lists.specs.Basics.{refl, length, take, arith, rules}
+use Rattle.lists.specs.Basics.{refl, length, arith}
 use Rattle.model.specs.Layouts.{record_bytes}
 use Rattle.model.specs.TwoSheets.{plain_bytes}
 use Rattle.two_laws.specs.Deciding.{fill_plain, filled_plain}
 use Rattle.two_laws.specs.TwoLines.{length-fill_plain}
-use Rattle.two_join.specs.Splits.{first_cut, line-turn, no_cut, all-cut}
+use Rattle.two_join.specs.Splits.{line-turn, no_cut, all-cut}
 use Rattle.two_join.proofs.fill.plain.Goals as goal
 
 pub loop-i-init : goal.loop-i-init

@@ -1,5 +1,4 @@
 -- What the search tells.
-use borrow.Author.Rules.{rules}
 use Rattle.two_sheets.proofs.lookup.line_of.Goals as goal
 
 pub returns : goal.returns

@@ -1,7 +1,6 @@
 -- What the search tells.
-use borrow.Author.Rules.{rules}
 use Rattle.two_sheets.proofs.lookup.rank_of.Goals as goal
 
 pub returns : goal.returns
-returns c = 
-      record { told = c.search.ensures.told; few = c.search.ensures.few }
+returns c =
+    record { told = c.search.ensures.told; few = c.search.ensures.few }

@@ -1,10 +1,9 @@
 -- Case by case in the order of the refusals; the search is on the joined sheet.
 use Rattle.std.proofs.Common.{◌∙◌}
-use Rattle.lists.specs.Basics.{sym, ap, subst, Bool, length-take, arith, not-true, not-false}
+use Rattle.lists.specs.Basics.{sym, ap, subst, Bool, length-take, arith}
 use Rattle.model.specs.Records.{records_accepted}
 use Rattle.two_laws.specs.Decision.{joined_accepted}
 use Rattle.two_sheets.specs.Lookups.{Ranks, ranks_refused, ranks_out, ranks_told, ranks_line}
-use borrow.Author.Rules.{rules}
 use Rattle.two_sheets.proofs.lookup.search_in.Goals as goal
 
 pub returns-then-refused-ne0 : goal.returns-then-refused-ne0
@@ -31,8 +30,8 @@ slice_bounds-line-end-then-line c =
 
 pub line-requires : goal.line-requires
 line-requires c =
-    let a = c.args in 
-      record { records_value = ap records_accepted (c.lines_refusal-refused.ensures.joined c.if-refused-ne0.false).joined ∙ joined_accepted a.plain.now a.book.now (sym c.if-refused-ne0.false ∙ c.lines_refusal-refused.ensures.told); key_value = sym c.key_in_range.ensures ∙ c.if-not-key_in_range.false }
+    let a = c.args in
+    record { records_value = ap records_accepted (c.lines_refusal-refused.ensures.joined c.if-refused-ne0.false).joined ∙ joined_accepted a.plain.now a.book.now (sym c.if-refused-ne0.false ∙ c.lines_refusal-refused.ensures.told); key_value = sym c.key_in_range.ensures ∙ c.if-not-key_in_range.false }
 
 pub returns-then-line : goal.returns-then-line
 returns-then-line c =
@@ -49,8 +48,8 @@ slice_bounds-rank-end-2 c =
 
 pub rank-requires : goal.rank-requires
 rank-requires c =
-    let a = c.args in 
-      record { records_value = ap records_accepted (c.lines_refusal-refused.ensures.joined c.if-refused-ne0.false).joined ∙ joined_accepted a.plain.now a.book.now (sym c.if-refused-ne0.false ∙ c.lines_refusal-refused.ensures.told); key_value = sym c.key_in_range.ensures ∙ c.if-not-key_in_range.false }
+    let a = c.args in
+    record { records_value = ap records_accepted (c.lines_refusal-refused.ensures.joined c.if-refused-ne0.false).joined ∙ joined_accepted a.plain.now a.book.now (sym c.if-refused-ne0.false ∙ c.lines_refusal-refused.ensures.told); key_value = sym c.key_in_range.ensures ∙ c.if-not-key_in_range.false }
 
 pub returns : goal.returns
 returns c =

@@ -1,6 +1,5 @@
 -- Before decide by the own line; from there on as of an advance.
 use Rattle.std.proofs.Common.{◌∙◌}
-use Rattle.lists.specs.Basics.{rules}
 use Rattle.model.specs.Closing.{close_barred}
 use Rattle.well_formed.specs.Barred.{barred_later}
 use Rattle.well_formed.proofs.barred.bars.Goals as goal
