@@ -181,9 +181,9 @@ module _ (now : ℕ) (rs cs : List ℕ) (i : ℕ) (s : Standing rs cs i) (v : Re
 abbrev pub unless_busy : Recovery → Answer → Record → Result Answer
 unless_busy v a r = cond (is_busy v) (refused 12) (made a (recovery_write v r))
 
-module _ {B : Type 0} (f : Result Answer → B) (rs cs : List ℕ) (a : Accepted rs cs) {result_of : Result Answer} {answer : B} {rs' cs' : List ℕ} where
+module _ {B : Type 0} (f : Result Answer → B) (rs cs : List ℕ) (a : Accepted rs cs) {result : Result Answer} {answer : B} {rs' cs' : List ℕ} where
   -- a line that is busy stays
-  busy-outcome : result_of ≡ refused 12 → answer ≡ f (refused 12) → Written nothing rs cs rs' cs' → Outcome f result_of rs cs answer rs' cs'
+  busy-outcome : result ≡ refused 12 → answer ≡ f (refused 12) → Written nothing rs cs rs' cs' → Outcome f result rs cs answer rs' cs'
   unfolding records_after coordinator_after
   busy-outcome e b h =
       let n = written_nothing rs cs a in
@@ -193,7 +193,7 @@ module _ {B : Type 0} (f : Result Answer → B) (rs cs : List ℕ) (a : Accepted
         decisions = h.decisions ∙ (sym n.decisions ∙ ap (coordinator_after rs cs) (sym e));
       }
 
-  pub outcome-met : (v : Recovery) (x : Answer) (r : Record) → result_of ≡ unless_busy v x r → answer ≡ f (unless_busy v x r) → Written (recovery_write v r) rs cs rs' cs' → Outcome f result_of rs cs answer rs' cs'
+  pub outcome-met : (v : Recovery) (x : Answer) (r : Record) → result ≡ unless_busy v x r → answer ≡ f (unless_busy v x r) → Written (recovery_write v r) rs cs rs' cs' → Outcome f result rs cs answer rs' cs'
   unfolding recovery_write
   outcome-met Stays x r e b w = outcome_made f rs cs x _ e b w
   outcome-met Forward x r e b w = outcome_made f rs cs x _ e b w

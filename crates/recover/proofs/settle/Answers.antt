@@ -1,4 +1,5 @@
 -- By what the visit came to: nothing written, one line, or one decision.
+use Rattle.lists.specs.Basics.{rules}
 use Rattle.model.specs.Visits.{recovery_write}
 use Rattle.call_laws.specs.Accepted.{written_nothing}
 use Rattle.recover.specs.Recovering.{pending, settle_forward, settle_back, settle_again}
@@ -26,7 +27,7 @@ returns-in-Forward c =
     rw c.in-Forward.is
     (settle_forward a.records.now a.decisions.now a.i c.requires.standing
     (rw c.in-Forward.is at c.requires.pending)
-    c.roll_forward.ensures)
+    (search rules))
 
 pub returns-in-Back : goal.returns-in-Back
 unfolding recovery_write pending
@@ -35,7 +36,7 @@ returns-in-Back c =
     rw c.in-Back.is
     (settle_back a.records.now a.decisions.now a.i c.requires.standing
     (rw c.in-Back.is at c.requires.pending)
-    c.roll_back.ensures)
+    (search rules))
 
 pub returns-in-Again : goal.returns-in-Again
 unfolding recovery_write pending
