@@ -88,12 +88,12 @@ SHARED = target/shared/librapyheo.so.$(VERSION)
 ## the same as a shared library, target/shared/librapyheo.so
 shared: $(SHARED)
 
-# Nothing of the archive may want to be changed when it is loaded (-z text), nor be missing (-z defs).
+# `rt ci` refuses links, so that the other names are copies here. Nothing of the archive may want to be changed when it is loaded (-z text), nor be missing (-z defs).
 $(SHARED): $(ARCHIVE) include/rapyheo.map include/rapyheo.h
 	@mkdir -p target/shared
 	$(CC) -shared -Wl,-soname,$(SONAME) -Wl,--version-script=include/rapyheo.map -Wl,-z,text -Wl,-z,defs -o $@ -Wl,--whole-archive $(ARCHIVE) -Wl,--no-whole-archive
-	@ln -sf $(notdir $@) target/shared/$(SONAME)
-	@ln -sf $(SONAME) target/shared/librapyheo.so
+	@cp -f $@ target/shared/$(SONAME)
+	@cp -f $@ target/shared/librapyheo.so
 
 CFLAGS = -std=c11 -Wall -Wextra -Werror -pedantic
 
