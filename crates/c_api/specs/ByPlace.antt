@@ -1,7 +1,8 @@
 -- The call by place, from what the two functions that it calls ensure: where place and call are named, and where they aren't.
 use Rattle.std.specs.Prelude.{◌≡◌, ◌<◌}
 use Rattle.std.proofs.Common.{◌∙◌}
-use Rattle.lists.specs.Basics.{refl, sym, ap, ℕ, Bool, true, false, cond, and-true, List, length, set, and_fst, and_snd}
+use Rattle.lists.specs.Basics.{refl, sym, ap, ℕ, Bool, true, false, cond, and-true, List, [], length, get_or, set, and_fst, and_snd}
+use Rattle.lists.specs.All.{get_or_any}
 use Rattle.std.proofs.lemmas.List.{set-get_or}
 use Rattle.model.specs.Types.{Transaction, Request}
 use Rattle.model.specs.Refusals.{Condition}
@@ -10,6 +11,7 @@ use Rattle.model.specs.Results.{Answer, Response, refused, made, unless}
 use Rattle.model.specs.SheetCalls.{check_conditions}
 use Rattle.model.specs.Operations.{response_on, sheet_left, coordinator_left}
 use Rattle.model.specs.Requests.{operation_of}
+use Rattle.model.specs.Calls.{new_transaction}
 use Rattle.model.specs.CallByPlace.{listed, named, operation_at, list_after}
 use Rattle.call_laws.specs.ByPlace.{left_with, listed-within, named-response_on, unlisted_refused, refusal_leaves}
 use Rattle.answers.specs.Answers.{to_performed}
@@ -40,6 +42,14 @@ module _ (most n place call : ℕ) where
       go : (b : Bool) → is_call most call ≡ b → cond b r (unless ps (refused 3)) ≡ unless ps (refused 3)
       go false g = refl
       go true g = same (sym (and-true (listed n place)) ∙ rw g at e)
+
+-- what a read past the list would find
+abbrev nobody : Transaction
+nobody = record { number = 0; serializable = 0; phase = 0; place = 0; verdict = 0; count = 0; entries = [] }
+
+-- a place of the list holds the transaction that it names
+pub named_here : (list : List Transaction) (place : ℕ) → place < length list → get_or list place nobody ≡ named list place
+named_here list place l = get_or_any list place nobody (new_transaction 0 false) l
 
 -- what a call returns is put back at its place
 pub put_back : (list : List Transaction) (place : ℕ) (r : Response Answer Sheets) → set list place (left_with (named list place) r) ≡ list_after list place r

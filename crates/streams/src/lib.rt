@@ -1,4 +1,4 @@
-// Standard input and output of the programs. What fails is told on standard error, since a program has no exit status.
+// Standard input and output of the programs. What fails is told on standard error, since the programs give no exit status.
 #![tactic(auto)]
 
 ghost use Rattle.io.specs.Counts.{IsPrefixLen};

@@ -2,11 +2,8 @@
 -- returns is put back; if not, the sheets go to `unlisted_two`. The laws of the call by place turn what was called into the contract.
 use Rattle.std.specs.Prelude.{◌<◌}
 use Rattle.std.proofs.Common.{◌∙◌}
-use Rattle.lists.specs.Basics.{sym, false, [], length, rules}
-use Rattle.lists.specs.All.{get_or_any}
-use Rattle.model.specs.Types.{Transaction}
-use Rattle.model.specs.Calls.{new_transaction}
-use Rattle.c_api.specs.ByPlace.{naming-within}
+use Rattle.lists.specs.Basics.{sym, length, rules}
+use Rattle.c_api.specs.ByPlace.{naming-within, named_here}
 use Rattle.c_api.specs.TwoByPlace.{calls-named-two, calls_unnamed_two}
 use Rattle.c_api.proofs.two.rapyheo_two_call_at.Goals as goal
 
@@ -26,14 +23,10 @@ offset_bounds-list-place-then-is_named_two c =
 pub bounds-list-place : goal.bounds-list-place
 bounds-list-place c = naming-within _ _ _ _ (sym c.is_named_two.ensures ∙ c.if-is_named_two.true)
 
--- what stands past the list to a read of it
-abbrev nobody : Transaction
-nobody = record { number = 0; serializable = 0; phase = 0; place = 0; verdict = 0; count = 0; entries = [] }
-
 pub returns-then-is_named_two : goal.returns-then-is_named_two
 returns-then-is_named_two c =
     let below : c.args.place < length c.args.list.now = naming-within _ _ _ _ (sym c.is_named_two.ensures ∙ c.if-is_named_two.true) in
-    let here = get_or_any c.args.list.now c.args.place nobody (new_transaction 0 false) below in
+    let here = named_here c.args.list.now c.args.place below in
     let out = c.call_named_two-called in
     let all =
     calls-named-two c.args.list.now c.args.place c.args.call c.args.storage c.args.namespace c.args.table c.args.partition c.args.clustering c.args.column1 c.args.column2 c.args.clock c.args.limit c.args.plain.now c.args.book.now c.args.coordinator.now
