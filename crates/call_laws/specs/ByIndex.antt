@@ -6,7 +6,7 @@ use Rattle.lists.specs.Basics.{refl, sym, ap, ap₂, ℕ, zero, suc, Bool, true,
 use Rattle.lists.specs.Basics.{take, drop, get_or, set, arith, le-leb, any, and_snd, and_both, or_left, or_right, or_fst, or_snd}
 use Rattle.lists.specs.Pieces.{over}
 use Rattle.decimal.specs.Field.{field_text}
-use Rattle.model.specs.Types.{Key, Record, Decision, At}
+use Rattle.model.specs.Types.{Key, Record, Decision, Some}
 use Rattle.model.specs.Layouts.{record_bytes, coordinator_bytes}
 use Rattle.model.specs.Records.{no_record, record_text, records_text, records, records_accepted, good_alone, key_less, in_order, rising, same_key, found, line_of}
 use Rattle.model.specs.Coordinator.{coordinator_of, coordinator_text, coordinator_readable, with_decision, with_issued}
@@ -41,7 +41,7 @@ first_line_lem k (r ∷ rs) (suc i) l e n =
     rw h (first_line_lem k rs i (omega arith) e (or_snd (same_key r.key k) (lists_key k (take i rs)) n))
 
 -- what a search tells of the index that it found
-pub found_at : (k : Key) (rs : List Record) (i : ℕ) → found k rs ≡ At i → FoundAt k rs i
+pub found_at : (k : Key) (rs : List Record) (i : ℕ) → found k rs ≡ Some i → FoundAt k rs i
 unfolding found
 found_at k rs i e =
     let x = first_at (λ (r : Record). same_key r.key k) rs no_record i e in

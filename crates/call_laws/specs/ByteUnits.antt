@@ -7,7 +7,7 @@ use Rattle.lists.specs.Basics.{refl, sym, ap, subst, ℕ, ltb, Bool, true, false
 use Rattle.lists.specs.Basics.{length-map, drop_of_length-le, get_or-map, arith, ltb-true, ltb-false, all, tests}
 use Rattle.std.proofs.lemmas.List.{take-append-le, drop-append-le}
 use Rattle.lists.specs.All.{get_or_any, all_weaken}
-use Rattle.model.specs.Types.{Key, Record, At}
+use Rattle.model.specs.Types.{Key, Record, Some}
 use Rattle.model.specs.Layouts.{record_bytes}
 use Rattle.model.specs.Records.{records, records_text, record_in, record_text, good_alone, rank, records_good, records_accepted, no_record}
 use Rattle.model.specs.Spares.{spares_text, record_lines, sheet_for, sheet_accepted}
@@ -35,11 +35,11 @@ use Rattle.call_laws.specs.Sheets.{GoodSheets, good_parts, removed_line, listed_
 use Rattle.call_laws.specs.Ranges.{absent_ranged}
 
 -- a line of a sheet that passes is the text of its record
-line_text_lem : (s : List ℕ) (i : ℕ) → records_accepted s ≡ true → i < length s / record_bytes → line_at s (At i) ≡ record_text (get_or (records s) i no_record)
+line_text_lem : (s : List ℕ) (i : ℕ) → records_accepted s ≡ true → i < length s / record_bytes → line_at s (Some i) ≡ record_text (get_or (records s) i no_record)
 unfolding line_at
 line_text_lem s i a l = sym (ap record_text (record_at s i l) ∙ record_written_read (take record_bytes (drop (i * record_bytes) s)) (line_set_lem s i a l))
 
-no_line : (s : List ℕ) (i : ℕ) → records_accepted s ≡ true → length s / record_bytes ≤ i → line_at s (At i) ≡ []
+no_line : (s : List ℕ) (i : ℕ) → records_accepted s ≡ true → length s / record_bytes ≤ i → line_at s (Some i) ≡ []
 unfolding line_at
 no_line s i a l =
     let m : length s ≤ i * record_bytes = omega (arith, whole_lines_lem s a) in
@@ -65,11 +65,11 @@ module _ (rs : List ℕ) (accepted : records_accepted rs ≡ true) (w : Write) (
   same_length = whole_lines_lem sheet read_back.1 ∙ (ap (λ (n : ℕ). n * record_bytes) same_count ∙ sym (whole_lines_lem rs accepted))
 
   -- a line whose record stays has the same bytes
-  line_stays : (i : ℕ) → line_after w (record_in (line_at rs (At i))) ≡ record_in (line_at rs (At i)) → line_at sheet (At i) ≡ line_at rs (At i)
+  line_stays : (i : ℕ) → line_after w (record_in (line_at rs (Some i))) ≡ record_in (line_at rs (Some i)) → line_at sheet (Some i) ≡ line_at rs (Some i)
   unfolding line_at
   line_stays i stays = go (ltb i (length rs / record_bytes)) refl
     where
-      go : (x : Bool) → ltb i (length rs / record_bytes) ≡ x → line_at sheet (At i) ≡ line_at rs (At i)
+      go : (x : Bool) → ltb i (length rs / record_bytes) ≡ x → line_at sheet (Some i) ≡ line_at rs (Some i)
       go true e =
           let l : i < length rs / record_bytes = ltb-true i (length rs / record_bytes) e in
           let n : i < length sheet / record_bytes = omega (arith, same_count) in
@@ -88,13 +88,13 @@ module _ (rs : List ℕ) (accepted : records_accepted rs ≡ true) (w : Write) (
 
 -- Lines before the same tail.
 
-line_before : (x tail : List ℕ) (i : ℕ) → length x ≡ length x / record_bytes * record_bytes → i < length x / record_bytes → line_at (x ++ tail) (At i) ≡ line_at x (At i)
+line_before : (x tail : List ℕ) (i : ℕ) → length x ≡ length x / record_bytes * record_bytes → i < length x / record_bytes → line_at (x ++ tail) (Some i) ≡ line_at x (Some i)
 unfolding line_at
 line_before x tail i n l =
     let k : length (drop (i * record_bytes) x) ≡ length x - i * record_bytes = length-drop (i * record_bytes) x in
     ap (take record_bytes) (drop-append-le (i * record_bytes) x tail (omega arith)) ∙ take-append-le record_bytes (drop (i * record_bytes) x) tail (omega arith)
 
-line-behind : (x y tail : List ℕ) (i : ℕ) → length x ≡ length y → length x ≡ length x / record_bytes * record_bytes → length x / record_bytes ≤ i → line_at (x ++ tail) (At i) ≡ line_at (y ++ tail) (At i)
+line-behind : (x y tail : List ℕ) (i : ℕ) → length x ≡ length y → length x ≡ length x / record_bytes * record_bytes → length x / record_bytes ≤ i → line_at (x ++ tail) (Some i) ≡ line_at (y ++ tail) (Some i)
 unfolding line_at
 line-behind x y tail i e n l =
     let m : i * record_bytes ≡ length x + (i * record_bytes - length x) = omega arith in
@@ -142,19 +142,19 @@ module _ (b : Bytes) (readable : Readable b) (w : Write) (calm : shifts w ≡ fa
       ∙ (length-append lines_of_write tail ∙ (ap (λ (n : ℕ). n + length tail) (same_length front fits w calm stay_good) ∙ (sym (length-append front tail) ∙ ap length before_is)))
 
   -- a line whose record stays has the same bytes
-  stays_at : (i : ℕ) → (line_after w (record_in (line_at b.records (At i))) ≡ record_in (line_at b.records (At i))) → line_at (sheet_text (apply w (saying b))) (At i) ≡ line_at b.records (At i)
+  stays_at : (i : ℕ) → (line_after w (record_in (line_at b.records (Some i))) ≡ record_in (line_at b.records (Some i))) → line_at (sheet_text (apply w (saying b))) (Some i) ≡ line_at b.records (Some i)
   stays_at i stays =
-      ap (λ (x : List ℕ). line_at x (At i)) (sym written_is) ∙ (go (ltb i (length front / record_bytes)) refl ∙ ap (λ (x : List ℕ). line_at x (At i)) before_is)
+      ap (λ (x : List ℕ). line_at x (Some i)) (sym written_is) ∙ (go (ltb i (length front / record_bytes)) refl ∙ ap (λ (x : List ℕ). line_at x (Some i)) before_is)
     where
       whole : length front ≡ length front / record_bytes * record_bytes
       whole = whole_lines_lem front fits
 
-      go : (x : Bool) → ltb i (length front / record_bytes) ≡ x → line_at (lines_of_write ++ tail) (At i) ≡ line_at (front ++ tail) (At i)
+      go : (x : Bool) → ltb i (length front / record_bytes) ≡ x → line_at (lines_of_write ++ tail) (Some i) ≡ line_at (front ++ tail) (Some i)
       go true e =
           let l : i < length front / record_bytes = ltb-true i (length front / record_bytes) e in
           let n = same_length front fits w calm stay_good in
-          let q : line_at (front ++ tail) (At i) ≡ line_at front (At i) = line_before front tail i whole l in
-          let r : line_at b.records (At i) ≡ line_at front (At i) = ap (λ (x : List ℕ). line_at x (At i)) (sym before_is) ∙ q in
+          let q : line_at (front ++ tail) (Some i) ≡ line_at front (Some i) = line_before front tail i whole l in
+          let r : line_at b.records (Some i) ≡ line_at front (Some i) = ap (λ (x : List ℕ). line_at x (Some i)) (sym before_is) ∙ q in
           line_before lines_of_write tail i (ap (λ (k : ℕ). k) n ∙ (whole ∙ ap (λ (k : ℕ). k / record_bytes * record_bytes) (sym n))) (omega (arith, n))
           ∙ (line_stays front fits w calm stay_good i (ap (λ (x : List ℕ). line_after w (record_in x)) (sym r) ∙ (stays ∙ ap record_in r)) ∙ sym q)
       go false e =

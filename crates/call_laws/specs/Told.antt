@@ -6,7 +6,7 @@ use Rattle.lists.specs.Basics.{length, take, drop, length-take, length-drop, dro
 use Rattle.lists.specs.Basics.{eq_list-true}
 use Rattle.std.proofs.Common.{take-append-drop, ◌∙◌}
 use Rattle.lists.specs.Pieces.{over, over-same}
-use Rattle.model.specs.Types.{At}
+use Rattle.model.specs.Types.{Some}
 use Rattle.model.specs.Layouts.{record_bytes}
 use Rattle.model.specs.SheetCalls.{line_at}
 use Rattle.model.specs.Changes.{differs, reach_of, first_of, last_reach, first_differing, lines_stored}
@@ -73,19 +73,19 @@ module _ (before after : List ℕ) where
   -- The range stored over the sheet before.
 
   -- a line that does not differ has the same bytes
-  same_line : (i : ℕ) → differs before after i ≡ false → line_at before (At i) ≡ line_at after (At i)
-  same_line i d = eq_list-true (line_at before (At i)) (line_at after (At i)) (not-false (eq_list (line_at before (At i)) (line_at after (At i))) d)
+  same_line : (i : ℕ) → differs before after i ≡ false → line_at before (Some i) ≡ line_at after (Some i)
+  same_line i d = eq_list-true (line_at before (Some i)) (line_at after (Some i)) (not-false (eq_list (line_at before (Some i)) (line_at after (Some i))) d)
 
   -- a line outside of the range has
   outside : (i : ℕ) → i < length before / record_bytes
-      → (first_differing before after ≤ i → i < last_reach before after → ⊥) → line_at before (At i) ≡ line_at after (At i)
+      → (first_differing before after ≤ i → i < last_reach before after → ⊥) → line_at before (Some i) ≡ line_at after (Some i)
   outside i l n = go (differs before after i) refl
     where
-      go : (x : Bool) → differs before after i ≡ x → line_at before (At i) ≡ line_at after (At i)
+      go : (x : Bool) → differs before after i ≡ x → line_at before (Some i) ≡ line_at after (Some i)
       go true e = let c = told_covers i l e in absurd (n c.0 c.1)
       go false e = same_line i e
 
-  same_up : (m : ℕ) → ((i : ℕ) → i < m → line_at before (At i) ≡ line_at after (At i)) → take (m * record_bytes) before ≡ take (m * record_bytes) after
+  same_up : (m : ℕ) → ((i : ℕ) → i < m → line_at before (Some i) ≡ line_at after (Some i)) → take (m * record_bytes) before ≡ take (m * record_bytes) after
   unfolding line_at
   same_up zero f = refl
   same_up (suc m) f =
@@ -95,7 +95,7 @@ module _ (before after : List ℕ) where
 
   -- the n lines from m on are the last
   same_down : (n m : ℕ) → length before ≡ (m + n) * record_bytes → length after ≡ (m + n) * record_bytes
-      → ((i : ℕ) → m ≤ i → i < m + n → line_at before (At i) ≡ line_at after (At i)) → drop (m * record_bytes) before ≡ drop (m * record_bytes) after
+      → ((i : ℕ) → m ≤ i → i < m + n → line_at before (Some i) ≡ line_at after (Some i)) → drop (m * record_bytes) before ≡ drop (m * record_bytes) after
   unfolding line_at
   same_down zero m k l f =
       let a : length before ≤ m * record_bytes = omega arith in

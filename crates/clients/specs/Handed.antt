@@ -3,7 +3,7 @@
 use Rattle.std.specs.Prelude.{◌≡◌, ◌≤◌, ◌<◌, ◌∷◌}
 use Rattle.std.proofs.Common.{◌∙◌}
 use Rattle.lists.specs.Basics.{refl, sym, subst, ℕ, Bool, true, false, not, List, length, get_or, none, some, arith, choose_by}
-use Rattle.model.specs.Types.{Key, Image, Record, Found, At, Nothing, Columns, Transaction, Request}
+use Rattle.model.specs.Types.{Key, Image, Record, Found, Some, None, Columns, Transaction, Request}
 use Rattle.types.specs.declared.Request.TheVariants as asked
 use Rattle.model.specs.Records.{by_found}
 use Rattle.model.specs.Coordinator.{with_issued}
@@ -40,8 +40,8 @@ unfolding after_put
 put_number t k c = go (held_at k t)
   where
     go : (f : Found) → (by_found f t (λ (i : ℕ). with_entry t.count i (with_put c (get_or t.entries i no_entry)) t)).number ≡ t.number
-    go Nothing = refl
-    go (At i) = refl
+    go None = refl
+    go (Some i) = refl
 
 -- Every request.
 module _ (t : Transaction) (s : Sheets) where

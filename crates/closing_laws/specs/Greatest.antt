@@ -46,7 +46,7 @@ greatest_closed n = moved done_phase 0 committed_verdict (greatest_transaction n
 
 -- what a close reports and returns; what the computations unfold is named here, once for all counts
 unfoldable ended : Run → Answer
-unfolding Lists.eq_list Each.all Each.any Each.filter Each.count Each.less Layouts.record_layout Layouts.key_layout Layouts.image_layout Layouts.columns_layout Lines.in_range Lines.row_good Search.first_from Records.state_number Records.before_number Records.key_numbers Records.image_numbers Records.record_numbers Records.is_zero Records.absence Records.no_before Records.absent_rule Records.good_alone Records.key_less Records.in_order Records.rising Records.records_good Records.key_in_range Records.same_key Records.found Records.is_missing Records.line_of Coordinator.decision Coordinator.with_decision Coordinator.coordinator_good Coordinator.names_issued Refusals.refusal_of Transactions.held Transactions.puts Transactions.to_validate Groups.unit_fields Groups.letter_for Groups.scope Groups.add_scope Groups.scopes Groups.group_count Groups.group_place Groups.group Images.prepared_by Images.unchanged Images.prepared Images.rolled_forward Writes.size_good Writes.sheets_good Writes.entry_for Writes.is_of Writes.line_after Writes.shifted Writes.lines_after Writes.decisions_after Writes.apply WellFormed.image_in_range WellFormed.columns_in_range WellFormed.put_fits WellFormed.entry_formed WellFormed.distinct_keys WellFormed.place_formed WellFormed.verdict_formed WellFormed.formed WellFormed.well_formed Steps.holds Steps.one_phase_allowed Steps.open_step Steps.next_group Steps.prepare_step Steps.decide_step Steps.finish_step Steps.step Closing.changes Closing.turn Closing.closing Closing.close_barred Closing.close_conditions Greatest.greatest_lines Greatest.greatest_coordinator Greatest.greatest_transaction
+unfolding Each.all Each.any Each.filter Each.count Each.less Layouts.record_layout Layouts.key_layout Layouts.image_layout Layouts.columns_layout Lines.in_range Lines.row_good Search.first_from Records.state_number Records.before_number Records.key_numbers Records.image_numbers Records.record_numbers Records.is_zero Records.absence Records.no_before Records.absent_rule Records.good_alone Records.key_less Records.in_order Records.rising Records.records_good Records.key_in_range Records.same_key Records.found Records.is_missing Records.line_of Coordinator.decision Coordinator.with_decision Coordinator.coordinator_good Coordinator.names_issued Refusals.refusal_of Transactions.held Transactions.puts Transactions.to_validate Groups.unit_fields Groups.letter_for Groups.scope Groups.add_scope Groups.scopes Groups.group_count Groups.group_place Groups.group Images.prepared_by Images.unchanged Images.prepared Images.rolled_forward Writes.size_good Writes.sheets_good Writes.entry_for Writes.is_of Writes.line_after Writes.shifted Writes.lines_after Writes.decisions_after Writes.apply WellFormed.image_in_range WellFormed.columns_in_range WellFormed.put_fits WellFormed.entry_formed WellFormed.distinct_keys WellFormed.place_formed WellFormed.verdict_formed WellFormed.formed WellFormed.well_formed Steps.holds Steps.one_phase_allowed Steps.open_step Steps.next_group Steps.prepare_step Steps.decide_step Steps.finish_step Steps.step Closing.changes Closing.turn Closing.closing Closing.close_barred Closing.close_conditions Greatest.greatest_lines Greatest.greatest_coordinator Greatest.greatest_transaction
 ended x = reported x.writes x.transaction
 
 record Computed (n count : ℕ) : Type 0 where

@@ -4,9 +4,9 @@ use Rattle.std.specs.Prelude.{◌≡◌, ◌+◌, ◌-◌, ◌*◌, ◌%◌, ◌
 use Rattle.lists.specs.Basics.{ap, ℕ, suc, List, [], length, take, drop, get_or, drop-cons, arith, add-one}
 use Rattle.std.proofs.Common.{pow-suc, ◌∙◌}
 use Rattle.std.proofs.Math.Nat.{pow-le-pow_right}
-use Rattle.decimal.specs.declared.Scan.{Scan}
-use Rattle.decimal.specs.declared.Scan.TheVariants.{Blank, Number}
-use Rattle.decimal.specs.Field.{scanned, stepped, number}
+use Rattle.decimal.specs.Scan.{Scan}
+use Rattle.decimal.specs.Scan.Scan.{Blank, Number, Wrong}
+use Rattle.decimal.specs.Field.{scanned, stepped}
 use Rattle.decimal.specs.Laws.{Step, step_kind, scan_wrong}
 use Rattle.decimal.specs.Laws.Step.{space, first, next, wrong}
 
@@ -22,21 +22,27 @@ digits s = digits_from 0 s
 abbrev pub figure_at : ℕ → ℕ → List ℕ → ℕ
 figure_at at n s = digits (take n (drop at s))
 
-step_digit : {b : ℕ} {st st' : Scan} (s : List ℕ) (v : ℕ) → Step b st st' → scanned st' s ≡ Number v → number st * 10 + b % 16 ≡ number st'
-unfolding number
+-- what a scan has read so far, 0 where there is no figure
+unfoldable so_far : Scan → ℕ
+so_far Blank = 0
+so_far (Number v) = v
+so_far Wrong = 0
+
+step_digit : {b : ℕ} {st st' : Scan} (s : List ℕ) (v : ℕ) → Step b st st' → scanned st' s ≡ Number v → so_far st * 10 + b % 16 ≡ so_far st'
+unfolding so_far
 step_digit s v (space e) h = omega arith
 step_digit s v (first d l e) h = omega arith
 step_digit s v (next u d n l e) h = omega arith
 step_digit s v wrong h = let z : ◌≡◌ {A = ℕ} 0 1 = cc (scan_wrong s) in absurd (omega arith)
 
-digits-after : (s : List ℕ) (st : Scan) (v : ℕ) → scanned st s ≡ Number v → digits_from (number st) s ≡ v
+digits-after : (s : List ℕ) (st : Scan) (v : ℕ) → scanned st s ≡ Number v → digits_from (so_far st) s ≡ v
 unfolding scanned digits_from
-digits-after [] st v h = unfold number in ap number h
+digits-after [] st v h = unfold so_far in ap so_far h
 digits-after (b ∷ s) st v h = ap (λ (n : ℕ). digits_from n s) (step_digit s v (step_kind st b) h) ∙ digits-after s (stepped st b) v h
 
 -- a field that holds a figure
 pub digits_are : (s : List ℕ) (v : ℕ) → scanned Blank s ≡ Number v → digits s ≡ v
-unfolding number
+unfolding so_far
 digits_are s v h = digits-after s Blank v h
 
 -- A loop over the n bytes at `at`, turn by turn.

@@ -1,9 +1,9 @@
 -- A field of any width: the figure that it holds, and the text of a figure.
 -- Document 01: "All figures are decimal, right-justified, space-filled, without leading zeros; zero is `0`, never blank."
-use Rattle.std.specs.Prelude.{◌+◌, ◌-◌, ◌*◌, ◌/◌, ◌%◌, ◌&&◌, ◌∷◌, ◌++◌}
-use Rattle.lists.specs.Basics.{ℕ, zero, suc, eqb, leb, Bool, true, false, cond, List, []}
-use Rattle.decimal.specs.declared.Scan.{Scan}
-use Rattle.decimal.specs.declared.Scan.TheVariants.{Blank, Number, Wrong}
+use Rattle.std.specs.Prelude.{◌+◌, ◌-◌, ◌*◌, ◌/◌, ◌%◌, ◌&&◌, ◌∷◌, ◌++◌, Option, Some, None, is_some, unwrap_or}
+use Rattle.lists.specs.Basics.{ℕ, zero, suc, eqb, leb, Bool, cond, List, []}
+use Rattle.decimal.specs.Scan.{Scan}
+use Rattle.decimal.specs.Scan.Scan.{Blank, Number, Wrong}
 
 -- the byte is one of `0` to `9`
 abbrev pub is_digit : ℕ → Bool
@@ -21,26 +21,22 @@ scanned st [] = st
 scanned st (b ∷ s) = scanned (stepped st b) s
 
 -- a figure from low to high; a blank field is none
-unfoldable pub within : ℕ → ℕ → Scan → Scan
-within low high Blank = Wrong
-within low high (Number v) = cond (leb low v && leb v high) (Number v) Wrong
-within low high Wrong = Wrong
+unfoldable pub within : ℕ → ℕ → Scan → Option ℕ
+within low high Blank = None
+within low high (Number v) = cond (leb low v && leb v high) (Some v) None
+within low high Wrong = None
 
--- what a field holds, where a figure from low to high is wanted: `Number v`, or `Wrong`
-unfoldable pub figure : ℕ → ℕ → List ℕ → Scan
+-- what a field holds, where a figure from low to high is wanted
+unfoldable pub figure : ℕ → ℕ → List ℕ → Option ℕ
 figure low high s = within low high (scanned Blank s)
 
 -- the number that was read, 0 where there is none
-unfoldable pub number : Scan → ℕ
-number Blank = 0
-number (Number v) = v
-number Wrong = 0
+abbrev pub number : Option ℕ → ℕ
+number r = unwrap_or r 0
 
 -- a number was read
-unfoldable pub is_number : Scan → Bool
-is_number Blank = false
-is_number (Number v) = true
-is_number Wrong = false
+abbrev pub is_number : Option ℕ → Bool
+is_number r = is_some r
 
 -- a digit, or a space where nothing is left of the figure
 abbrev pub column_byte : ℕ → ℕ

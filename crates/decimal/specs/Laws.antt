@@ -1,15 +1,16 @@
 -- Laws of fields of any width. What a scan has read so far tells which bytes it has passed, so a field that reads as a figure is that
 -- figure's text, by one step for each byte; and the text of a figure is read digit by digit as it is built.
-use Rattle.std.specs.Prelude.{◌≡◌, ◌+◌, ◌-◌, ◌*◌, ◌/◌, ◌%◌, ◌^◌, ◌≤◌, ◌<◌, ◌&&◌, ◌∷◌, ◌++◌}
+use Rattle.std.specs.Prelude.{◌≡◌, ◌+◌, ◌-◌, ◌*◌, ◌/◌, ◌%◌, ◌^◌, ◌≤◌, ◌<◌, ◌&&◌, ◌∷◌, ◌++◌, Option, Some, None}
 use Rattle.lists.specs.Basics.{refl, sym, ap, ap₂, subst, ℕ, zero, suc, eqb, leb, Bool, true, false}
 use Rattle.lists.specs.Basics.{cond, true≢false, List, [], append-nil, length, get_or, length-append, arith, eqb-true, eqb-false, ne_eqb, le-leb}
 use Rattle.lists.specs.Basics.{and_both, choose_by, tests}
 use Rattle.std.proofs.Common.{pow-suc, ◌∙◌}
 use Rattle.std.proofs.Math.Nat.{one-le-pow}
 use Rattle.std.proofs.Math.Seq.{append_snoc}
+use Rattle.std.proofs.lemmas.Option.{none-some, same_Some}
 use Rattle.lists.specs.Bytes.{below_append, below_one}
-use Rattle.decimal.specs.declared.Scan.{Scan}
-use Rattle.decimal.specs.declared.Scan.TheVariants.{Blank, Number, Wrong}
+use Rattle.decimal.specs.Scan.{Scan}
+use Rattle.decimal.specs.Scan.Scan.{Blank, Number, Wrong}
 use Rattle.decimal.specs.Field.{is_digit, stepped, scanned, within, figure, number, is_number, column_byte, ahead, field_text}
 
 -- what one byte b does to a scan
@@ -84,8 +85,8 @@ pub scan_written : (s : List ℕ) (v : ℕ) → scanned Blank s ≡ Number v →
 unfolding ahead
 scan_written s v e = subst (λ (st : Scan). Passed (length s) st s) e (passed_scan s Blank 0 (length s) [] (omega arith) refl)
 
--- a fact about a field that is read, from the fact about `Wrong` and the fact about each figure that it may hold
-pub figure_by : (P : Scan → Type 0) (low high : ℕ) (s : List ℕ) → P Wrong → ((v : ℕ) → scanned Blank s ≡ Number v → low ≤ v → v ≤ high → P (Number v)) → P (figure low high s)
+-- a fact about a field that is read, from the fact about `None` and the fact about each figure that it may hold
+pub figure_by : (P : Option ℕ → Type 0) (low high : ℕ) (s : List ℕ) → P None → ((v : ℕ) → scanned Blank s ≡ Number v → low ≤ v → v ≤ high → P (Some v)) → P (figure low high s)
 unfolding figure within
 figure_by P low high s w f = go (scanned Blank s) refl
   where
@@ -95,18 +96,18 @@ figure_by P low high s w f = go (scanned Blank s) refl
     go Wrong e = w
 
 -- a figure that was read is the scan's, and in range
-pub figure_scan : (low high : ℕ) (s : List ℕ) (v : ℕ) → figure low high s ≡ Number v → (scanned Blank s ≡ Number v) × ((low ≤ v) × (v ≤ high))
+pub figure_scan : (low high : ℕ) (s : List ℕ) (v : ℕ) → figure low high s ≡ Some v → (scanned Blank s ≡ Number v) × ((low ≤ v) × (v ≤ high))
 figure_scan low high s v =
     figure_by
-    (λ (r : Scan). r ≡ Number v → (scanned Blank s ≡ Number v) × ((low ≤ v) × (v ≤ high)))
+    (λ (r : Option ℕ). r ≡ Some v → (scanned Blank s ≡ Number v) × ((low ≤ v) × (v ≤ high)))
     low
     high
     s
-    (λ e. let z : ◌≡◌ {A = ℕ} 0 1 = cc in absurd (omega arith))
-    (λ u e a b q. let z : u ≡ v = cc in (e ∙ q, (omega arith, omega arith)))
+    (λ e. absurd (none-some v e))
+    (λ u e a b q. let z : u ≡ v = same_Some u v q in (e ∙ ap Number z, (omega arith, omega arith)))
 
 -- what reads as a figure is what would be written for it
-pub written_read : (low high : ℕ) (s : List ℕ) (v : ℕ) → figure low high s ≡ Number v → (s ≡ field_text (length s) v) × ((v < 10 ^ length s) × ((low ≤ v) × (v ≤ high)))
+pub written_read : (low high : ℕ) (s : List ℕ) (v : ℕ) → figure low high s ≡ Some v → (s ≡ field_text (length s) v) × ((v < 10 ^ length s) × ((low ≤ v) × (v ≤ high)))
 written_read low high s v e =
     let r = figure_scan low high s v e in
     let t = scan_written s v r.0 in
@@ -160,7 +161,7 @@ scan_text zero v n l = absurd (omega arith)
 scan_text (suc w) v n l = rw (scan_append, scan_ahead w (v / 10) (omega (arith, pow-suc 10 w))) (last_digit v)
 
 -- what is written for a figure in range reads as the figure
-pub read_written : (w v low high : ℕ) → 0 < w → v < 10 ^ w → low ≤ v → v ≤ high → figure low high (field_text w v) ≡ Number v
+pub read_written : (w v low high : ℕ) → 0 < w → v < 10 ^ w → low ≤ v → v ≤ high → figure low high (field_text w v) ≡ Some v
 unfolding figure within
 read_written w v low high n l a b = rw (scan_text w v n l, le-leb low v a, le-leb v high b)
 
@@ -193,13 +194,10 @@ field_text-bytes zero v i = omega arith
 field_text-bytes (suc w) v i =
     below_append 256 (ahead w (v / 10)) ((48 + v % 10) ∷ []) (ahead-bytes w (v / 10)) (below_one 256 (48 + v % 10) (omega arith)) i
 
-pub is_number-number : (r : Scan) → is_number r ≡ true → r ≡ Number (number r)
-unfolding is_number number
-is_number-number Blank e = absurd (true≢false (sym e))
-is_number-number (Number v) e = refl
-is_number-number Wrong e = absurd (true≢false (sym e))
+pub is_number-number : (r : Option ℕ) → is_number r ≡ true → r ≡ Some (number r)
+is_number-number None e = absurd (true≢false (sym e))
+is_number-number (Some v) e = refl
 
 -- also where nothing was read
 pub number_bounded : (low high : ℕ) (s : List ℕ) → number (figure low high s) ≤ high
-unfolding number
-number_bounded low high s = figure_by (λ (r : Scan). number r ≤ high) low high s (omega arith) (λ v e a b. b)
+number_bounded low high s = figure_by (λ (r : Option ℕ). number r ≤ high) low high s (omega arith) (λ v e a b. b)

@@ -1,4 +1,5 @@
 -- Decimal fields: what they mean, and the laws for any width.
+pub mod Scan
 pub mod Field
 pub mod Laws
 pub mod Cut

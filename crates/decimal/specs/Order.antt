@@ -5,8 +5,8 @@ use Rattle.std.proofs.Common.{◌∙◌}
 use Rattle.lists.specs.Basics.{refl, sym, ap, ap₂, ℕ, suc, eqb, ltb, Bool, true, false, List, [], length, arith}
 use Rattle.lists.specs.Basics.{eqb-true, eqb-false, ltb-true, ltb-false, lt-ltb, le-ltb, less, choose_by}
 use Rattle.lists.specs.Order.{less_cons}
-use Rattle.decimal.specs.declared.Scan.{Scan}
-use Rattle.decimal.specs.declared.Scan.TheVariants.{Blank, Number, Wrong}
+use Rattle.decimal.specs.Scan.{Scan}
+use Rattle.decimal.specs.Scan.Scan.{Blank, Number, Wrong}
 use Rattle.decimal.specs.Field.{stepped, scanned, field_text}
 use Rattle.decimal.specs.Laws.{Step, step_kind, scan_wrong, scan_written}
 use Rattle.decimal.specs.Laws.Step.{space, first, next, wrong}

@@ -1,114 +1,65 @@
 // Decimal fields of any width, as document 01 sets them: right-justified, space-filled, without leading zeros, zero as `0`.
 #![tactic(auto)]
 
-ghost use Rattle.std.specs.Prelude.{◌<◌, ◌≡◌, false, eqb, length, get_or, drop};
+ghost use Rattle.std.specs.Prelude.{◌≡◌, length};
 ghost use Rattle.lists.specs.Bytes.{eq_list};
-ghost use Rattle.decimal.specs.Field.{within, figure, column_byte, field_text};
-ghost use Rattle.decimal.specs.Cut.{longer, scanned_to, spaces};
+ghost use Rattle.decimal.specs.Field.{figure, column_byte, field_text};
+ghost use Rattle.decimal.specs.Cut.{longer, digits_behind, digits_to, no_space};
 ghost use Rattle.decimal.specs.Word.{put_word};
 
-// How far a field has been read: spaces only, a figure, or something that is no figure.
-#[derive(Clone, Copy)]
-pub enum Scan {
-    Blank,
-    Number(u32),
-    Wrong,
-}
-
-// The figure v with one digit more. It is made in 64 bits, which hold it whatever v is.
-fn digit(v: u32, b: u8, high: u32) -> Scan
+// The figure v with one digit more, up to the highest. It is made in 64 bits, which hold it whatever v is.
+fn digit(v: u32, b: u8, high: u32) -> Option<u32>
     ensures { result ≡ longer high v b }
 {
-    if b < 48 {
-        return Scan::Wrong;
+    if !b.is_ascii_digit() {
+        return None;
     }
-    if b > 57 {
-        return Scan::Wrong;
+    let n = u64::from(v) * 10 + u64::from(b - b'0');
+    if n > u64::from(high) {
+        return None;
     }
-    let n = (v as u64) * 10 + ((b - 48) as u64);
-    if n > (high as u64) {
-        return Scan::Wrong;
-    }
-    Scan::Number(n as u32)
+    Some(n as u32)
 }
 
-// A figure from low to high, or `Wrong`.
-fn bounded(st: Scan, low: u32, high: u32) -> Scan
-    ensures { result ≡ within low high st }
+// The figure of the digits s behind the figure `first`: nothing follows a leading `0`.
+fn behind(first: u32, s: &[u8], high: u32) -> Option<u32>
+    ensures { result ≡ digits_behind high first s.now }
 {
-    match st {
-        Scan::Blank => Scan::Wrong,
-        Scan::Number(v) => {
-            if v < low {
-                return Scan::Wrong;
-            }
-            if v > high {
-                return Scan::Wrong;
-            }
-            Scan::Number(v)
-        }
-        Scan::Wrong => Scan::Wrong,
-    }
-}
-
-// How many spaces the field s begins with.
-fn spaces(s: &[u8]) -> usize
-    ensures { result ≡ spaces s.now }
-{
-    let n = s.len();
-    let mut i = 0;
-    while i < n {
-        if s[i] != 32 {
-            return i;
-        }
-        i += 1;
-    }
-    n
-}
-
-// The digits from column `from` on, behind the figure `first`: nothing follows a leading `0`.
-fn digits(s: &[u8], from: usize, first: u32, high: u32) -> Scan
-    ensures { result ≡ scanned_to high (Scan.Number first) (drop from s.now) }
-{
-    let n = s.len();
     let mut v = first;
-    let mut i = from;
-    while i < n {
+    for b in s {
         if v == 0 {
-            return Scan::Wrong;
+            return None;
         }
-        match digit(v, s[i], high) {
-            Scan::Number(more) => v = more,
-            Scan::Blank => return Scan::Wrong,
-            Scan::Wrong => return Scan::Wrong,
-        }
-        i += 1;
+        v = digit(v, *b, high)?;
     }
-    Scan::Number(v)
+    Some(v)
 }
 
-// The figure whose first digit is in column `start`, behind spaces.
-fn behind(s: &[u8], start: usize, high: u32) -> Scan
-    requires start_in_bounds { start < length s.now }
-    requires start_value { eqb (get_or s.now start 0) 32 ≡ false }
-    ensures { result ≡ scanned_to high Scan.Blank (drop start s.now) }
+// The figure of the digits s.
+fn digits(s: &[u8], high: u32) -> Option<u32>
+    ensures { result ≡ digits_to high s.now }
 {
-    match digit(0, s[start], high) {
-        Scan::Number(first) => digits(s, start + 1, first, high),
-        Scan::Blank => Scan::Wrong,
-        Scan::Wrong => Scan::Wrong,
-    }
+    let (first, rest) = s.split_first()?;
+    behind(digit(0, *first, high)?, rest, high)
 }
 
-// What the field s holds, where a figure from low to high is wanted: `Number`, or `Wrong`. Most columns are spaces, which are passed first.
-pub fn read(s: &[u8], low: u32, high: u32) -> Scan
+// The first column that is no space.
+fn no_space(s: &[u8]) -> Option<usize>
+    ensures { result ≡ no_space s.now }
+{
+    s.iter().position(|b| *b != b' ')
+}
+
+// The figure that the field s holds, where one from low to high is wanted. Most columns are spaces, which are passed first.
+pub fn read(s: &[u8], low: u32, high: u32) -> Option<u32>
     ensures { result ≡ figure low high s.now }
 {
-    let start = spaces(s);
-    if s.len() <= start {
-        return Scan::Wrong;
+    let start = no_space(s)?;
+    let v = digits(&s[start..], high)?;
+    if v < low {
+        return None;
     }
-    bounded(behind(s, start, high), low, high)
+    Some(v)
 }
 
 // The last digit of what is left of a figure, or a space where nothing is left.
@@ -116,57 +67,41 @@ fn column(rest: u32) -> u8
     ensures { result ≡ column_byte rest }
 {
     if rest == 0 {
-        return 32;
+        b' '
+    } else {
+        b'0' + (rest % 10) as u8
     }
-    48 + ((rest % 10) as u8)
 }
 
 // The figure v over the whole of s, from its last column, which is never blank.
 pub fn write(s: &mut [u8], v: u32)
     ensures { s.new ≡ field_text (length s.old) v }
 {
-    let mut i = s.len();
-    if i == 0 {
+    if s.is_empty() {
         return;
     }
-    i -= 1;
-    s[i] = 48 + ((v % 10) as u8);
+    let last = s.len() - 1;
+    s[last] = b'0' + (v % 10) as u8;
     let mut rest = v / 10;
-    while i > 0 {
-        i -= 1;
+    for i in (0..last).rev() {
         s[i] = column(rest);
-        rest = rest / 10;
+        rest /= 10;
     }
 }
 
-// The two hold the same bytes. Compared from the last, in which figures of one width differ most often.
+// The two hold the same bytes.
 pub fn same(s: &[u8], t: &[u8]) -> bool
     ensures { result ≡ eq_list s.now t.now }
 {
-    let mut i = s.len();
-    if i != t.len() {
-        return false;
-    }
-    while i > 0 {
-        i -= 1;
-        if s[i] != t[i] {
-            return false;
-        }
-    }
-    true
+    s == t
 }
 
 // The word t over s, where it has the length of s.
+#[tactic(auto, unfolding(crate::specs::Word::put_word))]
 pub fn put(s: &mut [u8], t: &[u8])
     ensures { s.new ≡ put_word s.old t.now }
 {
-    let n = s.len();
-    if n != t.len() {
-        return;
-    }
-    let mut i = 0;
-    while i < n {
-        s[i] = t[i];
-        i += 1;
+    if s.len() == t.len() {
+        s.copy_from_slice(t);
     }
 }

@@ -3,6 +3,7 @@ use Rattle.std.specs.Prelude.{◌≡◌, ◌<◌, ◌&&◌, ◌∷◌, ◌++◌}
 use Rattle.std.proofs.Common.{◌∙◌}
 use Rattle.lists.specs.Kit.{refl, sym, ap, ap₂, ℕ, zero, suc, eqb, Bool, true, false, true≢false, and_assoc, List, []}
 use Rattle.lists.specs.Kit.{length, get_or, arith, eqb-true, eq-eqb}
+use lib.Pointwise.{pointwise}
 use Prim.Native.Char.{code}
 use Prim.Native.String.{String}
 use Rattle.lists.specs.Tests.{and_fst, and_snd, and_both}
@@ -13,21 +14,16 @@ bytes String.[] = []
 bytes (String.◌∷◌ c s) = code c ∷ bytes s
 
 -- the two lists are equal
-unfoldable pub eq_list : List ℕ → List ℕ → Bool
-eq_list [] [] = true
-eq_list [] (b ∷ t) = false
-eq_list (a ∷ s) [] = false
-eq_list (a ∷ s) (b ∷ t) = eqb a b && eq_list s t
+abbrev pub eq_list : List ℕ → List ℕ → Bool
+eq_list s t = pointwise eqb s t
 
 pub eq_list-true : (s t : List ℕ) → eq_list s t ≡ true → s ≡ t
-unfolding eq_list
 eq_list-true [] [] e = refl
 eq_list-true [] (b ∷ t) e = absurd (true≢false (sym e))
 eq_list-true (a ∷ s) [] e = absurd (true≢false (sym e))
 eq_list-true (a ∷ s) (b ∷ t) e = ap₂ ◌∷◌ (eqb-true a b (and_fst _ _ e)) (eq_list-true s t (and_snd (eqb a b) (eq_list s t) e))
 
 pub eq_list_refl : (s : List ℕ) → eq_list s s ≡ true
-unfolding eq_list
 eq_list_refl [] = refl
 eq_list_refl (a ∷ s) = and_both (eq-eqb a a refl) (eq_list_refl s)
 
@@ -40,7 +36,6 @@ ne_eq_list s t d = go (eq_list s t) refl
 
 -- two beginnings of one length are equal, and so are the rests
 pub eq_list-append : (s t s' t' : List ℕ) → length s ≡ length t → eq_list (s ++ s') (t ++ t') ≡ (eq_list s t && eq_list s' t')
-unfolding eq_list
 eq_list-append [] [] s' t' n = refl
 eq_list-append [] (b ∷ t) s' t' n = absurd (omega arith)
 eq_list-append (a ∷ s) [] s' t' n = absurd (omega arith)

@@ -2,9 +2,12 @@
 pub mod Kit
 pub mod Bytes
 pub mod All
+pub mod Alike
 pub mod Chosen
 pub mod Members
 pub mod Each
+pub mod Chains
+pub mod Chunks
 pub mod Fill
 pub mod Order
 pub mod Pieces

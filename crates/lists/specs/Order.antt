@@ -28,7 +28,7 @@ regroup false false m f r = refl
 
 -- two beginnings of one length decide, unless they are equal
 pub less-append : (s t s' t' : List ℕ) → length s ≡ length t → less (s ++ s') (t ++ t') ≡ (less s t || eq_list s t && less s' t')
-unfolding less eq_list
+unfolding less
 less-append [] [] s' t' n = refl
 less-append [] (b ∷ t) s' t' n = absurd (omega arith)
 less-append (a ∷ s) [] s' t' n = absurd (omega arith)

@@ -1,7 +1,7 @@
 -- A write in one unit, over bytes. Document 00, demand 2: a call "writes to at most one unit or the coordinator sheet".
 use Rattle.std.specs.Prelude.{◌≡◌, ◌∷◌, ◌++◌}
 use Rattle.lists.specs.Basics.{ℕ, List, [], length}
-use Rattle.model.specs.Types.{Key, At}
+use Rattle.model.specs.Types.{Key, Some}
 use Rattle.model.specs.Layouts.{record_bytes}
 use Rattle.model.specs.Lines.{lines_of}
 use Rattle.model.specs.Records.{record_in, record_text, absent_at}
@@ -16,12 +16,12 @@ use Rattle.model.specs.TwoCalls.{TwoBytes}
 
 -- the fields of the key of line i that the unit of its storage compares
 abbrev pub scope_at : ℕ → Bytes → List ℕ
-scope_at i b = scope (coordinator_of b.coordinator).units (record_in (line_at b.records (At i))).key
+scope_at i b = scope (coordinator_of b.coordinator).units (record_in (line_at b.records (Some i))).key
 
 -- Both sheets before and after: the coordinator sheet stays, the record sheet keeps its length and each of its lines outside one unit its bytes; or the
 -- record sheet stays.
 pub data WithinUnit (before after : Bytes) : Type 0 where
-  lines_of_one_unit : (unit : List ℕ) → after.coordinator ≡ before.coordinator → length after.records ≡ length before.records → ((i : ℕ) → (scope_at i before ≡ unit → ⊥) → line_at after.records (At i) ≡ line_at before.records (At i)) → WithinUnit before after
+  lines_of_one_unit : (unit : List ℕ) → after.coordinator ≡ before.coordinator → length after.records ≡ length before.records → ((i : ℕ) → (scope_at i before ≡ unit → ⊥) → line_at after.records (Some i) ≡ line_at before.records (Some i)) → WithinUnit before after
   coordinator_only : after.records ≡ before.records → WithinUnit before after
 
 -- Document 02, note 6: "Each is one atomic write, of that line only: lines that shift by it don't count as written." A sheet before and after a line is put in at index i: it keeps its length, the lines from there on stand one further down, and of the spares at the end one is used up. The
@@ -49,7 +49,7 @@ pub data OneUnit (before after : Bytes) : Call → Type 0 where
 -- either sheet before and after: it keeps its length, and each of its lines outside one unit its bytes
 pub record KeepsOthers (units : List Letter) (unit : List ℕ) (width : ℕ) (key_in : List ℕ → Key) (before after : List ℕ) : Type 0 where
   pub size : length after ≡ length before
-  pub others : (i : ℕ) → (scope units (key_in (line_of_sheet width before (At i))) ≡ unit → ⊥) → line_of_sheet width after (At i) ≡ line_of_sheet width before (At i)
+  pub others : (i : ℕ) → (scope units (key_in (line_of_sheet width before (Some i))) ≡ unit → ⊥) → line_of_sheet width after (Some i) ≡ line_of_sheet width before (Some i)
 
 abbrev pub PlainKeeps : List ℕ → TwoBytes → TwoBytes → Type 0
 PlainKeeps unit b a = KeepsOthers (coordinator_of b.coordinator).units unit plain_bytes (λ (l : List ℕ). (plain_record l).key) b.plain a.plain

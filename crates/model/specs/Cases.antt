@@ -137,7 +137,7 @@ advance_case t line own line' own' answer =
     }
 
 unfoldable pub cases : List Case
-unfolding Bytes.bytes Bytes.eq_list Each.all Each.any Each.filter Each.count Each.joined Each.pieces Each.less Field.stepped Field.scanned Field.within Field.figure Field.number Field.is_number Field.ahead Field.field_text Layouts.words Layouts.record_layout Layouts.key_layout Layouts.image_layout Layouts.columns_layout Layouts.head_layout Layouts.line_layout Lines.word_from Lines.field_value Lines.field_bytes Lines.in_range Lines.row_of Lines.line_set Lines.line_text Lines.row_good Lines.lines_of Lines.lines_set Records.state_number Records.state_of Records.before_number Records.before_of Records.key_numbers Records.image_numbers Records.key_of Records.image_from Records.record_of Records.record_numbers Records.is_zero Records.absence Records.no_before Records.before_rule Records.absent_rule Records.committed_rule Records.prepared_rule Records.good_alone Records.key_less Records.in_order Records.rising Records.records_good Records.record_in Records.record_text Records.records Records.records_text Records.records_accepted Spares.spare_line Spares.trimmed Spares.filled_lines Spares.front Spares.sized Spares.sheet_for Spares.sheet_accepted Records.key_in_range Records.same_key Search.first_from Records.found Records.is_missing Records.line_of Coordinator.decision_number Coordinator.decision_of Coordinator.unit_number Coordinator.unit_of Coordinator.letter_number Coordinator.letter_of Coordinator.is_undecided Coordinator.decision Coordinator.with_decision Coordinator.coordinator_good Coordinator.decision_in Coordinator.coordinator_of Coordinator.numbered Coordinator.coordinator_readable Coordinator.all_capitals Coordinator.coordinator_accepted Coordinator.names_issued Coordinator.decision_texts Coordinator.head_numbers Coordinator.coordinator_text Refusals.refusal_of SheetCalls.all_issued SheetCalls.check_conditions Transactions.held Transactions.puts Transactions.to_validate Groups.unit_fields Groups.letter_for Groups.scope Groups.add_scope Groups.scopes Groups.group_count Groups.group_place Groups.group Images.prepared_by Images.unchanged Images.same_columns Images.prepared Images.committed Images.rolled_forward Images.rolled_back Images.elapsed Images.line_expired Images.recovery Writes.entry_for Writes.is_of Writes.line_after Writes.shifted Writes.lines_after Writes.decisions_after Writes.apply WellFormed.image_in_range WellFormed.columns_in_range WellFormed.put_fits WellFormed.entry_formed WellFormed.distinct_keys WellFormed.place_formed WellFormed.verdict_formed WellFormed.formed WellFormed.well_formed Visits.number_expired Visits.meeting Visits.recovery_write Conditions.cannot_advance Conditions.conditions Steps.holds Steps.one_phase_allowed Steps.one_phase Steps.open_step Steps.next_group Steps.prepare_step Steps.decide_step Steps.finish_step Steps.undo_step Steps.step Calls.outcome Calls.result_of ByteCalls.result_on ByteCalls.sheet_after ByteCalls.coordinator_after ByteHistories.after_on Visitor.first_layout Visitor.input_fits Visitor.input_conditions Visitor.visited_all Visitor.swept Visitor.visitor_output
+unfolding Bytes.bytes Each.all Each.any Each.filter Each.count Each.joined Each.pieces Each.less Field.stepped Field.scanned Field.within Field.figure Field.ahead Field.field_text Layouts.words Layouts.record_layout Layouts.key_layout Layouts.image_layout Layouts.columns_layout Layouts.head_layout Layouts.line_layout Lines.word_from Lines.field_value Lines.field_bytes Lines.in_range Lines.row_of Lines.line_set Lines.line_text Lines.row_good Lines.lines_of Lines.lines_set Records.state_number Records.state_of Records.before_number Records.before_of Records.key_numbers Records.image_numbers Records.key_of Records.image_from Records.record_of Records.record_numbers Records.is_zero Records.absence Records.no_before Records.before_rule Records.absent_rule Records.committed_rule Records.prepared_rule Records.good_alone Records.key_less Records.in_order Records.rising Records.records_good Records.record_in Records.record_text Records.records Records.records_text Records.records_accepted Spares.spare_line Spares.trimmed Spares.filled_lines Spares.front Spares.sized Spares.sheet_for Spares.sheet_accepted Records.key_in_range Records.same_key Search.first_from Records.found Records.is_missing Records.line_of Coordinator.decision_number Coordinator.decision_of Coordinator.unit_number Coordinator.unit_of Coordinator.letter_number Coordinator.letter_of Coordinator.is_undecided Coordinator.decision Coordinator.with_decision Coordinator.coordinator_good Coordinator.decision_in Coordinator.coordinator_of Coordinator.numbered Coordinator.coordinator_readable Coordinator.all_capitals Coordinator.coordinator_accepted Coordinator.names_issued Coordinator.decision_texts Coordinator.head_numbers Coordinator.coordinator_text Refusals.refusal_of SheetCalls.all_issued SheetCalls.check_conditions Transactions.held Transactions.puts Transactions.to_validate Groups.unit_fields Groups.letter_for Groups.scope Groups.add_scope Groups.scopes Groups.group_count Groups.group_place Groups.group Images.prepared_by Images.unchanged Images.same_columns Images.prepared Images.committed Images.rolled_forward Images.rolled_back Images.elapsed Images.line_expired Images.recovery Writes.entry_for Writes.is_of Writes.line_after Writes.shifted Writes.lines_after Writes.decisions_after Writes.apply WellFormed.image_in_range WellFormed.columns_in_range WellFormed.put_fits WellFormed.entry_formed WellFormed.distinct_keys WellFormed.place_formed WellFormed.verdict_formed WellFormed.formed WellFormed.well_formed Visits.number_expired Visits.meeting Visits.recovery_write Conditions.cannot_advance Conditions.conditions Steps.holds Steps.one_phase_allowed Steps.one_phase Steps.open_step Steps.next_group Steps.prepare_step Steps.decide_step Steps.finish_step Steps.undo_step Steps.step Calls.outcome Calls.result_of ByteCalls.result_on ByteCalls.sheet_after ByteCalls.coordinator_after ByteHistories.after_on Visitor.first_layout Visitor.input_fits Visitor.input_conditions Visitor.visited_all Visitor.swept Visitor.visitor_output
 cases =
     -- the four clock edges: 14999, 15000, 2147483647 and 2147483648 ticks
     expiry_case 19999 0

@@ -4,7 +4,7 @@ use Rattle.std.specs.Prelude.{◌≡◌, ◌+◌, ◌-◌, ◌*◌, ◌/◌, ◌
 use Rattle.lists.specs.Basics.{ℕ, zero, suc, eqb, leb, Bool, not, cond, List, [], length, take, drop}
 use Rattle.lists.specs.Basics.{eq_list}
 use Rattle.lists.specs.Pieces.{over}
-use Rattle.model.specs.Types.{At}
+use Rattle.model.specs.Types.{Some}
 use Rattle.model.specs.Layouts.{record_bytes}
 use Rattle.model.specs.Refusals.{Condition, refuse, refusal_of}
 use Rattle.model.specs.SheetCalls.{unless_refused, line_at}
@@ -19,7 +19,7 @@ or_refusal cs told = cond (eqb (refusal_of cs) 0) told (1000 + refusal_of cs)
 module _ (before after : List ℕ) where
   -- line i has other bytes
   abbrev pub differs : ℕ → Bool
-  differs i = not (eq_list (line_at before (At i)) (line_at after (At i)))
+  differs i = not (eq_list (line_at before (Some i)) (line_at after (Some i)))
 
   -- how many of the first n lines reach to the last of them that differs, that one included; 0 where none differs
   unfoldable pub reach_of : ℕ → ℕ

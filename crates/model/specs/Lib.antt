@@ -7,6 +7,7 @@ pub mod Records
 pub mod Spares
 pub mod Coordinator
 pub mod Refusals
+pub mod Told
 pub mod SheetCalls
 pub mod Transactions
 pub mod Groups

@@ -1,10 +1,8 @@
 -- Fields, lines and sheets of lines, read and written by a layout: one codec for every kind of line.
 -- A line is read into a row of numbers, one for each field.
-use Rattle.std.specs.Prelude.{◌-◌, ◌*◌, ◌/◌, ◌&&◌, ◌∷◌, ◌++◌}
+use Rattle.std.specs.Prelude.{◌-◌, ◌*◌, ◌/◌, ◌&&◌, ◌∷◌, ◌++◌, Option, Some, None}
 use Rattle.lists.specs.Basics.{ℕ, suc, eqb, leb, Bool, true, cond, List, [], map, length, take, drop, get_or, all, joined, pieces}
 use Rattle.lists.specs.Basics.{eq_list}
-use Rattle.decimal.specs.declared.Scan.{Scan}
-use Rattle.decimal.specs.declared.Scan.TheVariants.{Number, Wrong}
 use Rattle.decimal.specs.Field.{figure, field_text, number, is_number}
 use Rattle.model.specs.Types.{Column, Kind, Figure, StateWord, BeforeWord, DecisionWord, UnitLetter}
 use Rattle.model.specs.Layouts.{words, word_at, word_bytes}
@@ -14,9 +12,9 @@ abbrev pub last_bytes : ℕ → List ℕ → List ℕ
 last_bytes w t = drop (word_bytes - w) t
 
 -- which of the words ts the field holds, counted from n
-unfoldable pub word_from : ℕ → List (List ℕ) → ℕ → List ℕ → Scan
-word_from w [] n s = Wrong
-word_from w (t ∷ ts) n s = cond (eq_list s (last_bytes w t)) (Number n) (word_from w ts (suc n) s)
+unfoldable pub word_from : ℕ → List (List ℕ) → ℕ → List ℕ → Option ℕ
+word_from w [] n s = None
+word_from w (t ∷ ts) n s = cond (eq_list s (last_bytes w t)) (Some n) (word_from w ts (suc n) s)
 
 -- a choice by kind: a figure, or a word
 abbrev pub by_kind {ℓ} : {A : Type ℓ} → Kind → A → A → A
@@ -26,8 +24,8 @@ by_kind BeforeWord a b = b
 by_kind DecisionWord a b = b
 by_kind UnitLetter a b = b
 
--- what a field holds: its number, or `Wrong`
-unfoldable pub field_value : Column → List ℕ → Scan
+-- what a field holds: its number, or `None`
+unfoldable pub field_value : Column → List ℕ → Option ℕ
 field_value c s = by_kind c.kind (figure c.low c.high s) (word_from c.width (words c.kind) 0 s)
 
 -- the field's bytes for a number

@@ -1,25 +1,21 @@
 -- The record sheet: a line as a record, and the rules that records keep. Document 01, "Record sheet".
 use Rattle.std.specs.Prelude.{◌+◌, ◌*◌, ◌/◌, ◌&&◌, ◌∷◌, ◌++◌}
-use Rattle.lists.specs.Basics.{ℕ, zero, suc, eqb, leb, Bool, true, false, not, cond, List, [], map, length, get_or, all}
+use Rattle.lists.specs.Basics.{ℕ, eqb, leb, Bool, true, false, not, cond, List, [], map, length, get_or, all}
 use Rattle.lists.specs.Basics.{count, joined, pieces, less, eq_list}
-use Rattle.model.specs.Types.{Key, Image, Record, State, Before, Rank, Found, At, Nothing}
+use Rattle.model.specs.Types.{Key, Image, Record, State, Before, Rank, Found, Some, None}
 use Rattle.types.specs.declared.State.TheVariants.{Absent, Committed, Prepared}
 use Rattle.types.specs.declared.Before.TheVariants as Was
+unfoldable pub use Rattle.types.specs.Numbers.{state_of, before_of}
 use Rattle.model.specs.Layouts.{record_layout, key_layout, state_field, image_field, before_state_field, before_field, clock_field, record_bytes, record_fields}
 use Rattle.model.specs.Lines.{row_of, line_text, row_good, lines_of, lines_set}
 use Rattle.model.specs.Search.{first_from}
 
--- State words by their index among the words.
+-- State words by their index among the words; `state_of` and `before_of`, the words of numbers, stand in crates/types/specs/Numbers.antt.
 
 unfoldable pub state_number : State → ℕ
 state_number Absent = 0
 state_number Committed = 1
 state_number Prepared = 2
-
-unfoldable pub state_of : ℕ → State
-state_of zero = Absent
-state_of (suc zero) = Committed
-state_of (suc (suc n)) = Prepared
 
 abbrev pub by_state {ℓ} : {A : Type ℓ} → State → A → A → A → A
 by_state Absent a c p = a
@@ -32,11 +28,6 @@ unfoldable pub before_number : Before → ℕ
 before_number Was.Nothing = 0
 before_number Was.Absent = 1
 before_number Was.Committed = 2
-
-unfoldable pub before_of : ℕ → Before
-before_of zero = Was.Nothing
-before_of (suc zero) = Was.Absent
-before_of (suc (suc n)) = Was.Committed
 
 abbrev pub by_before {ℓ} : {A : Type ℓ} → Before → A → A → A → A
 by_before Was.Nothing n a c = n
@@ -201,12 +192,12 @@ unfoldable pub found : Key → List Record → Found
 found k rs = first_from (λ (r : Record). same_key r.key k) 0 rs
 
 abbrev pub by_found {ℓ} : {A : Type ℓ} → Found → A → (ℕ → A) → A
-by_found Nothing a f = a
-by_found (At i) a f = f i
+by_found None a f = a
+by_found (Some i) a f = f i
 
 unfoldable pub is_missing : Found → Bool
-is_missing (At i) = false
-is_missing Nothing = true
+is_missing (Some i) = false
+is_missing None = true
 
 -- some line has the key
 abbrev pub has_line : Key → List Record → Bool
@@ -222,7 +213,7 @@ ranked k rs = record { below = rank k rs; present = has_line k rs }
 
 -- the part of that answer by which operations go: the index of the key's line, if it has one
 abbrev pub placed : Rank → Found
-placed r = cond r.present (At r.below) Nothing
+placed r = cond r.present (Some r.below) None
 
 abbrev pub keys_in : List Record → List Key
 keys_in rs = map (λ (r : Record). r.key) rs

@@ -1,5 +1,9 @@
 -- Numbered refusals: a call lists its conditions in the order in which they are asked, and the first that holds is the answer.
 use Rattle.std.specs.Prelude.{◌&&◌, ◌||◌, ◌∷◌}
+use Rattle.std.specs.Prelude.{Result, Ok, Err}
+use Rattle.types.specs.declared.Refusal.{Refusal}
+use Rattle.types.specs.declared.Refusal.TheVariants.{BadRecords, BadCoordinator, BadTransaction, WrongPhase, BadKey, NoSuchKey, BadColumns, NumbersSpent}
+use Rattle.types.specs.declared.Refusal.TheVariants.{EntriesSpent, NotHeld, VersionsSpent, Busy, SheetsDiffer, HasLine, NoSpare, NotBlank}
 use Rattle.lists.specs.Basics.{ℕ, suc, eqb, leb, Bool, not, cond, List, [], all, any}
 
 -- a number of document 01's table, and whether its condition holds
@@ -46,3 +50,27 @@ none_holds cs = all (λ (c : Condition). not c.holds) cs
 -- n is the first number of the order that applies, or 0 where none does
 abbrev pub first_asked : ℕ → List Condition → Bool
 first_asked n cs = cond (eqb n 0) (none_holds cs) (applies n cs && none_before n cs)
+
+-- A refusal of the engine, as its number in the table.
+abbrev pub refusal_number : Refusal → ℕ
+refusal_number BadRecords = 1
+refusal_number BadCoordinator = 2
+refusal_number BadTransaction = 3
+refusal_number WrongPhase = 4
+refusal_number BadKey = 5
+refusal_number NoSuchKey = 6
+refusal_number BadColumns = 7
+refusal_number NumbersSpent = 8
+refusal_number EntriesSpent = 9
+refusal_number NotHeld = 10
+refusal_number VersionsSpent = 11
+refusal_number Busy = 12
+refusal_number SheetsDiffer = 13
+refusal_number HasLine = 14
+refusal_number NoSpare = 15
+refusal_number NotBlank = 16
+
+-- the number of the refusal that a call gives, 0 where it is accepted
+abbrev pub refused_with : {A : Type 0} → Result A Refusal → ℕ
+refused_with (Ok a) = 0
+refused_with (Err r) = refusal_number r

@@ -2,7 +2,7 @@
 -- For each, its conditions of refusal in order, and what it answers or leaves in the lent target.
 use Rattle.std.specs.Prelude.{◌+◌, ◌-◌, ◌*◌, ◌/◌, ◌&&◌, ◌∷◌, ◌++◌}
 use Rattle.lists.specs.Basics.{ℕ, eqb, Bool, false, not, cond, List, [], map, length, take, drop, replicate, all}
-use Rattle.model.specs.Types.{Key, Record, Rank, Ranked, Found, At, Nothing}
+use Rattle.model.specs.Types.{Key, Record, Rank, Ranked, Found, Some, None}
 use Rattle.model.specs.Layouts.{record_bytes, coordinator_bytes, record_fields, head_fields}
 use Rattle.model.specs.Records.{records, records_text, record_of, rows, rows_accepted, all_numbers, key_in_range, found, is_missing, ranked}
 use Rattle.model.specs.Spares.{trimmed, filled_lines, spares_text, sized, record_lines, sheet_accepted}
@@ -110,8 +110,8 @@ line_among rs k = told_rank (refuse 6 (is_missing (found k rs)) ∷ []) (ranked 
 
 -- the bytes of the line at an index, none where nothing was found
 unfoldable pub line_at : List ℕ → Found → List ℕ
-line_at s (At i) = take record_bytes (drop (i * record_bytes) s)
-line_at s Nothing = []
+line_at s (Some i) = take record_bytes (drop (i * record_bytes) s)
+line_at s None = []
 
 -- the line that has the key, or nothing
 unfoldable pub looked_up : List ℕ → Key → List ℕ

@@ -4,7 +4,7 @@ use Rattle.std.specs.Prelude.{◌+◌, ◌*◌, ◌&&◌, ◌∷◌, ◌++◌}
 use Rattle.lists.specs.Basics.{ℕ, Bool, true, false, not, List, [], map, take, drop, get_or, all, joined}
 use Rattle.types.specs.declared.State.TheVariants.{Committed}
 use Rattle.types.specs.declared.Before.TheVariants as Was
-use Rattle.model.specs.Types.{Key, Column, Record, Ranked, Found, At, Nothing}
+use Rattle.model.specs.Types.{Key, Column, Record, Ranked, Found, Some, None}
 use Rattle.model.specs.Layouts.{record_layout, image_field, before_state_field, key_layout, columns_layout, key_bytes, record_bytes}
 use Rattle.model.specs.Lines.{row_of, lines_of, lines_set}
 use Rattle.model.specs.Records.{state_of, before_of, key_of, image_from, no_image, records_good, records, records_accepted, same_key, key_in_range, found, is_missing, ranked}
@@ -169,5 +169,5 @@ bookkeeping_named = 1
 
 -- the bytes of the line at an index, none where nothing was found
 unfoldable pub line_of_sheet : ℕ → List ℕ → Found → List ℕ
-line_of_sheet width s (At i) = take width (drop (i * width) s)
-line_of_sheet width s Nothing = []
+line_of_sheet width s (Some i) = take width (drop (i * width) s)
+line_of_sheet width s None = []

@@ -4,7 +4,7 @@ use Rattle.std.specs.Prelude.{◌≡◌, ◌+◌, ◌≤◌, ◌<◌, ◌&&◌, 
 use Rattle.std.proofs.Common.{◌∙◌}
 use Rattle.lists.specs.Basics.{refl, sym, ap, subst, ℕ, zero, suc, eqb, Bool, true, false, not, cond, true≢false, List, []}
 use Rattle.lists.specs.Basics.{take, drop, get_or, set, none, some, arith, add-one, eqb-true, eq-eqb, ne_eqb, not-false, all, and_snd, and_both, choose_by, tests}
-use Rattle.model.specs.Types.{Key, Image, Record, Decision, Undecided, Committed, Aborted, Found, Nothing, Columns, Entry, Transaction, Recovery}
+use Rattle.model.specs.Types.{Key, Image, Record, Decision, Undecided, Committed, Aborted, Found, None, Columns, Entry, Transaction, Recovery}
 use Rattle.model.specs.Refusals.{refusal_of}
 use Rattle.model.specs.Records.{same_key, line_of, is_missing, by_found}
 use Rattle.model.specs.Coordinator.{Coordinator, decision, is_undecided, coordinator_good}
@@ -96,7 +96,7 @@ early_abort t =
     (λ e h. absurd (true≢false h))
     (λ h. absurd (true≢false h))
 
-pub missing-none : is_missing Nothing ≡ false → ⊥
+pub missing-none : is_missing None ≡ false → ⊥
 unfolding is_missing
 missing-none q = true≢false q
 

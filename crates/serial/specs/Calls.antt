@@ -5,7 +5,7 @@ use Rattle.std.specs.Prelude.{◌≡◌, ◌+◌, ◌<◌, ◌&&◌, ◌∷◌}
 use Rattle.std.proofs.Common.{◌∙◌}
 use Rattle.lists.specs.Basics.{refl, sym, ap, ap₂, subst, ℕ, eqb, leb, Bool, true, false, not, cond, true≢false, List, length, get_or}
 use Rattle.lists.specs.Basics.{length-set, Option, some, none-ne-some, some-injective, arith, eqb-true, leb-false, not-false, choose_by}
-use Rattle.model.specs.Types.{Key, Image, Record, Committed, Aborted, Found, At, Columns, Entry, Transaction, Recovery, Reading}
+use Rattle.model.specs.Types.{Key, Image, Record, Committed, Aborted, Found, Some, Columns, Entry, Transaction, Recovery, Reading}
 use Rattle.types.specs.declared.Reading.TheVariants.{Again}
 use Rattle.model.specs.Refusals.{refusal_of}
 use Rattle.model.specs.Records.{line_of, same_key, by_found}
@@ -203,7 +203,7 @@ module _ {first : Key → Record} {s : Sheets} {es : List Event} {m : Model} {ps
       let ph : t.phase ≡ 0 = in_open t (accepted 4 (put t k c) s z) in
       first_by (λ (x : Entry). same_key x.key k) Kept (held t) no_entry
       (λ n g. comes_back t (over nothing (event t) t t g (av t refl) refl refl refl (λ j. away_nothing)) away_nothing ph refl refl tt)
-      (λ i x g. let t' = at (At i) in
+      (λ i x g. let t' = at (Some i) in
       opens t t' (over nothing (event t') t t' g (av t refl) refl refl refl (λ j. away_nothing)) away_nothing ph ph refl refl refl
       (length-set t.entries i (with_put c (get_or t.entries i no_entry)))
       (aged_put c t i x.within (units_of s) m.line (o.aged t (av t refl))) (holds_on_put c t i x.within) tt)

@@ -4,7 +4,7 @@ use Rattle.std.proofs.Common.{◌∙◌}
 use Rattle.lists.specs.Basics.{ℕ, suc, refl, sym, ap, Bool, true, false, cond, true≢false, List, [], length, take, drop}
 use Rattle.lists.specs.Basics.{all, any, count, and_fst, and_snd, and_both, choose_by, or_fst, or_snd}
 use Rattle.lists.specs.Order.{less_irrefl, less-total}
-use Rattle.model.specs.Types.{Key, Record, At}
+use Rattle.model.specs.Types.{Key, Record, Some}
 use Rattle.model.specs.Records.{key_numbers, key_of, key_less, in_order, rising, same_key, absent_at, line_of, no_record, found, rank}
 use Rattle.sheet_laws.specs.KeyOrder.{same_key_lem, same_key_refl, other_key, lists_key, has_line_lem, unlisted, apart, key_trans, key_later}
 use Rattle.sheet_laws.specs.Search.{first_at}
@@ -244,7 +244,7 @@ module _ (k : Key) where
   pub rank_inside : (rs : List Record) → rising rs ≡ true → lists_key k rs ≡ true → rank k rs < length rs
   unfolding found
   rank_inside rs h n =
-      let e : found k rs ≡ At (rank k rs) = found_by_rank k rs h ∙ rw (has_line_lem k rs ∙ n) in
+      let e : found k rs ≡ Some (rank k rs) = found_by_rank k rs h ∙ rw (has_line_lem k rs ∙ n) in
       (first_at (λ (r : Record). same_key r.key k) rs no_record (rank k rs) e).within
 
   -- before all others, a new line comes first

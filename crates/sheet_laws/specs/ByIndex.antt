@@ -30,7 +30,7 @@ length-records s = length-map (pieces record_bytes (length s / record_bytes) s) 
 
 -- no bytes say nothing
 no_record_lem : record_in [] ≡ no_record
-unfolding record_in record_of key_of image_from state_of before_of row_of record_layout field_value word_from words bytes eq_list number figure scanned within
+unfolding record_in record_of key_of image_from state_of before_of row_of record_layout field_value word_from words bytes figure scanned within
 no_record_lem = refl
 
 pub record_past : (s : List ℕ) (i : ℕ) → length s / record_bytes ≤ i → get_or (records s) i no_record ≡ no_record

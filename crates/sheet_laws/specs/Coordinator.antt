@@ -102,11 +102,11 @@ letter-ranged l = go l.lower
     go false = let m = unit_ranged l.unit in le-leb (unit_number l.unit + 0) 9 (omega arith)
 
 pub head_layout_ok : layout_ok head_layout ≡ true
-unfolding all column_ok head_layout words all_below word_ok is_the field_value field_bytes word_from bytes eq_list
+unfolding all column_ok head_layout words all_below word_ok is_the field_value field_bytes word_from bytes
 head_layout_ok = refl
 
 pub line-layout_ok : layout_ok line_layout ≡ true
-unfolding all column_ok line_layout words all_below word_ok is_the field_value field_bytes word_from bytes eq_list
+unfolding all column_ok line_layout words all_below word_ok is_the field_value field_bytes word_from bytes
 line-layout_ok = refl
 
 pub head_bytes : line_bytes head_layout ≡ coordinator_bytes

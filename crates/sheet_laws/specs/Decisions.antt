@@ -1,6 +1,6 @@
 -- A line of the coordinator sheet by its number, and its head's count: what they say, and what replacing one does.
 -- A line goes by `pieces` of what follows the head; the count by the first column of the head.
-use Rattle.std.specs.Prelude.{◌≡◌, ◌+◌, ◌*◌, ◌/◌, ◌≤◌, ◌<◌, ◌&&◌, ◌∷◌, ◌++◌}
+use Rattle.std.specs.Prelude.{◌≡◌, ◌+◌, ◌*◌, ◌/◌, ◌≤◌, ◌<◌, ◌&&◌, ◌∷◌, ◌++◌, Some}
 use Rattle.lists.specs.Basics.{refl, sym, ap, ℕ, zero, suc, eqb, leb, Bool, true, List, [], map, length}
 use Rattle.lists.specs.Basics.{take, drop, get_or, set, length-map, length-take, length-set, get_or-map, drop-drop, drop_at, take_at, take-add, take-take}
 use Rattle.lists.specs.Basics.{arith, add-one, eq-eqb, le-leb, all, pieces, eq_list, bytes, and_fst, and_snd, and_both, tests}
@@ -8,7 +8,6 @@ use Rattle.std.proofs.Common.{drop-set-lt, ◌∙◌}
 use Rattle.std.proofs.Math.Seq.{take-append-add, drop-append-add}
 use Rattle.lists.specs.All.{all_drop, all_set, map-set}
 use Rattle.lists.specs.Pieces.{over, over-after, over_zero, length_over, length-pieces, pieces-over, get_or-pieces}
-use Rattle.decimal.specs.declared.Scan.TheVariants.{Number}
 use Rattle.decimal.specs.Field.{figure, field_text, number}
 use Rattle.decimal.specs.Laws.{read_written, length-field_text}
 use Rattle.model.specs.Types.{Decision, Undecided}
@@ -35,7 +34,7 @@ issued_at s = ap (λ (t : List ℕ). number (figure 0 999 t)) (sym (take-take 4 
 
 -- no bytes say nothing
 no_decision_lem : decision_in [] ≡ Undecided
-unfolding decision_in decision_of row_of line_layout field_value word_from words bytes eq_list number
+unfolding decision_in decision_of row_of line_layout field_value word_from words bytes
 no_decision_lem = refl
 
 -- the decision of number i + 1 is what the line after the head and i lines says
@@ -185,7 +184,7 @@ module _ (s : List ℕ) (n : ℕ) (head : coordinator_bytes ≤ length s) (few :
       let e : drop 4 (take coordinator_bytes s) ≡ take 11 (drop 4 s) = rw (take-add 4 11 s) (drop_at (take 4 s) (take 11 (drop 4 s)) 4 f) in
       (rw (o, e) t, rw o (d ∙ drop-drop 11 4 s))
 
-  count_read : field_value (figures 4 0 999) (field_text 4 n) ≡ Number n
+  count_read : field_value (figures 4 0 999) (field_text 4 n) ≡ Some n
   unfolding field_value
   count_read = read_written 4 n 0 999 (omega arith) (omega arith) (omega arith) few
 

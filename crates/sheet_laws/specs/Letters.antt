@@ -1,18 +1,15 @@
 -- The letters as nine bytes, the part of the coordinator's head that says them: letter by letter from the left, each by the word that it is.
-use Rattle.std.specs.Prelude.{◌≡◌, ◌+◌, ◌≤◌, ◌<◌, ◌&&◌, ◌||◌, ◌∷◌}
+use Rattle.std.specs.Prelude.{◌≡◌, ◌<◌, ◌&&◌, ◌||◌, ◌∷◌, Option, Some, None}
 use Rattle.std.proofs.Common.{◌∙◌}
-use Rattle.lists.specs.Basics.{refl, sym, ap, ap₂, ℕ, zero, suc, eqb, leb, Bool, true, false, not, cond, true≢false, and-false, List, []}
-use Rattle.lists.specs.Basics.{map, length, take, drop, get_or, replicate, drop-drop, arith, eqb-true, all, eq_list, bytes, and_fst, and_snd}
+use Rattle.lists.specs.Basics.{refl, sym, ap, ap₂, ℕ, zero, suc, eqb, leb, Bool, true, false, cond, true≢false, and-false, List, []}
+use Rattle.lists.specs.Basics.{map, length, take, drop, replicate, drop-drop, arith, eqb-true, bytes, and_fst, and_snd}
 use Rattle.lists.specs.Pieces.{take-drop-take}
-use Rattle.lists.specs.Walks.{LeftFrom, left_here, left_last}
-use Rattle.decimal.specs.declared.Scan.{Scan}
-use Rattle.decimal.specs.declared.Scan.TheVariants.{Number, Wrong}
 use Rattle.decimal.specs.Field.{number, is_number}
 use Rattle.model.specs.Types.{AtomicityUnit, Column, UnitLetter}
 use Rattle.types.specs.declared.AtomicityUnit.TheVariants.{Record as RecordUnit, Partition, Table, Namespace, Storage}
 use Rattle.model.specs.Layouts.{head_layout, word, words, figures}
 use Rattle.model.specs.Lines.{field_value, word_from, row_of, line_set}
-use Rattle.model.specs.Coordinator.{Letter, unit_of, letter_of, coordinator_of, coordinator_readable, all_capitals}
+use Rattle.model.specs.Coordinator.{Letter, unit_of, letter_of, coordinator_of, coordinator_readable}
 use Rattle.sheet_laws.specs.Decisions.{readable_parts}
 
 -- the unit of a letter R, P, T or N of either case; any other counts as S
@@ -38,24 +35,24 @@ abbrev first_column : Column
 first_column = word 2 UnitLetter 9
 
 -- what was read is the letter of the byte
-abbrev Says : ℕ → Scan → Type 0
+abbrev Says : ℕ → Option ℕ → Type 0
 Says b st = is_number st ≡ true → letter_of (number st) ≡ letter_in b
 
 -- which of the letters ks the byte is, counted from n; `spaced` is the space that the first letter of a head has before it
-unfoldable amongst : (b : ℕ) (spaced : Bool) (ks : List ℕ) (n : ℕ) → Scan
-amongst b spaced [] n = Wrong
-amongst b spaced (k ∷ ks) n = cond (spaced && (eqb b k && true)) (Number n) (amongst b spaced ks (suc n))
+unfoldable amongst : (b : ℕ) (spaced : Bool) (ks : List ℕ) (n : ℕ) → Option ℕ
+amongst b spaced [] n = None
+amongst b spaced (k ∷ ks) n = cond (spaced && (eqb b k && true)) (Some n) (amongst b spaced ks (suc n))
 
-one_of : (b k n : ℕ) (spaced : Bool) (rest : Scan) → letter_of n ≡ letter_in k → Says b rest → Says b (cond (spaced && (eqb b k && true)) (Number n) rest)
+one_of : (b k n : ℕ) (spaced : Bool) (rest : Option ℕ) → letter_of n ≡ letter_in k → Says b rest → Says b (cond (spaced && (eqb b k && true)) (Some n) rest)
 one_of b k n false rest e later = later
 one_of b k n true rest e later = go (eqb b k) refl
   where
-    go : (t : Bool) → eqb b k ≡ t → Says b (cond (t && true) (Number n) rest)
-    go true f h = unfold number in e ∙ ap letter_in (sym (eqb-true b k f))
+    go : (t : Bool) → eqb b k ≡ t → Says b (cond (t && true) (Some n) rest)
+    go true f h = e ∙ ap letter_in (sym (eqb-true b k f))
     go false f h = later h
 
 ten : (b : ℕ) (spaced : Bool) → Says b (amongst b spaced (bytes "RPTNSrptns") 0)
-unfolding amongst bytes is_number letter_of unit_of letter_in unit_in
+unfolding amongst bytes letter_of unit_of letter_in unit_in
 ten b z =
     one_of b 82 0 z _ refl
     (one_of b 80 1 z _ refl
@@ -65,25 +62,25 @@ ten b z =
     (one_of b 114 5 z _ refl
     (one_of b 112 6 z _ refl
     (one_of b 116 7 z _ refl
-    (one_of b 110 8 z _ refl (one_of b 115 9 z Wrong refl (λ h. absurd (true≢false (sym h))))))))))))
+    (one_of b 110 8 z _ refl (one_of b 115 9 z None refl (λ h. absurd (true≢false (sym h))))))))))))
 
 letter-says : (b : ℕ) → Says b (field_value letter_column (b ∷ []))
-unfolding field_value word_from words bytes eq_list amongst
+unfolding field_value word_from words bytes amongst
 letter-says b = ten b true
 
 -- the first has a space before it
 first_says : (a b : ℕ) → Says b (field_value first_column (a ∷ b ∷ []))
-unfolding field_value word_from words bytes eq_list amongst
+unfolding field_value word_from words bytes amongst
 first_says a b = ten b (eqb a 32)
 
 first_short : (s : List ℕ) → length s < 2 → is_number (field_value first_column s) ≡ true → ⊥
-unfolding field_value word_from words bytes eq_list is_number
+unfolding field_value word_from words bytes
 first_short [] l h = true≢false (sym h)
 first_short (a ∷ []) l h = let f : false ≡ true = rw (and-false (eqb a 32)) at h in true≢false (sym f)
 first_short (a ∷ b ∷ s) l h = omega arith
 
 letters_read : (n : ℕ) (s : List ℕ) → line_set (replicate n letter_column) s ≡ true → map letter_of (row_of (replicate n letter_column) s) ≡ units_in (take n s)
-unfolding line_set row_of units_in field_value word_from words bytes eq_list is_number
+unfolding line_set row_of units_in field_value word_from words bytes
 letters_read zero s h = refl
 letters_read (suc n) [] h = absurd (true≢false (sym h))
 letters_read (suc n) (b ∷ s) h =
@@ -108,16 +105,3 @@ units-said cs h =
     sym
     (head_letters (drop 4 line) rest
     ∙ ap units_in (ap (take 9) (drop-drop 1 4 line) ∙ take-drop-take 9 5 15 cs (omega arith)))
-
--- How far letters, each said by a number, have been looked at for small ones: those before i are capitals.
-abbrev pub CapitalsTo : (says : ℕ → Letter) (ls : List ℕ) (i : ℕ) → Type 0
-CapitalsTo says ls i = LeftFrom ls (λ (rest : List ℕ). all_capitals (map says rest)) (all_capitals (map says ls)) i
-
--- letter i and those after it decide as all do
-pub capitals_here : (says : ℕ → Letter) (ls : List ℕ) (i : ℕ) → i < length ls → CapitalsTo says ls i → (not (says (get_or ls i 0)).lower && all_capitals (map says (drop (i + 1) ls))) ≡ all_capitals (map says ls)
-unfolding all_capitals all
-capitals_here says ls i l t = left_here ls (λ (rest : List ℕ). all_capitals (map says rest)) 0 (get_or ls i 0) (all_capitals (map says ls)) i l refl t
-
-pub capitals_last : (says : ℕ → Letter) (ls : List ℕ) (i : ℕ) → length ls ≤ i → CapitalsTo says ls i → true ≡ all_capitals (map says ls)
-unfolding all_capitals all
-capitals_last says ls i l t = left_last ls (λ (rest : List ℕ). all_capitals (map says rest)) (all_capitals (map says ls)) i l t

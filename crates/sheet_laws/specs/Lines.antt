@@ -1,12 +1,11 @@
 -- A line, for any layout whose columns pass `column_ok`: both round trips, field by field from the left.
-use Rattle.std.specs.Prelude.{◌≡◌, ◌+◌, ◌≤◌, ◌<◌, ◌&&◌, ◌∷◌, ◌++◌}
+use Rattle.std.specs.Prelude.{◌≡◌, ◌+◌, ◌≤◌, ◌<◌, ◌&&◌, ◌∷◌, ◌++◌, Some}
 use Rattle.std.proofs.Common.{◌∙◌}
 use Rattle.lists.specs.Basics.{refl, sym, ap, ap₂, ℕ, zero, suc, Bool, true, List, [], length, take, drop, get_or}
 use Rattle.lists.specs.Basics.{length-take, length-drop, drop-drop, drop_at, take_at, get_or-drop, arith, all, eq_list, eq_list-true, eq_list_refl, and_fst, and_snd}
 use Rattle.lists.specs.Basics.{and_both}
 use Rattle.std.proofs.Math.ListN.{take-append-drop}
 use Rattle.lists.specs.Pieces.{take-drop-take}
-use Rattle.decimal.specs.declared.Scan.TheVariants.{Number}
 use Rattle.decimal.specs.Field.{number, is_number}
 use Rattle.decimal.specs.Laws.{is_number-number}
 use Rattle.decimal.specs.Digits.{digits, digits_are}
@@ -74,7 +73,7 @@ line_written_read (c ∷ cs) s o h =
 
 -- a row in range, written, can be read
 pub line_read_written : (cs : List Column) (vs : List ℕ) → layout_ok cs ≡ true → row_good cs vs ≡ true → line_set cs (line_text cs vs) ≡ true
-unfolding all line_set line_text row_good is_number
+unfolding all line_set line_text row_good
 line_read_written [] vs o g = eq_list_refl (10 ∷ [])
 line_read_written (c ∷ cs) vs o g =
     let v = get_or vs 0 0 in
@@ -85,7 +84,7 @@ line_read_written (c ∷ cs) vs o g =
 
 -- a row in range, written and read, is the same row
 pub row_read_written : (cs : List Column) (vs : List ℕ) → layout_ok cs ≡ true → row_good cs vs ≡ true → length vs ≡ length cs → row_of cs (line_text cs vs) ≡ vs
-unfolding all row_of line_text row_good number
+unfolding all row_of line_text row_good
 row_read_written [] [] o g n = refl
 row_read_written [] (v ∷ vs) o g n = absurd (omega arith)
 row_read_written (c ∷ cs) [] o g n = absurd (omega arith)
@@ -105,13 +104,13 @@ row-in_range (c ∷ cs) vs d (suc i) g l =
     rw e at (row-in_range cs (drop 1 vs) d i (and_snd (in_range c (get_or vs 0 0)) (row_good cs (drop 1 vs)) g) (omega arith))
 
 -- A line with another first field: the other fields read as before.
-module _ (c : Column) (cs : List Column) (t s : List ℕ) (n : ℕ) (wide : length t ≡ c.width) (reads : field_value c t ≡ Number n) where
+module _ (c : Column) (cs : List Column) (t s : List ℕ) (n : ℕ) (wide : length t ≡ c.width) (reads : field_value c t ≡ Some n) where
   pub first_field_row : row_of (c ∷ cs) (t ++ drop c.width s) ≡ n ∷ drop 1 (row_of (c ∷ cs) s)
-  unfolding row_of number
+  unfolding row_of
   first_field_row = rw (take_at t (drop c.width s) c.width wide, drop_at t (drop c.width s) c.width wide, reads)
 
   pub first_field_set : line_set (c ∷ cs) s ≡ true → line_set (c ∷ cs) (t ++ drop c.width s) ≡ true
-  unfolding line_set is_number
+  unfolding line_set
   first_field_set h =
       rw (take_at t (drop c.width s) c.width wide, drop_at t (drop c.width s) c.width wide, reads)
       (and_snd (is_number (field_value c (take c.width s))) (line_set cs (drop c.width s)) h)
@@ -124,7 +123,7 @@ field_at i cs s = take (get_or cs i no_column).width (drop (offset i cs) s)
 
 -- the number of field i is what its bytes hold
 pub field_at_lem : (i : ℕ) (cs : List Column) (s : List ℕ)
-    → i < length cs → line_set cs s ≡ true → field_value (get_or cs i no_column) (field_at i cs s) ≡ Number (get_or (row_of cs s) i 0)
+    → i < length cs → line_set cs s ≡ true → field_value (get_or cs i no_column) (field_at i cs s) ≡ Some (get_or (row_of cs s) i 0)
 unfolding field_at offset row_of line_set
 field_at_lem i [] s l h = absurd (omega arith)
 field_at_lem zero (c ∷ cs) s l h =

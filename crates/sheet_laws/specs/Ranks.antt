@@ -6,7 +6,7 @@ use Rattle.lists.specs.Basics.{length-take, length-drop, get_or-take, get_or-dro
 use Rattle.lists.specs.All.{all_at}
 use Rattle.lists.specs.Chosen.{none_at, count_none, count_le, count-all}
 use Rattle.lists.specs.Order.{less_irrefl}
-use Rattle.model.specs.Types.{Key, Record, Rank, At, Nothing}
+use Rattle.model.specs.Types.{Key, Record, Rank, Some, None}
 use Rattle.model.specs.Search.{first_from}
 use Rattle.model.specs.Records.{key_numbers, key_less, in_order, rising, same_key, found, is_missing, has_line, rank, ranked, placed, records, records_good, records_accepted}
 use Rattle.sheet_laws.specs.KeyOrder.{same_key_lem, lists_key, has_line_lem, key_trans, key_later}
@@ -32,23 +32,23 @@ no_rank k r rs h g = count_none (λ (x : Record). key_less x.key k) (r ∷ rs) (
 
 -- the line of a key stands at its rank, counted from i
 found_from : (k : Key) (i : ℕ) (rs : List Record) → rising rs ≡ true
-    → first_from (λ (r : Record). same_key r.key k) i rs ≡ cond (lists_key k rs) (At (i + rank k rs)) Nothing
+    → first_from (λ (r : Record). same_key r.key k) i rs ≡ cond (lists_key k rs) (Some (i + rank k rs)) None
 unfolding first_from any rank count key_less
 found_from k i [] h = refl
 found_from k i (r ∷ rs) h = go (same_key r.key k) refl (found_from k (suc i) rs (rising_tail r rs h))
   where
-    behind : (b : Bool) → lists_key k rs ≡ b → cond b (At (suc i + rank k rs)) Nothing ≡ cond b (At (i + rank k (r ∷ rs))) Nothing
+    behind : (b : Bool) → lists_key k rs ≡ b → cond b (Some (suc i + rank k rs)) None ≡ cond b (Some (i + rank k (r ∷ rs))) None
     behind true e =
         let q : suc i + rank k rs ≡ i + suc (rank k rs) = omega arith in
-        rw (key_later r rs k h e) (ap At q)
+        rw (key_later r rs k h e) (ap Some q)
     behind false e = refl
 
-    go : (b : Bool) → same_key r.key k ≡ b → first_from (λ (x : Record). same_key x.key k) (suc i) rs ≡ cond (lists_key k rs) (At (suc i + rank k rs)) Nothing
-        → cond b (At i) (first_from (λ (x : Record). same_key x.key k) (suc i) rs) ≡ cond (b || lists_key k rs) (At (i + rank k (r ∷ rs))) Nothing
+    go : (b : Bool) → same_key r.key k ≡ b → first_from (λ (x : Record). same_key x.key k) (suc i) rs ≡ cond (lists_key k rs) (Some (suc i + rank k rs)) None
+        → cond b (Some i) (first_from (λ (x : Record). same_key x.key k) (suc i) rs) ≡ cond (b || lists_key k rs) (Some (i + rank k (r ∷ rs))) None
     go true e f =
         let z = no_rank k r rs h (ap (λ (x : Key). key_less x k) (same_key_lem r.key k e) ∙ less_irrefl (key_numbers k)) in
         let q : i ≡ i + rank k (r ∷ rs) = omega (arith, z) in
-        ap At q
+        ap Some q
     go false e f = f ∙ behind (lists_key k rs) refl
 
 module _ (k : Key) (rs : List Record) (h : rising rs ≡ true) where
@@ -61,15 +61,15 @@ module _ (k : Key) (rs : List Record) (h : rising rs ≡ true) where
 
   -- so that what a search finds tells the rank
 
-  pub found-ranked : (i : ℕ) → found k rs ≡ At i → record { below = i; present = true } ≡ ranked k rs
+  pub found-ranked : (i : ℕ) → found k rs ≡ Some i → record { below = i; present = true } ≡ ranked k rs
   unfolding is_missing
   found-ranked i f =
       let b : has_line k rs ≡ true = rw f in
-      let a : At i ≡ At (rank k rs) = sym f ∙ (found_by_rank ∙ rw b) in
+      let a : Some i ≡ Some (rank k rs) = sym f ∙ (found_by_rank ∙ rw b) in
       let n : i ≡ rank k rs = cc in
       rw (n, b)
 
-  pub missing-ranked : (n : ℕ) → n ≡ rank k rs → found k rs ≡ Nothing → record { below = n; present = false } ≡ ranked k rs
+  pub missing-ranked : (n : ℕ) → n ≡ rank k rs → found k rs ≡ None → record { below = n; present = false } ≡ ranked k rs
   unfolding is_missing
   missing-ranked n q f =
       let b : has_line k rs ≡ false = rw f in
@@ -95,7 +95,7 @@ rank-few k s a =
     omega (arith, l, rank-within k (records s))
 
 -- an index that is found is a rank
-pub found-few : (k : Key) (s : List ℕ) → records_accepted s ≡ true → (i : ℕ) → found k (records s) ≡ At i → i ≤ 500
+pub found-few : (k : Key) (s : List ℕ) → records_accepted s ≡ true → (i : ℕ) → found k (records s) ≡ Some i → i ≤ 500
 found-few k s a i f = subst (λ (r : Rank). r.below ≤ 500) (sym (found-ranked k (records s) (accepted_order s a) i f)) (rank-few k s a)
 
 -- the first lines, as many as the rank, have smaller keys

@@ -60,7 +60,7 @@ numbers_of_record v n l m =
 
 -- `record_layout` passes the test of layouts, and its lines have 108 bytes
 pub record_layout_ok : layout_ok record_layout ≡ true
-unfolding all column_ok record_layout words all_below word_ok is_the field_value field_bytes word_from bytes eq_list
+unfolding all column_ok record_layout words all_below word_ok is_the field_value field_bytes word_from bytes
 record_layout_ok = refl
 
 pub record_wide : layout_wide record_layout ≡ true

@@ -1,13 +1,11 @@
 -- Single fields of a line by its index, each read without the others: a figure of an accepted record sheet by its digits, and a word of any sheet by
 -- its bytes. The bytes at a field's offset are those of the field, and past the last line every number is 0.
-use Rattle.std.specs.Prelude.{◌≡◌, ◌+◌, ◌*◌, ◌/◌, ◌^◌, ◌≤◌, ◌<◌, ◌&&◌}
+use Rattle.std.specs.Prelude.{◌≡◌, ◌+◌, ◌*◌, ◌/◌, ◌^◌, ◌≤◌, ◌<◌, ◌&&◌, Option, Some, None}
 use Rattle.std.proofs.Common.{◌∙◌}
 use Rattle.lists.specs.Basics.{refl, sym, ap, ap₂, subst, ℕ, zero, suc, eqb, leb, ltb, Bool, true, false, cond, List}
 use Rattle.lists.specs.Basics.{length, take, drop, get_or, length-take, length-drop, take_all, arith, eqb-true, ne_eqb, leb-true, ltb-true, ltb-false, all, eq_list, and_snd}
 use Rattle.lists.specs.Basics.{choose_by}
 use Rattle.lists.specs.All.{all_at}
-use Rattle.decimal.specs.declared.Scan.{Scan}
-use Rattle.decimal.specs.declared.Scan.TheVariants.{Blank, Number, Wrong}
 use Rattle.decimal.specs.Field.{number}
 use Rattle.decimal.specs.Digits.{digits, figure_at}
 use Rattle.model.specs.Types.{Record, Undecided, Committed, Aborted, Column, StateWord, BeforeWord, DecisionWord}
@@ -100,7 +98,7 @@ module _ (k w at : ℕ) (cs : List Column) (s : List ℕ) (ok : layout_ok cs ≡
       ap (λ (t : List ℕ). eq_list t (field_bytes (get_or cs k no_column) n)) (field_there k w at cs s within)
       ∙ field_is (get_or cs k no_column) (field_at k cs (take w (drop at s))) n column_ok_lem r sized
 
-  number-ranged : (v : ℕ) → field_value (get_or cs k no_column) (field_at k cs (take w (drop at s))) ≡ Number v → in_range (get_or cs k no_column) v ≡ true
+  number-ranged : (v : ℕ) → field_value (get_or cs k no_column) (field_at k cs (take w (drop at s))) ≡ Some v → in_range (get_or cs k no_column) v ≡ true
   number-ranged v e = (field_written_read (get_or cs k no_column) (field_at k cs (take w (drop at s))) v column_ok_lem sized e).1
 
 -- no number above 2 is that of one of three words
@@ -108,14 +106,13 @@ past_words : (v : ℕ) → (leb 0 (suc (suc (suc v))) && leb (suc (suc (suc v)))
 past_words v h = let l : suc (suc (suc v)) ≤ 2 = leb-true (suc (suc (suc v))) 2 (and_snd (leb 0 (suc (suc (suc v)))) _ h) in omega arith
 
 -- pending is told by the word PREPARED
-state_told : (x : Scan) → ((v : ℕ) → x ≡ Number v → in_range (word word_bytes StateWord 2) v ≡ true) → is_the 2 x ≡ by_state (state_of (number x)) false false true
-unfolding is_the number state_of in_range
-state_told Blank b = refl
-state_told Wrong b = refl
-state_told (Number zero) b = refl
-state_told (Number (suc zero)) b = refl
-state_told (Number (suc (suc zero))) b = refl
-state_told (Number (suc (suc (suc v)))) b =
+state_told : (x : Option ℕ) → ((v : ℕ) → x ≡ Some v → in_range (word word_bytes StateWord 2) v ≡ true) → is_the 2 x ≡ by_state (state_of (number x)) false false true
+unfolding is_the state_of in_range
+state_told None b = refl
+state_told (Some zero) b = refl
+state_told (Some (suc zero)) b = refl
+state_told (Some (suc (suc zero))) b = refl
+state_told (Some (suc (suc (suc v)))) b =
     absurd (past_words v (b (suc (suc (suc v))) refl))
 
 pub prepared-told : (s : List ℕ) (i : ℕ) → i < length s / record_bytes
@@ -131,13 +128,12 @@ prepared-told s i inside =
     ∙ ap is_prepared (sym (record_at s i inside))))
 
 -- what a line leaves as its before state, and the state that one gives back, are told by the word COMMITTED
-kept_from : (x : Scan) → cond (is_the 1 x) Was.Committed Was.Absent ≡ state_kept (state_of (number x))
-unfolding is_the number state_of
-kept_from Blank = refl
-kept_from Wrong = refl
-kept_from (Number zero) = refl
-kept_from (Number (suc zero)) = refl
-kept_from (Number (suc (suc v))) = ap (λ (b : Bool). cond b Was.Committed Was.Absent) (ne_eqb (suc (suc v)) 1 (λ e. omega (arith, e)))
+kept_from : (x : Option ℕ) → cond (is_the 1 x) Was.Committed Was.Absent ≡ state_kept (state_of (number x))
+unfolding is_the state_of
+kept_from None = refl
+kept_from (Some zero) = refl
+kept_from (Some (suc zero)) = refl
+kept_from (Some (suc (suc v))) = ap (λ (b : Bool). cond b Was.Committed Was.Absent) (ne_eqb (suc (suc v)) 1 (λ e. omega (arith, e)))
 
 pub kept_told : (line : List ℕ) → length line ≡ record_bytes
     → cond (eq_list (take word_bytes (drop (record_offset state_field) line)) (word_at StateWord (state_number InState.Committed))) Was.Committed Was.Absent ≡ state_kept (record_in line).state
@@ -149,14 +145,13 @@ kept_told line n =
     ap (λ (b : Bool). cond b Was.Committed Was.Absent) (told ∙ ap (λ (l : List ℕ). is_the 1 (field_value (get_or record_layout state_field no_column) (field_at state_field record_layout l))) all-of-it)
     ∙ (kept_from x ∙ ap (λ (v : ℕ). state_kept (state_of v)) (sym (row_at state_field record_layout line (omega arith))))
 
-back_from : (x : Scan) → ((v : ℕ) → x ≡ Number v → in_range (word word_bytes BeforeWord 2) v ≡ true) → cond (is_the 2 x) InState.Committed InState.Absent ≡ state_back (before_of (number x))
-unfolding is_the number before_of in_range
-back_from Blank b = refl
-back_from Wrong b = refl
-back_from (Number zero) b = refl
-back_from (Number (suc zero)) b = refl
-back_from (Number (suc (suc zero))) b = refl
-back_from (Number (suc (suc (suc v)))) b =
+back_from : (x : Option ℕ) → ((v : ℕ) → x ≡ Some v → in_range (word word_bytes BeforeWord 2) v ≡ true) → cond (is_the 2 x) InState.Committed InState.Absent ≡ state_back (before_of (number x))
+unfolding is_the before_of in_range
+back_from None b = refl
+back_from (Some zero) b = refl
+back_from (Some (suc zero)) b = refl
+back_from (Some (suc (suc zero))) b = refl
+back_from (Some (suc (suc (suc v)))) b =
     absurd (past_words v (b (suc (suc (suc v))) refl))
 
 pub back_told : (s : List ℕ) (i : ℕ) → i < length s / record_bytes
@@ -172,14 +167,13 @@ back_told s i inside =
     ∙ ap (λ (r : Record). state_back r.prior) (sym (record_at s i inside))))
 
 -- a decision is told by the words COMMITTED and ABORTED
-decision-from : (x : Scan) → ((v : ℕ) → x ≡ Number v → in_range decision_column v ≡ true) → decision_of (number x) ≡ cond (is_the 1 x) Committed (cond (is_the 2 x) Aborted Undecided)
-unfolding is_the number decision_of in_range
-decision-from Blank b = refl
-decision-from Wrong b = refl
-decision-from (Number zero) b = refl
-decision-from (Number (suc zero)) b = refl
-decision-from (Number (suc (suc zero))) b = refl
-decision-from (Number (suc (suc (suc v)))) b =
+decision-from : (x : Option ℕ) → ((v : ℕ) → x ≡ Some v → in_range decision_column v ≡ true) → decision_of (number x) ≡ cond (is_the 1 x) Committed (cond (is_the 2 x) Aborted Undecided)
+unfolding is_the decision_of in_range
+decision-from None b = refl
+decision-from (Some zero) b = refl
+decision-from (Some (suc zero)) b = refl
+decision-from (Some (suc (suc zero))) b = refl
+decision-from (Some (suc (suc (suc v)))) b =
     absurd (past_words v (b (suc (suc (suc v))) refl))
 
 -- the word in the line of number n

@@ -18,7 +18,7 @@ use Rattle.sheet_laws.specs.Fronts.{spared-length, spared-count, spared-front, s
 
 -- a spare can't be read as a record
 spare_unread : line_set record_layout (spare_line record_bytes) ≡ false
-unfolding spare_line line_set record_layout field_value figure scanned stepped within is_number
+unfolding spare_line line_set record_layout field_value figure scanned stepped within
 spare_unread = refl
 
 -- nor is one in range
@@ -28,7 +28,7 @@ storage_some r h = search tests
 
 -- but it reads as zeros
 pub spare_record : record_in (spare_line record_bytes) ≡ no_record
-unfolding spare_line record_in record_of key_of image_from state_of before_of row_of record_layout field_value word_from words bytes eq_list number figure scanned stepped within
+unfolding spare_line record_in record_of key_of image_from state_of before_of row_of record_layout field_value word_from words bytes figure scanned stepped within
 spare_record = refl
 
 -- The sheet for good records.

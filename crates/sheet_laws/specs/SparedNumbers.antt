@@ -75,7 +75,7 @@ record_filled r g =
     ap (λ (b : Bool). not (b && all (eqb 0) (drop 1 (record_numbers r)))) (ne_eqb 0 r.key.storage (λ e. omega arith))
 
 spare_unread : line_set record_layout (spare_line record_bytes) ≡ false
-unfolding spare_line line_set record_layout field_value word_from words bytes eq_list number is_number figure scanned stepped within
+unfolding spare_line line_set record_layout field_value word_from words bytes figure scanned stepped within
 spare_unread = refl
 
 -- The sheet and the numbers of records, n spares behind them.

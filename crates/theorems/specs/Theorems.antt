@@ -3,7 +3,7 @@
 use Rattle.std.specs.Prelude.{◌≡◌, ◌+◌, ◌*◌, ◌/◌, ◌%◌, ◌^◌, ◌≤◌, ◌<◌, ◌∷◌}
 use Rattle.std.proofs.Common.{◌∙◌}
 use Rattle.lists.specs.Basics.{refl, sym, ap, subst, ℕ, true, false, cond, List, [], map, length, take, drop, some, all, any, bytes}
-use Rattle.model.specs.Types.{Key, Record, Committed, At, Nothing, Transaction, Forward, Request}
+use Rattle.model.specs.Types.{Key, Record, Committed, Some, None, Transaction, Forward, Request}
 use Rattle.model.specs.Layouts.{record_bytes}
 use Rattle.model.specs.Lines.{text}
 use Rattle.model.specs.Groups.{unit_fields}
@@ -166,7 +166,7 @@ unit_letters = five_letters
 
 -- DOCUMENT 02, NOTE 5, of every accepted record sheet: the place of a key's line is the number of lines with smaller keys, those lines stand above it, and no later
 -- line has a smaller key; "two keys without lines may share a place", as the third and the fourth of these do
-pub rank_is_place : (k : Key) (s : List ℕ) → sheet_accepted s ≡ true → found k (records (record_lines s)) ≡ cond (has_line k (records (record_lines s))) (At (rank k (records (record_lines s)))) Nothing
+pub rank_is_place : (k : Key) (s : List ℕ) → sheet_accepted s ≡ true → found k (records (record_lines s)) ≡ cond (has_line k (records (record_lines s))) (Some (rank k (records (record_lines s)))) None
 rank_is_place k s a = Ranks.found_by_rank k (records (record_lines s)) (Ranks.accepted_order (record_lines s) (SheetLaws.accepted_lines s a))
 
 pub smaller_above : (k : Key) (s : List ℕ) → sheet_accepted s ≡ true → all (λ (r : Record). key_less r.key k) (take (rank k (records (record_lines s))) (records (record_lines s))) ≡ true

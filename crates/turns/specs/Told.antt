@@ -6,7 +6,7 @@ use Rattle.std.proofs.Common.{◌∙◌}
 use Rattle.lists.specs.Basics.{refl, sym, ap, subst, ℕ, zero, suc, eqb, ltb, Bool, true, false, not}
 use Rattle.lists.specs.Basics.{true≢false, List, length, take, drop, get_or, all, ltb-true, ltb-false, length-drop, length-set, arith, eqb-true, eqb-false, eq-eqb, lt-leb, tests, eq_list}
 use Rattle.lists.specs.Basics.{eq_list-true, eq_list_refl}
-use Rattle.model.specs.Types.{Key, Record, At}
+use Rattle.model.specs.Types.{Key, Record, Some}
 use Rattle.model.specs.Layouts.{record_bytes, coordinator_bytes}
 use Rattle.lists.specs.All.{all_at}
 use Rattle.lists.specs.Pieces.{take-drop-take}
@@ -77,7 +77,7 @@ not_refused a b c d e s w l t q =
 reach_same : (s : List ℕ) (n : ℕ) → reach_of s s n ≡ 0
 unfolding reach_of
 reach_same s zero = refl
-reach_same s (suc n) = let e : eq_list (line_at s (At n)) (line_at s (At n)) ≡ true = eq_list_refl (line_at s (At n)) in rw e (reach_same s n)
+reach_same s (suc n) = let e : eq_list (line_at s (Some n)) (line_at s (Some n)) ≡ true = eq_list_refl (line_at s (Some n)) in rw e (reach_same s n)
 
 -- The scopes of lines of an accepted sheet: record lines, and spares below them, which are all of one.
 module _ (b : Bytes) (accepted : sheet_accepted b.records ≡ true) where
@@ -168,15 +168,15 @@ module _ (b a : Bytes) where
   rs' = a.records
 
   -- a line that differs is of the unit written
-  of_unit : (unit : List ℕ) → ((i : ℕ) → (scope_at i b ≡ unit → ⊥) → line_at rs' (At i) ≡ line_at rs (At i))
+  of_unit : (unit : List ℕ) → ((i : ℕ) → (scope_at i b ≡ unit → ⊥) → line_at rs' (Some i) ≡ line_at rs (Some i))
       → (i : ℕ) → differs rs rs' i ≡ true → scope_at i b ≡ unit
   of_unit unit f i d = go (eq_list (scope_at i b) unit) refl
     where
       go : (x : Bool) → eq_list (scope_at i b) unit ≡ x → scope_at i b ≡ unit
       go true e = eq_list-true (scope_at i b) unit e
       go false e =
-          let o : line_at rs' (At i) ≡ line_at rs (At i) = f i (λ q. true≢false (sym (eq_list_refl unit) ∙ (ap (λ (u : List ℕ). eq_list u unit) (sym q) ∙ e))) in
-          let s : eq_list (line_at rs (At i)) (line_at rs' (At i)) ≡ true = ap (eq_list (line_at rs (At i))) o ∙ eq_list_refl (line_at rs (At i)) in
+          let o : line_at rs' (Some i) ≡ line_at rs (Some i) = f i (λ q. true≢false (sym (eq_list_refl unit) ∙ (ap (λ (u : List ℕ). eq_list u unit) (sym q) ∙ e))) in
+          let s : eq_list (line_at rs (Some i)) (line_at rs' (Some i)) ≡ true = ap (eq_list (line_at rs (Some i))) o ∙ eq_list_refl (line_at rs (Some i)) in
           absurd (true≢false (sym d ∙ ap not s))
 
   module _ (accepted : sheet_accepted rs ≡ true) where

@@ -37,28 +37,28 @@ bookkeeping_unstated =
 
 -- whole lines whose keys agree, and an accepted sheet joined of them
 meets : (whole plain_bytes plain && whole bookkeeping_bytes bookkeeping && lines_agree (lines_of plain_bytes plain) (lines_of bookkeeping_bytes bookkeeping) && records_accepted (joined_sheet plain bookkeeping)) ≡ true
-unfolding bytes eq_list all joined pieces less figure within scanned stepped number is_number record_layout key_layout image_layout columns_layout words field_value word_from row_of line_set lines_of lines_set row_good in_range state_of state_number before_of before_number key_of image_from record_of record_numbers key_numbers image_numbers records_good record_in records records_accepted good_alone is_zero absence no_before before_rule absent_rule committed_rule prepared_rule key_less in_order rising join_line join_lines joined_sheet keys_agree lines_agree
+unfolding bytes all joined pieces less figure within scanned stepped record_layout key_layout image_layout columns_layout words field_value word_from row_of line_set lines_of lines_set row_good in_range state_of state_number before_of before_number key_of image_from record_of record_numbers key_numbers image_numbers records_good record_in records records_accepted good_alone is_zero absence no_before before_rule absent_rule committed_rule prepared_rule key_less in_order rising join_line join_lines joined_sheet keys_agree lines_agree
 meets = refl
 
 -- both good alone with the same keys, and the joined sheet not accepted
 not-joined : (plain_alone plain_filled && bookkeeping_alone bookkeeping && same_keys plain_filled bookkeeping) ≡ true
-unfolding bytes eq_list all joined pieces less figure within scanned stepped number is_number record_layout key_layout image_layout columns_layout words field_value word_from row_of line_set lines_of lines_set row_good in_range state_of state_number before_of before_number key_of image_from record_numbers key_numbers image_numbers records_good good_alone is_zero absence no_before before_rule absent_rule committed_rule prepared_rule key_less in_order rising same_key plain_layout bookkeeping_layout plain_record plain_said bookkeeping_record bookkeeping_said plain_alone bookkeeping_alone same_keys_in same_keys
+unfolding bytes all joined pieces less figure within scanned stepped record_layout key_layout image_layout columns_layout words field_value word_from row_of line_set lines_of lines_set row_good in_range state_of state_number before_of before_number key_of image_from record_numbers key_numbers image_numbers records_good good_alone is_zero absence no_before before_rule absent_rule committed_rule prepared_rule key_less in_order rising same_key plain_layout bookkeeping_layout plain_record plain_said bookkeeping_record bookkeeping_said plain_alone bookkeeping_alone same_keys_in same_keys
 not-joined = refl
 
 not_joined_refused : records_accepted (joined_sheet plain_filled bookkeeping) ≡ false
-unfolding bytes eq_list all joined pieces less figure within scanned stepped number is_number record_layout key_layout image_layout columns_layout words field_value word_from row_of line_set lines_of lines_set row_good in_range state_of state_number before_of before_number key_of image_from record_of record_numbers key_numbers image_numbers records_good record_in records records_accepted good_alone is_zero absence no_before before_rule absent_rule committed_rule prepared_rule key_less in_order rising join_line join_lines joined_sheet
+unfolding bytes all joined pieces less figure within scanned stepped record_layout key_layout image_layout columns_layout words field_value word_from row_of line_set lines_of lines_set row_good in_range state_of state_number before_of before_number key_of image_from record_of record_numbers key_numbers image_numbers records_good record_in records records_accepted good_alone is_zero absence no_before before_rule absent_rule committed_rule prepared_rule key_less in_order rising join_line join_lines joined_sheet
 not_joined_refused = refl
 
 -- both good alone, and their keys differ
 other_keys : (plain_alone plain_other && bookkeeping_alone bookkeeping) ≡ true
-unfolding bytes eq_list all joined pieces less figure within scanned stepped number is_number record_layout key_layout image_layout columns_layout words field_value word_from row_of line_set lines_of lines_set row_good in_range state_of state_number before_of before_number key_of image_from record_numbers key_numbers image_numbers records_good good_alone is_zero absence no_before before_rule absent_rule committed_rule prepared_rule key_less in_order rising plain_layout bookkeeping_layout plain_record plain_said bookkeeping_record bookkeeping_said plain_alone bookkeeping_alone
+unfolding bytes all joined pieces less figure within scanned stepped record_layout key_layout image_layout columns_layout words field_value word_from row_of line_set lines_of lines_set row_good in_range state_of state_number before_of before_number key_of image_from record_numbers key_numbers image_numbers records_good good_alone is_zero absence no_before before_rule absent_rule committed_rule prepared_rule key_less in_order rising plain_layout bookkeeping_layout plain_record plain_said bookkeeping_record bookkeeping_said plain_alone bookkeeping_alone
 other_keys = refl
 
 other_keys_agree : lines_agree (lines_of plain_bytes plain_other) (lines_of bookkeeping_bytes bookkeeping) ≡ false
-unfolding bytes eq_list pieces lines_of keys_agree lines_agree
+unfolding bytes pieces lines_of keys_agree lines_agree
 other_keys_agree = refl
 
 -- the before state belongs to the bookkeeping sheet: without it this one isn't good alone
 unstated : bookkeeping_alone bookkeeping_unstated ≡ false
-unfolding bytes eq_list all joined pieces less figure within scanned stepped number is_number record_layout key_layout image_layout columns_layout words field_value word_from row_of line_set lines_of lines_set row_good in_range state_of state_number before_of before_number key_of image_from record_numbers key_numbers image_numbers records_good good_alone is_zero absence no_before before_rule absent_rule committed_rule prepared_rule key_less in_order rising bookkeeping_layout bookkeeping_record bookkeeping_said bookkeeping_alone
+unfolding bytes all joined pieces less figure within scanned stepped record_layout key_layout image_layout columns_layout words field_value word_from row_of line_set lines_of lines_set row_good in_range state_of state_number before_of before_number key_of image_from record_numbers key_numbers image_numbers records_good good_alone is_zero absence no_before before_rule absent_rule committed_rule prepared_rule key_less in_order rising bookkeeping_layout bookkeeping_record bookkeeping_said bookkeeping_alone
 unstated = refl

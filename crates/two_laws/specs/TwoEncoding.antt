@@ -233,11 +233,11 @@ encoded_two s =
     }
 
 spare_unread_plain : line_set plain_layout (spare_line plain_bytes) ≡ false
-unfolding spare_line line_set plain_layout key_layout columns_layout record_layout field_value figure scanned stepped within is_number
+unfolding spare_line line_set plain_layout key_layout columns_layout record_layout field_value figure scanned stepped within
 spare_unread_plain = refl
 
 spare_unread_bookkeeping : line_set bookkeeping_layout (spare_line bookkeeping_bytes) ≡ false
-unfolding spare_line line_set bookkeeping_layout record_layout field_value figure scanned stepped within is_number
+unfolding spare_line line_set bookkeeping_layout record_layout field_value figure scanned stepped within
 spare_unread_bookkeeping = refl
 
 -- Lines of a sheet that can be read, with so many spares behind them.

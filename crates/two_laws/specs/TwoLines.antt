@@ -119,15 +119,15 @@ module _ (k m c r e : List ℕ) (a : length k ≡ key_bytes) (b : length m ≡ s
 
 -- The fixed text can be read, whatever stands beside it.
 state_fixed : fields_set state_layout fixed_state ≡ true
-unfolding fixed_state fields_set record_layout field_value word_from words bytes eq_list figure within scanned stepped is_number
+unfolding fixed_state fields_set record_layout field_value word_from words bytes figure within scanned stepped
 state_fixed = refl
 
 state_fixed_row : row_of state_layout fixed_state ≡ 1 ∷ 1 ∷ 0 ∷ []
-unfolding fixed_state row_of record_layout field_value word_from words bytes eq_list figure within scanned stepped number
+unfolding fixed_state row_of record_layout field_value word_from words bytes figure within scanned stepped
 state_fixed_row = refl
 
 rest-fixed : fields_set rest_layout fixed_rest ≡ true
-unfolding fixed_rest fields_set record_layout field_value word_from words bytes eq_list figure within scanned stepped is_number
+unfolding fixed_rest fields_set record_layout field_value word_from words bytes figure within scanned stepped
 rest-fixed = refl
 
 -- nothing before: every number is 0
@@ -135,7 +135,7 @@ abbrev pub no_rest : List ℕ
 no_rest = 0 ∷ 0 ∷ 0 ∷ 0 ∷ 0 ∷ 0 ∷ []
 
 rest-fixed-row : row_of rest_layout fixed_rest ≡ no_rest
-unfolding fixed_rest row_of record_layout field_value word_from words bytes eq_list figure within scanned stepped number
+unfolding fixed_rest row_of record_layout field_value word_from words bytes figure within scanned stepped
 rest-fixed-row = refl
 
 rest-fixed-set : (e : List ℕ) → line_set rest_layout (fixed_rest ++ e) ≡ line_set [] e
@@ -149,11 +149,11 @@ rest-fixed-all e =
     row-append rest_layout [] fixed_rest e refl ∙ ap (λ (y : List ℕ). y ++ []) rest-fixed-row
 
 columns-fixed : fields_set columns_layout fixed_columns ≡ true
-unfolding fixed_columns fields_set record_layout image_layout columns_layout field_value bytes figure within scanned stepped is_number
+unfolding fixed_columns fields_set record_layout image_layout columns_layout field_value bytes figure within scanned stepped
 columns-fixed = refl
 
 columns-fixed-row : row_of columns_layout fixed_columns ≡ 0 ∷ 0 ∷ []
-unfolding fixed_columns row_of record_layout image_layout columns_layout field_value bytes figure within scanned stepped number
+unfolding fixed_columns row_of record_layout image_layout columns_layout field_value bytes figure within scanned stepped
 columns-fixed-row = refl
 
 -- Either line is its parts.

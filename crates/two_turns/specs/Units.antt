@@ -8,7 +8,7 @@ use Rattle.std.proofs.Math.Nat.{mul-le-mul_right}
 use Rattle.std.proofs.lemmas.List.{map-append}
 use Rattle.lists.specs.All.{all_of, get_or_any}
 use Rattle.lists.specs.Pieces.{AllOf, length-pieces, pieces-joined, length-joined, joined-append, get_or-pieces}
-use Rattle.model.specs.Types.{Key, Record, Transaction, At}
+use Rattle.model.specs.Types.{Key, Record, Transaction, Some}
 use Rattle.model.specs.Layouts.{record_bytes}
 use Rattle.model.specs.Lines.{lines_of}
 use Rattle.model.specs.Records.{record_in, records_text}
@@ -88,7 +88,7 @@ module _ (w : ℕ) (part : List ℕ → List ℕ) (key_in : List ℕ → Key)
     size_of = length-joined w (map part lines) all_wide ∙ ap (λ (n : ℕ). n * w) count
 
     -- line i of the parts is the part of line i
-    line_of : (i : ℕ) → i < length s / record_bytes → line_of_sheet w (parts s) (At i) ≡ part (line_at s (At i))
+    line_of : (i : ℕ) → i < length s / record_bytes → line_of_sheet w (parts s) (Some i) ≡ part (line_at s (Some i))
     unfolding line_of_sheet line_at lines_of
     line_of i l =
         let k : i < length (map part lines) = omega (arith, count) in
@@ -98,13 +98,13 @@ module _ (w : ℕ) (part : List ℕ → List ℕ) (key_in : List ℕ → Key)
         ∙ (get_or-map part lines i [] ∙ ap part (get_or-pieces record_bytes i (length s / record_bytes) s l))))
 
     -- and each is a whole line
-    line_wide : (i : ℕ) → i < length s / record_bytes → length (line_at s (At i)) ≡ record_bytes
+    line_wide : (i : ℕ) → i < length s / record_bytes → length (line_at s (Some i)) ≡ record_bytes
     unfolding line_at
     line_wide i l =
         let n : length s ≡ length s / record_bytes * record_bytes = eqb-true (length s) (length s / record_bytes * record_bytes) h in
         simp (length-take, length-drop) (omega (arith, n))
 
-    line_past : (i : ℕ) → length s / record_bytes ≤ i → line_of_sheet w (parts s) (At i) ≡ take w []
+    line_past : (i : ℕ) → length s / record_bytes ≤ i → line_of_sheet w (parts s) (Some i) ≡ take w []
     unfolding line_of_sheet
     line_past i l =
         let m : length s / record_bytes * w ≤ i * w = mul-le-mul_right w l in
@@ -113,16 +113,16 @@ module _ (w : ℕ) (part : List ℕ → List ℕ) (key_in : List ℕ → Key)
 
   -- lines outside one unit keep their bytes in the parts, if they do so joined
   keeps : (units : List Letter) (unit : List ℕ) (s s' : List ℕ) → whole record_bytes s ≡ true → whole record_bytes s' ≡ true → length s' ≡ length s
-      → ((i : ℕ) → (scope units (record_in (line_at s (At i))).key ≡ unit → ⊥) → line_at s' (At i) ≡ line_at s (At i))
+      → ((i : ℕ) → (scope units (record_in (line_at s (Some i))).key ≡ unit → ⊥) → line_at s' (Some i) ≡ line_at s (Some i))
       → KeepsOthers units unit w key_in (parts s) (parts s')
   keeps units unit s s' h h' n f =
       record { size = size_of s' h' ∙ (ap (λ (k : ℕ). k / record_bytes * w) n ∙ sym (size_of s h)); others = λ i d. go i d (ltb i (length s / record_bytes)) refl }
     where
-      go : (i : ℕ) → (scope units (key_in (line_of_sheet w (parts s) (At i))) ≡ unit → ⊥) → (x : Bool) → ltb i (length s / record_bytes) ≡ x
-          → line_of_sheet w (parts s') (At i) ≡ line_of_sheet w (parts s) (At i)
+      go : (i : ℕ) → (scope units (key_in (line_of_sheet w (parts s) (Some i))) ≡ unit → ⊥) → (x : Bool) → ltb i (length s / record_bytes) ≡ x
+          → line_of_sheet w (parts s') (Some i) ≡ line_of_sheet w (parts s) (Some i)
       go i d true e =
           let l : i < length s / record_bytes = ltb-true i (length s / record_bytes) e in
-          let k : key_in (line_of_sheet w (parts s) (At i)) ≡ (record_in (line_at s (At i))).key = ap key_in (line_of s h i l) ∙ key (line_at s (At i)) (line_wide s h i l) in
+          let k : key_in (line_of_sheet w (parts s) (Some i)) ≡ (record_in (line_at s (Some i))).key = ap key_in (line_of s h i l) ∙ key (line_at s (Some i)) (line_wide s h i l) in
           line_of s' h' i (omega (arith, n)) ∙ (ap part (f i (λ q. d (ap (scope units) k ∙ q))) ∙ sym (line_of s h i l))
       go i d false e =
           let l : length s / record_bytes ≤ i = ltb-false i (length s / record_bytes) e in

@@ -1,24 +1,53 @@
-// The structs and enums that code, contracts and theorems share. No logic.
+// The structs and enums that code, contracts and theorems share. No logic, but for what a number stands for.
 #![tactic(auto)]
 
+ghost use Rattle.std.specs.Prelude.{◌≡◌};
+ghost use Rattle.types.specs.Numbers.{state_of, before_of};
+
 // The state word of a record line.
-#[derive(Clone, Copy)]
+#[derive(Clone, Copy, PartialEq, Eq)]
 pub enum State {
     Absent,
     Committed,
     Prepared,
 }
 
+// The state of its number.
+impl From<u32> for State {
+    ghost from_gives = { λ n s. s ≡ state_of n };
+
+    fn from(n: u32) -> State {
+        match n {
+            0 => State::Absent,
+            1 => State::Committed,
+            _ => State::Prepared,
+        }
+    }
+}
+
 // The before state of a record line: the state word that its before image had. `-` is Nothing.
-#[derive(Clone, Copy)]
+#[derive(Clone, Copy, PartialEq, Eq)]
 pub enum Before {
     Nothing,
     Absent,
     Committed,
 }
 
+// The before state of its number.
+impl From<u32> for Before {
+    ghost from_gives = { λ n b. b ≡ before_of n };
+
+    fn from(n: u32) -> Before {
+        match n {
+            0 => Before::Nothing,
+            1 => Before::Absent,
+            _ => Before::Committed,
+        }
+    }
+}
+
 // The state of a coordinator line; `-` is Undecided.
-#[derive(Clone, Copy)]
+#[derive(Clone, Copy, PartialEq, Eq)]
 pub enum Decision {
     Undecided,
     Committed,
@@ -26,7 +55,7 @@ pub enum Decision {
 }
 
 // The largest scope that a storage writes atomically (document 01: unit letters R, P, T, N, S).
-#[derive(Clone, Copy)]
+#[derive(Clone, Copy, PartialEq, Eq)]
 pub enum AtomicityUnit {
     Record,
     Partition,
@@ -36,7 +65,7 @@ pub enum AtomicityUnit {
 }
 
 #[repr(C)]
-#[derive(Clone, Copy)]
+#[derive(Clone, Copy, PartialEq, Eq, PartialOrd, Ord)]
 pub struct Key {
     pub storage: u32,
     pub namespace: u32,
@@ -55,7 +84,7 @@ pub const NO_KEY: Key = Key {
 
 // What a record holds: its columns, and the version and number of the transaction that wrote them.
 #[repr(C)]
-#[derive(Clone, Copy)]
+#[derive(Clone, Copy, PartialEq, Eq)]
 pub struct Image {
     pub version: u32,
     pub txid: u32,
@@ -82,7 +111,7 @@ pub struct Record {
 }
 
 // What the columns of a field hold: a figure, or one of a set of fixed words.
-#[derive(Clone, Copy)]
+#[derive(Clone, Copy, PartialEq, Eq)]
 pub enum Kind {
     Figure,
     StateWord,
@@ -174,7 +203,7 @@ pub const CLOCK_AT: usize = BEFORE_AT + IMAGE_BYTES;
 pub const DECISION_AT: usize = NUMBER_BYTES;
 
 // The kinds of line. A key line is the first five fields of a record line.
-#[derive(Clone, Copy)]
+#[derive(Clone, Copy, PartialEq, Eq)]
 pub enum Layout {
     RecordLine,
     KeyLine,
@@ -182,30 +211,16 @@ pub enum Layout {
     CoordinatorLine,
 }
 
-// The index of what was looked for, counted from 0.
-#[derive(Clone, Copy)]
-pub enum Found {
-    At(usize),
-    Nothing,
-}
-
 // Where a key stands on a sheet or would stand: how many lines have smaller keys, and whether the key has a line itself.
-#[derive(Clone, Copy)]
+#[derive(Clone, Copy, PartialEq, Eq)]
 pub struct Rank {
     pub below: usize,
     pub present: bool,
 }
 
-// The same of any sheet and key: a refusal, or 0 and where the key stands. Beside a refusal the rank is 0, and the key not present.
-#[derive(Clone, Copy)]
-pub struct Ranked {
-    pub refusal: u32,
-    pub rank: Rank,
-}
-
 // The columns that a put brings, or a read answers.
 #[repr(C)]
-#[derive(Clone, Copy)]
+#[derive(Clone, Copy, PartialEq, Eq)]
 pub struct Columns {
     pub column1: u32,
     pub column2: u32,
@@ -243,7 +258,7 @@ pub struct Transaction {
 }
 
 // What a visit comes to: the line stays, is rolled forward or back, its owner is aborted and the visit must come again, or the owner may still be at work.
-#[derive(Clone, Copy)]
+#[derive(Clone, Copy, PartialEq, Eq)]
 pub enum Recovery {
     Stays,
     Forward,
@@ -259,6 +274,27 @@ pub enum Reading {
     Value(Columns),
     Again,
     First(Columns),
+}
+
+// Why a call is refused, by the numbers of the table (document 01, "Numbered refusals").
+#[derive(Clone, Copy, PartialEq, Eq)]
+pub enum Refusal {
+    BadRecords = 1,
+    BadCoordinator,
+    BadTransaction,
+    WrongPhase,
+    BadKey,
+    NoSuchKey,
+    BadColumns,
+    NumbersSpent,
+    EntriesSpent,
+    NotHeld,
+    VersionsSpent,
+    Busy,
+    SheetsDiffer,
+    HasLine,
+    NoSpare,
+    NotBlank,
 }
 
 // What is asked of the engine, apart from the transaction and the sheets. A begin says whether the transaction is serializable; a number is the reading

@@ -1,26 +1,21 @@
--- By what the first digit makes: a figure, behind which the others are read, or none.
-use Rattle.std.specs.Prelude.{◌≡◌, ◌+◌}
+-- The loop keeps that the bytes to come, read behind the figure so far, end where all bytes do.
+use Rattle.std.specs.Prelude.{Some, None}
 use Rattle.std.proofs.Common.{◌∙◌}
-use Rattle.lists.specs.Basics.{sym, ap, drop, get_or}
-use Rattle.decimal.specs.declared.Scan.{Scan}
-use Rattle.decimal.specs.declared.Scan.TheVariants.{Wrong}
-use Rattle.decimal.specs.Cut.{longer, scanned_to, longer_unblank, scan_to_wrong, first_byte}
+use Rattle.lists.specs.Basics.{refl, sym}
+use Rattle.decimal.specs.Cut.{behind_zero, one_behind, none_behind}
 use Rattle.decimal.proofs.behind.Goals as goal
 
-pub returns-in-Number : goal.returns-in-Number
-returns-in-Number c =
-    let a = c.args in
-    let e = first_byte a.high a.s.now a.start c.requires.start_in_bounds c.requires.start_value in
-    c.digits.ensures ∙ (sym (ap (λ (st : Scan). scanned_to a.high st (drop (a.start + 1) a.s.now)) (sym c.digit.ensures ∙ c.in-Number.is)) ∙ sym e)
+pub loop-b-init : goal.loop-b-init
+loop-b-init c = refl
 
-pub returns-in-Blank : goal.returns-in-Blank
-returns-in-Blank c =
-    let a = c.args in
-    absurd (longer_unblank a.high 0 (get_or a.s.now a.start 0) (sym c.digit.ensures ∙ c.in-Blank.is))
+pub returns-then-v-eq0 : goal.returns-then-v-eq0
+returns-then-v-eq0 c = sym (behind_zero c.args.high c.args.s.now c.loop-b.b-index c.loop-b-test.true c.loop-b.v c.if-v-eq0.true) ∙ c.loop-b.invariant
 
-pub returns-in-Wrong : goal.returns-in-Wrong
-returns-in-Wrong c =
-    let a = c.args in
-    let e = first_byte a.high a.s.now a.start c.requires.start_in_bounds c.requires.start_value in
-    let w : longer a.high 0 (get_or a.s.now a.start 0) ≡ Wrong = sym c.digit.ensures ∙ c.in-Wrong.is in
-    sym (scan_to_wrong a.high (drop (a.start + 1) a.s.now)) ∙ (sym (ap (λ (st : Scan). scanned_to a.high st (drop (a.start + 1) a.s.now)) w) ∙ sym e)
+pub returns-in_err-v : goal.returns-in_err-v
+returns-in_err-v c = c.from_residual.ensures ∙ (sym (one_behind c.args.high c.args.s.now c.loop-b.b-index c.loop-b-test.true c.loop-b.v None c.in_err-v.ensures c.if-v-eq0.false) ∙ c.loop-b.invariant)
+
+pub loop-b-preserved : goal.loop-b-preserved
+loop-b-preserved c = sym (one_behind c.args.high c.args.s.now c.loop-b.b-index c.loop-b-test.true c.loop-b.v (Some c.in_ok-v.v) c.in_ok-v.ensures c.if-v-eq0.false) ∙ c.loop-b.invariant
+
+pub returns : goal.returns
+returns c = sym (none_behind c.args.high c.loop-b.v c.args.s.now c.loop-b.b-index c.loop-b-test.false) ∙ c.loop-b.invariant

@@ -1,7 +1,7 @@
 -- The loop keeps that the columns set, behind the text of what is left of the figure, are the whole field's text.
 use Rattle.std.specs.Prelude.{◌≡◌, ◌+◌, ◌-◌, ◌/◌, ◌%◌, ◌≤◌, ◌<◌, ◌∷◌, ◌++◌}
 use Rattle.std.proofs.Common.{◌∙◌}
-use Rattle.lists.specs.Basics.{refl, ℕ, zero, suc, List, [], append-nil, length, drop, set, length-set}
+use Rattle.lists.specs.Basics.{refl, sym, eqb-true, eqb-false, ℕ, zero, suc, List, [], append-nil, length, drop, set, length-set}
 use Rattle.lists.specs.Basics.{drop_of_length-le, drop-cons, arith}
 use lib.Seq.{drop-set-lt, get_or-set_same, append_snoc}
 use Rattle.decimal.specs.Field.{column_byte, ahead, field_text}
@@ -38,28 +38,20 @@ unfolding field_text
 no_column [] v e = refl
 no_column (b ∷ s) v e = absurd (omega arith)
 
-pub returns-then-i-eq0 : goal.returns-then-i-eq0
-returns-then-i-eq0 c =
-    let a = c.args in
-    no_column a.s.now a.v c.if-i-eq0.true
+pub returns-then-is_empty : goal.returns-then-is_empty
+returns-then-is_empty c = no_column c.args.s.now c.args.v (eqb-true (length c.args.s.now) 0 (sym c.if-is_empty.ensures))
 
 pub loop-i-init : goal.loop-i-init
 loop-i-init c =
-    let a = c.args in
-    let e = last_column a.s.now (length a.s.now) a.v refl (omega arith) in
-    (rw length-set (omega arith), refl, rw length-set e)
+    let n = eqb-false (length c.args.s.now) 0 (sym c.if-is_empty.ensures) in
+    last_column c.args.s.now (length c.args.s.now) c.args.v refl (omega (arith, n))
 
 pub loop-i-preserved : goal.loop-i-preserved
 loop-i-preserved c =
     let l = c.loop-i in
-    let n = length-set l.s (l.i - 1) c.column.result in
-    let e = next_column l.s l.i l.rest c.loop-i-test.true l.invariant.0 in
-    (omega arith, n ∙ l.invariant.1, rw c.column.ensures (e ∙ l.invariant.2))
-
-pub shape_of-s : goal.shape_of-s
-shape_of-s c = rw length-set at c.loop-i.invariant.1
+    let n : length l.s ≡ length c.args.s.now = rw length-set at l.auto.s in
+    let within : l.i ≤ length l.s = omega (arith, l.auto.i) in
+    rw c.column.ensures (next_column l.s l.i l.rest c.loop-i-test.true within ∙ l.invariant)
 
 pub returns : goal.returns
-returns c =
-    let l = c.loop-i in
-    rw length-set at (all_set l.s _ l.i l.rest c.loop-i-test.false l.invariant.2)
+returns c = all_set c.loop-i.s (field_text (length c.args.s.now) c.args.v) c.loop-i.i c.loop-i.rest (omega arith) c.loop-i.invariant

@@ -1,0 +1,2 @@
+-- What the types' own conversions give.
+pub mod Numbers
