@@ -1,6 +1,6 @@
 -- Cases by computation: three lines of spaces, and a coordinator sheet of two bytes, before and after.
 use Rattle.std.specs.Prelude.{◌≡◌, ◌-◌, ◌*◌, ◌∷◌}
-use Rattle.lists.specs.Basics.{refl, ℕ, List, [], set, take, replicate, eq_list}
+use Rattle.lists.specs.Basics.{refl, ℕ, List, [], set, take, replicate}
 use Rattle.model.specs.Layouts.{record_bytes}
 use Rattle.model.specs.Refusals.{refusal_of}
 use Rattle.model.specs.SheetCalls.{line_at}
@@ -26,19 +26,19 @@ abbrev Tells : List ℕ → List ℕ → List ℕ → List ℕ → ℕ → List 
 Tells rs rs' cs cs' n lines = (written_number rs rs' cs cs' target ≡ n) × (written_lines rs rs' cs cs' target ≡ lines)
 
 nothing_written : Tells blank blank decisions decisions 0 (0 ∷ 0 ∷ [])
-unfolding written_number written_lines length_conditions refusal_of reach_of first_of line_at eq_list
+unfolding written_number written_lines length_conditions refusal_of reach_of first_of line_at
 nothing_written = (refl, refl)
 
 coordinator_written_lem : Tells blank blank decisions decided 1 (0 ∷ 0 ∷ [])
-unfolding written_number written_lines length_conditions refusal_of reach_of first_of line_at eq_list
+unfolding written_number written_lines length_conditions refusal_of reach_of first_of line_at
 coordinator_written_lem = (refl, refl)
 
 lines_written_lem : Tells blank filled decisions decisions 2 (1 ∷ 2 ∷ [])
-unfolding written_number written_lines length_conditions refusal_of reach_of first_of line_at eq_list
+unfolding written_number written_lines length_conditions refusal_of reach_of first_of line_at
 lines_written_lem = (refl, refl)
 
 both-written : Tells blank filled decisions decided 3 (1 ∷ 2 ∷ [])
-unfolding written_number written_lines length_conditions refusal_of reach_of first_of line_at eq_list
+unfolding written_number written_lines length_conditions refusal_of reach_of first_of line_at
 both-written = (refl, refl)
 
 -- 1 before 2: the record sheets differ in length, and so do the others

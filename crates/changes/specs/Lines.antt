@@ -1,32 +1,15 @@
--- The loops over bytes and over the lines of two record sheets: what one turn does to the definition that the loop computes.
-use Rattle.std.specs.Prelude.{◌≡◌, ◌+◌, ◌-◌, ◌*◌, ◌≤◌, ◌<◌, ◌&&◌}
+-- The loops over the lines of two record sheets: what one turn does to the definition that the loop computes.
+use Rattle.std.specs.Prelude.{◌≡◌, ◌+◌, ◌-◌, ◌*◌, ◌≤◌, ◌<◌}
 use Rattle.std.proofs.Common.{◌∙◌}
-use Rattle.lists.specs.Basics.{refl, sym, ap, ℕ, suc, eqb, Bool, true, false, and_assoc, and-true, List, length, take}
-use Rattle.lists.specs.Basics.{drop, get_or, drop_of_length-le, arith, add-one, eq_list}
-use Rattle.lists.specs.Walks.{drop_here}
-use Rattle.model.specs.Types.{At}
+use Rattle.lists.specs.Basics.{refl, sym, ap, ℕ, suc, true, false, List, take}
+use Rattle.lists.specs.Basics.{drop, arith, add-one}
+use Rattle.model.specs.Types.{Some}
 use Rattle.model.specs.Layouts.{record_bytes}
 use Rattle.model.specs.SheetCalls.{line_at}
 use Rattle.model.specs.Changes.{differs, reach_of, first_of}
 
--- Two lists of one length, equal up to i where the flag is set.
-module _ (s t : List ℕ) (flag : Bool) (i : ℕ) where
-  abbrev pub EqualTo : Type 0
-  EqualTo = (flag && eq_list (drop i s) (drop i t)) ≡ eq_list s t
-
-  pub equal_last : length s ≤ i → length t ≤ i → EqualTo → flag ≡ eq_list s t
-  unfolding eq_list
-  equal_last l m h = sym (and-true flag) ∙ (rw (drop_of_length-le s l, drop_of_length-le t m) at h)
-
-pub equal_next : (s t : List ℕ) (flag : Bool) (i : ℕ) → i < length s → i < length t → EqualTo s t flag i
-    → EqualTo s t (flag && eqb (get_or s i 0) (get_or t i 0)) (i + 1)
-unfolding eq_list
-equal_next s t flag i l m h =
-    and_assoc flag (eqb (get_or s i 0) (get_or t i 0)) (eq_list (drop (i + 1) s) (drop (i + 1) t))
-    ∙ (rw (drop_here s i 0 (get_or s i 0) l refl, drop_here t i 0 (get_or t i 0) m refl) at h)
-
 -- line i as the code lends it
-pub line-part : (s : List ℕ) (i : ℕ) → take (i * record_bytes + record_bytes - i * record_bytes) (drop (i * record_bytes) s) ≡ line_at s (At i)
+pub line-part : (s : List ℕ) (i : ℕ) → take (i * record_bytes + record_bytes - i * record_bytes) (drop (i * record_bytes) s) ≡ line_at s (Some i)
 unfolding line_at
 line-part s i = let w : i * record_bytes + record_bytes - i * record_bytes ≡ record_bytes = omega arith in rw w
 

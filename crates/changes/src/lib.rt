@@ -1,60 +1,44 @@
 // What a call wrote, told from both sheets before and after it. Bytes alone are judged: the sheets need not be accepted.
 #![tactic(auto)]
 
-ghost use Rattle.std.specs.Prelude.{◌≡◌, cond, ◌+◌, ◌/◌, ◌<◌, ◌≤◌, eqb, length};
-ghost use Rattle.lists.specs.Bytes.{eq_list};
+ghost use Rattle.std.specs.Prelude.{◌≡◌, cond, ◌+◌, ◌/◌, ◌<◌, ◌≤◌, ◌^◌, OnOk, eqb, length};
 ghost use Rattle.model.specs.Layouts.{record_bytes};
-ghost use Rattle.model.specs.Refusals.{refusal_of};
+ghost use Rattle.model.specs.Refusals.{refusal_number, refusal_of, refused_with};
 ghost use Rattle.model.specs.Changes.{differs, reach_of, first_of, length_conditions, written_number, written_lines};
 
-use types::RECORD_BYTES;
-
-// Two parts of one length have the same bytes: `decimal::same` without its exit, since most of a sheet stays and a pass to the end compiles to wide
-// steps.
-fn same_bytes(s: &[u8], t: &[u8]) -> bool
-    requires { length s.now ≡ length t.now }
-    ensures { result ≡ eq_list s.now t.now }
-{
-    let n = s.len();
-    let mut same = true;
-    for i in 0..n {
-        same = same & (s[i] == t[i]);
-    }
-    same
-}
+use types::{RECORD_BYTES, Refusal};
 
 // Line i has other bytes afterwards.
 fn line_differs(before: &[u8], after: &[u8], i: usize) -> bool
-    requires i_in_bounds { i < length before.now / record_bytes }
-    requires before_len { length before.now ≡ length after.now }
+    requires line_there { i < length before.now / record_bytes }
+    requires same_length { length before.now ≡ length after.now }
     ensures { result ≡ differs before.now after.now i }
 {
     let at = i * RECORD_BYTES;
     let end = at + RECORD_BYTES;
-    !same_bytes(&before[at..end], &after[at..end])
+    before[at..end] != after[at..end]
 }
 
 // How many lines reach to the last that differs, that one included.
 fn last_reach(before: &[u8], after: &[u8]) -> usize
     requires { length before.now ≡ length after.now }
-    ensures { result ≡ reach_of before.now after.now (length before.now / record_bytes) }
+    ensures value { result ≡ reach_of before.now after.now (length before.now / record_bytes) }
+    ensures upper_bound { result ≤ length before.now / record_bytes }
 {
-    let mut n = before.len() / RECORD_BYTES;
-    while 0 < n {
-        let last = n - 1;
+    for last in (0..before.len() / RECORD_BYTES).rev() {
         if line_differs(before, after, last) {
-            return n;
+            return last + 1;
         }
-        n = last;
     }
     0
 }
 
 // The index of the first of so many lines that differs.
 fn first_differing(before: &[u8], after: &[u8], lines: usize) -> usize
-    requires lines_in_bounds { lines ≤ length before.now / record_bytes }
-    requires before_len { length before.now ≡ length after.now }
-    ensures { result ≡ first_of before.now after.now 0 lines }
+    requires lines_there { lines ≤ length before.now / record_bytes }
+    requires same_length { length before.now ≡ length after.now }
+    ensures value { result ≡ first_of before.now after.now 0 lines }
+    ensures upper_bound { result ≤ lines }
 {
     for i in 0..lines {
         if line_differs(before, after, i) {
@@ -64,48 +48,66 @@ fn first_differing(before: &[u8], after: &[u8], lines: usize) -> usize
     lines
 }
 
-// 0, or the refusal, by the lengths of what is lent.
-fn refusal(
+// A refusal by its number in the table.
+fn number(refusal: Refusal) -> u32
+    ensures value { result ≡ refusal_number refusal }
+    ensures lower_bound { 1 ≤ result }
+    ensures upper_bound { result ≤ 16 }
+{
+    refusal as u32
+}
+
+// What is lent fits: each sheet has one length before and after, a number counts the lines, and the target has two numbers.
+fn fits(
     records_before: usize,
     records: usize,
     coordinator_before: usize,
     coordinator: usize,
     lines: usize,
-) -> u32
-    ensures { result ≡ refusal_of (length_conditions records_before records coordinator_before coordinator lines) }
+) -> Result<(), Refusal>
+    ensures answer { refused_with result ≡ refusal_of (length_conditions records_before records coordinator_before coordinator lines) }
+    ensures records { OnOk result (records_before ≡ records) }
+    ensures counted { OnOk result (records_before / record_bytes < 2 ^ 32) }
+    ensures target { OnOk result (lines ≡ 2) }
 {
     if records_before != records {
-        return 1;
+        return Err(Refusal::BadRecords);
     }
     if records_before % RECORD_BYTES != 0 {
-        return 1;
+        return Err(Refusal::BadRecords);
     }
     if 4294967296 <= records_before / RECORD_BYTES {
-        return 1;
+        return Err(Refusal::BadRecords);
     }
     if lines != 2 {
-        return 1;
+        return Err(Refusal::BadRecords);
     }
     if coordinator_before != coordinator {
-        return 2;
+        return Err(Refusal::BadCoordinator);
     }
-    0
+    Ok(())
 }
 
-// What was written, as one number.
+// Which sheets a call wrote.
+#[derive(Clone, Copy)]
+enum Sheets {
+    Neither = 0,
+    Coordinator = 1,
+    Records = 2,
+    Both = 3,
+}
+
+// Which they are, as a number.
 fn told(stays: bool, reach: usize) -> u32
     ensures { result ≡ cond stays 0 1 + cond (eqb reach 0) 0 2 }
 {
-    if stays {
-        if reach == 0 {
-            return 0;
-        }
-        return 2;
-    }
-    if reach == 0 {
-        return 1;
-    }
-    3
+    let wrote = match (stays, reach) {
+        (true, 0) => Sheets::Neither,
+        (false, 0) => Sheets::Coordinator,
+        (true, _) => Sheets::Records,
+        (false, _) => Sheets::Both,
+    };
+    wrote as u32
 }
 
 // 0 nothing, 1 the coordinator sheet, 2 record lines, 3 both, or 1000 + the refusal. The target gets the index of the first line that differs and how many
@@ -120,19 +122,19 @@ pub fn written(
     ensures answer { result ≡ written_number records_before.now records.now coordinator_before.now coordinator.now lines.old }
     ensures target { lines.new ≡ written_lines records_before.now records.now coordinator_before.now coordinator.now lines.old }
 {
-    let refused = refusal(
+    let lent = fits(
         records_before.len(),
         records.len(),
         coordinator_before.len(),
         coordinator.len(),
         lines.len(),
     );
-    if refused != 0 {
-        return 1000 + refused;
+    if let Err(refusal) = lent {
+        return 1000 + number(refusal);
     }
     let reach = last_reach(records_before, records);
     let first = first_differing(records_before, records, reach);
     lines[0] = first as u32;
     lines[1] = (reach - first) as u32;
-    told(same_bytes(coordinator_before, coordinator), reach)
+    told(coordinator_before == coordinator, reach)
 }

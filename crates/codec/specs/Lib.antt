@@ -2,3 +2,5 @@
 pub mod Turns
 pub mod Rows
 pub mod Parts
+pub mod Casts
+pub mod Orders

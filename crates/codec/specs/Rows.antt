@@ -1,8 +1,9 @@
 -- One turn of reading and of writing a line, field i of it.
 use Rattle.std.specs.Prelude.{◌≡◌, ◌+◌, ◌-◌, ◌≤◌, ◌<◌, ◌&&◌, ◌∷◌, ◌++◌}
-use Rattle.lists.specs.Basics.{refl, sym, ap, ap₂, ℕ, suc, true, false, List, [], append-nil, append_assoc}
+use Rattle.lists.specs.Basics.{refl, sym, ap, ap₂, ℕ, suc, Bool, true, List, [], append-nil, append_assoc}
 use Rattle.lists.specs.Basics.{length, take, drop, get_or, set, length-append, length-take, length-drop, length-set, drop_of_length-le, drop-drop, take_at}
 use Rattle.lists.specs.Basics.{take_all, get_or-drop, arith, add-one, all}
+use Rattle.std.specs.List.{list_all, zip}
 use Rattle.std.proofs.Common.{add-zero, ◌∙◌}
 use Rattle.std.proofs.Math.Seq.{take-suc-set, append_snoc}
 use Rattle.std.proofs.lemmas.List.{set_split}
@@ -126,30 +127,9 @@ write_last cs row line at i l r =
     let z : drop (suc at) line ≡ [] = drop_of_length-le line e in
     (set_split line at 10 (omega arith) ∙ rw z (rw d at r.done), omega arith)
 
--- How far a row has been found in range.
-pub record GoodTo (cs : List Column) (row : List ℕ) (i : ℕ) : Type 0 where
-  pub reached : i ≤ length cs
-  pub rest : row_good (drop i cs) (drop i row) ≡ row_good cs row
-
-pub good_first : (cs : List Column) (row : List ℕ) → GoodTo cs row 0
-good_first cs row = record { reached = omega arith; rest = refl }
-
-module _ (cs : List Column) (row : List ℕ) (i : ℕ) (c : Column) (inside : i < length cs) (e : c ≡ get_or cs i no_column) (g : GoodTo cs row i) where
-  good_turn : (in_range c (get_or row i 0) && row_good (drop (i + 1) cs) (drop (i + 1) row)) ≡ row_good cs row
-  unfolding row_good
-  good_turn =
-      let v : get_or (drop i row) 0 0 ≡ get_or row i 0 = get_or-drop i row 0 0 ∙ ap (λ (j : ℕ). get_or row j 0) (add-zero i) in
-      let r : row_good (drop i cs) (drop i row) ≡ (in_range c (get_or row i 0) && row_good (drop (i + 1) cs) (drop (i + 1) row)) =
-      ap (λ (ds : List Column). row_good ds (drop i row)) (drop_here cs i no_column c inside e)
-      ∙ ap₂ ◌&&◌ (ap (in_range c) v) (ap (row_good (drop (i + 1) cs)) (drop-drop 1 i row)) in
-      sym r ∙ g.rest
-
-  pub good_next : in_range c (get_or row i 0) ≡ true → GoodTo cs row (i + 1)
-  good_next h = record { reached = omega arith; rest = rw h at good_turn }
-
-  pub good_not : in_range c (get_or row i 0) ≡ false → false ≡ row_good cs row
-  good_not h = rw h at good_turn
-
-pub good_last : (cs : List Column) (row : List ℕ) (i : ℕ) → length cs ≤ i → GoodTo cs row i → true ≡ row_good cs row
+-- the columns and the numbers of a row, side by side
+pub good_is : (cs : List Column) (row : List ℕ) → length row ≡ length cs → list_all (λ (p : Column × ℕ). in_range p.0 p.1) (zip cs row) ≡ row_good cs row
 unfolding row_good
-good_last cs row i l g = let d : drop i cs ≡ [] = drop_of_length-le cs l in rw d at g.rest
+good_is [] row n = refl
+good_is (c ∷ cs) [] n = absurd (omega arith)
+good_is (c ∷ cs) (v ∷ row) n = ap (λ (b : Bool). in_range c v && b) (good_is cs row (omega arith))

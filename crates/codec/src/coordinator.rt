@@ -11,47 +11,28 @@ ghost use Rattle.sheet_laws.specs.Singles.{decision_word};
 ghost use Rattle.sheet_laws.specs.Decisions.{number_has_line};
 
 use crate::{fields, lines};
-use types::{COORDINATOR_BYTES, DECISION_AT, Decision, Kind, Layout};
-
-// The number of a decision.
-fn decision_number(d: Decision) -> u32
-    ensures { result ≡ decision_number d }
-{
-    match d {
-        Decision::Undecided => 0,
-        Decision::Committed => 1,
-        Decision::Aborted => 2,
-    }
-}
+use types::{COORDINATOR_BYTES, DECISION_AT, Decision, Kind, Layout, NUMBER_BYTES};
 
 // How many lines stand after the head.
 pub fn count(coordinator: &[u8]) -> usize
     ensures { result ≡ length (drop coordinator_bytes coordinator.now) / coordinator_bytes }
 {
-    if coordinator.len() < COORDINATOR_BYTES {
-        return 0;
-    }
-    (coordinator.len() - COORDINATOR_BYTES) / COORDINATOR_BYTES
+    coordinator.len().saturating_sub(COORDINATOR_BYTES) / COORDINATOR_BYTES
 }
 
 // A number that has a line.
 fn has_line(coordinator: &[u8], n: u32) -> bool
     ensures { result ≡ number_has_line n coordinator.now }
 {
-    if n < 1 {
-        return false;
-    }
-    (n as usize) <= count(coordinator)
+    (1 <= n) & (n as usize <= count(coordinator))
 }
 
 // The count of numbers issued.
 pub fn issued(coordinator: &[u8]) -> u32
     ensures { result ≡ (coordinator_of coordinator.now).issued }
 {
-    if coordinator.len() < 4 {
-        return fields::number_of(decimal::read(coordinator, 0, 999));
-    }
-    fields::number_of(decimal::read(&coordinator[..4], 0, 999))
+    let end = NUMBER_BYTES.min(coordinator.len());
+    decimal::read(&coordinator[..end], 0, 999).unwrap_or(0)
 }
 
 // Whether the line of number n, which has one, holds the word of a decision.
@@ -60,7 +41,7 @@ fn holds_decision(coordinator: &[u8], n: u32, d: Decision) -> bool
     ensures { result ≡ eq_list (decision_word n coordinator.now) (word_at DecisionWord (decision_number d)) }
 {
     let at = (n as usize) * COORDINATOR_BYTES + DECISION_AT;
-    fields::is_word_at(coordinator, at, Kind::DecisionWord, decision_number(d))
+    fields::is_word_at(coordinator, at, Kind::DecisionWord, d as u32)
 }
 
 // The decision of number n; one without a line is undecided.
@@ -85,9 +66,12 @@ pub fn set_decision(coordinator: &mut [u8], n: u32, d: Decision)
 {
     if has_line(coordinator, n) {
         let at = (n as usize) * COORDINATOR_BYTES;
-        let end = at + COORDINATOR_BYTES;
-        let row = [n, decision_number(d)];
-        lines::write_row(Layout::CoordinatorLine, &row, &mut coordinator[at..end]);
+        let row = [n, d as u32];
+        lines::write_row(
+            Layout::CoordinatorLine,
+            &row,
+            &mut coordinator[at..at + COORDINATOR_BYTES],
+        );
     }
 }
 
@@ -95,7 +79,7 @@ pub fn set_decision(coordinator: &mut [u8], n: u32, d: Decision)
 pub fn set_issued(coordinator: &mut [u8], n: u32)
     ensures { coordinator.new ≡ cond (leb 4 (length coordinator.old)) (over coordinator.old 0 (field_text 4 n)) coordinator.old }
 {
-    if 4 <= coordinator.len() {
-        decimal::write(&mut coordinator[..4], n);
+    if NUMBER_BYTES <= coordinator.len() {
+        decimal::write(&mut coordinator[..NUMBER_BYTES], n);
     }
 }

@@ -1,20 +1,13 @@
-// The layouts as code: the columns of each kind of line, and the words of each kind.
-ghost use Rattle.std.specs.Prelude.{◌≡◌, get_or, length};
-ghost use Rattle.model.specs.Layouts.{record_layout, key_layout, head_layout, line_layout, layout, words, word_at, no_column};
+// The layouts as code: the columns of each kind of line, and the words of each kind. Statics, so that no table is laid out anew for what is asked of it.
+ghost use Rattle.std.specs.Prelude.{◌≡◌};
+ghost use Rattle.model.specs.Layouts.{layout, words, word_at};
 
 use types::{
-    CLOCK_BYTES, COLUMN_BYTES, Column, Kind, Layout, NUMBER_BYTES, TXID_BYTES, VERSION_BYTES,
-    WORD_BYTES,
+    CLOCK_BYTES, COLUMN_BYTES, Column, HEAD_FIELDS, Kind, Layout, NUMBER_BYTES, RECORD_FIELDS,
+    TXID_BYTES, VERSION_BYTES, WORD_BYTES,
 };
 
 // Columns by their fields. A table's column is like a namespace's, a clustering's like a partition's, and before fields like the fields.
-const NO_COLUMN: Column = Column {
-    width: 0,
-    kind: Kind::Figure,
-    low: 0,
-    high: 0,
-};
-
 pub const STORAGE: Column = Column {
     width: 2,
     kind: Kind::Figure,
@@ -113,132 +106,90 @@ const DECISION: Column = Column {
     high: 2,
 };
 
-// Column i of a record line. A match, and no table: a table would be laid out anew for each column that is asked for.
-fn record_column(i: usize) -> Column
-    ensures { result ≡ get_or record_layout i no_column }
-{
-    match i {
-        0 => STORAGE,
-        1 => NAMESPACE,
-        2 => NAMESPACE,
-        3 => PARTITION,
-        4 => PARTITION,
-        5 => STATE,
-        6 => VERSION,
-        7 => TXID,
-        8 => AMOUNT,
-        9 => AMOUNT,
-        10 => BEFORE_STATE,
-        11 => VERSION,
-        12 => TXID,
-        13 => AMOUNT,
-        14 => AMOUNT,
-        15 => CLOCK,
-        _ => NO_COLUMN,
-    }
-}
+// The columns of a record line: its key, its state, its image, its before state, the image before and the clock.
+static RECORD_LINE: [Column; RECORD_FIELDS] = [
+    STORAGE,
+    NAMESPACE,
+    NAMESPACE,
+    PARTITION,
+    PARTITION,
+    STATE,
+    VERSION,
+    TXID,
+    AMOUNT,
+    AMOUNT,
+    BEFORE_STATE,
+    VERSION,
+    TXID,
+    AMOUNT,
+    AMOUNT,
+    CLOCK,
+];
 
-// Column i of a key line, the first five of a record line.
-fn key_column(i: usize) -> Column
-    ensures { result ≡ get_or key_layout i no_column }
-{
-    if i < 5 {
-        return record_column(i);
-    }
-    NO_COLUMN
-}
+// The columns of a key line, the first five of a record line.
+static KEY_LINE: [Column; 5] = [STORAGE, NAMESPACE, NAMESPACE, PARTITION, PARTITION];
 
-// Column i of the coordinator's head: the first unit letter has the space before it.
-fn head_column(i: usize) -> Column
-    ensures { result ≡ get_or head_layout i no_column }
-{
-    match i {
-        0 => ISSUED,
-        1 => FIRST_UNIT,
-        2 => UNIT,
-        3 => UNIT,
-        4 => UNIT,
-        5 => UNIT,
-        6 => UNIT,
-        7 => UNIT,
-        8 => UNIT,
-        9 => UNIT,
-        _ => NO_COLUMN,
-    }
-}
+// The columns of the coordinator's head: the first unit letter has the space before it.
+static COORDINATOR_HEAD: [Column; HEAD_FIELDS] = [
+    ISSUED, FIRST_UNIT, UNIT, UNIT, UNIT, UNIT, UNIT, UNIT, UNIT, UNIT,
+];
 
-// Column i of a coordinator line.
-fn line_column(i: usize) -> Column
-    ensures { result ≡ get_or line_layout i no_column }
-{
-    match i {
-        0 => NUMBER,
-        1 => DECISION,
-        _ => NO_COLUMN,
-    }
-}
+// The columns of a coordinator line.
+static COORDINATOR_LINE: [Column; 2] = [NUMBER, DECISION];
 
-// Column i of a kind of line.
-pub fn column(l: Layout, i: usize) -> Column
-    ensures { result ≡ get_or (layout l) i no_column }
+// The words of each kind, right-justified in ten bytes.
+static STATE_WORDS: [[u8; WORD_BYTES]; 3] = [*b"    ABSENT", *b" COMMITTED", *b"  PREPARED"];
+
+static BEFORE_WORDS: [[u8; WORD_BYTES]; 3] = [*b"         -", *b"    ABSENT", *b" COMMITTED"];
+
+static DECISION_WORDS: [[u8; WORD_BYTES]; 3] = [*b"         -", *b" COMMITTED", *b"   ABORTED"];
+
+static UNIT_LETTERS: [[u8; WORD_BYTES]; 10] = [
+    *b"         R",
+    *b"         P",
+    *b"         T",
+    *b"         N",
+    *b"         S",
+    *b"         r",
+    *b"         p",
+    *b"         t",
+    *b"         n",
+    *b"         s",
+];
+
+const BLANK: [u8; WORD_BYTES] = [b' '; WORD_BYTES];
+
+// The columns of a kind of line.
+pub fn columns(l: Layout) -> &'static [Column]
+    ensures { result.now ≡ layout l }
 {
     match l {
-        Layout::RecordLine => record_column(i),
-        Layout::KeyLine => key_column(i),
-        Layout::CoordinatorHead => head_column(i),
-        Layout::CoordinatorLine => line_column(i),
+        Layout::RecordLine => &RECORD_LINE,
+        Layout::KeyLine => &KEY_LINE,
+        Layout::CoordinatorHead => &COORDINATOR_HEAD,
+        Layout::CoordinatorLine => &COORDINATOR_LINE,
+    }
+}
+
+// The words of a kind.
+pub fn words(kind: Kind) -> &'static [[u8; WORD_BYTES]]
+    ensures { result.now ≡ words kind }
+{
+    match kind {
+        Kind::Figure => &[],
+        Kind::StateWord => &STATE_WORDS,
+        Kind::BeforeWord => &BEFORE_WORDS,
+        Kind::DecisionWord => &DECISION_WORDS,
+        Kind::UnitLetter => &UNIT_LETTERS,
     }
 }
 
 // Word n of a kind in ten bytes, blank where there is none.
-pub fn word(kind: Kind, n: u32) -> [u8; 10]
+pub fn word(kind: Kind, n: u32) -> [u8; WORD_BYTES]
     ensures { result ≡ word_at kind n }
 {
-    match kind {
-        Kind::StateWord => match n {
-            0 => *b"    ABSENT",
-            1 => *b" COMMITTED",
-            2 => *b"  PREPARED",
-            _ => *b"          ",
-        },
-        Kind::DecisionWord => match n {
-            0 => *b"         -",
-            1 => *b" COMMITTED",
-            2 => *b"   ABORTED",
-            _ => *b"          ",
-        },
-        Kind::UnitLetter => match n {
-            0 => *b"         R",
-            1 => *b"         P",
-            2 => *b"         T",
-            3 => *b"         N",
-            4 => *b"         S",
-            5 => *b"         r",
-            6 => *b"         p",
-            7 => *b"         t",
-            8 => *b"         n",
-            9 => *b"         s",
-            _ => *b"          ",
-        },
-        Kind::BeforeWord => match n {
-            0 => *b"         -",
-            1 => *b"    ABSENT",
-            2 => *b" COMMITTED",
-            _ => *b"          ",
-        },
-        Kind::Figure => *b"          ",
-    }
-}
-
-// How many words a kind has.
-pub fn count(kind: Kind) -> u32
-    ensures { result ≡ length (words kind) }
-{
-    match kind {
-        Kind::StateWord => 3,
-        Kind::DecisionWord => 3,
-        Kind::UnitLetter => 10,
-        Kind::BeforeWord => 3,
-        Kind::Figure => 0,
+    match words(kind).get(n as usize) {
+        Some(word) => *word,
+        None => BLANK,
     }
 }

@@ -13,12 +13,11 @@ pub fn read_row(l: Layout, line: &[u8], row: &mut [u32])
     requires row_len { length row.old ≡ length (layout l) }
     ensures { row.new ≡ row_of (layout l) line.now }
 {
-    let n = row.len();
+    // by index into the row: no fact tells what a chain over `row.iter_mut()` leaves
     let mut at = 0;
-    for i in 0..n {
-        let c = layouts::column(l, i);
+    for (i, c) in layouts::columns(l).iter().enumerate() {
         let end = at + c.width;
-        row[i] = fields::number_of(fields::read_field(c, &line[at..end]));
+        row[i] = fields::read_field(*c, &line[at..end]).unwrap_or(0);
         at = end;
     }
 }
@@ -29,15 +28,13 @@ pub fn write_row(l: Layout, row: &[u32], line: &mut [u8])
     requires line_len { length line.old ≡ line_bytes (layout l) }
     ensures { line.new ≡ line_text (layout l) row.now }
 {
-    let n = row.len();
     let mut at = 0;
-    for i in 0..n {
-        let c = layouts::column(l, i);
+    for (i, c) in layouts::columns(l).iter().enumerate() {
         let end = at + c.width;
-        fields::write_field(c, row[i], &mut line[at..end]);
+        fields::write_field(*c, row[i], &mut line[at..end]);
         at = end;
     }
-    line[at] = 10;
+    line[at] = b'\n';
 }
 
 // Every number of a row is in its field's range.
@@ -45,11 +42,8 @@ pub fn row_good(l: Layout, row: &[u32]) -> bool
     requires { length row.now ≡ length (layout l) }
     ensures { result ≡ row_good (layout l) row.now }
 {
-    let n = row.len();
-    for i in 0..n {
-        if !fields::in_range(layouts::column(l, i), row[i]) {
-            return false;
-        }
-    }
-    true
+    layouts::columns(l)
+        .iter()
+        .zip(row)
+        .all(|(c, v)| fields::in_range(*c, *v))
 }

@@ -1,15 +1,14 @@
 // Parts of a record line, written over in place: the other bytes stay.
-ghost use Rattle.std.specs.Prelude.{◌≡◌, ◌+◌, ◌≤◌, length};
+ghost use Rattle.std.specs.Prelude.{◌≡◌, ◌+◌, ◌≤◌, length, take, drop};
 ghost use Rattle.lists.specs.Pieces.{over};
 ghost use Rattle.decimal.specs.Field.{field_text};
 ghost use Rattle.model.specs.Layouts.{record_bytes, image_bytes};
-ghost use Rattle.sheet_laws.specs.Changed.{image_text, nothing_text, state_over, image_over, prior_over, settled_over, image_offset, image_in};
+ghost use Rattle.sheet_laws.specs.Changed.{image_text, nothing_text, state_over, image_over, prior_over, settled_over};
 
-use crate::{layouts, records};
+use crate::layouts;
 use types::{
-    BEFORE_AT, BEFORE_STATE_AT, Before, CLOCK_BYTES, COLUMN_BYTES, COLUMN1_AT, COLUMN2_AT,
-    IMAGE_BYTES, Image, Kind, STATE_AT, State, TXID_AT, TXID_BYTES, VERSION_AT, VERSION_BYTES,
-    WORD_BYTES,
+    BEFORE_STATE_AT, Before, CLOCK_BYTES, COLUMN_BYTES, COLUMN1_AT, COLUMN2_AT, IMAGE_BYTES, Image,
+    Kind, STATE_AT, State, TXID_AT, TXID_BYTES, VERSION_AT, VERSION_BYTES, WORD_BYTES,
 };
 
 // Bytes from the before state on: that word, the image before and the clock.
@@ -23,8 +22,7 @@ pub fn put_at(line: &mut [u8], at: usize, text: &[u8])
     requires { at + length text.now ≤ length line.old }
     ensures { line.new ≡ over line.old at text.now }
 {
-    let end = at + text.len();
-    decimal::put(&mut line[at..end], text);
+    line[at..at + text.len()].copy_from_slice(text);
 }
 
 // A figure over the n columns of the line from `at` on.
@@ -32,30 +30,16 @@ pub fn write_at(line: &mut [u8], at: usize, n: usize, v: u32)
     requires { at + n ≤ length line.old }
     ensures { line.new ≡ over line.old at (field_text n v) }
 {
-    let end = at + n;
-    decimal::write(&mut line[at..end], v);
+    decimal::write(&mut line[at..at + n], v);
 }
 
-// Where an image begins: the image before, or the line's own.
-fn image_offset(before: bool) -> usize
-    ensures value { result ≡ image_offset before }
-    ensures image_bytes_bound { result + image_bytes ≤ record_bytes }
+// The bytes of the image that begins at `at`.
+pub fn image_bytes(line: &[u8], at: usize) -> [u8; IMAGE_BYTES]
+    requires { at + image_bytes ≤ length line.now }
+    ensures { result ≡ take image_bytes (drop at line.now) }
 {
-    if before {
-        return BEFORE_AT;
-    }
-    VERSION_AT
-}
-
-// The bytes of that image.
-pub fn image_bytes(line: &[u8], before: bool) -> [u8; IMAGE_BYTES]
-    requires { length line.now ≡ record_bytes }
-    ensures { result ≡ image_in before line.now }
-{
-    let from = image_offset(before);
-    let to = from + IMAGE_BYTES;
     let mut image = [0u8; IMAGE_BYTES];
-    decimal::put(&mut image, &line[from..to]);
+    image.copy_from_slice(&line[at..at + IMAGE_BYTES]);
     image
 }
 
@@ -64,7 +48,7 @@ pub fn put_state(line: &mut [u8], state: State)
     requires { length line.old ≡ record_bytes }
     ensures { line.new ≡ state_over state line.old }
 {
-    let word = layouts::word(Kind::StateWord, records::state_number(state));
+    let word = layouts::word(Kind::StateWord, state as u32);
     put_at(line, STATE_AT, &word);
 }
 
@@ -73,7 +57,7 @@ pub fn put_prior(line: &mut [u8], prior: Before)
     requires { length line.old ≡ record_bytes }
     ensures { line.new ≡ prior_over prior line.old }
 {
-    let word = layouts::word(Kind::BeforeWord, records::before_number(prior));
+    let word = layouts::word(Kind::BeforeWord, prior as u32);
     put_at(line, BEFORE_STATE_AT, &word);
 }
 
@@ -93,6 +77,5 @@ pub fn put_nothing(line: &mut [u8])
     requires { length line.old ≡ record_bytes }
     ensures { line.new ≡ settled_over nothing_text line.old }
 {
-    let nothing = NOTHING;
-    put_at(line, BEFORE_STATE_AT, &nothing);
+    put_at(line, BEFORE_STATE_AT, &NOTHING);
 }

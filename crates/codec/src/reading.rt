@@ -1,45 +1,54 @@
 // Single fields of a line of a record sheet by its index, each read without the others.
-ghost use Rattle.std.specs.Prelude.{◌≡◌, cond, true, ◌+◌, ◌*◌, ◌/◌, ◌≤◌, length, get_or, ltb};
+ghost use Rattle.std.specs.Prelude.{◌≡◌, cond, true, false, ◌+◌, ◌*◌, ◌/◌, ◌≤◌, length, take, drop, get_or, ltb};
 ghost use Rattle.decimal.specs.Digits.{figure_at};
-ghost use Rattle.model.specs.Layouts.{record_bytes};
+ghost use Rattle.lists.specs.Bytes.{eq_list};
+ghost use Rattle.model.specs.Layouts.{record_bytes, word_bytes, word_at};
 ghost use Rattle.model.specs.Records.{no_record, records_accepted};
 ghost use Rattle.model.specs.Records as model;
 ghost use Rattle.model.specs.Images.{is_prepared, state_back, columns_of};
 
-use crate::{fields, records};
+use crate::fields;
+use crate::records::line_at;
 use types::{
     BEFORE_STATE_AT, Before, CLOCK_AT, CLOCK_BYTES, CLUSTERING_AT, COLUMN_BYTES, COLUMN1_AT,
-    COLUMN2_AT, Columns, Key, Kind, NAMESPACE_AT, PARTITION_AT, PARTITION_BYTES, RECORD_BYTES,
-    STATE_AT, STORAGE_BYTES, State, TABLE_AT, TABLE_BYTES, TXID_AT, TXID_BYTES, VERSION_AT,
-    VERSION_BYTES,
+    COLUMN2_AT, Columns, Key, Kind, NAMESPACE_AT, PARTITION_AT, PARTITION_BYTES, STATE_AT,
+    STORAGE_BYTES, State, TABLE_AT, TABLE_BYTES, TXID_AT, TXID_BYTES, VERSION_AT, VERSION_BYTES,
 };
+
+// Whether word n of a kind stands `from` bytes into line i; past the end none does.
+fn has_word(records: &[u8], i: usize, from: usize, kind: Kind, n: u32) -> bool
+    requires { from + word_bytes ≤ record_bytes }
+    ensures { result ≡ cond (ltb i (length records.now / record_bytes)) (eq_list (take word_bytes (drop (i * record_bytes + from) records.now)) (word_at kind n)) false }
+{
+    match line_at(records, i) {
+        Some(line) => fields::is_word_at(records, line.start + from, kind, n),
+        None => false,
+    }
+}
 
 // Whether line i is pending; past the end none is.
 pub fn is_prepared(records: &[u8], i: usize) -> bool
     ensures { result ≡ is_prepared (get_or (model.records records.now) i no_record) }
 {
-    if i < records.len() / RECORD_BYTES {
-        let at = i * RECORD_BYTES + STATE_AT;
-        return fields::is_word_at(
-            records,
-            at,
-            Kind::StateWord,
-            records::state_number(State::Prepared),
-        );
-    }
-    false
+    has_word(
+        records,
+        i,
+        STATE_AT,
+        Kind::StateWord,
+        State::Prepared as u32,
+    )
 }
 
 // The figure of n columns that begins `from` bytes into line i, 0 past the end.
 fn figure(records: &[u8], i: usize, from: usize, n: usize) -> u64
-    requires n_bound { from + n ≤ record_bytes }
-    requires n_bound_2 { n ≤ 15 }
+    requires inside { from + n ≤ record_bytes }
+    requires digits { n ≤ 15 }
     ensures { result ≡ cond (ltb i (length records.now / record_bytes)) (figure_at (i * record_bytes + from) n records.now) 0 }
 {
-    if i < records.len() / RECORD_BYTES {
-        return line_bytes::figure(records, i * RECORD_BYTES + from, n);
+    match line_at(records, i) {
+        Some(line) => line_bytes::figure(records, line.start + from, n),
+        None => 0,
     }
-    0
 }
 
 // The key of line i.
@@ -95,12 +104,10 @@ pub fn clock(records: &[u8], i: usize) -> u32
 pub fn before_state(records: &[u8], i: usize) -> State
     ensures { result ≡ state_back (get_or (model.records records.now) i no_record).prior }
 {
-    if i < records.len() / RECORD_BYTES {
-        let at = i * RECORD_BYTES + BEFORE_STATE_AT;
-        let committed = records::before_number(Before::Committed);
-        if fields::is_word_at(records, at, Kind::BeforeWord, committed) {
-            return State::Committed;
-        }
+    let committed = Before::Committed as u32;
+    if has_word(records, i, BEFORE_STATE_AT, Kind::BeforeWord, committed) {
+        State::Committed
+    } else {
+        State::Absent
     }
-    State::Absent
 }

@@ -1,10 +1,11 @@
 // Records of a sheet by their index: what a call with a transaction reads and writes of a record sheet.
-ghost use Rattle.std.specs.Prelude.{◌≡◌, ◌*◌, ◌/◌, length, get_or};
+ghost use Rattle.std.specs.Prelude.{◌≡◌, ◌+◌, ◌*◌, ◌/◌, cond, length, get_or, ltb, Some, None};
 ghost use Rattle.model.specs.Layouts.{record_bytes, record_fields};
-ghost use Rattle.model.specs.Records.{state_of, state_number, before_of, before_number, record_of, no_record, absence};
+ghost use Rattle.model.specs.Records.{record_of, no_record, absence};
 ghost use Rattle.model.specs.Records as model;
 
 use crate::lines;
+use std::ops::Range;
 use types::{
     Before, Image, Key, Layout, NO_IMAGE, NO_KEY, RECORD_BYTES, RECORD_FIELDS, Record, State,
 };
@@ -17,50 +18,6 @@ const NO_RECORD: Record = Record {
     before: NO_IMAGE,
     clock: 0,
 };
-
-// The state of its number.
-fn state_of(n: u32) -> State
-    ensures { result ≡ state_of n }
-{
-    match n {
-        0 => State::Absent,
-        1 => State::Committed,
-        _ => State::Prepared,
-    }
-}
-
-// The number of a state.
-pub fn state_number(s: State) -> u32
-    ensures { result ≡ state_number s }
-{
-    match s {
-        State::Absent => 0,
-        State::Committed => 1,
-        State::Prepared => 2,
-    }
-}
-
-// The before state of its number.
-fn before_of(n: u32) -> Before
-    ensures { result ≡ before_of n }
-{
-    match n {
-        0 => Before::Nothing,
-        1 => Before::Absent,
-        _ => Before::Committed,
-    }
-}
-
-// The number of a before state.
-pub fn before_number(b: Before) -> u32
-    ensures { result ≡ before_number b }
-{
-    match b {
-        Before::Nothing => 0,
-        Before::Absent => 1,
-        Before::Committed => 2,
-    }
-}
 
 // The record of its numbers.
 pub fn record_of(v: &[u32]) -> Record
@@ -75,14 +32,14 @@ pub fn record_of(v: &[u32]) -> Record
             partition: v[3],
             clustering: v[4],
         },
-        state: state_of(v[5]),
+        state: State::from(v[5]),
         image: Image {
             version: v[6],
             txid: v[7],
             column1: v[8],
             column2: v[9],
         },
-        prior: before_of(v[10]),
+        prior: Before::from(v[10]),
         before: Image {
             version: v[11],
             txid: v[12],
@@ -110,16 +67,28 @@ pub fn count(records: &[u8]) -> usize
     records.len() / RECORD_BYTES
 }
 
+// Where line i lies, if there is one.
+pub fn line_at(records: &[u8], i: usize) -> Option<Range<usize>>
+    ensures { result ≡ cond (ltb i (length records.now / record_bytes)) (Some (record { start = i * record_bytes; end = i * record_bytes + record_bytes })) None }
+{
+    if i < count(records) {
+        let start = i * RECORD_BYTES;
+        Some(start..start + RECORD_BYTES)
+    } else {
+        None
+    }
+}
+
 // Record i, an absent one of no key past the end.
 pub fn record_at(records: &[u8], i: usize) -> Record
     ensures { result ≡ get_or (model.records records.now) i no_record }
 {
-    if i < records.len() / RECORD_BYTES {
-        let at = i * RECORD_BYTES;
-        let end = at + RECORD_BYTES;
-        let mut row = [0u32; RECORD_FIELDS];
-        lines::read_row(Layout::RecordLine, &records[at..end], &mut row);
-        return record_of(&row);
+    match line_at(records, i) {
+        Some(line) => {
+            let mut row = [0u32; RECORD_FIELDS];
+            lines::read_row(Layout::RecordLine, &records[line], &mut row);
+            record_of(&row)
+        }
+        None => NO_RECORD,
     }
-    NO_RECORD
 }

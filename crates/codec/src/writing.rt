@@ -6,10 +6,11 @@ ghost use Rattle.model.specs.Images.{written_image, state_kept, prepared, commit
 ghost use Rattle.sheet_laws.specs.Records.{Readable};
 ghost use Rattle.sheet_laws.specs.ByIndex.{changed_at};
 
-use crate::{fields, parts, records};
+use crate::records::line_at;
+use crate::{fields, parts};
 use types::{
-    BEFORE_AT, Before, CLOCK_AT, CLOCK_BYTES, Columns, Image, Kind, RECORD_BYTES, STATE_AT, State,
-    VERSION_AT, VERSION_BYTES,
+    BEFORE_AT, Before, CLOCK_AT, CLOCK_BYTES, Columns, Image, Kind, STATE_AT, State, VERSION_AT,
+    VERSION_BYTES,
 };
 
 // The image that a change writes to a line that can be read.
@@ -31,11 +32,11 @@ fn state_kept(line: &[u8]) -> Before
     requires { length line.now ≡ record_bytes }
     ensures { result ≡ state_kept (record_in line.now).state }
 {
-    let committed = records::state_number(State::Committed);
-    if fields::is_word_at(line, STATE_AT, Kind::StateWord, committed) {
-        return Before::Committed;
+    if fields::is_word_at(line, STATE_AT, Kind::StateWord, State::Committed as u32) {
+        Before::Committed
+    } else {
+        Before::Absent
     }
-    Before::Absent
 }
 
 // A line that can be read, prepared.
@@ -45,7 +46,7 @@ fn prepare_line(line: &mut [u8], n: u32, columns: Columns, clock: u32)
 {
     let image = written_image(line, n, columns);
     let prior = state_kept(line);
-    let before = parts::image_bytes(line, false);
+    let before = parts::image_bytes(line, VERSION_AT);
     parts::put_at(line, BEFORE_AT, &before);
     parts::put_prior(line, prior);
     parts::put_state(line, State::Prepared);
@@ -69,10 +70,8 @@ pub fn prepare(records: &mut [u8], i: usize, n: u32, columns: Columns, clock: u3
     requires { records_accepted records.old ≡ true }
     ensures { records.new ≡ changed_at (prepared n clock columns) i records.old }
 {
-    if i < records.len() / RECORD_BYTES {
-        let at = i * RECORD_BYTES;
-        let end = at + RECORD_BYTES;
-        prepare_line(&mut records[at..end], n, columns, clock);
+    if let Some(line) = line_at(records, i) {
+        prepare_line(&mut records[line], n, columns, clock);
     }
 }
 
@@ -81,9 +80,7 @@ pub fn commit(records: &mut [u8], i: usize, n: u32, columns: Columns)
     requires { records_accepted records.old ≡ true }
     ensures { records.new ≡ changed_at (committed n columns) i records.old }
 {
-    if i < records.len() / RECORD_BYTES {
-        let at = i * RECORD_BYTES;
-        let end = at + RECORD_BYTES;
-        commit_line(&mut records[at..end], n, columns);
+    if let Some(line) = line_at(records, i) {
+        commit_line(&mut records[line], n, columns);
     }
 }

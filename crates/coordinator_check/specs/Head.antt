@@ -1,10 +1,12 @@
 -- The head: a count, a space, nine unit letters and LF. A column of one letter is a test of one byte, so that nine of them are one test of
 -- nine bytes.
-use Rattle.std.specs.Prelude.{◌≡◌, ◌+◌, ◌-◌, ◌≤◌, ◌<◌, ◌&&◌, ◌||◌, ◌∷◌}
+use Rattle.std.specs.Prelude.{◌≡◌, ◌≤◌, ◌&&◌, ◌||◌, ◌∷◌, Some, None}
+use Rattle.std.specs.List.{list_all}
 use Rattle.std.proofs.Common.{◌∙◌}
-use Rattle.lists.specs.Basics.{refl, sym, ap, ℕ, zero, suc, eqb, Bool, true, false, cond, and_assoc, and-true, List}
-use Rattle.lists.specs.Basics.{[], length, take, drop, get_or, replicate, drop_of_length-le, drop-drop, drop-cons, arith, add-one, all, eq_list, bytes}
-use Rattle.decimal.specs.declared.Scan.TheVariants.{Number, Wrong}
+use Rattle.model.specs.Coordinator.{all_capitals}
+use Rattle.sheet_laws.specs.Letters.{units_in, letter_in}
+use Rattle.lists.specs.Basics.{ltb, leb, not, ap₂, le-ltb, lt-ltb, leb-true, leb-false, refl, sym, ap, ℕ, zero, suc, eqb, Bool, true, false, cond, and_assoc, and-true, List}
+use Rattle.lists.specs.Basics.{[], length, take, drop, get_or, replicate, drop_of_length-le, drop-drop, drop-cons, arith, all, eq_list, bytes}
 use Rattle.decimal.specs.Field.{figure, is_number}
 use Rattle.model.specs.Types.{Column, UnitLetter}
 use Rattle.model.specs.Layouts.{head_layout, words, word, coordinator_bytes, line_end}
@@ -21,18 +23,17 @@ letters_set head = eqb (get_or head 4 0) 32 && all is_unit (take 9 (drop 5 head)
 -- one of ten words, after a space where one is wanted
 letters : (z a b c d e f g h i j : Bool)
     → is_number
-    (cond (z && (a && true)) (Number 0)
-    (cond (z && (b && true)) (Number 1)
-    (cond (z && (c && true)) (Number 2)
-    (cond (z && (d && true)) (Number 3)
-    (cond (z && (e && true)) (Number 4)
-    (cond (z && (f && true)) (Number 5)
-    (cond (z && (g && true)) (Number 6)
-    (cond (z && (h && true)) (Number 7)
-    (cond (z && (i && true)) (Number 8)
-    (cond (z && (j && true)) (Number 9) Wrong))))))))))
+    (cond (z && (a && true)) (Some 0)
+    (cond (z && (b && true)) (Some 1)
+    (cond (z && (c && true)) (Some 2)
+    (cond (z && (d && true)) (Some 3)
+    (cond (z && (e && true)) (Some 4)
+    (cond (z && (f && true)) (Some 5)
+    (cond (z && (g && true)) (Some 6)
+    (cond (z && (h && true)) (Some 7)
+    (cond (z && (i && true)) (Some 8)
+    (cond (z && (j && true)) (Some 9) None))))))))))
     ≡ (z && (a || b || c || d || e || f || g || h || i || j))
-unfolding is_number
 letters false a b c d e f g h i j = refl
 letters true true b c d e f g h i j = refl
 letters true false true c d e f g h i j = refl
@@ -51,18 +52,18 @@ abbrev letter : ℕ → Column
 letter w = word w UnitLetter 9
 
 letter-set : (b : ℕ) → is_number (field_value (letter 1) (b ∷ [])) ≡ is_unit b
-unfolding field_value word_from words bytes eq_list
+unfolding field_value word_from words bytes
 letter-set b = letters true (eqb b 82) (eqb b 80) (eqb b 84) (eqb b 78) (eqb b 83) (eqb b 114) (eqb b 112) (eqb b 116) (eqb b 110) (eqb b 115)
 
 first-set : (a b : ℕ) → is_number (field_value (letter 2) (a ∷ b ∷ [])) ≡ (eqb a 32 && is_unit b)
-unfolding field_value word_from words bytes eq_list
+unfolding field_value word_from words bytes
 first-set a b = letters (eqb a 32) (eqb b 82) (eqb b 80) (eqb b 84) (eqb b 78) (eqb b 83) (eqb b 114) (eqb b 112) (eqb b 116) (eqb b 110) (eqb b 115)
 
 -- n letters and LF
 letters_set_lem : (n : ℕ) (s : List ℕ) → line_set (replicate n (letter 1)) s ≡ (all is_unit (take n s) && eq_list (drop n s) (10 ∷ []))
 unfolding line_set all
 letters_set_lem zero s = refl
-letters_set_lem (suc n) [] = unfold field_value word_from words bytes eq_list is_number in refl
+letters_set_lem (suc n) [] = unfold field_value word_from words bytes in refl
 letters_set_lem (suc n) (b ∷ s) = rw (letter-set b, letters_set_lem n s) (sym (and_assoc (is_unit b) (all is_unit (take n s)) (eq_list (drop n s) (10 ∷ []))))
 
 head_fields_lem : (h : List ℕ)
@@ -78,7 +79,7 @@ grouped z u us l = simp (and_assoc, and-true)
 
 -- fifteen bytes are a head if a count is read and the letters are set
 pub head_set : (h : List ℕ) → length h ≡ coordinator_bytes → line_set head_layout h ≡ (is_number (figure 0 999 (take 4 h)) && letters_set h)
-unfolding letters_set eq_list all
+unfolding letters_set all
 head_set h n =
     let x = get_or h 4 0 in
     let y = get_or h 5 0 in
@@ -91,26 +92,22 @@ head_set h n =
     ∙ ap (λ (t : Bool). is_number (figure 0 999 (take 4 h)) && t)
     (rw (four, five, first-set x y, letters_set_lem 8 (drop 6 h), drop-drop 8 6 h, last) (grouped (eqb x 32) (is_unit y) (all is_unit (take 8 (drop 6 h))) (eqb z 10)))
 
--- How far the letters have been looked at: those before column i are units, or one is not.
-pub record LettersTo (head : List ℕ) (i : ℕ) (good : Bool) : Type 0 where
-  pub reached : i ≤ line_end
-  pub left : (good && all is_unit (take (line_end - i) (drop i head))) ≡ (eqb (get_or head 4 0) 32 && all is_unit (take 9 (drop 5 head)))
-
-pub letters_first : (head : List ℕ) → LettersTo head 5 (eqb (get_or head 4 0) 32)
-letters_first head = record { reached = omega arith; left = refl }
-
-pub letters_next : (head : List ℕ) (i : ℕ) (good unit : Bool) → length head ≡ coordinator_bytes → i < line_end → unit ≡ is_unit (get_or head i 0)
-    → LettersTo head i good → LettersTo head (i + 1) (good && unit)
+-- the code's tests of every letter
+pub all_units : (s : List ℕ) → list_all is_unit s ≡ all is_unit s
 unfolding all
-letters_next head i good unit n l e t =
-    let m : line_end - i ≡ suc (line_end - (i + 1)) = omega arith in
-    let d : drop i head ≡ get_or head i 0 ∷ drop (i + 1) head = rw (add-one, drop-cons head i 0 (omega arith)) in
-    let a : all is_unit (take (line_end - i) (drop i head)) ≡ (unit && all is_unit (take (line_end - (i + 1)) (drop (i + 1) head))) = rw (m, d, e) in
-    record { reached = omega arith; left = and_assoc good unit _ ∙ (ap (λ (b : Bool). good && b) (sym a) ∙ t.left) }
+all_units [] = refl
+all_units (b ∷ s) = ap (λ (rest : Bool). is_unit b && rest) (all_units s)
 
-pub letters_last : (head : List ℕ) (i : ℕ) (good : Bool) → line_end ≤ i → LettersTo head i good → (good && eqb (get_or head line_end 0) 10) ≡ letters_set head
-unfolding all letters_set
-letters_last head i good l t =
-    let z : line_end - i ≡ 0 = omega arith in
-    let w : good ≡ (eqb (get_or head 4 0) 32 && all is_unit (take 9 (drop 5 head))) = sym (and-true good) ∙ (rw z at t.left) in
-    ap (λ (b : Bool). b && eqb (get_or head line_end 0) 10) w
+pub units_here : (head : List ℕ) (units : Bool) → units ≡ all is_unit (take 9 (drop 5 head))
+    → (eqb (get_or head 4 0) 32 && units && eqb (get_or head line_end 0) 10) ≡ letters_set head
+unfolding letters_set
+units_here head units e = rw e
+
+pub none_small : (s : List ℕ) → list_all (λ (b : ℕ). ltb b 97) s ≡ all_capitals (units_in s)
+unfolding all all_capitals units_in letter_in
+none_small [] = refl
+none_small (b ∷ s) = ap₂ ◌&&◌ (go (leb 97 b) refl) (none_small s)
+  where
+    go : (t : Bool) → leb 97 b ≡ t → ltb b 97 ≡ not t
+    go true e = le-ltb b 97 (leb-true 97 b e)
+    go false e = lt-ltb b 97 (leb-false 97 b e)

@@ -1,13 +1,12 @@
 -- No record names a number above the issued count: four columns that hold a figure order as their bytes do, and so as one number.
 -- The loop goes record by record.
-use Rattle.std.specs.Prelude.{◌≡◌, ◌+◌, ◌*◌, ◌/◌, ◌≤◌, ◌<◌, ◌&&◌}
+use Rattle.std.specs.Prelude.{◌≡◌, ◌+◌, ◌*◌, ◌/◌, ◌≤◌, ◌<◌, ◌&&◌, Some}
 use Rattle.std.proofs.Common.{◌∙◌}
 use Rattle.lists.specs.Basics.{refl, sym, ap, ap₂, ℕ, leb, ltb, Bool, true, false, not, List, [], length, take, drop}
 use Rattle.lists.specs.Basics.{get_or, length-take, length-drop, drop-drop, arith, leb-true, leb-false, lt-ltb, le-ltb, all, pieces, tests}
 use Rattle.std.proofs.Math.Pow.{are_bytes}
 use Rattle.lists.specs.All.{all_at}
 use Rattle.lists.specs.Pieces.{take-drop-take, get_or-pieces, length-pieces}
-use Rattle.decimal.specs.declared.Scan.TheVariants.{Number}
 use Rattle.decimal.specs.Field.{figure}
 use Rattle.decimal.specs.Laws.{figure_scan}
 use Rattle.decimal.specs.Order.{order_bytes}
@@ -25,11 +24,11 @@ use Rattle.coordinator_check.specs.Lines.{Bytes}
 use Rattle.coordinator_check.specs.Sheet.{readable_head}
 
 -- the TxIDs of a record line
-txid_at : (line : List ℕ) → line_set record_layout line ≡ true → figure 0 999 (take 4 (drop (record_offset txid_field) line)) ≡ Number (record_in line).image.txid
+txid_at : (line : List ℕ) → line_set record_layout line ≡ true → figure 0 999 (take 4 (drop (record_offset txid_field) line)) ≡ Some (record_in line).image.txid
 unfolding record_layout offset field_at field_value record_in record_of image_from
 txid_at line h = field_at_lem txid_field record_layout line (omega arith) h
 
-before_txid_at : (line : List ℕ) → line_set record_layout line ≡ true → figure 0 999 (take 4 (drop (record_offset before_txid_field) line)) ≡ Number (record_in line).before.txid
+before_txid_at : (line : List ℕ) → line_set record_layout line ≡ true → figure 0 999 (take 4 (drop (record_offset before_txid_field) line)) ≡ Some (record_in line).before.txid
 unfolding record_layout offset field_at field_value record_in record_of image_from
 before_txid_at line h = field_at_lem before_txid_field record_layout line (omega arith) h
 
@@ -41,7 +40,7 @@ at_most a b = go (leb a b) refl
     go false e = ap not (sym (lt-ltb b a (leb-false a b e)))
 
 -- figures of one width are ordered by their bytes' numbers
-figures_order : (s t : List ℕ) (a b : ℕ) → figure 0 999 s ≡ Number a → figure 0 999 t ≡ Number b → are_bytes s ≡ true → are_bytes t ≡ true
+figures_order : (s t : List ℕ) (a b : ℕ) → figure 0 999 s ≡ Some a → figure 0 999 t ≡ Some b → are_bytes s ≡ true → are_bytes t ≡ true
     → length s ≡ length t → leb (number_of s) (number_of t) ≡ leb a b
 figures_order s t a b p q f g n =
     at_most (number_of s) (number_of t)
@@ -66,7 +65,7 @@ module _ (rs cs : List ℕ) (good-rs : records_accepted rs ≡ true) (good-cs : 
       (all_at (line_set record_layout) (pieces record_bytes (length rs / record_bytes) rs) [] i each (omega (arith, length-pieces record_bytes (length rs / record_bytes) rs)))
 
   -- the test of a figure in record i
-  named_is : (i o v : ℕ) → i < length rs / record_bytes → o + 4 ≤ record_bytes → figure 0 999 (take 4 (drop o (take record_bytes (drop (i * record_bytes) rs)))) ≡ Number v
+  named_is : (i o v : ℕ) → i < length rs / record_bytes → o + 4 ≤ record_bytes → figure 0 999 (take 4 (drop o (take record_bytes (drop (i * record_bytes) rs)))) ≡ Some v
       → named i o ≡ leb v (coordinator_of cs).issued
   named_is i o v l m e =
       let w : take 4 (drop o (take record_bytes (drop (i * record_bytes) rs))) ≡ bytes_at rs 4 (i * record_bytes + o) =
@@ -83,11 +82,15 @@ module _ (rs cs : List ℕ) (good-rs : records_accepted rs ≡ true) (good-cs : 
       ∙ ap₂ ◌&&◌ (sym (named_is i (record_offset txid_field) (record_in line).image.txid l (omega arith) (txid_at line (line_at_lem i l))))
       (sym (named_is i (record_offset before_txid_field) (record_in line).before.txid l (omega arith) (before_txid_at line (line_at_lem i l))))
 
-  -- record i and those after it
-  pub named-turn : (i : ℕ) → i < length rs / record_bytes → NamedTo rs cs i
-      → ((named i (record_offset txid_field) && named i (record_offset before_txid_field)) && all (names_issued (coordinator_of cs).issued) (drop (i + 1) (records rs))) ≡ all_issued rs cs
+  -- record i and those after it, by the three numbers that are compared
+  pub named-turn : (i : ℕ) → i < length rs / record_bytes → NamedTo rs cs i → {issued txid before : ℕ}
+      → issued ≡ number_of (bytes_at cs 4 0)
+      → txid ≡ number_of (bytes_at rs 4 (i * record_bytes + record_offset txid_field))
+      → before ≡ number_of (bytes_at rs 4 (i * record_bytes + record_offset before_txid_field))
+      → ((leb txid issued && leb before issued) && all (names_issued (coordinator_of cs).issued) (drop (i + 1) (records rs))) ≡ all_issued rs cs
   unfolding all
-  named-turn i l t =
+  named-turn i l t e f g =
       let p = names_issued (coordinator_of cs).issued in
-      ap (λ (b : Bool). b && all p (drop (i + 1) (records rs))) (sym (record_is i l))
-      ∙ left_here (records rs) (all p) no_record (get_or (records rs) i no_record) (all_issued rs cs) i (omega (arith, length-records rs)) refl t
+      rw (e, f, g)
+      (ap (λ (b : Bool). b && all p (drop (i + 1) (records rs))) (sym (record_is i l))
+      ∙ left_here (records rs) (all p) no_record (get_or (records rs) i no_record) (all_issued rs cs) i (omega (arith, length-records rs)) refl t)

@@ -1,6 +1,6 @@
 -- The sheet as the check takes it: whole lines, the head, lines up to the issued count with any decision, and lines above it with none.
 -- That such a sheet keeps the rules, and one that keeps them is such, is shown from the parts of the rules, the lines cut at the issued count.
-use Rattle.std.specs.Prelude.{◌≡◌, ◌+◌, ◌-◌, ◌*◌, ◌/◌, ◌%◌, ◌≤◌, ◌<◌, ◌&&◌, ◌∷◌, ◌++◌}
+use Rattle.std.specs.Prelude.{◌≡◌, ◌+◌, ◌-◌, ◌*◌, ◌/◌, ◌%◌, ◌≤◌, ◌<◌, ◌&&◌, ◌∷◌, ◌++◌, Option, Some, None}
 use Rattle.lists.specs.Basics.{refl, sym, ap, ap₂, ℕ, suc, eqb, leb, Bool, true, false, true≢false}
 use Rattle.lists.specs.Basics.{and_assoc, List, [], map, length, take, drop, get_or, length-map, length-take, length-drop, drop-drop, take-take}
 use Rattle.lists.specs.Basics.{get_or-take, get_or-drop, arith, eqb-true, leb-true, eq-eqb, le-leb, lt-leb, all, pieces, bytes, and_fst, and_snd, and_both}
@@ -8,8 +8,6 @@ use Rattle.lists.specs.Basics.{same_test, tests}
 use Rattle.std.proofs.Common.{add-zero, ◌∙◌}
 use Rattle.lists.specs.All.{all_append, all_always, all_map}
 use Rattle.lists.specs.Pieces.{pieces_add, length-pieces}
-use Rattle.decimal.specs.declared.Scan.{Scan}
-use Rattle.decimal.specs.declared.Scan.TheVariants.{Blank, Number, Wrong}
 use Rattle.decimal.specs.Field.{figure, number, is_number, field_text, ahead}
 use Rattle.decimal.specs.Laws.{is_number-number, written_read}
 use Rattle.line_bytes.specs.Loads.{loaded}
@@ -57,21 +55,19 @@ decisions_made issued s =
     && lines_made no_decision issued (count s - issued) (drop (issued * coordinator_bytes + line_end) s))
 
 -- a number was read, and passes the test
-unfoldable pub of_number : (ℕ → Bool) → Scan → Bool
-of_number p Blank = false
-of_number p (Number v) = p v
-of_number p Wrong = false
+unfoldable pub of_number : (ℕ → Bool) → Option ℕ → Bool
+of_number p (Some v) = p v
+of_number p None = false
 
 unfoldable pub sheet_made : List ℕ → Bool
 sheet_made s =
     whole_lines (length s)
     && (letters_set (take coordinator_bytes s) && of_number (λ (issued : ℕ). decisions_made issued s) (figure 0 999 (take 4 s)))
 
-is_number_lem : (p : ℕ → Bool) (st : Scan) → of_number p st ≡ true → (st ≡ Number (number st)) × (p (number st) ≡ true)
-unfolding of_number number
-is_number_lem p Blank h = absurd (true≢false (sym h))
-is_number_lem p (Number v) h = (refl, h)
-is_number_lem p Wrong h = absurd (true≢false (sym h))
+is_number_lem : (p : ℕ → Bool) (st : Option ℕ) → of_number p st ≡ true → (st ≡ Some (number st)) × (p (number st) ≡ true)
+unfolding of_number
+is_number_lem p (Some v) h = (refl, h)
+is_number_lem p None h = absurd (true≢false (sym h))
 
 decisions_read_lem : (s : List ℕ) → (coordinator_of s).decisions ≡ map decision_in (pieces coordinator_bytes (length (drop coordinator_bytes s) / coordinator_bytes) (drop coordinator_bytes s))
 unfolding coordinator_of lines_of
@@ -90,11 +86,11 @@ head_parts s l =
 
 -- the first four bytes of a sheet that keeps the rules hold its count, and the letters after them are set
 pub readable_head : (s : List ℕ) → coordinator_readable s ≡ true
-    → (figure 0 999 (take 4 s) ≡ Number (coordinator_of s).issued) × (letters_set (take coordinator_bytes s) ≡ true)
+    → (figure 0 999 (take 4 s) ≡ Some (coordinator_of s).issued) × (letters_set (take coordinator_bytes s) ≡ true)
 readable_head s h =
     let f = figure 0 999 (take 4 s) in
     let p = sym (head_parts s (readable_length s h)) ∙ (readable_parts s h).head in
-    (is_number-number f (and_fst (is_number f) (letters_set (take coordinator_bytes s)) p) ∙ ap Number (issued_at s), and_snd (is_number f) (letters_set (take coordinator_bytes s)) p)
+    (is_number-number f (and_fst (is_number f) (letters_set (take coordinator_bytes s)) p) ∙ ap Some (issued_at s), and_snd (is_number f) (letters_set (take coordinator_bytes s)) p)
 
 -- The lines cut at the issued count.
 
@@ -225,7 +221,7 @@ module _ (s : List ℕ) (each : Bytes s) where
       (and_both letters (ap (of_number (λ (issued : ℕ). decisions_made issued s)) head.0 ∙ pass))
 
   passes_readable : sheet_made s ≡ true → coordinator_readable s ≡ true
-  unfolding sheet_made is_number coordinator_good
+  unfolding sheet_made coordinator_good
   passes_readable h =
       let w = whole_parts (length s) (search tests) in
       let f = figure 0 999 (take 4 s) in
@@ -271,7 +267,7 @@ module _ (s : List ℕ) (issued : ℕ) (whole : whole_lines (length s) ≡ true)
       let w = whole_parts (length s) whole in
       record { order = omega arith; few = omega arith; long = omega arith; counted = q }
 
-  pub ready_high : (before : ℕ) → figure 0 999 (take 4 s) ≡ Number issued → before ≡ loaded (take 4 s) → Ready s issued (count s) before
+  pub ready_high : (before : ℕ) → figure 0 999 (take 4 s) ≡ Some issued → before ≡ loaded (take 4 s) → Ready s issued (count s) before
   ready_high before f q =
       let w = whole_parts (length s) whole in
       let n : length (take 4 s) ≡ 4 = simp length-take (omega arith) in
@@ -292,15 +288,16 @@ passes_are issued s any none low high l e f p q =
     let z : issued - 0 ≡ issued = omega arith in
     rw (p, q, e, f, z, le-leb issued (count s) l)
 
-pub not-whole : (s : List ℕ) → whole_lines (length s) ≡ false → false ≡ sheet_made s
-unfolding sheet_made
-not-whole s h = rw h
+module _ (s : List ℕ) (b : Bytes s) where
+  pub not-whole : whole_lines (length s) ≡ false → false ≡ coordinator_readable s
+  unfolding sheet_made
+  not-whole h = rw (readable_made s b, h)
 
-pub not_lettered : (s : List ℕ) → whole_lines (length s) ≡ true → letters_set (take coordinator_bytes s) ≡ false → false ≡ sheet_made s
-unfolding sheet_made
-not_lettered s h l = rw (h, l)
+  pub not_lettered : whole_lines (length s) ≡ true → letters_set (take coordinator_bytes s) ≡ false → false ≡ coordinator_readable s
+  unfolding sheet_made
+  not_lettered h l = rw (readable_made s b, h, l)
 
-pub by_count : (s : List ℕ) (st : Scan) → whole_lines (length s) ≡ true → letters_set (take coordinator_bytes s) ≡ true → st ≡ figure 0 999 (take 4 s)
-    → of_number (λ (issued : ℕ). decisions_made issued s) st ≡ sheet_made s
-unfolding sheet_made
-by_count s st h l e = rw (h, l, e)
+  pub by_count : (r : Option ℕ) → whole_lines (length s) ≡ true → letters_set (take coordinator_bytes s) ≡ true → r ≡ figure 0 999 (take 4 s)
+      → of_number (λ (issued : ℕ). decisions_made issued s) r ≡ coordinator_readable s
+  unfolding sheet_made
+  by_count r h l e = rw (readable_made s b, h, l, e)

@@ -1,5 +1,6 @@
 // The head of a coordinator sheet, after its count.
 ghost use Rattle.std.specs.Prelude.{◌≡◌, length};
+ghost use Rattle.lists.specs.Each.{all};
 ghost use Rattle.model.specs.Layouts.{coordinator_bytes};
 ghost use Rattle.model.specs.Coordinator.{all_capitals};
 ghost use Rattle.sheet_laws.specs.Letters.{units_in};
@@ -11,39 +12,31 @@ use types::LINE_END;
 fn is_unit(b: u8) -> bool
     ensures { result ≡ is_unit b }
 {
-    (b == b'R')
-        | (b == b'P')
-        | (b == b'T')
-        | (b == b'N')
-        | (b == b'S')
-        | (b == b'r')
-        | (b == b'p')
-        | (b == b't')
-        | (b == b'n')
-        | (b == b's')
+    matches!(
+        b,
+        b'R' | b'P' | b'T' | b'N' | b'S' | b'r' | b'p' | b't' | b'n' | b's'
+    )
+}
+
+// Unit letters alone.
+fn units(letters: &[u8]) -> bool
+    ensures { result ≡ all is_unit letters.now }
+{
+    letters.iter().all(|b| is_unit(*b))
 }
 
 // A space, nine unit letters and LF.
+#[tactic(auto, using(crate::specs::Head::units_here))]
 pub fn letters_ok(head: &[u8]) -> bool
     requires { length head.now ≡ coordinator_bytes }
     ensures { result ≡ letters_set head.now }
 {
-    let mut good = head[4] == b' ';
-    for i in 5..LINE_END {
-        good = good & is_unit(head[i]);
-    }
-    good & (head[LINE_END] == b'\n')
+    (head[4] == b' ') & units(&head[5..LINE_END]) & (head[LINE_END] == b'\n')
 }
 
 // None of the letters is a small one; these come after the capitals.
 pub fn capitals(letters: &[u8]) -> bool
     ensures { result ≡ all_capitals (units_in letters.now) }
 {
-    let n = letters.len();
-    for i in 0..n {
-        if b'a' <= letters[i] {
-            return false;
-        }
-    }
-    true
+    letters.iter().all(|b| *b < b'a')
 }

@@ -1,7 +1,7 @@
 // The check of a coordinator sheet by itself, and against the numbers that records name.
 #![tactic(auto)]
 
-ghost use Rattle.std.specs.Prelude.{◌≡◌, true};
+ghost use Rattle.std.specs.Prelude.{◌≡◌, ◌≤◌, true};
 ghost use Rattle.model.specs.Records.{records_accepted};
 ghost use Rattle.model.specs.Coordinator.{coordinator_readable, coordinator_accepted};
 ghost use Rattle.model.specs.SheetCalls.{all_issued};
@@ -10,16 +10,17 @@ ghost use Rattle.coordinator_check.specs.Sheet.{whole_lines};
 mod head;
 mod lines;
 
-use decimal::Scan;
-use line_bytes::half;
+use line_bytes::number;
 use types::{
     BEFORE_TXID_AT, COORDINATOR_BYTES, LEAST_COORDINATOR_BYTES, LINE_END, MOST_COORDINATOR_BYTES,
     RECORD_BYTES, TXID_AT,
 };
 
 // A head and 1 to 999 lines of 15 bytes.
+#[tactic(auto, unfolding(crate::specs::Sheet::whole_lines))]
 fn whole_lines(size: usize) -> bool
-    ensures { result ≡ whole_lines size }
+    ensures value { result ≡ whole_lines size }
+    ensures headed { result ≡ true → 30 ≤ size }
 {
     (LEAST_COORDINATOR_BYTES <= size)
         & (size <= MOST_COORDINATOR_BYTES)
@@ -36,11 +37,10 @@ pub fn coordinator_readable(coordinator: &[u8]) -> bool
     if !head::letters_ok(&coordinator[..COORDINATOR_BYTES]) {
         return false;
     }
-    match decimal::read(&coordinator[..4], 0, 999) {
-        Scan::Number(issued) => lines::decisions_ok(coordinator, issued as usize),
-        Scan::Blank => false,
-        Scan::Wrong => false,
-    }
+    let Some(issued) = decimal::read(&coordinator[..4], 0, 999) else {
+        return false;
+    };
+    lines::decisions_ok(coordinator, issued as usize)
 }
 
 // Whether it is, besides, one of capitals: small letters are for two sheets only.
@@ -60,11 +60,11 @@ pub fn all_issued(records: &[u8], coordinator: &[u8]) -> bool
     requires coordinator_value { coordinator_readable coordinator.now ≡ true }
     ensures { result ≡ all_issued records.now coordinator.now }
 {
-    let issued = half(coordinator, 0);
+    let issued = number::<4>(coordinator, 0);
     let count = records.len() / RECORD_BYTES;
     for i in 0..count {
-        let txid = half(records, i * RECORD_BYTES + TXID_AT);
-        let before_txid = half(records, i * RECORD_BYTES + BEFORE_TXID_AT);
+        let txid = number::<4>(records, i * RECORD_BYTES + TXID_AT);
+        let before_txid = number::<4>(records, i * RECORD_BYTES + BEFORE_TXID_AT);
         if txid > issued {
             return false;
         }

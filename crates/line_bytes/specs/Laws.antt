@@ -10,7 +10,7 @@ use Rattle.lists.specs.Basics.{choose_by, tests}
 use Rattle.std.proofs.Common.{add-zero, mul-le-mul_right, pow-suc, ◌∙◌}
 use Rattle.std.proofs.Math.Nat.{pow-le-pow_right}
 use Rattle.decimal.specs.Field.{is_digit, stepped, scanned, within, figure, is_number}
-use Rattle.decimal.specs.declared.Scan.TheVariants.{Blank, Number, Wrong}
+use Rattle.decimal.specs.Scan.Scan.{Blank, Number, Wrong}
 use Rattle.line_bytes.specs.Parts.{Part, text, number, width, part_ok, parts_ok}
 use Rattle.line_bytes.specs.Tables.{Room, higher, lower, judged, judged_line, line_ok, ColumnBytes, fixed, columns, part_columns, layout_columns, lows}
 use Rattle.line_bytes.specs.Tables.{highs, alsos, part_set_well, set_well, total}
@@ -125,7 +125,7 @@ not_nine b d = ne_eqb b 57 (λ q. true≢false (rw q at d))
 
 -- nothing mends a wrong field
 wrong : (s : List ℕ) (low high : ℕ) → is_number (within low high (scanned Wrong s)) ≡ false
-unfolding scanned stepped within is_number
+unfolding scanned stepped within
 wrong [] low high = refl
 wrong (b ∷ s) low high = wrong s low high
 
@@ -159,7 +159,7 @@ digit_step p b also low high v rest s e h f =
 in_number : (k least high p v : ℕ) (s : List ℕ)
     → least ≤ 1 → eqb p 32 ≡ false → 1 ≤ v → (v + 1) * 10 ^ suc k ≤ suc high → length s ≡ suc k
     → pass p (columns k least) s ≡ is_number (within least high (scanned (Number v) s))
-unfolding judged_line columns scanned within is_number
+unfolding judged_line columns scanned within
 in_number k least high p v [] l e h m n = absurd (omega arith)
 in_number zero least high p v (b ∷ []) l e h m n =
     digit_step p b (cond (eqb least 0) 48 57) least high v true [] e h
@@ -175,7 +175,7 @@ in_number (suc k) least high p v (b ∷ s) l e h m n =
 
 -- a number that is too large with its columns to come stays so
 too_large : (low high v : ℕ) (s : List ℕ) → high < v * 10 ^ length s → is_number (within low high (scanned (Number v) s)) ≡ false
-unfolding scanned stepped within is_number
+unfolding scanned stepped within
 too_large low high v [] h = rw (lt-leb v high (omega arith), and-false)
 too_large low high v (b ∷ s) h =
     let r : v * 10 ^ suc (length s) ≤ (v * 10 + (b - 48)) * 10 ^ length s = scale_back (v * 10 + (b - 48)) v (length s) (omega arith) in
@@ -190,7 +190,7 @@ too_large low high v (b ∷ s) h =
 -- the last column of a figure that has not begun
 last_column : (least high b : ℕ) → Kind b → least ≤ 1 → 10 ≤ suc high
     → pass 32 (columns 0 least) (b ∷ []) ≡ is_number (within least high (scanned Blank (b ∷ [])))
-unfolding judged_line columns scanned stepped within is_number
+unfolding judged_line columns scanned stepped within
 last_column least high b (blank q) l m = rw q (go (eqb least 0))
   where
     go : (t : Bool) → (eqb 32 (cond t 48 57) && true) ≡ false
@@ -251,7 +251,7 @@ number_is k least p (b ∷ s) l n = rw (fixed_is p b 32) (go (kind b))
     go (other e d) = rw (d, e) (sym (wrong s least (10 ^ suc k - 1)))
 
 text_is : (t : List ℕ) (p : ℕ) (s : List ℕ) → length s ≡ length t → pass p (map fixed t) s ≡ eq_list s t
-unfolding judged_line eq_list
+unfolding judged_line
 text_is [] p [] n = refl
 text_is [] p (b ∷ s) n = absurd (omega arith)
 text_is (x ∷ t) p [] n = absurd (omega arith)
@@ -279,7 +279,7 @@ part_length (number w least) e = let h : 2 ≤ w = search tests in rw columns-le
 
 -- the pass over a layout's columns is the layout's meaning, whatever byte stands left of the line
 parts-pass : (qs : List Part) (p : ℕ) (s : List ℕ) → set_well qs ≡ true → length s ≡ total qs → pass p (layout_columns qs) s ≡ parts_ok qs s
-unfolding judged_line set_well total layout_columns parts_ok eq_list
+unfolding judged_line set_well total layout_columns parts_ok
 parts-pass [] p [] e n = refl
 parts-pass [] p (b ∷ s) e n = absurd (omega arith)
 parts-pass (q ∷ qs) p s e n =

@@ -1,88 +1,82 @@
--- Bytes as one number of which the first weighs least, as a load takes them, and the turn to the number of which it weighs most: the lowest byte
--- of the one is taken off as the other takes it in.
-use Rattle.std.specs.Prelude.{◌≡◌, ◌+◌, ◌-◌, ◌*◌, ◌/◌, ◌%◌, ◌^◌, ◌≤◌, ◌<◌, ◌&&◌, ◌∷◌, ◌++◌}
-use Rattle.lists.specs.Basics.{refl, sym, ap₂, ℕ, zero, suc, eqb, true, List, [], length}
+-- Bytes as one number of which the first weighs least, as a load takes them.
+use Rattle.std.specs.Prelude.{◌≡◌, ◌+◌, ◌-◌, ◌*◌, ◌^◌, ◌≤◌, ◌<◌, ◌&&◌, ◌∷◌, ◌++◌}
+use Rattle.std.specs.Int.{w64, from_le_bytes}
+use Rattle.lists.specs.Basics.{refl, sym, ap, ap₂, ℕ, zero, suc, eqb, true, List, [], length, take, take_all, replicate, length-append}
 use Rattle.lists.specs.Basics.{drop, get_or, length-take, length-drop, drop-drop, drop-cons, take-add, arith, add-one, eqb-true, eq-eqb, eq_list, and_both}
 use Rattle.lists.specs.Basics.{same_test, tests}
-use Rattle.std.proofs.Common.{add_assoc, pow-suc, ◌∙◌}
+use Rattle.std.proofs.Common.{pow-suc, ◌∙◌}
+use Rattle.std.proofs.lemmas.List.{length-replicate}
 use Rattle.std.proofs.Math.Pow.{are_bytes}
 use Rattle.lists.specs.Bytes.{eq_list-append}
-use Rattle.line_bytes.specs.Order.{number_from, number_of, bytes_at, part_bytes, same_length}
+use Rattle.line_bytes.specs.Order.{bytes_at, part_bytes, same_length}
 
 unfoldable pub loaded : List ℕ → ℕ
 loaded [] = 0
 loaded (b ∷ s) = b + loaded s * 256
-
--- the lowest n bytes of a number, behind the digits to the base 256 of v
-unfoldable pub turned : (v n number : ℕ) → ℕ
-turned v zero number = v
-turned v (suc n) number = turned (v * 256 + number % 256) n (number / 256)
-
-turned-from : (n v : ℕ) (s : List ℕ) → length s ≡ n → are_bytes s ≡ true → turned v n (loaded s) ≡ number_from v s
-unfolding loaded turned number_from
-turned-from zero v [] l h = refl
-turned-from zero v (b ∷ s) l h = absurd (omega arith)
-turned-from (suc n) v [] l h = absurd (omega arith)
-turned-from (suc n) v (b ∷ s) l h =
-    let f : b < 256 = search tests in
-    let p : are_bytes s ≡ true = search tests in
-    let low : (b + loaded s * 256) % 256 ≡ b = omega arith in
-    let high : (b + loaded s * 256) / 256 ≡ loaded s = omega arith in
-    rw (low, high) (turned-from n (v * 256 + b) s (omega arith) p)
-
--- the n bytes at `at`, loaded and turned
-pub turned_is : (s : List ℕ) (n at : ℕ) → ((i : ℕ) → get_or s i 0 < 256) → at + n ≤ length s
-    → turned 0 n (loaded (bytes_at s n at)) ≡ number_of (bytes_at s n at)
-turned_is s n at h g = turned-from n 0 (bytes_at s n at) (simp (length-take, length-drop) (omega arith)) (part_bytes s n at h)
-
--- one turn of the code's loop
-pub turned_next : (v i n number : ℕ) → i < n → turned v (n - i) number ≡ turned (v * 256 + number % 256) (n - (i + 1)) (number / 256)
-unfolding turned
-turned_next v i n number l = let e : n - i ≡ suc (n - (i + 1)) = omega arith in rw e
 
 -- the byte at `at` and the n after it
 loaded_next : (s : List ℕ) (n at : ℕ) → at < length s → loaded (bytes_at s (suc n) at) ≡ get_or s at 0 + loaded (bytes_at s n (at + 1)) * 256
 unfolding loaded
 loaded_next s n at h = rw (drop-cons s at 0 h, add-one at)
 
-pub loaded_four : (s : List ℕ) (at : ℕ) → at + 4 ≤ length s
-    → get_or s at 0 + get_or s (at + 1) 0 * 256 + get_or s (at + 2) 0 * 65536 + get_or s (at + 3) 0 * 16777216 ≡ loaded (bytes_at s 4 at)
-unfolding loaded
-loaded_four s at h =
-    let e0 = loaded_next s 3 at (omega arith) in
-    let e1 = rw (add_assoc at 1 1) at (loaded_next s 2 (at + 1) (omega arith)) in
-    let e2 = rw (add_assoc at 2 1) at (loaded_next s 1 (at + 2) (omega arith)) in
-    let e3 = loaded_next s 0 (at + 3) (omega arith) in
-    omega (arith, e0, e1, e2, e3)
-
-pub loaded-two : (s : List ℕ) (at : ℕ) → at + 2 ≤ length s → get_or s at 0 + get_or s (at + 1) 0 * 256 ≡ loaded (bytes_at s 2 at)
-unfolding loaded
-loaded-two s at h = omega (arith, loaded_next s 1 at (omega arith), loaded_next s 0 (at + 1) (omega arith))
-
 pub loaded-append : (s t : List ℕ) → loaded (s ++ t) ≡ loaded s + loaded t * 256 ^ length s
 unfolding loaded
 loaded-append [] t = omega arith
 loaded-append (b ∷ s) t = rw (loaded-append s t, pow-suc 256 (length s)) (omega arith)
 
--- eight bytes as twice four
-pub loaded_eight : (s : List ℕ) (at : ℕ) → at + 8 ≤ length s
-    → loaded (bytes_at s 4 at) + loaded (bytes_at s 4 (at + 4)) * 2 ^ 32 ≡ loaded (bytes_at s 8 at)
-loaded_eight s at h =
-    let l : length (bytes_at s 4 at) ≡ 4 = simp (length-take, length-drop) (omega arith) in
-    rw (take-add 4 4 (drop at s), drop-drop 4 at s, loaded-append (bytes_at s 4 at) (bytes_at s 4 (at + 4)), l)
+-- eight bytes, as the library adds them up
+eight_loaded : (s : List ℕ) → length s ≡ 8 → from_le_bytes w64 s ≡ loaded s
+unfolding loaded
+eight_loaded s l =
+    let e0 = loaded_next s 7 0 (omega arith) in
+    let e1 = loaded_next s 6 1 (omega arith) in
+    let e2 = loaded_next s 5 2 (omega arith) in
+    let e3 = loaded_next s 4 3 (omega arith) in
+    let e4 = loaded_next s 3 4 (omega arith) in
+    let e5 = loaded_next s 2 5 (omega arith) in
+    let e6 = loaded_next s 1 6 (omega arith) in
+    let e7 = loaded_next s 0 7 (omega arith) in
+    let w : take 8 s ≡ s = take_all 8 s (omega arith) in
+    let e : from_le_bytes w64 s ≡ loaded (take 8 s) = omega (arith, e0, e1, e2, e3, e4, e5, e6, e7) in
+    e ∙ ap loaded w
 
--- eight bytes without the first two
-pub loaded_six : (s : List ℕ) (at : ℕ) → ((i : ℕ) → get_or s i 0 < 256) → 2 ≤ at → at + 6 ≤ length s
-    → loaded (bytes_at s 8 (at - 2)) / 65536 ≡ loaded (bytes_at s 6 at)
-loaded_six s at h l g =
-    let j : at - 2 + 1 + 1 ≡ at = omega arith in
-    let e0 = loaded_next s 7 (at - 2) (omega arith) in
-    let e1 = rw j at (loaded_next s 6 (at - 2 + 1) (omega arith)) in
-    omega (arith, e0, e1, h (at - 2), h (at - 2 + 1))
+-- zeros behind bytes weigh nothing
+loaded_zeros : (n k : ℕ) → loaded (drop n (replicate k 0)) ≡ 0
+unfolding loaded
+loaded_zeros zero zero = refl
+loaded_zeros zero (suc k) = let e = loaded_zeros zero k in omega arith
+loaded_zeros (suc n) zero = refl
+loaded_zeros (suc n) (suc k) = loaded_zeros n k
+
+-- n bytes before zeros, loaded
+pub load_is : (s u : List ℕ) (n at : ℕ) → n ≤ 8 → at + n ≤ length s → u ≡ take (at + n - at) (drop at s)
+    → from_le_bytes w64 (u ++ drop n (replicate 8 0)) ≡ loaded (bytes_at s n at)
+load_is s u n at few h e =
+    let j : at + n - at ≡ n = omega arith in
+    let f : u ≡ bytes_at s n at = rw j at e in
+    let l : length (bytes_at s n at) ≡ n = simp (length-take, length-drop) (omega arith) in
+    let k : length (bytes_at s n at ++ drop n (replicate 8 0)) ≡ 8 = simp (length-append, length-drop, length-replicate) (omega arith) in
+    rw f
+    (eight_loaded (bytes_at s n at ++ drop n (replicate 8 0)) k
+    ∙ (loaded-append (bytes_at s n at) (drop n (replicate 8 0)) ∙ rw (loaded_zeros n 8) (omega arith)))
+
+loaded_below : (s : List ℕ) → are_bytes s ≡ true → loaded s < 256 ^ length s
+unfolding loaded
+loaded_below [] h = omega arith
+loaded_below (b ∷ s) h =
+    let f : b < 256 = search tests in
+    let p : are_bytes s ≡ true = search tests in
+    let r = loaded_below s p in
+    rw (pow-suc 256 (length s)) (omega arith)
+
+pub load_room : (s : List ℕ) (n at : ℕ) → ((i : ℕ) → get_or s i 0 < 256) → at + n ≤ length s → loaded (bytes_at s n at) < 256 ^ n
+load_room s n at h g =
+    let l : length (bytes_at s n at) ≡ n = simp (length-take, length-drop) (omega arith) in
+    rw l at (loaded_below (bytes_at s n at) (part_bytes s n at h))
 
 -- bytes are equal as their numbers are
 pub loaded_equal : (s t : List ℕ) → are_bytes s ≡ true → are_bytes t ≡ true → length s ≡ length t → eqb (loaded s) (loaded t) ≡ eq_list s t
-unfolding loaded eq_list
+unfolding loaded
 loaded_equal [] [] g h n = refl
 loaded_equal [] (b ∷ t) g h n = absurd (omega arith)
 loaded_equal (a ∷ s) [] g h n = absurd (omega arith)

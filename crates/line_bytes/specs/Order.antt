@@ -1,11 +1,14 @@
 -- The order of two texts by their bytes, and a text as one number. Equal lengths of bytes order as their numbers do, since one byte more takes
 -- both numbers times 256 and adds less than that: what was less stays less, and what was equal is decided by the byte.
-use Rattle.std.specs.Prelude.{◌≡◌, ◌+◌, ◌*◌, ◌^◌, ◌≤◌, ◌<◌, ◌&&◌, ◌||◌, ◌∷◌}
-use Rattle.lists.specs.Basics.{refl, sym, ℕ, zero, suc, eqb, ltb, Bool, true, false, cond, and_assoc, and-true}
+use Rattle.std.specs.Prelude.{◌≡◌, ◌+◌, ◌-◌, ◌*◌, ◌^◌, ◌≤◌, ◌<◌, ◌&&◌, ◌||◌, ◌∷◌, ◌++◌}
+use Rattle.std.specs.Int.{w64, from_be_bytes}
+use Rattle.lists.specs.Basics.{refl, sym, ap, ℕ, zero, suc, eqb, ltb, Bool, true, false, cond, and_assoc, and-true}
 use Rattle.lists.specs.Basics.{and-false, or-false, List, [], length, take, drop, get_or, length-take, length-drop, drop-drop, take-add, get_or-drop, arith}
+use Rattle.lists.specs.Basics.{append-nil, drop_of_length-le, drop-cons, length-append, replicate, take_all}
+use Rattle.std.proofs.lemmas.List.{length-replicate}
 use Rattle.lists.specs.Basics.{add-one, eqb-true, eqb-false, ltb-true, ltb-false, eq-eqb, ne_eqb, lt-ltb, le-ltb, less, eq_list, and_both, same_test, tests}
 use Rattle.std.proofs.Common.{pow-suc, ◌∙◌}
-use Rattle.std.proofs.Math.Nat.{pow-le-pow_right}
+use Rattle.std.proofs.Math.Nat.{mul-le-mul_right}
 use Rattle.std.proofs.Math.Pow.{are_bytes}
 use Rattle.lists.specs.Order.{decided, regroup, less-append}
 
@@ -53,7 +56,7 @@ number-less v u (a ∷ s) (b ∷ t) g h n =
 
 number_equal : (v u : ℕ) (s t : List ℕ) → are_bytes s ≡ true → are_bytes t ≡ true → length s ≡ length t
     → eqb (number_from v s) (number_from u t) ≡ (eqb v u && eq_list s t)
-unfolding number_from eq_list
+unfolding number_from
 number_equal v u [] [] g h n = simp and-true
 number_equal v u [] (b ∷ t) g h n = absurd (omega arith)
 number_equal v u (a ∷ s) [] g h n = absurd (omega arith)
@@ -72,13 +75,6 @@ less_is s t g h n = sym (number-less 0 0 s t g h n)
 pub equal_is : (s t : List ℕ) → are_bytes s ≡ true → are_bytes t ≡ true → length s ≡ length t → eq_list s t ≡ eqb (number_of s) (number_of t)
 equal_is s t g h n = sym (number_equal 0 0 s t g h n)
 
--- i bytes are a number below 256 ^ i, and more bytes have room for it
-pub number_room : (v i b : ℕ) → v < 256 ^ i → b < 256 → v * 256 + b < 256 ^ (i + 1)
-number_room v i b h g = rw (add-one, pow-suc) (omega arith)
-
-pub number_fits : (v i k : ℕ) → v < 256 ^ i → i ≤ k → v < 256 ^ k
-number_fits v i k h g = omega (arith, pow-le-pow_right {n = 256} (omega arith) {i = i} {j = k} g)
-
 -- the n bytes at `at`
 abbrev pub bytes_at : List ℕ → (n at : ℕ) → List ℕ
 bytes_at s n at = take n (drop at s)
@@ -91,6 +87,62 @@ part_bytes s n at h = all n (drop at s) (λ i. rw get_or-drop (h (at + i)))
     all zero t h = refl
     all (suc n) [] h = refl
     all (suc n) (b ∷ t) h = and_both (lt-ltb b 256 (h 0)) (all n t (λ i. h (suc i)))
+
+-- The n bytes at `at`, as the library adds them up behind zeros.
+
+number_next : (v : ℕ) (s : List ℕ) (n at : ℕ) → at < length s → number_from v (bytes_at s (suc n) at) ≡ number_from (v * 256 + get_or s at 0) (bytes_at s n (at + 1))
+unfolding number_from
+number_next v s n at h = rw (drop-cons s at 0 h, add-one at)
+
+eight_bytes : (s : List ℕ) → length s ≡ 8 → from_be_bytes w64 s ≡ number_of s
+unfolding number_from
+eight_bytes s l =
+    let e = number_next 0 s 7 0 (omega arith)
+    ∙ (number_next _ s 6 1 (omega arith)
+    ∙ (number_next _ s 5 2 (omega arith)
+    ∙ (number_next _ s 4 3 (omega arith)
+    ∙ (number_next _ s 3 4 (omega arith) ∙ (number_next _ s 2 5 (omega arith) ∙ (number_next _ s 1 6 (omega arith) ∙ number_next _ s 0 7 (omega arith))))))) in
+    let w : take 8 s ≡ s = take_all 8 s (omega arith) in
+    let f : from_be_bytes w64 s ≡ number_of (take 8 s) = omega (arith, e) in
+    f ∙ ap number_of w
+
+number-append : (v : ℕ) (s t : List ℕ) → number_from v (s ++ t) ≡ number_from (number_from v s) t
+unfolding number_from
+number-append v [] t = refl
+number-append v (b ∷ s) t = number-append (v * 256 + b) s t
+
+number_zeros : (k n : ℕ) → number_from 0 (take k (replicate n 0)) ≡ 0
+unfolding number_from
+number_zeros zero n = refl
+number_zeros (suc k) zero = refl
+number_zeros (suc k) (suc n) = number_zeros k n
+
+pub number_is : (s u : List ℕ) (n at : ℕ) → n ≤ 8 → at + n ≤ length s → u ≡ take (at + n - at) (drop at s)
+    → from_be_bytes w64 (take (8 - n) (replicate 8 0) ++ (u ++ drop (8 - (8 - n)) (drop (8 - n) (replicate 8 0)))) ≡ number_of (bytes_at s n at)
+number_is s u n at few h e =
+    let j : at + n - at ≡ n = omega arith in
+    let f : u ≡ bytes_at s n at = rw j at e in
+    let o : List ℕ = replicate 8 0 in
+    let z = take (8 - n) o in
+    let l : length (z ++ bytes_at s n at) ≡ 8 = simp (length-append, length-take, length-drop, length-replicate) (omega arith) in
+    let k : length (drop (8 - n) o) ≤ 8 - (8 - n) = simp (length-drop, length-replicate) (omega arith) in
+    rw (f, drop_of_length-le (drop (8 - n) o) k, append-nil (bytes_at s n at))
+    (eight_bytes (z ++ bytes_at s n at) l ∙ (number-append 0 z (bytes_at s n at) ∙ ap (λ (v : ℕ). number_from v (bytes_at s n at)) (number_zeros (8 - n) 8)))
+
+number_below : (v : ℕ) (s : List ℕ) → are_bytes s ≡ true → number_from v s < suc v * 256 ^ length s
+unfolding number_from
+number_below v [] h = omega arith
+number_below v (b ∷ s) h =
+    let f : b < 256 = search tests in
+    let p : are_bytes s ≡ true = search tests in
+    let m : suc (v * 256 + b) ≤ suc v * 256 = omega arith in
+    rw (pow-suc 256 (length s)) (omega (arith, number_below (v * 256 + b) s p, mul-le-mul_right (256 ^ length s) m))
+
+pub number_room : (s : List ℕ) (n at : ℕ) → ((i : ℕ) → get_or s i 0 < 256) → at + n ≤ length s → number_of (bytes_at s n at) < 256 ^ n
+number_room s n at h g =
+    let l : length (bytes_at s n at) ≡ n = simp (length-take, length-drop) (omega arith) in
+    let r = rw l at (number_below 0 (bytes_at s n at) (part_bytes s n at h)) in
+    omega arith
 
 -- parts of two texts of bytes
 module _ (s t : List ℕ) (of-s : (i : ℕ) → get_or s i 0 < 256) (of-t : (i : ℕ) → get_or t i 0 < 256) where

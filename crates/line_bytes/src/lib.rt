@@ -2,43 +2,12 @@
 #![tactic(auto)]
 
 ghost use Rattle.std.specs.Prelude.{◌≡◌, ◌+◌, ◌^◌, ◌<◌, ◌≤◌, length, get_or, take, drop};
-ghost use Rattle.line_bytes.specs.Tables.{bit, higher, lower, as_long, Room, judged_at, line_ok};
+ghost use Rattle.line_bytes.specs.Tables.{as_long, Room, judged_at, line_ok};
 ghost use Rattle.lists.specs.Bytes.{eq_list};
 ghost use Rattle.lists.specs.Each.{less};
 ghost use Rattle.decimal.specs.Digits.{figure_at};
 ghost use Rattle.line_bytes.specs.Order.{number_of};
-ghost use Rattle.line_bytes.specs.Loads.{loaded, turned};
-
-// 1 for true and 0 for false.
-pub fn bit(t: bool) -> u8
-    ensures value { result ≡ bit t }
-    ensures upper_bound { result ≤ 1 }
-{
-    if t {
-        return 1;
-    }
-    0
-}
-
-// The higher of two bytes.
-fn higher(a: u8, b: u8) -> u8
-    ensures { result ≡ higher a b }
-{
-    if a < b {
-        return b;
-    }
-    a
-}
-
-// The lower of two bytes.
-fn lower(a: u8, b: u8) -> u8
-    ensures { result ≡ lower a b }
-{
-    if b < a {
-        return b;
-    }
-    a
-}
+ghost use Rattle.line_bytes.specs.Loads.{loaded};
 
 // Whether each table has an entry for each byte of the line.
 fn as_long(line: &[u8], low: &[u8], high: &[u8], also: &[u8]) -> bool
@@ -51,20 +20,21 @@ fn as_long(line: &[u8], low: &[u8], high: &[u8], also: &[u8]) -> bool
 // Whether the byte at `i` may stand there, with `p` on its left. No branch, so that a loop over it goes by vectors; a byte in its range is one that
 // drawing into the range leaves as it is, which takes fewer of their steps than two comparisons.
 fn stands(p: u8, line: &[u8], low: &[u8], high: &[u8], also: &[u8], i: usize) -> bool
-    requires i_in_bounds { i < length line.now }
-    requires i_in_bounds_2 { i < length low.now }
-    requires i_in_bounds_3 { i < length high.now }
-    requires i_in_bounds_4 { i < length also.now }
-    requires i_bound { get_or low.now i 0 < 255 }
+    requires in_line { i < length line.now }
+    requires in_low { i < length low.now }
+    requires in_high { i < length high.now }
+    requires in_also { i < length also.now }
+    requires room { get_or low.now i 0 < 255 }
     ensures { result ≡ judged_at i p low.now high.now also.now line.now }
 {
     let b = line[i];
     let open = p == 32;
-    let from = low[i] + bit(open);
-    (lower(higher(b, from), high[i]) == b) | (open & (b == also[i]))
+    let from = low[i] + u8::from(open);
+    (b.max(from).min(high[i]) == b) | (open & (b == also[i]))
 }
 
-// Whether every byte of the line after the first may stand in its column by these tables: one pass without an exit.
+// Whether every byte of the line after the first may stand in its column by these tables: one pass without an exit. It goes by an index, since each turn takes
+// a byte, the one on its left and an entry of three tables, which a chain of four zips says less plainly.
 pub fn line_ok(line: &[u8], low: &[u8], high: &[u8], also: &[u8]) -> bool
     requires { Room low.now }
     ensures { result ≡ line_ok line.now low.now high.now also.now }
@@ -80,14 +50,6 @@ pub fn line_ok(line: &[u8], low: &[u8], high: &[u8], also: &[u8]) -> bool
     good
 }
 
-// `b` at the width of a word.
-pub fn wide(b: u8) -> u64
-    ensures value { result ≡ b }
-    ensures upper_bound { result < 256 }
-{
-    b as u64
-}
-
 // The number that the n bytes at `at` make as digits, of which a space counts 0: the figure of a field that is known to hold one.
 pub fn figure(s: &[u8], at: usize, n: usize) -> u64
     requires n_in_bounds { at + n ≤ length s.now }
@@ -96,89 +58,44 @@ pub fn figure(s: &[u8], at: usize, n: usize) -> u64
     ensures upper_bound { result < 2 ^ 60 }
 {
     let mut v: u64 = 0;
-    for i in 0..n {
-        v = v * 10 + wide(s[at + i]) % 16;
+    for b in &s[at..at + n] {
+        v = v * 10 + u64::from(*b % 16);
     }
     v
 }
 
-// The four bytes at `at` as one number, the first byte weighing least. Written as a sum it compiles to one load.
-pub fn load_four(s: &[u8], at: usize) -> u64
-    requires { at + 4 ≤ length s.now }
-    ensures value { result ≡ loaded (take 4 (drop at s.now)) }
-    ensures upper_bound { result < 2 ^ 32 }
+// The N bytes at `at` as one number, the first byte weighing least. It compiles to one load.
+pub fn load<const N: usize>(s: &[u8], at: usize) -> u64
+    requires few { N ≤ 8 }
+    requires in_bounds { at + N ≤ length s.now }
+    ensures value { result ≡ loaded (take N (drop at s.now)) }
+    ensures upper_bound { result < 256 ^ N }
 {
-    wide(s[at])
-        + wide(s[at + 1]) * 0x100
-        + wide(s[at + 2]) * 0x1_0000
-        + wide(s[at + 3]) * 0x100_0000
+    let mut bytes = [0; 8];
+    bytes[..N].copy_from_slice(&s[at..at + N]);
+    u64::from_le_bytes(bytes)
 }
 
-// The eight bytes at `at` as one number, the first byte weighing least.
-pub fn load_eight(s: &[u8], at: usize) -> u64
-    requires { at + 8 ≤ length s.now }
-    ensures { result ≡ loaded (take 8 (drop at s.now)) }
+// The N bytes at `at` as one number, the first byte weighing most.
+pub fn number<const N: usize>(s: &[u8], at: usize) -> u64
+    requires few { N ≤ 8 }
+    requires in_bounds { at + N ≤ length s.now }
+    ensures value { result ≡ number_of (take N (drop at s.now)) }
+    ensures upper_bound { result < 256 ^ N }
 {
-    load_four(s, at) + load_four(s, at + 4) * 4294967296
+    let mut bytes = [0; 8];
+    bytes[8 - N..].copy_from_slice(&s[at..at + N]);
+    u64::from_be_bytes(bytes)
 }
 
-// The two bytes at `at` as one number, the first byte weighing least.
-pub fn load_two(s: &[u8], at: usize) -> u64
-    requires { at + 2 ≤ length s.now }
-    ensures { result ≡ loaded (take 2 (drop at s.now)) }
-{
-    wide(s[at]) + wide(s[at + 1]) * 0x100
-}
-
-// The six bytes at `at` as one number, the first byte weighing least: loaded with the two before them, which are dropped.
-pub fn load_six(s: &[u8], at: usize) -> u64
-    requires le_at { 2 ≤ at }
-    requires at_in_bounds { at + 6 ≤ length s.now }
-    ensures value { result ≡ loaded (take 6 (drop at s.now)) }
-    ensures upper_bound { result < 2 ^ 48 }
-{
-    load_eight(s, at - 2) / 65536
-}
-
-// The lowest n bytes of a number in the other order. It compiles to one step.
-fn turned(number: u64, n: usize) -> u64
-    requires { n ≤ 8 }
-    ensures value { result ≡ turned 0 n number }
-    ensures upper_bound { result < 256 ^ n }
-{
-    let mut v: u64 = 0;
-    let mut rest = number;
-    for i in 0..n {
-        v = v * 256 + rest % 256;
-        rest = rest / 256;
-    }
-    v
-}
-
-// The four bytes at `at` as one number, the first byte weighing most.
-pub fn half(s: &[u8], at: usize) -> u64
-    requires { at + 4 ≤ length s.now }
-    ensures value { result ≡ number_of (take 4 (drop at s.now)) }
-    ensures upper_bound { result < 2 ^ 32 }
-{
-    turned(load_four(s, at), 4)
-}
-
-// The eight bytes at `at` as one number, the first byte weighing most.
-pub fn word(s: &[u8], at: usize) -> u64
-    requires { at + 8 ≤ length s.now }
-    ensures { result ≡ number_of (take 8 (drop at s.now)) }
-{
-    turned(load_eight(s, at), 8)
-}
-
-// Whether the ten bytes at `a` of `s` are those at `b` of `t`: eight of them as a number, and the last two.
+// Whether the ten bytes at `a` of `s` are those at `b` of `t`: eight of them as a number, and the last two. Compared as slices, they made the check of 500
+// lines 15 to 20 % slower.
 pub fn ten_equal(s: &[u8], a: usize, t: &[u8], b: usize) -> bool
     requires a_in_bounds { a + 10 ≤ length s.now }
     requires b_in_bounds { b + 10 ≤ length t.now }
     ensures { result ≡ eq_list (take 10 (drop a s.now)) (take 10 (drop b t.now)) }
 {
-    (load_eight(s, a) == load_eight(t, b)) & (load_two(s, a + 8) == load_two(t, b + 8))
+    (load::<8>(s, a) == load::<8>(t, b)) & (load::<2>(s, a + 8) == load::<2>(t, b + 8))
 }
 
 // Whether the 12 bytes at `a` of `s` come before the 12 bytes at `b` of `t`: eight of them as a number, and four more where those are equal.
@@ -187,22 +104,23 @@ pub fn twelve_less(s: &[u8], a: usize, t: &[u8], b: usize) -> bool
     requires b_in_bounds { b + 12 ≤ length t.now }
     ensures { result ≡ less (take 12 (drop a s.now)) (take 12 (drop b t.now)) }
 {
-    let s0 = word(s, a);
-    let t0 = word(t, b);
+    let s0 = number::<8>(s, a);
+    let t0 = number::<8>(t, b);
     if s0 != t0 {
         return s0 < t0;
     }
-    half(s, a + 8) < half(t, b + 8)
+    number::<4>(s, a + 8) < number::<4>(t, b + 8)
 }
 
-// Whether the 20 bytes at `a` come before the 20 bytes at `b`: eight of them as a number, and twelve more where those are equal.
+// Whether the 20 bytes at `a` come before the 20 bytes at `b`: eight of them as a number, and twelve more where those are equal. Compared as slices, by `<`, they
+// made the check of 500 lines take 2.3 times as long.
 pub fn key_less(s: &[u8], a: usize, b: usize) -> bool
     requires a_in_bounds { a + 20 ≤ length s.now }
     requires b_in_bounds { b + 20 ≤ length s.now }
     ensures { result ≡ less (take 20 (drop a s.now)) (take 20 (drop b s.now)) }
 {
-    let a0 = word(s, a);
-    let b0 = word(s, b);
+    let a0 = number::<8>(s, a);
+    let b0 = number::<8>(s, b);
     if a0 != b0 {
         return a0 < b0;
     }

@@ -32,15 +32,14 @@ module _ (s : List ℕ) where
   read_room target i r = r.room ∙ read_count
 
   -- number i, from the row of the line that the code lends
-  pub read_next : (target row : List ℕ) (i : ℕ) → i < length s / coordinator_bytes → row ≡ row_of line_layout (take (i * coordinator_bytes + coordinator_bytes - i * coordinator_bytes) (drop (i * coordinator_bytes) s)) → ReadTo target i → ReadTo (set target i (get_or row 1 0)) (i + 1)
+  pub read_next : (target row : List ℕ) (i : ℕ) → i < length s / coordinator_bytes → row ≡ row_of line_layout (take coordinator_bytes (drop (i * coordinator_bytes) s)) → ReadTo target i → ReadTo (set target i (get_or row 1 0)) (i + 1)
   unfolding decision_field lines_of
   read_next target row i l e r =
-      let w : i * coordinator_bytes + coordinator_bytes - i * coordinator_bytes ≡ coordinator_bytes = omega arith in
       let n : i < length (map decision_field (lines_of coordinator_bytes s)) = omega (arith, read_count) in
       let g : get_or (map decision_field (lines_of coordinator_bytes s)) i 0 ≡ decision_field (take coordinator_bytes (drop (i * coordinator_bytes) s)) =
       get_or_any (map decision_field (lines_of coordinator_bytes s)) i 0 (decision_field []) n
       ∙ (get_or-map decision_field (lines_of coordinator_bytes s) i [] ∙ ap decision_field (get_or-pieces coordinator_bytes i (length s / coordinator_bytes) s l)) in
-      store_next (map decision_field (lines_of coordinator_bytes s)) target (get_or row 1 0) i n (ap (λ (x : List ℕ). get_or x 1 0) (rw w at e) ∙ sym g) r
+      store_next (map decision_field (lines_of coordinator_bytes s)) target (get_or row 1 0) i n (ap (λ (x : List ℕ). get_or x 1 0) e ∙ sym g) r
 
   pub read_last : (target : List ℕ) (i : ℕ) → length s / coordinator_bytes ≤ i → ReadTo target i → target ≡ map decision_field (lines_of coordinator_bytes s)
   read_last target i l r = store_last (map decision_field (lines_of coordinator_bytes s)) target i (let c = read_count in omega arith) r

@@ -2,84 +2,50 @@
 -- The two tests of the rules, range and no decision, are one pass, by induction on the decisions.
 use Rattle.std.specs.Prelude.{◌≡◌, ◌+◌, ◌-◌, ◌*◌, ◌/◌, ◌%◌, ◌≤◌, ◌<◌, ◌&&◌, ◌∷◌}
 use Rattle.std.proofs.Common.{◌∙◌}
-use Rattle.lists.specs.Basics.{refl, sym, ap, ap₂, ℕ, zero, suc, eqb, leb, Bool, true, false, and_assoc}
+use Rattle.lists.specs.Basics.{refl, sym, ap, ap₂, ℕ, zero, suc, eqb, leb, Bool, true, false, not, and_assoc}
 use Rattle.lists.specs.Basics.{and-true, and-false, List, [], map, length, take, drop, get_or, length-map, length-take, length-drop, arith, eqb-true, leb-true, eq-eqb}
-use Rattle.lists.specs.Basics.{ne_eqb, le-leb, lt-leb, all, same_test}
+use Rattle.lists.specs.Basics.{ne_eqb, all, same_test}
 use Rattle.std.proofs.Math.Dec.{leb-zero}
 use Rattle.lists.specs.Tests.{and_swap}
-use Rattle.lists.specs.Walks.{LeftFrom, left-first, left_here, left_last}
 use Rattle.model.specs.Layouts.{head_layout, decision_column, coordinator_bytes, head_fields}
 use Rattle.model.specs.Lines.{in_range, row_good}
 use Rattle.model.specs.Coordinator.{decision_of, letter_of, is_undecided, coordinator_good, all_capitals, coordinator_from, numbers_accepted}
 
--- the highest decision that may stand where k numbers of those from here on are issued
-unfoldable pub highest : ℕ → ℕ
-highest zero = 0
-highest (suc k) = 2
-
--- every decision may stand, where the first k are of issued numbers
+-- every decision is in range, and none stands from the issued count k on
 unfoldable pub decisions_pass : ℕ → List ℕ → Bool
-decisions_pass k [] = true
-decisions_pass k (d ∷ ds) = leb d (highest k) && decisions_pass (k - 1) ds
+decisions_pass k ds = all (λ (d : ℕ). leb d 2) ds && all (λ (d : ℕ). eqb d 0) (drop k ds)
 
-pub highest_open : (issued i : ℕ) → i < issued → 2 ≡ highest (issued - i)
-unfolding highest
-highest_open issued i l = let e : issued - i ≡ suc (issued - i - 1) = omega arith in rw e
+-- the tests of the rules are these
+ranged : (ds : List ℕ) → all (in_range decision_column) ds ≡ all (λ (d : ℕ). leb d 2) ds
+unfolding all in_range
+ranged [] = refl
+ranged (d ∷ ds) = ap₂ ◌&&◌ (ap (λ (b : Bool). b && leb d 2) (leb-zero d)) (ranged ds)
 
-pub highest_shut : (issued i : ℕ) → issued ≤ i → 0 ≡ highest (issued - i)
-unfolding highest
-highest_shut issued i l = let e : issued - i ≡ 0 = omega arith in rw e
+undecided : (ds : List ℕ) → all is_undecided (map decision_of ds) ≡ all (λ (d : ℕ). eqb d 0) ds
+unfolding all is_undecided decision_of
+undecided [] = refl
+undecided (zero ∷ ds) = undecided ds
+undecided (suc zero ∷ ds) = rw (ne_eqb 1 0 (λ e. omega arith))
+undecided (suc (suc d) ∷ ds) = rw (ne_eqb (suc (suc d)) 0 (λ e. omega arith))
 
--- a decision in range
-ranged : (d : ℕ) → in_range decision_column d ≡ leb d 2
-unfolding in_range
-ranged d = rw (leb-zero d)
-
--- the only number of no decision is 0
-none : (d : ℕ) → (in_range decision_column d && is_undecided (decision_of d)) ≡ leb d 0
-unfolding in_range is_undecided decision_of
-none zero = refl
-none (suc zero) = refl
-none (suc (suc d)) =
-    let e : leb (suc (suc d)) 0 ≡ false = lt-leb (suc (suc d)) 0 (omega arith) in
-    rw e (and-false (in_range decision_column (suc (suc d))))
-
--- the tests of the rules are the pass
 pub decisions_pass_lem : (k : ℕ) (ds : List ℕ) → (all (in_range decision_column) ds && all is_undecided (drop k (map decision_of ds))) ≡ decisions_pass k ds
-unfolding all decisions_pass highest
-decisions_pass_lem zero [] = refl
-decisions_pass_lem (suc k) [] = refl
-decisions_pass_lem zero (d ∷ ds) =
-    and_swap (in_range decision_column d) (all (in_range decision_column) ds) (is_undecided (decision_of d)) (all is_undecided (map decision_of ds))
-    ∙ ap₂ ◌&&◌ (none d) (decisions_pass_lem 0 ds)
-decisions_pass_lem (suc k) (d ∷ ds) =
-    let e : suc k - 1 ≡ k = omega arith in
-    and_assoc (in_range decision_column d) (all (in_range decision_column) ds) (all is_undecided (drop k (map decision_of ds)))
-    ∙ rw e (ap₂ ◌&&◌ (ranged d) (decisions_pass_lem k ds))
-
--- How far the decisions have been judged.
-abbrev pub PassedTo : (issued : ℕ) (ds : List ℕ) (i : ℕ) → Type 0
-PassedTo issued ds i = LeftFrom ds (decisions_pass (issued - i)) (decisions_pass issued ds) i
-
-pub pass-first : (issued : ℕ) (ds : List ℕ) → PassedTo issued ds 0
-pass-first issued ds = let e : issued - 0 ≡ issued = omega arith in rw e (left-first ds (decisions_pass issued))
-
-module _ (issued : ℕ) (ds : List ℕ) (i : ℕ) (here : i < length ds) (p : PassedTo issued ds i) where
-  pass-turn : (leb (get_or ds i 0) (highest (issued - i)) && decisions_pass (issued - (i + 1)) (drop (i + 1) ds)) ≡ decisions_pass issued ds
-  unfolding decisions_pass
-  pass-turn =
-      let e : issued - (i + 1) ≡ issued - i - 1 = omega arith in
-      rw e (left_here ds (decisions_pass (issued - i)) 0 (get_or ds i 0) (decisions_pass issued ds) i here refl p)
-
-  pub pass_bad : highest (issued - i) < get_or ds i 0 → false ≡ decisions_pass issued ds
-  pass_bad l = rw (lt-leb (get_or ds i 0) (highest (issued - i)) l) at pass-turn
-
-  pub pass_next : get_or ds i 0 ≤ highest (issued - i) → PassedTo issued ds (i + 1)
-  pass_next l = record { reached = omega arith; rest = rw (le-leb (get_or ds i 0) (highest (issued - i)) l) at pass-turn }
-
-pub pass_last : (issued : ℕ) (ds : List ℕ) (i : ℕ) → length ds ≤ i → PassedTo issued ds i → true ≡ decisions_pass issued ds
 unfolding decisions_pass
-pass_last issued ds i l p = left_last ds (decisions_pass (issued - i)) (decisions_pass issued ds) i l p
+decisions_pass_lem k ds = ap₂ ◌&&◌ (ranged ds) (ap (all is_undecided) (drop-map k ds) ∙ undecided (drop k ds))
+  where
+    drop-map : (k : ℕ) (ds : List ℕ) → drop k (map decision_of ds) ≡ map decision_of (drop k ds)
+    drop-map zero ds = refl
+    drop-map (suc k) [] = refl
+    drop-map (suc k) (d ∷ ds) = drop-map k ds
+
+-- no number past that of the last capital says one
+pub capitals_is : (letters : List ℕ) → all (λ (n : ℕ). leb n 4) letters ≡ all_capitals (map letter_of letters)
+unfolding all all_capitals letter_of
+capitals_is [] = refl
+capitals_is (n ∷ letters) = ap₂ ◌&&◌ (go (leb n 4)) (capitals_is letters)
+  where
+    go : (b : Bool) → b ≡ not (not b)
+    go true = refl
+    go false = refl
 
 -- what the code asks of numbers, in its order
 abbrev asked_of : List ℕ → Bool

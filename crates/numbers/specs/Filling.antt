@@ -19,9 +19,8 @@ module _ (w v : ℕ) (f : List ℕ → List ℕ) (s : List ℕ) (n : ℕ) where
   pub made_first : (target : List ℕ) → length target ≡ n * v → MadeTo target 0
   made_first target e = fill_first v (map f (pieces w n s)) target (e ∙ ap (λ (k : ℕ). k * v) (sym made_count))
 
-  pub made_next : (target t : List ℕ) (i : ℕ) → i < n → length t ≡ i * v + v - i * v → t ≡ f (take (i * w + w - i * w) (drop (i * w) s)) → MadeTo target i → MadeTo (take (i * v) target ++ (t ++ drop (i * v + v - i * v) (drop (i * v) target))) (i + 1)
+  pub made_next : (target t : List ℕ) (i : ℕ) → i < n → length t ≡ i * v + v - i * v → t ≡ f (take w (drop (i * w) s)) → MadeTo target i → MadeTo (take (i * v) target ++ (t ++ drop (i * v + v - i * v) (drop (i * v) target))) (i + 1)
   made_next target t i l k e m =
-      let ws : i * w + w - i * w ≡ w = omega arith in
       let vs : i * v + v - i * v ≡ v = omega arith in
       let p : i < length (pieces w n s) = omega (arith, length-pieces w n s) in
       let q : i < length (map f (pieces w n s)) = omega (arith, made_count) in
@@ -29,7 +28,7 @@ module _ (w v : ℕ) (f : List ℕ → List ℕ) (s : List ℕ) (n : ℕ) where
       get_or_any (map f (pieces w n s)) i [] (f []) q
       ∙ (get_or-map f (pieces w n s) i [] ∙ ap f (get_or-pieces w i n s l)) in
       rw (over-part target t (i * v) (i * v + v) k)
-      (fill_next v (map f (pieces w n s)) target t i q (rw ws at e ∙ sym g) (k ∙ vs) m)
+      (fill_next v (map f (pieces w n s)) target t i q (e ∙ sym g) (k ∙ vs) m)
 
   pub made_last : (target : List ℕ) (i : ℕ) → n ≤ i → MadeTo target i → target ≡ joined (map f (pieces w n s))
   made_last target i l m = fill_last v (map f (pieces w n s)) target i (let c = made_count in omega arith) m

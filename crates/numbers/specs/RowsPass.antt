@@ -1,12 +1,14 @@
 -- Records as numbers, judged row by row: each row by itself, and its key against the next row's. Where a row is in range,
 -- its record's numbers are the row again, so that the record's ranges need not be asked twice.
-use Rattle.std.specs.Prelude.{◌≡◌, ◌+◌, ◌-◌, ◌*◌, ◌/◌, ◌≤◌, ◌<◌, ◌&&◌, ◌∷◌}
+use Rattle.std.specs.Prelude.{◌≡◌, ◌+◌, ◌*◌, ◌/◌, ◌≤◌, ◌<◌, ◌&&◌, ◌∷◌}
 use Rattle.std.proofs.Common.{◌∙◌}
-use Rattle.lists.specs.Basics.{refl, sym, ap, ap₂, ℕ, eqb, Bool, true, false, List, [], map}
-use Rattle.lists.specs.Basics.{length, take, drop, get_or, length-map, drop_of_length-le, arith, eq-eqb, le-leb, all, and_fst, and_snd, and_both, same_test}
+use Rattle.lists.specs.Basics.{refl, sym, ap, ap₂, ℕ, zero, suc, eqb, Bool, true, false, List, [], map}
+use Rattle.lists.specs.Basics.{length, drop, get_or, length-map, length-take, length-drop, arith, eq-eqb, le-leb, all, and_fst, and_snd, and_both, same_test, and_assoc}
 use Rattle.lists.specs.All.{pieces_whole}
 use Rattle.lists.specs.Pieces.{get_or-pieces}
-use Rattle.lists.specs.Walks.{drop_here, LeftFrom, left_here, left_last}
+use Rattle.lists.specs.Chains.{all_is}
+use Rattle.lists.specs.Tests.{and_swap}
+use Rattle.std.specs.List.{list_all, zip}
 use Rattle.model.specs.Layouts.{record_layout, record_fields}
 use Rattle.model.specs.Lines.{row_good}
 use Rattle.model.specs.Records.{record_of, record_numbers, state_rule, good_alone, key_less, in_order, rising, records_good, rows, rows_accepted}
@@ -20,14 +22,9 @@ use Rattle.sheet_laws.specs.SparedNumbers.{rows-within, rows_front-count, rows_f
 unfoldable pub row_ok : List ℕ → Bool
 row_ok v = row_good record_layout v && state_rule (record_of v)
 
--- the key of row v comes before that of the next
-abbrev pub before : List ℕ → List (List ℕ) → Bool
-before v vs = in_order (record_of v) (map record_of vs)
-
 -- every row good by itself and before the next
 unfoldable pub rows_pass : List (List ℕ) → Bool
-rows_pass [] = true
-rows_pass (v ∷ vs) = row_ok v && (before v vs && rows_pass vs)
+rows_pass vs = all row_ok vs && rising (map record_of vs)
 
 abbrev whole : List ℕ → Bool
 whole v = eqb (length v) record_fields
@@ -46,70 +43,58 @@ row_good_lem v n =
     let e : record_numbers (record_of v) ≡ v = row_same v (and_both g n) in
     and_both g (and_both (ap (row_good record_layout) e ∙ g) (and_snd (row_good record_layout v) (state_rule (record_of v)) h)))
 
--- three tests of a list, asked one after another, are asked row by row
-regroup : (a p b q c r : Bool) → ((a && p) && ((b && q) && (c && r))) ≡ ((a && b) && (c && (p && (q && r))))
-regroup false p b q c r = refl
-regroup true false false q c r = refl
-regroup true false true q false r = refl
-regroup true false true q true r = refl
-regroup true true false q c r = refl
-regroup true true true false false r = refl
-regroup true true true false true r = refl
-regroup true true true true false r = refl
-regroup true true true true true r = refl
+each_good : (vs : List (List ℕ)) → all whole vs ≡ true → (all (row_good record_layout) vs && all good_alone (map record_of vs)) ≡ all row_ok vs
+unfolding all
+each_good [] n = refl
+each_good (v ∷ vs) n =
+    and_swap (row_good record_layout v) (all (row_good record_layout) vs) (good_alone (record_of v)) (all good_alone (map record_of vs))
+    ∙ ap₂ ◌&&◌ (row_good_lem v (and_fst (whole v) (all whole vs) n)) (each_good vs (and_snd (whole v) (all whole vs) n))
 
 pub rows_pass_lem : (vs : List (List ℕ)) → all whole vs ≡ true → (all (row_good record_layout) vs && (all good_alone (map record_of vs) && rising (map record_of vs))) ≡ rows_pass vs
-unfolding all rising rows_pass
-rows_pass_lem [] n = refl
-rows_pass_lem (v ∷ vs) n =
-    let i = rows_pass_lem vs (and_snd (whole v) (all whole vs) n) in
-    let r = row_good_lem v (and_fst (whole v) (all whole vs) n) in
-    regroup (row_good record_layout v) (all (row_good record_layout) vs) (good_alone (record_of v)) (all good_alone (map record_of vs)) (before v vs) (rising (map record_of vs))
-    ∙ ap₂ (λ (a b : Bool). a && (before v vs && b)) r i
-
--- How far the rows have been judged.
-abbrev pub JudgedTo : (v : List ℕ) (i : ℕ) → Type 0
-JudgedTo v i = LeftFrom (rows v) rows_pass (rows_pass (rows v)) i
-
--- row i
-abbrev pub row_at : List ℕ → ℕ → List ℕ
-row_at v i = take record_fields (drop (i * record_fields) v)
-
-module _ (v : List ℕ) (i : ℕ) (here : i < length v / record_fields) where
-  row_here : row_at v i ≡ get_or (rows v) i []
-  unfolding rows
-  row_here = sym (get_or-pieces record_fields i (length v / record_fields) v here)
-
-  rows-here : drop i (rows v) ≡ row_at v i ∷ drop (i + 1) (rows v)
-  rows-here = drop_here (rows v) i [] (row_at v i) (omega (arith, length-rows v)) row_here
-
-  judge_turn : JudgedTo v i → (row_ok (row_at v i) && (before (row_at v i) (drop (i + 1) (rows v)) && rows_pass (drop (i + 1) (rows v)))) ≡ rows_pass (rows v)
-  unfolding rows_pass
-  judge_turn j = left_here (rows v) rows_pass [] (row_at v i) (rows_pass (rows v)) i (omega (arith, length-rows v)) row_here j
-
-  pub judge_bad : JudgedTo v i → row_ok (row_at v i) ≡ false → false ≡ rows_pass (rows v)
-  judge_bad j e = rw e at (judge_turn j)
-
-  pub judge_late : JudgedTo v i → row_ok (row_at v i) ≡ true → before (row_at v i) (drop (i + 1) (rows v)) ≡ false → false ≡ rows_pass (rows v)
-  judge_late j e f = rw (e, f) at (judge_turn j)
-
-  pub judge_next : JudgedTo v i → row_ok (row_at v i) ≡ true → before (row_at v i) (drop (i + 1) (rows v)) ≡ true → JudgedTo v (i + 1)
-  judge_next j e f = record { reached = omega (arith, length-rows v); rest = rw (e, f) at (judge_turn j) }
-
--- the last row comes before none
-pub before-none : (v : List ℕ) (i : ℕ) → length v / record_fields ≤ i + 1 → true ≡ before (row_at v i) (drop (i + 1) (rows v))
-unfolding in_order
-before-none v i l =
-    let n : length (rows v) ≤ i + 1 = omega (arith, length-rows v) in
-    rw (drop_of_length-le (rows v) n)
-
-pub before_next : (v : List ℕ) (i : ℕ) → i + 1 < length v / record_fields → key_less (record_of (row_at v i)).key (record_of (row_at v (i + 1))).key ≡ before (row_at v i) (drop (i + 1) (rows v))
-unfolding in_order
-before_next v i l = rw (rows-here v (i + 1) l)
-
-pub judge_last : (v : List ℕ) (i : ℕ) → length v / record_fields ≤ i → JudgedTo v i → true ≡ rows_pass (rows v)
 unfolding rows_pass
-judge_last v i l j = left_last (rows v) rows_pass (rows_pass (rows v)) i (omega (arith, length-rows v)) j
+rows_pass_lem vs n =
+    sym (and_assoc (all (row_good record_layout) vs) (all good_alone (map record_of vs)) (rising (map record_of vs)))
+    ∙ ap (λ (b : Bool). b && rising (map record_of vs)) (each_good vs n)
+
+-- the key of the first row of a pair comes before that of the second
+abbrev pub ordered : List ℕ × List ℕ → Bool
+ordered p = key_less (record_of p.0).key (record_of p.1).key
+
+-- neighbours are the rows beside those from the second on
+pub rising_is : (vs : List (List ℕ)) → list_all ordered (zip vs (drop 1 vs)) ≡ rising (map record_of vs)
+unfolding rising in_order
+rising_is [] = refl
+rising_is (v ∷ []) = refl
+rising_is (v ∷ w ∷ vs) = ap (λ (b : Bool). ordered (v, w) && b) (rising_is (w ∷ vs))
+
+-- where the two rows of a pair stand
+pairs_at : (vs : List (List ℕ)) (k : ℕ) (p : List ℕ × List ℕ) → k < length (zip vs (drop 1 vs)) → p ≡ get_or (zip vs (drop 1 vs)) k p → (k + 1 < length vs) × (p.0 ≡ get_or vs k []) × (p.1 ≡ get_or vs (k + 1) [])
+pairs_at [] k p l e = absurd (omega arith)
+pairs_at (v ∷ []) k p l e = absurd (omega arith)
+pairs_at (v ∷ w ∷ vs) zero p l e = (omega arith, ap (λ (q : List ℕ × List ℕ). q.0) e, ap (λ (q : List ℕ × List ℕ). q.1) e)
+pairs_at (v ∷ w ∷ vs) (suc k) p l e =
+    let r = pairs_at (w ∷ vs) k p (omega arith) e in
+    let n : suc k + 1 ≡ suc (k + 1) = omega arith in
+    (omega (arith, r.0), r.1, r.2 ∙ ap (λ (i : ℕ). get_or (v ∷ w ∷ vs) i []) (sym n))
+
+-- both have sixteen numbers
+pub pair_whole : (v : List ℕ) (k : ℕ) (p : List ℕ × List ℕ) → k < length (zip (rows v) (drop 1 (rows v))) → p ≡ get_or (zip (rows v) (drop 1 (rows v))) k p → (length p.0 ≡ record_fields) × (length p.1 ≡ record_fields)
+unfolding rows
+pair_whole v k p l e =
+    let r = pairs_at (rows v) k p l e in
+    let n : k + 1 < length v / record_fields = omega (arith, r.0, length-rows v) in (
+      ap length (r.1 ∙ get_or-pieces record_fields k (length v / record_fields) v (omega arith)) ∙ simp (length-take, length-drop) (omega arith),
+      ap length (r.2 ∙ get_or-pieces record_fields (k + 1) (length v / record_fields) v n) ∙ simp (length-take, length-drop) (omega arith),
+    )
+
+-- a bad row settles it; with good rows alone, the order does
+pub stopped : (vs : List (List ℕ)) → list_all row_ok vs ≡ false → false ≡ rows_pass vs
+unfolding rows_pass
+stopped vs e = sym (ap (λ (b : Bool). b && rising (map record_of vs)) (sym (all_is row_ok vs) ∙ e))
+
+pub went_on : (vs : List (List ℕ)) → list_all row_ok vs ≡ true → list_all ordered (zip vs (drop 1 vs)) ≡ rows_pass vs
+unfolding rows_pass
+went_on vs e = rising_is vs ∙ sym (ap (λ (b : Bool). b && rising (map record_of vs)) (sym (all_is row_ok vs) ∙ e))
 
 rows_whole : (v : List ℕ) → length v ≡ length v / record_fields * record_fields → all whole (rows v) ≡ true
 unfolding rows
@@ -134,17 +119,6 @@ rows-sized v h =
     let w : length v ≡ length v / record_fields * record_fields = sized-whole record_fields v h in
     let l : length (rows_front v) / record_fields ≤ 500 = omega (arith, sized-few record_fields v h, rows-within v w, rows_front-count v w) in
     sym (ap (λ (x : Bool). x && rows_accepted (rows_front v)) h ∙ few-rows (rows_front v) (rows_front-whole v w) l)
-
--- Row i as the code lends it, and the row after it.
-
-pub row-part : (v : List ℕ) (i : ℕ) → take (i * record_fields + record_fields - i * record_fields) (drop (i * record_fields) v) ≡ row_at v i
-row-part v i = let w : i * record_fields + record_fields - i * record_fields ≡ record_fields = omega arith in rw w
-
-pub row_part_next : (v : List ℕ) (i : ℕ) → take (i * record_fields + record_fields + record_fields - (i * record_fields + record_fields)) (drop (i * record_fields + record_fields) v) ≡ row_at v (i + 1)
-row_part_next v i =
-    let w : i * record_fields + record_fields + record_fields - (i * record_fields + record_fields) ≡ record_fields = omega arith in
-    let e : (i + 1) * record_fields ≡ i * record_fields + record_fields = omega arith in
-    rw (w, e)
 
 pub row_out : (v : List ℕ) → row_good record_layout v ≡ false → false ≡ row_ok v
 unfolding row_ok

@@ -1,13 +1,11 @@
 -- Spares behind records: where they begin, counted row by row from the end, and what stands in a target with the records filled first and the spares behind them.
-use Rattle.std.specs.Prelude.{◌+◌, ◌-◌, ◌*◌, ◌/◌, ◌≤◌, ◌<◌, ◌≡◌, ◌&&◌, ◌∷◌, ◌++◌}
+use Rattle.std.specs.Prelude.{◌+◌, ◌-◌, ◌*◌, ◌/◌, ◌≤◌, ◌<◌, ◌≡◌, ◌∷◌, ◌++◌}
 use Rattle.lists.specs.Basics.{ℕ, zero, suc, refl, sym, ap, ap₂, eqb, true, false, List, [], map}
-use Rattle.lists.specs.Basics.{length, take, drop, get_or, set, replicate, length-take, length-drop, ne_eqb, eq-eqb, take_all, arith, all, joined}
+use Rattle.lists.specs.Basics.{length, take, drop, replicate, length-drop, ne_eqb, take_all, arith, add-one, all, joined}
 use Rattle.std.proofs.lemmas.List.{length-replicate, get_or-replicate}
 use Rattle.std.proofs.Common.{take-suc, length-take-le, ◌∙◌}
 use Rattle.lists.specs.Pieces.{over-part, length-pieces, get_or-pieces}
-use Rattle.lists.specs.Walks.{LeftFrom, left_here, left_last}
-use Rattle.lists.specs.Fill.{FilledTo, fill_first, fill_next, fill_last, StoredTo, store_next, front_length, front_rest, front_back}
-use Rattle.decimal.specs.Word.{put_word, put_fits_lem}
+use Rattle.lists.specs.Fill.{FilledTo, fill_first, fill_next, fill_last, front_length, front_rest, front_back}
 use Rattle.model.specs.Layouts.{record_layout, record_bytes, record_fields}
 use Rattle.model.specs.Lines.{row_of, line_text, lines_of}
 use Rattle.model.specs.Records.{rows}
@@ -28,25 +26,12 @@ unfoldable pub lines_written : List ℕ → List ℕ
 lines_written v =
     joined (map (line_text record_layout) (rows (rows_front v))) ++ spares_text record_bytes (length v / record_fields - filled_rows v)
 
--- A row of zeros, judged number by number.
-
-abbrev pub ZeroTo : List ℕ → ℕ → Type 0
-ZeroTo row i = LeftFrom row (all (eqb 0)) (all (eqb 0) row) i
-
-module _ (row : List ℕ) (i : ℕ) where
-  zero_turn : i < length row → ZeroTo row i → (eqb 0 (get_or row i 0) && all (eqb 0) (drop (i + 1) row)) ≡ all (eqb 0) row
-  unfolding all
-  zero_turn l z = left_here row (all (eqb 0)) 0 (get_or row i 0) (all (eqb 0) row) i l refl z
-
-  pub zero_stop : i < length row → ZeroTo row i → (get_or row i 0 ≡ 0 → ⊥) → false ≡ all (eqb 0) row
-  zero_stop l z n = rw (ne_eqb 0 (get_or row i 0) (λ e. n (sym e))) at (zero_turn l z)
-
-  pub zero_next : i < length row → ZeroTo row i → get_or row i 0 ≡ 0 → ZeroTo row (i + 1)
-  zero_next l z e = record { reached = omega arith; rest = rw (eq-eqb 0 (get_or row i 0) (sym e)) at (zero_turn l z) }
-
-  pub zero_last : length row ≤ i → ZeroTo row i → true ≡ all (eqb 0) row
-  unfolding all
-  zero_last l z = left_last row (all (eqb 0)) (all (eqb 0) row) i l z
+-- whichever side 0 stands on
+pub zeros_is : (row : List ℕ) → all (λ (x : ℕ). eqb x 0) row ≡ all (eqb 0) row
+unfolding all
+zeros_is [] = refl
+zeros_is (zero ∷ row) = zeros_is row
+zeros_is (suc x ∷ row) = rw (ne_eqb (suc x) 0 (λ e. omega arith), ne_eqb 0 (suc x) (λ e. omega arith))
 
 -- Counting from the end.
 
@@ -68,51 +53,46 @@ module _ (v : List ℕ) where
         kept = ap (trimmed (all (eqb 0))) (take_all (length v / record_fields) (rows v) (omega (arith, count_rows_lem)));
       }
 
-  -- the last of the first n rows, as the code lends it
-  abbrev last_row : ℕ → List ℕ
-  last_row n = take (n * record_fields - (n * record_fields - record_fields)) (drop (n * record_fields - record_fields) v)
+  -- row i, as the code lends it
+  abbrev lent : ℕ → List ℕ
+  lent i = take (i * record_fields + record_fields - i * record_fields) (drop (i * record_fields) v)
 
-  last_row_lem : (n : ℕ) → 0 < n → n ≤ length v / record_fields → take n (rows v) ≡ take (n - 1) (rows v) ++ (last_row n ∷ [])
+  last_row_lem : (i : ℕ) → i < length v / record_fields → take (i + 1) (rows v) ≡ take i (rows v) ++ (lent i ∷ [])
   unfolding rows
-  last_row_lem n some l =
-      let m : suc (n - 1) ≡ n = omega arith in
-      let w : record_fields ≡ n * record_fields - (n * record_fields - record_fields) = omega arith in
-      let a : (n - 1) * record_fields ≡ n * record_fields - record_fields = omega arith in
-      ap (λ (k : ℕ). take k (rows v)) (sym m)
-      ∙ (take-suc (rows v) (n - 1) [] (omega (arith, count_rows_lem))
-      ∙ ap (λ (x : List ℕ). take (n - 1) (rows v) ++ (x ∷ []))
-      (get_or-pieces record_fields (n - 1) (length v / record_fields) v (omega arith) ∙ ap₂ (λ (k b : ℕ). take k (drop b v)) w a))
+  last_row_lem i l =
+      let w : record_fields ≡ i * record_fields + record_fields - i * record_fields = omega arith in
+      ap (λ (k : ℕ). take k (rows v)) (add-one i)
+      ∙ (take-suc (rows v) i [] (omega (arith, count_rows_lem))
+      ∙ ap (λ (x : List ℕ). take i (rows v) ++ (x ∷ []))
+      (get_or-pieces record_fields i (length v / record_fields) v l ∙ ap (λ (k : ℕ). take k (drop (i * record_fields) v)) w))
 
   -- it is no spare
-  pub no_spare_lem : (n : ℕ) → 0 < n → SparesFrom n → all (eqb 0) (last_row n) ≡ false → n ≡ filled_rows v
-  no_spare_lem n some f h =
+  pub no_spare_lem : (i : ℕ) → SparesFrom (i + 1) → all (eqb 0) (lent i) ≡ false → i + 1 ≡ filled_rows v
+  no_spare_lem i f h =
       let l = f.within in
-      let k : length (take (n - 1) (rows v)) ≡ n - 1 = length-take-le (n - 1) (rows v) (omega (arith, count_rows_lem)) in
-      let t : trimmed (all (eqb 0)) (take n (rows v)) ≡ suc (n - 1) =
-      ap (trimmed (all (eqb 0))) (last_row_lem n some l) ∙ (trimmed_fail (all (eqb 0)) (last_row n) (take (n - 1) (rows v)) h ∙ ap suc k) in
+      let k : length (take i (rows v)) ≡ i = length-take-le i (rows v) (omega (arith, count_rows_lem)) in
+      let t : trimmed (all (eqb 0)) (take (i + 1) (rows v)) ≡ suc i =
+      ap (trimmed (all (eqb 0))) (last_row_lem i (omega arith)) ∙ (trimmed_fail (all (eqb 0)) (lent i) (take i (rows v)) h ∙ ap suc k) in
       omega (arith, f.kept)
 
   -- it is one
-  pub one-spare : (n : ℕ) → 0 < n → SparesFrom n → all (eqb 0) (last_row n) ≡ true → SparesFrom (n - 1)
-  one-spare n some f h =
+  pub one-spare : (i : ℕ) → SparesFrom (i + 1) → all (eqb 0) (lent i) ≡ true → SparesFrom i
+  one-spare i f h =
       let l = f.within in
       record {
         within = omega arith;
         kept =
-            sym (ap (trimmed (all (eqb 0))) (last_row_lem n some l) ∙ trimmed-pass (all (eqb 0)) (last_row n) (take (n - 1) (rows v)) h)
+            sym (ap (trimmed (all (eqb 0))) (last_row_lem i (omega arith)) ∙ trimmed-pass (all (eqb 0)) (lent i) (take i (rows v)) h)
             ∙ f.kept;
       }
 
   -- no row is left
-  pub none_left : (n : ℕ) → n ≤ 0 → SparesFrom n → n ≡ filled_rows v
+  pub none_left : (n : ℕ) → n ≤ 0 → SparesFrom n → 0 ≡ filled_rows v
   unfolding trimmed
   none_left zero l f = f.kept
   none_left (suc n) l f = absurd (omega arith)
 
--- Filling with zeros, and with spares.
-
-pub zeros_next : (n i : ℕ) (target : List ℕ) → i < n → StoredTo (replicate n 0) target i → StoredTo (replicate n 0) (set target i 0) (i + 1)
-zeros_next n i target l f = store_next (replicate n 0) target 0 i (omega (arith, length-replicate {A = ℕ} n 0)) (sym (get_or-replicate n i 0 0 l)) f
+-- Filling with spares.
 
 abbrev pub SparedTo : ℕ → List ℕ → ℕ → Type 0
 SparedTo n target i = FilledTo record_bytes (replicate n (spare_line record_bytes)) target i
@@ -126,14 +106,10 @@ pub spared_room : (n i : ℕ) (target : List ℕ) → SparedTo n target i → le
 spared_room n i target f = f.room ∙ ap (λ (m : ℕ). m * record_bytes) (length-replicate n (spare_line record_bytes))
 
 -- spare i over the part that the code lends
-pub spared_next : (n i : ℕ) (target line t : List ℕ) → i < n → line ≡ spare_line record_bytes → t ≡ put_word (take (i * record_bytes + record_bytes - i * record_bytes) (drop (i * record_bytes) target)) line → SparedTo n target i → SparedTo n (take (i * record_bytes) target ++ (t ++ drop (i * record_bytes + record_bytes - i * record_bytes) (drop (i * record_bytes) target))) (i + 1)
-spared_next n i target line t l e q f =
-    let r = spared_room n i target f in
-    let w : length line ≡ record_bytes = ap length e ∙ length-spare record_bytes (omega arith) in
-    let k : length (take (i * record_bytes + record_bytes - i * record_bytes) (drop (i * record_bytes) target)) ≡ record_bytes = simp (length-take, length-drop) (omega arith) in
-    let p : t ≡ line = q ∙ put_fits_lem (take (i * record_bytes + record_bytes - i * record_bytes) (drop (i * record_bytes) target)) line (k ∙ sym w) in
-    let m : length t ≡ record_bytes = ap length p ∙ w in
-    rw (over-part target t (i * record_bytes) (i * record_bytes + record_bytes) (omega arith))
+pub spared_next : (n i : ℕ) (target line t : List ℕ) → i < n → line ≡ spare_line record_bytes → t ≡ line → SparedTo n target i → SparedTo n (take (i * record_bytes) target ++ (t ++ drop (i * record_bytes + record_bytes - i * record_bytes) (drop (i * record_bytes) target))) (i + 1)
+spared_next n i target line t l e p f =
+    let m : length t ≡ record_bytes = ap length (p ∙ e) ∙ length-spare record_bytes (omega arith) in
+    rw (over-part target t (i * record_bytes) (i * record_bytes + record_bytes) (m ∙ omega arith))
     (fill_next record_bytes (replicate n (spare_line record_bytes)) target t i (omega (arith, length-replicate n (spare_line record_bytes)))
     (p ∙ (e ∙ sym (get_or-replicate n i (spare_line record_bytes) [] l))) m f)
 

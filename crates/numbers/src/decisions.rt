@@ -4,54 +4,27 @@ ghost use Rattle.lists.specs.Each.{joined};
 ghost use Rattle.model.specs.Layouts.{coordinator_bytes, head_fields};
 ghost use Rattle.model.specs.Lines.{lines_of};
 ghost use Rattle.model.specs.Coordinator.{letter_of, all_capitals, numbers_accepted};
-ghost use Rattle.model.specs.Refusals.{refusal_of};
+ghost use Rattle.model.specs.Refusals.{refusal_of, refused_with};
 ghost use Rattle.model.specs.SheetCalls.{read_coordinator_conditions, decisions_read, write_coordinator_conditions, coordinator_written};
-ghost use Rattle.numbers.specs.Decisions.{highest, decisions_pass};
+ghost use Rattle.numbers.specs.Decisions.{decisions_pass};
 ghost use Rattle.numbers.specs.DecisionFills.{decision_field, line_texts, numbers_in, sheet_for};
 
-use types::{COORDINATOR_BYTES, HEAD_FIELDS, Layout};
-
-// The highest decision that may stand in line i: none from the issued count on.
-fn highest_at(issued: usize, i: usize) -> u32
-    ensures { result ≡ highest (issued - i) }
-{
-    if i < issued {
-        return 2;
-    }
-    0
-}
+use types::{COORDINATOR_BYTES, HEAD_FIELDS, Layout, Refusal};
 
 // Every decision is one of the three, and none stands from the issued count on.
 fn decisions_pass(decisions: &[u32], issued: usize) -> bool
     ensures { result ≡ decisions_pass issued decisions.now }
 {
-    let n = decisions.len();
-    for i in 0..n {
-        if highest_at(issued, i) < decisions[i] {
-            return false;
-        }
-    }
-    true
-}
-
-// A count of numbers issued, to compare with a length.
-fn as_count(issued: u32) -> usize
-    ensures { result ≡ issued }
-{
-    issued as usize
+    let ranged = decisions.iter().all(|decision| *decision <= 2);
+    let open = decisions.iter().skip(issued).all(|decision| *decision == 0);
+    ranged & open
 }
 
 // Every letter is a capital, those being the first five: small letters are for two sheets only.
 fn capitals(letters: &[u32]) -> bool
     ensures { result ≡ all_capitals (map letter_of letters.now) }
 {
-    let n = letters.len();
-    for i in 0..n {
-        if 4 < letters[i] {
-            return false;
-        }
-    }
-    true
+    letters.iter().all(|letter| *letter <= 4)
 }
 
 // The numbers are those of a coordinator of capitals that keeps the rules.
@@ -61,24 +34,12 @@ pub fn numbers_ok(numbers: &[u32]) -> bool
     if numbers.len() < HEAD_FIELDS {
         return false;
     }
-    if !codec::lines::row_good(Layout::CoordinatorHead, &numbers[..HEAD_FIELDS]) {
-        return false;
-    }
-    if !capitals(&numbers[1..HEAD_FIELDS]) {
-        return false;
-    }
+    let head = codec::lines::row_good(Layout::CoordinatorHead, &numbers[..HEAD_FIELDS]);
+    let letters = capitals(&numbers[1..HEAD_FIELDS]);
     let n = numbers.len() - HEAD_FIELDS;
-    if n < 1 {
-        return false;
-    }
-    if 999 < n {
-        return false;
-    }
-    let issued = as_count(numbers[0]);
-    if n < issued {
-        return false;
-    }
-    decisions_pass(&numbers[HEAD_FIELDS..], issued)
+    let issued = numbers[0] as usize;
+    let decisions = decisions_pass(&numbers[HEAD_FIELDS..], issued);
+    head & letters & (1 <= n) & (n <= 999) & (issued <= n) & decisions
 }
 
 // The decision of every line over the target.
@@ -86,27 +47,24 @@ fn fill_decisions(lines: &[u8], numbers: &mut [u32])
     requires { length numbers.old ≡ length lines.now / coordinator_bytes }
     ensures { numbers.new ≡ map decision_field (lines_of coordinator_bytes lines.now) }
 {
-    let n = lines.len() / COORDINATOR_BYTES;
-    for i in 0..n {
-        let at = i * COORDINATOR_BYTES;
-        let end = at + COORDINATOR_BYTES;
+    for (i, line) in lines.chunks_exact(COORDINATOR_BYTES).enumerate() {
         let mut row = [0u32; 2];
-        codec::lines::read_row(Layout::CoordinatorLine, &lines[at..end], &mut row);
+        codec::lines::read_row(Layout::CoordinatorLine, line, &mut row);
         numbers[i] = row[1];
     }
 }
 
 // The line of every decision over the target.
 fn fill_lines(decisions: &[u32], lines: &mut [u8])
-    requires decisions_len_bound { length decisions.now ≤ 999 }
+    requires few_lines { length decisions.now ≤ 999 }
     requires lines_len { length lines.old ≡ length decisions.now * coordinator_bytes }
     ensures { lines.new ≡ joined (line_texts 1 decisions.now) }
 {
-    let n = decisions.len();
-    for i in 0..n {
+    // by index into the target, as in the loop above: no fact tells what `chunks_exact_mut` or a chain over `iter_mut` leaves
+    for (i, decision) in decisions.iter().enumerate() {
         let at = i * COORDINATOR_BYTES;
         let end = at + COORDINATOR_BYTES;
-        let row = [(i + 1) as u32, decisions[i]];
+        let row = [(i + 1) as u32, *decision];
         codec::lines::write_row(Layout::CoordinatorLine, &row, &mut lines[at..end]);
     }
 }
@@ -115,10 +73,7 @@ fn fill_lines(decisions: &[u32], lines: &mut [u8])
 fn decision_count(numbers: &[u32]) -> usize
     ensures { result ≡ length (drop head_fields numbers.now) }
 {
-    if numbers.len() < HEAD_FIELDS {
-        return 0;
-    }
-    numbers.len() - HEAD_FIELDS
+    numbers.len().saturating_sub(HEAD_FIELDS)
 }
 
 // The target has room for the head and every line exactly. Divided, since the bytes of the lines may be more than a number holds.
@@ -137,7 +92,7 @@ fn has_room(coordinator: &[u8], numbers: &[u32]) -> bool
 
 // The numbers of the head and of every decision over the target.
 fn fill_numbers(coordinator: &[u8], numbers: &mut [u32])
-    requires coordinator_bytes_in_bounds { coordinator_bytes ≤ length coordinator.now }
+    requires whole_head { coordinator_bytes ≤ length coordinator.now }
     requires numbers_len { length numbers.old ≡ head_fields + length (drop coordinator_bytes coordinator.now) / coordinator_bytes }
     ensures { numbers.new ≡ numbers_in coordinator.now }
 {
@@ -154,8 +109,8 @@ fn fill_numbers(coordinator: &[u8], numbers: &mut [u32])
 
 // The head and the line of every decision over the target.
 fn fill_sheet(numbers: &[u32], coordinator: &mut [u8])
-    requires head_fields_in_bounds { head_fields ≤ length numbers.now }
-    requires numbers_len_bound { length (drop head_fields numbers.now) ≤ 999 }
+    requires whole_head { head_fields ≤ length numbers.now }
+    requires few_lines { length (drop head_fields numbers.now) ≤ 999 }
     requires coordinator_len { length coordinator.old ≡ coordinator_bytes + length (drop head_fields numbers.now) * coordinator_bytes }
     ensures { coordinator.new ≡ sheet_for numbers.now }
 {
@@ -170,32 +125,32 @@ fn fill_sheet(numbers: &[u32], coordinator: &mut [u8])
     );
 }
 
-// Coordinator sheet to numbers: 0, or the refusal.
-pub fn read_coordinator(coordinator: &[u8], numbers: &mut [u32]) -> u32
-    ensures answer { result ≡ refusal_of (read_coordinator_conditions coordinator.now numbers.old) }
+// Coordinator sheet to numbers.
+pub fn read_coordinator(coordinator: &[u8], numbers: &mut [u32]) -> Result<(), Refusal>
+    ensures answer { refused_with result ≡ refusal_of (read_coordinator_conditions coordinator.now numbers.old) }
     ensures target { numbers.new ≡ decisions_read coordinator.now numbers.old }
 {
     if numbers.len() != HEAD_FIELDS + codec::coordinator::count(coordinator) {
-        return 1;
+        return Err(Refusal::BadRecords);
     }
     if !coordinator_check::coordinator_ok(coordinator) {
-        return 2;
+        return Err(Refusal::BadCoordinator);
     }
     fill_numbers(coordinator, numbers);
-    0
+    Ok(())
 }
 
-// Numbers to coordinator sheet: 0, or the refusal.
-pub fn write_coordinator(numbers: &[u32], coordinator: &mut [u8]) -> u32
-    ensures answer { result ≡ refusal_of (write_coordinator_conditions numbers.now coordinator.old) }
+// Numbers to coordinator sheet.
+pub fn write_coordinator(numbers: &[u32], coordinator: &mut [u8]) -> Result<(), Refusal>
+    ensures answer { refused_with result ≡ refusal_of (write_coordinator_conditions numbers.now coordinator.old) }
     ensures target { coordinator.new ≡ coordinator_written numbers.now coordinator.old }
 {
     if !has_room(coordinator, numbers) {
-        return 1;
+        return Err(Refusal::BadRecords);
     }
     if !numbers_ok(numbers) {
-        return 2;
+        return Err(Refusal::BadCoordinator);
     }
     fill_sheet(numbers, coordinator);
-    0
+    Ok(())
 }

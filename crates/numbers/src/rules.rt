@@ -1,32 +1,14 @@
 // The rules of records, by value.
-ghost use Rattle.std.specs.Prelude.{◌≡◌, true, false};
-ghost use Rattle.model.specs.Records.{by_before, is_zero, no_before, absent_rule, committed_rule, before_rule, prepared_rule, state_rule};
+ghost use Rattle.std.specs.Prelude.{◌≡◌};
+ghost use Rattle.model.specs.Records.{no_before, absent_rule, committed_rule, before_rule, prepared_rule, state_rule};
 
-use types::{Before, Image, Record, State};
+use types::{Before, NO_IMAGE, Record, State};
 
-// Every field of the image is 0.
-pub fn is_zero(m: Image) -> bool
-    ensures { result ≡ is_zero m }
-{
-    (m.version == 0) & (m.txid == 0) & (m.column1 == 0) & (m.column2 == 0)
-}
-
-// The before state is `-`.
-fn is_nothing(prior: Before) -> bool
-    ensures { result ≡ by_before prior true false false }
-{
-    match prior {
-        Before::Nothing => true,
-        Before::Absent => false,
-        Before::Committed => false,
-    }
-}
-
+// Nothing is before: no state, an image of zeros and a clock of 0.
 fn no_before(r: Record) -> bool
     ensures { result ≡ no_before r }
 {
-    let prior = r.prior;
-    is_nothing(prior) & is_zero(r.before) & (r.clock == 0)
+    (r.prior == Before::Nothing) & (r.before == NO_IMAGE) & (r.clock == 0)
 }
 
 fn absent_rule(r: Record) -> bool
@@ -45,8 +27,7 @@ fn committed_rule(r: Record) -> bool
 fn before_rule(r: Record) -> bool
     ensures { result ≡ before_rule r }
 {
-    let prior = r.prior;
-    match prior {
+    match r.prior {
         Before::Nothing => false,
         Before::Absent => codec::records::is_absence(r.before),
         Before::Committed => 1 <= r.before.version,
@@ -65,8 +46,7 @@ fn prepared_rule(r: Record) -> bool
 pub fn state_rule(r: Record) -> bool
     ensures { result ≡ state_rule r }
 {
-    let s = r.state;
-    match s {
+    match r.state {
         State::Absent => absent_rule(r),
         State::Committed => committed_rule(r),
         State::Prepared => prepared_rule(r),

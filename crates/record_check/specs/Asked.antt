@@ -7,7 +7,7 @@ use Rattle.lists.specs.Basics.{drop, get_or, length-take, length-drop, drop-drop
 use Rattle.lists.specs.Basics.{tests}
 use Rattle.std.specs.Bool.{beq}
 use Rattle.lists.specs.Pieces.{take-drop-take}
-use Rattle.decimal.specs.declared.Scan.TheVariants.{Blank, Number}
+use Rattle.decimal.specs.Scan.Scan.{Blank, Number}
 use Rattle.decimal.specs.Field.{scanned, column_byte, ahead, field_text}
 use Rattle.decimal.specs.Laws.{scan_written}
 use Rattle.model.specs.Layouts.{record_layout, no_column, record_bytes, offset, record_offset, record_width, image_field, txid_field, before_field}
@@ -72,7 +72,7 @@ zero_loaded line at h n = loaded_equal (take 2 (drop at line)) zero_end (part_by
 
 -- the last two columns of a figure are these where it is 0
 ends_zero : (v : ℕ) → eq_list (column_byte (v / 10) ∷ (48 + v % 10) ∷ []) zero_end ≡ eqb v 0
-unfolding zero_end bytes eq_list
+unfolding zero_end bytes
 ends_zero v =
     same_test (eq_list (column_byte (v / 10) ∷ (48 + v % 10) ∷ []) (bytes " 0")) (eqb v 0)
     (choose_by (λ (x : ℕ). (eqb x 32 && (eqb (48 + v % 10) 48 && true)) ≡ true → eqb v 0 ≡ true) (eqb (v / 10) 0)

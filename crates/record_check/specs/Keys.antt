@@ -5,7 +5,7 @@ use Rattle.std.proofs.Common.{◌∙◌}
 use Rattle.lists.specs.Basics.{refl, ap₂, subst, ℕ, zero, suc, eqb, true, List, [], length, take, drop, length-take, take-add}
 use Rattle.lists.specs.Basics.{arith, eqb-true, eq-eqb, all, less, eq_list, eq_list-true, eq_list_refl, and_fst, and_snd, same_test}
 use Rattle.lists.specs.Order.{less-append}
-use Rattle.decimal.specs.declared.Scan.TheVariants.{Blank, Number}
+use Rattle.decimal.specs.Scan.Scan.{Blank, Number}
 use Rattle.decimal.specs.Field.{scanned, number, is_number}
 use Rattle.decimal.specs.Laws.{is_number-number}
 use Rattle.decimal.specs.Order.{order_bytes, same_bytes}

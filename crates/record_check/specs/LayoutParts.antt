@@ -1,11 +1,10 @@
 -- The parts of a layout, and what they say of a line: it is read by the widest ranges, and its numbers are held to the layout's. A part is a text or
 -- a figure. A text is the bytes of one number, by the round trip of its column; a figure is read by the widest range in either case.
-use Rattle.std.specs.Prelude.{◌≡◌, ◌-◌, ◌≤◌, ◌&&◌, ◌∷◌}
+use Rattle.std.specs.Prelude.{◌≡◌, ◌-◌, ◌≤◌, ◌&&◌, ◌∷◌, Some}
 use Rattle.std.proofs.Common.{◌∙◌}
 use Rattle.lists.specs.Basics.{refl, sym, ap, subst, ℕ, eqb, leb, Bool, true, false, cond, true≢false, and-true, List, []}
 use Rattle.lists.specs.Basics.{length, take, drop, arith, eqb-true, eq-eqb, le-leb, all, eq_list, eq_list-true, eq_list_refl, and_fst, and_snd, and_both}
 use Rattle.lists.specs.Basics.{same_test, choose_by, tests}
-use Rattle.decimal.specs.declared.Scan.TheVariants.{Number}
 use Rattle.decimal.specs.Field.{number, is_number}
 use Rattle.decimal.specs.Laws.{is_number-number}
 use Rattle.model.specs.Types.{Column, Kind, Figure, StateWord, BeforeWord, DecisionWord, UnitLetter}
@@ -56,7 +55,7 @@ part-width c o =
 text-held : (c : Column) (t : List ℕ)
     → column_ok (opened c) ≡ true → c.low ≡ c.high → in_range (opened c) c.low ≡ true → length t ≡ c.width
     → eq_list t (field_bytes c c.low) ≡ held c t
-unfolding held is_number number in_range opened
+unfolding held in_range opened
 text-held c t a e b l = same_test (eq_list t (field_bytes c c.low)) (held c t) there back
   where
     -- the bytes of a number do not go by the range
@@ -66,7 +65,7 @@ text-held c t a e b l = same_test (eq_list t (field_bytes c c.low)) (held c t) t
     there : eq_list t (field_bytes c c.low) ≡ true → held c t ≡ true
     there h =
         let q : t ≡ field_bytes (opened c) c.low = eq_list-true t (field_bytes c c.low) h ∙ sym (same_bytes c.low) in
-        let f : field_value (opened c) t ≡ Number c.low = ap (field_value (opened c)) q ∙ (field_read_written (opened c) c.low a b).0 in
+        let f : field_value (opened c) t ≡ Some c.low = ap (field_value (opened c)) q ∙ (field_read_written (opened c) c.low a b).0 in
         rw f (and_both (le-leb c.low c.low (omega arith)) (le-leb c.low c.high (omega arith)))
 
     back : held c t ≡ true → eq_list t (field_bytes c c.low) ≡ true
@@ -106,7 +105,7 @@ part_held c t o l =
 
 parts_fields : (cs : List Column) (s : List ℕ)
     → all sayable cs ≡ true → parts_ok (layout_parts cs) s ≡ each_field (λ (c : Column) (t : List ℕ). part_ok (column_part c) t) cs s
-unfolding all parts_ok layout_parts each_field eq_list part_ok width
+unfolding all parts_ok layout_parts each_field part_ok width
 parts_fields [] [] o = refl
 parts_fields [] (b ∷ s) o = ap (λ (x : Bool). x && eq_list s []) (and-true (eqb b 10))
 parts_fields (c ∷ cs) s o =

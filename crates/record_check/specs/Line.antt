@@ -67,7 +67,7 @@ module _ (line : List ℕ) (of-bytes : (i : ℕ) → get_or line i 0 < 256) wher
   -- a field of a line that can be read has the bytes of its number
   field_read : (i : ℕ) → i < length widest → line_set widest line ≡ true
       → (field_at i widest line ≡ field_bytes (get_or widest i no_column) (get_or row i 0)) × (in_range (get_or widest i no_column) (get_or row i 0) ≡ true)
-  unfolding row field_at all opened record_layout column_ok words all_below word_ok is_the field_value field_bytes word_from bytes eq_list
+  unfolding row field_at all opened record_layout column_ok words all_below word_ok is_the field_value field_bytes word_from bytes
   field_read i l h =
       let whole = line-length widest line h in
       let within = field_within i widest l in
@@ -133,7 +133,7 @@ module _ (line : List ℕ) (of-bytes : (i : ℕ) → get_or line i 0 < 256) wher
       clock_low line (and_fst (line_set widest line) (row_good open_layout row) (and_fst held (all (keeps row) (kind_limits (kind_at k))) (sym (said k n) ∙ g))) l
 
   -- the law: a line is good where it stands in the parts of its kind, and the relations hold
-  pub line_is : line_good line
+  line_is : line_good line
       ≡ (parts_ok (kind_parts (kind_at (kind_of line))) line && (asked (kind_of line) line && clock_fits line))
   unfolding row held asked
   line_is =
@@ -160,3 +160,11 @@ module _ (line : List ℕ) (of-bytes : (i : ℕ) → get_or line i 0 < 256) wher
       same_test (line_good line) false
       (λ g. sym e ∙ words-said k (kind_known line) (and_fst (parts_ok (kind_parts (kind_at k)) line) (asked k line && clock_fits line) (sym line_is ∙ g)))
       (λ g. absurd (true≢false (sym g)))
+
+  -- the law by the number of its kind, and where its tests but the clock's have passed
+  module _ (k : ℕ) (is : k ≡ kind_of line) where
+    pub line_for : line_good line ≡ (parts_ok (kind_parts (kind_at k)) line && (asked k line && clock_fits line))
+    line_for = rw is line_is
+
+    pub by_clock : parts_ok (kind_parts (kind_at k)) line ≡ true → asked k line ≡ true → line_good line ≡ clock_fits line
+    by_clock stood related = line_for ∙ rw (stood, related)

@@ -1,14 +1,14 @@
 -- Layouts that differ in their ranges alone. Reading a line by a layout is reading it by the widest ranges that its bytes can hold, and holding the
 -- numbers that were read to the layout's own ranges. It goes field by field, since a line that passes has the layout's length, so that no field is
 -- cut short.
-use Rattle.std.specs.Prelude.{◌≡◌, ◌-◌, ◌≤◌, ◌<◌, ◌&&◌, ◌∷◌}
+use Rattle.std.specs.Prelude.{◌≡◌, ◌-◌, ◌≤◌, ◌<◌, ◌&&◌, ◌∷◌, Some, None}
 use Rattle.std.proofs.Common.{◌∙◌}
 use Rattle.lists.specs.Basics.{refl, sym, ap, ap₂, ℕ, eqb, leb, Bool, true, false, cond, and-true, and-false, List, [], map}
 use Rattle.lists.specs.Basics.{length, take, drop, length-take, length-drop, arith, leb-false, le-leb, lt-leb, all, eq_list, and_fst, and_snd, and_both}
 use Rattle.lists.specs.Basics.{same_test, tests}
 use Rattle.lists.specs.Tests.{and_swap}
-use Rattle.decimal.specs.declared.Scan.{Scan}
-use Rattle.decimal.specs.declared.Scan.TheVariants.{Blank, Number, Wrong}
+use Rattle.decimal.specs.Scan.{Scan}
+use Rattle.decimal.specs.Scan.Scan.{Blank, Number, Wrong}
 use Rattle.decimal.specs.Field.{scanned, within, figure, number, is_number}
 use Rattle.decimal.specs.Laws.{is_number-number, figure_scan}
 use Rattle.model.specs.Types.{Column, Kind, Figure, StateWord, BeforeWord, DecisionWord, UnitLetter}
@@ -71,7 +71,7 @@ held_fields (c ∷ cs) s =
 -- a figure in a range is one in a wider range that is held to the first
 pub figure-held : (low high top : ℕ) (t : List ℕ) → high ≤ top
     → is_number (figure low high t) ≡ (is_number (figure 0 top t) && (leb low (number (figure 0 top t)) && leb (number (figure 0 top t)) high))
-unfolding figure within is_number number
+unfolding figure within
 figure-held low high top t l = go (scanned Blank t)
   where
     Same : Scan → Type 0
@@ -79,7 +79,7 @@ figure-held low high top t l = go (scanned Blank t)
         is_number (within low high st)
         ≡ (is_number (within 0 top st) && (leb low (number (within 0 top st)) && leb (number (within 0 top st)) high))
 
-    chosen : (v : ℕ) (b : Bool) → is_number (cond b (Number v) Wrong) ≡ b
+    chosen : (v : ℕ) (b : Bool) → is_number (cond b (Some v) None) ≡ b
     chosen v true = refl
     chosen v false = refl
 
@@ -146,7 +146,7 @@ same_number : (c : Column) (t : List ℕ)
 unfolding opens opened field_value
 same_number c t = go c.kind c.width c.low c.high
   where
-    widest : (top v : ℕ) → scanned Blank t ≡ Number v → v ≤ top → figure 0 top t ≡ Number v
+    widest : (top v : ℕ) → scanned Blank t ≡ Number v → v ≤ top → figure 0 top t ≡ Some v
     widest top v e l = unfold figure within in rw (e, le-leb 0 v (omega arith), le-leb v top l)
 
     figures : (low high top : ℕ) → high ≤ top → is_number (figure low high t) ≡ true → number (figure 0 top t) ≡ number (figure low high t)

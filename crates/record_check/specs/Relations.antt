@@ -10,7 +10,7 @@ use Rattle.std.proofs.Common.{pow-suc, ◌∙◌}
 use Rattle.std.proofs.Math.Seq.{take-length, get_or-append_seam}
 use Rattle.std.proofs.Math.Pow.{are_bytes}
 use Rattle.lists.specs.Order.{less-append}
-use Rattle.decimal.specs.declared.Scan.TheVariants.{Blank, Number}
+use Rattle.decimal.specs.Scan.Scan.{Blank, Number}
 use Rattle.decimal.specs.Field.{scanned, stepped, ahead, field_text}
 use Rattle.decimal.specs.Laws.{figure_scan, scan_written, scan_text, length-field_text, field_text-bytes}
 use Rattle.decimal.specs.Order.{order_bytes}

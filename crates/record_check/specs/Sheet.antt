@@ -67,12 +67,13 @@ lines_pass_lem (suc n) s =
 -- one turn of the code's loop: what is left from line i on
 pub pass_next : (i n : ℕ) (s : List ℕ) → i < n
     → lines_pass (n - i) (drop (i * record_bytes) s)
-    ≡ (line_good (take record_bytes (drop (i * record_bytes) s)) && (key_before (n - (i + 1)) (drop (i * record_bytes) s) && lines_pass (n - (i + 1)) (drop ((i + 1) * record_bytes) s)))
+    ≡ (line_good (take (i * record_bytes + record_bytes - i * record_bytes) (drop (i * record_bytes) s)) && (key_before (n - (i + 1)) (drop (i * record_bytes) s) && lines_pass (n - (i + 1)) (drop ((i + 1) * record_bytes) s)))
 unfolding lines_pass
 pass_next i n s l =
     let e : n - i ≡ suc (n - (i + 1)) = omega arith in
     let f : (i + 1) * record_bytes ≡ i * record_bytes + record_bytes = omega arith in
-    rw (e, f, drop-drop record_bytes (i * record_bytes) s)
+    let w : i * record_bytes + record_bytes - i * record_bytes ≡ record_bytes = omega arith in
+    rw (e, f, w, drop-drop record_bytes (i * record_bytes) s)
 
 -- at most 500 whole lines
 unfoldable pub lines_sized : ℕ → ℕ → Bool

@@ -5,7 +5,7 @@ use Rattle.std.specs.Prelude.{◌≡◌, ◌+◌, ◌-◌, ◌*◌, ◌≤◌, �
 use Rattle.std.proofs.Common.{◌∙◌}
 use Rattle.lists.specs.Basics.{refl, sym, ap, ap₂, ℕ, zero, suc, eqb, leb, Bool, true, false, not, and_assoc}
 use Rattle.lists.specs.Basics.{and-true, and-false, List, [], length, take, get_or, set, arith, eqb-true, eq-eqb, le-leb, all}
-use Rattle.lists.specs.Basics.{eq_list, bytes, and_both, same_test, choose_by, tests}
+use Rattle.lists.specs.Basics.{bytes, and_both, same_test, choose_by, tests}
 use Rattle.std.proofs.Math.Dec.{leb-zero, leb-suc-zero}
 use Rattle.lists.specs.All.{all_at}
 use Rattle.lists.specs.Tests.{and_move, and_swap}
@@ -87,11 +87,11 @@ kind_parts r = layout_parts (limited (kind_limits r) open_layout)
 -- What is computed of them.
 
 pub kind_says : (k : ℕ) → k < length kinds → says (kind_limits (kind_at k)) open_layout ≡ true
-unfolding says all sayable all_narrow narrows limited narrowed kind_limits kinds zeros nothing_before state_number before_number open_layout opened record_layout in_range column_ok words all_below word_ok is_the field_value field_bytes word_from bytes eq_list
+unfolding says all sayable all_narrow narrows limited narrowed kind_limits kinds zeros nothing_before state_number before_number open_layout opened record_layout in_range column_ok words all_below word_ok is_the field_value field_bytes word_from bytes
 kind_says k l = all_at (λ (r : LineKind). says (kind_limits r) open_layout) kinds no_kind k refl l
 
 pub record_opens : all opens record_layout ≡ true
-unfolding all opens opened record_layout column_ok words all_below word_ok is_the field_value field_bytes word_from bytes eq_list
+unfolding all opens opened record_layout column_ok words all_below word_ok is_the field_value field_bytes word_from bytes
 record_opens = refl
 
 pub clock_narrow : all_narrow clock_limit open_layout ≡ true

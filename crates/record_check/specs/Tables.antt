@@ -77,7 +77,7 @@ fits k =
     && eq_list (word (k * table_bytes + record_offset before_state_field)) (prior_word k))
 
 fit : (k : ℕ) → k < length kinds → fits k ≡ true
-unfolding offset all all_below eq_list joined fits tables set_well part_set_well middle lows highs alsos kind_parts kind_limits kinds zeros nothing_before state_number before_number layout_parts column_part limited narrowed open_layout opened record_layout field_bytes field_text ahead words bytes layout_columns part_columns columns
+unfolding offset all all_below joined fits tables set_well part_set_well middle lows highs alsos kind_parts kind_limits kinds zeros nothing_before state_number before_number layout_parts column_part limited narrowed open_layout opened record_layout field_bytes field_text ahead words bytes layout_columns part_columns columns
 fit k l = below (length kinds) fits refl k l
 
 -- the columns of every kind are its body and LF

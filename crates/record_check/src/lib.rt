@@ -24,7 +24,8 @@ use types::{
 const KINDS: usize = 4;
 
 // The kind whose own image is an absence, the first kind with an image before it, and the first of those over COMMITTED: by a kind's number it is known what
-// is asked of it besides its tables.
+// is asked of it besides its tables. They stay numbers: a kind is counted and finds its tables by a product, and an enum would have to be made of the count by
+// a choice and be turned back into a number.
 const ABSENT: usize = 0;
 
 const FOLLOWING: usize = 2;
@@ -80,18 +81,19 @@ fn kind(line: &[u8]) -> usize
     ensures value { result ≡ kind_of line.now }
     ensures upper_bound { result < length kinds }
 {
-    let front = line_bytes::load_eight(line, STATE_AT);
-    let committed = line_bytes::bit(front == COMMITTED_FRONT);
-    let prepared = line_bytes::bit(front == PREPARED_FRONT);
-    let over_committed = line_bytes::bit(line[BEFORE_MARK] == b'M');
-    (committed + prepared * 2 + over_committed) as usize
+    let front = line_bytes::load::<8>(line, STATE_AT);
+    let committed = usize::from(front == COMMITTED_FRONT);
+    let prepared = usize::from(front == PREPARED_FRONT);
+    let over_committed = usize::from(line[BEFORE_MARK] == b'M');
+    committed + prepared * 2 + over_committed
 }
 
 // Whether the ten bytes of the line's state word and those of its before state are the words of its kind. They stand in the kind's tables.
+#[tactic(auto, unfolding(crate::specs::States::kinds))]
 fn words_equal(line: &[u8], lent: &[u8], kind: usize) -> bool
     requires line_len { length line.now ≡ record_bytes }
-    requires lent_value { lent.now ≡ tables }
-    requires kind_in_bounds { kind < length kinds }
+    requires lent_tables { lent.now ≡ tables }
+    requires known_kind { kind < length kinds }
     ensures { result ≡ words_held kind line.now }
 {
     let at = kind * TABLE;
@@ -101,10 +103,11 @@ fn words_equal(line: &[u8], lent: &[u8], kind: usize) -> bool
 }
 
 // Whether each byte of the line after `from` and before `end` may stand in its column by the tables of its kind.
+#[tactic(auto, unfolding(crate::specs::States::kinds))]
 fn part_stands(line: &[u8], lent: &[u8], kind: usize, from: usize, end: usize) -> bool
     requires line_len { length line.now ≡ record_bytes }
-    requires lent_value { lent.now ≡ tables }
-    requires kind_in_bounds { kind < length kinds }
+    requires lent_tables { lent.now ≡ tables }
+    requires known_kind { kind < length kinds }
     requires from_le_end { from ≤ end }
     requires end_le_row_bytes { end ≤ row_bytes }
     ensures { result ≡ part_stands kind from (end - from) line.now }
@@ -123,8 +126,8 @@ fn part_stands(line: &[u8], lent: &[u8], kind: usize, from: usize, end: usize) -
 // Whether each byte of the line may stand in its column by the tables of its kind.
 fn stands(line: &[u8], lent: &[u8], kind: usize) -> bool
     requires line_len { length line.now ≡ record_bytes }
-    requires lent_value { lent.now ≡ tables }
-    requires kind_in_bounds { kind < length kinds }
+    requires lent_tables { lent.now ≡ tables }
+    requires known_kind { kind < length kinds }
     ensures { result ≡ parts_ok (kind_parts (kind_at kind)) line.now }
 {
     if !part_stands(line, lent, kind, 0, FRONT) {
@@ -145,8 +148,8 @@ fn version_follows(line: &[u8]) -> bool
         return line_bytes::figure(line, VERSION_AT, VERSION_BYTES)
             == line_bytes::figure(line, BEFORE_AT, VERSION_BYTES) + 1;
     }
-    line_bytes::load_six(line, VERSION_AT)
-        == line_bytes::load_six(line, BEFORE_AT) + 0x0100_0000_0000
+    line_bytes::load::<6>(line, VERSION_AT)
+        == line_bytes::load::<6>(line, BEFORE_AT) + 0x0100_0000_0000
 }
 
 // Whether the figure whose columns end before byte `end` is 0: it ends in ` 0` then, and no other does.
@@ -155,7 +158,7 @@ fn is_zero(line: &[u8], end: usize) -> bool
     requires end_in_bounds { end ≤ length line.now }
     ensures { result ≡ zero_up_to end line.now }
 {
-    line_bytes::load_two(line, end - 2) == 0x3020
+    line_bytes::load::<2>(line, end - 2) == 0x3020
 }
 
 // Whether version and TxID of the image at `at` are both 0, or neither is, in a line that stands by its tables.
@@ -172,7 +175,7 @@ fn zeros_agree(line: &[u8], at: usize) -> bool
 // has both version and TxID or neither. Zeros are compared in each line, since that takes less than another branch by kinds that come in any order.
 fn related(line: &[u8], kind: usize) -> bool
     requires line_len { length line.now ≡ record_bytes }
-    requires kind_in_bounds { kind < length kinds }
+    requires known_kind { kind < length kinds }
     ensures { result ≡ asked kind line.now }
 {
     if kind < FOLLOWING {
@@ -186,8 +189,8 @@ fn related(line: &[u8], kind: usize) -> bool
 // clock does.
 fn line_good(line: &[u8], lent: &[u8], highest: &[u8]) -> bool
     requires line_len { length line.now ≡ record_bytes }
-    requires lent_value { lent.now ≡ tables }
-    requires highest_value { highest.now ≡ highest_clock }
+    requires lent_tables { lent.now ≡ tables }
+    requires highest_clock { highest.now ≡ highest_clock }
     ensures { result ≡ line_good line.now }
 {
     let kind = kind(line);
@@ -224,21 +227,18 @@ fn key_rises(s: &[u8], i: usize, n: usize) -> bool
 // Whether each of the n lines is good, and keys rise.
 fn lines_pass(s: &[u8], n: usize, lent: &[u8], highest: &[u8]) -> bool
     requires s_len { length s.now ≡ n * record_bytes }
-    requires lent_value { lent.now ≡ tables }
-    requires highest_value { highest.now ≡ highest_clock }
+    requires lent_tables { lent.now ≡ tables }
+    requires highest_clock { highest.now ≡ highest_clock }
     ensures { result ≡ lines_pass n s.now }
 {
-    let mut i = 0;
-    while i < n {
+    for i in 0..n {
         let at = i * RECORD_BYTES;
-        let end = at + RECORD_BYTES;
-        if !line_good(&s[at..end], lent, highest) {
+        if !line_good(&s[at..at + RECORD_BYTES], lent, highest) {
             return false;
         }
         if !key_rises(s, i, n) {
             return false;
         }
-        i += 1;
     }
     true
 }

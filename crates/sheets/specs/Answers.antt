@@ -2,7 +2,7 @@
 use Rattle.std.specs.Prelude.{◌≡◌, ◌+◌, ◌*◌, ◌≤◌, ◌∷◌}
 use Rattle.std.proofs.Common.{◌∙◌}
 use Rattle.lists.specs.Basics.{refl, sym, ap, ℕ, Bool, true, false, not, List, [], length, length-take, take, drop, arith}
-use Rattle.model.specs.Types.{Key, Record, Rank, Ranked, Found, At, Nothing}
+use Rattle.model.specs.Types.{Key, Record, Rank, Ranked, Found, Some, None}
 use Rattle.model.specs.Layouts.{record_bytes}
 use Rattle.model.specs.Records.{no_record, records, records_accepted, key_in_range, same_key, found, is_missing, ranked, placed}
 use Rattle.model.specs.Spares.{filled_lines, front, record_lines, sheet_accepted}
@@ -19,21 +19,21 @@ is_found s k e told = found_by_rank k (records s) (accepted_order s e) ∙ sym t
 
 -- which line has a key, by what is found
 module _ (s : List ℕ) (k : Key) (e : records_accepted s ≡ true) where
-  pub line-none : found k (records s) ≡ Nothing → record { refusal = 6; rank = record { below = 0; present = false } } ≡ line_among (records s) k
+  pub line-none : found k (records s) ≡ None → record { refusal = 6; rank = record { below = 0; present = false } } ≡ line_among (records s) k
   unfolding refusal_of is_missing
   line-none f = rw f
 
-  pub line-met : (i : ℕ) → found k (records s) ≡ At i → record { refusal = 0; rank = record { below = i; present = true } } ≡ line_among (records s) k
+  pub line-met : (i : ℕ) → found k (records s) ≡ Some i → record { refusal = 0; rank = record { below = i; present = true } } ≡ line_among (records s) k
   unfolding refusal_of is_missing
   line-met i f = ap (λ (r : Rank). record { refusal = 0; rank = r }) (found-ranked k (records s) (accepted_order s e) i f) ∙ rw f
 
   -- told without refusal, it is the line found
-  pub line_at_lem : (r : Ranked) → r ≡ line_among (records s) k → r.refusal ≡ 0 → found k (records s) ≡ At r.rank.below
+  pub line_at_lem : (r : Ranked) → r ≡ line_among (records s) k → r.refusal ≡ 0 → found k (records s) ≡ Some r.rank.below
   line_at_lem r t z = go (found k (records s)) refl
     where
-      go : (f : Found) → found k (records s) ≡ f → found k (records s) ≡ At r.rank.below
-      go (At i) h = h ∙ ap (λ (x : Ranked). At x.rank.below) (line-met i h ∙ sym t)
-      go Nothing h = let n : r.refusal ≡ 6 = ap (λ (x : Ranked). x.refusal) (t ∙ sym (line-none h)) in absurd (omega (arith, n, z))
+      go : (f : Found) → found k (records s) ≡ f → found k (records s) ≡ Some r.rank.below
+      go (Some i) h = h ∙ ap (λ (x : Ranked). Some x.rank.below) (line-met i h ∙ sym t)
+      go None h = let n : r.refusal ≡ 6 = ap (λ (x : Ranked). x.refusal) (t ∙ sym (line-none h)) in absurd (omega (arith, n, z))
 
 -- The look-up: the part handed back, what its companion tells, and which line it is.
 module _ (s : List ℕ) (k : Key) where
@@ -59,7 +59,7 @@ module _ (s : List ℕ) (k : Key) where
     unfolding rank_on rank_conditions refusal_of
     told = rw (e, g)
 
-    pub lookup_none : found k (records (record_lines s)) ≡ Nothing → [] ≡ looked_up s k
+    pub lookup_none : found k (records (record_lines s)) ≡ None → [] ≡ looked_up s k
     unfolding looked_up lookup_conditions rank_conditions refusal_of is_missing
     lookup_none f = rw (e, g, f)
 
@@ -67,19 +67,19 @@ module _ (s : List ℕ) (k : Key) where
     unfolding line_on lookup_conditions rank_conditions refusal_of
     line-told = rw (e, g)
 
-    pub lookup_met : (i : ℕ) → found k (records (record_lines s)) ≡ At i → take record_bytes (drop (i * record_bytes) s) ≡ looked_up s k
+    pub lookup_met : (i : ℕ) → found k (records (record_lines s)) ≡ Some i → take record_bytes (drop (i * record_bytes) s) ≡ looked_up s k
     unfolding looked_up lookup_conditions rank_conditions refusal_of is_missing line_at
     lookup_met i f = rw (e, g, f)
 
 -- an index that was found is that of a line of the sheet
-pub found-fits : (s : List ℕ) (k : Key) (i : ℕ) → found k (records s) ≡ At i → i * record_bytes + record_bytes ≤ length s
+pub found-fits : (s : List ℕ) (k : Key) (i : ℕ) → found k (records s) ≡ Some i → i * record_bytes + record_bytes ≤ length s
 unfolding found
 found-fits s k i e =
     let x = first_at (λ (r : Record). same_key r.key k) (records s) no_record i e in
     omega (arith, x.within, length-records s)
 
 -- and so of the whole sheet, where it was found among its front
-pub front_fits : (s : List ℕ) (k : Key) (i : ℕ) → found k (records (record_lines s)) ≡ At i → i * record_bytes + record_bytes ≤ length s
+pub front_fits : (s : List ℕ) (k : Key) (i : ℕ) → found k (records (record_lines s)) ≡ Some i → i * record_bytes + record_bytes ≤ length s
 unfolding front
 front_fits s k i e =
     let n : length (take (filled_lines record_bytes s * record_bytes) s) ≤ length s = simp length-take (omega arith) in

@@ -1,21 +1,23 @@
 // The check of both sheets.
 ghost use Rattle.std.specs.Prelude.{◌≡◌};
-ghost use Rattle.model.specs.Refusals.{refusal_of};
+ghost use Rattle.model.specs.Refusals.{refusal_of, refused_with};
 ghost use Rattle.model.specs.SheetCalls.{check_conditions};
 
-// 0 where both sheets are accepted, else the refusal: 1 or 2.
-pub fn check(records: &[u8], coordinator: &[u8]) -> u32
-    ensures { result ≡ refusal_of (check_conditions records.now coordinator.now) }
+use types::Refusal;
+
+// Accepted, or the refusal of the sheet that is not.
+pub fn check(records: &[u8], coordinator: &[u8]) -> Result<(), Refusal>
+    ensures { refused_with result ≡ refusal_of (check_conditions records.now coordinator.now) }
 {
     if !record_check::sheet_ok(records) {
-        return 1;
+        return Err(Refusal::BadRecords);
     }
     if !coordinator_check::coordinator_ok(coordinator) {
-        return 2;
+        return Err(Refusal::BadCoordinator);
     }
     let end = record_check::lines_end(records);
     if !coordinator_check::all_issued(&records[..end], coordinator) {
-        return 2;
+        return Err(Refusal::BadCoordinator);
     }
-    0
+    Ok(())
 }

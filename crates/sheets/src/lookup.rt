@@ -1,30 +1,17 @@
 // The line that has a key.
 ghost use Rattle.std.specs.Prelude.{◌≡◌, true, false, ◌+◌, ◌<◌, ◌≤◌, length};
-ghost use Rattle.lists.specs.Bytes.{eq_list};
 ghost use Rattle.model.specs.Layouts.{record_bytes};
 ghost use Rattle.model.specs.Records.{records_accepted, key_in_range, ranked, placed, key_numbers};
 ghost use Rattle.model.specs.Records as model;
 ghost use Rattle.sheet_laws.specs.Keys.{key_line};
 ghost use Rattle.model.specs.Lines.{lines_of};
+ghost use Rattle.model.specs.Told.{ranked_by};
 ghost use Rattle.model.specs.SheetCalls.{looked_up, rank_on, line_on, line_among};
-ghost use Rattle.sheets.specs.Search.{key_field, found_line};
+ghost use Rattle.sheets.specs.Search.{found_line};
 
 use codec::keys::key_in_range;
 use record_check::lines_end;
-use types::{
-    CLUSTERING_AT, Found, Key, Layout, NAMESPACE_AT, PARTITION_AT, RECORD_BYTES, Rank, Ranked,
-    STATE_AT, TABLE_AT,
-};
-
-// Where each key field begins, and the end of the last.
-const EDGES: [usize; 6] = [
-    0,
-    NAMESPACE_AT,
-    TABLE_AT,
-    PARTITION_AT,
-    CLUSTERING_AT,
-    STATE_AT,
-];
+use types::{Key, Layout, RECORD_BYTES, Rank, Refusal, STATE_AT};
 
 // The numbers of a key.
 fn numbers_of(key: Key) -> [u32; 5]
@@ -49,46 +36,24 @@ fn key_line(key: Key) -> [u8; 21]
     text
 }
 
-// Key field f of the line at `at` is that of the key line.
-fn same_field(records: &[u8], at: usize, text: &[u8], f: usize) -> bool
-    requires { (f < 5) × ((at + record_bytes ≤ length records.now) × (21 ≤ length text.now)) }
-    ensures { result ≡ eq_list (key_field f at records.now) (key_field f 0 text.now) }
-{
-    let edges = EDGES;
-    let from = edges[f];
-    let to = edges[f + 1];
-    let a = at + from;
-    let e = at + to;
-    decimal::same(&records[a..e], &text[from..to])
-}
-
-// The index of the first line that begins as a key line does. Fields are compared from the last, in which neighbouring lines differ most often.
-fn find_line(records: &[u8], text: &[u8]) -> Found
+// The index of the first line that begins as a key line does.
+fn find_line(records: &[u8], text: &[u8]) -> Option<usize>
     requires { 21 ≤ length text.now }
     ensures { result ≡ found_line 0 text.now (lines_of record_bytes records.now) }
 {
     let n = records.len() / RECORD_BYTES;
-    let mut i = 0;
-    'lines: while i < n {
+    for i in 0..n {
         let at = i * RECORD_BYTES;
-        let mut f = 5;
-        while 0 < f {
-            f -= 1;
-            if !same_field(records, at, text, f) {
-                i += 1;
-                continue 'lines;
-            }
+        let end = at + STATE_AT;
+        if decimal::same(&records[at..end], &text[..STATE_AT]) {
+            return Some(i);
         }
-        break 'lines;
     }
-    if i < n {
-        return Found::At(i);
-    }
-    Found::Nothing
+    None
 }
 
 // The line that has the key, among accepted lines: that part of `rank`'s answer by which operations go. None of them needs to know where a missing key would stand.
-pub fn find(records: &[u8], key: Key) -> Found
+pub fn find(records: &[u8], key: Key) -> Option<usize>
     requires records_value { records_accepted records.now ≡ true }
     requires key_value { key_in_range key ≡ true }
     ensures { result ≡ placed (ranked key (model.records records.now)) }
@@ -106,7 +71,7 @@ fn below(records: &[u8], key: Key) -> usize
     let mut high = records.len() / RECORD_BYTES;
     while low < high {
         let middle = low + (high - low) / 2;
-        if codec::keys::less(codec::reading::key(records, middle), key) {
+        if codec::reading::key(records, middle) < key {
             low = middle + 1;
         } else {
             high = middle;
@@ -122,33 +87,30 @@ pub fn rank(records: &[u8], key: Key) -> Rank
     ensures { result ≡ ranked key (model.records records.now) }
 {
     match find(records, key) {
-        Found::At(i) => Rank {
+        Some(i) => Rank {
             below: i,
             present: true,
         },
-        Found::Nothing => Rank {
+        None => Rank {
             below: below(records, key),
             present: false,
         },
     }
 }
 
-// Which of accepted lines has the key: its index, or 6.
-pub fn line(records: &[u8], key: Key) -> Ranked
+// Which of accepted lines has the key: its index, or that it isn't there.
+pub fn line(records: &[u8], key: Key) -> Result<Rank, Refusal>
     requires records_value { records_accepted records.now ≡ true }
     requires key_value { key_in_range key ≡ true }
-    ensures told { result ≡ line_among (model.records records.now) key }
-    ensures few { result.rank.below ≤ 500 }
+    ensures told { ranked_by result ≡ line_among (model.records records.now) key }
+    ensures few { (ranked_by result).rank.below ≤ 500 }
 {
     match find(records, key) {
-        Found::At(i) => Ranked {
-            refusal: 0,
-            rank: Rank {
-                below: i,
-                present: true,
-            },
-        },
-        Found::Nothing => no_rank(6),
+        Some(below) => Ok(Rank {
+            below,
+            present: true,
+        }),
+        None => Err(Refusal::NoSuchKey),
     }
 }
 
@@ -164,56 +126,40 @@ pub fn lookup(records: &[u8], key: Key) -> &[u8]
     }
     let end = lines_end(records);
     match find(&records[..end], key) {
-        Found::At(i) => {
+        Some(i) => {
             let at = i * RECORD_BYTES;
             let past = at + RECORD_BYTES;
             &records[at..past]
         }
-        Found::Nothing => &records[..0],
-    }
-}
-
-// Where nothing is told: the refusal alone.
-pub fn no_rank(refusal: u32) -> Ranked
-    ensures { result ≡ record { refusal = refusal; rank = record { below = 0; present = false } } }
-{
-    Ranked {
-        refusal,
-        rank: Rank {
-            below: 0,
-            present: false,
-        },
+        None => &records[..0],
     }
 }
 
 // The look-up's companion: how many lines have smaller keys, and whether the key has a line itself.
-pub fn rank_of(records: &[u8], key: Key) -> Ranked
-    ensures told { result ≡ rank_on records.now key }
-    ensures few { result.rank.below ≤ 500 }
+pub fn rank_of(records: &[u8], key: Key) -> Result<Rank, Refusal>
+    ensures told { ranked_by result ≡ rank_on records.now key }
+    ensures few { (ranked_by result).rank.below ≤ 500 }
 {
     if !record_check::sheet_ok(records) {
-        return no_rank(1);
+        return Err(Refusal::BadRecords);
     }
     if !key_in_range(key) {
-        return no_rank(5);
+        return Err(Refusal::BadKey);
     }
     let end = lines_end(records);
-    Ranked {
-        refusal: 0,
-        rank: rank(&records[..end], key),
-    }
+    Ok(rank(&records[..end], key))
 }
 
 // Which line has the key: its index, or the look-up's refusal, 6 where no line has it.
-pub fn line_of(records: &[u8], key: Key) -> Ranked
-    ensures told { result ≡ line_on records.now key }
-    ensures few { result.rank.below ≤ 500 }
+pub fn line_of(records: &[u8], key: Key) -> Result<Rank, Refusal>
+    ensures told { ranked_by result ≡ line_on records.now key }
+    ensures few { (ranked_by result).rank.below ≤ 500 }
 {
     if !record_check::sheet_ok(records) {
-        return no_rank(1);
+        return Err(Refusal::BadRecords);
     }
     if !key_in_range(key) {
-        return no_rank(5);
+        return Err(Refusal::BadKey);
     }
     let end = lines_end(records);
     line(&records[..end], key)

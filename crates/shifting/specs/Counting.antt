@@ -11,23 +11,15 @@ use Rattle.model.specs.Spares.{is_spare, trimmed, filled_lines}
 use Rattle.sheet_laws.specs.Trimmed.{trimmed-pass, trimmed_fail}
 
 module _ (w : ℕ) (s : List ℕ) where
-  -- the spares behind byte `end`, which is that of a line, make no difference
-  pub record SparesFrom (end : ℕ) : Type 0 where
-    pub lines : ℕ
-    pub at : end ≡ lines * w
-    pub within : lines ≤ length s / w
-    pub kept : trimmed (is_spare w) (take lines (lines_of w s)) ≡ filled_lines w s
+  -- the spares behind the first n lines make no difference
+  abbrev pub SparesFrom : (n : ℕ) → Type 0
+  SparesFrom n = trimmed (is_spare w) (take n (lines_of w s)) ≡ filled_lines w s
 
-  pub spares-first : length s ≡ length s / w * w → SparesFrom (length s)
+  pub spares-first : SparesFrom (length s / w)
   unfolding lines_of filled_lines
-  spares-first whole =
+  spares-first =
       let k : length (pieces w (length s / w) s) ≡ length s / w = length-pieces w (length s / w) s in
-      record {
-        lines = length s / w;
-        at = whole;
-        within = omega arith;
-        kept = ap (trimmed (is_spare w)) (take_all (length s / w) (pieces w (length s / w) s) (omega arith));
-      }
+      ap (trimmed (is_spare w)) (take_all (length s / w) (pieces w (length s / w) s) (omega arith))
 
   last_line_lem : (m : ℕ) → m < length s / w → take (suc m) (lines_of w s) ≡ take m (lines_of w s) ++ (take w (drop (m * w) s) ∷ [])
   unfolding lines_of
@@ -36,62 +28,34 @@ module _ (w : ℕ) (s : List ℕ) where
       let k : length ls ≡ length s / w = length-pieces w (length s / w) s in
       take-suc ls m [] (omega arith) ∙ ap (λ (x : List ℕ). take m ls ++ (x ∷ [])) (get_or-pieces w m (length s / w) s l)
 
-  -- a line before that byte
-  pub record LineBefore (end : ℕ) : Type 0 where
-    pub line : ℕ
-    pub at : end ≡ line * w + w
-    pub within : line < length s / w
-    pub kept : trimmed (is_spare w) (take (suc line) (lines_of w s)) ≡ filled_lines w s
+  -- The last of them is compared. It is no spare,
+  none_at : (m : ℕ) → m < length s / w → SparesFrom (suc m) → is_spare w (take w (drop (m * w) s)) ≡ false → m * w + w ≡ filled_lines w s * w
+  unfolding lines_of
+  none_at m l f h =
+      let ls = pieces w (length s / w) s in
+      let k : length ls ≡ length s / w = length-pieces w (length s / w) s in
+      let j : length (take m ls) ≡ m = length-take-le m ls (omega arith) in
+      let e : suc m ≡ filled_lines w s =
+      sym (ap (trimmed (is_spare w)) (last_line_lem m l) ∙ (trimmed_fail (is_spare w) (take w (drop (m * w) s)) (take m ls) h ∙ ap suc j)) ∙ f in
+      sym (suc-mul m w) ∙ ap (λ (n : ℕ). n * w) e
 
-  pub line_before : (end : ℕ) → 0 < end → SparesFrom end → LineBefore end
-  line_before end l f = go f.lines f.at f.within f.kept
-    where
-      go : (n : ℕ) → end ≡ n * w → n ≤ length s / w → trimmed (is_spare w) (take n (lines_of w s)) ≡ filled_lines w s → LineBefore end
-      go zero e m k = absurd (let z = zero-mul w in omega arith)
-      go (suc n) e m k = record { line = n; at = e ∙ suc-mul n w; within = omega arith; kept = k }
+  -- or one
+  one_at : (m : ℕ) → m < length s / w → SparesFrom (suc m) → is_spare w (take w (drop (m * w) s)) ≡ true → SparesFrom m
+  one_at m l f h =
+      sym (ap (trimmed (is_spare w)) (last_line_lem m l) ∙ trimmed-pass (is_spare w) (take w (drop (m * w) s)) (take m (lines_of w s)) h) ∙ f
 
-  module _ (end : ℕ) (b : LineBefore end) where
-    start : end - w ≡ b.line * w
-    start = let e = b.at in omega arith
+  module _ (n : ℕ) (some : 0 < n) (within : n ≤ length s / w) (spares : SparesFrom n) where
+    behind : SparesFrom (suc (n - 1))
+    behind = let e : suc (n - 1) ≡ n = omega arith in rw e spares
 
-    pub at_least : w ≤ end
-    at_least = let e = b.at in omega arith
+    pub no_spare_lem : is_spare w (take w (drop ((n - 1) * w) s)) ≡ false → (n - 1) * w + w ≡ filled_lines w s * w
+    no_spare_lem h = none_at (n - 1) (omega arith) behind h
 
-    abbrev line : List ℕ
-    line = take w (drop (b.line * w) s)
-
-    compared : is_spare w (take w (drop (end - w) s)) ≡ is_spare w line
-    compared = ap (λ (a : ℕ). is_spare w (take w (drop a s))) start
-
-    -- it is no spare
-    pub no_spare_lem : is_spare w (take w (drop (end - w) s)) ≡ false → end ≡ filled_lines w s * w
-    unfolding lines_of
-    no_spare_lem h =
-        let n = b.line in
-        let ls = pieces w (length s / w) s in
-        let k : length ls ≡ length s / w = length-pieces w (length s / w) s in
-        let l = b.within in
-        let j : length (take n ls) ≡ n = length-take-le n ls (omega arith) in
-        let f : suc n ≡ filled_lines w s =
-        sym (ap (trimmed (is_spare w)) (last_line_lem n b.within) ∙ (trimmed_fail (is_spare w) line (take n ls) (sym compared ∙ h) ∙ ap suc j)) ∙ b.kept in
-        b.at ∙ (sym (suc-mul n w) ∙ ap (λ (m : ℕ). m * w) f)
-
-    -- it is one
-    pub one-spare : is_spare w (take w (drop (end - w) s)) ≡ true → SparesFrom (end - w)
-    one-spare h =
-        let n = b.line in
-        let l = b.within in
-        record {
-          lines = n;
-          at = start;
-          within = omega arith;
-          kept = sym (ap (trimmed (is_spare w)) (last_line_lem n b.within) ∙ trimmed-pass (is_spare w) line (take n (lines_of w s)) (sym compared ∙ h)) ∙ b.kept;
-        }
+    pub one-spare : is_spare w (take w (drop ((n - 1) * w) s)) ≡ true → SparesFrom (n - 1)
+    one-spare h = one_at (n - 1) (omega arith) behind h
 
   -- no line is left
-  pub none_left : (end : ℕ) → end ≡ 0 → 0 < w → SparesFrom end → end ≡ filled_lines w s * w
-  none_left end z some f = go f.lines f.at f.kept
-    where
-      go : (n : ℕ) → end ≡ n * w → trimmed (is_spare w) (take n (lines_of w s)) ≡ filled_lines w s → end ≡ filled_lines w s * w
-      go zero e k = z ∙ (sym (zero-mul w) ∙ ap (λ (m : ℕ). m * w) (unfold trimmed in k))
-      go (suc n) e k = absurd (let q : end ≡ n * w + w = e ∙ suc-mul n w in omega arith)
+  pub none_left : (n : ℕ) → n ≤ 0 → SparesFrom n → 0 ≡ filled_lines w s * w
+  unfolding trimmed
+  none_left zero l f = sym (zero-mul w) ∙ ap (λ (m : ℕ). m * w) f
+  none_left (suc n) l f = absurd (omega arith)

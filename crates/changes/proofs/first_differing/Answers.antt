@@ -8,12 +8,12 @@ use Rattle.changes.proofs.first_differing.Goals as goal
 pub loop-i-init : goal.loop-i-init
 loop-i-init c = (omega arith, first-all _ _ _)
 
-pub returns-then-line_differs : goal.returns-then-line_differs
-returns-then-line_differs c =
+pub returns-then-line_differs-clause-value : goal.returns-then-line_differs-clause-value
+returns-then-line_differs-clause-value c =
     let a = c.args in
     let l = c.loop-i in
     sym (first-here a.before.now a.after.now l.i a.lines
-    c.loop-i-test.true (sym c.line_differs.ensures ∙ c.if-line_differs.true))
+    c.loop-i-test.true (sym c.if-line_differs.ensures))
     ∙ l.invariant.1
 
 pub loop-i-preserved : goal.loop-i-preserved
@@ -22,12 +22,12 @@ loop-i-preserved c =
     let l = c.loop-i in (
       omega arith,
       first_later a.before.now a.after.now l.i a.lines
-          c.loop-i-test.true (sym c.line_differs.ensures ∙ c.if-line_differs.false)
+          c.loop-i-test.true (sym c.if-line_differs.ensures)
           ∙ l.invariant.1,
     )
 
-pub returns : goal.returns
-returns c =
+pub returns-clause-value : goal.returns-clause-value
+returns-clause-value c =
     let a = c.args in
     let l = c.loop-i in
     let e : l.i ≡ a.lines = omega arith in

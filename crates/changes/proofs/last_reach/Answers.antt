@@ -1,30 +1,23 @@
--- No line from n on differs, so that the first n reach as far as all do.
+-- No line from `last` on differs, so that the lines before it reach as far as all do.
+use Rattle.std.specs.Prelude.{◌≡◌, ◌+◌, ◌-◌}
 use Rattle.std.proofs.Common.{◌∙◌}
 use Rattle.lists.specs.Basics.{refl, sym, arith}
 use Rattle.changes.specs.Lines.{reach_here, reach_less, reach_none}
 use Rattle.changes.proofs.last_reach.Goals as goal
 
-pub loop-n-init : goal.loop-n-init
-loop-n-init c = (omega arith, refl)
+pub loop-last-init : goal.loop-last-init
+loop-last-init c = refl
 
-pub returns-then-line_differs : goal.returns-then-line_differs
-returns-then-line_differs c =
-    let a = c.args in
-    let l = c.loop-n in
-    sym (reach_here a.before.now a.after.now l.n c.loop-n-test.true (sym c.line_differs.ensures ∙ c.if-line_differs.true))
-    ∙ l.invariant.1
+pub returns-then-line_differs-clause-value : goal.returns-then-line_differs-clause-value
+returns-then-line_differs-clause-value c =
+    let l = c.loop-last in
+    let e : l.last - 1 + 1 ≡ l.last = omega arith in
+    e ∙ (sym (reach_here c.args.before.now c.args.after.now l.last c.loop-last-test.true (sym c.if-line_differs.ensures)) ∙ l.invariant)
 
-pub loop-n-preserved : goal.loop-n-preserved
-loop-n-preserved c =
-    let a = c.args in
-    let l = c.loop-n in (
-      omega arith,
-      reach_less a.before.now a.after.now l.n c.loop-n-test.true (sym c.line_differs.ensures ∙ c.if-line_differs.false)
-          ∙ l.invariant.1,
-    )
+pub loop-last-preserved : goal.loop-last-preserved
+loop-last-preserved c =
+    let l = c.loop-last in
+    reach_less c.args.before.now c.args.after.now l.last c.loop-last-test.true (sym c.if-line_differs.ensures) ∙ l.invariant
 
-pub returns : goal.returns
-returns c =
-    let a = c.args in
-    let l = c.loop-n in
-    sym (reach_none a.before.now a.after.now l.n c.loop-n-test.false) ∙ l.invariant.1
+pub returns-clause-value : goal.returns-clause-value
+returns-clause-value c = sym (reach_none c.args.before.now c.args.after.now c.loop-last.last (omega arith)) ∙ c.loop-last.invariant

@@ -7,4 +7,4 @@ use Rattle.changes.proofs.line_differs.Goals as goal
 pub returns : goal.returns
 returns c =
     let a = c.args in
-    ap not (c.same_bytes.ensures ∙ ap₂ eq_list (line-part a.before.now a.i) (line-part a.after.now a.i))
+    c.ne.ensures ∙ ap not (ap₂ eq_list (line-part a.before.now a.i) (line-part a.after.now a.i))

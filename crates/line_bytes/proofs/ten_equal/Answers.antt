@@ -6,10 +6,10 @@ use Rattle.line_bytes.proofs.ten_equal.Goals as goal
 
 pub returns : goal.returns
 returns c =
-    let k = c.before.before.before.before.before.before in
-    let s = k.args.s.now in
-    let t = k.args.t.now in
-    let of-s : (i : ℕ) → get_or s i 0 < 256 = λ i. (c.shared_slice_known-1.given i).fits in
-    let of-t : (i : ℕ) → get_or t i 0 < 256 = λ i. (c.shared_slice_known-2-1.given i).fits in
-    rw (c.load_two-2.ensures, c.load_two.ensures, c.load_eight-2.ensures, c.load_eight.ensures)
-    (split_equal s t of-s of-t 8 2 k.args.a k.args.b (omega arith) (omega arith))
+    let a = c.args in
+    let s = a.s.now in
+    let t = a.t.now in
+    let of-s : (i : ℕ) → get_or s i 0 < 256 = λ i. (c.type_inv.s i).fits in
+    let of-t : (i : ℕ) → get_or t i 0 < 256 = λ i. (c.type_inv.t i).fits in
+    rw (c.load-4.ensures.value, c.load-3.ensures.value, c.load-2.ensures.value, c.load.ensures.value)
+    (split_equal s t of-s of-t 8 2 a.a a.b (omega arith) (omega arith))

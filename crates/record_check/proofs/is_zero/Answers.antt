@@ -11,4 +11,4 @@ returns c =
     let line = c.args.line.now in
     let at = c.args.end - 2 in
     let two : length (take 2 (drop at line)) ≡ 2 = simp (length-take, length-drop) (omega (arith, c.requires.le_end, c.requires.end_in_bounds)) in
-    rw c.load_two.ensures (zero_loaded line at (λ i. (c.shared_slice_known-1.given i).fits) two)
+    rw c.load.ensures.value (zero_loaded line at (λ i. (c.type_inv.line i).fits) two)

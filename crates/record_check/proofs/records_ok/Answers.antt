@@ -30,7 +30,7 @@ returns-then-n-gt500 c =
 pub lines_pass-requires : goal.lines_pass-requires
 unfolding tables joined lows highs alsos middle layout_columns part_columns columns kind_parts kind_limits layout_parts column_part limited narrowed kinds zeros nothing_before state_number before_number open_layout opened record_layout field_bytes field_text ahead words bytes highest_clock
 lines_pass-requires c =
-    record { s_len = sym c.if-n-records.false; lent_value = refl; highest_value = refl }
+    record { s_len = sym c.if-n-records.false; lent_tables = refl; highest_clock = refl }
 
 pub returns : goal.returns
 unfolding lines_sized

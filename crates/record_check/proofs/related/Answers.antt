@@ -13,4 +13,4 @@ pub returns : goal.returns
 unfolding offset record_layout
 returns c =
     let a = c.args in
-    rw (asked-over a.kind a.line.now c.if-kind-lt-FOLLOWING.false c.requires.kind_in_bounds, c.zeros_agree-2.ensures, c.version_follows.ensures)
+    rw (asked-over a.kind a.line.now c.if-kind-lt-FOLLOWING.false c.requires.known_kind, c.zeros_agree-2.ensures, c.version_follows.ensures)

@@ -10,4 +10,4 @@ returns-then-line-eq57 c = rw (eq-eqb _ 57 c.if-line-eq57.true, c.figure-then-li
 
 pub returns : goal.returns
 unfolding follows offset record_layout
-returns c = rw (ne_eqb _ 57 c.if-line-eq57.false, c.load_six-2.ensures.value, c.load_six.ensures.value)
+returns c = rw (ne_eqb _ 57 c.if-line-eq57.false, c.load-2.ensures.value, c.load.ensures.value)

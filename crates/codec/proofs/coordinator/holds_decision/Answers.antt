@@ -4,6 +4,7 @@ use Rattle.lists.specs.Basics.{ap, ℕ, arith, eq_list}
 use Rattle.model.specs.Types.{DecisionWord}
 use Rattle.model.specs.Layouts.{offset, line_layout, word_at}
 use Rattle.sheet_laws.specs.Singles.{decision_word}
+use Rattle.codec.specs.Casts.{decision_cast}
 use Rattle.codec.specs.Parts.{line_ends}
 use Rattle.codec.proofs.coordinator.holds_decision.Goals as goal
 
@@ -16,4 +17,4 @@ pub returns : goal.returns
 unfolding offset line_layout
 returns c =
     let a = c.args in
-    c.is_word_at.ensures ∙ ap (λ (k : ℕ). eq_list (decision_word a.n a.coordinator.now) (word_at DecisionWord k)) c.decision_number.ensures
+    c.is_word_at.ensures ∙ ap (λ (k : ℕ). eq_list (decision_word a.n a.coordinator.now) (word_at DecisionWord k)) (decision_cast a.d)

@@ -6,6 +6,7 @@ use Rattle.model.specs.Layouts.{layout, line_layout, coordinator_bytes}
 use Rattle.model.specs.Lines.{line_text}
 use Rattle.sheet_laws.specs.Lines.{line_bytes}
 use Rattle.sheet_laws.specs.Decisions.{number_has_line}
+use Rattle.codec.specs.Casts.{decision_cast}
 use Rattle.codec.specs.Parts.{line_ends, room_part}
 use Rattle.codec.proofs.coordinator.set_decision.Goals as goal
 
@@ -30,7 +31,7 @@ returns-then-has_line c =
     let k : length c.write_row.new.line ≡ a.n * coordinator_bytes + coordinator_bytes - a.n * coordinator_bytes =
     c.write_row.auto.line ∙ simp (length-take, length-drop) (omega arith) in
     room_part (number_has_line a.n a.coordinator.now) coordinator_bytes (a.n * coordinator_bytes) _ _ _ (sym c.has_line.ensures ∙ c.if-has_line.true) k
-    (c.write_row.ensures ∙ ap (λ (d : ℕ). line_text line_layout (a.n ∷ d ∷ [])) c.decision_number.ensures)
+    (c.write_row.ensures ∙ ap (λ (d : ℕ). line_text line_layout (a.n ∷ d ∷ [])) (decision_cast a.d))
 
 pub returns-else-has_line : goal.returns-else-has_line
 returns-else-has_line c =

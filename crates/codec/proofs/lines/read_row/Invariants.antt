@@ -1,12 +1,7 @@
 -- Fields before i are in the row, and the bytes from `at` on are those of the others.
-use Rattle.std.specs.Prelude.{◌≡◌, ◌-◌}
-use Rattle.lists.specs.Basics.{length}
 use Rattle.model.specs.Layouts.{layout}
 use Rattle.codec.specs.Rows.{ReadTo}
 use Rattle.codec.proofs.lines.read_row.Given as goal
 
 abbrev pub invariant-loop-i : goal.invariant-loop-i
-invariant-loop-i l = (l.n ≡ length (layout l.l)) × ReadTo (layout l.l) l.line l.row l.at l.i
-
-abbrev pub decreases-loop-i : goal.decreases-loop-i
-decreases-loop-i l = l.n - l.i
+invariant-loop-i l = ReadTo (layout l.fn.l) l.line l.row l.at l.i

@@ -1,17 +1,19 @@
--- The numbers from i on are in range exactly if all are: none before i was out of range.
-use Rattle.std.proofs.Common.{◌∙◌}
-use Rattle.lists.specs.Basics.{sym, arith}
-use Rattle.codec.specs.Rows.{good_first, good_next, good_not, good_last}
+-- Each column with its number.
+use Rattle.std.proofs.Common.{◌∙◌, rules, tests}
+use Rattle.std.proofs.lemmas.Iterator.{YieldsList-from_slice, YieldsList-from_zip}
+use Rattle.std.proofs.lemmas.Iterator.Consumers.{YieldsList-at}
+use Rattle.std.proofs.lemmas.Iterator.Search.{all_from_yields_List}
+use Rattle.lists.specs.Basics.{ℕ}
+use Rattle.model.specs.Types.{Column}
+use Rattle.model.specs.Layouts.{layout}
+use Rattle.model.specs.Lines.{in_range}
+use Rattle.codec.specs.Rows.{good_is}
 use Rattle.codec.proofs.lines.row_good.Goals as goal
 
-pub loop-i-init : goal.loop-i-init
-loop-i-init c = (c.requires, good_first _ _)
-
-pub returns-then-not-in_range : goal.returns-then-not-in_range
-returns-then-not-in_range c = good_not _ _ _ _ (omega arith) c.column.ensures c.loop-i.invariant.1 (sym c.in_range.ensures ∙ c.if-not-in_range.true)
-
-pub loop-i-preserved : goal.loop-i-preserved
-loop-i-preserved c = (c.loop-i.invariant.0, good_next _ _ _ _ (omega arith) c.column.ensures c.loop-i.invariant.1 (sym c.in_range.ensures ∙ c.if-not-in_range.false))
-
 pub returns : goal.returns
-returns c = good_last _ _ _ (omega arith) c.loop-i.invariant.1
+returns c =
+    let cs = layout c.args.l in
+    let row = c.args.row.now in
+    all_from_yields_List (λ (p : Column × ℕ). in_range p.0 p.1) c.all.new.self _ c.all.result c.all.ensures.ran
+    (YieldsList-from_zip (YieldsList-at c.zip.ensures.first (YieldsList-from_slice cs cc)) (YieldsList-from_slice row c.zip.ensures.second.0)) (λ x b f h. search (rules, tests))
+    ∙ good_is cs row c.requires

@@ -4,6 +4,7 @@ use Rattle.lists.specs.Basics.{ap}
 use Rattle.lists.specs.Pieces.{over}
 use Rattle.model.specs.Types.{StateWord}
 use Rattle.model.specs.Layouts.{offset, record_layout, record_offset, state_field, word_at}
+use Rattle.codec.specs.Casts.{state_cast}
 use Rattle.codec.proofs.parts.put_state.Goals as goal
 
 pub returns : goal.returns
@@ -11,4 +12,4 @@ unfolding offset record_layout
 returns c =
     let a = c.args in
     c.put_at.ensures
-    ∙ ap (over a.line.now (record_offset state_field)) (c.word-word.ensures ∙ ap (word_at StateWord) c.state_number.ensures)
+    ∙ ap (over a.line.now (record_offset state_field)) (c.word-word.ensures ∙ ap (word_at StateWord) (state_cast a.state))

@@ -1,9 +1,13 @@
 -- The digits in the line, or 0 past the end.
-use Rattle.lists.specs.Basics.{lt-ltb, le-ltb}
+use Rattle.std.proofs.Common.{◌∙◌}
+use Rattle.lists.specs.Basics.{sym, lt-ltb, le-ltb}
+use Rattle.codec.specs.Parts.{found-inside, found-start, line-past}
 use Rattle.codec.proofs.reading.figure.Goals as goal
 
-pub returns-then-i-records : goal.returns-then-i-records
-returns-then-i-records c = rw (lt-ltb _ _ c.if-i-records.true) c.figure.ensures.value
+pub returns-in-Some : goal.returns-in-Some
+returns-in-Some c =
+    let at = sym c.in-Some.is ∙ c.line_at.ensures in
+    rw (lt-ltb _ _ (found-inside c.args.records.now c.args.i _ at), ← found-start c.args.records.now c.args.i _ at) c.figure.ensures.value
 
-pub returns : goal.returns
-returns c = rw (le-ltb _ _ c.if-i-records.false)
+pub returns-in-None : goal.returns-in-None
+returns-in-None c = rw (le-ltb _ _ (line-past c.args.records.now c.args.i _ (sym c.in-None.is ∙ c.line_at.ensures)))

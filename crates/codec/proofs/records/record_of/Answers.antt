@@ -5,4 +5,4 @@ use Rattle.codec.proofs.records.record_of.Goals as goal
 pub returns : goal.returns
 unfolding record_of key_of image_from
 returns c =
-    rw (c.state_of.ensures, c.before_of.ensures)
+    rw (c.from.ensures, c.from-2.ensures)

@@ -8,7 +8,7 @@ bounds-words-i c = let n = c.requires.table.eight in search rules
 
 pub overflow_add-result : goal.overflow_add-result
 overflow_add-result c =
-    let i = told c.load_eight-last.result in
+    let i = told c.load-last.result in
     omega (arith, c.requires.table.room i (omega arith))
 
 pub bounds-words-i-2 : goal.bounds-words-i-2
@@ -17,6 +17,6 @@ bounds-words-i-2 c = let n = c.requires.table.eight in search rules
 pub returns : goal.returns
 returns c =
     let a = c.args in
-    let front = c.load_eight in
-    let back = c.load_eight-last in
-    line_is a.number front.result back.result a.start a.words.now a.sheet.now front.ensures back.ensures
+    let front = c.load in
+    let back = c.load-last in
+    line_is a.number front.result back.result a.start a.words.now a.sheet.now front.ensures.value back.ensures.value

@@ -1,24 +1,14 @@
--- The loop's invariant: the letters before i are capitals, so that those from i on decide as all do.
-use Rattle.lists.specs.Basics.{arith, le-leb, lt-leb}
-use Rattle.lists.specs.Walks.{left-first}
-use Rattle.model.specs.Coordinator.{letter_of}
-use Rattle.sheet_laws.specs.Letters.{capitals_here, capitals_last}
+use Rattle.std.proofs.Common.{◌∙◌, rules, tests}
+use Rattle.std.proofs.lemmas.Iterator.{YieldsList-from_slice}
+use Rattle.std.proofs.lemmas.Iterator.Search.{all_from_yields_List}
+use Rattle.lists.specs.Basics.{ℕ, leb}
+use Rattle.lists.specs.Chains.{all_is}
+use Rattle.numbers.specs.Decisions.{capitals_is}
 use Rattle.numbers.proofs.decisions.capitals.Goals as goal
 
-pub loop-i-init : goal.loop-i-init
-loop-i-init c = left-first _ _
-
-pub returns-then-letters-i-gt4 : goal.returns-then-letters-i-gt4
-unfolding letter_of
-returns-then-letters-i-gt4 c = rw (lt-leb _ _ c.if-letters-i-gt4.true) at (capitals_here letter_of _ _ c.loop-i-test.true c.loop-i.invariant)
-
-pub loop-i-preserved : goal.loop-i-preserved
-unfolding letter_of
-loop-i-preserved c =
-    record {
-      reached = omega arith;
-      rest = rw (le-leb _ _ c.if-letters-i-gt4.false) at (capitals_here letter_of _ _ c.loop-i-test.true c.loop-i.invariant);
-    }
-
 pub returns : goal.returns
-returns c = capitals_last letter_of _ _ c.loop-i-test.false c.loop-i.invariant
+returns c =
+    let letters = c.args.letters.now in
+    let q = λ (n : ℕ). leb n 4 in
+    all_from_yields_List q _ _ c.all.result c.all.ensures.ran (YieldsList-from_slice letters cc) (λ x b f h. search (rules, tests))
+    ∙ (all_is q letters ∙ capitals_is letters)

@@ -1,22 +1,22 @@
--- One turn judges the decision at i; what is left to judge from i on decides the whole.
-use Rattle.lists.specs.Basics.{refl}
-use Rattle.numbers.specs.Decisions.{pass-first, pass_bad, pass_next, pass_last}
+use Rattle.std.specs.Prelude.{◌&&◌}
+use Rattle.std.proofs.Common.{◌∙◌, rules, tests}
+use Rattle.std.proofs.lemmas.Iterator.{YieldsList-from_slice}
+use Rattle.std.proofs.lemmas.Iterator.Adapters.{YieldsList-from_skip}
+use Rattle.std.proofs.lemmas.Iterator.Search.{all_from_yields_List}
+use Rattle.std.proofs.lemmas.Iterator.Consumers.{YieldsList-at}
+use Rattle.lists.specs.Basics.{ap₂, ℕ, drop, eqb, leb}
+use Rattle.lists.specs.Chains.{all_is}
+use Rattle.numbers.specs.Decisions.{decisions_pass}
 use Rattle.numbers.proofs.decisions.decisions_pass.Goals as goal
 
-pub loop-i-init : goal.loop-i-init
-loop-i-init c = (refl, pass-first _ _)
-
-pub returns-then-highest_at-decisions : goal.returns-then-highest_at-decisions
-returns-then-highest_at-decisions c =
-    let a = c.args in
-    pass_bad a.issued a.decisions.now c.loop-i.i c.loop-i-test.true c.loop-i.invariant.1 (rw c.highest_at.ensures at c.if-highest_at-decisions.true)
-
-pub loop-i-preserved : goal.loop-i-preserved
-loop-i-preserved c =
-    let a = c.args in
-    (c.loop-i.invariant.0, pass_next a.issued a.decisions.now c.loop-i.i c.loop-i-test.true c.loop-i.invariant.1 (rw c.highest_at.ensures at c.if-highest_at-decisions.false))
-
 pub returns : goal.returns
+unfolding decisions_pass
 returns c =
-    let a = c.args in
-    pass_last a.issued a.decisions.now c.loop-i.i c.loop-i-test.false c.loop-i.invariant.1
+    let ds = c.args.decisions.now in
+    let p = λ (d : ℕ). leb d 2 in
+    let q = λ (d : ℕ). eqb d 0 in
+    ap₂ ◌&&◌
+    (all_from_yields_List p _ _ c.all-ranged.result c.all-ranged.ensures.ran (YieldsList-from_slice ds cc) (λ x b f h. search (rules, tests)) ∙ all_is p ds)
+    (all_from_yields_List q _ _ c.all-open.result c.all-open.ensures.ran
+    (YieldsList-from_skip c.args.issued (YieldsList-at c.skip.ensures.source (YieldsList-from_slice ds cc)) c.skip.ensures.count) (λ x b f h. search (rules, tests))
+    ∙ all_is q (drop c.args.issued ds))

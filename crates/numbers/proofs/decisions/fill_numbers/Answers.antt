@@ -1,7 +1,7 @@
 -- The head comes back as its row, then the rest of the target as the decisions: both make the whole.
 use Rattle.std.specs.Prelude.{◌≡◌, ◌/◌, ◌++◌}
 use Rattle.std.proofs.Common.{◌∙◌}
-use Rattle.lists.specs.Basics.{sym, ap, ap₂, ℕ, List, map, length, drop, length-take, length-drop, arith, rules}
+use Rattle.lists.specs.Basics.{sym, ap, ap₂, ℕ, List, map, length, drop, length-take, length-drop, arith}
 use Rattle.model.specs.Lines.{lines_of}
 use Rattle.numbers.specs.DecisionFills.{decision_field, numbers_in}
 use Rattle.lists.specs.Fill.{front_same, rest_part, front_length, front_rest, front_back}
@@ -26,27 +26,11 @@ unfolding head_layout layout line_bytes
 read_row-requires c =
     record { line_len = simp length-take (omega arith); row_len = simp length-take (omega arith) }
 
-pub slice_bounds-fill_decisions-count : goal.slice_bounds-fill_decisions-count
-unfolding head_layout layout line_bytes
-slice_bounds-fill_decisions-count c = search rules
-
-pub slice_bounds-fill_decisions-start : goal.slice_bounds-fill_decisions-start
-unfolding head_layout layout line_bytes
-slice_bounds-fill_decisions-start c = search rules
-
-pub slice_bounds-fill_decisions-end : goal.slice_bounds-fill_decisions-end
-unfolding head_layout layout line_bytes
-slice_bounds-fill_decisions-end c = search rules
-
 pub slice_bounds-fill_decisions-count-2 : goal.slice_bounds-fill_decisions-count-2
 slice_bounds-fill_decisions-count-2 c = let e = front_length head_fields c.read_row.new.row c.args.numbers.now c.read_row.auto.row (omega arith) in omega arith
 
 pub slice_bounds-fill_decisions-start-2 : goal.slice_bounds-fill_decisions-start-2
 slice_bounds-fill_decisions-start-2 c = let e = front_length head_fields c.read_row.new.row c.args.numbers.now c.read_row.auto.row (omega arith) in omega arith
-
-pub slice_bounds-fill_decisions-end-2 : goal.slice_bounds-fill_decisions-end-2
-unfolding head_layout layout line_bytes
-slice_bounds-fill_decisions-end-2 c = search rules
 
 pub fill_decisions-requires : goal.fill_decisions-requires
 fill_decisions-requires c =

@@ -1,7 +1,7 @@
 -- The head comes back as its line, then the rest of the target as the lines: both make the whole.
 use Rattle.std.specs.Prelude.{◌≡◌, ◌*◌, ◌++◌}
 use Rattle.std.proofs.Common.{◌∙◌}
-use Rattle.lists.specs.Basics.{sym, ap, ap₂, ℕ, List, length, drop, length-take, length-drop, arith, rules, joined}
+use Rattle.lists.specs.Basics.{sym, ap, ap₂, ℕ, List, length, drop, length-take, length-drop, arith, joined}
 use Rattle.model.specs.Layouts.{layout, head_layout, coordinator_bytes, head_fields}
 use Rattle.sheet_laws.specs.Lines.{line_bytes}
 use Rattle.numbers.specs.DecisionFills.{line_texts, sheet_for}
@@ -25,34 +25,18 @@ unfolding head_layout layout line_bytes
 write_row-requires c =
     record { row_len = simp length-take (omega arith); line_len = simp length-take (omega arith) }
 
-pub slice_bounds-fill_lines-count : goal.slice_bounds-fill_lines-count
-unfolding head_layout layout line_bytes
-slice_bounds-fill_lines-count c = search rules
-
-pub slice_bounds-fill_lines-start : goal.slice_bounds-fill_lines-start
-unfolding head_layout layout line_bytes
-slice_bounds-fill_lines-start c = search rules
-
-pub slice_bounds-fill_lines-end : goal.slice_bounds-fill_lines-end
-unfolding head_layout layout line_bytes
-slice_bounds-fill_lines-end c = search rules
-
 pub slice_bounds-fill_lines-count-2 : goal.slice_bounds-fill_lines-count-2
 slice_bounds-fill_lines-count-2 c = let e = front_length coordinator_bytes c.write_row.new.line c.args.coordinator.now c.write_row.auto.line (omega arith) in omega arith
 
 pub slice_bounds-fill_lines-start-2 : goal.slice_bounds-fill_lines-start-2
 slice_bounds-fill_lines-start-2 c = let e = front_length coordinator_bytes c.write_row.new.line c.args.coordinator.now c.write_row.auto.line (omega arith) in omega arith
 
-pub slice_bounds-fill_lines-end-2 : goal.slice_bounds-fill_lines-end-2
-unfolding head_layout layout line_bytes
-slice_bounds-fill_lines-end-2 c = search rules
-
 pub fill_lines-requires : goal.fill_lines-requires
 fill_lines-requires c =
     let a = c.args in
     let k : length (drop coordinator_bytes a.coordinator.now) ≡ length (drop head_fields a.numbers.now) * coordinator_bytes = rw (length-drop coordinator_bytes a.coordinator.now) (omega arith) in
     let e = ap length (rest_part head_fields a.numbers.now) in
-    record { decisions_len_bound = omega arith; lines_len = ap length (front_rest coordinator_bytes c.write_row.new.line a.coordinator.now c.write_row.auto.line (omega arith)) ∙ (k ∙ ap (λ (n : ℕ). n * coordinator_bytes) (sym e)) }
+    record { few_lines = omega arith; lines_len = ap length (front_rest coordinator_bytes c.write_row.new.line a.coordinator.now c.write_row.auto.line (omega arith)) ∙ (k ∙ ap (λ (n : ℕ). n * coordinator_bytes) (sym e)) }
 
 pub shape_of-coordinator : goal.shape_of-coordinator
 shape_of-coordinator c = front_same coordinator_bytes c.write_row.new.line c.args.coordinator.now c.write_row.auto.line (omega arith) c.fill_lines.new.lines c.fill_lines.auto.lines

@@ -24,7 +24,7 @@ returns-then-not-coordinator_ok c =
 
 pub fill_numbers-requires : goal.fill_numbers-requires
 fill_numbers-requires c =
-    record { coordinator_bytes_in_bounds = readable_length c.args.coordinator.now (accepted_parts _ (sym c.coordinator_ok.ensures ∙ c.if-not-coordinator_ok.false)).0; numbers_len = c.if-numbers-count.false ∙ ap (λ (n : ℕ). head_fields + n) c.count.ensures }
+    record { whole_head = readable_length c.args.coordinator.now (accepted_parts _ (sym c.coordinator_ok.ensures ∙ c.if-not-coordinator_ok.false)).0; numbers_len = c.if-numbers-count.false ∙ ap (λ (n : ℕ). head_fields + n) c.count.ensures }
 
 pub returns : goal.returns
 returns c =

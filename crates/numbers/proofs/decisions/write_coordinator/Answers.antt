@@ -22,7 +22,7 @@ pub fill_sheet-requires : goal.fill_sheet-requires
 fill_sheet-requires c =
     let a = c.args in
     let z = sized a.numbers.now (sym c.numbers_ok.ensures ∙ c.if-not-numbers_ok.false) in
-    record { head_fields_in_bounds = z.head; numbers_len_bound = z.few; coordinator_len = eqb-true (length a.coordinator.now) (coordinator_bytes + length (drop head_fields a.numbers.now) * coordinator_bytes) (sym c.has_room.ensures ∙ c.if-not-has_room.false) }
+    record { whole_head = z.head; few_lines = z.few; coordinator_len = eqb-true (length a.coordinator.now) (coordinator_bytes + length (drop head_fields a.numbers.now) * coordinator_bytes) (sym c.has_room.ensures ∙ c.if-not-has_room.false) }
 
 pub returns : goal.returns
 returns c =

@@ -1,5 +1,5 @@
--- Lines before i are in the target, and those from i on are still to come.
-use Rattle.std.specs.Prelude.{◌≡◌, ◌-◌, ◌/◌}
+-- What is read before this turn is in the target, and the rest is still to come.
+use Rattle.std.specs.Prelude.{◌/◌}
 use Rattle.lists.specs.Basics.{length}
 use Rattle.model.specs.Layouts.{record_layout, record_bytes, record_fields}
 use Rattle.model.specs.Lines.{line_text}
@@ -7,7 +7,4 @@ use Rattle.numbers.specs.Filling.{MadeTo}
 use Rattle.numbers.proofs.records.fill_records.Given as goal
 
 abbrev pub invariant-loop-i : goal.invariant-loop-i
-invariant-loop-i l = (l.n ≡ length l.numbers / record_fields) × MadeTo record_fields record_bytes (line_text record_layout) l.numbers l.n l.records l.i
-
-abbrev pub decreases-loop-i : goal.decreases-loop-i
-decreases-loop-i l = l.n - l.i
+invariant-loop-i l = (goal.iterator-loop-i).can_next l.i-iterator × (goal.iterator-loop-i).is_finite l.i-iterator × MadeTo record_fields record_bytes (line_text record_layout) l.numbers (length l.numbers / record_fields) l.records (length l.yielded)

@@ -26,17 +26,17 @@ fill_numbers-requires c =
     let a = c.args in
     read_fits a.records.now a.numbers.now c.front_end-end.result c.requires.records_len c.requires.numbers_len c.front_end-end.ensures
 
-pub slice_bounds-fill_zeros-count : goal.slice_bounds-fill_zeros-count
-slice_bounds-fill_zeros-count c =
+pub slice_bounds-fill-count : goal.slice_bounds-fill-count
+slice_bounds-fill-count c =
     let a = c.args in
     omega (arith, read_rest a.records.now a.numbers.now c.front_end-end.result c.requires.records_len c.requires.numbers_len c.front_end-end.ensures c.fill_numbers.new.numbers c.fill_numbers.auto.numbers)
 
-pub slice_bounds-fill_zeros-start : goal.slice_bounds-fill_zeros-start
-slice_bounds-fill_zeros-start c =
+pub slice_bounds-fill-start : goal.slice_bounds-fill-start
+slice_bounds-fill-start c =
     let a = c.args in
     omega (arith, read_rest a.records.now a.numbers.now c.front_end-end.result c.requires.records_len c.requires.numbers_len c.front_end-end.ensures c.fill_numbers.new.numbers c.fill_numbers.auto.numbers)
 
 pub returns : goal.returns
 returns c =
     let a = c.args in
-    read_behind a.records.now a.numbers.now c.front_end-end.result c.requires.records_len c.requires.numbers_len c.front_end-end.ensures c.fill_numbers.new.numbers c.fill_numbers.auto.numbers c.fill_zeros.new.numbers c.fill_numbers.ensures c.fill_zeros.ensures
+    read_behind a.records.now a.numbers.now c.front_end-end.result c.requires.records_len c.requires.numbers_len c.front_end-end.ensures c.fill_numbers.new.numbers c.fill_numbers.auto.numbers c.fill.new.self c.fill_numbers.ensures (c.fill.ensures.after (λ y e. e))

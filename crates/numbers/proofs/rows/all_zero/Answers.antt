@@ -1,16 +1,14 @@
--- The numbers before i are zeros, so that those from i on decide as all do.
-use Rattle.lists.specs.Walks.{left-first}
-use Rattle.numbers.specs.Spares.{zero_stop, zero_next, zero_last}
+use Rattle.std.proofs.Common.{◌∙◌, rules, tests}
+use Rattle.std.proofs.lemmas.Iterator.{YieldsList-from_slice}
+use Rattle.std.proofs.lemmas.Iterator.Search.{all_from_yields_List}
+use Rattle.lists.specs.Basics.{ℕ, eqb}
+use Rattle.lists.specs.Chains.{all_is}
+use Rattle.numbers.specs.Spares.{zeros_is}
 use Rattle.numbers.proofs.rows.all_zero.Goals as goal
 
-pub loop-i-init : goal.loop-i-init
-loop-i-init c = left-first _ _
-
-pub returns-then-row-i-ne0 : goal.returns-then-row-i-ne0
-returns-then-row-i-ne0 c = zero_stop _ _ c.loop-i-test.true c.loop-i.invariant c.if-row-i-ne0.true
-
-pub loop-i-preserved : goal.loop-i-preserved
-loop-i-preserved c = zero_next _ _ c.loop-i-test.true c.loop-i.invariant c.if-row-i-ne0.false
-
 pub returns : goal.returns
-returns c = zero_last _ _ c.loop-i-test.false c.loop-i.invariant
+returns c =
+    let row = c.args.row.now in
+    let q = λ (x : ℕ). eqb x 0 in
+    all_from_yields_List q _ _ c.all.result c.all.ensures.ran (YieldsList-from_slice row cc) (λ x b f h. search (rules, tests))
+    ∙ (all_is q row ∙ zeros_is row)

@@ -1,16 +1,9 @@
--- The code is the definition, with the before state judged by `is_nothing` and the before image by `is_zero`.
-use Rattle.lists.specs.Basics.{rules}
-use Rattle.model.specs.Records.{no_before}
+-- The code is the definition: the derived tests are those of its fields.
+use Rattle.lists.specs.Basics.{and_assoc}
+use Rattle.model.specs.Records.{no_before, is_zero}
+use Rattle.codec.specs.Casts.{nothing_test}
 use Rattle.numbers.proofs.rules.no_before.Goals as goal
 
-pub is_nothing-requires : goal.is_nothing-requires
-unfolding no_before
-is_nothing-requires c = search rules
-
-pub is_zero-requires : goal.is_zero-requires
-unfolding no_before
-is_zero-requires c = search rules
-
 pub returns : goal.returns
-unfolding no_before
-returns c = rw (c.is_zero.ensures, c.is_nothing.ensures)
+unfolding no_before is_zero
+returns c = rw (c.eq.ensures, c.eq-2.ensures, nothing_test c.args.r.prior) (simp and_assoc)

@@ -7,14 +7,14 @@ use Rattle.sheet_laws.specs.Ranks.{found-few}
 use Rattle.sheets.specs.Answers.{line-none, line-met, is_found}
 use Rattle.sheets.proofs.lookup.line.Goals as goal
 
-pub returns-in-At : goal.returns-in-At
-returns-in-At c =
+pub returns-in-Some : goal.returns-in-Some
+returns-in-Some c =
     let a = c.args in
-    let f = is_found a.records.now a.key c.requires.records_value c.find.ensures ∙ c.in-At.is in
+    let f = is_found a.records.now a.key c.requires.records_value c.find.ensures ∙ c.in-Some.is in
     record { told = line-met a.records.now a.key c.requires.records_value _ f; few = found-few a.key a.records.now c.requires.records_value _ f }
 
-pub returns-in-Nothing : goal.returns-in-Nothing
-returns-in-Nothing c =
+pub returns-in-None : goal.returns-in-None
+returns-in-None c =
     let a = c.args in
-    let f = is_found a.records.now a.key c.requires.records_value c.find.ensures ∙ c.in-Nothing.is in
-    record { told = c.no_rank.ensures ∙ line-none a.records.now a.key c.requires.records_value f; few = subst (λ (r : Ranked). r.rank.below ≤ 500) (sym c.no_rank.ensures) (omega arith) }
+    let f = is_found a.records.now a.key c.requires.records_value c.find.ensures ∙ c.in-None.is in
+    record { told = line-none a.records.now a.key c.requires.records_value f; few = omega arith }

@@ -14,12 +14,12 @@ use Rattle.sheets.proofs.lookup.line_of.Goals as goal
 pub returns-then-not-sheet_ok : goal.returns-then-not-sheet_ok
 returns-then-not-sheet_ok c =
     let a = c.args in
-    record { told = c.no_rank.ensures ∙ (lookup_bad a.records.now a.key (sym c.sheet_ok.ensures ∙ c.if-not-sheet_ok.true)).line; few = subst (λ (r : Ranked). r.rank.below ≤ 500) (sym c.no_rank.ensures) (omega arith) }
+    record { told = (lookup_bad a.records.now a.key (sym c.sheet_ok.ensures ∙ c.if-not-sheet_ok.true)).line; few = omega arith }
 
 pub returns-then-not-key_in_range : goal.returns-then-not-key_in_range
 returns-then-not-key_in_range c =
     let a = c.args in
-    record { told = c.no_rank-then-not-key_in_range.ensures ∙ (lookup_out a.records.now a.key ((sym c.sheet_ok.ensures ∙ c.if-not-sheet_ok.false)) (sym c.key_in_range.ensures ∙ c.if-not-key_in_range.true)).line; few = subst (λ (r : Ranked). r.rank.below ≤ 500) (sym c.no_rank-then-not-key_in_range.ensures) (omega arith) }
+    record { told = (lookup_out a.records.now a.key ((sym c.sheet_ok.ensures ∙ c.if-not-sheet_ok.false)) (sym c.key_in_range.ensures ∙ c.if-not-key_in_range.true)).line; few = omega arith }
 
 pub lines_end-end-requires : goal.lines_end-end-requires
 lines_end-end-requires c = (sym c.sheet_ok.ensures ∙ c.if-not-sheet_ok.false)

@@ -37,28 +37,28 @@ pub overflow_mul-at : goal.overflow_mul-at
 unfolding front
 overflow_mul-at c =
     let a = c.args in
-    let e = front_fits a.records.now a.key _ (is_found (front record_bytes a.records.now) a.key (accepted_lines a.records.now ((sym c.sheet_ok.ensures ∙ c.if-not-sheet_ok.false))) (c.find.ensures ∙ ap (λ (n : ℕ). placed (ranked a.key (records (take n a.records.now)))) c.lines_end-end.ensures.is) ∙ c.in-At.is) in omega arith
+    let e = front_fits a.records.now a.key _ (is_found (front record_bytes a.records.now) a.key (accepted_lines a.records.now ((sym c.sheet_ok.ensures ∙ c.if-not-sheet_ok.false))) (c.find.ensures ∙ ap (λ (n : ℕ). placed (ranked a.key (records (take n a.records.now)))) c.lines_end-end.ensures.is) ∙ c.in-Some.is) in omega arith
 
 pub overflow_add-past : goal.overflow_add-past
 unfolding front
 overflow_add-past c =
     let a = c.args in
-    let e = front_fits a.records.now a.key _ (is_found (front record_bytes a.records.now) a.key (accepted_lines a.records.now ((sym c.sheet_ok.ensures ∙ c.if-not-sheet_ok.false))) (c.find.ensures ∙ ap (λ (n : ℕ). placed (ranked a.key (records (take n a.records.now)))) c.lines_end-end.ensures.is) ∙ c.in-At.is) in omega arith
+    let e = front_fits a.records.now a.key _ (is_found (front record_bytes a.records.now) a.key (accepted_lines a.records.now ((sym c.sheet_ok.ensures ∙ c.if-not-sheet_ok.false))) (c.find.ensures ∙ ap (λ (n : ℕ). placed (ranked a.key (records (take n a.records.now)))) c.lines_end-end.ensures.is) ∙ c.in-Some.is) in omega arith
 
-pub slice_bounds-result-end-in-At : goal.slice_bounds-result-end-in-At
+pub slice_bounds-result-end-in-Some : goal.slice_bounds-result-end-in-Some
 unfolding front
-slice_bounds-result-end-in-At c =
+slice_bounds-result-end-in-Some c =
     let a = c.args in
-    let e = front_fits a.records.now a.key _ (is_found (front record_bytes a.records.now) a.key (accepted_lines a.records.now ((sym c.sheet_ok.ensures ∙ c.if-not-sheet_ok.false))) (c.find.ensures ∙ ap (λ (n : ℕ). placed (ranked a.key (records (take n a.records.now)))) c.lines_end-end.ensures.is) ∙ c.in-At.is) in omega arith
+    let e = front_fits a.records.now a.key _ (is_found (front record_bytes a.records.now) a.key (accepted_lines a.records.now ((sym c.sheet_ok.ensures ∙ c.if-not-sheet_ok.false))) (c.find.ensures ∙ ap (λ (n : ℕ). placed (ranked a.key (records (take n a.records.now)))) c.lines_end-end.ensures.is) ∙ c.in-Some.is) in omega arith
 
-pub returns-in-At : goal.returns-in-At
+pub returns-in-Some : goal.returns-in-Some
 unfolding front
-returns-in-At c =
+returns-in-Some c =
     let a = c.args in
-    let i = c.in-At.i in let w : i * record_bytes + record_bytes - i * record_bytes ≡ record_bytes = omega arith in ap (λ (n : ℕ). take n (drop (i * record_bytes) a.records.now)) w ∙ lookup_met a.records.now a.key ((sym c.sheet_ok.ensures ∙ c.if-not-sheet_ok.false)) ((sym c.key_in_range.ensures ∙ c.if-not-key_in_range.false)) i (is_found (front record_bytes a.records.now) a.key (accepted_lines a.records.now ((sym c.sheet_ok.ensures ∙ c.if-not-sheet_ok.false))) (c.find.ensures ∙ ap (λ (n : ℕ). placed (ranked a.key (records (take n a.records.now)))) c.lines_end-end.ensures.is) ∙ c.in-At.is)
+    let i = c.in-Some.i in let w : i * record_bytes + record_bytes - i * record_bytes ≡ record_bytes = omega arith in ap (λ (n : ℕ). take n (drop (i * record_bytes) a.records.now)) w ∙ lookup_met a.records.now a.key ((sym c.sheet_ok.ensures ∙ c.if-not-sheet_ok.false)) ((sym c.key_in_range.ensures ∙ c.if-not-key_in_range.false)) i (is_found (front record_bytes a.records.now) a.key (accepted_lines a.records.now ((sym c.sheet_ok.ensures ∙ c.if-not-sheet_ok.false))) (c.find.ensures ∙ ap (λ (n : ℕ). placed (ranked a.key (records (take n a.records.now)))) c.lines_end-end.ensures.is) ∙ c.in-Some.is)
 
-pub returns-in-Nothing : goal.returns-in-Nothing
+pub returns-in-None : goal.returns-in-None
 unfolding front
-returns-in-Nothing c =
+returns-in-None c =
     let a = c.args in
-    lookup_none a.records.now a.key ((sym c.sheet_ok.ensures ∙ c.if-not-sheet_ok.false)) ((sym c.key_in_range.ensures ∙ c.if-not-key_in_range.false)) (is_found (front record_bytes a.records.now) a.key (accepted_lines a.records.now ((sym c.sheet_ok.ensures ∙ c.if-not-sheet_ok.false))) (c.find.ensures ∙ ap (λ (n : ℕ). placed (ranked a.key (records (take n a.records.now)))) c.lines_end-end.ensures.is) ∙ c.in-Nothing.is)
+    lookup_none a.records.now a.key ((sym c.sheet_ok.ensures ∙ c.if-not-sheet_ok.false)) ((sym c.key_in_range.ensures ∙ c.if-not-key_in_range.false)) (is_found (front record_bytes a.records.now) a.key (accepted_lines a.records.now ((sym c.sheet_ok.ensures ∙ c.if-not-sheet_ok.false))) (c.find.ensures ∙ ap (λ (n : ℕ). placed (ranked a.key (records (take n a.records.now)))) c.lines_end-end.ensures.is) ∙ c.in-None.is)

@@ -4,12 +4,12 @@ use Rattle.sheet_laws.specs.Ranks.{found-ranked, missing-ranked, accepted_order}
 use Rattle.sheets.specs.Answers.{is_found}
 use Rattle.sheets.proofs.lookup.rank.Goals as goal
 
-pub returns-in-At : goal.returns-in-At
-returns-in-At c =
+pub returns-in-Some : goal.returns-in-Some
+returns-in-Some c =
     let a = c.args in
-    found-ranked a.key _ (accepted_order a.records.now c.requires.records_value) _ (is_found a.records.now a.key c.requires.records_value c.find.ensures ∙ c.in-At.is)
+    found-ranked a.key _ (accepted_order a.records.now c.requires.records_value) _ (is_found a.records.now a.key c.requires.records_value c.find.ensures ∙ c.in-Some.is)
 
-pub returns-in-Nothing : goal.returns-in-Nothing
-returns-in-Nothing c =
+pub returns-in-None : goal.returns-in-None
+returns-in-None c =
     let a = c.args in
-    missing-ranked a.key _ (accepted_order a.records.now c.requires.records_value) _ c.below.ensures (is_found a.records.now a.key c.requires.records_value c.find.ensures ∙ c.in-Nothing.is)
+    missing-ranked a.key _ (accepted_order a.records.now c.requires.records_value) _ c.below.ensures (is_found a.records.now a.key c.requires.records_value c.find.ensures ∙ c.in-None.is)

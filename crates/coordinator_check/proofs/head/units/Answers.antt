@@ -1,0 +1,12 @@
+-- The chain asks every letter.
+use Rattle.std.proofs.Common.{◌∙◌, rules, tests}
+use Rattle.std.proofs.lemmas.Iterator.{YieldsList-from_slice}
+use Rattle.std.proofs.lemmas.Iterator.Search.{all_from_yields_List}
+use Rattle.lists.specs.Basics.{ℕ}
+use Rattle.coordinator_check.specs.Head.{is_unit, all_units}
+use Rattle.coordinator_check.proofs.head.units.Goals as goal
+
+pub returns : goal.returns
+returns c =
+    let s = c.args.letters.now in
+    all_from_yields_List (λ (b : ℕ). is_unit b) _ _ c.all.result c.all.ensures.ran (YieldsList-from_slice s cc) (λ x b q k. search (rules, tests)) ∙ all_units s
