@@ -6,7 +6,7 @@ ghost use Rattle.closing.specs.Running.{Sure, Turned, Closed};
 pub mod writes;
 
 use held_lines::Located;
-use transactions::stages;
+use transactions::phases::Phase;
 use types::Transaction;
 
 // Turns enough for every order: one from open, one for each group in prepare and in finish, one for each entry in check, one to decide.
@@ -25,7 +25,7 @@ fn turn(x: Ran, located: Located, clock: u32, records: &mut [u8], coordinator: &
     requires { Sure x records.old coordinator.old located }
     ensures { Turned clock x records.old coordinator.old result records.new coordinator.new located }
 {
-    if x.transaction.phase == stages::DONE {
+    if x.transaction.phase == Phase::Done as u32 {
         return x;
     }
     let t = x.transaction;
@@ -48,7 +48,8 @@ fn turn(x: Ran, located: Located, clock: u32, records: &mut [u8], coordinator: &
     }
 }
 
-// All turns, at one clock reading. What was found once of the entries holds for every turn, since no step moves a line or changes a put.
+// All turns, at one clock reading: as many as any order needs, where one past the end changes nothing. What was found once of the entries holds for every turn,
+// since no step moves a line or changes a put.
 pub fn run(
     t: Transaction,
     located: Located,

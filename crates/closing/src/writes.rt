@@ -13,6 +13,7 @@ ghost use Rattle.closing.specs.Writes.{puts_group, rolls_group};
 
 use group_writes::{changes, groups};
 use held_lines::Located;
+use transactions::phases::Phase;
 use types::{Decision, Transaction};
 
 // The group at the transaction's place has an entry. The sheets are lent for the lines and units by which the entries were found.
@@ -20,13 +21,7 @@ fn has_entry(t: Transaction, located: Located, records: &[u8], coordinator: &[u8
     requires { groups.Ready records.now coordinator.now t located }
     ensures { result ≡ not (is_empty (group_at t (sheets_of records.now coordinator.now))) }
 {
-    let n = t.count as usize;
-    for i in 0..n {
-        if located.of[i] == t.place {
-            return true;
-        }
-    }
-    false
+    located.of[..t.count as usize].contains(&t.place)
 }
 
 // The puts of the group would be written: all conditions hold, and there is one.
@@ -39,19 +34,14 @@ fn puts_group(t: Transaction, located: Located, records: &[u8], coordinator: &[u
 }
 
 // Some line of the group would be rolled: one that the transaction has prepared. Lines rolled already, by a visit or before, are skipped.
+// Over indices, as in `groups::group_holds`.
 fn rolls_group(t: Transaction, located: Located, records: &[u8], coordinator: &[u8]) -> bool
     requires { groups.Ready records.now coordinator.now t located }
     ensures { result ≡ rolls_group t (sheets_of records.now coordinator.now) }
 {
-    let n = t.count as usize;
-    for i in 0..n {
-        let own = located.of[i] == t.place;
-        let index = located.indices[i];
-        if own & held_lines::prepared_by(t.number, records, index) {
-            return true;
-        }
-    }
-    false
+    (0..t.count as usize).any(|i| {
+        located.of[i] == t.place && held_lines::prepared_by(t.number, records, located.indices[i])
+    })
 }
 
 // An open transaction writes only in one phase.
@@ -67,11 +57,7 @@ fn open_writes(t: Transaction, located: Located, records: &[u8], coordinator: &[
 fn undecided(t: Transaction, coordinator: &[u8]) -> bool
     ensures { result ≡ by_decision (decision t.number (coordinator_of coordinator.now)) true false false }
 {
-    match codec::coordinator::decision_at(coordinator, t.number) {
-        Decision::Undecided => true,
-        Decision::Committed => false,
-        Decision::Aborted => false,
-    }
+    codec::coordinator::decision_at(coordinator, t.number) == Decision::Undecided
 }
 
 // The step of the transaction's phase would change a byte, whatever the clock.
@@ -79,16 +65,14 @@ pub fn writes(t: Transaction, located: Located, records: &[u8], coordinator: &[u
     requires { Ready records.now coordinator.now t located }
     ensures { (clock : ℕ) → result ≡ changes (model.step t clock (sheets_of records.now coordinator.now)).write (sheets_of records.now coordinator.now) }
 {
-    let phase = t.phase;
+    let Ok(phase) = Phase::try_from(t.phase) else {
+        return false;
+    };
     match phase {
-        0 => open_writes(t, located, records, coordinator),
-        1 => puts_group(t, located, records, coordinator),
-        2 => false,
-        3 => undecided(t, coordinator),
-        4 => undecided(t, coordinator),
-        5 => rolls_group(t, located, records, coordinator),
-        6 => rolls_group(t, located, records, coordinator),
-        7 => false,
-        _ => false,
+        Phase::Open => open_writes(t, located, records, coordinator),
+        Phase::Prepare => puts_group(t, located, records, coordinator),
+        Phase::Decide | Phase::Withdraw => undecided(t, coordinator),
+        Phase::Finish | Phase::Undo => rolls_group(t, located, records, coordinator),
+        Phase::Validate | Phase::Done => false,
     }
 }

@@ -6,7 +6,7 @@ use Rattle.lists.specs.Basics.{refl, sym, ap, ap₂, ℕ, ltb, Bool, true, false
 use Rattle.lists.specs.Basics.{get_or, set, Option, none, some, arith, ltb-true, lt-ltb, le-ltb, all, any, choose_by, or_fst, or_snd}
 use Rattle.lists.specs.All.{map-map, map_equal, all_always}
 use Rattle.lists.specs.Pieces.{over, over-same}
-use Rattle.model.specs.Types.{Key, Record, At, Nothing, Entry}
+use Rattle.model.specs.Types.{Key, Record, Some, None, Entry}
 use Rattle.model.specs.Layouts.{record_bytes}
 use Rattle.model.specs.Records.{no_record, record_text, records, records_accepted, good_alone, same_key, found, line_of}
 use Rattle.model.specs.Images.{Change, change_of, prepared_by, prepared, committed, rolled_forward, rolled_back}
@@ -163,7 +163,7 @@ module _ (c : Effect) (n : ℕ) (e : Entry) (i : ℕ) (rs : List ℕ) (due : Due
   abbrev over_line : List ℕ
   over_line = cond (ltb i (length rs / record_bytes)) (over rs (i * record_bytes) (record_text (changed c n (change_of e) (get_or (records rs) i no_record)))) rs
 
-  wrote-there : found e.key (records rs) ≡ At i → (rs' : List ℕ) → rs' ≡ over_line → Wrote c n e rs rs'
+  wrote-there : found e.key (records rs) ≡ Some i → (rs' : List ℕ) → rs' ≡ over_line → Wrote c n e rs rs'
   wrote-there there rs' w =
       let r = changed c n (change_of e) (get_or (records rs) i no_record) in
       let x : FoundAt e.key (records rs) i = found_at e.key (records rs) i there in
@@ -182,7 +182,7 @@ module _ (c : Effect) (n : ℕ) (e : Entry) (i : ℕ) (rs : List ℕ) (due : Due
       }
 
   -- a key without a line: nothing is written
-  wrote_none : found e.key (records rs) ≡ Nothing → i ≡ length (records rs) → (rs' : List ℕ) → rs' ≡ over_line → Wrote c n e rs rs'
+  wrote_none : found e.key (records rs) ≡ None → i ≡ length (records rs) → (rs' : List ℕ) → rs' ≡ over_line → Wrote c n e rs rs'
   wrote_none missing q rs' w =
       let r = changed c n (change_of e) (get_or (records rs) i no_record) in
       let l : length rs / record_bytes ≤ i = omega (arith, length-records rs, q) in
@@ -194,7 +194,7 @@ module _ (c : Effect) (n : ℕ) (e : Entry) (i : ℕ) (rs : List ℕ) (due : Due
 
   pub wrote-line : (rs' : List ℕ) → rs' ≡ over_line → Wrote c n e rs rs'
   wrote-line rs' w =
-      by_line e.key (records rs) (λ (j : ℕ). i ≡ j → Wrote c n e rs rs') (λ j f q. wrote-there (f ∙ ap At (sym q)) rs' w)
+      by_line e.key (records rs) (λ (j : ℕ). i ≡ j → Wrote c n e rs rs') (λ j f q. wrote-there (f ∙ ap Some (sym q)) rs' w)
       (λ f q. wrote_none f q rs' w) due.there
 
 -- a line that stays is its own text

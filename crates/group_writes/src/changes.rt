@@ -62,19 +62,16 @@ fn change_group(c: Effect, t: Transaction, located: Located, records: &mut [u8],
     requires { MayChange c records.old coordinator.now t located }
     ensures { records.new ≡ records_text (lines_after (written c t.number (group_at t (sheets_of records.old coordinator.now))) (sheet.records records.old)) }
 {
-    let n = t.count as usize;
-    for i in 0..n {
-        let e = t.entries[i];
+    for (i, e) in transactions::held(&t).iter().enumerate() {
         let own = located.of[i] == t.place;
-        let index = located.indices[i];
-        change_entry(c, t.number, own, e, index, records);
+        change_entry(c, t.number, own, *e, located.indices[i], records);
     }
 }
 
 // The puts of the group committed in one phase.
 pub fn commit_group(t: Transaction, located: Located, records: &mut [u8], coordinator: &[u8])
     requires ready { Ready records.old coordinator.now t located }
-    requires coordinator_value { all (holds (sheets_of records.old coordinator.now)) (group_at t (sheets_of records.old coordinator.now)) ≡ true }
+    requires conditions { all (holds (sheets_of records.old coordinator.now)) (group_at t (sheets_of records.old coordinator.now)) ≡ true }
     ensures { records.new ≡ records_text (lines_after (commit t.number (group_at t (sheets_of records.old coordinator.now))) (sheet.records records.old)) }
 {
     change_group(Effect::Commit, t, located, records, coordinator);
@@ -89,7 +86,7 @@ pub fn prepare_group(
     coordinator: &[u8],
 )
     requires ready { Ready records.old coordinator.now t located }
-    requires coordinator_value { all (holds (sheets_of records.old coordinator.now)) (group_at t (sheets_of records.old coordinator.now)) ≡ true }
+    requires conditions { all (holds (sheets_of records.old coordinator.now)) (group_at t (sheets_of records.old coordinator.now)) ≡ true }
     ensures { records.new ≡ records_text (lines_after (prepare t.number clock (group_at t (sheets_of records.old coordinator.now))) (sheet.records records.old)) }
 {
     change_group(Effect::Prepare(clock), t, located, records, coordinator);

@@ -10,7 +10,7 @@ use denote.Laws.{Is}
 use denote.Struct.Declared.{row}
 use Rattle.lists.specs.All.{all_always, all_at}
 use Rattle.types.specs.contracts.Transaction.{the_type}
-use Rattle.model.specs.Types.{Key, Record, Found, At, Nothing, Entry, Transaction}
+use Rattle.model.specs.Types.{Key, Record, Found, Some, None, Entry, Transaction}
 use Rattle.model.specs.Records.{no_record, same_key, key_in_range, found, is_missing, by_found, line_of}
 use Rattle.model.specs.Coordinator.{Letter}
 use Rattle.model.specs.Transactions.{held, puts, held_at, no_entry, must_validate, to_validate}
@@ -64,25 +64,25 @@ pub record Grouped (us : List Letter) (t : Transaction) (l : Located) : Type 0 w
 
 -- The indices found are those of the lines.
 
-line_index_lem : (k : Key) (rs : List Record) (p : ℕ) → found k rs ≡ At p → line_index k rs ≡ p
+line_index_lem : (k : Key) (rs : List Record) (p : ℕ) → found k rs ≡ Some p → line_index k rs ≡ p
 line_index_lem k rs p e = ap (λ (f : Found). by_found f (length rs) (λ (i : ℕ). i)) e
 
-pub index_found : (k : Key) (rs : List Record) (i : ℕ) → found k rs ≡ At i → i ≡ line_index k rs
+pub index_found : (k : Key) (rs : List Record) (i : ℕ) → found k rs ≡ Some i → i ≡ line_index k rs
 index_found k rs i e = sym (line_index_lem k rs i e)
 
-pub index_none : (k : Key) (rs : List Record) → found k rs ≡ Nothing → length rs ≡ line_index k rs
+pub index_none : (k : Key) (rs : List Record) → found k rs ≡ None → length rs ≡ line_index k rs
 index_none k rs e = sym (ap (λ (f : Found). by_found f (length rs) (λ (i : ℕ). i)) e)
 
 -- by what is found: an index of a line, or none
-pub by_line : (k : Key) (rs : List Record) (P : ℕ → Type 0) → ((i : ℕ) → found k rs ≡ At i → P i) → (found k rs ≡ Nothing → P (length rs)) → P (line_index k rs)
+pub by_line : (k : Key) (rs : List Record) (P : ℕ → Type 0) → ((i : ℕ) → found k rs ≡ Some i → P i) → (found k rs ≡ None → P (length rs)) → P (line_index k rs)
 by_line k rs P here none = go (found k rs) refl
   where
     go : (f : Found) → found k rs ≡ f → P (by_found f (length rs) (λ (i : ℕ). i))
-    go (At i) e = here i e
-    go Nothing e = none e
+    go (Some i) e = here i e
+    go None e = none e
 
 -- a key that no search finds is on no line
-pub none-listed : (k : Key) (rs : List Record) → found k rs ≡ Nothing → lists_key k rs ≡ false
+pub none-listed : (k : Key) (rs : List Record) → found k rs ≡ None → lists_key k rs ≡ false
 unfolding is_missing
 none-listed k rs e = sym (has_line_lem k rs) ∙ rw e
 
@@ -97,13 +97,13 @@ prepared_at_lem n k rs i e =
 
 -- an index within the sheet is that of the key's line, any other of none
 module _ (k : Key) (rs : List Record) (i : ℕ) (e : i ≡ line_index k rs) where
-  pub line-there : i < length rs → found k rs ≡ At i
+  pub line-there : i < length rs → found k rs ≡ Some i
   line-there l =
-      by_line k rs (λ (j : ℕ). i ≡ j → found k rs ≡ At i) (λ j f q. f ∙ ap At (sym q)) (λ f q. absurd (omega (arith, l, q))) e
+      by_line k rs (λ (j : ℕ). i ≡ j → found k rs ≡ Some i) (λ j f q. f ∙ ap Some (sym q)) (λ f q. absurd (omega (arith, l, q))) e
 
-  pub line-nowhere : length rs ≤ i → found k rs ≡ Nothing
+  pub line-nowhere : length rs ≤ i → found k rs ≡ None
   line-nowhere l =
-      by_line k rs (λ (j : ℕ). i ≡ j → found k rs ≡ Nothing) (λ j f q. let w = (found_at k rs j f).within in absurd (omega (arith, l, q, w))) (λ f q. f) e
+      by_line k rs (λ (j : ℕ). i ≡ j → found k rs ≡ None) (λ j f q. let w = (found_at k rs j f).within in absurd (omega (arith, l, q, w))) (λ f q. f) e
 
 module _ (rs : List Record) (t : Transaction) where
   pub length_indices : (n : ℕ) → length (indices_of rs t n) ≡ 8
@@ -166,7 +166,7 @@ place_few us t few =
           arith,
           ltb-true t.place (length (to_validate us t)) q,
           sym (tallied_kept (must_validate us t) (held t)),
-          tallied-few t (λ (e : Entry) (r : List Entry). must_validate us t e) (held t),
+          tallied-few (λ (e : Entry) (r : List Entry). must_validate us t e) (held t),
           length-take t.count t.entries,
           few,
         )
@@ -184,16 +184,16 @@ module _ (f : Record → Record) (kept : (r : Record) → (f r).key ≡ r.key) w
 
 -- the index of a key that the transaction holds
 module _ (k : Key) (t : Transaction) where
-  held_key : (i : ℕ) → held_at k t ≡ At i → (entry_at t i).key ≡ k
+  held_key : (i : ℕ) → held_at k t ≡ Some i → (entry_at t i).key ≡ k
   unfolding held_at held
   held_key i e =
       let x = first_at (λ (y : Entry). same_key y.key k) (held t) no_entry i e in
       ap (λ (y : Entry). y.key) (sym (get_or-first t.count t.entries i no_entry x.within)) ∙ same_key_lem _ k x.passes
 
-  indexed_held : (rs : List Record) (is : List ℕ) (i : ℕ) → held_at k t ≡ At i → Indexed rs t is t.count → get_or is i 0 ≡ line_index k rs
+  indexed_held : (rs : List Record) (is : List ℕ) (i : ℕ) → held_at k t ≡ Some i → Indexed rs t is t.count → get_or is i 0 ≡ line_index k rs
   indexed_held rs is i e h = h.at i (held_below t k i e) ∙ ap (λ (j : Key). line_index j rs) (held_key i e)
 
-  held_somewhere : held_at k t ≡ Nothing → has_key k (held t) ≡ true → ⊥
+  held_somewhere : held_at k t ≡ None → has_key k (held t) ≡ true → ⊥
   unfolding held_at is_missing
   held_somewhere e h =
       true≢false (sym h ∙ (sym (some_found (λ (y : Entry). same_key y.key k) 0 (held t)) ∙ ap (λ (f : Found). not (is_missing f)) e))
@@ -202,5 +202,5 @@ module _ (k : Key) (t : Transaction) where
   indexed_in rs is h g = go (held_at k t) refl
     where
       go : (f : Found) → held_at k t ≡ f → by_found f 0 (λ (i : ℕ). get_or is i 0) ≡ line_index k rs
-      go (At i) e = indexed_held rs is i e h
-      go Nothing e = absurd (held_somewhere e g)
+      go (Some i) e = indexed_held rs is i e h
+      go None e = absurd (held_somewhere e g)

@@ -13,9 +13,10 @@ ghost use Rattle.held_lines.specs.Located.{line_index, keys_ranged, indices_of, 
 
 use codec::reading;
 use sheets::lookup;
-use types::{Entry, Found, Key, Transaction};
+use types::{Entry, Key, Transaction};
 
-// What a call finds once about the entries of its transaction: the index of each one's line, how many groups the puts make, and the place of each one's group.
+// What a call finds once about the entries of its transaction: the index of each one's line, how many groups the puts make, and the place of each one's group. Two arrays
+// and not one of pairs: `lines_of` and `put_groups::groups_of` each give one, which their clauses name whole (`indices_of`, `groups_in`).
 #[derive(Clone, Copy)]
 pub struct Located {
     pub indices: [usize; 8],
@@ -31,8 +32,8 @@ fn line_index(records: &[u8], key: Key) -> usize
     ensures { result ≡ line_index key (sheet.records records.now) }
 {
     match lookup::find(records, key) {
-        Found::At(i) => i,
-        Found::Nothing => codec::records::count(records),
+        Some(i) => i,
+        None => codec::records::count(records),
     }
 }
 
@@ -41,10 +42,8 @@ pub fn lines_of(records: &[u8], t: Transaction) -> [usize; 8]
     requires { (records_accepted records.now ≡ true) × ((t.count ≤ 8) × (keys_ranged t ≡ true)) }
     ensures { result ≡ indices_of (sheet.records records.now) t t.count }
 {
-    let n = t.count as usize;
     let mut indices = NO_INDICES;
-    for i in 0..n {
-        let e = t.entries[i];
+    for (i, e) in transactions::held(&t).iter().enumerate() {
         indices[i] = line_index(records, e.key);
     }
     indices
@@ -90,8 +89,8 @@ pub fn index_of(key: Key, t: Transaction, indices: [usize; 8]) -> usize
     ensures { result ≡ index_in key t indices }
 {
     match transactions::held_at(key, t) {
-        Found::At(i) => indices[i],
-        Found::Nothing => 0,
+        Some(i) => indices[i],
+        None => 0,
     }
 }
 

@@ -1,14 +1,13 @@
--- Scopes compared by the fields of their keys, and groups counted one by one: a group counts at the last put of its scope.
+-- Groups counted one by one: a group counts at the last put of its scope.
 use Rattle.std.specs.Prelude.{◌≡◌, ◌-◌, ◌&&◌, ◌||◌, ◌∷◌}
 use Rattle.std.proofs.Common.{◌∙◌}
-use Rattle.lists.specs.Basics.{refl, sym, ap, ℕ, suc, eqb, ltb, Bool, true, false, not, cond, or-false, List, [], take}
-use Rattle.lists.specs.Basics.{eqb-true, any, filter, count, less, eq_list, eq_list-true}
-use Rattle.model.specs.Types.{Key, AtomicityUnit, Entry, Transaction}
+use Rattle.lists.specs.Basics.{refl, sym, ap, ℕ, suc, eqb, Bool, true, false, not, cond, List, []}
+use Rattle.lists.specs.Basics.{any, filter, count, eq_list, eq_list-true}
+use Rattle.model.specs.Types.{AtomicityUnit, Entry, Transaction}
 use Rattle.types.specs.declared.AtomicityUnit.TheVariants.{Record as RecordUnit, Partition, Table, Namespace, Storage}
-use Rattle.model.specs.Records.{key_numbers}
 use Rattle.model.specs.Coordinator.{Letter}
 use Rattle.model.specs.Transactions.{is_put, held, puts}
-use Rattle.model.specs.Groups.{unit_fields, letter_for, scope, add_scope, scopes, group_place, group}
+use Rattle.model.specs.Groups.{unit_fields, scope, add_scope, scopes, group_place, group}
 use Rattle.transactions.specs.Held.{tallied}
 
 -- a unit compares the storage at least
@@ -19,36 +18,6 @@ some_field Partition = refl
 some_field Table = refl
 some_field Namespace = refl
 some_field Storage = refl
-
--- lists that begin differently are compared by their first numbers
-module _ (m n x y : ℕ) (s t : List ℕ) (differ : eqb x y ≡ false) where
-  first-differs : eq_list (take (suc m) (x ∷ s)) (take (suc n) (y ∷ t)) ≡ false
-  unfolding eq_list
-  first-differs = rw differ
-
-  first-decides : less (take (suc m) (x ∷ s)) (take (suc n) (y ∷ t)) ≡ ltb x y
-  unfolding less
-  first-decides = rw differ (or-false (ltb x y))
-
--- Two scopes are compared in the fields that the unit of the first storage compares: where the storages differ, they decide.
-module _ (us : List Letter) (a b : Key) where
-  by_scope : (f : List ℕ → List ℕ → Bool) → ((m n x y : ℕ) (s t : List ℕ) → eqb x y ≡ false → f (take (suc m) (x ∷ s)) (take (suc m) (y ∷ t)) ≡ f (take (suc m) (x ∷ s)) (take (suc n) (y ∷ t))) → f (take (unit_fields (letter_for a.storage us).unit) (key_numbers a)) (take (unit_fields (letter_for a.storage us).unit) (key_numbers b)) ≡ f (scope us a) (scope us b)
-  unfolding scope key_numbers
-  by_scope f decided = go (eqb a.storage b.storage) refl
-    where
-      go : (e : Bool) → eqb a.storage b.storage ≡ e → f (take (unit_fields (letter_for a.storage us).unit) (key_numbers a)) (take (unit_fields (letter_for a.storage us).unit) (key_numbers b)) ≡ f (scope us a) (scope us b)
-      go true e = ap (λ (n : ℕ). f (scope us a) (take (unit_fields (letter_for n us).unit) (key_numbers b))) (eqb-true a.storage b.storage e)
-      go false e =
-          rw (some_field (letter_for a.storage us).unit, some_field (letter_for b.storage us).unit)
-          (decided (unit_fields (letter_for a.storage us).unit - 1) (unit_fields (letter_for b.storage us).unit - 1) a.storage b.storage _ _ e)
-
-  pub scope-same : eq_list (take (unit_fields (letter_for a.storage us).unit) (key_numbers a)) (take (unit_fields (letter_for a.storage us).unit) (key_numbers b)) ≡ eq_list (scope us a) (scope us b)
-  scope-same = by_scope eq_list (λ m n x y s t e. first-differs m m x y s t e ∙ sym (first-differs m n x y s t e))
-
-  pub scope-less : less (take (unit_fields (letter_for a.storage us).unit) (key_numbers a)) (take (unit_fields (letter_for a.storage us).unit) (key_numbers b)) ≡ less (scope us a) (scope us b)
-  scope-less = by_scope less (λ m n x y s t e. first-decides m m x y s t e ∙ sym (first-decides m n x y s t e))
-
--- Groups, one by one.
 
 -- a later put of the entry's scope
 abbrev pub same_scope : List Letter → Entry → Entry → Bool

@@ -1,6 +1,4 @@
--- How many fields of a key make a scope, groups found by flat numbers as those of the definitions, and what one turn of a loop over those numbers does.
-pub mod Units
-pub mod Keys
-pub mod Scopes
+-- The scope of a key, and the groups found by the last puts of their scopes as those of the definitions.
 pub mod Groups
+pub mod Scopes
 pub mod GroupsIn

@@ -1,19 +1,19 @@
 // Atomicity units and the groups of a transaction's puts. The units are the nine letters of the coordinator's head.
 #![tactic(auto)]
 
-ghost use Rattle.std.specs.Prelude.{◌≡◌, ◌*◌, ◌≤◌, length};
-ghost use Rattle.model.specs.Transactions.{puts};
+ghost use Rattle.std.specs.Prelude.{◌≡◌, ◌++◌, ◌≤◌, drop, map};
+ghost use Rattle.model.specs.Transactions.{held, puts};
 ghost use Rattle.model.specs.Groups.{group_count};
 ghost use Rattle.transactions.specs.Units.{units_in};
-ghost use Rattle.put_groups.specs.GroupsIn.{found_places, groups_in};
-ghost use Rattle.put_groups.specs.Scopes.{lasts_of, count_lasts};
+ghost use Rattle.put_groups.specs.GroupsIn.{groups_in};
+ghost use Rattle.put_groups.specs.Scopes.{lasts_in};
 
-mod keys;
 mod scopes;
 
-use types::Transaction;
+use types::{Key, Transaction};
 
-// How many groups the puts make, and of each entry the place of its group: 8, which is no group's place, of an entry without put and behind the last entry.
+// How many groups the puts make, and of each entry the place of its group: 8, which is no group's place, of an entry without put and behind the last entry. 8 and no
+// Option, since the clause of `groups_of` (`groups_in`) says so.
 #[derive(Clone, Copy)]
 pub struct Groups {
     pub count: u32,
@@ -22,21 +22,18 @@ pub struct Groups {
 
 const NO_GROUPS: [u32; 8] = [8, 8, 8, 8, 8, 8, 8, 8];
 
-// The groups of puts that are given by numbers.
-fn groups_by(keys: &[u32], fields: &[u32]) -> Groups
-    requires { (length fields.now ≤ 8) × (length keys.now ≡ length fields.now * 5) }
-    ensures count { result.count ≡ count_lasts (lasts_of keys.now fields.now) }
-    ensures places { result.of ≡ found_places keys.now fields.now }
+// Of each entry the scope of its put, where it's the last put of that scope: as many as there are groups. The loop counts an index, since each entry is looked at with
+// those after it.
+fn lasts_of(letters: &[u8], t: &Transaction) -> [Option<Key>; 8]
+    requires { t.now.count ≤ 8 }
+    ensures { result ≡ lasts_in (units_in letters.now) t.now }
 {
-    let n = fields.len();
-    let mut lasts = [0u32; 8];
-    scopes::fill_lasts(keys, fields, &mut lasts[0..n]);
-    let mut of = NO_GROUPS;
-    scopes::fill_places(keys, fields, &lasts[0..n], &mut of[0..n]);
-    Groups {
-        count: scopes::counted(&lasts[0..n]),
-        of,
+    let entries = transactions::held(t);
+    let mut lasts = [None; 8];
+    for i in 0..entries.len() {
+        lasts[i] = scopes::last_scope(letters, &entries[i..]);
     }
+    lasts
 }
 
 // The groups of a transaction's puts, found once for all that a call does with them.
@@ -45,11 +42,13 @@ pub fn groups_of(letters: &[u8], t: Transaction) -> Groups
     ensures count { result.count ≡ group_count (units_in letters.now) (puts t) }
     ensures places { result.of ≡ groups_in (units_in letters.now) t }
 {
-    let n = t.count as usize;
-    let end = n * 5;
-    let mut keys = [0u32; 40];
-    scopes::fill_keys(t, &mut keys[0..end]);
-    let mut fields = [0u32; 8];
-    scopes::fill_fields(letters, t, &mut fields[0..n]);
-    groups_by(&keys[0..end], &fields[0..n])
+    let lasts = lasts_of(letters, &t);
+    let mut of = NO_GROUPS;
+    for (i, e) in transactions::held(&t).iter().enumerate() {
+        of[i] = scopes::place_of(letters, *e, &lasts);
+    }
+    Groups {
+        count: lasts.iter().filter(|last| last.is_some()).count() as u32,
+        of,
+    }
 }

@@ -5,7 +5,7 @@ use Rattle.lists.specs.Basics.{refl, sym, ap, subst, ℕ, ltb, Bool, true, false
 use Rattle.lists.specs.Basics.{set, length-map, get_or-map, arith, eq-eqb, lt-ltb, any, and_fst, choose_by, tests}
 use Rattle.lists.specs.Pieces.{over}
 use Rattle.lists.specs.All.{get_or_any}
-use Rattle.model.specs.Types.{Key, Record, Aborted, At, Recovery, Stays, Forward, Back, Again, Busy}
+use Rattle.model.specs.Types.{Key, Record, Aborted, Some, Recovery, Stays, Forward, Back, Again, Busy}
 use Rattle.model.specs.Layouts.{record_bytes, coordinator_bytes}
 use Rattle.model.specs.Records.{no_record, records, record_text, records_text, records_good, good_alone, same_key, found, line_of, prepared_rule}
 use Rattle.model.specs.Coordinator.{Coordinator, coordinator_of, names_issued}
@@ -40,7 +40,7 @@ pub record Standing (rs cs : List ℕ) (i : ℕ) : Type 0 where
   pub index : FoundAt (line_at rs i).key (records rs) i
 
 -- the index that a search gave
-pub standing : (rs cs : List ℕ) (k : Key) (i : ℕ) → Accepted rs cs → found k (records rs) ≡ At i → Standing rs cs i
+pub standing : (rs cs : List ℕ) (k : Key) (i : ℕ) → Accepted rs cs → found k (records rs) ≡ Some i → Standing rs cs i
 standing rs cs k i a e =
     let x = found_at k (records rs) i e in
     record { accepted = a; index = subst (λ (j : Key). FoundAt j (records rs) i) (sym x.key) x }

@@ -18,18 +18,18 @@ use codec::{coordinator, reading, settling};
 use types::{Columns, Decision, Image, Record, Recovery, State};
 
 // The ticks since a clock reading, modulo 2^32.
+#[tactic(auto, unfolding(model::specs::Images::elapsed))]
 fn elapsed(now: u32, clock: u32) -> u32
     ensures { result ≡ model.elapsed now clock }
 {
-    std::num::wrapping_sub_u32(now, clock)
+    now.wrapping_sub(clock)
 }
 
 // A clock gone back lands at 2^31 or above and never expires.
 fn has_expired(now: u32, clock: u32) -> bool
     ensures { result ≡ (nat_le 15000 (model.elapsed now clock) && nat_le (model.elapsed now clock) 2147483647) }
 {
-    let ticks = elapsed(now, clock);
-    (15000 <= ticks) & (ticks <= 2147483647)
+    (15000..=2147483647).contains(&elapsed(now, clock))
 }
 
 // Whether line i lets the number count as expired: it is not the number's, which is asked before its clock is read, or it has expired.
@@ -37,6 +37,7 @@ fn line_allows(n: u32, i: usize, clock: u32, records: &[u8]) -> bool
     requires { records_accepted records.now ≡ true }
     ensures { result ≡ line_allows clock n (line_at records.now i) }
 {
+    // Three returns: as one chain of `||` the proof didn't close, since where the tests join it is not known which one held.
     if !reading::is_prepared(records, i) {
         return true;
     }
@@ -47,6 +48,7 @@ fn line_allows(n: u32, i: usize, clock: u32, records: &[u8]) -> bool
 }
 
 // Whether a number has expired: every line prepared by it has, on the whole sheet. The first that hasn't ends the search.
+// By line numbers: the lines lie as bytes, and there is no slice of them to iterate over.
 fn number_expired(n: u32, clock: u32, records: &[u8]) -> bool
     requires { records_accepted records.now ≡ true }
     ensures { result ≡ number_expired clock (sheet.records records.now) n }
@@ -69,17 +71,14 @@ fn pending(owner: Decision, n: u32, clock: u32, records: &[u8]) -> Recovery
     match owner {
         Decision::Committed => Recovery::Forward,
         Decision::Aborted => Recovery::Back,
-        Decision::Undecided => undecided(number_expired(n, clock, records)),
+        Decision::Undecided => {
+            if number_expired(n, clock, records) {
+                Recovery::Again
+            } else {
+                Recovery::Busy
+            }
+        }
     }
-}
-
-fn undecided(expired: bool) -> Recovery
-    ensures { result ≡ (if expired then Again else Busy) }
-{
-    if expired {
-        return Recovery::Again;
-    }
-    Recovery::Busy
 }
 
 // What a visit of line i comes to.
@@ -102,14 +101,13 @@ fn settle(v: Recovery, i: usize, records: &mut [u8], decisions: &mut [u8])
     ensures { Written (recovery_write v (line_at records.old i)) records.old decisions.old records.new decisions.new }
 {
     match v {
-        Recovery::Stays => {}
+        Recovery::Stays | Recovery::Busy => {}
         Recovery::Forward => settling::roll_forward(records, i),
         Recovery::Back => settling::roll_back(records, i),
         Recovery::Again => {
             let owner = reading::txid(records, i);
             coordinator::set_decision(decisions, owner, Decision::Aborted);
         }
-        Recovery::Busy => {}
     }
 }
 
@@ -124,27 +122,17 @@ pub fn recover(i: usize, clock: u32, records: &mut [u8], decisions: &mut [u8]) -
 }
 
 // What a second call sees of a record: the columns handed in, where they may be older or newer than the rest. An ABSENT record has none.
+#[tactic(auto, unfolding(model::specs::Calls::seen_second))]
 pub fn seen(lower: bool, columns: Columns, r: Record) -> Image
     ensures { result ≡ seen_second lower columns r }
 {
     let image = r.image;
-    if !lower {
+    if !lower || r.state == State::Absent {
         return image;
     }
-    let state = r.state;
-    match state {
-        State::Absent => image,
-        State::Committed => Image {
-            version: image.version,
-            txid: image.txid,
-            column1: columns.column1,
-            column2: columns.column2,
-        },
-        State::Prepared => Image {
-            version: image.version,
-            txid: image.txid,
-            column1: columns.column1,
-            column2: columns.column2,
-        },
+    Image {
+        column1: columns.column1,
+        column2: columns.column2,
+        ..image
     }
 }

@@ -9,6 +9,7 @@ ghost use Rattle.steps.specs.Stepped.{Stepped};
 pub mod phases;
 
 use held_lines::Located;
+use transactions::phases::Phase;
 use types::Transaction;
 
 // The step of the transaction's phase: the transaction that comes back, and both sheets after it. What was found once of its entries goes with it.
@@ -22,16 +23,17 @@ pub fn step(
     requires { Ready records.old coordinator.old t located }
     ensures { Stepped (sheets_of records.old coordinator.old) (model.step t clock (sheets_of records.old coordinator.old)) result records.new coordinator.new }
 {
-    let phase = t.phase;
+    let Ok(phase) = Phase::try_from(t.phase) else {
+        return t;
+    };
     match phase {
-        0 => phases::open(t, located, records, coordinator),
-        1 => phases::prepare(t, located, clock, records, coordinator),
-        2 => phases::validate(t, located, records, coordinator),
-        3 => phases::decide(t, coordinator),
-        4 => phases::withdraw(t, coordinator),
-        5 => phases::finish(t, located, records, coordinator),
-        6 => phases::undo(t, located, records, coordinator),
-        7 => phases::done(t),
-        _ => t,
+        Phase::Open => phases::open(t, located, records, coordinator),
+        Phase::Prepare => phases::prepare(t, located, clock, records, coordinator),
+        Phase::Validate => phases::validate(t, located, records, coordinator),
+        Phase::Decide => phases::decide(t, coordinator),
+        Phase::Withdraw => phases::withdraw(t, coordinator),
+        Phase::Finish => phases::finish(t, located, records, coordinator),
+        Phase::Undo => phases::undo(t, located, records, coordinator),
+        Phase::Done => phases::done(t),
     }
 }

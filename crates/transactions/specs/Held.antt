@@ -1,8 +1,8 @@
 -- The entries in use, one by one: how far a loop over them has come, and what one turn of it does, for each kind of question that a loop answers.
-use Rattle.std.specs.Prelude.{◌≡◌, ◌+◌, ◌-◌, ◌≤◌, ◌<◌, ◌||◌, ◌∷◌}
+use Rattle.std.specs.Prelude.{◌≡◌, ◌+◌, ◌≤◌, ◌<◌, ◌||◌, ◌∷◌}
 use Rattle.std.proofs.Common.{◌∙◌}
 use Rattle.lists.specs.Basics.{refl, sym, ap, ℕ, suc, ltb, Bool, true, false, not, cond, List, [], map, length, take}
-use Rattle.lists.specs.Basics.{drop, get_or, length-map, length-take, drop_of_length-le, get_or-map, get_or-take, arith, add-one, lt-ltb, all, any, filter}
+use Rattle.lists.specs.Basics.{drop, get_or, length-map, length-take, drop_of_length-le, get_or-map, get_or-take, arith, lt-ltb, all, any, filter}
 use Rattle.lists.specs.Basics.{choose_by}
 use Rattle.std.proofs.Math.Seq.{length-take-le}
 use mir.Val.{Val}
@@ -11,8 +11,7 @@ use denote.Struct.Declared.{row}
 use Rattle.lists.specs.All.{get_or_any}
 use Rattle.types.specs.contracts.Transaction.{the_type}
 use Rattle.lists.specs.Walks.{drop_here}
-use Rattle.model.specs.Types.{Key, Found, At, Nothing, Entry, Transaction}
-use Rattle.model.specs.Search.{first_from}
+use Rattle.model.specs.Types.{Key, Some, Entry, Transaction}
 use Rattle.model.specs.Records.{same_key}
 use Rattle.model.specs.Transactions.{held, held_at, is_empty, no_entry}
 use Rattle.sheet_laws.specs.Search.{first_at}
@@ -45,6 +44,17 @@ module _ (t : Transaction) (room : t.count ≤ length t.entries) {A : Type 0} (f
       get_or_any (map f (held t)) i d (f no_entry) (omega arith)
       ∙ (get_or-map f (held t) i no_entry ∙ ap f (get_or-take t.count t.entries i no_entry l))
 
+-- Entries lent as those in use: as many as the count says, each at its index.
+module _ (t : Transaction) (room : t.count ≤ length t.entries) (es : List Entry) (same : es ≡ held t) where
+  pub lent_many : length es ≡ t.count
+  unfolding held
+  lent_many = ap length same ∙ length-take-le t.count t.entries room
+
+  pub lent_at : (i : ℕ) → i < length es → get_or es i no_entry ≡ entry_at t i
+  unfolding held
+  lent_at i l =
+      let n = lent_many in ap (λ (xs : List Entry). get_or xs i no_entry) same ∙ get_or-take t.count t.entries i no_entry (omega arith)
+
 -- f of the entries from i on is what was to be computed, w
 pub record PassedTo {A : Type 0} (t : Transaction) (f : List Entry → A) (w : A) (i : ℕ) : Type 0 where
   pub reached : i ≤ t.count
@@ -76,99 +86,24 @@ module _ {A : Type 0} (t : Transaction) (f : List Entry → A) where
       let n : length (take t.count t.entries) ≤ i = simp length-take (omega arith) in
       ap f (sym (drop_of_length-le (held t) n)) ∙ p.rest
 
--- Which entry is the first to pass a test?
-module _ (t : Transaction) (q : Entry → Bool) (w : Found) (i : ℕ) (p : PassedTo t (first_from q i) w i) where
-  pub first-met : i < t.count → q (entry_at t i) ≡ true → At i ≡ w
-  unfolding first_from
-  first-met l e = rw e at (pass-here t (first_from q i) w i l p)
-
-  pub first_next : i < t.count → q (entry_at t i) ≡ false → PassedTo t (first_from q (i + 1)) w (i + 1)
-  unfolding first_from
-  first_next l e = pass_next t (first_from q i) (first_from q (i + 1)) w i l p (rw (e, add-one))
-
-  pub first_last : t.count ≤ i → Nothing ≡ w
-  unfolding first_from
-  first_last l = pass_last t (first_from q i) w i l p
-
 -- an index that was found is one of the entries in use
-pub held_below : (t : Transaction) (k : Key) (i : ℕ) → held_at k t ≡ At i → i < t.count
+pub held_below : (t : Transaction) (k : Key) (i : ℕ) → held_at k t ≡ Some i → i < t.count
 unfolding held_at held
 held_below t k i e =
     let x = first_at (λ (y : Entry). same_key y.key k) (held t) no_entry i e in
     omega (arith, x.within, length-take t.count t.entries)
-
--- Does some entry pass a test?
-module _ (t : Transaction) (q : Entry → Bool) (w : Bool) (i : ℕ) (p : PassedTo t (any q) w i) where
-  pub any_met : i < t.count → q (entry_at t i) ≡ true → true ≡ w
-  unfolding any
-  any_met l e = rw e at (pass-here t (any q) w i l p)
-
-  pub any_next : i < t.count → q (entry_at t i) ≡ false → PassedTo t (any q) w (i + 1)
-  unfolding any
-  any_next l e = pass_next t (any q) (any q) w i l p (rw e)
-
-  pub any_last : t.count ≤ i → false ≡ w
-  unfolding any
-  any_last l = pass_last t (any q) w i l p
-
--- Does every entry pass a test?
-module _ (t : Transaction) (q : Entry → Bool) (w : Bool) (i : ℕ) (p : PassedTo t (all q) w i) where
-  pub all_unmet : i < t.count → q (entry_at t i) ≡ false → false ≡ w
-  unfolding all
-  all_unmet l e = rw e at (pass-here t (all q) w i l p)
-
-  pub all_next : i < t.count → q (entry_at t i) ≡ true → PassedTo t (all q) w (i + 1)
-  unfolding all
-  all_next l e = pass_next t (all q) (all q) w i l p (rw e)
-
-  pub all_last : t.count ≤ i → true ≡ w
-  unfolding all
-  all_last l = pass_last t (all q) w i l p
 
 -- how many entries pass a test that may look at the entries after them
 unfoldable pub tallied : (Entry → List Entry → Bool) → List Entry → ℕ
 tallied q [] = 0
 tallied q (e ∷ es) = cond (q e es) (suc (tallied q es)) (tallied q es)
 
--- one turn of a loop that counts: n so far and those still to come, of which r come after this one
-pub one_counted : (b : Bool) (n m r : ℕ) → m ≡ cond b (n + 1) n → n + cond b (suc r) r ≡ m + r
-one_counted true n m r e = omega arith
-one_counted false n m r e = omega arith
-
-pub one-few : (b : Bool) (n m i : ℕ) → n ≤ i → m ≡ cond b (n + 1) n → m ≤ i + 1
-one-few true n m i l e = omega arith
-one-few false n m i l e = omega arith
-
--- How many entries pass? n of those before i did.
-pub record TalliedTo (t : Transaction) (q : Entry → List Entry → Bool) (w : ℕ) (n i : ℕ) : Type 0 where
-  pub few : n ≤ i
-  pub passed : PassedTo t (λ (es : List Entry). n + tallied q es) w i
-
-module _ (t : Transaction) (q : Entry → List Entry → Bool) where
-  pub tally_first : {vs : List Val} → Is (row the_type) t vs → t.count ≤ 8 → TalliedTo t q (tallied q (held t)) 0 0
-  tally_first p l =
-      let e = pass-first t (tallied q) p l in
-      record { few = omega arith; passed = record { reached = e.reached; room = e.room; rest = omega arith } }
-
-  pub tally_next : (w n i m : ℕ) → TalliedTo t q w n i → i < t.count → m ≡ cond (q (entry_at t i) (after t i)) (n + 1) n → TalliedTo t q w m (i + 1)
-  unfolding tallied
-  tally_next w n i m p l e =
-      let b = q (entry_at t i) (after t i) in
-      record {
-        few = one-few b n m i p.few e;
-        passed = pass_next t (λ (es : List Entry). n + tallied q es) (λ (es : List Entry). m + tallied q es) w i l p.passed (one_counted b n m (tallied q (after t i)) e);
-      }
-
-  pub tallied-few : (es : List Entry) → tallied q es ≤ length es
-  unfolding tallied
-  tallied-few [] = omega arith
-  tallied-few (e ∷ es) =
-      let l = tallied-few es in
-      choose_by (λ (n : ℕ). n ≤ suc (length es)) (q e es) (λ h. omega (arith, l)) (λ h. omega (arith, l))
-
-  pub tally_last : (w n i : ℕ) → TalliedTo t q w n i → t.count ≤ i → n ≡ w
-  unfolding tallied
-  tally_last w n i p l = omega (arith, pass_last t (λ (es : List Entry). n + tallied q es) w i l p.passed)
+pub tallied-few : (q : Entry → List Entry → Bool) (es : List Entry) → tallied q es ≤ length es
+unfolding tallied
+tallied-few q [] = omega arith
+tallied-few q (e ∷ es) =
+    let l = tallied-few q es in
+    choose_by (λ (n : ℕ). n ≤ suc (length es)) (q e es) (λ h. omega (arith, l)) (λ h. omega (arith, l))
 
 -- What a filter keeps: whether anything, and how much.
 some_more : (b r : Bool) (e : Entry) (es : List Entry) → r ≡ not (is_empty es) → (b || r) ≡ not (is_empty (cond b (e ∷ es) es))
@@ -194,26 +129,3 @@ module _ (q : Entry → Bool) where
 pub some_counted : (es : List Entry) → ltb 0 (length es) ≡ not (is_empty es)
 some_counted [] = refl
 some_counted (e ∷ es) = lt-ltb 0 (suc (length es)) (omega arith)
-
--- entry n of those kept
-abbrev pub kept_at : (Entry → Bool) → ℕ → List Entry → Entry
-kept_at q n es = get_or (filter q es) n no_entry
-
-module _ (t : Transaction) (q : Entry → Bool) (w : Entry) (n i : ℕ) (p : PassedTo t (kept_at q n) w i) where
-  pub kept_met : i < t.count → q (entry_at t i) ≡ true → n ≡ 0 → entry_at t i ≡ w
-  unfolding filter
-  kept_met l e z = rw (e, z) at (pass-here t (kept_at q n) w i l p)
-
-  pub kept_next : i < t.count → q (entry_at t i) ≡ true → (n ≡ 0 → ⊥) → PassedTo t (kept_at q (n - 1)) w (i + 1)
-  unfolding filter
-  kept_next l e z =
-      let m : n ≡ suc (n - 1) = omega arith in
-      pass_next t (kept_at q n) (kept_at q (n - 1)) w i l p (rw e (ap (λ (x : ℕ). get_or (entry_at t i ∷ filter q (after t i)) x no_entry) m))
-
-  pub kept_skip : i < t.count → q (entry_at t i) ≡ false → PassedTo t (kept_at q n) w (i + 1)
-  unfolding filter
-  kept_skip l e = pass_next t (kept_at q n) (kept_at q n) w i l p (rw e)
-
-  pub kept_last : t.count ≤ i → no_entry ≡ w
-  unfolding filter
-  kept_last l = pass_last t (kept_at q n) w i l p

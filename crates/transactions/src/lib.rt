@@ -2,18 +2,18 @@
 #![tactic(auto)]
 
 ghost use Rattle.std.specs.Prelude.{◌≡◌, not, cond, ◌+◌, ◌≤◌, ◌<◌, length, get_or};
-ghost use Rattle.model.specs.Records.{same_key};
 ghost use Rattle.model.specs.Transactions as model;
-ghost use Rattle.model.specs.Transactions.{is_empty, puts, to_validate, must_validate, no_entry, held_at, with_entry};
+ghost use Rattle.model.specs.Transactions.{held, is_empty, puts, to_validate, must_validate, no_entry, held_at, with_entry};
 ghost use Rattle.model.specs.Groups.{letter_for};
 ghost use Rattle.model.specs.Steps.{holds_lower};
 ghost use Rattle.model.specs.Calls.{new_transaction};
 ghost use Rattle.transactions.specs.Held.{entry_at};
-ghost use Rattle.transactions.specs.Units.{units_in};
+ghost use Rattle.transactions.specs.Units.{letter_or_none, units_in};
 
+pub mod phases;
 pub mod stages;
 
-use types::{Columns, Entry, Found, Key, NO_IMAGE, NO_KEY, Reading, Transaction};
+use types::{Columns, Entry, Key, NO_IMAGE, NO_KEY, Reading, Transaction};
 
 const NO_ENTRY: Entry = Entry {
     key: NO_KEY,
@@ -25,17 +25,6 @@ const NO_ENTRY: Entry = Entry {
         column2: 0,
     },
 };
-
-// The five fields are the same.
-pub fn same_key(a: Key, b: Key) -> bool
-    ensures { result ≡ same_key a b }
-{
-    (a.storage == b.storage)
-        & (a.namespace == b.namespace)
-        & (a.table == b.table)
-        & (a.partition == b.partition)
-        & (a.clustering == b.clustering)
-}
 
 // What a read of a held entry answers: as last put, else as first read.
 pub fn reading(e: Entry) -> Reading
@@ -54,6 +43,15 @@ pub fn reading(e: Entry) -> Reading
     })
 }
 
+// The entries in use.
+pub fn held(t: &Transaction) -> &[Entry]
+    requires { t.now.count ≤ 8 }
+    ensures entries { result.now ≡ held t.now }
+    ensures few { length result.now ≤ 8 }
+{
+    &t.entries[..t.count as usize]
+}
+
 // Entry i.
 pub fn entry_at(t: Transaction, i: usize) -> Entry
     requires { i < 8 }
@@ -63,18 +61,11 @@ pub fn entry_at(t: Transaction, i: usize) -> Entry
 }
 
 // The index of the entry that holds the key.
-pub fn held_at(k: Key, t: Transaction) -> Found
+pub fn held_at(k: Key, t: Transaction) -> Option<usize>
     requires { t.count ≤ 8 }
     ensures { result ≡ held_at k t }
 {
-    let n = t.count as usize;
-    for i in 0..n {
-        let e = t.entries[i];
-        if same_key(e.key, k) {
-            return Found::At(i);
-        }
-    }
-    Found::Nothing
+    held(&t).iter().position(|e| e.key == k)
 }
 
 // A new transaction: open, without entries.
@@ -82,13 +73,9 @@ pub fn new_transaction(n: u32, serializable: bool) -> Transaction
     ensures { result ≡ new_transaction n serializable }
 {
     let entries = [NO_ENTRY; 8];
-    let mut s = 0;
-    if serializable {
-        s = 1;
-    }
     Transaction {
         number: n,
-        serializable: s,
+        serializable: u32::from(serializable),
         phase: 0,
         place: 0,
         verdict: 0,
@@ -97,19 +84,16 @@ pub fn new_transaction(n: u32, serializable: bool) -> Transaction
     }
 }
 
-// The transaction in another phase, at a place, with a verdict.
+// The transaction in another phase, at a place, with a verdict. These stay numbers, as the C interface has them: the clause holds of every number, and an enum would
+// ask more.
 pub fn moved(phase: u32, place: u32, verdict: u32, t: Transaction) -> Transaction
     ensures { result ≡ model.moved phase place verdict t }
 {
-    let entries = t.entries;
     Transaction {
-        number: t.number,
-        serializable: t.serializable,
         phase,
         place,
         verdict,
-        count: t.count,
-        entries,
+        ..t
     }
 }
 
@@ -118,42 +102,34 @@ pub fn has_puts(t: Transaction) -> bool
     requires { t.count ≤ 8 }
     ensures { result ≡ not (is_empty (puts t)) }
 {
-    let n = t.count as usize;
-    for i in 0..n {
-        let e = t.entries[i];
-        if e.wrote == 1 {
-            return true;
-        }
+    held(&t).iter().any(|e| e.wrote == 1)
+}
+
+// The letter of a storage, counted from 1, if it has one.
+pub fn letter_of(letters: &[u8], storage: u32) -> Option<u8>
+    ensures { letter_for storage (units_in letters.now) ≡ letter_or_none result }
+{
+    if storage < 1 {
+        return None;
     }
-    false
+    let i = (storage - 1) as usize;
+    letters.get(i).copied()
 }
 
 // The storage can't be read consistently: its letter is a small one, and these come after the capitals. One without a letter can.
+#[tactic(auto, unfolding(sheet_laws::specs::Letters::letter_in))]
 pub fn is_lower(letters: &[u8], storage: u32) -> bool
     ensures { result ≡ (letter_for storage (units_in letters.now)).lower }
 {
-    if storage < 1 {
-        return false;
-    }
-    let i = (storage - 1) as usize;
-    if letters.len() <= i {
-        return false;
-    }
-    b'a' <= letters[i]
+    letter_of(letters, storage).is_some_and(|letter| b'a' <= letter)
 }
 
 // An entry to be validated: one without a put, if the transaction is serializable, or if its storage can't be read consistently: there any transaction must look
 // whether what it read still stands.
-fn must_validate(letters: &[u8], serializable: u32, e: Entry) -> bool
-    ensures { (t : Transaction) → t.serializable ≡ serializable → result ≡ must_validate (units_in letters.now) t e }
+fn must_validate(letters: &[u8], t: &Transaction, e: Entry) -> bool
+    ensures { result ≡ must_validate (units_in letters.now) t.now e }
 {
-    if e.wrote == 1 {
-        return false;
-    }
-    if serializable == 1 {
-        return true;
-    }
-    is_lower(letters, e.key.storage)
+    e.wrote != 1 && (t.serializable == 1 || is_lower(letters, e.key.storage))
 }
 
 // Some entry, put or not, is of a storage that can't be read consistently: such a transaction doesn't commit in one phase, which looks at the puts only.
@@ -161,25 +137,7 @@ pub fn holds_lower(letters: &[u8], t: Transaction) -> bool
     requires { t.count ≤ 8 }
     ensures { result ≡ holds_lower (units_in letters.now) t }
 {
-    let n = t.count as usize;
-    for i in 0..n {
-        let e = t.entries[i];
-        if is_lower(letters, e.key.storage) {
-            return true;
-        }
-    }
-    false
-}
-
-// One more, or not.
-pub fn tally(n: u32, counts: bool) -> u32
-    requires { n < 8 }
-    ensures { result ≡ cond counts (n + 1) n }
-{
-    if counts {
-        return n + 1;
-    }
-    n
+    held(&t).iter().any(|e| is_lower(letters, e.key.storage))
 }
 
 // How many entries are to be validated.
@@ -187,16 +145,13 @@ pub fn validate_count(letters: &[u8], t: Transaction) -> u32
     requires { t.count ≤ 8 }
     ensures { result ≡ length (to_validate (units_in letters.now) t) }
 {
-    let n = t.count as usize;
-    let mut found = 0;
-    for i in 0..n {
-        let e = t.entries[i];
-        found = tally(found, must_validate(letters, t.serializable, e));
-    }
-    found
+    held(&t)
+        .iter()
+        .filter(|e| must_validate(letters, &t, **e))
+        .count() as u32
 }
 
-// Some entry is to be validated.
+// Some entry is to be validated. By the count: the borrow checker does not cover `any` with a closure that holds both the letters and the transaction.
 pub fn validates(letters: &[u8], t: Transaction) -> bool
     requires { t.count ≤ 8 }
     ensures { result ≡ not (is_empty (to_validate (units_in letters.now) t)) }
@@ -209,18 +164,12 @@ pub fn to_validate(letters: &[u8], t: Transaction, place: u32) -> Entry
     requires { t.count ≤ 8 }
     ensures { result ≡ get_or (to_validate (units_in letters.now) t) place no_entry }
 {
-    let n = t.count as usize;
-    let mut ahead = place;
-    for i in 0..n {
-        let e = t.entries[i];
-        if must_validate(letters, t.serializable, e) {
-            if ahead == 0 {
-                return e;
-            }
-            ahead -= 1;
-        }
-    }
-    NO_ENTRY
+    held(&t)
+        .iter()
+        .filter(|e| must_validate(letters, &t, **e))
+        .nth(place as usize)
+        .copied()
+        .unwrap_or(NO_ENTRY)
 }
 
 // The transaction with the first n entries in use, and e as entry i.

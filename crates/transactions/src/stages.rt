@@ -4,27 +4,10 @@ ghost use Rattle.model.specs.Transactions.{to_validate};
 ghost use Rattle.model.specs.Steps as model;
 ghost use Rattle.model.specs.Steps.{to, after_prepare, next_entry};
 ghost use Rattle.transactions.specs.Units.{units_in};
+ghost use Rattle.transactions.specs.Numbers.{phase_number};
 
+use crate::phases::{Phase, Verdict};
 use types::Transaction;
-
-// The phases that a step leads to, and the verdicts.
-pub const PREPARE: u32 = 1;
-
-pub const VALIDATE: u32 = 2;
-
-const DECIDE: u32 = 3;
-
-pub const WITHDRAW: u32 = 4;
-
-pub const FINISH: u32 = 5;
-
-pub const UNDO: u32 = 6;
-
-pub const DONE: u32 = 7;
-
-pub const COMMITTED: u32 = 1;
-
-pub const ABORTED: u32 = 2;
 
 // To another phase, with the verdict as it is.
 pub fn to_phase(phase: u32, t: Transaction) -> Transaction
@@ -37,18 +20,18 @@ pub fn to_phase(phase: u32, t: Transaction) -> Transaction
 pub fn commits(t: Transaction) -> Transaction
     ensures { result ≡ model.commits t }
 {
-    crate::moved(DONE, 0, COMMITTED, t)
+    crate::moved(Phase::Done as u32, 0, Verdict::Committed as u32, t)
 }
 
 // The phase after the last group is prepared: validate if there is an entry to validate, else decide.
-pub fn after_prepare(letters: &[u8], t: Transaction) -> u32
+pub fn after_prepare(letters: &[u8], t: Transaction) -> Phase
     requires { t.count ≤ 8 }
-    ensures { result ≡ after_prepare (units_in letters.now) t }
+    ensures { phase_number result ≡ after_prepare (units_in letters.now) t }
 {
     if crate::validates(letters, t) {
-        return VALIDATE;
+        return Phase::Validate;
     }
-    DECIDE
+    Phase::Decide
 }
 
 // Past a validated entry: to the next, after the last to decide, or to done, committed, without puts.
@@ -59,12 +42,12 @@ pub fn next_entry(letters: &[u8], t: Transaction) -> Transaction
     let count = crate::validate_count(letters, t);
     let next = t.place + 1;
     if next < count {
-        return crate::moved(VALIDATE, next, t.verdict, t);
+        return crate::moved(Phase::Validate as u32, next, t.verdict, t);
     }
     if !crate::has_puts(t) {
         return commits(t);
     }
-    to_phase(DECIDE, t)
+    to_phase(Phase::Decide as u32, t)
 }
 
 // To undo, or to done without puts; aborted either way.
@@ -72,8 +55,10 @@ pub fn withdrawn(t: Transaction) -> Transaction
     requires { t.count ≤ 8 }
     ensures { result ≡ model.withdrawn t }
 {
-    if !crate::has_puts(t) {
-        return crate::moved(DONE, 0, ABORTED, t);
-    }
-    crate::moved(UNDO, 0, ABORTED, t)
+    let next = if crate::has_puts(t) {
+        Phase::Undo
+    } else {
+        Phase::Done
+    };
+    crate::moved(next as u32, 0, Verdict::Aborted as u32, t)
 }

@@ -1,7 +1,7 @@
 -- Well-formedness in the order in which the code asks.
 use Rattle.std.specs.Prelude.{◌≡◌, ◌+◌, ◌≤◌, ◌<◌, ◌&&◌, ◌||◌}
 use Rattle.std.proofs.Common.{◌∙◌}
-use Rattle.lists.specs.Basics.{refl, sym, ap, ℕ, eqb, leb, Bool, true, false, not, and_assoc, and-true, List}
+use Rattle.lists.specs.Basics.{refl, sym, ap, ℕ, eqb, leb, Bool, true, false, not, and_assoc, and-true, List, drop, get_or, length, drop_of_length-le}
 use Rattle.lists.specs.Basics.{all, any, tests}
 use Rattle.std.proofs.Math.Dec.{leb-zero}
 use Rattle.model.specs.Types.{Image, Columns, Entry, Transaction}
@@ -9,9 +9,9 @@ use Rattle.model.specs.Layouts.{record_layout, image_layout, columns_layout}
 use Rattle.model.specs.Lines.{in_range, row_good}
 use Rattle.model.specs.Records.{image_numbers, same_key}
 use Rattle.model.specs.Coordinator.{Letter}
-use Rattle.model.specs.Transactions.{decide_phase, is_empty, held, puts}
+use Rattle.model.specs.Transactions.{decide_phase, is_empty, held, puts, no_entry}
 use Rattle.model.specs.WellFormed.{image_in_range, columns_in_range, entry_formed, distinct_keys, place_formed, verdict_formed, formed}
-use Rattle.transactions.specs.Held.{PassedTo, entry_at, after, pass-here, pass_next, pass_last}
+use Rattle.lists.specs.Walks.{drop_here}
 
 -- Numbers that start at 0 are bounded from above only.
 
@@ -31,18 +31,15 @@ image-ranged m =
 abbrev pub same_key_as : Entry → Entry → Bool
 same_key_as e f = same_key f.key e.key
 
-module _ (t : Transaction) (w : Bool) (i : ℕ) (p : PassedTo t distinct_keys w i) where
-  pub distinct_not : i < t.count → any (same_key_as (entry_at t i)) (after t i) ≡ true → false ≡ w
+-- entry i, and those after it
+module _ (xs : List Entry) (i : ℕ) (l : i < length xs) (b : Bool) (e : b ≡ any (same_key_as (get_or xs i no_entry)) (drop (i + 1) xs)) where
+  pub distinct_here : distinct_keys (drop i xs) ≡ (not b && distinct_keys (drop (i + 1) xs))
   unfolding distinct_keys
-  distinct_not l e = rw e at (pass-here t distinct_keys w i l p)
+  distinct_here = ap distinct_keys (drop_here xs i no_entry (get_or xs i no_entry) l refl) ∙ rw (sym e) refl
 
-  pub distinct_next : i < t.count → any (same_key_as (entry_at t i)) (after t i) ≡ false → PassedTo t distinct_keys w (i + 1)
-  unfolding distinct_keys
-  distinct_next l e = pass_next t distinct_keys distinct_keys w i l p (rw e)
-
-  pub distinct_last : t.count ≤ i → true ≡ w
-  unfolding distinct_keys
-  distinct_last l = pass_last t distinct_keys w i l p
+pub distinct_last : (xs : List Entry) (i : ℕ) → length xs ≤ i → true ≡ distinct_keys (drop i xs)
+unfolding distinct_keys
+distinct_last xs i l = sym (ap distinct_keys (drop_of_length-le xs l))
 
 -- The whole.
 

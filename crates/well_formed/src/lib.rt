@@ -2,8 +2,8 @@
 #![tactic(auto)]
 
 ghost use Rattle.std.specs.Prelude.{◌≡◌, true, cond, ◌≤◌, leb};
-ghost use Rattle.lists.specs.Each.{all};
-ghost use Rattle.model.specs.Records.{absence};
+ghost use Rattle.lists.specs.Each.{all, any};
+ghost use Rattle.model.specs.Records.{absence, same_key};
 ghost use Rattle.model.specs.Transactions.{was_absent, held, puts};
 ghost use Rattle.model.specs.Groups.{group_count};
 ghost use Rattle.model.specs.WellFormed.{image_in_range, columns_in_range, put_fits, entry_formed, distinct_keys, place_formed, verdict_formed};
@@ -13,7 +13,8 @@ ghost use Rattle.well_formed.specs.Formed.{head_formed, decide_formed};
 
 pub mod barred;
 
-use types::{Columns, Entry, Image, Transaction};
+use transactions::phases::{Phase, Verdict};
+use types::{Columns, Entry, Image, Key, Transaction};
 
 const LAST_COLUMN: u32 = 99999999;
 
@@ -41,10 +42,11 @@ fn version_formed(e: Entry) -> bool
 }
 
 // The put columns of an entry without put mean nothing.
+#[tactic(auto, unfolding(model::specs::WellFormed::put_fits))]
 fn put_fits(e: Entry) -> bool
     ensures { result ≡ put_fits e }
 {
-    !(e.wrote == 1) | (e.seen.version <= 99998) & columns_in_range(e.put)
+    (e.wrote != 1) | (e.seen.version <= 99998) & columns_in_range(e.put)
 }
 
 // An entry by itself.
@@ -64,30 +66,27 @@ fn entries_formed(issued: u32, t: Transaction) -> bool
     requires { t.count ≤ 8 }
     ensures { result ≡ all (entry_formed issued) (held t) }
 {
-    let n = t.count as usize;
-    for i in 0..n {
-        let e = t.entries[i];
-        if !entry_formed(issued, e) {
-            return false;
-        }
-    }
-    true
+    transactions::held(&t)
+        .iter()
+        .all(|e| entry_formed(issued, *e))
 }
 
-// No two entries have a key in common. Entries are read in place: handing the transaction on for each would copy it whole.
+// Some entry has the key.
+fn has_key(entries: &[Entry], key: Key) -> bool
+    ensures { result ≡ any (λ e. same_key e.key key) entries.now }
+{
+    entries.iter().any(|e| e.key == key)
+}
+
+// No two entries have a key in common.
 fn distinct_keys(t: Transaction) -> bool
     requires { t.count ≤ 8 }
     ensures { result ≡ distinct_keys (held t) }
 {
-    let n = t.count as usize;
-    for i in 0..n {
-        let e = t.entries[i];
-        let first = i + 1;
-        for j in first..n {
-            let f = t.entries[j];
-            if transactions::same_key(f.key, e.key) {
-                return false;
-            }
+    let entries = transactions::held(&t);
+    for i in 0..entries.len() {
+        if has_key(&entries[i + 1..], entries[i].key) {
+            return false;
         }
     }
     true
@@ -105,51 +104,50 @@ fn decide_formed(t: Transaction) -> bool
     requires { t.count ≤ 8 }
     ensures { result ≡ decide_formed t }
 {
-    !(t.phase == 3) | transactions::has_puts(t)
+    (t.phase != Phase::Decide as u32) | transactions::has_puts(t)
 }
 
 // The place is below the number of groups or of entries to validate, else 0: a transaction in validate has a place only if it has an entry to validate, so that one
 // that isn't serializable is there for entries of storages that can't be read consistently.
+#[tactic(auto, unfolding(model::specs::WellFormed::place_formed))]
 fn place_formed(letters: &[u8], groups: u32, t: Transaction) -> bool
     requires { (t.count ≤ 8) × (groups ≡ group_count (units_in letters.now) (puts t)) }
     ensures { result ≡ place_formed (units_in letters.now) t }
 {
-    let phase = t.phase;
+    let Ok(phase) = Phase::try_from(t.phase) else {
+        return false;
+    };
     match phase {
-        0 => t.place == 0,
-        1 => t.place < groups,
-        2 => t.place < transactions::validate_count(letters, t),
-        3 => t.place == 0,
-        4 => t.place == 0,
-        5 => t.place < groups,
-        6 => t.place < groups,
-        7 => t.place == 0,
-        _ => false,
+        Phase::Open | Phase::Decide | Phase::Withdraw | Phase::Done => t.place == 0,
+        Phase::Prepare | Phase::Finish | Phase::Undo => t.place < groups,
+        Phase::Validate => t.place < transactions::validate_count(letters, t),
     }
 }
 
 // Committed in finish, aborted in undo, either in done, none elsewhere.
+#[tactic(auto, unfolding(model::specs::WellFormed::verdict_formed))]
 fn verdict_formed(t: Transaction) -> bool
     ensures { result ≡ verdict_formed t }
 {
-    let phase = t.phase;
+    let Ok(phase) = Phase::try_from(t.phase) else {
+        return false;
+    };
+    let committed = t.verdict == Verdict::Committed as u32;
+    let aborted = t.verdict == Verdict::Aborted as u32;
     match phase {
-        0 => t.verdict == 0,
-        1 => t.verdict == 0,
-        2 => t.verdict == 0,
-        3 => t.verdict == 0,
-        4 => t.verdict == 0,
-        5 => t.verdict == 1,
-        6 => t.verdict == 2,
-        7 => (t.verdict == 1) | (t.verdict == 2),
-        _ => false,
+        Phase::Open | Phase::Prepare | Phase::Validate | Phase::Decide | Phase::Withdraw => {
+            t.verdict == Verdict::None as u32
+        }
+        Phase::Finish => committed,
+        Phase::Undo => aborted,
+        Phase::Done => committed | aborted,
     }
 }
 
 // The rest of a transaction whose head is well formed, and whose puts make this many groups.
 pub fn formed(letters: &[u8], groups: u32, issued: u32, t: Transaction) -> bool
-    requires t_value { head_formed issued t ≡ true }
-    requires groups_value { groups ≡ group_count (units_in letters.now) (puts t) }
+    requires head { head_formed issued t ≡ true }
+    requires groups { groups ≡ group_count (units_in letters.now) (puts t) }
     ensures { result ≡ model.formed (units_in letters.now) issued t }
 {
     entries_formed(issued, t)

@@ -4,8 +4,8 @@ use Rattle.lists.specs.Basics.{refl, sym, arith, rules}
 use Rattle.closing.specs.Running.{sure_ready, turned_done, turned_quiet, turned_spent, turned_writes}
 use Rattle.closing.proofs.turn.Goals as goal
 
-pub returns-then-x-eq-DONE : goal.returns-then-x-eq-DONE
-returns-then-x-eq-DONE c = turned_done _ _ _ _ _ c.requires c.if-x-eq-DONE.true
+pub returns-then-x : goal.returns-then-x
+returns-then-x c = turned_done _ _ _ _ _ c.requires c.if-x.true
 
 pub writes-requires : goal.writes-requires
 writes-requires c = sure_ready _ _ _ _ c.requires
@@ -17,7 +17,7 @@ pub returns-then-not-writes : goal.returns-then-not-writes
 returns-then-not-writes c =
     let f = c.ranges in
     turned_quiet c.args.clock _ _ _ _ c.requires (omega (arith, f)) _ _ _ c.step-next.ensures
-    c.if-x-eq-DONE.false
+    c.if-x.false
     (sym (c.writes.ensures _)
     ∙ c.if-not-writes.true)
     refl refl
@@ -40,6 +40,6 @@ pub returns : goal.returns
 returns c =
     let f = c.ranges in
     turned_writes c.args.clock _ _ _ _ c.requires (omega (arith, f)) _ _ _ c.step-next-2.ensures
-    c.if-x-eq-DONE.false
+    c.if-x.false
     (sym (c.writes.ensures _) ∙ c.if-not-writes.false)
     c.if-x-eq0.false refl refl

@@ -1,24 +1,19 @@
 -- By what the visit came to: nothing written, one line, or one decision.
+use Rattle.std.proofs.Common.{inl, inr}
 use Rattle.lists.specs.Basics.{rules}
 use Rattle.model.specs.Visits.{recovery_write}
 use Rattle.call_laws.specs.Accepted.{written_nothing}
 use Rattle.recover.specs.Recovering.{pending, settle_forward, settle_back, settle_again}
 use Rattle.recover.proofs.settle.Goals as goal
 
-pub roll_forward-requires : goal.roll_forward-requires
-roll_forward-requires c = c.requires.standing.accepted.lines
-
-pub roll_back-requires : goal.roll_back-requires
-roll_back-requires c = c.requires.standing.accepted.lines
-
-pub txid-owner-requires : goal.txid-owner-requires
-txid-owner-requires c = c.requires.standing.accepted.lines
-
 pub returns-in-Stays : goal.returns-in-Stays
 unfolding recovery_write
 returns-in-Stays c =
-    let a = c.args in
-    rw c.in-Stays.is (written_nothing a.records.now a.decisions.now c.requires.standing.accepted)
+    let w = written_nothing c.args.records.now c.args.decisions.now c.requires.standing.accepted in
+    elim c.in-Stays.is [
+      | inl e ↦ rw e w
+      | inr e ↦ rw e w
+    ]
 
 pub returns-in-Forward : goal.returns-in-Forward
 unfolding recovery_write pending
@@ -47,9 +42,3 @@ returns-in-Again c =
     (rw c.in-Again.is at
     c.requires.pending)
     (rw c.txid-owner.ensures at c.set_decision.ensures))
-
-pub returns-in-Busy : goal.returns-in-Busy
-unfolding recovery_write
-returns-in-Busy c =
-    let a = c.args in
-    rw c.in-Busy.is (written_nothing a.records.now a.decisions.now c.requires.standing.accepted)

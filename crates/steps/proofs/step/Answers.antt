@@ -1,4 +1,6 @@
 -- By the phase; in done, or in no phase, nothing is done.
+use Rattle.transactions.specs.declared.phases.Phase.TheVariants.{Open, Prepare, Validate, Decide, Withdraw, Finish, Undo, Done}
+use Rattle.transactions.specs.Numbers.{numbered}
 use Rattle.lists.specs.Basics.{refl}
 use Rattle.steps.specs.Ready.{records_accepted_lem, coordinator_readable_lem, known}
 use Rattle.steps.specs.Stepped.{wrote_nothing}
@@ -10,11 +12,11 @@ open-requires c = c.requires
 
 pub prepare-requires : goal.prepare-requires
 prepare-requires c =
-    record { ready = c.requires; phase_value = c.in-1.is }
+    record { ready = c.requires; phase = numbered Prepare c.in-Ok.ensures c.in-Prepare.is }
 
 pub validate-requires : goal.validate-requires
 validate-requires c =
-    record { ready = c.requires; phase_value = c.in-2.is }
+    record { ready = c.requires; phase = numbered Validate c.in-Ok.ensures c.in-Validate.is }
 
 pub decide-requires : goal.decide-requires
 decide-requires c = known _ _ _ _ c.requires
@@ -24,44 +26,44 @@ withdraw-requires c = known _ _ _ _ c.requires
 
 pub finish-requires : goal.finish-requires
 finish-requires c =
-    record { ready = c.requires; phase_value = c.in-5.is }
+    record { ready = c.requires; phase = numbered Finish c.in-Ok.ensures c.in-Finish.is }
 
 pub undo-requires : goal.undo-requires
 undo-requires c =
-    record { ready = c.requires; phase_value = c.in-6.is }
+    record { ready = c.requires; phase = numbered Undo c.in-Ok.ensures c.in-Undo.is }
 
-pub returns-in-0 : goal.returns-in-0
-returns-in-0 c = stepped_as (step_at_lem _ _ _ 0 c.in-0.is) c.before.before.«open».ensures
+pub returns-in-Open : goal.returns-in-Open
+returns-in-Open c = stepped_as (step_at_lem _ _ _ 0 (numbered Open c.in-Ok.ensures c.in-Open.is)) c.before.before.«open».ensures
 
-pub returns-in-1 : goal.returns-in-1
-returns-in-1 c = stepped_as (step_at_lem _ _ _ 1 c.in-1.is) c.prepare.ensures
+pub returns-in-Prepare : goal.returns-in-Prepare
+returns-in-Prepare c = stepped_as (step_at_lem _ _ _ 1 (numbered Prepare c.in-Ok.ensures c.in-Prepare.is)) c.prepare.ensures
 
-pub returns-in-2 : goal.returns-in-2
-returns-in-2 c = stepped_as (step_at_lem _ _ _ 2 c.in-2.is) c.validate.ensures
+pub returns-in-Validate : goal.returns-in-Validate
+returns-in-Validate c = stepped_as (step_at_lem _ _ _ 2 (numbered Validate c.in-Ok.ensures c.in-Validate.is)) c.validate.ensures
 
-pub returns-in-3 : goal.returns-in-3
-returns-in-3 c =
-    stepped_as (step_at_lem _ _ _ 3 c.in-3.is)
+pub returns-in-Decide : goal.returns-in-Decide
+returns-in-Decide c =
+    stepped_as (step_at_lem _ _ _ 3 (numbered Decide c.in-Ok.ensures c.in-Decide.is))
     (c.decide.ensures.beside _ (records_accepted_lem _ _ _ _ c.requires))
 
-pub returns-in-4 : goal.returns-in-4
-returns-in-4 c =
-    stepped_as (step_at_lem _ _ _ 4 c.in-4.is)
+pub returns-in-Withdraw : goal.returns-in-Withdraw
+returns-in-Withdraw c =
+    stepped_as (step_at_lem _ _ _ 4 (numbered Withdraw c.in-Ok.ensures c.in-Withdraw.is))
     (c.withdraw.ensures.beside _ (records_accepted_lem _ _ _ _ c.requires))
 
-pub returns-in-5 : goal.returns-in-5
-returns-in-5 c = stepped_as (step_at_lem _ _ _ 5 c.in-5.is) c.finish.ensures
+pub returns-in-Finish : goal.returns-in-Finish
+returns-in-Finish c = stepped_as (step_at_lem _ _ _ 5 (numbered Finish c.in-Ok.ensures c.in-Finish.is)) c.finish.ensures
 
-pub returns-in-6 : goal.returns-in-6
-returns-in-6 c = stepped_as (step_at_lem _ _ _ 6 c.in-6.is) c.undo.ensures
+pub returns-in-Undo : goal.returns-in-Undo
+returns-in-Undo c = stepped_as (step_at_lem _ _ _ 6 (numbered Undo c.in-Ok.ensures c.in-Undo.is)) c.undo.ensures
 
-pub returns-in-7 : goal.returns-in-7
-returns-in-7 c =
-    stepped_as (step_at_lem _ _ _ 7 c.in-7.is)
+pub returns-in-Done : goal.returns-in-Done
+returns-in-Done c =
+    stepped_as (step_at_lem _ _ _ 7 (numbered Done c.in-Ok.ensures c.in-Done.is))
     (wrote_nothing _ _ (records_accepted_lem _ _ _ _ c.requires)
     (coordinator_readable_lem _ _ _ _ c.requires) _ _ c.done.ensures)
 
 pub returns-in_default : goal.returns-in_default
 returns-in_default c =
-    stepped_as (step-none _ _ _ c.in_default.in_default-own.rest.0)
+    stepped_as (step-none _ _ _ c.in_default.ensures.1)
     (wrote_nothing _ _ (records_accepted_lem _ _ _ _ c.requires) (coordinator_readable_lem _ _ _ _ c.requires) _ _ refl)

@@ -1,17 +1,16 @@
--- No entry before i is of such a storage.
-use Rattle.std.proofs.Common.{◌∙◌}
-use Rattle.lists.specs.Basics.{sym}
-use Rattle.transactions.specs.Held.{pass-first, any_met, any_next, any_last}
+use Rattle.std.proofs.Common.{◌∙◌, rules, tests}
+use Rattle.std.proofs.lemmas.Iterator.{YieldsList-from_slice}
+use Rattle.std.proofs.lemmas.Iterator.Search.{any_from_yields_List}
+use Rattle.model.specs.Types.{Entry}
+use Rattle.model.specs.Groups.{is_lower}
+use Rattle.model.specs.Transactions.{held}
+use Rattle.transactions.specs.Units.{units_in}
+use Rattle.transactions.specs.Chains.{any_is}
 use Rattle.transactions.proofs.holds_lower.Goals as goal
 
-pub loop-i-init : goal.loop-i-init
-loop-i-init c = pass-first _ _ c.well_formed.1.0 c.requires
-
-pub returns-then-is_lower : goal.returns-then-is_lower
-returns-then-is_lower c = any_met _ _ _ _ c.loop-i.invariant c.loop-i-test.true (sym c.is_lower.ensures ∙ c.if-is_lower.true)
-
-pub loop-i-preserved : goal.loop-i-preserved
-loop-i-preserved c = any_next _ _ _ _ c.loop-i.invariant c.loop-i-test.true (sym c.is_lower.ensures ∙ c.if-is_lower.false)
-
 pub returns : goal.returns
-returns c = any_last _ _ _ _ c.loop-i.invariant c.loop-i-test.false
+returns c =
+    let xs = held c.args.t in
+    let q = λ (e : Entry). is_lower (units_in c.args.letters.now) e.key in
+    any_from_yields_List q _ _ c.any.result c.any.ensures.ran (YieldsList-from_slice xs cc) (λ x b q k. search (rules, tests))
+    ∙ any_is q xs

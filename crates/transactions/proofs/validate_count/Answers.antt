@@ -1,16 +1,28 @@
--- As many of the entries before i are to be validated as were found.
-use Rattle.std.proofs.Common.{◌∙◌}
-use Rattle.lists.specs.Basics.{refl}
-use Rattle.model.specs.Transactions.{held, to_validate}
-use Rattle.transactions.specs.Held.{tally_first, tally_next, tally_last, tallied_kept}
+use Rattle.std.proofs.Common.{◌≡◌, ◌∙◌, rules, tests}
+use Rattle.std.proofs.lemmas.Iterator.{YieldsList-from_slice}
+use Rattle.std.proofs.lemmas.Iterator.Consumers.{YieldsList-from_filter, count_from_yields_List}
+use Rattle.std.proofs.lemmas.List.Sums.{length-filter, count_by-le-length}
+use Rattle.lists.specs.Basics.{ap, arith, length}
+use Rattle.std.specs.Prelude.{◌≤◌}
+use Rattle.std.specs.List.{filter}
+use Rattle.model.specs.Transactions.{held, must_validate, to_validate}
+use Rattle.transactions.specs.Chains.{filter_is}
+use Rattle.transactions.specs.Units.{units_in}
 use Rattle.transactions.proofs.validate_count.Goals as goal
 
-pub loop-i-init : goal.loop-i-init
-loop-i-init c = tally_first _ _ c.well_formed.1.0 c.requires
+counted : (c : goal.After-count) → c.count.result ≡ length (filter (must_validate (units_in c.args.letters.now) c.args.t) (held c.args.t))
+counted c =
+    let q = must_validate (units_in c.args.letters.now) c.args.t in
+    count_from_yields_List c.filter.result c.count.result c.count.ensures.ran
+    (YieldsList-from_filter _ q (YieldsList-from_slice (held c.args.t) cc) c.filter.ensures.closure (λ x b f h. search (rules, tests)))
 
-pub loop-i-preserved : goal.loop-i-preserved
-loop-i-preserved c = tally_next _ _ _ _ _ _ c.loop-i.invariant c.loop-i-test.true (rw (c.must_validate.ensures c.args.t refl) at c.tally-found.ensures)
+pub overflow_cast-result : goal.overflow_cast-result
+overflow_cast-result c =
+    let q = must_validate (units_in c.args.letters.now) c.args.t in
+    let xs = held c.args.t in
+    let h : c.count.result ≤ 8 = omega (arith, counted c, length-filter q xs, count_by-le-length q xs, c.held.ensures.few, ap length c.held.ensures.entries) in
+    search rules
 
 pub returns : goal.returns
 unfolding to_validate
-returns c = tally_last _ _ _ _ _ c.loop-i.invariant c.loop-i-test.false ∙ tallied_kept _ (held c.args.t)
+returns c = counted c ∙ ap length (filter_is _ (held c.args.t))

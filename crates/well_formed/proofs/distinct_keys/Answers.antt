@@ -1,26 +1,27 @@
--- No entry before i has the key of a later one, and none between entry i and entry j has that of entry i.
+-- No entry before i has the key of a later one.
+use Rattle.std.specs.Prelude.{◌+◌}
 use Rattle.std.proofs.Common.{◌∙◌}
-use Rattle.lists.specs.Basics.{sym, arith}
-use Rattle.transactions.specs.Held.{pass-first, pass-from, any_met, any_next, any_last}
-use Rattle.well_formed.specs.Formed.{distinct_not, distinct_next, distinct_last}
+use Rattle.lists.specs.Basics.{sym, ap, any, get_or, length, arith}
+use Rattle.std.proofs.lemmas.Slice.{between_to_end}
+use Rattle.model.specs.Transactions.{no_entry}
+use Rattle.model.specs.WellFormed.{distinct_keys}
+use Rattle.well_formed.specs.Formed.{same_key_as, distinct_here, distinct_last}
 use Rattle.well_formed.proofs.distinct_keys.Goals as goal
 
-pub loop-i-init : goal.loop-i-init
-loop-i-init c = pass-first _ _ c.well_formed.0 c.requires
-
-pub loop-j-init : goal.loop-j-init
-loop-j-init c = pass-from _ _ _ c.well_formed.0 c.requires (omega (arith, c.loop-i-test.true))
-
-pub returns-then-same_key : goal.returns-then-same_key
-returns-then-same_key c =
-    distinct_not _ _ _ c.loop-i.invariant c.loop-i-test.true
-    (sym (any_met _ _ _ _ c.loop-j.invariant c.loop-j-test.true (sym c.same_key.ensures ∙ c.if-same_key.true)))
-
-pub loop-j-preserved : goal.loop-j-preserved
-loop-j-preserved c = any_next _ _ _ _ c.loop-j.invariant c.loop-j-test.true (sym c.same_key.ensures ∙ c.if-same_key.false)
+pub returns-then-has_key : goal.returns-then-has_key
+returns-then-has_key c =
+    let xs = c.held-entries.result.now in
+    let i = c.loop-i.i in
+    sym (sym (ap distinct_keys c.held-entries.ensures.entries) ∙ (sym c.loop-i.invariant ∙ distinct_here xs i c.loop-i-test.true _ (sym c.if-has_key.true ∙ (c.has_key.ensures ∙ ap (any (same_key_as (get_or xs i no_entry))) (between_to_end xs (i + 1) (length xs) (omega arith))))))
 
 pub loop-i-preserved : goal.loop-i-preserved
-loop-i-preserved c = distinct_next _ _ _ c.loop-i.invariant c.loop-i-test.true (sym (any_last _ _ _ _ c.loop-j.invariant c.loop-j-test.false))
+loop-i-preserved c =
+    let xs = c.held-entries.result.now in
+    let i = c.loop-i.i in
+    sym (distinct_here xs i c.loop-i-test.true _ (sym c.if-has_key.false ∙ (c.has_key.ensures ∙ ap (any (same_key_as (get_or xs i no_entry))) (between_to_end xs (i + 1) (length xs) (omega arith))))) ∙ c.loop-i.invariant
 
 pub returns : goal.returns
-returns c = distinct_last _ _ _ c.loop-i.invariant c.loop-i-test.false
+returns c =
+    let xs = c.held-entries.result.now in
+    let i = c.loop-i.i in
+    distinct_last xs i c.loop-i-test.false ∙ (c.loop-i.invariant ∙ ap distinct_keys c.held-entries.ensures.entries)

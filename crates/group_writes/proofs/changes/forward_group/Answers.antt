@@ -1,5 +1,4 @@
 -- The change of a whole group is the model's write.
-use Rattle.lists.specs.Basics.{rules}
 use Rattle.group_writes.specs.Changes.{written}
 use Rattle.group_writes.specs.Ready.{may_forward}
 use Rattle.group_writes.proofs.changes.forward_group.Goals as goal
@@ -7,10 +6,6 @@ use Rattle.group_writes.proofs.changes.forward_group.Goals as goal
 pub change_group-requires : goal.change_group-requires
 unfolding written
 change_group-requires c = may_forward _ _ _ _ c.requires
-
-pub shape_of-records : goal.shape_of-records
-unfolding written
-shape_of-records c = search rules
 
 pub returns : goal.returns
 unfolding written

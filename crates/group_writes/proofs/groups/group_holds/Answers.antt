@@ -1,35 +1,31 @@
--- Every entry before i that is of the group holds.
+-- What is asked at each index is asked of the entry there.
 use Rattle.std.specs.Prelude.{◌||◌}
-use Rattle.std.proofs.Common.{◌∙◌}
-use Rattle.lists.specs.Basics.{sym, ap, Bool, not, arith}
+use Rattle.std.proofs.Common.{◌∙◌, rules, tests}
+use Rattle.std.proofs.lemmas.Iterator.{YieldsList-from_range}
+use Rattle.std.proofs.lemmas.Iterator.Search.{all_from_yields_List}
+use Rattle.lists.specs.Basics.{refl, ap, ℕ, Bool, not, eqb, get_or, arith}
 use Rattle.model.specs.Steps.{holds}
 use Rattle.model.specs.ByteCalls.{sheets_of}
-use Rattle.transactions.specs.Held.{entry_at, pass-first, all_unmet, all_next, all_last}
-use Rattle.group_writes.specs.Groups.{group-all}
-use Rattle.group_writes.specs.Ready.{accepted, units, has_letters}
+use Rattle.transactions.specs.Held.{entry_at, has_room_lem}
+use Rattle.group_writes.specs.Groups.{holds_in_group, group-all, every_index}
+use Rattle.group_writes.specs.Ready.{has_letters, units}
 use Rattle.group_writes.proofs.groups.group_holds.Goals as goal
 
 pub slice_bounds-letters-end : goal.slice_bounds-letters-end
 slice_bounds-letters-end c = omega (arith, has_letters _ _ _ _ c.requires)
 
-pub loop-i-init : goal.loop-i-init
-loop-i-init c = pass-first _ _ c.well_formed.1.1.0 c.requires.body.few
-
-pub entry_holds-requires : goal.entry_holds-requires
-entry_holds-requires c =
-    (accepted _ _ _ _ c.requires, c.requires.indexed.at _ c.loop-i-test.true)
-
-pub returns-then-not-entry_holds : goal.returns-then-not-entry_holds
-returns-then-not-entry_holds c =
-    let a = c.args in
-    let s = sheets_of a.records.now a.coordinator.now in all_unmet _ _ _ _ c.loop-i.invariant c.loop-i-test.true (ap (λ (b : Bool). not b || holds s (entry_at a.t c.loop-i.i)) (sym (c.requires.grouped.own _ c.loop-i-test.true)) ∙ (sym (c.entry_holds.ensures a.coordinator.now (units _ _ _ _ c.requires)) ∙ c.if-not-entry_holds.true)) ∙ group-all a.records.now a.coordinator.now a.t
-
-pub loop-i-preserved : goal.loop-i-preserved
-loop-i-preserved c =
-    let a = c.args in
-    let s = sheets_of a.records.now a.coordinator.now in all_next _ _ _ _ c.loop-i.invariant c.loop-i-test.true (ap (λ (b : Bool). not b || holds s (entry_at a.t c.loop-i.i)) (sym (c.requires.grouped.own _ c.loop-i-test.true)) ∙ (sym (c.entry_holds.ensures a.coordinator.now (units _ _ _ _ c.requires)) ∙ c.if-not-entry_holds.false))
-
 pub returns : goal.returns
 returns c =
     let a = c.args in
-    all_last _ _ _ _ c.loop-i.invariant c.loop-i-test.false ∙ group-all a.records.now a.coordinator.now a.t
+    let rs = a.records.now in
+    let cs = a.coordinator.now in
+    let t = a.t in
+    let l = a.located in
+    let n = t.count in
+    let s = sheets_of rs cs in
+    let u = units _ _ _ _ c.requires in
+    let q = λ (i : ℕ). not (eqb (get_or l.of i 0) t.place) || holds s (entry_at t i) in
+    all_from_yields_List q _ _ c.all.result c.all.ensures.ran (YieldsList-from_range 0 n n refl (omega arith)) (λ x b f k. let h = u in search (rules, tests))
+    ∙ (every_index t (has_room_lem t c.well_formed.1.1.0 c.requires.body.few) q (holds_in_group rs cs t)
+    (λ i m. ap (λ (b : Bool). not b || holds s (entry_at t i)) (c.requires.grouped.own i m))
+    ∙ group-all rs cs t)

@@ -10,7 +10,7 @@ pub forward_group-requires : goal.forward_group-requires
 forward_group-requires c = may_write _ _ _ _ c.requires.ready
 
 pub next_group-requires : goal.next_group-requires
-next_group-requires c = let p = c.requires in place_finish _ _ _ _ p.ready p.phase_value
+next_group-requires c = let p = c.requires in place_finish _ _ _ _ p.ready p.phase
 
 pub returns : goal.returns
 unfolding finish_step decisions_after

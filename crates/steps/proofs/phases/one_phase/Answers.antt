@@ -12,7 +12,7 @@ group_holds-requires c = may_write _ _ _ _ c.requires
 
 pub commit_group-requires : goal.commit_group-requires
 commit_group-requires c =
-    record { ready = may_write _ _ _ _ c.requires; coordinator_value = sym c.group_holds.ensures ∙ c.if-group_holds.true }
+    record { ready = may_write _ _ _ _ c.requires; conditions = sym c.group_holds.ensures ∙ c.if-group_holds.true }
 
 pub returns-then-group_holds : goal.returns-then-group_holds
 unfolding decisions_after

@@ -22,7 +22,7 @@ pub prepare_group-requires : goal.prepare_group-requires
 prepare_group-requires c =
     record {
       ready = may_write _ _ _ _ c.requires.ready;
-      coordinator_value = sym c.group_holds.ensures ∙ not-false _
+      conditions = sym c.group_holds.ensures ∙ not-false _
           c.if-not-group_holds.false-raw;
     }
 
@@ -36,7 +36,7 @@ after_prepare-requires c = few _ _ _ _ c.requires.ready
 pub next_group-requires : goal.next_group-requires
 next_group-requires c =
     let p = c.requires in
-    place_prepare _ _ _ _ p.ready p.phase_value
+    place_prepare _ _ _ _ p.ready p.phase
 
 pub returns : goal.returns
 unfolding decisions_after

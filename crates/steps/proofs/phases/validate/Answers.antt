@@ -22,7 +22,7 @@ holds-requires c =
     let p = c.requires in (
       records_accepted_lem _ _ _ _ p.ready,
       c.index_of-index.ensures ∙ indexed_in _ _ _ _ p.ready.indexed
-          (rw (c.to_validate-e.ensures, units _ _ _ _ p.ready) (validate_held _ _ (place_validate _ _ _ _ p.ready p.phase_value))),
+          (rw (c.to_validate-e.ensures, units _ _ _ _ p.ready) (validate_held _ _ (place_validate _ _ _ _ p.ready p.phase))),
     )
 
 pub returns-then-not-holds : goal.returns-then-not-holds
@@ -38,7 +38,7 @@ returns-then-not-holds c =
 pub next_entry-requires : goal.next_entry-requires
 next_entry-requires c =
     let p = c.requires in
-    (few _ _ _ _ p.ready, rw (units _ _ _ _ p.ready) (place_validate _ _ _ _ p.ready p.phase_value))
+    (few _ _ _ _ p.ready, rw (units _ _ _ _ p.ready) (place_validate _ _ _ _ p.ready p.phase))
 
 pub returns : goal.returns
 returns c =
