@@ -3,7 +3,7 @@ use Rattle.std.specs.Prelude.{◌≡◌}
 use Rattle.std.proofs.Common.{◌∙◌}
 use Rattle.lists.specs.Basics.{refl, sym, ap, ℕ, eqb, Bool, true, false, cond, true≢false, List, length, get_or, eqb-true, eq-eqb}
 use Rattle.model.specs.Layouts.{record_bytes}
-use Rattle.model.specs.Types.{Key, Record, Rank, Ranked, At}
+use Rattle.model.specs.Types.{Key, Record, Rank, Ranked, Some}
 use Rattle.model.specs.Records.{key_in_range, has_line, absent_at, line_of, no_record, record_text, rising, found, rank, ranked}
 use Rattle.model.specs.Refusals.{Condition, refusal_of}
 use Rattle.model.specs.SheetCalls.{told_rank}
@@ -63,7 +63,7 @@ module _ (k : Key) (rs : List Record) where
 -- the record at the rank of a key that has a line is the key's
 pub at_rank : (k : Key) (rs : List Record) (i : ℕ) → rising rs ≡ true → has_line k rs ≡ true → i ≡ rank k rs → get_or rs i no_record ≡ line_of k rs
 at_rank k rs i order has e =
-    let f : found k rs ≡ At (rank k rs) = found_by_rank k rs order ∙ rw has in
+    let f : found k rs ≡ Some (rank k rs) = found_by_rank k rs order ∙ rw has in
     ap (λ (j : ℕ). get_or rs j no_record) e ∙ (found_at k rs (rank k rs) f).line
 
 -- What is told of a place: refused with a number, or free of every refusal.

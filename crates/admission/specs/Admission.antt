@@ -1,8 +1,12 @@
 -- What is asked before a call looks into a transaction, as one list of conditions: its refusal is the call's, and a transaction that passes has the rest of the
 -- call's conditions before it.
 use Rattle.std.specs.Prelude.{◌≡◌, ◌≤◌, ◌∷◌}
+use Rattle.std.specs.Prelude.{Result, Ok, Err}
 use Rattle.std.proofs.Common.{◌∙◌}
-use Rattle.lists.specs.Basics.{sym, ap, ap₂, subst, ℕ, Bool, true, false, not, cond, List, []}
+use Rattle.types.specs.declared.Refusal.{Refusal}
+use Rattle.types.specs.declared.Refusal.TheVariants.{BadTransaction}
+use Rattle.answers.specs.Outcomes.{ok_same, err_same, ok_not_err}
+use Rattle.lists.specs.Basics.{refl, sym, ap, ap₂, subst, ℕ, Bool, true, false, not, cond, List, []}
 use Rattle.lists.specs.Basics.{take, drop, arith, not-false}
 use Rattle.lists.specs.All.{all_weaken}
 use mir.Val.{Val}
@@ -27,48 +31,52 @@ use Rattle.put_groups.specs.declared.Groups.{Groups}
 use Rattle.put_groups.specs.GroupsIn.{groups_in}
 use Rattle.held_lines.specs.declared.Located.{Located}
 use Rattle.held_lines.specs.Located.{keys_ranged, located_in, Indexed, Grouped, indexed_all, grouped_in, place_few}
-use Rattle.admission.specs.declared.Admitted.{Admitted}
-use Rattle.admission.specs.declared.Judged.{Judged}
 
 -- Well-formedness and groups, in the order in which the code asks.
-
-abbrev pub no_groups : Groups
-no_groups = record { count = 0; of = 0 ∷ 0 ∷ 0 ∷ 0 ∷ 0 ∷ 0 ∷ 0 ∷ 0 ∷ [] }
 
 abbrev groups_found : List Letter → Transaction → Groups
 groups_found us t = record { count = group_count us (puts t); of = groups_in us t }
 
-abbrev judged_if : Bool → List Letter → Transaction → Judged
-judged_if b us t = record { formed = b; groups = cond b (groups_found us t) no_groups }
+-- the groups of the puts of a transaction that is well formed, or refusal 3
+abbrev judged_if : Bool → List Letter → Transaction → Result Groups Refusal
+judged_if b us t = cond b (Ok (groups_found us t)) (Err BadTransaction)
 
-abbrev pub judged : Coordinator → Transaction → Judged
+abbrev pub judged : Coordinator → Transaction → Result Groups Refusal
 judged c t = judged_if (formed c.units c.issued t) c.units t
 
 module _ (t : Transaction) (cs : List ℕ) (a : coordinator_readable cs ≡ true) (n : ℕ) (e : n ≡ (coordinator_of cs).issued) where
   letters_formed : formed (units_in (take 9 (drop 5 cs))) n t ≡ formed (coordinator_of cs).units (coordinator_of cs).issued t
   letters_formed = ap₂ (λ (us : List Letter) (m : ℕ). formed us m t) (units-said cs a) e
 
-  pub judged-not : formed (units_in (take 9 (drop 5 cs))) n t ≡ false → record { formed = false; groups = no_groups } ≡ judged (coordinator_of cs) t
+  pub judged-not : formed (units_in (take 9 (drop 5 cs))) n t ≡ false → Err BadTransaction ≡ judged (coordinator_of cs) t
   judged-not h = ap (λ (b : Bool). judged_if b (coordinator_of cs).units t) (sym (sym letters_formed ∙ h))
 
   pub judged-formed : (g : Groups) → g.count ≡ group_count (units_in (take 9 (drop 5 cs))) (puts t) → g.of ≡ groups_in (units_in (take 9 (drop 5 cs))) t
-      → formed (units_in (take 9 (drop 5 cs))) n t ≡ true → record { formed = true; groups = g } ≡ judged (coordinator_of cs) t
+      → formed (units_in (take 9 (drop 5 cs))) n t ≡ true → Ok g ≡ judged (coordinator_of cs) t
   judged-formed g k o h =
-      ap₂ (λ (m : ℕ) (p : List ℕ). record { formed = true; groups = record { count = m; of = p } })
+      ap₂ (λ (m : ℕ) (p : List ℕ). Ok (record { count = m; of = p }))
       (k ∙ ap (λ (us : List Letter). group_count us (puts t)) (units-said cs a)) (o ∙ ap (λ (us : List Letter). groups_in us t) (units-said cs a))
       ∙ ap (λ (b : Bool). judged_if b (coordinator_of cs).units t) (sym (sym letters_formed ∙ h))
 
 -- what is judged tells whether a transaction is well formed beside any record sheet
-module _ (t : Transaction) (cs : List ℕ) {j : Judged} (e : j ≡ judged (coordinator_of cs) t) where
-  pub formed_by : (rs : List ℕ) (x : Bool) → j.formed ≡ x → well_formed (sheets_of rs cs) t ≡ x
+module _ (t : Transaction) (cs : List ℕ) {j : Result Groups Refusal} (e : j ≡ judged (coordinator_of cs) t) where
+  -- a transaction that is refused isn't, and its refusal is 3
+  pub unformed_by : (rs : List ℕ) {r : Refusal} → j ≡ Err r → (well_formed (sheets_of rs cs) t ≡ false) × (r ≡ BadTransaction)
   unfolding well_formed
-  formed_by rs x h = sym (ap (λ (y : Judged). y.formed) e) ∙ h
+  unformed_by rs {r} h = go (formed (coordinator_of cs).units (coordinator_of cs).issued t) e
+    where
+      go : (b : Bool) → j ≡ judged_if b (coordinator_of cs).units t → (b ≡ false) × (r ≡ BadTransaction)
+      go true x = absurd (ok_not_err x h)
+      go false x = (refl, err_same h x)
 
-  -- and then the groups
-  pub groups_by : j.formed ≡ true → j.groups ≡ groups_found (coordinator_of cs).units t
-  groups_by h =
-      ap (λ (y : Judged). y.groups) e
-      ∙ ap (λ (b : Bool). cond b (groups_found (coordinator_of cs).units t) no_groups) (sym (ap (λ (y : Judged). y.formed) e) ∙ h)
+  -- one that isn't refused is, and the groups are its
+  pub formed_by : (rs : List ℕ) {g : Groups} → j ≡ Ok g → (well_formed (sheets_of rs cs) t ≡ true) × (g ≡ groups_found (coordinator_of cs).units t)
+  unfolding well_formed
+  formed_by rs {g} h = go (formed (coordinator_of cs).units (coordinator_of cs).issued t) e
+    where
+      go : (b : Bool) → j ≡ judged_if b (coordinator_of cs).units t → (b ≡ true) × (g ≡ groups_found (coordinator_of cs).units t)
+      go true x = (refl, ok_same h x)
+      go false x = absurd (ok_not_err h x)
 
 -- the keys of a well-formed transaction are in range
 pub keys_ranged_lem : (s : Sheets) (t : Transaction) → well_formed s t ≡ true → keys_ranged t ≡ true
@@ -109,29 +117,35 @@ opened t k s h =
     let f : well_formed s t ≡ true = not-false (well_formed s t) w.0 in
     record { formed = f; few = (well_formed-parts s t f).0.few; phase = o.0; ranged = not-false (key_in_range k) g.0 }
 
--- What is found of a transaction's entries where it is well formed.
+-- What is found of a transaction's entries where it is well formed; refusal 3 where it isn't.
 
-abbrev pub nowhere : Located
-nowhere = record { indices = 0 ∷ 0 ∷ 0 ∷ 0 ∷ 0 ∷ 0 ∷ 0 ∷ 0 ∷ []; groups = 0; of = 0 ∷ 0 ∷ 0 ∷ 0 ∷ 0 ∷ 0 ∷ 0 ∷ 0 ∷ [] }
+abbrev admitted_if : Bool → Sheets → Transaction → Result Located Refusal
+admitted_if b s t = cond b (Ok (located_in s.lines (units_of s) t)) (Err BadTransaction)
 
-abbrev admitted_if : Bool → Sheets → Transaction → Admitted
-admitted_if b s t = record { formed = b; located = cond b (located_in s.lines (units_of s) t) nowhere }
-
-abbrev pub admitted : Sheets → Transaction → Admitted
+abbrev pub admitted : Sheets → Transaction → Result Located Refusal
 admitted s t = admitted_if (well_formed s t) s t
 
 module _ (s : Sheets) (t : Transaction) where
-  pub admitted-not : well_formed s t ≡ false → record { formed = false; located = nowhere } ≡ admitted s t
+  pub admitted-not : well_formed s t ≡ false → Err BadTransaction ≡ admitted s t
   admitted-not e = ap (λ (b : Bool). admitted_if b s t) (sym e)
 
-  pub admitted-formed : (l : Located) → l ≡ located_in s.lines (units_of s) t → well_formed s t ≡ true → record { formed = true; located = l } ≡ admitted s t
-  admitted-formed l h e = ap (λ (x : Located). record { formed = true; located = x }) h ∙ ap (λ (b : Bool). admitted_if b s t) (sym e)
+  pub admitted-formed : (l : Located) → l ≡ located_in s.lines (units_of s) t → well_formed s t ≡ true → Ok l ≡ admitted s t
+  admitted-formed l h e = ap (λ (x : Located). Ok x) h ∙ ap (λ (b : Bool). admitted_if b s t) (sym e)
 
-  pub admitted_by : (x : Bool) {a : Admitted} → a ≡ admitted s t → a.formed ≡ x → well_formed s t ≡ x
-  admitted_by x e h = sym (ap (λ (y : Admitted). y.formed) e) ∙ h
+  -- by what a call was told
+  pub admitted_by : {a : Result Located Refusal} → a ≡ admitted s t → {l : Located} → a ≡ Ok l → (well_formed s t ≡ true) × (l ≡ located_in s.lines (units_of s) t)
+  admitted_by {a} e {l} h = go (well_formed s t) e
+    where
+      go : (b : Bool) → a ≡ admitted_if b s t → (b ≡ true) × (l ≡ located_in s.lines (units_of s) t)
+      go true x = (refl, ok_same h x)
+      go false x = absurd (ok_not_err h x)
 
-  pub located_by : {a : Admitted} → a ≡ admitted s t → well_formed s t ≡ true → a.located ≡ located_in s.lines (units_of s) t
-  located_by e h = ap (λ (y : Admitted). y.located) e ∙ ap (λ (b : Bool). cond b (located_in s.lines (units_of s) t) nowhere) h
+  pub ill_by : {a : Result Located Refusal} → a ≡ admitted s t → {r : Refusal} → a ≡ Err r → (well_formed s t ≡ false) × (r ≡ BadTransaction)
+  ill_by {a} e {r} h = go (well_formed s t) e
+    where
+      go : (b : Bool) → a ≡ admitted_if b s t → (b ≡ false) × (r ≡ BadTransaction)
+      go true x = absurd (ok_not_err x h)
+      go false x = (refl, err_same h x)
 
 -- what a step asks for
 pub admitted_ready : (t : Transaction) (rs cs : List ℕ) {vs : List Val} → Is (row the_type) t vs → (l : Located) → l ≡ located_in (records rs) (coordinator_of cs).units t → well_formed (sheets_of rs cs) t ≡ true → Indexed (records rs) t l.indices t.count × Grouped (coordinator_of cs).units t l

@@ -1,2 +1,3 @@
 -- What the calls answer.
 pub mod Answers
+pub mod Outcomes

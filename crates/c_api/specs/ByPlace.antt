@@ -1,9 +1,8 @@
 -- The call by place, from what the two functions that it calls ensure: where place and call are named, and where they aren't.
-use Rattle.std.specs.Prelude.{◌≡◌, ◌<◌}
+use Rattle.std.specs.Prelude.{◌≡◌, ◌<◌, Result as Either, Ok, Err}
 use Rattle.std.proofs.Common.{◌∙◌}
 use Rattle.lists.specs.Basics.{refl, sym, ap, ℕ, Bool, true, false, cond, and-true, List, [], length, get_or, set, and_fst, and_snd}
 use Rattle.lists.specs.All.{get_or_any}
-use Rattle.std.proofs.lemmas.List.{set-get_or}
 use Rattle.model.specs.Types.{Transaction, Request}
 use Rattle.model.specs.Refusals.{Condition}
 use Rattle.model.specs.Writes.{Sheets}
@@ -13,20 +12,16 @@ use Rattle.model.specs.Operations.{response_on, sheet_left, coordinator_left}
 use Rattle.model.specs.Requests.{operation_of}
 use Rattle.model.specs.Calls.{new_transaction}
 use Rattle.model.specs.CallByPlace.{listed, named, operation_at, list_after}
-use Rattle.call_laws.specs.ByPlace.{left_with, listed-within, named-response_on, unlisted_refused, refusal_leaves}
-use Rattle.answers.specs.Answers.{to_performed}
-use Rattle.c_api.specs.declared.Called.{Called}
-use Rattle.by_place.specs.Numbers.{call_number, unlisted_number}
+use Rattle.call_laws.specs.ByPlace.{listed-within, named-response_on, unlisted_refused, refusal_leaves}
+use Rattle.answers.specs.declared.Performed.{Performed}
+use Rattle.answers.specs.Answers.{to_performed, number_in}
+use Rattle.by_place.specs.Numbers.{call_number, unlisted_number, one_number, call_numbered}
 use Rattle.by_place.specs.Asked.{calls, is_call, asks, naming, or_no_call, called_at_on}
 
--- what a call answers as one number, and the transaction, as it came where the call is refused
-abbrev pub called : Transaction → Response Answer Sheets → Called
-called t r = record { answer = call_number r; transaction = left_with t r }
-
--- the transaction of an answer is the one left
-pub performed_left : (t : Transaction) (r : Response Answer Sheets) → (to_performed t r).transaction ≡ left_with t r
-performed_left t (refused n) = refl
-performed_left t (made a s) = refl
+-- the list after an answer: what an accepted call returns is put back at its place
+abbrev pub list_with : List Transaction → ℕ → Either Performed ℕ → List Transaction
+list_with list place (Ok p) = set list place p.transaction
+list_with list place (Err n) = list
 
 module _ (most n place call : ℕ) where
   pub naming-within : naming most n place call ≡ true → place < n
@@ -51,10 +46,9 @@ nobody = record { number = 0; serializable = 0; phase = 0; place = 0; verdict = 
 pub named_here : (list : List Transaction) (place : ℕ) → place < length list → get_or list place nobody ≡ named list place
 named_here list place l = get_or_any list place nobody (new_transaction 0 false) l
 
--- what a call returns is put back at its place
-pub put_back : (list : List Transaction) (place : ℕ) (r : Response Answer Sheets) → set list place (left_with (named list place) r) ≡ list_after list place r
+pub put_back : (list : List Transaction) (place : ℕ) (r : Response Answer Sheets) → list_with list place (to_performed (named list place) r) ≡ list_after list place r
 unfolding list_after
-put_back list place (refused n) = set-get_or list place _
+put_back list place (refused n) = refl
 put_back list place (made a s) = refl
 
 module _ (list : List Transaction) (place call storage namespace table partition clustering column1 column2 clock limit : ℕ) (rs cs : List ℕ) where
@@ -70,19 +64,17 @@ module _ (list : List Transaction) (place call storage namespace table partition
       (r ≡ call_number result) × ((list' ≡ list_after list place result) × ((rs' ≡ sheet_left rs result) × (cs' ≡ coordinator_left cs result)))
 
   -- place and call are named, and what the call returns is put back there
-  pub calls-named : (out : Called) (rs' cs' : List ℕ) → naming calls (length list) place call ≡ true
-      → out ≡ called (named list place) (response_on (operation_of asking (named list place)) rs cs)
+  pub calls-named : (out : Either Performed ℕ) (rs' cs' : List ℕ) → naming calls (length list) place call ≡ true
+      → out ≡ to_performed (named list place) (response_on (operation_of asking (named list place)) rs cs)
       → rs' ≡ sheet_left rs (response_on (operation_of asking (named list place)) rs cs)
       → cs' ≡ coordinator_left cs (response_on (operation_of asking (named list place)) rs cs)
-      → CallsAt out.answer (set list place out.transaction) rs' cs'
+      → CallsAt (one_number (λ (p : Performed). number_in p.reply) out) (list_with list place out) rs' cs'
   calls-named out rs' cs' e o l d =
-      let same : result ≡ response_on (operation_at list place asking) rs cs = called-named calls (length list) place call (check_conditions rs cs) e (named-response_on list place asking rs cs) in
+      let r = response_on (operation_at list place asking) rs cs in
+      let same : result ≡ r = called-named calls (length list) place call (check_conditions rs cs) e (named-response_on list place asking rs cs) in
       rw same (
-        ap (λ (u : Called). u.answer) o,
-        (
-          ap (λ (u : Called). set list place u.transaction) o ∙ put_back list place (response_on (operation_at list place asking) rs cs),
-          (l, d),
-        ),
+        ap (one_number (λ (p : Performed). number_in p.reply)) o ∙ call_numbered (named list place) r,
+        (ap (list_with list place) o ∙ put_back list place r, (l, d)),
       )
 
   -- one of them isn't, and nothing is written

@@ -1,7 +1,7 @@
 -- The call by place on two sheets, from what the two functions that it calls ensure: where place and call are named, and where they aren't.
-use Rattle.std.specs.Prelude.{◌≡◌}
+use Rattle.std.specs.Prelude.{◌≡◌, Result as Either}
 use Rattle.std.proofs.Common.{◌∙◌}
-use Rattle.lists.specs.Basics.{refl, sym, ap, ℕ, eqb, true, false, List, length, set, choose_by}
+use Rattle.lists.specs.Basics.{refl, sym, ap, ℕ, eqb, true, false, List, length, choose_by}
 use Rattle.model.specs.Types.{Transaction, Request}
 use Rattle.model.specs.Refusals.{refusal_of}
 use Rattle.model.specs.Writes.{Sheets}
@@ -10,16 +10,14 @@ use Rattle.model.specs.Operations.{coordinator_left}
 use Rattle.model.specs.Requests.{operation_of}
 use Rattle.model.specs.CallByPlace.{listed, named, operation_at, list_after}
 use Rattle.model.specs.TwoCalls.{TwoBytes, saying_two, conditions_of, response_two, response_at_two, plain_left, bookkeeping_left}
-use Rattle.call_laws.specs.ByPlace.{left_with, named-response, unlisted_response}
-use Rattle.c_api.specs.declared.two.CalledTwo.{CalledTwo}
+use Rattle.call_laws.specs.ByPlace.{named-response, unlisted_response}
+use Rattle.answers.specs.declared.Performed.{Performed}
+use Rattle.answers.specs.Answers.{to_performed}
+use Rattle.by_place.specs.Numbers.{one_number}
 use Rattle.two_check.specs.Areas.{two}
-use Rattle.by_place.specs.TwoNumbers.{call_number_two, unlisted_number_two}
+use Rattle.by_place.specs.TwoNumbers.{call_number_two, unlisted_number_two, number_in_two, call_numbered_two}
 use Rattle.by_place.specs.Asked.{calls_two, asks, naming, called_at_two}
-use Rattle.c_api.specs.ByPlace.{called-named, called_unnamed, put_back}
-
--- what a call answers as one number, and the transaction, as it came where the call is refused
-abbrev pub called_two : Transaction → Response Answer Sheets → CalledTwo
-called_two t r = record { answer = call_number_two r; transaction = left_with t r }
+use Rattle.c_api.specs.ByPlace.{called-named, called_unnamed, list_with, put_back}
 
 module _ (list : List Transaction) (place : ℕ) (q : Request) (b : TwoBytes) where
   named-two : listed (length list) place ≡ true → response_at_two list place q b ≡ response_two (operation_at list place q) b
@@ -58,12 +56,15 @@ module _ (list : List Transaction) (place call storage namespace table partition
       × ((list' ≡ list_after list place result) × ((ps' ≡ plain_left ps result) × ((bs' ≡ bookkeeping_left bs result) × (cs' ≡ coordinator_left cs result))))
 
   -- place and call are named, and what the call returns is put back there
-  pub calls-named-two : (out : CalledTwo) (ps' bs' cs' : List ℕ) → naming calls_two (length list) place call ≡ true
-      → out ≡ called_two (named list place) of_named → ps' ≡ plain_left ps of_named → bs' ≡ bookkeeping_left bs of_named → cs' ≡ coordinator_left cs of_named
-      → CallsAtTwo out.answer (set list place out.transaction) ps' bs' cs'
+  pub calls-named-two : (out : Either Performed ℕ) (ps' bs' cs' : List ℕ) → naming calls_two (length list) place call ≡ true
+      → out ≡ to_performed (named list place) of_named → ps' ≡ plain_left ps of_named → bs' ≡ bookkeeping_left bs of_named → cs' ≡ coordinator_left cs of_named
+      → CallsAtTwo (one_number (λ (p : Performed). number_in_two p.reply) out) (list_with list place out) ps' bs' cs'
   calls-named-two out ps' bs' cs' e o p b d =
       let same : result ≡ of_named = called-named calls_two (length list) place call (conditions_of (two ps bs cs)) e (named-two list place asking (two ps bs cs)) in
-      rw same (ap (λ (u : CalledTwo). u.answer) o, (ap (λ (u : CalledTwo). set list place u.transaction) o ∙ put_back list place of_named, (p, (b, d))))
+      rw same (
+        ap (one_number (λ (x : Performed). number_in_two x.reply)) o ∙ call_numbered_two (named list place) of_named,
+        (ap (list_with list place) o ∙ put_back list place of_named, (p, (b, d))),
+      )
 
   -- one of them isn't, and nothing is written
   pub calls_unnamed_two : (r : ℕ) (ps' bs' cs' : List ℕ) → naming calls_two (length list) place call ≡ false

@@ -10,7 +10,7 @@ pub extern "C" fn rapyheo_read_records(records: &[u8], numbers: &mut [u32]) -> u
     ensures answer { result ≡ refusal_of (read_records_conditions records.now numbers.old) }
     ensures target { numbers.new ≡ numbers_read records.now numbers.old }
 {
-    numbers::records::read_records(records, numbers)
+    by_place::refusal(numbers::records::read_records(records, numbers))
 }
 
 // Fifteen numbers for each record to a record sheet.
@@ -19,7 +19,7 @@ pub extern "C" fn rapyheo_write_records(numbers: &[u32], records: &mut [u8]) -> 
     ensures answer { result ≡ refusal_of (write_records_conditions numbers.now records.old) }
     ensures target { records.new ≡ records_written numbers.now records.old }
 {
-    numbers::records::write_records(numbers, records)
+    by_place::refusal(numbers::records::write_records(numbers, records))
 }
 
 // Coordinator sheet to ten numbers for the head and one for each line.
@@ -28,7 +28,7 @@ pub extern "C" fn rapyheo_read_coordinator(coordinator: &[u8], numbers: &mut [u3
     ensures answer { result ≡ refusal_of (read_coordinator_conditions coordinator.now numbers.old) }
     ensures target { numbers.new ≡ decisions_read coordinator.now numbers.old }
 {
-    numbers::decisions::read_coordinator(coordinator, numbers)
+    by_place::refusal(numbers::decisions::read_coordinator(coordinator, numbers))
 }
 
 // Ten numbers for the head and one for each line to a coordinator sheet.
@@ -37,5 +37,5 @@ pub extern "C" fn rapyheo_write_coordinator(numbers: &[u32], coordinator: &mut [
     ensures answer { result ≡ refusal_of (write_coordinator_conditions numbers.now coordinator.old) }
     ensures target { coordinator.new ≡ coordinator_written numbers.now coordinator.old }
 {
-    numbers::decisions::write_coordinator(numbers, coordinator)
+    by_place::refusal(numbers::decisions::write_coordinator(numbers, coordinator))
 }

@@ -29,7 +29,7 @@ pub extern "C" fn rapyheo_add(
         partition,
         clustering,
     };
-    adding::add(key, records, coordinator)
+    by_place::refusal(adding::add(key, records, coordinator))
 }
 
 // The line of a key, which is ABSENT of version 0, taken away; a spare comes last.
@@ -53,7 +53,7 @@ pub extern "C" fn rapyheo_remove(
         partition,
         clustering,
     };
-    adding::remove(key, records, coordinator)
+    by_place::refusal(adding::remove(key, records, coordinator))
 }
 
 // The same on a plain sheet and a bookkeeping sheet.
@@ -79,7 +79,7 @@ pub extern "C" fn rapyheo_two_add(
         partition,
         clustering,
     };
-    two_adding::add(key, plain, book, coordinator)
+    by_place::refusal(two_adding::add(key, plain, book, coordinator))
 }
 
 #[unsafe(no_mangle)]
@@ -104,5 +104,5 @@ pub extern "C" fn rapyheo_two_remove(
         partition,
         clustering,
     };
-    two_adding::remove(key, plain, book, coordinator)
+    by_place::refusal(two_adding::remove(key, plain, book, coordinator))
 }

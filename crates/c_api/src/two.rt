@@ -3,7 +3,6 @@ ghost use Rattle.std.specs.Prelude.{◌≡◌};
 ghost use Rattle.model.specs.Refusals.{refusal_of};
 ghost use Rattle.model.specs.Results.{visit};
 ghost use Rattle.model.specs.Operations.{once, coordinator_left};
-ghost use Rattle.model.specs.Requests.{operation_of};
 ghost use Rattle.model.specs.CallByPlace.{list_after};
 ghost use Rattle.model.specs.TwoSpares.{two_conditions, rank_two, line_two};
 ghost use Rattle.model.specs.TwoCalls.{response_two, plain_left, bookkeeping_left};
@@ -12,7 +11,6 @@ ghost use Rattle.by_place.specs.Numbers.{visit_number};
 ghost use Rattle.by_place.specs.TwoNumbers.{call_number_two};
 ghost use Rattle.by_place.specs.Asked.{asks, called_at_two};
 ghost use Rattle.by_place.specs.Ranks.{line_number, rank_number, rank_target};
-ghost use Rattle.c_api.specs.TwoByPlace.{called_two};
 
 use types::{Columns, Key, Transaction};
 
@@ -21,7 +19,7 @@ use types::{Columns, Key, Transaction};
 pub extern "C" fn rapyheo_two_check(plain: &[u8], book: &[u8], coordinator: &[u8]) -> u32
     ensures { result ≡ refusal_of (two_conditions plain.now book.now coordinator.now) }
 {
-    two_engine::check(plain, book, coordinator)
+    by_place::refusal(two_engine::check(plain, book, coordinator))
 }
 
 // 0 stays, 1 forward, 2 back, 3 again, or 1000 + the refusal.
@@ -49,8 +47,10 @@ pub extern "C" fn rapyheo_two_visit(
         partition,
         clustering,
     };
-    let visited = two_engine::visit(key, clock, plain, book, coordinator);
-    by_place::number(visited.refusal, visited.reply)
+    match two_engine::visit(key, clock, plain, book, coordinator) {
+        Ok(met) => by_place::recovery_number(met),
+        Err(refusal) => by_place::refused(refusal),
+    }
 }
 
 // The index of the line that has the key, the same on both sheets, or 1000 + the refusal.
@@ -101,53 +101,6 @@ pub extern "C" fn rapyheo_two_rank(
     by_place::tell_rank(two_engine::lookup::rank_of(plain, book, key), rank)
 }
 
-// What a call by place answers, and the transaction that stands at the place afterwards.
-#[derive(Clone, Copy)]
-struct CalledTwo {
-    answer: u64,
-    transaction: Transaction,
-}
-
-// The one function for every call, with the parameters in the order of the call by place.
-fn call_named_two(
-    t: Transaction,
-    plain: &mut [u8],
-    book: &mut [u8],
-    coordinator: &mut [u8],
-    call: u32,
-    storage: u32,
-    namespace: u32,
-    table: u32,
-    partition: u32,
-    clustering: u32,
-    column1: u32,
-    column2: u32,
-    clock: u32,
-    limit: u32,
-) -> CalledTwo
-    ensures answer { result ≡ called_two t (response_two (operation_of (asks call storage namespace table partition clustering column1 column2 clock limit) t) (two plain.old book.old coordinator.old)) }
-    ensures plain { plain.new ≡ plain_left plain.old (response_two (operation_of (asks call storage namespace table partition clustering column1 column2 clock limit) t) (two plain.old book.old coordinator.old)) }
-    ensures bookkeeping { book.new ≡ bookkeeping_left book.old (response_two (operation_of (asks call storage namespace table partition clustering column1 column2 clock limit) t) (two plain.old book.old coordinator.old)) }
-    ensures decisions { coordinator.new ≡ coordinator_left coordinator.old (response_two (operation_of (asks call storage namespace table partition clustering column1 column2 clock limit) t) (two plain.old book.old coordinator.old)) }
-{
-    let key = Key {
-        storage,
-        namespace,
-        table,
-        partition,
-        clustering,
-    };
-    let columns = Columns { column1, column2 };
-    let asked = by_place::request(call, key, columns, clock, limit);
-    let performed = two_engine::perform(asked, t, plain, book, coordinator);
-    let answer = by_place::number_two(call, performed.refusal, performed.reply, performed.columns);
-    let transaction = performed.transaction;
-    CalledTwo {
-        answer,
-        transaction,
-    }
-}
-
 // Every call by place, as `rapyheo_call_at`, and the second call of a read. Where a read takes two calls, the first answers 10000 + 100000000 * column 1 + column 2.
 #[unsafe(no_mangle)]
 pub extern "C" fn rapyheo_two_call_at(
@@ -173,27 +126,24 @@ pub extern "C" fn rapyheo_two_call_at(
     ensures bookkeeping { book.new ≡ bookkeeping_left book.old (called_at_two list.old place call (asks call storage namespace table partition clustering column1 column2 clock limit) (two plain.old book.old coordinator.old)) }
     ensures decisions { coordinator.new ≡ coordinator_left coordinator.old (called_at_two list.old place call (asks call storage namespace table partition clustering column1 column2 clock limit) (two plain.old book.old coordinator.old)) }
 {
-    if by_place::is_named_two(list.len(), place, call) {
-        let t = list[place];
-        let called = call_named_two(
-            t,
-            plain,
-            book,
-            coordinator,
-            call,
-            storage,
-            namespace,
-            table,
-            partition,
-            clustering,
-            column1,
-            column2,
-            clock,
-            limit,
-        );
-        list[place] = called.transaction;
-        called.answer
-    } else {
-        by_place::unlisted_two(plain, book, coordinator)
+    if !by_place::is_named_two(list.len(), place, call) {
+        return by_place::unlisted_two(plain, book, coordinator);
+    }
+    let key = Key {
+        storage,
+        namespace,
+        table,
+        partition,
+        clustering,
+    };
+    let columns = Columns { column1, column2 };
+    let request = by_place::request(call, key, columns, clock, limit);
+    let t = list[place];
+    match two_engine::perform(request, t, plain, book, coordinator) {
+        Ok(performed) => {
+            list[place] = performed.transaction;
+            by_place::number_two(performed.reply)
+        }
+        Err(refusal) => by_place::refused(refusal) as u64,
     }
 }

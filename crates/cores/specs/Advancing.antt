@@ -1,6 +1,6 @@
 -- Advance, case by case in the order of its conditions; an accepted one is the step of its phase.
-use Rattle.std.specs.Prelude.{◌≡◌}
-use Rattle.lists.specs.Basics.{ℕ, true, false, List}
+use Rattle.std.specs.Prelude.{◌≡◌, Ok}
+use Rattle.lists.specs.Basics.{ap, ℕ, true, false, List}
 use Rattle.model.specs.Types.{Transaction}
 use Rattle.model.specs.Coordinator.{coordinator_of, decision}
 use Rattle.model.specs.Refusals.{refusal_of}
@@ -13,7 +13,7 @@ use Rattle.model.specs.ByteCalls.{sheets_of}
 use Rattle.call_laws.specs.Accepted.{Outcome, outcome_made}
 use Rattle.well_formed.specs.Barred.{forbids}
 use Rattle.steps.specs.Stepped.{Stepped}
-use Rattle.answers.specs.Answers.{to_returned, returned_made}
+use Rattle.answers.specs.Answers.{to_returned}
 
 module _ (t : Transaction) (clock : ℕ) (rs cs : List ℕ) where
   pub advance_ill : well_formed (sheets_of rs cs) t ≡ false → result_of (advance t clock) (sheets_of rs cs) ≡ refused 3
@@ -30,7 +30,7 @@ module _ (t : Transaction) (clock : ℕ) (rs cs : List ℕ) where
     advance_made f = rw (formed, f)
 
     -- what the step gives
-    pub step-outcome : {u : Transaction} {rs' cs' : List ℕ} → forbids t.phase (decision t.number (coordinator_of cs)) ≡ false → Stepped (sheets_of rs cs) (step t clock (sheets_of rs cs)) u rs' cs' → Outcome (to_returned t) (result_of (advance t clock) (sheets_of rs cs)) rs cs (record { refusal = 0; transaction = u }) rs' cs'
+    pub step-outcome : {u : Transaction} {rs' cs' : List ℕ} → forbids t.phase (decision t.number (coordinator_of cs)) ≡ false → Stepped (sheets_of rs cs) (step t clock (sheets_of rs cs)) u rs' cs' → Outcome (to_returned t) (result_of (advance t clock) (sheets_of rs cs)) rs cs (Ok u) rs' cs'
     step-outcome f x =
         outcome_made (to_returned t) rs cs (returned (step t clock (sheets_of rs cs)).transaction) (step t clock (sheets_of rs cs)).write (advance_made f)
-        (returned_made t (step t clock (sheets_of rs cs)).write x.transaction) (record { lines = x.records; decisions = x.coordinator })
+        (ap (λ (y : Transaction). Ok y) x.transaction) (record { lines = x.records; decisions = x.coordinator })

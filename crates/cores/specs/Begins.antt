@@ -1,5 +1,5 @@
 -- Begin, case by case in the order of its conditions; it leaves the record sheet alone.
-use Rattle.std.specs.Prelude.{◌≡◌, ◌+◌, ◌/◌, ◌≤◌, ◌<◌}
+use Rattle.std.specs.Prelude.{◌≡◌, ◌+◌, ◌/◌, ◌≤◌, ◌<◌, Result as Either, Ok, Err}
 use Rattle.std.proofs.Common.{◌∙◌}
 use Rattle.lists.specs.Basics.{refl, sym, ap, ℕ, eqb, leb, Bool, true, false, cond, List, length, drop, arith, add-one, le-leb}
 use Rattle.lists.specs.Pieces.{over}
@@ -8,7 +8,7 @@ use Rattle.model.specs.Layouts.{coordinator_bytes}
 use Rattle.model.specs.Coordinator.{coordinator_of, coordinator_text, coordinator_readable, with_issued}
 use Rattle.model.specs.Refusals.{refusal_of}
 use Rattle.model.specs.Writes.{issue, line_after, decisions_after, apply}
-use Rattle.model.specs.Results.{begin, returned, refused, made}
+use Rattle.model.specs.Results.{begin, returned, made}
 use Rattle.model.specs.Conditions.{conditions}
 use Rattle.model.specs.Calls.{new_transaction, outcome, result_of}
 use Rattle.model.specs.ByteCalls.{sheets_of}
@@ -17,15 +17,19 @@ use Rattle.sheet_laws.specs.Decisions.{length-decisions, readable_length, readab
 use Rattle.call_laws.specs.Keeping.{strictly}
 use Rattle.call_laws.specs.ByIndex.{count_raised}
 use Rattle.call_laws.specs.Accepted.{Written, Outcome, outcome_refused, outcome_made, Accepted, lines_kept}
-use Rattle.answers.specs.declared.Issued.{Issued}
 use Rattle.answers.specs.Answers.{to_issued}
 
 -- which number begin gives and what it leaves, checked or not and whatever accepted record sheet lies beside the coordinator sheet
-pub record Issues (cs : List ℕ) (r : Issued) (cs' : List ℕ) : Type 0 where
+pub record Issues (cs : List ℕ) (r : Either ℕ ℕ) (cs' : List ℕ) : Type 0 where
   pub beside : (b : Bool) (rs : List ℕ) → Accepted rs cs → Outcome to_issued (result_of (begin b) (sheets_of rs cs)) rs cs r rs cs'
 
+-- what is told of the number issued last tells whether all are spent
+pub spent_by : (cs : List ℕ) {n : ℕ} {b : Bool} → n ≡ (coordinator_of cs).issued → b ≡ eqb n (length (drop coordinator_bytes cs) / coordinator_bytes)
+    → eqb (coordinator_of cs).issued (length (drop coordinator_bytes cs) / coordinator_bytes) ≡ b
+spent_by cs e f = ap (λ (n : ℕ). eqb n (length (drop coordinator_bytes cs) / coordinator_bytes)) (sym e) ∙ sym f
+
 module _ (cs : List ℕ) (a : coordinator_readable cs ≡ true) where
-  pub issue_spent : eqb (coordinator_of cs).issued (length (drop coordinator_bytes cs) / coordinator_bytes) ≡ true → Issues cs (to_issued (refused 8)) cs
+  pub issue_spent : eqb (coordinator_of cs).issued (length (drop coordinator_bytes cs) / coordinator_bytes) ≡ true → Issues cs (Err 8) cs
   unfolding result_of conditions refusal_of
   issue_spent spent = record { beside = λ b rs h. outcome_refused to_issued rs cs 8 (rw (length-decisions cs, spent)) refl }
 
@@ -62,9 +66,9 @@ module _ (cs : List ℕ) (a : coordinator_readable cs ≡ true) where
         }
 
     pub issue_made : (n : ℕ) (cs' : List ℕ) → n ≡ (coordinator_of cs).issued + 1
-        → cs' ≡ cond (leb 4 (length cs)) (over cs 0 (field_text 4 ((coordinator_of cs).issued + 1))) cs → Issues cs (record { refusal = 0; number = n }) cs'
+        → cs' ≡ cond (leb 4 (length cs)) (over cs 0 (field_text 4 ((coordinator_of cs).issued + 1))) cs → Issues cs (Ok n) cs'
     issue_made n cs' e w =
         record {
           beside = λ b rs h. outcome_made to_issued rs cs (returned (new_transaction ((coordinator_of cs).issued + 1) b)) issue (begin_made b rs)
-              (ap (λ (m : ℕ). record { refusal = 0; number = m }) e) (begin_written rs h w);
+              (ap (λ (m : ℕ). Ok m) e) (begin_written rs h w);
         }

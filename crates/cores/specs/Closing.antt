@@ -1,5 +1,5 @@
 -- Close, case by case in the order of its conditions; an accepted one is the run of its steps.
-use Rattle.std.specs.Prelude.{◌≡◌}
+use Rattle.std.specs.Prelude.{◌≡◌, Result as Either, Ok, Err}
 use Rattle.std.proofs.Common.{◌∙◌}
 use Rattle.lists.specs.Basics.{sym, ap, ℕ, true, false, List}
 use Rattle.model.specs.Types.{Transaction}
@@ -32,23 +32,23 @@ module _ (t : Transaction) (s : Sheets) where
 
 module _ (t : Transaction) (rs cs : List ℕ) where
   -- the answer and the bytes are those of what a close comes to
-  abbrev pub Closes : Response Answer Sheets → Closed → List ℕ → List ℕ → Type 0
+  abbrev pub Closes : Response Answer Sheets → Either Closed ℕ → List ℕ → List ℕ → Type 0
   Closes r a rs' cs' = (a ≡ to_closed t r) × ((rs' ≡ records_left rs r) × (cs' ≡ coordinator_left cs r))
 
   -- a refused one leaves both sheets
-  pub closes_refused : (n : ℕ) {r : Response Answer Sheets} {a : Closed} → r ≡ refused n → a ≡ to_closed t (refused n) → Closes r a rs cs
+  pub closes_refused : (n : ℕ) {r : Response Answer Sheets} {a : Either Closed ℕ} → r ≡ refused n → a ≡ Err n → Closes r a rs cs
   unfolding records_left coordinator_left
   closes_refused n e h = (h ∙ ap (to_closed t) (sym e), (ap (records_left rs) (sym e), ap (coordinator_left cs) (sym e)))
 
   module _ (clock limit : ℕ) where
-    pub close_refused : (n : ℕ) {a : Closed} → refusal_of (close_conditions t (sheets_of rs cs)) ≡ n → (n ≡ 0 → ⊥) → a ≡ to_closed t (refused n)
+    pub close_refused : (n : ℕ) {a : Either Closed ℕ} → refusal_of (close_conditions t (sheets_of rs cs)) ≡ n → (n ≡ 0 → ⊥) → a ≡ Err n
         → Closes (response (close t clock limit) (sheets_of rs cs)) a rs cs
     unfolding response
     close_refused n e z h = closes_refused n (unless-held (close_conditions t (sheets_of rs cs)) _ n e z) h
 
     -- what the run gives
     pub close_ended : {y : Ran} {rs' cs' : List ℕ} → refusal_of (close_conditions t (sheets_of rs cs)) ≡ 0 → Ended clock t limit rs cs y rs' cs'
-        → Closes (response (close t clock limit) (sheets_of rs cs)) (record { refusal = 0; writes = y.writes; transaction = y.transaction }) rs' cs'
+        → Closes (response (close t clock limit) (sheets_of rs cs)) (Ok (record { writes = y.writes; transaction = y.transaction })) rs' cs'
     unfolding response records_left coordinator_left
     close_ended z h =
         let x : Run = close_run t clock limit (sheets_of rs cs) in

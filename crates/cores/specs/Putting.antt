@@ -2,7 +2,7 @@
 use Rattle.std.specs.Prelude.{◌≡◌, ◌≤◌, ◌<◌, ◌∷◌}
 use Rattle.std.proofs.Common.{◌∙◌}
 use Rattle.lists.specs.Basics.{refl, ℕ, leb, Bool, true, false, not, cond, List, [], le-leb, lt-leb, all}
-use Rattle.model.specs.Types.{Key, At, Nothing, Columns, Transaction}
+use Rattle.model.specs.Types.{Key, Some, None, Columns, Transaction}
 use Rattle.model.specs.Records.{found, is_missing, has_line}
 use Rattle.model.specs.Refusals.{Condition, refuse, refusal_of}
 use Rattle.model.specs.Transactions.{held_at, with_put, with_entry}
@@ -42,7 +42,7 @@ module _ (t : Transaction) (k : Key) (c : Columns) where
   unfolding put_held refusal_of
   put_large e = rw e
 
-  pub put_new : columns_in_range c ≡ true → held_at k t ≡ Nothing → put_held t k c ≡ refused 10
+  pub put_new : columns_in_range c ≡ true → held_at k t ≡ None → put_held t k c ≡ refused 10
   unfolding put_held refusal_of is_missing
   put_new e f = rw (e, f)
 
@@ -51,7 +51,7 @@ module _ (t : Transaction) (k : Key) (c : Columns) where
   late_version true r = refl
   late_version false r = refl
 
-  pub put_over_lem : (i : ℕ) → columns_in_range c ≡ true → held_at k t ≡ At i → put_held t k c ≡ put_at t i c
+  pub put_over_lem : (i : ℕ) → columns_in_range c ≡ true → held_at k t ≡ Some i → put_held t k c ≡ put_at t i c
   unfolding put_held put_at after_put refusal_of is_missing
   put_over_lem i e f = rw (e, f) (late_version (leb 99999 (entry_at t i).seen.version) _)
 
@@ -65,10 +65,10 @@ module _ (t : Transaction) (k : Key) (c : Columns) where
       unfolding result_of conditions admitting_open all
       put_rest = unless_past (admitting_open t k s) (refuse 6 (not (has_line k s.lines)) ∷ held_conditions t k c) (outcome (put t k c) s) refl free
 
-      pub put_none : found k s.lines ≡ Nothing → result_of (put t k c) s ≡ refused 6
+      pub put_none : found k s.lines ≡ None → result_of (put t k c) s ≡ refused 6
       unfolding refusal_of is_missing
       put_none e = put_rest ∙ rw e
 
-      pub put_found : (i : ℕ) → found k s.lines ≡ At i → result_of (put t k c) s ≡ put_held t k c
+      pub put_found : (i : ℕ) → found k s.lines ≡ Some i → result_of (put t k c) s ≡ put_held t k c
       unfolding put_held outcome refusal_of is_missing
       put_found i e = put_rest ∙ rw e

@@ -1,39 +1,21 @@
-// One more number, and its transaction.
+// One more number.
 ghost use Rattle.std.specs.Prelude.{◌≡◌, true};
 ghost use Rattle.model.specs.Coordinator.{coordinator_readable};
-ghost use Rattle.answers.specs.Answers.{of_issued};
+ghost use Rattle.answers.specs.Answers.{in_numbers};
 ghost use Rattle.cores.specs.Begins.{Issues};
 
-use answers::{Issued, Returned};
+use types::Refusal;
 
-// Whatever accepted record sheet lies beside: begin looks at none of its lines.
-pub fn issue(coordinator: &mut [u8]) -> Issued
+// The number of a new transaction, whatever accepted record sheet lies beside: begin looks at none of its lines.
+pub fn issue(coordinator: &mut [u8]) -> Result<u32, Refusal>
     requires { coordinator_readable coordinator.old ≡ true }
-    ensures { Issues coordinator.old result coordinator.new }
+    ensures { Issues coordinator.old (in_numbers result) coordinator.new }
 {
     let issued = codec::coordinator::issued(coordinator);
     if admission::all_spent(coordinator, issued) {
-        return Issued {
-            refusal: 8,
-            number: 0,
-        };
+        return Err(Refusal::NumbersSpent);
     }
     let n = issued + 1;
     codec::coordinator::set_issued(coordinator, n);
-    Issued {
-        refusal: 0,
-        number: n,
-    }
-}
-
-// The transaction of a number that was issued; a refused begin has none to give but that of number 0.
-pub fn begun(serializable: bool, issued: Issued) -> Returned
-    ensures { result ≡ of_issued serializable issued }
-{
-    let refusal = issued.refusal;
-    let transaction = transactions::new_transaction(issued.number, serializable & (refusal == 0));
-    Returned {
-        refusal,
-        transaction,
-    }
+    Ok(n)
 }

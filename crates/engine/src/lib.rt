@@ -9,32 +9,34 @@ ghost use Rattle.model.specs.Operations.{response_on, sheet_left, coordinator_le
 ghost use Rattle.model.specs.Operations as operations;
 ghost use Rattle.model.specs.Requests.{operation_of};
 ghost use Rattle.engine.specs.Issuing.{IssuesOn};
-ghost use Rattle.answers.specs.Answers.{to_begun, to_returned, to_performed, to_closed, to_visited};
+ghost use Rattle.answers.specs.Answers.{in_numbers, to_begun, to_returned, to_read, to_performed, to_closed, to_visited};
 
-use answers::{Closed, Issued, Performed, Returned, Visited};
+use answers::{Closed, Performed, Read};
 use record_check::lines_end;
 use sheets::check;
-use types::{Columns, Key, Request, Transaction};
+use types::{Columns, Key, Recovery, Refusal, Request, Transaction};
+
+// Each asks the check and makes the call on the lines. A function that took the call as a closure would be no plainer: `?` says the refusal, and what differs is the call, its
+// answer and what it is lent.
 
 // A number issued, without its transaction: checked or not, it is the same.
-pub fn issue(records: &[u8], coordinator: &mut [u8]) -> Issued
-    ensures { IssuesOn records.now coordinator.old result coordinator.new }
+pub fn issue(records: &[u8], coordinator: &mut [u8]) -> Result<u32, Refusal>
+    ensures { IssuesOn records.now coordinator.old (in_numbers result) coordinator.new }
 {
-    let checked = check::check(records, coordinator);
-    if checked != 0 {
-        return Issued {
-            refusal: checked,
-            number: 0,
-        };
-    }
+    check::check(records, coordinator)?;
     cores::begin::issue(coordinator)
 }
 
-pub fn begin(serializable: bool, records: &[u8], coordinator: &mut [u8]) -> Returned
-    ensures answer { result ≡ to_begun (result_on (model.begin serializable) records.now coordinator.old) }
+pub fn begin(
+    serializable: bool,
+    records: &[u8],
+    coordinator: &mut [u8],
+) -> Result<Transaction, Refusal>
+    ensures answer { in_numbers result ≡ to_begun (result_on (model.begin serializable) records.now coordinator.old) }
     ensures decisions { coordinator.new ≡ coordinator_after records.now coordinator.old (result_on (model.begin serializable) records.now coordinator.old) }
 {
-    cores::begin::begun(serializable, issue(records, coordinator))
+    let number = issue(records, coordinator)?;
+    Ok(transactions::new_transaction(number, serializable))
 }
 
 pub fn read(
@@ -43,15 +45,12 @@ pub fn read(
     clock: u32,
     records: &mut [u8],
     coordinator: &mut [u8],
-) -> Performed
-    ensures answer { result ≡ to_performed t (result_on (model.read t key clock) records.old coordinator.old) }
+) -> Result<Read, Refusal>
+    ensures answer { in_numbers result ≡ to_read t (result_on (model.read t key clock) records.old coordinator.old) }
     ensures lines { records.new ≡ sheet_after records.old coordinator.old (result_on (model.read t key clock) records.old coordinator.old) }
     ensures decisions { coordinator.new ≡ coordinator_after records.old coordinator.old (result_on (model.read t key clock) records.old coordinator.old) }
 {
-    let checked = check::check(records, coordinator);
-    if checked != 0 {
-        return reads::refusal(checked, t);
-    }
+    check::check(records, coordinator)?;
     let end = lines_end(records);
     reads::read(t, key, clock, &mut records[..end], coordinator)
 }
@@ -62,26 +61,25 @@ pub fn put(
     columns: Columns,
     records: &[u8],
     coordinator: &[u8],
-) -> Returned
-    ensures { result ≡ to_returned t (result_on (model.put t key columns) records.now coordinator.now) }
+) -> Result<Transaction, Refusal>
+    ensures { in_numbers result ≡ to_returned t (result_on (model.put t key columns) records.now coordinator.now) }
 {
-    let checked = check::check(records, coordinator);
-    if checked != 0 {
-        return answers::refusal(checked, t);
-    }
+    check::check(records, coordinator)?;
     let end = lines_end(records);
     cores::put::put(t, key, columns, &records[..end], coordinator)
 }
 
-pub fn advance(t: Transaction, clock: u32, records: &mut [u8], coordinator: &mut [u8]) -> Returned
-    ensures answer { result ≡ to_returned t (result_on (model.advance t clock) records.old coordinator.old) }
+pub fn advance(
+    t: Transaction,
+    clock: u32,
+    records: &mut [u8],
+    coordinator: &mut [u8],
+) -> Result<Transaction, Refusal>
+    ensures answer { in_numbers result ≡ to_returned t (result_on (model.advance t clock) records.old coordinator.old) }
     ensures lines { records.new ≡ sheet_after records.old coordinator.old (result_on (model.advance t clock) records.old coordinator.old) }
     ensures decisions { coordinator.new ≡ coordinator_after records.old coordinator.old (result_on (model.advance t clock) records.old coordinator.old) }
 {
-    let checked = check::check(records, coordinator);
-    if checked != 0 {
-        return answers::refusal(checked, t);
-    }
+    check::check(records, coordinator)?;
     let end = lines_end(records);
     cores::advance::advance(t, clock, &mut records[..end], coordinator)
 }
@@ -93,39 +91,35 @@ pub fn close(
     limit: u32,
     records: &mut [u8],
     coordinator: &mut [u8],
-) -> Closed
-    ensures answer { result ≡ to_closed t (response_on (operations.close t clock limit) records.old coordinator.old) }
+) -> Result<Closed, Refusal>
+    ensures answer { in_numbers result ≡ to_closed t (response_on (operations.close t clock limit) records.old coordinator.old) }
     ensures lines { records.new ≡ sheet_left records.old (response_on (operations.close t clock limit) records.old coordinator.old) }
     ensures decisions { coordinator.new ≡ coordinator_left coordinator.old (response_on (operations.close t clock limit) records.old coordinator.old) }
 {
-    let checked = check::check(records, coordinator);
-    if checked != 0 {
-        return cores::close::refusal(checked, t);
-    }
+    check::check(records, coordinator)?;
     let end = lines_end(records);
     cores::close::close(t, clock, limit, &mut records[..end], coordinator)
 }
 
-pub fn abort(t: Transaction, records: &[u8], coordinator: &[u8]) -> Returned
-    ensures { result ≡ to_returned t (result_on (model.abort t) records.now coordinator.now) }
+pub fn abort(t: Transaction, records: &[u8], coordinator: &[u8]) -> Result<Transaction, Refusal>
+    ensures { in_numbers result ≡ to_returned t (result_on (model.abort t) records.now coordinator.now) }
 {
-    let checked = check::check(records, coordinator);
-    if checked != 0 {
-        return answers::refusal(checked, t);
-    }
+    check::check(records, coordinator)?;
     let end = lines_end(records);
     cores::abort::abort(t, &records[..end], coordinator)
 }
 
-pub fn visit(key: Key, clock: u32, records: &mut [u8], coordinator: &mut [u8]) -> Visited
-    ensures answer { result ≡ to_visited (result_on (model.visit key clock) records.old coordinator.old) }
+pub fn visit(
+    key: Key,
+    clock: u32,
+    records: &mut [u8],
+    coordinator: &mut [u8],
+) -> Result<Recovery, Refusal>
+    ensures answer { in_numbers result ≡ to_visited (result_on (model.visit key clock) records.old coordinator.old) }
     ensures lines { records.new ≡ sheet_after records.old coordinator.old (result_on (model.visit key clock) records.old coordinator.old) }
     ensures decisions { coordinator.new ≡ coordinator_after records.old coordinator.old (result_on (model.visit key clock) records.old coordinator.old) }
 {
-    let checked = check::check(records, coordinator);
-    if checked != 0 {
-        return visits::refusal(checked);
-    }
+    check::check(records, coordinator)?;
     let end = lines_end(records);
     visits::visit(key, clock, &mut records[..end], coordinator)
 }
@@ -136,15 +130,12 @@ pub fn perform(
     t: Transaction,
     records: &mut [u8],
     coordinator: &mut [u8],
-) -> Performed
-    ensures answer { result ≡ to_performed t (response_on (operation_of request t) records.old coordinator.old) }
+) -> Result<Performed, Refusal>
+    ensures answer { in_numbers result ≡ to_performed t (response_on (operation_of request t) records.old coordinator.old) }
     ensures lines { records.new ≡ sheet_left records.old (response_on (operation_of request t) records.old coordinator.old) }
     ensures decisions { coordinator.new ≡ coordinator_left coordinator.old (response_on (operation_of request t) records.old coordinator.old) }
 {
-    let checked = check::check(records, coordinator);
-    if checked != 0 {
-        return reads::refusal(checked, t);
-    }
+    check::check(records, coordinator)?;
     let end = lines_end(records);
     perform::perform(request, t, &mut records[..end], coordinator)
 }

@@ -1,7 +1,7 @@
--- What the companion of the close answers, as numbers: a refusal or 0, and the transaction.
-use Rattle.std.specs.Prelude.{◌≡◌, ◌*◌, ◌≤◌, ◌&&◌, ◌∷◌}
+-- What the companion of the close answers: a refusal by its number, or the transaction.
+use Rattle.std.specs.Prelude.{◌≡◌, ◌*◌, ◌≤◌, ◌&&◌, ◌∷◌, Result, Ok, Err}
 use Rattle.std.proofs.Common.{◌∙◌}
-use Rattle.lists.specs.Basics.{refl, sym, ℕ, eqb, leb, true, false, not, List, [], length, arith, eqb-true, leb-true, eq-eqb, ne_eqb}
+use Rattle.lists.specs.Basics.{refl, ap, cond, ℕ, eqb, leb, true, false, not, List, [], length, arith, eqb-true, leb-true, eq-eqb, ne_eqb}
 use Rattle.lists.specs.Basics.{not-false, and_snd, bytes, joined}
 use Rattle.model.specs.Types.{Transaction}
 use Rattle.model.specs.Layouts.{record_bytes, least_coordinator_bytes}
@@ -9,18 +9,16 @@ use Rattle.model.specs.Lines.{text}
 use Rattle.model.specs.Records.{records_text}
 use Rattle.model.specs.Coordinator.{coordinator_text}
 use Rattle.model.specs.Refusals.{refusal_of}
-use Rattle.model.specs.Calls.{new_transaction}
 use Rattle.model.specs.Greatest.{greatest_lines, greatest_coordinator, greatest_transaction, greatest_conditions, greatest_given, greatest_records_after}
 use Rattle.model.specs.Greatest.{greatest_coordinator_after}
 use Rattle.call_laws.specs.Choices.{not_first}
-use Rattle.answers.specs.declared.Returned.{Returned}
 use Rattle.decimal.specs.Field as Field
 use Rattle.model.specs.Layouts as Layouts
 use Rattle.model.specs.Lines as Lines
 use Rattle.model.specs.Coordinator as Coordinator
 
-abbrev pub greatest_answer : ℕ → List ℕ → List ℕ → Returned
-greatest_answer n rs cs = record { refusal = refusal_of (greatest_conditions n rs cs); transaction = greatest_given n rs cs }
+abbrev pub greatest_answer : ℕ → List ℕ → List ℕ → Result Transaction ℕ
+greatest_answer n rs cs = cond (eqb (refusal_of (greatest_conditions n rs cs)) 0) (Ok (greatest_given n rs cs)) (Err (refusal_of (greatest_conditions n rs cs)))
 
 -- the coordinator sheet, byte by byte
 pub coordinator_bytes_lem : coordinator_text greatest_coordinator ≡ text (bytes "   1 RRRRRRRRR" ∷ bytes "   1         -" ∷ [])
@@ -47,20 +45,18 @@ module _ (n : ℕ) (rs cs : List ℕ) where
       }
 
   -- the answer r, with the targets left as rs' and cs'
-  abbrev pub Answered : Returned → List ℕ → List ℕ → Type 0
+  abbrev pub Answered : Result Transaction ℕ → List ℕ → List ℕ → Type 0
   Answered r rs' cs' = (r ≡ greatest_answer n rs cs) × ((rs' ≡ greatest_records_after n rs cs) × (cs' ≡ greatest_coordinator_after n rs cs))
 
-  module _ (r : ℕ) (e : r ≡ refusal_of (greatest_conditions n rs cs)) (t : Transaction) where
-    pub answer_refused : (r ≡ 0 → ⊥) → t ≡ new_transaction 0 false → Answered (record { refusal = r; transaction = t }) rs cs
-    unfolding greatest_given greatest_records_after greatest_coordinator_after
-    answer_refused z p =
-        let f : eqb (refusal_of (greatest_conditions n rs cs)) 0 ≡ false = ne_eqb (refusal_of (greatest_conditions n rs cs)) 0 (λ q. z (e ∙ q)) in
-        rw f (λ i. record { refusal = e i; transaction = p i }, (refl, refl))
+  pub answer_refused : (r : ℕ) → r ≡ refusal_of (greatest_conditions n rs cs) → (r ≡ 0 → ⊥) → {x : Result Transaction ℕ} → x ≡ Err r → Answered x rs cs
+  unfolding greatest_given greatest_records_after greatest_coordinator_after
+  answer_refused r e z h =
+      let f : eqb (refusal_of (greatest_conditions n rs cs)) 0 ≡ false = ne_eqb (refusal_of (greatest_conditions n rs cs)) 0 (λ q. z (e ∙ q)) in
+      rw f (h ∙ ap (λ (m : ℕ). Err m) e, (refl, refl))
 
-    pub answer_made : (rs' cs' : List ℕ) → r ≡ 0 → t ≡ greatest_transaction n → rs' ≡ records_text (greatest_lines n) → cs' ≡ coordinator_text greatest_coordinator
-        → Answered (record { refusal = 0; transaction = t }) rs' cs'
-    unfolding greatest_given greatest_records_after greatest_coordinator_after
-    answer_made rs' cs' z p x y =
-        let f : eqb (refusal_of (greatest_conditions n rs cs)) 0 ≡ true = eq-eqb (refusal_of (greatest_conditions n rs cs)) 0 (sym e ∙ z) in
-        let w : 0 ≡ refusal_of (greatest_conditions n rs cs) = sym z ∙ e in
-        rw f (λ i. record { refusal = w i; transaction = p i }, (x, y))
+  pub answer_made : (rs' cs' : List ℕ) (t : Transaction) → refusal_of (greatest_conditions n rs cs) ≡ 0 → t ≡ greatest_transaction n → rs' ≡ records_text (greatest_lines n) → cs' ≡ coordinator_text greatest_coordinator
+      → Answered (Ok t) rs' cs'
+  unfolding greatest_given greatest_records_after greatest_coordinator_after
+  answer_made rs' cs' t z p x y =
+      let f : eqb (refusal_of (greatest_conditions n rs cs)) 0 ≡ true = eq-eqb (refusal_of (greatest_conditions n rs cs)) 0 z in
+      rw f (ap (λ (u : Transaction). Ok u) p, (x, y))

@@ -4,36 +4,37 @@
 ghost use Rattle.std.specs.Prelude.{◌≡◌, ◌*◌, ◌≤◌, length};
 ghost use Rattle.model.specs.Layouts.{record_bytes};
 ghost use Rattle.model.specs.Records.{records_text};
-ghost use Rattle.model.specs.Refusals.{refusal_of};
+ghost use Rattle.model.specs.Refusals.{refusal_of, refused_with};
 ghost use Rattle.model.specs.Greatest.{greatest_lines, greatest_entry, greatest_transaction, greatest_conditions};
 ghost use Rattle.model.specs.Greatest.{greatest_records_after, greatest_coordinator_after};
+ghost use Rattle.answers.specs.Answers.{in_numbers};
 ghost use Rattle.greatest.specs.Answers.{greatest_answer};
 
-use answers::Returned;
 use types::{
-    Columns, Entry, Key, LEAST_COORDINATOR_BYTES, Layout, NO_IMAGE, RECORD_BYTES, Transaction,
+    Columns, Entry, Key, LEAST_COORDINATOR_BYTES, Layout, NO_IMAGE, RECORD_BYTES, Refusal,
+    Transaction,
 };
 
 // One number issued, every storage written record by record, nothing decided.
 const COORDINATOR: [u8; LEAST_COORDINATOR_BYTES] = *b"   1 RRRRRRRRR\n   1         -\n";
 
-// 3 for another count than 1 to 8, then 1 for a target of another length, else 0.
-fn refusal(count: u32, records: &[u8], coordinator: &[u8]) -> u32
-    ensures { result ≡ refusal_of (greatest_conditions count records.now coordinator.now) }
+// 3 for another count than 1 to 8, then 1 for a target of another length.
+fn fits(count: u32, records: &[u8], coordinator: &[u8]) -> Result<(), Refusal>
+    ensures { refused_with result ≡ refusal_of (greatest_conditions count records.now coordinator.now) }
 {
     if count < 1 {
-        return 3;
+        return Err(Refusal::BadTransaction);
     }
     if 8 < count {
-        return 3;
+        return Err(Refusal::BadTransaction);
     }
     if records.len() != (count as usize) * RECORD_BYTES {
-        return 1;
+        return Err(Refusal::BadRecords);
     }
     if coordinator.len() != LEAST_COORDINATOR_BYTES {
-        return 1;
+        return Err(Refusal::BadRecords);
     }
-    0
+    Ok(())
 }
 
 // An ABSENT line for each put over the target.
@@ -87,20 +88,17 @@ fn transaction(count: u32) -> Transaction
 }
 
 // A transaction of so many puts, and both sheets over the targets.
-pub fn greatest(count: u32, records: &mut [u8], coordinator: &mut [u8]) -> Returned
-    ensures answer { result ≡ greatest_answer count records.old coordinator.old }
+pub fn greatest(
+    count: u32,
+    records: &mut [u8],
+    coordinator: &mut [u8],
+) -> Result<Transaction, Refusal>
+    ensures answer { in_numbers result ≡ greatest_answer count records.old coordinator.old }
     ensures records { records.new ≡ greatest_records_after count records.old coordinator.old }
     ensures coordinator { coordinator.new ≡ greatest_coordinator_after count records.old coordinator.old }
 {
-    let refused = refusal(count, records, coordinator);
-    if refused != 0 {
-        return answers::refusal(refused, transactions::new_transaction(0, false));
-    }
+    fits(count, records, coordinator)?;
     fill_lines(count, records);
-    let text = COORDINATOR;
-    decimal::put(coordinator, &text);
-    Returned {
-        refusal: 0,
-        transaction: transaction(count),
-    }
+    coordinator.copy_from_slice(&COORDINATOR);
+    Ok(transaction(count))
 }

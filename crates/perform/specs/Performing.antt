@@ -1,14 +1,18 @@
 -- What a call answers, put as the one function for every call answers it. A result is refused or what the call comes to, and each call comes to one
 -- kind of answer.
-use Rattle.std.specs.Prelude.{◌≡◌}
+use Rattle.std.specs.Prelude.{◌≡◌, Result as Either}
 use Rattle.std.proofs.Common.{◌∙◌}
-use Rattle.lists.specs.Basics.{refl, sym, ap, subst, ℕ, Bool, and-true, and-false, List, ne_eqb}
-use Rattle.model.specs.Types.{Key, Columns, Transaction, Request}
+use Rattle.lists.specs.Basics.{refl, sym, ap, subst, ℕ, Bool, List, choose_by}
+use Rattle.model.specs.Types.{Key, Image, Record, Columns, Transaction, Recovery, Request}
 use Rattle.types.specs.declared.Request.TheVariants as asked
 use Rattle.model.specs.Writes.{Sheets, nothing, apply}
 use Rattle.model.specs.Results.{Call, begin, read, second, put, advance, abort, visit, Answer, Response, Result, refused, made}
-use Rattle.model.specs.Conditions.{conditions}
-use Rattle.model.specs.Calls.{outcome, result_of}
+use Rattle.model.specs.Conditions.{is_new, takes_two, conditions}
+use Rattle.model.specs.Records.{line_of}
+use Rattle.model.specs.Groups.{is_lower}
+use Rattle.model.specs.Steps.{units_of}
+use Rattle.model.specs.Visits.{meeting, is_again}
+use Rattle.model.specs.Calls.{new_transaction, read_new, seen_second, whole_read, outcome, result_of}
 use Rattle.model.specs.ByteCalls.{sheets_of, records_after, coordinator_after}
 use Rattle.model.specs.Closing.{close_conditions}
 use Rattle.model.specs.Operations.{Operation, once, close, settled, response, records_left, coordinator_left}
@@ -17,53 +21,84 @@ use Rattle.call_laws.specs.Choices.{unless_of, unless_by}
 use Rattle.call_laws.specs.Accepted.{Outcome, Accepted, written_nothing}
 use Rattle.call_laws.specs.Operations.{settled_lines, settled-decisions}
 use Rattle.answers.specs.declared.Closed.{Closed}
-use Rattle.answers.specs.declared.Returned.{Returned}
-use Rattle.answers.specs.declared.Visited.{Visited}
+use Rattle.answers.specs.declared.Read.{Read}
+use Rattle.answers.specs.declared.Reply.TheVariants.{Nothing, Read as WasRead, Visited, Writes}
 use Rattle.answers.specs.declared.Performed.{Performed}
-use Rattle.answers.specs.declared.Issued.{Issued}
+use Rattle.answers.specs.Answers.{to_issued, to_returned, to_visited, to_read, to_performed, to_closed}
+use Rattle.answers.specs.Outcomes.{mapped}
 use Rattle.cores.specs.Begins.{Issues}
 use Rattle.cores.specs.Closing.{Closes}
-use Rattle.answers.specs.Answers.{to_begun, to_issued, of_issued, to_returned, to_visited, to_performed, to_closed, of_returned, of_begun, of_visited, of_closed}
+
+-- each as the one function for every call answers it
+abbrev pub of_returned : Transaction → Performed
+of_returned u = record { reply = Nothing; transaction = u }
+
+abbrev pub of_read : Read → Performed
+of_read r = record { reply = WasRead r.value; transaction = r.transaction }
+
+abbrev pub of_visited : Transaction → Recovery → Performed
+of_visited t v = record { reply = Visited v; transaction = t }
+
+abbrev pub of_closed : Closed → Performed
+of_closed r = record { reply = Writes r.writes; transaction = r.transaction }
+
+abbrev pub of_issued : Bool → ℕ → Performed
+of_issued b n = of_returned (new_transaction n b)
 
 module _ (s : Sheets) where
   -- what holds of a refusal, and of what the call comes to, holds of its result
-  on_result : (P : Result Answer → Type 0) (c : Call) → ((n : ℕ) → (n ≡ 0 → ⊥) → P (refused n)) → P (outcome c s) → P (result_of c s)
+  on_result : (P : Result Answer → Type 0) (c : Call) → ((n : ℕ) → P (refused n)) → P (outcome c s) → P (result_of c s)
   unfolding result_of
-  on_result P c r o = unless_of P (conditions c s) (λ z. r _ z) (λ q. o)
-
-  -- a begin without its transaction is the begin
-  issued-begun : (b : Bool) → of_issued b (to_issued (result_of (begin b) s)) ≡ to_begun (result_of (begin b) s)
-  unfolding outcome
-  issued-begun b = on_result (λ (r : Result Answer). of_issued b (to_issued r) ≡ to_begun r) (begin b) (λ n z. rw (ne_eqb n 0 z, and-false b)) (rw (and-true b))
+  on_result P c r o = unless_of P (conditions c s) (λ z. r _) (λ q. o)
 
   module _ (t : Transaction) where
+    begin_performed : (b : Bool) → mapped (of_issued b) (to_issued (result_of (begin b) s)) ≡ to_performed t (result_of (begin b) s)
+    unfolding outcome
+    begin_performed b = on_result (λ (r : Result Answer). mapped (of_issued b) (to_issued r) ≡ to_performed t r) (begin b) (λ n. refl) refl
+
+    abbrev Reading : Result Answer → Type 0
+    Reading r = mapped of_read (to_read t r) ≡ to_performed t r
+
     abbrev Returning : Result Answer → Type 0
-    Returning r = of_returned (to_returned t r) ≡ to_performed t r
+    Returning r = mapped of_returned (to_returned t r) ≡ to_performed t r
+
+    whole_performed : (sees : Record → Image) (k : Key) (now : ℕ) → Reading (whole_read sees t k now s)
+    unfolding whole_read read_new
+    whole_performed sees k now =
+        choose_by Reading (is_new k t)
+        (λ n. choose_by Reading (is_again (meeting now s (line_of k s.lines))) (λ a. refl) (λ a. refl))
+        (λ n. refl)
+
+    read_performed : (k : Key) (now : ℕ) → Reading (result_of (read t k now) s)
+    unfolding outcome
+    read_performed k now =
+        on_result Reading (read t k now) (λ n. refl)
+        (choose_by Reading (takes_two (units_of s) k t) (λ a. refl) (λ a. whole_performed (λ (r : Record). r.image) k now))
+
+    second_performed : (k : Key) (now : ℕ) (c : Columns) → Reading (result_of (second t k now c) s)
+    unfolding outcome
+    second_performed k now c = on_result Reading (second t k now c) (λ n. refl) (whole_performed (seen_second (is_lower (units_of s) k) c) k now)
 
     put_performed : (k : Key) (c : Columns) → Returning (result_of (put t k c) s)
     unfolding outcome
-    put_performed k c = on_result Returning (put t k c) (λ n z. refl) refl
+    put_performed k c = on_result Returning (put t k c) (λ n. refl) refl
 
     advance_performed : (now : ℕ) → Returning (result_of (advance t now) s)
     unfolding outcome
-    advance_performed now = on_result Returning (advance t now) (λ n z. refl) refl
+    advance_performed now = on_result Returning (advance t now) (λ n. refl) refl
 
     abort_performed : Returning (result_of (abort t) s)
     unfolding outcome
-    abort_performed = on_result Returning (abort t) (λ n z. refl) refl
+    abort_performed = on_result Returning (abort t) (λ n. refl) refl
 
-    begin_performed : (b : Bool) → of_begun t (to_begun (result_of (begin b) s)) ≡ to_performed t (result_of (begin b) s)
+    visit_performed : (k : Key) (now : ℕ) → mapped (of_visited t) (to_visited (result_of (visit k now) s)) ≡ to_performed t (result_of (visit k now) s)
     unfolding outcome
-    begin_performed b = on_result (λ (r : Result Answer). of_begun t (to_begun r) ≡ to_performed t r) (begin b) (λ n z. rw (ne_eqb n 0 z)) refl
+    visit_performed k now = on_result (λ (r : Result Answer). mapped (of_visited t) (to_visited r) ≡ to_performed t r) (visit k now) (λ n. refl) refl
 
-    visit_performed : (k : Key) (now : ℕ) → of_visited t (to_visited (result_of (visit k now) s)) ≡ to_performed t (result_of (visit k now) s)
-    unfolding outcome
-    visit_performed k now = on_result (λ (r : Result Answer). of_visited t (to_visited r) ≡ to_performed t r) (visit k now) (λ n z. refl) refl
-
-    close_performed : (now limit : ℕ) → of_closed (to_closed t (response (close t now limit) s)) ≡ to_performed t (response (close t now limit) s)
+    close_performed : (now limit : ℕ) → mapped of_closed (to_closed t (response (close t now limit) s)) ≡ to_performed t (response (close t now limit) s)
     unfolding response
     close_performed now limit =
-        unless_by (λ (r : Response Answer Sheets). of_closed (to_closed t r) ≡ to_performed t r) (close_conditions t s) refl (λ q. refl)
+        unless_by (λ (r : Response Answer Sheets). mapped of_closed (to_closed t r) ≡ to_performed t r) (close_conditions t s) refl (λ q. refl)
 
     -- an answer doesn't tell the sheets that are left
     settled_performed : (r : Result Answer) → to_performed t (settled s r) ≡ to_performed t r
@@ -71,7 +106,7 @@ module _ (s : Sheets) where
     settled_performed (made a w) = refl
 
 -- What the function for every call ensures, by what is asked: the call's own answer and sheets. A sheet that a call is only lent stays.
-module _ (q : Request) (t : Transaction) (rs cs : List ℕ) (accepted : Accepted rs cs) (out : Performed) where
+module _ (q : Request) (t : Transaction) (rs cs : List ℕ) (accepted : Accepted rs cs) (out : Either Performed ℕ) where
   abbrev s : Sheets
   s = sheets_of rs cs
 
@@ -99,43 +134,43 @@ module _ (q : Request) (t : Transaction) (rs cs : List ℕ) (accepted : Accepted
   unfolding records_after coordinator_after apply result_of
   quiet c a e f o =
       let n = written_nothing rs cs accepted in
-      let l = on_result s (λ (r : Result Answer). (rs ≡ records_after rs cs r) × (cs ≡ coordinator_after rs cs r)) c (λ n z. (refl, refl))
+      let l = on_result s (λ (r : Result Answer). (rs ≡ records_after rs cs r) × (cs ≡ coordinator_after rs cs r)) c (λ n. (refl, refl))
       (subst (λ (r : Result Answer). (rs ≡ records_after rs cs r) × (cs ≡ coordinator_after rs cs r)) (sym e) (n.lines, n.decisions)) in
       made_of c f o l.0 l.1
 
-  pub begun : (b : Bool) (i : Issued) (r : Returned) {cs' : List ℕ} → q ≡ asked.Begin b → Issues cs i cs' → r ≡ of_issued b i → out ≡ of_begun t r → Performs rs cs'
+  pub begun : (b : Bool) {i : Either ℕ ℕ} {cs' : List ℕ} → q ≡ asked.Begin b → Issues cs i cs' → out ≡ mapped (of_issued b) i → Performs rs cs'
   unfolding operation_of
-  begun b i r e h f o =
+  begun b e h o =
       let x = h.beside b rs accepted in
       made_of (begin b) (ap (λ (y : Request). operation_of y t) e)
-      (o ∙ (ap (of_begun t) (f ∙ (ap (of_issued b) x.said ∙ issued-begun s b)) ∙ begin_performed s t b)) x.lines x.decisions
+      (o ∙ (ap (mapped (of_issued b)) x.said ∙ begin_performed s t b)) x.lines x.decisions
 
-  pub was_read : (k : Key) (now : ℕ) {rs' cs' : List ℕ} → q ≡ asked.Read k now → Outcome (to_performed t) (result_of (read t k now) s) rs cs out rs' cs' → Performs rs' cs'
+  pub was_read : (k : Key) (now : ℕ) {r : Either Read ℕ} {rs' cs' : List ℕ} → q ≡ asked.Read k now → out ≡ mapped of_read r → Outcome (to_read t) (result_of (read t k now) s) rs cs r rs' cs' → Performs rs' cs'
   unfolding operation_of
-  was_read k now e h = made_of (read t k now) (ap (λ (x : Request). operation_of x t) e) h.said h.lines h.decisions
+  was_read k now e o h = made_of (read t k now) (ap (λ (x : Request). operation_of x t) e) (o ∙ (ap (mapped of_read) h.said ∙ read_performed s t k now)) h.lines h.decisions
 
-  pub was_second : (k : Key) (now : ℕ) (c : Columns) {rs' cs' : List ℕ} → q ≡ asked.Second k now c → Outcome (to_performed t) (result_of (second t k now c) s) rs cs out rs' cs' → Performs rs' cs'
+  pub was_second : (k : Key) (now : ℕ) (c : Columns) {r : Either Read ℕ} {rs' cs' : List ℕ} → q ≡ asked.Second k now c → out ≡ mapped of_read r → Outcome (to_read t) (result_of (second t k now c) s) rs cs r rs' cs' → Performs rs' cs'
   unfolding operation_of
-  was_second k now c e h = made_of (second t k now c) (ap (λ (x : Request). operation_of x t) e) h.said h.lines h.decisions
+  was_second k now c e o h = made_of (second t k now c) (ap (λ (x : Request). operation_of x t) e) (o ∙ (ap (mapped of_read) h.said ∙ second_performed s t k now c)) h.lines h.decisions
 
-  pub was_put : (k : Key) (c : Columns) (r : Returned) → q ≡ asked.Put k c → out ≡ of_returned r → r ≡ to_returned t (result_of (put t k c) s) → Performs rs cs
+  pub was_put : (k : Key) (c : Columns) {r : Either Transaction ℕ} → q ≡ asked.Put k c → out ≡ mapped of_returned r → r ≡ to_returned t (result_of (put t k c) s) → Performs rs cs
   unfolding operation_of outcome
-  was_put k c r e o f = quiet (put t k c) _ refl (ap (λ (x : Request). operation_of x t) e) (o ∙ (ap of_returned f ∙ put_performed s t k c))
+  was_put k c e o f = quiet (put t k c) _ refl (ap (λ (x : Request). operation_of x t) e) (o ∙ (ap (mapped of_returned) f ∙ put_performed s t k c))
 
-  pub advanced : (now : ℕ) (r : Returned) {rs' cs' : List ℕ} → q ≡ asked.Advance now → out ≡ of_returned r → Outcome (to_returned t) (result_of (advance t now) s) rs cs r rs' cs' → Performs rs' cs'
+  pub advanced : (now : ℕ) {r : Either Transaction ℕ} {rs' cs' : List ℕ} → q ≡ asked.Advance now → out ≡ mapped of_returned r → Outcome (to_returned t) (result_of (advance t now) s) rs cs r rs' cs' → Performs rs' cs'
   unfolding operation_of
-  advanced now r e o h = made_of (advance t now) (ap (λ (x : Request). operation_of x t) e) (o ∙ (ap of_returned h.said ∙ advance_performed s t now)) h.lines h.decisions
+  advanced now e o h = made_of (advance t now) (ap (λ (x : Request). operation_of x t) e) (o ∙ (ap (mapped of_returned) h.said ∙ advance_performed s t now)) h.lines h.decisions
 
-  pub aborted : (r : Returned) → q ≡ asked.Abort → out ≡ of_returned r → r ≡ to_returned t (result_of (abort t) s) → Performs rs cs
+  pub aborted : {r : Either Transaction ℕ} → q ≡ asked.Abort → out ≡ mapped of_returned r → r ≡ to_returned t (result_of (abort t) s) → Performs rs cs
   unfolding operation_of outcome
-  aborted r e o f = quiet (abort t) _ refl (ap (λ (x : Request). operation_of x t) e) (o ∙ (ap of_returned f ∙ abort_performed s t))
+  aborted e o f = quiet (abort t) _ refl (ap (λ (x : Request). operation_of x t) e) (o ∙ (ap (mapped of_returned) f ∙ abort_performed s t))
 
-  pub was_visited : (k : Key) (now : ℕ) (r : Visited) {rs' cs' : List ℕ} → q ≡ asked.Visit k now → out ≡ of_visited t r → Outcome to_visited (result_of (visit k now) s) rs cs r rs' cs' → Performs rs' cs'
+  pub was_visited : (k : Key) (now : ℕ) {r : Either Recovery ℕ} {rs' cs' : List ℕ} → q ≡ asked.Visit k now → out ≡ mapped (of_visited t) r → Outcome to_visited (result_of (visit k now) s) rs cs r rs' cs' → Performs rs' cs'
   unfolding operation_of
-  was_visited k now r e o h = made_of (visit k now) (ap (λ (x : Request). operation_of x t) e) (o ∙ (ap (of_visited t) h.said ∙ visit_performed s t k now)) h.lines h.decisions
+  was_visited k now e o h = made_of (visit k now) (ap (λ (x : Request). operation_of x t) e) (o ∙ (ap (mapped (of_visited t)) h.said ∙ visit_performed s t k now)) h.lines h.decisions
 
-  pub was_closed : (now limit : ℕ) (r : Closed) {rs' cs' : List ℕ} → q ≡ asked.Close now limit → out ≡ of_closed r → Closes t rs cs (response (close t now limit) s) r rs' cs' → Performs rs' cs'
+  pub was_closed : (now limit : ℕ) {r : Either Closed ℕ} {rs' cs' : List ℕ} → q ≡ asked.Close now limit → out ≡ mapped of_closed r → Closes t rs cs (response (close t now limit) s) r rs' cs' → Performs rs' cs'
   unfolding operation_of
-  was_closed now limit r e o h =
+  was_closed now limit e o h =
       comes_to_lem (response (close t now limit) s) (ap (λ (x : Request). response (operation_of x t) s) e)
-      (o ∙ (ap of_closed h.0 ∙ close_performed s t now limit)) h.1.0 h.1.1
+      (o ∙ (ap (mapped of_closed) h.0 ∙ close_performed s t now limit)) h.1.0 h.1.1

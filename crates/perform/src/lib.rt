@@ -6,46 +6,50 @@ ghost use Rattle.model.specs.Operations.{response, records_left, coordinator_lef
 ghost use Rattle.model.specs.Requests.{operation_of};
 ghost use Rattle.model.specs.ByteCalls.{sheets_of};
 ghost use Rattle.call_laws.specs.Accepted.{Accepted};
-ghost use Rattle.answers.specs.Answers.{to_performed};
+ghost use Rattle.answers.specs.Answers.{in_numbers, to_performed};
 
-use answers::Performed;
+use answers::{Performed, Reply};
 use cores::{abort, advance, begin, close, put};
-use types::{Request, Transaction};
+use types::{Refusal, Request, Transaction};
 
 pub fn perform(
     request: Request,
     t: Transaction,
     records: &mut [u8],
     coordinator: &mut [u8],
-) -> Performed
+) -> Result<Performed, Refusal>
     requires { Accepted records.old coordinator.old }
-    ensures answer { result ≡ to_performed t (response (operation_of request t) (sheets_of records.old coordinator.old)) }
+    ensures answer { in_numbers result ≡ to_performed t (response (operation_of request t) (sheets_of records.old coordinator.old)) }
     ensures lines { records.new ≡ records_left records.old (response (operation_of request t) (sheets_of records.old coordinator.old)) }
     ensures decisions { coordinator.new ≡ coordinator_left coordinator.old (response (operation_of request t) (sheets_of records.old coordinator.old)) }
 {
     match request {
         Request::Begin(serializable) => {
-            answers::of_begun(t, begin::begun(serializable, begin::issue(coordinator)))
+            let number = begin::issue(coordinator)?;
+            Ok(Performed::from(transactions::new_transaction(number, serializable)))
         }
-        Request::Read(key, clock) => reads::read(t, key, clock, records, coordinator),
+        Request::Read(key, clock) => {
+            reads::read(t, key, clock, records, coordinator).map(Performed::from)
+        }
         Request::Second(key, clock, columns) => {
-            reads::second(t, key, clock, columns, records, coordinator)
+            reads::second(t, key, clock, columns, records, coordinator).map(Performed::from)
         }
         Request::Put(key, columns) => {
-            answers::of_returned(put::put(t, key, columns, records, coordinator))
+            put::put(t, key, columns, records, coordinator).map(Performed::from)
         }
-        Request::Advance(clock) => answers::of_returned(advance::advance(
-            t,
-            clock,
-            records,
-            coordinator,
-        )),
-        Request::Abort => answers::of_returned(abort::abort(t, records, coordinator)),
+        Request::Advance(clock) => {
+            advance::advance(t, clock, records, coordinator).map(Performed::from)
+        }
+        Request::Abort => abort::abort(t, records, coordinator).map(Performed::from),
         Request::Visit(key, clock) => {
-            answers::of_visited(t, visits::visit(key, clock, records, coordinator))
+            let met = visits::visit(key, clock, records, coordinator)?;
+            Ok(Performed {
+                reply: Reply::Visited(met),
+                transaction: t,
+            })
         }
         Request::Close(clock, limit) => {
-            answers::of_closed(close::close(t, clock, limit, records, coordinator))
+            close::close(t, clock, limit, records, coordinator).map(Performed::from)
         }
     }
 }

@@ -10,82 +10,31 @@ ghost use Rattle.model.specs.Transactions as model;
 ghost use Rattle.transactions.specs.Held.{entry_at};
 ghost use Rattle.call_laws.specs.Accepted.{Accepted, Outcome};
 ghost use Rattle.recover.specs.Recovering.{line_at};
-ghost use Rattle.answers.specs.Answers.{to_performed, performed_not, performed_as};
-ghost use Rattle.reads.specs.Fetching.{call_of, first_of, new_read, entry_seen, fetched_held, fetched_met, ReadAt, NewRead};
+ghost use Rattle.answers.specs.Answers.{in_numbers, to_read};
+ghost use Rattle.reads.specs.Fetching.{call_of, first_of, new_read, entry_seen, read_as, fetched_held, fetched_met, ReadAt, NewRead};
 
-use answers::Performed;
+use answers::Read;
 use types::{
-    Columns, Entry, Found, Key, NO_COLUMNS, Reading, Record, Recovery, State, Transaction,
+    Columns, Entry, Key, NO_COLUMNS, Reading, Record, Recovery, Refusal, State, Transaction,
 };
-
-// Which call of a read is made: the first, or the second with the columns that the first answered. Unless the read takes two, either is the whole one.
-#[derive(Clone, Copy)]
-pub enum Asked {
-    First,
-    Second(Columns),
-}
-
-pub fn refusal(n: u32, t: Transaction) -> Performed
-    ensures { result ≡ performed_not n t }
-{
-    Performed {
-        refusal: n,
-        reply: 0,
-        columns: NO_COLUMNS,
-        transaction: t,
-    }
-}
-
-// What was read, with the transaction as it now is.
-fn answer(value: Reading, t: Transaction) -> Performed
-    ensures { result ≡ performed_as value t }
-{
-    match value {
-        Reading::Absent => Performed {
-            refusal: 0,
-            reply: 0,
-            columns: NO_COLUMNS,
-            transaction: t,
-        },
-        Reading::Value(columns) => Performed {
-            refusal: 0,
-            reply: 1,
-            columns,
-            transaction: t,
-        },
-        Reading::Again => Performed {
-            refusal: 0,
-            reply: 2,
-            columns: NO_COLUMNS,
-            transaction: t,
-        },
-        Reading::First(columns) => Performed {
-            refusal: 0,
-            reply: 3,
-            columns,
-            transaction: t,
-        },
-    }
-}
 
 // Absence as a number of an entry.
 fn absence(state: State) -> u32
     ensures { result ≡ (if by_state state true false false then 1 else 0) }
 {
-    match state {
-        State::Absent => 1,
-        State::Committed => 0,
-        State::Prepared => 0,
-    }
+    u32::from(state == State::Absent)
 }
 
 // The entry of a record as it is read, which may see columns handed in.
-fn entry_of(lower: bool, columns: Columns, r: Record) -> Entry
-    ensures { result ≡ entry_seen lower columns r.key r }
+fn entry_of(handed: Option<Columns>, r: Record) -> Entry
+    ensures { result ≡ entry_seen handed r.key r }
 {
     let key = r.key;
     let state = r.state;
-    let seen = recover::seen(lower, columns, r);
+    let seen = match handed {
+        Some(columns) => recover::seen(true, columns, r),
+        None => r.image,
+    };
     let absent = absence(state);
     Entry {
         key,
@@ -97,137 +46,138 @@ fn entry_of(lower: bool, columns: Columns, r: Record) -> Entry
 }
 
 // The read of a record that is then held so.
-fn hold(e: Entry, t: Transaction) -> Performed
+fn hold(e: Entry, t: Transaction) -> Read
     requires { t.count < 8 }
     ensures { result ≡ fetched_held e t }
 {
-    let u = transactions::with_entry(t.count + 1, t.count as usize, e, t);
-    answer(transactions::reading(e), u)
+    let transaction = transactions::with_entry(t.count + 1, t.count as usize, e, t);
+    Read {
+        value: transactions::reading(e),
+        transaction,
+    }
 }
 
 // The read of a record as its visit leaves it, by what the visit came to.
-fn read_met(v: Recovery, e: Entry, t: Transaction) -> Performed
+fn read_met(v: Recovery, e: Entry, t: Transaction) -> Result<Read, Refusal>
     requires { t.count < 8 }
-    ensures { result ≡ fetched_met v e t }
+    ensures { in_numbers result ≡ fetched_met v e t }
 {
     match v {
-        Recovery::Stays => hold(e, t),
-        Recovery::Forward => hold(e, t),
-        Recovery::Back => hold(e, t),
-        Recovery::Again => answer(Reading::Again, t),
-        Recovery::Busy => refusal(12, t),
+        Recovery::Stays | Recovery::Forward | Recovery::Back => Ok(hold(e, t)),
+        Recovery::Again => Ok(Read {
+            value: Reading::Again,
+            transaction: t,
+        }),
+        Recovery::Busy => Err(Refusal::Busy),
     }
 }
 
 // The whole read of a key that is not held, that of line i.
 fn read_new(
-    lower: bool,
-    columns: Columns,
+    handed: Option<Columns>,
     t: Transaction,
     i: usize,
     clock: u32,
     records: &mut [u8],
     coordinator: &mut [u8],
-) -> Performed
+) -> Result<Read, Refusal>
     requires { NewRead t records.old coordinator.old i }
-    ensures { Outcome (to_performed t) (new_read lower columns t (line_at records.old i).key clock (sheets_of records.old coordinator.old)) records.old coordinator.old result records.new coordinator.new }
+    ensures { Outcome (to_read t) (new_read handed t (line_at records.old i).key clock (sheets_of records.old coordinator.old)) records.old coordinator.old (in_numbers result) records.new coordinator.new }
 {
     if 8 <= t.count {
-        return refusal(9, t);
+        return Err(Refusal::EntriesSpent);
     }
     let v = recover::recover(i, clock, records, coordinator);
     let r = codec::records::record_at(records, i);
-    read_met(v, entry_of(lower, columns, r), t)
+    read_met(v, entry_of(handed, r), t)
 }
 
 // The first of two calls: the columns of line i as they stand, and nothing is visited or held.
-fn first(t: Transaction, i: usize, records: &[u8]) -> Performed
+fn first(t: Transaction, i: usize, records: &[u8]) -> Result<Read, Refusal>
     requires { records_accepted records.now ≡ true }
-    ensures { result ≡ first_of t (line_at records.now i) }
+    ensures { in_numbers result ≡ first_of t (line_at records.now i) }
 {
     if 8 <= t.count {
-        return refusal(9, t);
+        return Err(Refusal::EntriesSpent);
     }
-    answer(Reading::First(codec::reading::columns(records, i)), t)
+    Ok(Read {
+        value: Reading::First(codec::reading::columns(records, i)),
+        transaction: t,
+    })
 }
 
-// Either call for a key that is not held, that of line i.
+// Either call for a key that is not held, that of line i. Under a capital letter a read takes one call, and either is the whole read.
 fn fetch_new(
-    asked: Asked,
+    handed: Option<Columns>,
     t: Transaction,
     i: usize,
     clock: u32,
     records: &mut [u8],
     coordinator: &mut [u8],
-) -> Performed
+) -> Result<Read, Refusal>
     requires { NewRead t records.old coordinator.old i }
-    ensures { Outcome (to_performed t) (result_of (call_of asked t (line_at records.old i).key clock) (sheets_of records.old coordinator.old)) records.old coordinator.old result records.new coordinator.new }
+    ensures { Outcome (to_read t) (result_of (call_of handed t (line_at records.old i).key clock) (sheets_of records.old coordinator.old)) records.old coordinator.old (in_numbers result) records.new coordinator.new }
 {
     let storage = codec::records::record_at(records, i).key.storage;
-    let lower = transactions::is_lower(&coordinator[5..14], storage);
-    match asked {
-        Asked::First => {
-            if lower {
-                return first(t, i, records);
+    if !transactions::is_lower(&coordinator[5..14], storage) {
+        return read_new(None, t, i, clock, records, coordinator);
+    }
+    match handed {
+        None => first(t, i, records),
+        Some(columns) => {
+            if !well_formed::columns_in_range(columns) {
+                return Err(Refusal::BadColumns);
             }
-            read_new(lower, NO_COLUMNS, t, i, clock, records, coordinator)
-        }
-        Asked::Second(columns) => {
-            if lower & !well_formed::columns_in_range(columns) {
-                return refusal(7, t);
-            }
-            read_new(lower, columns, t, i, clock, records, coordinator)
+            read_new(Some(columns), t, i, clock, records, coordinator)
         }
     }
 }
 
 // The read of the key that entry j holds.
-fn read_held(t: Transaction, j: usize) -> Performed
+fn read_held(t: Transaction, j: usize) -> Read
     requires { j < 8 }
-    ensures { result ≡ performed_as (model.reading (entry_at t j)) t }
+    ensures { result ≡ read_as (model.reading (entry_at t j)) t }
 {
-    let e = transactions::entry_at(t, j);
-    answer(transactions::reading(e), t)
+    Read {
+        value: transactions::reading(transactions::entry_at(t, j)),
+        transaction: t,
+    }
 }
 
 // Either call for a key whose line is line i.
 fn fetch_found(
-    asked: Asked,
+    handed: Option<Columns>,
     t: Transaction,
     key: Key,
     i: usize,
     clock: u32,
     records: &mut [u8],
     coordinator: &mut [u8],
-) -> Performed
+) -> Result<Read, Refusal>
     requires { ReadAt t key records.old coordinator.old i }
-    ensures { Outcome (to_performed t) (result_of (call_of asked t key clock) (sheets_of records.old coordinator.old)) records.old coordinator.old result records.new coordinator.new }
+    ensures { Outcome (to_read t) (result_of (call_of handed t key clock) (sheets_of records.old coordinator.old)) records.old coordinator.old (in_numbers result) records.new coordinator.new }
 {
     match transactions::held_at(key, t) {
-        Found::At(j) => read_held(t, j),
-        Found::Nothing => fetch_new(asked, t, i, clock, records, coordinator),
+        Some(j) => Ok(read_held(t, j)),
+        None => fetch_new(handed, t, i, clock, records, coordinator),
     }
 }
 
+// Either call of a read: the first, or the second with the columns that the first answered. Unless the read takes two, either is the whole one.
 fn fetch(
-    asked: Asked,
+    handed: Option<Columns>,
     t: Transaction,
     key: Key,
     clock: u32,
     records: &mut [u8],
     coordinator: &mut [u8],
-) -> Performed
+) -> Result<Read, Refusal>
     requires { Accepted records.old coordinator.old }
-    ensures { Outcome (to_performed t) (result_of (call_of asked t key clock) (sheets_of records.old coordinator.old)) records.old coordinator.old result records.new coordinator.new }
+    ensures { Outcome (to_read t) (result_of (call_of handed t key clock) (sheets_of records.old coordinator.old)) records.old coordinator.old (in_numbers result) records.new coordinator.new }
 {
-    let refused = admission::open_refusal(t, key, coordinator);
-    if refused != 0 {
-        return refusal(refused, t);
-    }
-    match sheets::lookup::find(records, key) {
-        Found::At(i) => fetch_found(asked, t, key, i, clock, records, coordinator),
-        Found::Nothing => refusal(6, t),
-    }
+    admission::open_refusal(t, key, coordinator)?;
+    let i = sheets::lookup::find(records, key).ok_or(Refusal::NoSuchKey)?;
+    fetch_found(handed, t, key, i, clock, records, coordinator)
 }
 
 // The read, or the first of its two calls.
@@ -237,11 +187,11 @@ pub fn read(
     clock: u32,
     records: &mut [u8],
     coordinator: &mut [u8],
-) -> Performed
+) -> Result<Read, Refusal>
     requires { Accepted records.old coordinator.old }
-    ensures { Outcome (to_performed t) (result_of (read t key clock) (sheets_of records.old coordinator.old)) records.old coordinator.old result records.new coordinator.new }
+    ensures { Outcome (to_read t) (result_of (read t key clock) (sheets_of records.old coordinator.old)) records.old coordinator.old (in_numbers result) records.new coordinator.new }
 {
-    fetch(Asked::First, t, key, clock, records, coordinator)
+    fetch(None, t, key, clock, records, coordinator)
 }
 
 // The second, with the columns that the first answered.
@@ -252,9 +202,9 @@ pub fn second(
     columns: Columns,
     records: &mut [u8],
     coordinator: &mut [u8],
-) -> Performed
+) -> Result<Read, Refusal>
     requires { Accepted records.old coordinator.old }
-    ensures { Outcome (to_performed t) (result_of (second t key clock columns) (sheets_of records.old coordinator.old)) records.old coordinator.old result records.new coordinator.new }
+    ensures { Outcome (to_read t) (result_of (second t key clock columns) (sheets_of records.old coordinator.old)) records.old coordinator.old (in_numbers result) records.new coordinator.new }
 {
-    fetch(Asked::Second(columns), t, key, clock, records, coordinator)
+    fetch(Some(columns), t, key, clock, records, coordinator)
 }

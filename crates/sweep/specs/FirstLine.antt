@@ -76,7 +76,6 @@ module _ (s : List ℕ) where
       ∙ ap₂ ◌∷◌ (get_or-take first_bytes s 19 0 (omega arith)) (drop_of_length-le (take first_bytes s) m)))
 
   ends_line : (b : ℕ) → eq_list (b ∷ []) (10 ∷ []) ≡ eqb b 10
-  unfolding eq_list
   ends_line b = go (eqb b 10)
     where
       go : (x : Bool) → (x && true) ≡ x

@@ -1,10 +1,10 @@
 -- The keys of a sheet visited one after another: a visit keeps the keys, so that the key of a line is that of the sheet at first.
-use Rattle.std.specs.Prelude.{◌≡◌, ◌+◌, ◌*◌, ◌/◌, ◌^◌, ◌≤◌, ◌<◌, ◌∷◌, ◌++◌}
+use Rattle.std.specs.Prelude.{◌≡◌, ◌+◌, ◌*◌, ◌/◌, ◌^◌, ◌≤◌, ◌<◌, ◌∷◌, ◌++◌, Result as Either}
 use Rattle.lists.specs.Basics.{refl, sym, ap, ap₂, subst, ℕ, zero, suc, List, [], map, length, take, drop, get_or}
 use Rattle.lists.specs.Basics.{length-map, drop_of_length-le, get_or-map, arith, add-one}
 use Rattle.std.proofs.Common.{length-take-le, ◌∙◌}
 use Rattle.lists.specs.Walks.{drop_here}
-use Rattle.model.specs.Types.{Key, Record}
+use Rattle.model.specs.Types.{Key, Record, Recovery}
 use Rattle.model.specs.Layouts.{record_bytes}
 use Rattle.model.specs.Records.{records, no_record}
 use Rattle.model.specs.Spares.{filled_lines, front, record_lines}
@@ -25,7 +25,6 @@ use Rattle.call_laws.specs.Lifting.{passing_parts, bytes_stay_passing}
 use Rattle.call_laws.specs.Accepted.{Outcome}
 use Rattle.engine.specs.Fronts.{front-within, accepted_front, call_passed}
 use Rattle.recover.specs.Recovering.{Standing}
-use Rattle.answers.specs.declared.Visited.{Visited}
 use Rattle.answers.specs.Answers.{to_visited}
 
 abbrev pub both : List ℕ → List ℕ → Bytes
@@ -50,7 +49,7 @@ line_stands rs cs end i h l =
     record { accepted = a; index = found-own (records (take end rs)) i a.good.order (omega (arith, length-records (take end rs), n)) }
 
 -- and its visit leaves what the definition says
-pub line-visited : (rs cs : List ℕ) (end i now : ℕ) {answer : Visited} {ls' cs' : List ℕ} → Lined (both rs cs) end → Outcome to_visited (result_of (visit (get_or (records (take end rs)) i no_record).key now) (sheets_of (take end rs) cs)) (take end rs) cs answer ls' cs' → both (ls' ++ drop end rs) cs' ≡ after_on (visit (key_at rs i) now) (both rs cs)
+pub line-visited : (rs cs : List ℕ) (end i now : ℕ) {answer : Either Recovery ℕ} {ls' cs' : List ℕ} → Lined (both rs cs) end → Outcome to_visited (result_of (visit (get_or (records (take end rs)) i no_record).key now) (sheets_of (take end rs) cs)) (take end rs) cs answer ls' cs' → both (ls' ++ drop end rs) cs' ≡ after_on (visit (key_at rs i) now) (both rs cs)
 unfolding after_on front
 line-visited rs cs end i now h o =
     let p = call_passed rs cs h.passing end h.at to_visited (visit (get_or (records (take end rs)) i no_record).key now) refl o in

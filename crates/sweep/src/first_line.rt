@@ -1,37 +1,25 @@
 // The first line of the input: numbers of lines and the clock, and what refuses an input.
 ghost use Rattle.std.specs.Prelude.{◌≡◌, ◌≤◌, length, take};
-ghost use Rattle.decimal.specs.Field.{is_number};
 ghost use Rattle.model.specs.Lines.{line_set};
-ghost use Rattle.model.specs.Refusals.{refusal_of};
+ghost use Rattle.model.specs.Refusals.{refusal_of, refused_with};
 ghost use Rattle.model.specs.Visitor.{first_layout, input_fits, input_conditions, first_bytes};
 ghost use Rattle.sweep.specs.FirstLine.{first_of, records_from, Small};
 
 use crate::{FIRST_BYTES, FirstLine};
-use decimal::Scan;
-use types::{COORDINATOR_BYTES, RECORD_BYTES};
-
-fn is_number(s: Scan) -> bool
-    ensures { result ≡ is_number s }
-{
-    match s {
-        Scan::Blank => false,
-        Scan::Number(_) => true,
-        Scan::Wrong => false,
-    }
-}
+use types::{COORDINATOR_BYTES, RECORD_BYTES, Refusal};
 
 // Three figures and LF.
 fn well_set(input: &[u8]) -> bool
     requires { first_bytes ≤ length input.now }
     ensures { result ≡ line_set first_layout (take first_bytes input.now) }
 {
-    if !is_number(decimal::read(&input[0..4], 0, 9999)) {
+    if decimal::read(&input[0..4], 0, 9999).is_none() {
         return false;
     }
-    if !is_number(decimal::read(&input[4..8], 0, 9999)) {
+    if decimal::read(&input[4..8], 0, 9999).is_none() {
         return false;
     }
-    if !is_number(decimal::read(&input[8..19], 0, 4294967295)) {
+    if decimal::read(&input[8..19], 0, 4294967295).is_none() {
         return false;
     }
     input[19] == 10
@@ -42,9 +30,9 @@ pub fn numbers(input: &[u8]) -> FirstLine
     requires { first_bytes ≤ length input.now }
     ensures { result ≡ first_of input.now }
 {
-    let lines = codec::fields::number_of(decimal::read(&input[0..4], 0, 9999));
-    let decisions = codec::fields::number_of(decimal::read(&input[4..8], 0, 9999));
-    let clock = codec::fields::number_of(decimal::read(&input[8..19], 0, 4294967295));
+    let lines = decimal::read(&input[0..4], 0, 9999).unwrap_or(0);
+    let decisions = decimal::read(&input[4..8], 0, 9999).unwrap_or(0);
+    let clock = decimal::read(&input[8..19], 0, 4294967295).unwrap_or(0);
     FirstLine {
         lines,
         decisions,
@@ -74,12 +62,12 @@ fn fits(input: &[u8]) -> bool
     input.len() == records_from(first) + first.lines as usize * RECORD_BYTES
 }
 
-// 0, or the refusal of an input: 1 or 2.
-pub fn refusal(input: &[u8]) -> u32
-    ensures { result ≡ refusal_of (input_conditions input.now) }
+// Whether an input is accepted; else its refusal, 1 or 2.
+pub fn check(input: &[u8]) -> Result<(), Refusal>
+    ensures { refused_with result ≡ refusal_of (input_conditions input.now) }
 {
     if !fits(input) {
-        return 1;
+        return Err(Refusal::BadRecords);
     }
     let from = records_from(numbers(input));
     sheets::check::check(&input[from..], &input[FIRST_BYTES..from])

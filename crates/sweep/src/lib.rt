@@ -84,9 +84,8 @@ pub fn run(input: &[u8], work: &mut [u8], output: &mut [u8]) -> usize
     if output.len() < MOST_OUTPUT {
         return 0;
     }
-    let refused = first_line::refusal(input);
-    if refused != 0 {
-        return print_refusal(refused, output);
+    match first_line::check(input) {
+        Ok(()) => print_sheets(input, work, output),
+        Err(refusal) => print_refusal(refusal as u32, output),
     }
-    print_sheets(input, work, output)
 }

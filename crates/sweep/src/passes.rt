@@ -14,7 +14,8 @@ fn visit_line(i: usize, end: usize, clock: u32, records: &mut [u8], coordinator:
     requires i_bound { i < end / record_bytes }
     ensures { both records.new coordinator.new ≡ after_on (visit (key_at records.old i) clock) (both records.old coordinator.old) }
 {
-    visits::visit_line(i, clock, &mut records[..end], coordinator);
+    // A line whose owner may still be at work is refused, and stays.
+    let _ = visits::visit_line(i, clock, &mut records[..end], coordinator);
 }
 
 // Every record line in order. A visit keeps the keys, so that the key of line i is the first sheet's.

@@ -8,7 +8,7 @@ use Rattle.adding.proofs.to_add.Goals as goal
 pub returns-then-not-key_in_range : goal.returns-then-not-key_in_range
 returns-then-not-key_in_range c =
     let a = c.args in
-    c.no_rank.ensures ∙ add_out a.key _ a.full (sym c.key_in_range.ensures ∙ c.if-not-key_in_range.true)
+    add_out a.key _ a.full (sym c.key_in_range.ensures ∙ c.if-not-key_in_range.true)
 
 pub rank-rank-requires : goal.rank-rank-requires
 rank-rank-requires c =
@@ -17,12 +17,12 @@ rank-rank-requires c =
 pub returns-then-rank : goal.returns-then-rank
 returns-then-rank c =
     let a = c.args in
-    c.no_rank-then-rank.ensures ∙ add_present a.key _ (sym c.key_in_range.ensures ∙ c.if-not-key_in_range.false) a.full (ap (λ (x : Rank). x.present) (sym c.rank-rank.ensures) ∙ c.if-rank.true)
+    add_present a.key _ (sym c.key_in_range.ensures ∙ c.if-not-key_in_range.false) a.full (ap (λ (x : Rank). x.present) (sym c.rank-rank.ensures) ∙ c.if-rank.true)
 
 pub returns-then-full : goal.returns-then-full
 returns-then-full c =
     let a = c.args in
-    c.no_rank-then-full.ensures ∙ add_full a.key _ (sym c.key_in_range.ensures ∙ c.if-not-key_in_range.false) (ap (λ (x : Rank). x.present) (sym c.rank-rank.ensures) ∙ c.if-rank.false) a.full c.if-full.true
+    add_full a.key _ (sym c.key_in_range.ensures ∙ c.if-not-key_in_range.false) (ap (λ (x : Rank). x.present) (sym c.rank-rank.ensures) ∙ c.if-rank.false) a.full c.if-full.true
 
 pub returns : goal.returns
 returns c =

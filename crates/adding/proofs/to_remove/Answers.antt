@@ -10,7 +10,7 @@ use Rattle.adding.proofs.to_remove.Goals as goal
 pub returns-then-not-key_in_range : goal.returns-then-not-key_in_range
 returns-then-not-key_in_range c =
     let a = c.args in
-    c.no_rank.ensures ∙ remove_out a.key _ (sym c.key_in_range.ensures ∙ c.if-not-key_in_range.true)
+    remove_out a.key _ (sym c.key_in_range.ensures ∙ c.if-not-key_in_range.true)
 
 pub rank-rank-requires : goal.rank-rank-requires
 rank-rank-requires c =
@@ -19,12 +19,12 @@ rank-rank-requires c =
 pub returns-then-not-rank : goal.returns-then-not-rank
 returns-then-not-rank c =
     let a = c.args in
-    c.no_rank-then-not-rank.ensures ∙ remove_missing a.key _ (sym c.key_in_range.ensures ∙ c.if-not-key_in_range.false) (ap (λ (x : Rank). x.present) (sym c.rank-rank.ensures) ∙ not-true _ c.if-not-rank.true)
+    remove_missing a.key _ (sym c.key_in_range.ensures ∙ c.if-not-key_in_range.false) (ap (λ (x : Rank). x.present) (sym c.rank-rank.ensures) ∙ not-true _ c.if-not-rank.true)
 
 pub returns-then-not-is_blank : goal.returns-then-not-is_blank
 returns-then-not-is_blank c =
     let a = c.args in
-    c.no_rank-then-not-is_blank.ensures ∙ remove_kept a.key _ (sym c.key_in_range.ensures ∙ c.if-not-key_in_range.false) (ap (λ (x : Rank). x.present) (sym c.rank-rank.ensures) ∙ not-false _ c.if-not-rank.false) (sym (c.is_blank.ensures ∙ ap is_blank (c.record_at-record.ensures ∙ at_rank a.key _ _ (accepted_order a.lines.now c.requires) (ap (λ (x : Rank). x.present) (sym c.rank-rank.ensures) ∙ not-false _ c.if-not-rank.false) (ap (λ (x : Rank). x.below) c.rank-rank.ensures))) ∙ c.if-not-is_blank.true)
+    remove_kept a.key _ (sym c.key_in_range.ensures ∙ c.if-not-key_in_range.false) (ap (λ (x : Rank). x.present) (sym c.rank-rank.ensures) ∙ not-false _ c.if-not-rank.false) (sym (c.is_blank.ensures ∙ ap is_blank (c.record_at-record.ensures ∙ at_rank a.key _ _ (accepted_order a.lines.now c.requires) (ap (λ (x : Rank). x.present) (sym c.rank-rank.ensures) ∙ not-false _ c.if-not-rank.false) (ap (λ (x : Rank). x.below) c.rank-rank.ensures))) ∙ c.if-not-is_blank.true)
 
 pub returns : goal.returns
 returns c =

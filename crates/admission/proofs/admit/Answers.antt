@@ -1,30 +1,31 @@
--- One that isn't well formed stands nowhere; of any other the lines are found.
-use Rattle.std.proofs.Common.{◌∙◌}
-use Rattle.lists.specs.Basics.{ap, Bool, true, false, not-true, not-false}
+-- One that isn't well formed is refused; of any other the lines are found.
+use Rattle.std.proofs.Common.{◌∙◌, Err}
+use Rattle.lists.specs.Basics.{ap}
+use Rattle.types.specs.declared.Refusal.{Refusal}
 use Rattle.model.specs.ByteCalls.{sheets_of}
 use Rattle.put_groups.specs.declared.Groups.{Groups}
 use Rattle.call_laws.specs.Transactions.{well_formed-parts}
-use Rattle.held_lines.specs.declared.Located.{Located}
-use Rattle.admission.specs.Admission.{formed_by, groups_by, keys_ranged_lem, admitted-not, admitted-formed}
+use Rattle.answers.specs.Outcomes.{passed_up}
+use Rattle.admission.specs.Admission.{unformed_by, formed_by, keys_ranged_lem, admitted-not, admitted-formed}
 use Rattle.admission.proofs.admit.Goals as goal
 
-pub judge-judged-requires : goal.judge-judged-requires
-judge-judged-requires c = c.requires.decisions
-
-pub returns-then-not-judged : goal.returns-then-not-judged
-returns-then-not-judged c =
+pub returns-in_err-groups : goal.returns-in_err-groups
+returns-in_err-groups c =
     let a = c.args in
-    admitted-not (sheets_of a.records.now a.coordinator.now) a.t (formed_by a.t a.coordinator.now c.judge-judged.ensures a.records.now false (not-true _ c.if-not-judged.true))
+    let u = unformed_by a.t a.coordinator.now c.judge.ensures a.records.now c.in_err-groups.was in
+    passed_up c.from_residual.ensures.1 ∙ ap (λ (r : Refusal). Err r) u.1
+    ∙ admitted-not (sheets_of a.records.now a.coordinator.now) a.t u.0
 
 pub lines_of-indices-requires : goal.lines_of-indices-requires
 lines_of-indices-requires c =
     let a = c.args in
-    let f = formed_by a.t a.coordinator.now c.judge-judged.ensures a.records.now true (not-false _ c.if-not-judged.false) in (c.requires.lines, ((well_formed-parts (sheets_of a.records.now a.coordinator.now) a.t f).0.few, keys_ranged_lem (sheets_of a.records.now a.coordinator.now) a.t f))
+    let s = sheets_of a.records.now a.coordinator.now in
+    let f = (formed_by a.t a.coordinator.now c.judge.ensures a.records.now c.in_ok-groups.was).0 in
+    (c.requires.lines, ((well_formed-parts s a.t f).0.few, keys_ranged_lem s a.t f))
 
 pub returns : goal.returns
 returns c =
     let a = c.args in
-    let g = groups_by a.t a.coordinator.now c.judge-judged.ensures (not-false _ c.if-not-judged.false) in
-    let l : Located = record { indices = c.lines_of-indices.result; groups = c.judge-judged.result.groups.count; of = c.judge-judged.result.groups.of } in
-    ap (λ (b : Bool). record { formed = b; located = l }) (not-false _ c.if-not-judged.false)
-    ∙ admitted-formed (sheets_of a.records.now a.coordinator.now) a.t l (λ i. record { indices = c.lines_of-indices.ensures i; groups = ap (λ (x : Groups). x.count) g i; of = ap (λ (x : Groups). x.of) g i }) (formed_by a.t a.coordinator.now c.judge-judged.ensures a.records.now true (not-false _ c.if-not-judged.false))
+    let f = formed_by a.t a.coordinator.now c.judge.ensures a.records.now c.in_ok-groups.was in
+    admitted-formed (sheets_of a.records.now a.coordinator.now) a.t _
+    (λ i. record { indices = c.lines_of-indices.ensures i; groups = ap (λ (x : Groups). x.count) f.1 i; of = ap (λ (x : Groups). x.of) f.1 i }) f.0

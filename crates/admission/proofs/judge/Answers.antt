@@ -10,7 +10,7 @@ use Rattle.admission.proofs.judge.Goals as goal
 pub returns-then-not-head_formed : goal.returns-then-not-head_formed
 returns-then-not-head_formed c =
     let a = c.args in
-    c.ill_formed.ensures ∙ judged-not a.t a.coordinator.now c.requires _ c.issued-issued.ensures (sym (formed-not (units_in (take 9 (drop 5 a.coordinator.now))) _ a.t (sym c.head_formed.ensures ∙ c.if-not-head_formed.true)))
+    judged-not a.t a.coordinator.now c.requires _ c.issued-issued.ensures (sym (formed-not (units_in (take 9 (drop 5 a.coordinator.now))) _ a.t (sym c.head_formed.ensures ∙ c.if-not-head_formed.true)))
 
 pub slice_bounds-letters-end : goal.slice_bounds-letters-end
 slice_bounds-letters-end c =
@@ -24,12 +24,12 @@ groups_of-groups-requires c =
 
 pub formed-requires : goal.formed-requires
 formed-requires c =
-    record { t_value = sym c.head_formed.ensures ∙ c.if-not-head_formed.false; groups_value = c.groups_of-groups.ensures.count }
+    record { head = sym c.head_formed.ensures ∙ c.if-not-head_formed.false; groups = c.groups_of-groups.ensures.count }
 
 pub returns-then-not-formed : goal.returns-then-not-formed
 returns-then-not-formed c =
     let a = c.args in
-    c.ill_formed-then-not-formed.ensures ∙ judged-not a.t a.coordinator.now c.requires _ c.issued-issued.ensures (sym c.formed.ensures ∙ c.if-not-formed.true)
+    judged-not a.t a.coordinator.now c.requires _ c.issued-issued.ensures (sym c.formed.ensures ∙ c.if-not-formed.true)
 
 pub returns : goal.returns
 returns c =

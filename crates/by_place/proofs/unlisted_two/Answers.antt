@@ -1,18 +1,17 @@
 -- The check's refusal as one number, or 1003 where it has none.
-use Rattle.std.specs.Prelude.{◌+◌, ◌≤◌}
 use Rattle.std.proofs.Common.{◌∙◌}
-use Rattle.lists.specs.Basics.{refl, sym, ap, subst, ℕ, eqb, cond}
-use Rattle.model.specs.Refusals.{last_refusal}
+use Rattle.lists.specs.Basics.{refl}
 use Rattle.two_check.specs.Areas.{two}
 use Rattle.by_place.specs.TwoNumbers.{check_numbered_two}
+use Rattle.by_place.specs.Told.{told_refused, told_free}
 use Rattle.by_place.proofs.unlisted_two.Goals as goal
 
-pub number-requires : goal.number-requires
-number-requires c =
+pub returns-in-Ok : goal.returns-in-Ok
+returns-in-Ok c =
     let a = c.args in
-    subst (λ (n : ℕ). n ≤ last_refusal) (sym c.check-refused.ensures) (check_numbered_two (two a.plain.now a.book.now a.coordinator.now)).0
+    record { answer = told_free c.check.ensures c.in-Ok.is ∙ check_numbered_two (two a.plain.now a.book.now a.coordinator.now) _ refl; plain = refl; bookkeeping = refl; decisions = refl }
 
-pub returns : goal.returns
-returns c =
+pub returns-in-Err : goal.returns-in-Err
+returns-in-Err c =
     let a = c.args in
-    record { answer = c.number.ensures ∙ (ap (λ (n : ℕ). cond (eqb n 0) 1003 (1000 + n)) c.check-refused.ensures ∙ (check_numbered_two (two a.plain.now a.book.now a.coordinator.now)).1); plain = refl; bookkeeping = refl; decisions = refl }
+    record { answer = c.refused.ensures ∙ (told_refused c.check.ensures c.in-Err.is ∙ check_numbered_two (two a.plain.now a.book.now a.coordinator.now) _ refl); plain = refl; bookkeeping = refl; decisions = refl }

@@ -1,34 +1,36 @@
 -- Refused by the check, or the call on the lines of records of accepted sheets.
 use Rattle.std.proofs.Common.{◌∙◌}
-use Rattle.lists.specs.Basics.{refl, sym, length-take, arith}
+use Rattle.lists.specs.Basics.{ap, arith, length-take, refl, sym}
 use Rattle.call_laws.specs.Lifting.{passing_parts}
 use Rattle.model.specs.Results as model
 use Rattle.call_laws.specs.Accepted.{turned_away_lem}
 use Rattle.engine.specs.Fronts.{front-within, accepted_front, answer-passed}
-use Rattle.answers.specs.Answers.{to_returned}
+use Rattle.answers.specs.Answers.{in_numbers, to_returned}
+use Rattle.answers.specs.Outcomes.{passed_up, free_by, refused_by}
 use Rattle.engine.proofs.abort.Goals as goal
 
-pub returns-then-checked-ne0 : goal.returns-then-checked-ne0
-returns-then-checked-ne0 c =
+pub returns-in_err-check : goal.returns-in_err-check
+returns-in_err-check c =
     let a = c.args in
-    (turned_away_lem (to_returned a.t) (model.abort a.t) a.records.now a.coordinator.now _ c.check-checked.ensures c.if-checked-ne0.true c.refusal.ensures).said
+    let r = refused_by c.check.ensures c.in_err-check.was in
+    (turned_away_lem (to_returned a.t) (model.abort a.t) a.records.now a.coordinator.now _ r.0 (λ z. r.1 (sym r.0 ∙ z)) (ap in_numbers (passed_up c.from_residual.ensures.1))).said
 
 pub lines_end-end-requires : goal.lines_end-end-requires
 lines_end-end-requires c =
     let a = c.args in
-    (passing_parts (record { records = a.records.now; coordinator = a.coordinator.now }) (sym c.check-checked.ensures ∙ c.if-checked-ne0.false)).0
+    (passing_parts (record { records = a.records.now; coordinator = a.coordinator.now }) (free_by c.check.ensures c.in_ok-check.was)).0
 
 pub slice_bounds-abort-end : goal.slice_bounds-abort-end
 slice_bounds-abort-end c =
     let a = c.args in
-    simp length-take (omega (arith, front-within a.records.now a.coordinator.now (sym c.check-checked.ensures ∙ c.if-checked-ne0.false) _ c.lines_end-end.ensures.is))
+    simp length-take (omega (arith, front-within a.records.now a.coordinator.now (free_by c.check.ensures c.in_ok-check.was) _ c.lines_end-end.ensures.is))
 
 pub abort-requires : goal.abort-requires
 abort-requires c =
     let a = c.args in
-    accepted_front a.records.now a.coordinator.now (sym c.check-checked.ensures ∙ c.if-checked-ne0.false) _ c.lines_end-end.ensures.is
+    accepted_front a.records.now a.coordinator.now (free_by c.check.ensures c.in_ok-check.was) _ c.lines_end-end.ensures.is
 
 pub returns : goal.returns
 returns c =
     let a = c.args in
-    answer-passed a.records.now a.coordinator.now (sym c.check-checked.ensures ∙ c.if-checked-ne0.false) _ c.lines_end-end.ensures.is (to_returned a.t) (model.abort a.t) refl c.abort.ensures
+    answer-passed a.records.now a.coordinator.now (free_by c.check.ensures c.in_ok-check.was) _ c.lines_end-end.ensures.is (to_returned a.t) (model.abort a.t) refl c.abort.ensures

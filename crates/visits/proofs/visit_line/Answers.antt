@@ -7,4 +7,4 @@ returns c =
     let a = c.args in
     visit_outcome a.clock a.records.now a.coordinator.now a.i
     c.requires _
-    c.recover-v.ensures c.answer.ensures
+    c.recover.ensures c.answer.ensures

@@ -1,16 +1,8 @@
 -- What the companion tells, in the target.
-use Rattle.std.specs.Prelude.{◌≤◌}
 use Rattle.std.proofs.Common.{◌∙◌}
-use Rattle.lists.specs.Basics.{sym, ap, subst}
-use Rattle.model.specs.Types.{Ranked}
-use Rattle.model.specs.Refusals.{last_refusal}
-use Rattle.by_place.specs.Ranks.{rank_number, rank_target, rank_two_small}
+use Rattle.lists.specs.Basics.{ap}
+use Rattle.by_place.specs.Ranks.{rank_number, rank_target}
 use Rattle.c_api.proofs.two.rapyheo_two_rank.Goals as goal
-
-pub tell_rank-requires : goal.tell_rank-requires
-tell_rank-requires c =
-    let a = c.args in
-    (subst (λ (r : Ranked). r.refusal ≤ last_refusal) (sym c.rank_of.ensures.told) (rank_two_small a.plain.now a.book.now (record { storage = a.storage; namespace = a.namespace; table = a.table; partition = a.partition; clustering = a.clustering })), c.rank_of.ensures.few)
 
 pub returns : goal.returns
 returns c =

@@ -8,7 +8,7 @@ use Rattle.sweep.proofs.first_line.numbers.Goals as goal
 pub returns : goal.returns
 returns c =
     let a1 = c.args in
-    let a = c.number_of-lines.ensures ∙ (ap number c.read.ensures ∙ lines_read a1.input.now) in
-    let b = c.number_of-decisions.ensures ∙ (ap number c.read-2.ensures ∙ decisions_read_lem a1.input.now) in
-    let d = c.number_of-clock.ensures ∙ (ap number c.read-3.ensures ∙ clock_read a1.input.now) in
+    let a = c.unwrap_or-lines.ensures ∙ (ap number c.read.ensures ∙ lines_read a1.input.now) in
+    let b = c.unwrap_or-decisions.ensures ∙ (ap number c.read-2.ensures ∙ decisions_read_lem a1.input.now) in
+    let d = c.unwrap_or-clock.ensures ∙ (ap number c.read-3.ensures ∙ clock_read a1.input.now) in
     λ i. record { lines = a i; decisions = b i; clock = d i }

@@ -4,7 +4,7 @@ use Rattle.lists.specs.Basics.{sym, ap, ap₂, subst, ℕ, List, arith}
 use Rattle.model.specs.Refusals.{refusal_of}
 use Rattle.model.specs.SheetCalls.{check_conditions}
 use Rattle.sweep.specs.FirstLine.{Small, fit, records_from, records-within, unfit_refused, fit_refused, first_small, coordinator-part, records-part}
-use Rattle.sweep.proofs.first_line.refusal.Goals as goal
+use Rattle.sweep.proofs.first_line.check.Goals as goal
 
 pub returns-then-not-fits : goal.returns-then-not-fits
 returns-then-not-fits c = sym (unfit_refused c.args.input.now (sym c.fits.ensures ∙ c.if-not-fits.true))

@@ -2,7 +2,7 @@
 use Rattle.lists.specs.Basics.{eq-eqb, ne_eqb, le-leb, lt-leb}
 use Rattle.model.specs.Refusals.{refusal_of}
 use Rattle.model.specs.Greatest.{greatest_conditions}
-use Rattle.greatest.proofs.refusal.Goals as goal
+use Rattle.greatest.proofs.fits.Goals as goal
 
 pub returns-then-count-lt1 : goal.returns-then-count-lt1
 unfolding greatest_conditions refusal_of

@@ -1,8 +1,0 @@
--- The second call.
-use Rattle.reads.proofs.second.Goals as goal
-
-pub fetch-requires : goal.fetch-requires
-fetch-requires c = c.requires
-
-pub returns : goal.returns
-returns c = c.fetch.ensures
