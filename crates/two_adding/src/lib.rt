@@ -7,6 +7,8 @@ ghost use Rattle.lists.specs.Each.{joined};
 ghost use Rattle.model.specs.Lines.{lines_of};
 ghost use Rattle.model.specs.Records.{record_text, absent_at, key_in_range};
 ghost use Rattle.model.specs.Spares.{spare_line};
+ghost use Rattle.model.specs.Refusals.{refused_with};
+ghost use Rattle.model.specs.Told.{ranked_by};
 ghost use Rattle.model.specs.Results.{refusal_in, answer_of};
 ghost use Rattle.model.specs.Results as calls;
 ghost use Rattle.model.specs.Operations.{once};
@@ -17,12 +19,11 @@ ghost use Rattle.two_check.specs.Areas.{two, Rooms};
 ghost use Rattle.two_adding.specs.Placing.{place_full, place_two};
 ghost use Rattle.two_adding.specs.Parts.{Shiftable};
 
-use sheets::lookup::no_rank;
 use shifting::{front_end, insert_line, remove_line};
 use two_join::{BOOKKEEPING_BYTES, PLAIN_BYTES};
-use types::{Key, RECORD_BYTES, Ranked};
+use types::{Key, RECORD_BYTES, Rank, Refusal};
 
-// Where the line of the key goes, if it is to be added, or goes from; or the refusal.
+// Where the line of the key goes, if it is to be added, or goes from.
 fn place_in(
     add: bool,
     full: bool,
@@ -31,14 +32,11 @@ fn place_in(
     book: &[u8],
     coordinator: &[u8],
     area: &mut [u8],
-) -> Ranked
+) -> Result<Rank, Refusal>
     requires { Rooms plain.now book.now (length area.old) }
-    ensures { result ≡ place_full add full key plain.now book.now coordinator.now }
+    ensures { ranked_by result ≡ place_full add full key plain.now book.now coordinator.now }
 {
-    let refused = two_check::join_checked(plain, book, coordinator, area);
-    if refused != 0 {
-        return no_rank(refused);
-    }
+    two_check::join_checked(plain, book, coordinator, area)?;
     let n = plain.len() / PLAIN_BYTES * RECORD_BYTES;
     if add {
         return adding::to_add(full, key, &area[..n]);
@@ -46,48 +44,35 @@ fn place_in(
     adding::to_remove(key, &area[..n])
 }
 
-// The same in the smallest area that has room.
-fn place_in_area(
+// The same in an area of its own.
+fn place(
     add: bool,
     full: bool,
     key: Key,
     plain: &[u8],
     book: &[u8],
     coordinator: &[u8],
-) -> Ranked
-    ensures { result ≡ place_full add full key plain.now book.now coordinator.now }
+) -> Result<Rank, Refusal>
+    ensures { ranked_by result ≡ place_full add full key plain.now book.now coordinator.now }
 {
-    if two_check::within(50, plain, book) {
-        let mut area = two_check::blank_50();
-        return place_in(add, full, key, plain, book, coordinator, &mut area);
-    }
-    if two_check::within(100, plain, book) {
-        let mut area = two_check::blank_100();
-        return place_in(add, full, key, plain, book, coordinator, &mut area);
-    }
-    if two_check::within(250, plain, book) {
-        let mut area = two_check::blank_250();
-        return place_in(add, full, key, plain, book, coordinator, &mut area);
-    }
-    let mut area = two_check::blank_500();
-    place_in(add, full, key, plain, book, coordinator, &mut area)
-}
-
-// It only asks another function, so that the areas share one place on the stack, as the check of both sheets does.
-fn place(add: bool, full: bool, key: Key, plain: &[u8], book: &[u8], coordinator: &[u8]) -> Ranked
-    ensures { result ≡ place_full add full key plain.now book.now coordinator.now }
-{
-    place_in_area(add, full, key, plain, book, coordinator)
+    two_check::in_area(
+        plain.len(),
+        book.len(),
+        &mut |area: &mut [u8]| { place_in(add, full, key, plain, book, coordinator, area) },
+    )
 }
 
 // The same of both sheets with their spares.
-fn place_on(add: bool, key: Key, plain: &[u8], book: &[u8], coordinator: &[u8]) -> Ranked
-    ensures { result ≡ place_two add key plain.now book.now coordinator.now }
+fn place_on(
+    add: bool,
+    key: Key,
+    plain: &[u8],
+    book: &[u8],
+    coordinator: &[u8],
+) -> Result<Rank, Refusal>
+    ensures { ranked_by result ≡ place_two add key plain.now book.now coordinator.now }
 {
-    let refused = two_engine::forms_refusal(plain, book, coordinator);
-    if refused != 0 {
-        return no_rank(refused);
-    }
+    two_engine::check_forms(plain, book, coordinator)?;
     let p = front_end(plain, PLAIN_BYTES);
     let b = front_end(book, BOOKKEEPING_BYTES);
     let full = b == book.len();
@@ -120,30 +105,29 @@ fn take_out(at: usize, plain: &mut [u8], book: &mut [u8])
     remove_line(book, BOOKKEEPING_BYTES, at);
 }
 
-// 0, or the refusal: 1, 2, 13, 5, 14 or 15.
-pub fn add(key: Key, plain: &mut [u8], book: &mut [u8], coordinator: &[u8]) -> u32
-    ensures answer { result ≡ refusal_in (answer_of (response_two (once (calls.add key)) (two plain.old book.old coordinator.now))) }
+// Refused with 1, 2, 13, 5, 14 or 15.
+pub fn add(key: Key, plain: &mut [u8], book: &mut [u8], coordinator: &[u8]) -> Result<(), Refusal>
+    ensures answer { refused_with result ≡ refusal_in (answer_of (response_two (once (calls.add key)) (two plain.old book.old coordinator.now))) }
     ensures plain { plain.new ≡ plain_left plain.old (response_two (once (calls.add key)) (two plain.old book.old coordinator.now)) }
     ensures bookkeeping { book.new ≡ bookkeeping_left book.old (response_two (once (calls.add key)) (two plain.old book.old coordinator.now)) }
 {
-    let told = place_on(true, key, plain, book, coordinator);
-    if told.refusal != 0 {
-        return told.refusal;
-    }
-    put_in(key, told.rank.below, plain, book);
-    0
+    let rank = place_on(true, key, plain, book, coordinator)?;
+    put_in(key, rank.below, plain, book);
+    Ok(())
 }
 
-// 0, or the refusal: 1, 2, 13, 5, 6 or 16.
-pub fn remove(key: Key, plain: &mut [u8], book: &mut [u8], coordinator: &[u8]) -> u32
-    ensures answer { result ≡ refusal_in (answer_of (response_two (once (calls.remove key)) (two plain.old book.old coordinator.now))) }
+// Refused with 1, 2, 13, 5, 6 or 16.
+pub fn remove(
+    key: Key,
+    plain: &mut [u8],
+    book: &mut [u8],
+    coordinator: &[u8],
+) -> Result<(), Refusal>
+    ensures answer { refused_with result ≡ refusal_in (answer_of (response_two (once (calls.remove key)) (two plain.old book.old coordinator.now))) }
     ensures plain { plain.new ≡ plain_left plain.old (response_two (once (calls.remove key)) (two plain.old book.old coordinator.now)) }
     ensures bookkeeping { book.new ≡ bookkeeping_left book.old (response_two (once (calls.remove key)) (two plain.old book.old coordinator.now)) }
 {
-    let told = place_on(false, key, plain, book, coordinator);
-    if told.refusal != 0 {
-        return told.refusal;
-    }
-    take_out(told.rank.below, plain, book);
-    0
+    let rank = place_on(false, key, plain, book, coordinator)?;
+    take_out(rank.below, plain, book);
+    Ok(())
 }

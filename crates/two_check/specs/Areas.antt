@@ -25,24 +25,34 @@ two ps bs cs = record { plain = ps; bookkeeping = bs; coordinator = cs }
 abbrev pub joined_size : ℕ → List ℕ → ℕ
 joined_size width s = length s / width * record_bytes
 
--- n bytes have room for the lines of a sheet, unless these are too many
-abbrev pub Room : ℕ → List ℕ → ℕ → Type 0
-Room width s n = length s / width ≤ 500 → joined_size width s ≤ n
+-- n bytes have room for the lines of a sheet of so many bytes, unless these are too many
+abbrev pub RoomFor : ℕ → ℕ → ℕ → Type 0
+RoomFor width size n = size / width ≤ 500 → size / width * record_bytes ≤ n
 
 -- and for those of either sheet
+abbrev pub RoomsFor : ℕ → ℕ → ℕ → Type 0
+RoomsFor plain book n = RoomFor plain_bytes plain n × RoomFor bookkeeping_bytes book n
+
+abbrev pub Room : ℕ → List ℕ → ℕ → Type 0
+Room width s n = RoomFor width (length s) n
+
 abbrev pub Rooms : List ℕ → List ℕ → ℕ → Type 0
-Rooms ps bs n = Room plain_bytes ps n × Room bookkeeping_bytes bs n
+Rooms ps bs n = RoomsFor (length ps) (length bs) n
 
--- neither sheet has more bytes than n lines
-abbrev pub both_within : ℕ → List ℕ → List ℕ → Bool
-both_within n ps bs = leb (length ps) (n * plain_bytes) && leb (length bs) (n * bookkeeping_bytes)
+-- neither of two sheets of so many bytes has more than n lines
+abbrev pub both_within : ℕ → ℕ → ℕ → Bool
+both_within n plain book = leb plain (n * plain_bytes) && leb book (n * bookkeeping_bytes)
 
-pub rooms_within : (n size : ℕ) (ps bs : List ℕ) (r : Bool) → r ≡ both_within n ps bs → r ≡ true → n * record_bytes ≤ size → Rooms ps bs size
-rooms_within n size ps bs r e t fits =
-    let w : both_within n ps bs ≡ true = sym e ∙ t in
-    let p = leb-true (length ps) (n * plain_bytes) (and_fst _ (leb (length bs) (n * bookkeeping_bytes)) w) in
-    let b = leb-true (length bs) (n * bookkeeping_bytes) (and_snd (leb (length ps) (n * plain_bytes)) _ w) in
+pub rooms_within : (n size plain book : ℕ) (r : Bool) → r ≡ both_within n plain book → r ≡ true → n * record_bytes ≤ size → RoomsFor plain book size
+rooms_within n size plain book r e t fits =
+    let w : both_within n plain book ≡ true = sym e ∙ t in
+    let p = leb-true plain (n * plain_bytes) (and_fst _ (leb book (n * bookkeeping_bytes)) w) in
+    let b = leb-true book (n * bookkeeping_bytes) (and_snd (leb plain (n * plain_bytes)) _ w) in
     (λ l. omega arith, λ l. omega arith)
+
+-- an area for all lines that a sheet may have is large enough for any sheets
+pub rooms_most : (plain book size : ℕ) → size ≡ 500 * record_bytes → RoomsFor plain book size
+rooms_most plain book size e = (λ l. omega (arith, e), λ l. omega (arith, e))
 
 -- the front of an area that was lent and came back as t
 pub front_is : (n : ℕ) (t area : List ℕ) → length t ≡ length (take n area) → n ≤ length area → take n (t ++ drop n area) ≡ t

@@ -2,17 +2,18 @@
 #![tactic(auto)]
 
 ghost use Rattle.std.specs.Prelude.{◌≡◌, ◌&&◌, true, length, replicate, ◌*◌, ◌/◌, ◌≤◌};
+ghost use Rattle.lists.specs.Basics.{eqb};
 ghost use Rattle.model.specs.Layouts.{record_bytes};
 ghost use Rattle.model.specs.Records.{records_accepted};
-ghost use Rattle.model.specs.Refusals.{refusal_of};
+ghost use Rattle.model.specs.Refusals.{refusal_of, refusal_number, refused_with};
 ghost use Rattle.model.specs.Coordinator.{coordinator_readable};
 ghost use Rattle.model.specs.SheetCalls.{all_issued};
 ghost use Rattle.model.specs.TwoSheets.{plain_bytes, bookkeeping_bytes, joined_sheet, full_conditions};
 ghost use Rattle.two_laws.specs.Deciding.{whole, filled_plain, filled_bookkeeping};
-ghost use Rattle.two_check.specs.Areas.{both_within, Room, Rooms, BookkeepingIn, Apart, Lines, JoinedIn};
+ghost use Rattle.two_check.specs.Areas.{both_within, Room, Rooms, RoomsFor, BookkeepingIn, Apart, Lines, JoinedIn};
 
 use two_join::{BOOKKEEPING_BYTES, PLAIN_BYTES};
-use types::RECORD_BYTES;
+use types::{RECORD_BYTES, Refusal};
 
 // Bytes of so many lines joined.
 const BYTES_50: usize = 50 * RECORD_BYTES;
@@ -23,38 +24,38 @@ const BYTES_250: usize = 250 * RECORD_BYTES;
 
 const BYTES_500: usize = 500 * RECORD_BYTES;
 
-// Areas for so many lines. A call makes each, since the check would count the bytes of a local array one by one; there are several, since to set the largest to zero
-// takes longer than a call on a few lines.
-pub fn blank_50() -> [u8; BYTES_50]
-    ensures { result ≡ replicate (50 * record_bytes) 0 }
+// An area of so many bytes. A call makes it, since the check would count the bytes of a local array one by one.
+fn blank<const N: usize>() -> [u8; N]
+    ensures { result ≡ replicate N 0 }
 {
-    [0u8; BYTES_50]
+    [0u8; N]
 }
 
-pub fn blank_100() -> [u8; BYTES_100]
-    ensures { result ≡ replicate (100 * record_bytes) 0 }
-{
-    [0u8; BYTES_100]
-}
-
-pub fn blank_250() -> [u8; BYTES_250]
-    ensures { result ≡ replicate (250 * record_bytes) 0 }
-{
-    [0u8; BYTES_250]
-}
-
-pub fn blank_500() -> [u8; BYTES_500]
-    ensures { result ≡ replicate (500 * record_bytes) 0 }
-{
-    [0u8; BYTES_500]
-}
-
-// Whether neither sheet has more bytes than so many lines.
-pub fn within(lines: usize, plain: &[u8], book: &[u8]) -> bool
+// Whether neither of two sheets of so many bytes has more than so many lines.
+fn within(lines: usize, plain: usize, book: usize) -> bool
     requires { lines ≤ 500 }
-    ensures { result ≡ both_within lines plain.now book.now }
+    ensures { result ≡ both_within lines plain book }
 {
-    (plain.len() <= lines * PLAIN_BYTES) & (book.len() <= lines * BOOKKEEPING_BYTES)
+    (plain <= lines * PLAIN_BYTES) & (book <= lines * BOOKKEEPING_BYTES)
+}
+
+// What is done in an area of this call's own that has room for two sheets of so many bytes joined. It is the smallest of several, since to set the largest to zero takes
+// longer than a call on a few lines.
+pub fn in_area<R, F: FnMut(&mut [u8]) -> R>(plain: usize, book: usize, act: &mut F) -> R
+    requires { (area : _) → RoomsFor plain book (length area.now) → F.pre act.old area }
+    ensures { (old : _) × (new : _) × RoomsFor plain book (length old.now) × F.step act.old old result new act.new }
+{
+    if within(50, plain, book) {
+        return act(&mut blank::<BYTES_50>());
+    }
+    if within(100, plain, book) {
+        return act(&mut blank::<BYTES_100>());
+    }
+    if within(250, plain, book) {
+        return act(&mut blank::<BYTES_250>());
+    }
+    let mut area = blank::<BYTES_500>();
+    act(&mut area)
 }
 
 // Whether the plain sheet, filled with fixed text over the target, is a good record sheet.
@@ -120,37 +121,37 @@ fn bookkeeping_alone(book: &[u8], area: &mut [u8]) -> bool
     bookkeeping_fills(book, &mut area[..n])
 }
 
-// 1 where either sheet isn't good alone, else 13: the keys don't agree.
-fn apart(plain: &[u8], book: &[u8], area: &mut [u8]) -> u32
+// Why sheets whose keys don't agree are refused: either isn't good alone, or else their keys.
+fn apart(plain: &[u8], book: &[u8], area: &mut [u8]) -> Refusal
     requires { Rooms plain.now book.now (length area.old) }
-    ensures { Apart plain.now book.now result area.new }
+    ensures { Apart plain.now book.now (refusal_number result) area.new }
 {
     if !plain_alone(plain, area) {
-        return 1;
+        return Refusal::BadRecords;
     }
     if !bookkeeping_alone(book, area) {
-        return 1;
+        return Refusal::BadRecords;
     }
-    13
+    Refusal::SheetsDiffer
 }
 
-// 0 where the sheets join to a good one, which then stands in the area, else 1 or 13. Without 1 the area has lines that name the numbers which the bookkeeping sheet names.
-pub fn lines_refusal(plain: &[u8], book: &[u8], area: &mut [u8]) -> u32
+// Accepted sheets stand joined in the area. Where their keys differ, it has lines that name the numbers which the bookkeeping sheet names.
+pub fn join_lines(plain: &[u8], book: &[u8], area: &mut [u8]) -> Result<(), Refusal>
     requires { Rooms plain.now book.now (length area.old) }
-    ensures { Lines plain.now book.now result area.new }
+    ensures { Lines plain.now book.now (refused_with result) area.new }
 {
     if !two_join::agree(plain, book) {
-        return apart(plain, book, area);
+        return Err(apart(plain, book, area));
     }
     let lines = plain.len() / PLAIN_BYTES;
     if 500 < lines {
-        return 1;
+        return Err(Refusal::BadRecords);
     }
     let n = lines * RECORD_BYTES;
     if !both_join(plain, book, &mut area[..n]) {
-        return 1;
+        return Err(Refusal::BadRecords);
     }
-    0
+    Ok(())
 }
 
 // Whether the coordinator sheet, with letters of either case, fits accepted lines.
@@ -164,19 +165,34 @@ fn fits(records: &[u8], coordinator: &[u8]) -> bool
     coordinator_check::all_issued(records, coordinator)
 }
 
-// 0 where the sheets are accepted, and then both stand joined in the area; else the refusal: 1, 2 or 13.
-pub fn join_checked(plain: &[u8], book: &[u8], coordinator: &[u8], area: &mut [u8]) -> u32
-    requires { Rooms plain.now book.now (length area.old) }
-    ensures answer { result ≡ refusal_of (full_conditions plain.now book.now coordinator.now) }
-    ensures joined { result ≡ 0 → JoinedIn plain.now book.now area.new }
+// Whether what is told of two sheets is that either isn't good alone, or both joined aren't.
+pub fn is_bad<T>(told: &Result<T, Refusal>) -> bool
+    ensures { result ≡ eqb (refused_with told.now) 1 }
 {
-    let refused = lines_refusal(plain, book, area);
-    if refused == 1 {
-        return refused;
+    match told {
+        Err(refusal) => *refusal == Refusal::BadRecords,
+        Ok(_) => false,
+    }
+}
+
+// Accepted sheets then stand joined in the area.
+pub fn join_checked(
+    plain: &[u8],
+    book: &[u8],
+    coordinator: &[u8],
+    area: &mut [u8],
+) -> Result<(), Refusal>
+    requires { Rooms plain.now book.now (length area.old) }
+    ensures answer { refused_with result ≡ refusal_of (full_conditions plain.now book.now coordinator.now) }
+    ensures joined { refused_with result ≡ 0 → JoinedIn plain.now book.now area.new }
+{
+    let lines = join_lines(plain, book, area);
+    if is_bad(&lines) {
+        return lines;
     }
     let n = book.len() / BOOKKEEPING_BYTES * RECORD_BYTES;
     if !fits(&area[..n], coordinator) {
-        return 2;
+        return Err(Refusal::BadCoordinator);
     }
-    refused
+    lines
 }

@@ -1,9 +1,11 @@
 -- Whether two sheets have their size and as many lines, which is told before anything else, and what is refused where they don't.
-use Rattle.std.specs.Prelude.{◌≡◌, ◌*◌, ◌/◌, ◌≤◌, ◌&&◌, ◌∷◌}
+use Rattle.std.specs.Prelude.{Result, Ok, Err, ◌≡◌, ◌*◌, ◌/◌, ◌≤◌, ◌&&◌, ◌∷◌}
 use Rattle.std.proofs.Common.{◌∙◌}
 use Rattle.lists.specs.Basics.{refl, sym, ap, ℕ, Bool, true, false, not, List, [], length, arith, eq-eqb, eqb-true, ne_eqb, eqb, cond, all, joined, pieces, and-false}
 use Rattle.model.specs.Spares.{filled_lines, sized}
-use Rattle.model.specs.Refusals.{Condition, refuse, refusal_of}
+use Rattle.model.specs.Refusals.{Condition, refuse, refusal_of, refused_with}
+use Rattle.model.specs.Told.{ranked_by}
+use Rattle.types.specs.declared.Refusal.{Refusal}
 use Rattle.model.specs.Types.{Key, Rank, Ranked}
 use Rattle.model.specs.Lines.{lines_of, lines_set}
 use Rattle.model.specs.Records.{rising, records_good, records, records_accepted, key_in_range}
@@ -118,6 +120,11 @@ module _ (ps bs cs : List ℕ) where
 
     pub unequal_refused : (m ≡ 0 → ⊥) → m ≡ refusal_of (unequal_conditions ps bs cs)
     unequal_refused y = rest.1 y ∙ sym past
+
+-- the refusal is told as one number
+pub ranked-refused : (r : Result Rank Refusal) → (ranked_by r).refusal ≡ refused_with r
+ranked-refused (Ok x) = refl
+ranked-refused (Err x) = refl
 
 -- the same of a look-up, which asks nothing of a coordinator sheet
 module _ (k : Key) where

@@ -3,7 +3,7 @@ use Rattle.std.specs.Prelude.{◌≡◌, ◌+◌, ◌*◌, ◌≤◌, ◌∷◌,
 use Rattle.std.proofs.Common.{◌∙◌}
 use Rattle.lists.specs.Basics.{refl, sym, ap, ap₂, subst, ℕ, eqb, Bool, true, false, not, List, [], cond, length, length-take, take, drop, arith, eqb-true}
 use Rattle.lists.specs.Basics.{eq-eqb, ne_eqb}
-use Rattle.model.specs.Types.{Key, Ranked, At}
+use Rattle.model.specs.Types.{Key, Ranked, Some}
 use Rattle.model.specs.Records.{records, key_in_range, found, ranked}
 use Rattle.model.specs.Spares.{filled_lines, front}
 use Rattle.model.specs.Refusals.{Condition, refuse, refusal_of}
@@ -18,7 +18,7 @@ use Rattle.two_engine.specs.Forms.{Whole, keys_asked, many_said}
 pub record Ranks (ps bs : List ℕ) (k : Key) (r : Ranked) : Type 0 where
   pub told : r ≡ line_two ps bs k
   pub few : r.rank.below ≤ 500
-  pub at : r.refusal ≡ 0 → found k (records (joined_lines ps bs)) ≡ At r.rank.below
+  pub at : r.refusal ≡ 0 → found k (records (joined_lines ps bs)) ≡ Some r.rank.below
   pub fits : r.refusal ≡ 0 → (r.rank.below * plain_bytes + plain_bytes ≤ length ps) × (r.rank.below * bookkeeping_bytes + bookkeeping_bytes ≤ length bs)
 
 abbrev without : ℕ → Ranked

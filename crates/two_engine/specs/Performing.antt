@@ -1,6 +1,6 @@
 -- What a call on both sheets comes to: refused by what is told of them first, or the call on the lines before the spares, which stay behind what it leaves. No call sees how
 -- many they are, and none changes how many records.
-use Rattle.std.specs.Prelude.{◌≡◌, ◌-◌, ◌*◌, ◌/◌, ◌++◌}
+use Rattle.std.specs.Prelude.{◌≡◌, ◌-◌, ◌*◌, ◌/◌, ◌++◌, Result as Either}
 use Rattle.std.proofs.Common.{◌∙◌}
 use Rattle.lists.specs.Basics.{refl, sym, ap, ap₂, subst, ℕ, eqb, eqb-true, eqb-false, Bool, true, false, List, length, take, drop, arith}
 use Rattle.std.proofs.Math.ListN.{take-append-drop}
@@ -28,7 +28,7 @@ use Rattle.engine.specs.Fronts.{Blind}
 use Rattle.two_laws.specs.SparedJoin.{joined-filled}
 use Rattle.two_laws.specs.TwoEncoding.{cut_two, joined_bytes, same-filled, front-joined, count-joined, passing_two}
 use Rattle.answers.specs.declared.Performed.{Performed}
-use Rattle.answers.specs.Answers.{to_performed, visited_in}
+use Rattle.answers.specs.Answers.{to_performed, to_visited}
 use Rattle.two_check.specs.Areas.{two}
 use Rattle.two_sheets.specs.Performing as full
 use Rattle.two_engine.specs.Forms.{Whole, refusal_cut}
@@ -41,10 +41,10 @@ GivesAs to o ps bs cs r ps' bs' cs' =
     × ((bs' ≡ bookkeeping_left bs (response_two o (two ps bs cs))) × (cs' ≡ coordinator_left cs (response_two o (two ps bs cs)))))
 
 -- those of an operation, of a transaction
-abbrev pub Gives : Operation → Transaction → List ℕ → List ℕ → List ℕ → Performed → List ℕ → List ℕ → List ℕ → Type 0
+abbrev pub Gives : Operation → Transaction → List ℕ → List ℕ → List ℕ → Either Performed ℕ → List ℕ → List ℕ → List ℕ → Type 0
 Gives o t ps bs cs r ps' bs' cs' = GivesAs (to_performed t) o ps bs cs r ps' bs' cs'
 
-pub visited_blind : Blind visited_in
+pub visited_blind : Blind to_visited
 visited_blind n (refused m) = refl
 visited_blind n (made a s) = refl
 

@@ -3,7 +3,7 @@
 #![tactic(auto)]
 
 ghost use Rattle.std.specs.Prelude.{◌≡◌, true, false};
-ghost use Rattle.model.specs.Refusals.{refusal_of};
+ghost use Rattle.model.specs.Refusals.{refusal_of, refusal_number, refused_with};
 ghost use Rattle.model.specs.Spares.{sized};
 ghost use Rattle.model.specs.TwoSheets.{plain_bytes, bookkeeping_bytes};
 ghost use Rattle.model.specs.TwoSpares.{plain_lines, bookkeeping_lines, two_conditions};
@@ -13,60 +13,57 @@ ghost use Rattle.model.specs.Operations as operations;
 ghost use Rattle.model.specs.Operations.{once, coordinator_left};
 ghost use Rattle.model.specs.Requests.{operation_of};
 ghost use Rattle.model.specs.TwoCalls.{response_two, plain_left, bookkeeping_left};
-ghost use Rattle.answers.specs.Answers.{to_performed, visited_in};
+ghost use Rattle.answers.specs.Answers.{in_numbers, to_performed, to_visited};
 ghost use Rattle.two_check.specs.Areas.{two};
 ghost use Rattle.two_engine.specs.Forms.{unequal_conditions, Forms};
 ghost use Rattle.two_engine.specs.Performing.{GivesAs, Gives};
 
 pub mod lookup;
 
-use answers::{Performed, Visited};
+use answers::Performed;
 use record_check::is_sized;
 use shifting::front_end;
 use two_join::{BOOKKEEPING_BYTES, PLAIN_BYTES};
-use types::{Columns, Key, Request, Transaction};
+use types::{Columns, Key, Recovery, Refusal, Request, Transaction};
 
 // The refusal of sheets with different numbers of lines: each is checked beside the other without its lines, so that their keys aren't compared.
-fn unequal(plain: &[u8], book: &[u8], coordinator: &[u8]) -> u32
+fn unequal(plain: &[u8], book: &[u8], coordinator: &[u8]) -> Refusal
     requires { (sized plain_bytes plain.now ≡ true) × (sized bookkeeping_bytes book.now ≡ true) }
-    ensures { result ≡ refusal_of (unequal_conditions (plain_lines plain.now) (bookkeeping_lines book.now) coordinator.now) }
+    ensures { refusal_number result ≡ refusal_of (unequal_conditions (plain_lines plain.now) (bookkeeping_lines book.now) coordinator.now) }
 {
     let p = front_end(plain, PLAIN_BYTES);
-    if two_sheets::check(&plain[..p], &book[..0], coordinator) == 1 {
-        return 1;
+    let first = two_sheets::check(&plain[..p], &book[..0], coordinator);
+    if two_check::is_bad(&first) {
+        return Refusal::BadRecords;
     }
     let b = front_end(book, BOOKKEEPING_BYTES);
-    let told = two_sheets::check(&plain[..0], &book[..b], coordinator);
-    if told == 0 {
-        return 13;
+    match two_sheets::check(&plain[..0], &book[..b], coordinator) {
+        Ok(()) => Refusal::SheetsDiffer,
+        Err(told) => told,
     }
-    told
 }
 
-// 0 where both sheets have their size and as many lines, else the refusal.
-pub fn forms_refusal(plain: &[u8], book: &[u8], coordinator: &[u8]) -> u32
-    ensures { Forms plain.now book.now coordinator.now result }
+// Whether both sheets have their size and as many lines.
+pub fn check_forms(plain: &[u8], book: &[u8], coordinator: &[u8]) -> Result<(), Refusal>
+    ensures { Forms plain.now book.now coordinator.now (refused_with result) }
 {
     if !is_sized(plain, PLAIN_BYTES) {
-        return 1;
+        return Err(Refusal::BadRecords);
     }
     if !is_sized(book, BOOKKEEPING_BYTES) {
-        return 1;
+        return Err(Refusal::BadRecords);
     }
     if plain.len() / PLAIN_BYTES == book.len() / BOOKKEEPING_BYTES {
-        return 0;
+        return Ok(());
     }
-    unequal(plain, book, coordinator)
+    Err(unequal(plain, book, coordinator))
 }
 
-// 0 where the sheets are accepted, else the refusal: 1, 2 or 13.
-pub fn check(plain: &[u8], book: &[u8], coordinator: &[u8]) -> u32
-    ensures { result ≡ refusal_of (two_conditions plain.now book.now coordinator.now) }
+// Refused with 1, 2 or 13.
+pub fn check(plain: &[u8], book: &[u8], coordinator: &[u8]) -> Result<(), Refusal>
+    ensures { refused_with result ≡ refusal_of (two_conditions plain.now book.now coordinator.now) }
 {
-    let refused = forms_refusal(plain, book, coordinator);
-    if refused != 0 {
-        return refused;
-    }
+    check_forms(plain, book, coordinator)?;
     let p = front_end(plain, PLAIN_BYTES);
     let b = front_end(book, BOOKKEEPING_BYTES);
     two_sheets::check(&plain[..p], &book[..b], coordinator)
@@ -79,29 +76,26 @@ pub fn perform(
     plain: &mut [u8],
     book: &mut [u8],
     coordinator: &mut [u8],
-) -> Performed
-    ensures answer { result ≡ to_performed t (response_two (operation_of request t) (two plain.old book.old coordinator.old)) }
+) -> Result<Performed, Refusal>
+    ensures answer { in_numbers result ≡ to_performed t (response_two (operation_of request t) (two plain.old book.old coordinator.old)) }
     ensures plain { plain.new ≡ plain_left plain.old (response_two (operation_of request t) (two plain.old book.old coordinator.old)) }
     ensures bookkeeping { book.new ≡ bookkeeping_left book.old (response_two (operation_of request t) (two plain.old book.old coordinator.old)) }
     ensures decisions { coordinator.new ≡ coordinator_left coordinator.old (response_two (operation_of request t) (two plain.old book.old coordinator.old)) }
 {
-    let refused = forms_refusal(plain, book, coordinator);
-    if refused != 0 {
-        return reads::refusal(refused, t);
-    }
+    check_forms(plain, book, coordinator)?;
     let p = front_end(plain, PLAIN_BYTES);
     let b = front_end(book, BOOKKEEPING_BYTES);
     two_sheets::perform(request, t, &mut plain[..p], &mut book[..b], coordinator)
 }
 
-// A refused begin gives a transaction of number 0.
+// A begin takes no transaction: one of number 0 stands in its place.
 pub fn begin(
     serializable: bool,
     plain: &mut [u8],
     book: &mut [u8],
     coordinator: &mut [u8],
-) -> Performed
-    ensures { Gives (once (model.begin serializable)) (new_transaction 0 false) plain.old book.old coordinator.old result plain.new book.new coordinator.new }
+) -> Result<Performed, Refusal>
+    ensures { Gives (once (model.begin serializable)) (new_transaction 0 false) plain.old book.old coordinator.old (in_numbers result) plain.new book.new coordinator.new }
 {
     let none = transactions::new_transaction(0, false);
     perform(Request::Begin(serializable), none, plain, book, coordinator)
@@ -115,8 +109,8 @@ pub fn read(
     plain: &mut [u8],
     book: &mut [u8],
     coordinator: &mut [u8],
-) -> Performed
-    ensures { Gives (once (model.read t key clock)) t plain.old book.old coordinator.old result plain.new book.new coordinator.new }
+) -> Result<Performed, Refusal>
+    ensures { Gives (once (model.read t key clock)) t plain.old book.old coordinator.old (in_numbers result) plain.new book.new coordinator.new }
 {
     perform(Request::Read(key, clock), t, plain, book, coordinator)
 }
@@ -130,8 +124,8 @@ pub fn second(
     plain: &mut [u8],
     book: &mut [u8],
     coordinator: &mut [u8],
-) -> Performed
-    ensures { Gives (once (model.second t key clock columns)) t plain.old book.old coordinator.old result plain.new book.new coordinator.new }
+) -> Result<Performed, Refusal>
+    ensures { Gives (once (model.second t key clock columns)) t plain.old book.old coordinator.old (in_numbers result) plain.new book.new coordinator.new }
 {
     perform(
         Request::Second(key, clock, columns),
@@ -149,8 +143,8 @@ pub fn put(
     plain: &mut [u8],
     book: &mut [u8],
     coordinator: &mut [u8],
-) -> Performed
-    ensures { Gives (once (model.put t key columns)) t plain.old book.old coordinator.old result plain.new book.new coordinator.new }
+) -> Result<Performed, Refusal>
+    ensures { Gives (once (model.put t key columns)) t plain.old book.old coordinator.old (in_numbers result) plain.new book.new coordinator.new }
 {
     perform(Request::Put(key, columns), t, plain, book, coordinator)
 }
@@ -161,8 +155,8 @@ pub fn advance(
     plain: &mut [u8],
     book: &mut [u8],
     coordinator: &mut [u8],
-) -> Performed
-    ensures { Gives (once (model.advance t clock)) t plain.old book.old coordinator.old result plain.new book.new coordinator.new }
+) -> Result<Performed, Refusal>
+    ensures { Gives (once (model.advance t clock)) t plain.old book.old coordinator.old (in_numbers result) plain.new book.new coordinator.new }
 {
     perform(Request::Advance(clock), t, plain, book, coordinator)
 }
@@ -174,14 +168,19 @@ pub fn close(
     plain: &mut [u8],
     book: &mut [u8],
     coordinator: &mut [u8],
-) -> Performed
-    ensures { Gives (operations.close t clock limit) t plain.old book.old coordinator.old result plain.new book.new coordinator.new }
+) -> Result<Performed, Refusal>
+    ensures { Gives (operations.close t clock limit) t plain.old book.old coordinator.old (in_numbers result) plain.new book.new coordinator.new }
 {
     perform(Request::Close(clock, limit), t, plain, book, coordinator)
 }
 
-pub fn abort(t: Transaction, plain: &mut [u8], book: &mut [u8], coordinator: &mut [u8]) -> Performed
-    ensures { Gives (once (model.abort t)) t plain.old book.old coordinator.old result plain.new book.new coordinator.new }
+pub fn abort(
+    t: Transaction,
+    plain: &mut [u8],
+    book: &mut [u8],
+    coordinator: &mut [u8],
+) -> Result<Performed, Refusal>
+    ensures { Gives (once (model.abort t)) t plain.old book.old coordinator.old (in_numbers result) plain.new book.new coordinator.new }
 {
     perform(Request::Abort, t, plain, book, coordinator)
 }
@@ -193,13 +192,10 @@ pub fn visit(
     plain: &mut [u8],
     book: &mut [u8],
     coordinator: &mut [u8],
-) -> Visited
-    ensures { GivesAs visited_in (once (model.visit key clock)) plain.old book.old coordinator.old result plain.new book.new coordinator.new }
+) -> Result<Recovery, Refusal>
+    ensures { GivesAs to_visited (once (model.visit key clock)) plain.old book.old coordinator.old (in_numbers result) plain.new book.new coordinator.new }
 {
-    let refused = forms_refusal(plain, book, coordinator);
-    if refused != 0 {
-        return visits::refusal(refused);
-    }
+    check_forms(plain, book, coordinator)?;
     let p = front_end(plain, PLAIN_BYTES);
     let b = front_end(book, BOOKKEEPING_BYTES);
     two_sheets::visit(key, clock, &mut plain[..p], &mut book[..b], coordinator)

@@ -12,7 +12,6 @@ use Rattle.model.specs.TwoSheets.{plain_bytes, bookkeeping_bytes}
 
 -- the last byte of a line
 pub end_byte : (p : List ℕ) (i : ℕ) → i * plain_bytes + plain_bytes ≤ length p → eq_list (drop 38 (take plain_bytes (drop (i * plain_bytes) p))) (10 ∷ []) ≡ eqb (get_or p (i * plain_bytes + 38) 0) 10
-unfolding eq_list
 end_byte p i h =
     let l = take plain_bytes (drop (i * plain_bytes) p) in
     let n : length l ≡ plain_bytes = simp (length-take, length-drop) (omega arith) in

@@ -3,7 +3,7 @@ use Rattle.std.specs.Prelude.{◌≡◌, ◌+◌, ◌*◌, ◌/◌, ◌≤◌, �
 use Rattle.std.proofs.Common.{◌∙◌}
 use Rattle.lists.specs.Basics.{refl, sym, ap, ℕ, eqb, Bool, true, false, not, true≢false, List, [], length, arith}
 use Rattle.lists.specs.Basics.{ne_eqb, all, choose_by, cond}
-use Rattle.model.specs.Types.{Key, Rank, Ranked, At}
+use Rattle.model.specs.Types.{Key, Rank, Ranked, Some}
 use Rattle.model.specs.Records.{records, records_accepted, key_in_range, found, is_missing, ranked}
 use Rattle.model.specs.Refusals.{Condition, refuse, refusal_of}
 use Rattle.model.specs.SheetCalls.{told_rank, line_among}
@@ -19,7 +19,7 @@ use Rattle.two_check.specs.Areas.{joined_size}
 pub record Ranks (line : Bool) (ps bs : List ℕ) (k : Key) (r : Ranked) : Type 0 where
   pub told : r ≡ cond line (line_full ps bs k) (rank_full ps bs k)
   pub few : r.rank.below ≤ 500
-  pub at : line ≡ true → r.refusal ≡ 0 → found k (records (joined_sheet ps bs)) ≡ At r.rank.below
+  pub at : line ≡ true → r.refusal ≡ 0 → found k (records (joined_sheet ps bs)) ≡ Some r.rank.below
   pub fits : line ≡ true → r.refusal ≡ 0 → (r.rank.below * plain_bytes + plain_bytes ≤ length ps) × (r.rank.below * bookkeeping_bytes + bookkeeping_bytes ≤ length bs)
 
 module _ (ps bs : List ℕ) (k : Key) where

@@ -1,12 +1,12 @@
 -- What a call on two sheets comes to: refused by what is asked of the sheets, or the call on what they say when joined, split where it is accepted.
-use Rattle.std.specs.Prelude.{◌≡◌, ◌*◌, ◌/◌}
+use Rattle.std.specs.Prelude.{◌≡◌, ◌*◌, ◌/◌, Result as Either, Ok, Err}
 use Rattle.std.proofs.Common.{◌∙◌}
 use Rattle.lists.specs.Basics.{refl, sym, ap, subst, ℕ, List, length, take, length-take, arith, eqb-true}
-use Rattle.model.specs.Types.{Key, Transaction, Request}
+use Rattle.model.specs.Types.{Key, Transaction, Recovery, Request}
 use Rattle.model.specs.Layouts.{record_bytes}
 use Rattle.model.specs.Refusals.{refusal_of}
 use Rattle.model.specs.Writes.{Sheets}
-use Rattle.model.specs.Results.{Answer, Response, Result, refused, made, visit}
+use Rattle.model.specs.Results.{Answer, held_after, Response, Result, refused, made, visit}
 use Rattle.model.specs.Calls.{result_of}
 use Rattle.model.specs.ByteCalls.{sheets_of}
 use Rattle.model.specs.Operations.{Operation, once, settled, response, records_left, coordinator_left}
@@ -20,8 +20,8 @@ use Rattle.call_laws.specs.Operations.{response_sound, settled_lines, settled-de
 use Rattle.two_laws.specs.Encoding.{Joined, passing_joined, on_passing_full}
 use Rattle.two_join.specs.Agrees.{same_counts}
 use Rattle.answers.specs.declared.Performed.{Performed}
-use Rattle.answers.specs.declared.Visited.{Visited}
-use Rattle.answers.specs.Answers.{to_performed, visited_in, to_visited}
+use Rattle.answers.specs.Answers.{replied, said, to_performed, to_visited}
+use Rattle.answers.specs.Outcomes.{ok_not_err}
 use Rattle.two_check.specs.Areas.{two, joined_size, JoinedIn}
 
 -- sheets that pass, and beside them the joined one
@@ -41,24 +41,17 @@ GivesAs to o ps bs cs r ps' bs' cs' =
     × ((ps' ≡ full_plain_left ps (response_full o (two ps bs cs)))
     × ((bs' ≡ full_bookkeeping_left bs (response_full o (two ps bs cs))) × (cs' ≡ coordinator_left cs (response_full o (two ps bs cs)))))
 
+-- what is made of an accepted answer, of a transaction
+abbrev pub performing : Transaction → Answer → Performed
+performing t a = record { reply = replied a; transaction = held_after t a }
+
 -- those of an operation, of a transaction
-abbrev pub Gives : Operation → Transaction → List ℕ → List ℕ → List ℕ → Performed → List ℕ → List ℕ → List ℕ → Type 0
+abbrev pub Gives : Operation → Transaction → List ℕ → List ℕ → List ℕ → Either Performed ℕ → List ℕ → List ℕ → List ℕ → Type 0
 Gives o t ps bs cs r ps' bs' cs' = GivesAs (to_performed t) o ps bs cs r ps' bs' cs'
 
 -- those of what is asked
-abbrev pub Performs : Request → Transaction → List ℕ → List ℕ → List ℕ → Performed → List ℕ → List ℕ → List ℕ → Type 0
+abbrev pub Performs : Request → Transaction → List ℕ → List ℕ → List ℕ → Either Performed ℕ → List ℕ → List ℕ → List ℕ → Type 0
 Performs q t ps bs cs r ps' bs' cs' = Gives (operation_of q t) t ps bs cs r ps' bs' cs'
-
--- an answer that has its refusal, or 0
-pub record Telling {A : Type 0} (to : Response Answer Sheets → A) (refusal : A → ℕ) : Type 0 where
-  pub no : (n : ℕ) → refusal (to (refused n)) ≡ n
-  pub yes : (a : Answer) (s : Sheets) → refusal (to (made a s)) ≡ 0
-
-pub performed_tells : (t : Transaction) → Telling (to_performed t) (λ (x : Performed). x.refusal)
-performed_tells t = record { no = λ n. refl; yes = λ a s. refl }
-
-pub visited_tells : Telling visited_in (λ (x : Visited). x.refusal)
-visited_tells = record { no = λ n. refl; yes = λ a s. refl }
 
 module _ (ps bs cs area : List ℕ) (a : OnJoined ps bs cs area) where
   joins : Joined (two ps bs cs)
@@ -77,11 +70,15 @@ module _ (ps bs cs area : List ℕ) (a : OnJoined ps bs cs area) where
       let c = same_counts ps bs joins.lines.agree in
       omega arith
 
-module _ {A : Type 0} (to : Response Answer Sheets → A) (o : Operation) (ps bs cs : List ℕ) where
+-- an answer is a refusal, or what is made so of an accepted one
+module _ {A : Type 0} (f : Answer → A) (o : Operation) (ps bs cs : List ℕ) where
+  abbrev to : Response Answer Sheets → Either A ℕ
+  to r = said f r
+
   abbrev given : Response Answer Sheets
   given = response_full o (two ps bs cs)
 
-  pub sheets_refused : {r : A} (n : ℕ) → n ≡ refusal_of (full_conditions ps bs cs) → (n ≡ 0 → ⊥) → r ≡ to (refused n) → GivesAs to o ps bs cs r ps bs cs
+  pub sheets_refused : {r : Either A ℕ} (n : ℕ) → n ≡ refusal_of (full_conditions ps bs cs) → (n ≡ 0 → ⊥) → r ≡ Err n → GivesAs to o ps bs cs r ps bs cs
   unfolding response_full full_plain_left full_bookkeeping_left coordinator_left
   sheets_refused n e z h =
       let x : given ≡ refused n = unless-held (full_conditions ps bs cs) (response o (saying_full (two ps bs cs))) n (sym e) z in
@@ -93,9 +90,9 @@ module _ {A : Type 0} (to : Response Answer Sheets → A) (o : Operation) (ps bs
     same = on_passing_full (two ps bs cs) (response o) a.passes ∙ ap (λ (x : List ℕ). response o (sheets_of x cs)) (sym a.joined)
 
     -- what the call on the joined sheet left
-    module _ (refusal : A → ℕ) (tells : Telling to refusal) (r : A) (area' cs' : List ℕ) (said : r ≡ to (response o (sheets_of area cs)))
+    module _ (r : Either A ℕ) (area' cs' : List ℕ) (said : r ≡ to (response o (sheets_of area cs)))
         (lines : area' ≡ records_left area (response o (sheets_of area cs))) (decisions : cs' ≡ coordinator_left cs (response o (sheets_of area cs))) where
-      pub nothing_split : (refusal r ≡ 0 → ⊥) → GivesAs to o ps bs cs r ps bs cs'
+      pub nothing_split : {n : ℕ} → r ≡ Err n → GivesAs to o ps bs cs r ps bs cs'
       nothing_split z = subst Told (sym same) (go (response o (sheets_of area cs)) said decisions)
         where
           Told : Response Answer Sheets → Type 0
@@ -103,26 +100,26 @@ module _ {A : Type 0} (to : Response Answer Sheets → A) (o : Operation) (ps bs
 
           go : (x : Response Answer Sheets) → r ≡ to x → cs' ≡ coordinator_left cs x → Told x
           go (refused n) e d = (e, (unfold full_plain_left in refl, (unfold full_bookkeeping_left in refl, d)))
-          go (made b s) e d = absurd (z (ap refusal e ∙ tells.yes b s))
+          go (made b s) e d = absurd (ok_not_err e z)
 
-      pub both_split : refusal r ≡ 0 → {ps' bs' : List ℕ} → ps' ≡ plain_part area' → bs' ≡ bookkeeping_part area' → GivesAs to o ps bs cs r ps' bs' cs'
+      pub both_split : {x : A} → r ≡ Ok x → {ps' bs' : List ℕ} → ps' ≡ plain_part area' → bs' ≡ bookkeeping_part area' → GivesAs to o ps bs cs r ps' bs' cs'
       both_split z {ps'} {bs'} p b = subst Told (sym same) (go (response o (sheets_of area cs)) (response_sound o (sheets_of area cs)) said lines decisions)
         where
           Told : Response Answer Sheets → Type 0
           Told x = (r ≡ to x) × ((ps' ≡ full_plain_left ps x) × ((bs' ≡ full_bookkeeping_left bs x) × (cs' ≡ coordinator_left cs x)))
 
           go : (x : Response Answer Sheets) → Sound x → r ≡ to x → area' ≡ records_left area x → cs' ≡ coordinator_left cs x → Told x
-          go (refused n) (sound_refused m l k) e f d = absurd (omega (arith, sym (ap refusal e ∙ tells.no n) ∙ z, l))
+          go (refused n) (sound_refused m l k) e f d = absurd (ok_not_err z e)
           go (made c s) k e f d =
               (e, (p ∙ unfold full_plain_left records_left in ap plain_part f, (b ∙ unfold full_bookkeeping_left records_left in ap bookkeeping_part f, d)))
 
 -- A visit on the joined sheet, as the visit of the definitions leaves it.
-module _ (k : Key) (now : ℕ) (rs cs : List ℕ) {r : Visited} {rs' cs' : List ℕ} (h : Outcome to_visited (result_of (visit k now) (sheets_of rs cs)) rs cs r rs' cs') where
-  answered : (x : Result Answer) → visited_in (settled (sheets_of rs cs) x) ≡ to_visited x
+module _ (k : Key) (now : ℕ) (rs cs : List ℕ) {r : Either Recovery ℕ} {rs' cs' : List ℕ} (h : Outcome to_visited (result_of (visit k now) (sheets_of rs cs)) rs cs r rs' cs') where
+  answered : (x : Result Answer) → to_visited (settled (sheets_of rs cs) x) ≡ to_visited x
   answered (refused n) = refl
   answered (made a w) = refl
 
-  pub visit_said : r ≡ visited_in (response (once (visit k now)) (sheets_of rs cs))
+  pub visit_said : r ≡ to_visited (response (once (visit k now)) (sheets_of rs cs))
   unfolding response
   visit_said = h.said ∙ sym (answered (result_of (visit k now) (sheets_of rs cs)))
 

@@ -3,48 +3,31 @@
 #![tactic(auto)]
 
 ghost use Rattle.std.specs.Prelude.{◌≡◌, length};
-ghost use Rattle.model.specs.Refusals.{refusal_of};
+ghost use Rattle.model.specs.Refusals.{refusal_of, refused_with};
 ghost use Rattle.model.specs.TwoSheets.{full_conditions};
 ghost use Rattle.model.specs.Results as model;
 ghost use Rattle.model.specs.Operations.{once, coordinator_left};
 ghost use Rattle.model.specs.Requests.{operation_of};
 ghost use Rattle.model.specs.FullCalls.{response_full, full_plain_left, full_bookkeeping_left};
-ghost use Rattle.answers.specs.Answers.{to_performed, visited_in};
+ghost use Rattle.answers.specs.Answers.{in_numbers, to_performed, to_visited};
 ghost use Rattle.two_check.specs.Areas.{two, Rooms};
 ghost use Rattle.two_sheets.specs.Performing.{OnJoined, GivesAs, Performs};
 
 pub mod lookup;
 
-use answers::{Performed, Visited};
+use answers::Performed;
 use two_join::PLAIN_BYTES;
-use types::{Key, RECORD_BYTES, Request, Transaction};
+use types::{Key, RECORD_BYTES, Recovery, Refusal, Request, Transaction};
 
-// The check in the smallest area that has room.
-fn check_in_area(plain: &[u8], book: &[u8], coordinator: &[u8]) -> u32
-    ensures { result ≡ refusal_of (full_conditions plain.now book.now coordinator.now) }
+// Refused with 1, 2 or 13.
+pub fn check(plain: &[u8], book: &[u8], coordinator: &[u8]) -> Result<(), Refusal>
+    ensures { refused_with result ≡ refusal_of (full_conditions plain.now book.now coordinator.now) }
 {
-    if two_check::within(50, plain, book) {
-        let mut area = two_check::blank_50();
-        return two_check::join_checked(plain, book, coordinator, &mut area);
-    }
-    if two_check::within(100, plain, book) {
-        let mut area = two_check::blank_100();
-        return two_check::join_checked(plain, book, coordinator, &mut area);
-    }
-    if two_check::within(250, plain, book) {
-        let mut area = two_check::blank_250();
-        return two_check::join_checked(plain, book, coordinator, &mut area);
-    }
-    let mut area = two_check::blank_500();
-    two_check::join_checked(plain, book, coordinator, &mut area)
-}
-
-// 0 where the sheets are accepted, else the refusal: 1, 2 or 13. It only asks another function: where the compiler takes that one in, its areas share one place
-// on the stack (`make stack`), and so it is with `search`.
-pub fn check(plain: &[u8], book: &[u8], coordinator: &[u8]) -> u32
-    ensures { result ≡ refusal_of (full_conditions plain.now book.now coordinator.now) }
-{
-    check_in_area(plain, book, coordinator)
+    two_check::in_area(
+        plain.len(),
+        book.len(),
+        &mut |area: &mut [u8]| { two_check::join_checked(plain, book, coordinator, area) },
+    )
 }
 
 // What is asked, on both sheets joined in the area. An accepted call goes to both.
@@ -55,16 +38,14 @@ fn on_joined(
     book: &mut [u8],
     coordinator: &mut [u8],
     area: &mut [u8],
-) -> Performed
+) -> Result<Performed, Refusal>
     requires { OnJoined plain.old book.old coordinator.old area.old }
-    ensures { Performs request t plain.old book.old coordinator.old result plain.new book.new coordinator.new }
+    ensures { Performs request t plain.old book.old coordinator.old (in_numbers result) plain.new book.new coordinator.new }
 {
-    let performed = perform::perform(request, t, area, coordinator);
-    if performed.refusal == 0 {
-        two_join::split_plain(area, plain);
-        two_join::split_bookkeeping(area, book);
-    }
-    performed
+    let performed = perform::perform(request, t, area, coordinator)?;
+    two_join::split_plain(area, plain);
+    two_join::split_bookkeeping(area, book);
+    Ok(performed)
 }
 
 // The same with the area to be filled.
@@ -75,14 +56,11 @@ fn on_area(
     book: &mut [u8],
     coordinator: &mut [u8],
     area: &mut [u8],
-) -> Performed
+) -> Result<Performed, Refusal>
     requires { Rooms plain.old book.old (length area.old) }
-    ensures { Performs request t plain.old book.old coordinator.old result plain.new book.new coordinator.new }
+    ensures { Performs request t plain.old book.old coordinator.old (in_numbers result) plain.new book.new coordinator.new }
 {
-    let refused = two_check::join_checked(plain, book, coordinator, area);
-    if refused != 0 {
-        return reads::refusal(refused, t);
-    }
+    two_check::join_checked(plain, book, coordinator, area)?;
     let n = plain.len() / PLAIN_BYTES * RECORD_BYTES;
     on_joined(request, t, plain, book, coordinator, &mut area[..n])
 }
@@ -94,26 +72,18 @@ pub fn perform(
     plain: &mut [u8],
     book: &mut [u8],
     coordinator: &mut [u8],
-) -> Performed
-    ensures answer { result ≡ to_performed t (response_full (operation_of request t) (two plain.old book.old coordinator.old)) }
+) -> Result<Performed, Refusal>
+    ensures answer { in_numbers result ≡ to_performed t (response_full (operation_of request t) (two plain.old book.old coordinator.old)) }
     ensures plain { plain.new ≡ full_plain_left plain.old (response_full (operation_of request t) (two plain.old book.old coordinator.old)) }
     ensures bookkeeping { book.new ≡ full_bookkeeping_left book.old (response_full (operation_of request t) (two plain.old book.old coordinator.old)) }
     ensures decisions { coordinator.new ≡ coordinator_left coordinator.old (response_full (operation_of request t) (two plain.old book.old coordinator.old)) }
 {
-    if two_check::within(50, plain, book) {
-        let mut area = two_check::blank_50();
-        return on_area(request, t, plain, book, coordinator, &mut area);
-    }
-    if two_check::within(100, plain, book) {
-        let mut area = two_check::blank_100();
-        return on_area(request, t, plain, book, coordinator, &mut area);
-    }
-    if two_check::within(250, plain, book) {
-        let mut area = two_check::blank_250();
-        return on_area(request, t, plain, book, coordinator, &mut area);
-    }
-    let mut area = two_check::blank_500();
-    on_area(request, t, plain, book, coordinator, &mut area)
+    let lengths = (plain.len(), book.len());
+    two_check::in_area(
+        lengths.0,
+        lengths.1,
+        &mut |area: &mut [u8]| { on_area(request, t, plain, book, coordinator, area) },
+    )
 }
 
 // The visit on both sheets joined in the area. It takes no transaction, which `perform` would hand on and back.
@@ -124,16 +94,14 @@ fn visit_joined(
     book: &mut [u8],
     coordinator: &mut [u8],
     area: &mut [u8],
-) -> Visited
+) -> Result<Recovery, Refusal>
     requires { OnJoined plain.old book.old coordinator.old area.old }
-    ensures { GivesAs visited_in (once (model.visit key clock)) plain.old book.old coordinator.old result plain.new book.new coordinator.new }
+    ensures { GivesAs to_visited (once (model.visit key clock)) plain.old book.old coordinator.old (in_numbers result) plain.new book.new coordinator.new }
 {
-    let visited = visits::visit(key, clock, area, coordinator);
-    if visited.refusal == 0 {
-        two_join::split_plain(area, plain);
-        two_join::split_bookkeeping(area, book);
-    }
-    visited
+    let met = visits::visit(key, clock, area, coordinator)?;
+    two_join::split_plain(area, plain);
+    two_join::split_bookkeeping(area, book);
+    Ok(met)
 }
 
 // The same with the area to be filled.
@@ -144,14 +112,11 @@ fn visit_area(
     book: &mut [u8],
     coordinator: &mut [u8],
     area: &mut [u8],
-) -> Visited
+) -> Result<Recovery, Refusal>
     requires { Rooms plain.old book.old (length area.old) }
-    ensures { GivesAs visited_in (once (model.visit key clock)) plain.old book.old coordinator.old result plain.new book.new coordinator.new }
+    ensures { GivesAs to_visited (once (model.visit key clock)) plain.old book.old coordinator.old (in_numbers result) plain.new book.new coordinator.new }
 {
-    let refused = two_check::join_checked(plain, book, coordinator, area);
-    if refused != 0 {
-        return visits::refusal(refused);
-    }
+    two_check::join_checked(plain, book, coordinator, area)?;
     let n = plain.len() / PLAIN_BYTES * RECORD_BYTES;
     visit_joined(key, clock, plain, book, coordinator, &mut area[..n])
 }
@@ -162,21 +127,13 @@ pub fn visit(
     plain: &mut [u8],
     book: &mut [u8],
     coordinator: &mut [u8],
-) -> Visited
-    ensures { GivesAs visited_in (once (model.visit key clock)) plain.old book.old coordinator.old result plain.new book.new coordinator.new }
+) -> Result<Recovery, Refusal>
+    ensures { GivesAs to_visited (once (model.visit key clock)) plain.old book.old coordinator.old (in_numbers result) plain.new book.new coordinator.new }
 {
-    if two_check::within(50, plain, book) {
-        let mut area = two_check::blank_50();
-        return visit_area(key, clock, plain, book, coordinator, &mut area);
-    }
-    if two_check::within(100, plain, book) {
-        let mut area = two_check::blank_100();
-        return visit_area(key, clock, plain, book, coordinator, &mut area);
-    }
-    if two_check::within(250, plain, book) {
-        let mut area = two_check::blank_250();
-        return visit_area(key, clock, plain, book, coordinator, &mut area);
-    }
-    let mut area = two_check::blank_500();
-    visit_area(key, clock, plain, book, coordinator, &mut area)
+    let lengths = (plain.len(), book.len());
+    two_check::in_area(
+        lengths.0,
+        lengths.1,
+        &mut |area: &mut [u8]| { visit_area(key, clock, plain, book, coordinator, area) },
+    )
 }

@@ -1,72 +1,59 @@
 // Where a key stands on both sheets.
-ghost use Rattle.std.specs.Prelude.{◌≡◌, true, ◌≤◌, length};
+ghost use Rattle.std.specs.Prelude.{◌≡◌, true, false, ◌≤◌, length};
+ghost use Rattle.model.specs.Told.{ranked_by};
 ghost use Rattle.model.specs.TwoSheets.{rank_full};
 ghost use Rattle.two_check.specs.Areas.{Rooms};
 ghost use Rattle.two_sheets.specs.Lookups.{Ranks};
 
-use sheets::lookup::no_rank;
+use codec::keys::key_in_range;
 use two_join::PLAIN_BYTES;
-use types::{Key, RECORD_BYTES, Ranked};
+use types::{Key, RECORD_BYTES, Rank, Refusal};
 
-// Where the key stands on the joined sheet, or, if its line is asked for, which it is, 6 where it has none.
-fn search_in(line: bool, plain: &[u8], book: &[u8], key: Key, area: &mut [u8]) -> Ranked
+// Where the key stands on the sheet joined in the area.
+fn rank_in(plain: &[u8], book: &[u8], key: Key, area: &mut [u8]) -> Result<Rank, Refusal>
     requires { Rooms plain.now book.now (length area.old) }
-    ensures { Ranks line plain.now book.now key result }
+    ensures { Ranks false plain.now book.now key (ranked_by result) }
 {
-    let refused = two_check::lines_refusal(plain, book, area);
-    if refused != 0 {
-        return no_rank(refused);
-    }
-    if !codec::keys::key_in_range(key) {
-        return no_rank(5);
+    two_check::join_lines(plain, book, area)?;
+    if !key_in_range(key) {
+        return Err(Refusal::BadKey);
     }
     let n = plain.len() / PLAIN_BYTES * RECORD_BYTES;
-    if line {
-        return sheets::lookup::line(&area[..n], key);
-    }
-    Ranked {
-        refusal: 0,
-        rank: sheets::lookup::rank(&area[..n], key),
-    }
+    Ok(sheets::lookup::rank(&area[..n], key))
 }
 
-// The same in the smallest area that has room.
-fn search_in_area(line: bool, plain: &[u8], book: &[u8], key: Key) -> Ranked
-    ensures { Ranks line plain.now book.now key result }
+// Which line of it has the key.
+fn line_in(plain: &[u8], book: &[u8], key: Key, area: &mut [u8]) -> Result<Rank, Refusal>
+    requires { Rooms plain.now book.now (length area.old) }
+    ensures { Ranks true plain.now book.now key (ranked_by result) }
 {
-    if two_check::within(50, plain, book) {
-        let mut area = two_check::blank_50();
-        return search_in(line, plain, book, key, &mut area);
+    two_check::join_lines(plain, book, area)?;
+    if !key_in_range(key) {
+        return Err(Refusal::BadKey);
     }
-    if two_check::within(100, plain, book) {
-        let mut area = two_check::blank_100();
-        return search_in(line, plain, book, key, &mut area);
-    }
-    if two_check::within(250, plain, book) {
-        let mut area = two_check::blank_250();
-        return search_in(line, plain, book, key, &mut area);
-    }
-    let mut area = two_check::blank_500();
-    search_in(line, plain, book, key, &mut area)
-}
-
-fn search(line: bool, plain: &[u8], book: &[u8], key: Key) -> Ranked
-    ensures { Ranks line plain.now book.now key result }
-{
-    search_in_area(line, plain, book, key)
+    let n = plain.len() / PLAIN_BYTES * RECORD_BYTES;
+    sheets::lookup::line(&area[..n], key)
 }
 
 // The look-up's companion: how many lines have smaller keys, the same on both sheets, and whether the key has a line itself.
-pub fn rank_of(plain: &[u8], book: &[u8], key: Key) -> Ranked
-    ensures told { result ≡ rank_full plain.now book.now key }
-    ensures few { result.rank.below ≤ 500 }
+pub fn rank_of(plain: &[u8], book: &[u8], key: Key) -> Result<Rank, Refusal>
+    ensures told { ranked_by result ≡ rank_full plain.now book.now key }
+    ensures few { (ranked_by result).rank.below ≤ 500 }
 {
-    search(false, plain, book, key)
+    two_check::in_area(
+        plain.len(),
+        book.len(),
+        &mut |area: &mut [u8]| { rank_in(plain, book, key, area) },
+    )
 }
 
 // Which line has the key, the same on both sheets: its index, or the look-up's refusal, 6 where no line has it.
-pub fn line_of(plain: &[u8], book: &[u8], key: Key) -> Ranked
-    ensures { Ranks true plain.now book.now key result }
+pub fn line_of(plain: &[u8], book: &[u8], key: Key) -> Result<Rank, Refusal>
+    ensures { Ranks true plain.now book.now key (ranked_by result) }
 {
-    search(true, plain, book, key)
+    two_check::in_area(
+        plain.len(),
+        book.len(),
+        &mut |area: &mut [u8]| { line_in(plain, book, key, area) },
+    )
 }

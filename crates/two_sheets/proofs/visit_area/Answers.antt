@@ -1,30 +1,15 @@
 -- Refused by what is asked of the sheets, or the visit on both joined.
 use Rattle.std.proofs.Common.{◌∙◌}
-use Rattle.lists.specs.Basics.{sym, length-take, arith}
+use Rattle.lists.specs.Basics.{sym, ap}
 use Rattle.model.specs.Results as model
 use Rattle.model.specs.Operations.{once}
-use Rattle.answers.specs.Answers.{visited_in}
-use Rattle.two_sheets.specs.Performing.{on_joined, sheets_refused}
+use Rattle.answers.specs.Answers.{in_numbers, recovery_in}
+use Rattle.answers.specs.Outcomes.{passed_up, refused_by}
+use Rattle.two_sheets.specs.Performing.{sheets_refused}
 use Rattle.two_sheets.proofs.visit_area.Goals as goal
 
-pub returns-then-refused-ne0 : goal.returns-then-refused-ne0
-returns-then-refused-ne0 c =
+pub returns-in_err-join_checked : goal.returns-in_err-join_checked
+returns-in_err-join_checked c =
     let a = c.args in
-    sheets_refused visited_in (once (model.visit a.key a.clock)) a.plain.now a.book.now a.coordinator.now _ c.join_checked-refused.ensures.answer c.if-refused-ne0.true c.refusal.ensures
-
-pub overflow_mul-n : goal.overflow_mul-n
-overflow_mul-n c =
-    omega (arith, (c.join_checked-refused.ensures.joined c.if-refused-ne0.false).fits, c.join_checked-refused.auto.area)
-
-pub slice_bounds-visit_joined-end : goal.slice_bounds-visit_joined-end
-slice_bounds-visit_joined-end c =
-    omega (arith, (c.join_checked-refused.ensures.joined c.if-refused-ne0.false).fits, c.join_checked-refused.auto.area)
-
-pub slice_bounds-visit_joined-end-2 : goal.slice_bounds-visit_joined-end-2
-slice_bounds-visit_joined-end-2 c =
-    simp length-take (omega (arith, (c.join_checked-refused.ensures.joined c.if-refused-ne0.false).fits, c.join_checked-refused.auto.area))
-
-pub visit_joined-requires : goal.visit_joined-requires
-visit_joined-requires c =
-    let a = c.args in
-    on_joined a.plain.now a.book.now a.coordinator.now _ (sym c.join_checked-refused.ensures.answer ∙ c.if-refused-ne0.false) (c.join_checked-refused.ensures.joined c.if-refused-ne0.false)
+    let no = refused_by c.join_checked.ensures.answer c.in_err-join_checked.was in
+    sheets_refused recovery_in (once (model.visit a.key a.clock)) a.plain.now a.book.now a.coordinator.now _ no.0 (λ z. no.1 (sym no.0 ∙ z)) (ap in_numbers (passed_up c.from_residual.ensures.1))

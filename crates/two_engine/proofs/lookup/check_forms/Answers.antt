@@ -2,7 +2,7 @@
 use Rattle.std.proofs.Common.{◌∙◌}
 use Rattle.lists.specs.Basics.{sym, [], arith}
 use Rattle.two_engine.specs.Forms.{plain_unsized, bookkeeping_unsized, as_many_lem, apart-told}
-use Rattle.two_engine.proofs.lookup.forms_refusal.Goals as goal
+use Rattle.two_engine.proofs.lookup.check_forms.Goals as goal
 
 pub is_sized-requires : goal.is_sized-requires
 is_sized-requires c =

@@ -4,7 +4,7 @@ use Rattle.lists.specs.Basics.{sym, take, length-take, arith}
 use Rattle.model.specs.TwoSheets.{plain_bytes}
 use Rattle.lists.specs.Fill.{front_length}
 use Rattle.two_check.specs.Areas.{joined_size, front_is, joined_sizes, lines_differ, lines_many, lines_bad, lines_good}
-use Rattle.two_check.proofs.lines_refusal.Goals as goal
+use Rattle.two_check.proofs.join_lines.Goals as goal
 
 pub returns-then-not-agree : goal.returns-then-not-agree
 returns-then-not-agree c =
