@@ -1,10 +1,8 @@
 // Prints what the companion of the close gives for 1 to 8 puts: both sheets, and what the close of its transaction on them reports.
 #![tactic(auto)]
 
-ghost use Rattle.std.specs.Prelude.{◌≤◌};
-
 use std::io::{Eprint, Print};
-use types::{LEAST_COORDINATOR_BYTES, RECORD_BYTES};
+use types::{LEAST_COORDINATOR_BYTES, RECORD_BYTES, Refusal};
 
 // Lines for the most puts that a transaction has.
 const MOST_BYTES: usize = RECORD_BYTES * 8;
@@ -15,40 +13,37 @@ const LIMIT: u32 = 17;
 // A word, a space and a number.
 fn told(rt: &(impl Print + Eprint), word: &[u8], v: u32) {
     let mut digits = [0u8; 20];
-    let k = io::decimal(v as u64, &mut digits);
+    let k = io::decimal(u64::from(v), &mut digits);
     streams::write(rt, word);
     streams::write(rt, b" ");
     streams::write(rt, &digits[..k]);
 }
 
-// What the companion gives over both targets, and what is told of the close.
-fn close(rt: &(impl Print + Eprint), count: u32, records: &mut [u8], coordinator: &mut [u8]) {
-    let given = greatest::greatest(count, records, coordinator);
+// What the companion gives over both targets, and what is told of the close. Neither is refused: the companion is asked for 1 to 8 puts, and gives what a close takes.
+fn close(
+    rt: &(impl Print + Eprint),
+    count: u32,
+    records: &mut [u8],
+    coordinator: &mut [u8],
+) -> Result<(), Refusal> {
+    let t = greatest::greatest(count, records, coordinator)?;
     told(rt, b"puts", count);
     streams::write(rt, b"\n");
     streams::write(rt, coordinator);
     streams::write(rt, records);
-    let t = given.transaction;
-    let closed = engine::close(t, 0, LIMIT, records, coordinator);
+    let closed = engine::close(t, 0, LIMIT, records, coordinator)?;
     told(rt, b"writes", closed.writes);
     told(rt, b" phase", closed.transaction.phase);
     told(rt, b" verdict", closed.transaction.verdict);
     streams::write(rt, b"\n");
-}
-
-// One row: `size` is what so many lines take.
-fn row(rt: &(impl Print + Eprint), count: u32, size: usize)
-    requires { size ≤ 864 }
-{
-    let mut records = [0u8; MOST_BYTES];
-    let mut coordinator = [0u8; LEAST_COORDINATOR_BYTES];
-    close(rt, count, &mut records[..size], &mut coordinator);
+    Ok(())
 }
 
 fn main(rt: HostRuntime) {
-    let mut size = 0;
-    for count in 1..9 {
-        size = size + RECORD_BYTES;
-        row(&rt, count, size);
+    for count in 1..=8u32 {
+        let mut records = [0u8; MOST_BYTES];
+        let mut coordinator = [0u8; LEAST_COORDINATOR_BYTES];
+        let size = count as usize * RECORD_BYTES;
+        let _ = close(&rt, count, &mut records[..size], &mut coordinator);
     }
 }

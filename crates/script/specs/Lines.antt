@@ -1,11 +1,11 @@
 -- What a line of a history says (docs/REPLAY.md): words parted by single spaces, the first of them the call's name or `sheets`, the others its numbers. And
 -- what reading it byte by byte tells of that.
-use Rattle.std.specs.Prelude.{◌≡◌, ◌+◌, ◌*◌, ◌≤◌, ◌<◌, ◌&&◌, ◌∷◌}
+use Rattle.std.specs.Prelude.{◌≡◌, ◌+◌, ◌≤◌, ◌<◌, ◌&&◌, ◌∷◌, Option, None, Some, not, find, position}
+use Rattle.std.specs.Option.{unwrap_or, option_map}
+use Rattle.std.specs.List.{position_or_len}
 use Rattle.std.proofs.Common.{◌∙◌}
-use Rattle.lists.specs.Basics.{refl, sym, ap, ap₂, ℕ, suc, eqb, leb, Bool, true, false, cond, List, [], length, take, drop}
-use Rattle.lists.specs.Basics.{get_or, set, replicate, drop_of_length-le, drop-drop, drop-cons, arith, add-one, eq-eqb, ne_eqb, eq_list, bytes}
-use Rattle.decimal.specs.declared.Scan.{Scan}
-use Rattle.decimal.specs.declared.Scan.TheVariants.{Blank, Number, Wrong}
+use Rattle.lists.specs.Basics.{refl, sym, ap, ap₂, ℕ, eqb, leb, ltb, ltb-false, Bool, true, false, cond, List, [], length, take, drop}
+use Rattle.lists.specs.Basics.{set, replicate, drop_of_length-le, drop-drop, drop-cons, arith, add-one, eq_list, bytes}
 use Rattle.decimal.specs.Field.{figure}
 use Rattle.script.specs.declared.scan.Command.{Command}
 use Rattle.script.specs.declared.scan.Kind.{Kind}
@@ -21,10 +21,6 @@ entry_numbers = 13
 -- in the longest line, which sets an entry: its slot, its place and its numbers
 abbrev pub line_numbers : ℕ
 line_numbers = 2 + entry_numbers
-
--- in the longest reply, which shows a transaction: six of its own, and those of its eight entries
-abbrev pub reply_numbers : ℕ
-reply_numbers = 6 + 8 * entry_numbers
 
 -- The words.
 
@@ -71,26 +67,55 @@ call_kind w =
 unfoldable pub kind_of : Bool → List ℕ → Kind
 kind_of two w = cond (eq_list w (bytes "sheets")) Sheets (cond (two && eq_list w (bytes "second")) Second (call_kind w))
 
-module _ (a b c d : Bool) (k l m n other : Kind) where
-  pub first_named_lem : a ≡ true → k ≡ first_named a k b l c m d n other
-  unfolding first_named
-  first_named_lem e = rw e
+-- the word that asks for it
+unfoldable pub name : Kind → List ℕ
+name Check = bytes "check"
+name Begin = bytes "begin"
+name Read = bytes "read"
+name Second = bytes "second"
+name Put = bytes "put"
+name Advance = bytes "advance"
+name Close = bytes "close"
+name Abort = bytes "abort"
+name Visit = bytes "visit"
+name Lookup = bytes "lookup"
+name Line = bytes "line"
+name Add = bytes "add"
+name Remove = bytes "remove"
+name Show = bytes "show"
+name Set = bytes "set"
+name Entry = bytes "entry"
+name Sheets = bytes "sheets"
+name BadLine = []
 
-  pub second-named : a ≡ false → b ≡ true → l ≡ first_named a k b l c m d n other
-  unfolding first_named
-  second-named e f = rw (e, f)
+-- whether it is asked for by this word, on the joined sheet or on two
+abbrev pub asks : Bool → List ℕ → Kind → Bool
+asks two w Second = two && eq_list w (name Second)
+asks two w k = eq_list w (name k)
 
-  pub third-named : a ≡ false → b ≡ false → c ≡ true → m ≡ first_named a k b l c m d n other
-  unfolding first_named
-  third-named e f g = rw (e, f, g)
+-- all that a word may ask for
+abbrev pub named : List Kind
+named =
+    Sheets ∷ Second ∷ Check ∷ Visit ∷ Lookup ∷ Line ∷ Add ∷ Remove ∷ Begin ∷ Read ∷ Put ∷ Advance ∷ Abort ∷ Show ∷ Set ∷ Entry ∷ Close ∷ []
 
-  pub fourth-named : a ≡ false → b ≡ false → c ≡ false → d ≡ true → n ≡ first_named a k b l c m d n other
-  unfolding first_named
-  fourth-named e f g h = rw (e, f, g, h)
+-- the first of them that passes, or a bad line
+first_of : (Kind → Bool) → List Kind → Kind
+first_of p [] = BadLine
+first_of p (k ∷ ks) = cond (p k) k (first_of p ks)
 
-  pub none_named : a ≡ false → b ≡ false → c ≡ false → d ≡ false → other ≡ first_named a k b l c m d n other
-  unfolding first_named
-  none_named e f g h = rw (e, f, g, h)
+unwrap_or-find : (p : Kind → Bool) (ks : List Kind) → unwrap_or (find p ks) BadLine ≡ first_of p ks
+unfolding first_of
+unwrap_or-find p [] = refl
+unwrap_or-find p (k ∷ ks) = go (p k) (unwrap_or-find p ks)
+  where
+    go : (b : Bool) → unwrap_or (find p ks) BadLine ≡ first_of p ks → unwrap_or (cond b (Some k) (find p ks)) BadLine ≡ cond b k (first_of p ks)
+    go true h = refl
+    go false h = h
+
+-- the one that is asked for is what the word names
+pub kind_of_named : (two : Bool) (w : List ℕ) → unwrap_or (find (asks two w) named) BadLine ≡ kind_of two w
+unfolding kind_of call_kind shift_kind slot_kind other_slot_kind close_kind first_named name first_of
+kind_of_named two w = unwrap_or-find (asks two w) named
 
 -- where there are two sheets, a look-up says which one's line it asks for
 abbrev pub line_arity : Bool → ℕ
@@ -120,24 +145,25 @@ arity two BadLine = 0
 -- The numbers.
 
 abbrev pub no_numbers : Numbers
-no_numbers = record { good = true; count = 0; values = replicate line_numbers 0 }
+no_numbers = record { count = 0; values = replicate line_numbers 0 }
 
-abbrev pub spoilt : Numbers → Numbers
-spoilt n = record { good = false; count = n.count; values = n.values }
-
--- a word more, by the figure that it holds
-unfoldable pub with_figure : Numbers → Scan → Numbers
-with_figure n Blank = spoilt n
-with_figure n (Number v) = record { good = n.good; count = n.count + 1; values = set n.values n.count v }
-with_figure n Wrong = spoilt n
+-- the numbers with one more
+abbrev pub with_number : Numbers → ℕ → Numbers
+with_number n v = record { count = n.count + 1; values = set n.values n.count v }
 
 -- a word more: it must be a figure of 32 bits, and there must be room for it
-unfoldable pub with_word : Numbers → List ℕ → Numbers
-with_word n w = cond (leb line_numbers n.count) (spoilt n) (with_figure n (figure 0 4294967295 w))
+unfoldable pub with_word : Numbers → List ℕ → Option Numbers
+with_word n w = cond (leb line_numbers n.count) None (option_map (with_number n) (figure 0 4294967295 w))
 
-unfoldable pub with_words : Numbers → List (List ℕ) → Numbers
-with_words n [] = n
-with_words n (w ∷ ws) = with_words (with_word n w) ws
+-- what is done with numbers, if there are any
+abbrev pub and_then : Option Numbers → (Numbers → Option Numbers) → Option Numbers
+and_then None f = None
+and_then (Some n) f = f n
+
+-- all words, unless one is no number or one too many
+unfoldable pub with_words : Numbers → List (List ℕ) → Option Numbers
+with_words n [] = Some n
+with_words n (w ∷ ws) = and_then (with_word n w) (λ m. with_words m ws)
 
 -- The line.
 
@@ -145,8 +171,9 @@ abbrev pub bad_command : Command
 bad_command = record { kind = BadLine; numbers = replicate line_numbers 0 }
 
 -- a call with its numbers, if it has so many
-abbrev pub called : Bool → Kind → Numbers → Command
-called two k n = cond (n.good && eqb n.count (arity two k)) (record { kind = k; numbers = n.values }) bad_command
+abbrev pub called : Bool → Kind → Option Numbers → Command
+called two k None = bad_command
+called two k (Some n) = cond (eqb n.count (arity two k)) (record { kind = k; numbers = n.values }) bad_command
 
 unfoldable pub called_by : Bool → List (List ℕ) → Command
 called_by two [] = bad_command
@@ -155,10 +182,6 @@ called_by two (w ∷ ws) = called two (kind_of two w) (with_words no_numbers ws)
 -- what the line says, on the joined sheet or on two
 abbrev pub said : Bool → List ℕ → Command
 said two line = called_by two (words line)
-
--- by what the two tests say
-pub called_by_lem : (two : Bool) (k : Kind) (n : Numbers) (b d : Bool) → n.good ≡ b → eqb n.count (arity two k) ≡ d → cond (b && d) (record { kind = k; numbers = n.values }) bad_command ≡ called two k n
-called_by_lem two k n b d e f = ap₂ (λ (x y : Bool). cond (x && y) (record { kind = k; numbers = n.values }) bad_command) (sym e) (sym f)
 
 -- How it is read: up to the first space, then word by word.
 
@@ -196,19 +219,31 @@ module _ (mark : ℕ) where
       go true h = refl
       go false h = h
 
-  -- the search of a mark, from column i on
-  module _ (s : List ℕ) (i : ℕ) where
-    pub mark_here : i < length s → get_or s i 0 ≡ mark → length (up_to mark (drop i s)) ≡ 0
-    unfolding up_to
-    mark_here l e = rw (drop-cons s i 0 l, eq-eqb (get_or s i 0) mark e)
+  -- the search of a mark
+  position_or_len_up_to : (s : List ℕ) → position_or_len (λ b. eqb b mark) s ≡ length (up_to mark s)
+  unfolding up_to
+  position_or_len_up_to [] = refl
+  position_or_len_up_to (b ∷ s) = go (eqb b mark) (position_or_len_up_to s)
+    where
+      go : (x : Bool) → position_or_len (λ c. eqb c mark) s ≡ length (up_to mark s) → cond (not x) (1 + position_or_len (λ c. eqb c mark) s) 0 ≡ length (cond x [] (b ∷ up_to mark s))
+      go true h = refl
+      go false h = omega arith
 
-    pub mark_later : i < length s → (get_or s i 0 ≡ mark → ⊥) → length (up_to mark (drop i s)) ≡ suc (length (up_to mark (drop (i + 1) s)))
-    unfolding up_to
-    mark_later l d = rw (drop-cons s i 0 l, ne_eqb (get_or s i 0) mark d, add-one)
+  pub length-up_to : (s : List ℕ) → length (up_to mark s) ≤ length s
+  unfolding up_to
+  length-up_to [] = omega arith
+  length-up_to (b ∷ s) = go (eqb b mark) (length-up_to s)
+    where
+      go : (x : Bool) → length (up_to mark s) ≤ length s → length (cond x [] (b ∷ up_to mark s)) ≤ length (b ∷ s)
+      go true h = omega arith
+      go false h = omega arith
 
-    pub mark_none : length s ≤ i → length (up_to mark (drop i s)) ≡ 0
-    unfolding up_to
-    mark_none l = rw (drop_of_length-le s l)
+  pub unwrap_or-position : (s : List ℕ) → unwrap_or (position (λ b. eqb b mark) s) (length s) ≡ length (up_to mark s)
+  unwrap_or-position s = go (position_or_len (λ b. eqb b mark) s) (ltb (position_or_len (λ b. eqb b mark) s) (length s)) (position_or_len_up_to s) refl
+    where
+      go : (k : ℕ) (x : Bool) → k ≡ length (up_to mark s) → ltb k (length s) ≡ x → unwrap_or (cond x (Some k) None) (length s) ≡ length (up_to mark s)
+      go k true e f = e
+      go k false e f = let g : length s ≤ k = ltb-false k (length s) f in let h = length-up_to s in omega arith
 
 first_word : (s : List ℕ) → words s ≡ up_to 32 s ∷ words_after (from 32 s)
 unfolding words longer words_after up_to from
@@ -228,7 +263,7 @@ said_read two line end e =
     ∙ ap (called_by two) (sym (first_word line))
 
 -- one word more, between the space in a column and the end that was found
-pub next_word : (line : List ℕ) (n : Numbers) (at end size : ℕ) → at < length line → end ≡ at + 1 + length (up_to 32 (drop (at + 1) line)) → size + (at + 1) ≡ end → with_words (with_word n (take size (drop (at + 1) line))) (words_after (drop end line)) ≡ with_words n (words_after (drop at line))
+pub next_word : (line : List ℕ) (n : Numbers) (at end size : ℕ) → at < length line → end ≡ at + 1 + length (up_to 32 (drop (at + 1) line)) → size + (at + 1) ≡ end → and_then (with_word n (take size (drop (at + 1) line))) (λ m. with_words m (words_after (drop end line))) ≡ with_words n (words_after (drop at line))
 unfolding with_words words_after
 next_word line n at end size l e f =
     let s = drop (at + 1) line in
@@ -237,8 +272,8 @@ next_word line n at end size l e f =
     let r : drop end line ≡ from 32 s = ap (λ (j : ℕ). drop j line) e ∙ (sym (drop-drop (length (up_to 32 s)) (at + 1) line) ∙ drop-up_to 32 s) in
     let h : words_after (drop at line) ≡ up_to 32 s ∷ words_after (from 32 s) =
     ap words_after (drop-cons line at 0 l) ∙ (ap (λ (j : ℕ). words (drop j line)) (sym (add-one at)) ∙ first_word s) in
-    ap₂ (λ (x y : List ℕ). with_words (with_word n x) (words_after y)) w r ∙ ap (with_words n) (sym h)
+    ap₂ (λ (x y : List ℕ). and_then (with_word n x) (λ m. with_words m (words_after y))) w r ∙ ap (with_words n) (sym h)
 
-pub no_word : (line : List ℕ) (n : Numbers) (at : ℕ) → length line ≤ at → with_words n (words_after (drop at line)) ≡ n
+pub no_word : (line : List ℕ) (n : Numbers) (at : ℕ) → length line ≤ at → with_words n (words_after (drop at line)) ≡ Some n
 unfolding with_words words_after
 no_word line n at l = ap (λ (s : List ℕ). with_words n (words_after s)) (drop_of_length-le line l)

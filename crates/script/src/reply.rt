@@ -1,87 +1,83 @@
-// What is printed for a line of a history: its words, and the numbers after them.
-ghost use Rattle.std.specs.Prelude.{◌≤◌};
-ghost use Rattle.script.specs.Lines.{reply_numbers};
+// What is printed for a line of a history.
+use std::fmt;
+use std::fmt::{Display, Formatter, Write};
+use types::{Columns, Entry, Image, Key, Rank, Refusal, Transaction};
 
-// The words that a reply begins with.
+// A call that is refused has the number of its refusal; what else a line is answered by says what it did or read.
 #[derive(Clone, Copy)]
-pub enum Form {
+pub enum Reply {
     BadLine,
-    Refused,
+    Refused(Refusal),
     Made,
+    Begun(u32),
+    Ranked(Rank),
+    Advanced(Transaction),
+    Closed(u32, Transaction),
     Absent,
-    Columns,
-    First,
+    Columns(Columns),
+    First(Columns),
     Again,
     Stays,
     Forward,
     Back,
+    Shown(Transaction),
 }
 
-// The numbers of an entry, from its key to what was put.
-pub const ENTRY_NUMBERS: usize = 13;
-
-// The longest reply shows a transaction: six numbers of its own, and those of its eight entries.
-pub const REPLY_NUMBERS: usize = 6 + 8 * ENTRY_NUMBERS;
-
-// The first `count` numbers are printed.
-#[derive(Clone, Copy)]
-pub struct Reply {
-    pub form: Form,
-    pub count: usize,
-    pub numbers: [u32; REPLY_NUMBERS],
-}
-
-// A reply with up to three numbers.
-pub fn answer(form: Form, count: usize, a: u32, b: u32, c: u32) -> Reply
-    requires { count ≤ 3 }
-    ensures { result.count ≤ reply_numbers }
-{
-    let mut numbers = [0u32; REPLY_NUMBERS];
-    numbers[0] = a;
-    numbers[1] = b;
-    numbers[2] = c;
-    Reply {
-        form,
-        count,
-        numbers,
+impl Display for Reply {
+    fn fmt<W: Write>(&self, f: &mut Formatter<W>) -> fmt::Result {
+        match *self {
+            Reply::BadLine => f.write_str("bad line"),
+            Reply::Refused(r) => write!(f, "refused {}", r as u32),
+            Reply::Made => f.write_str("ok"),
+            Reply::Begun(n) => write!(f, "ok {n}"),
+            Reply::Ranked(r) => write!(f, "ok {} {}", r.below, r.present as u32),
+            Reply::Advanced(t) => write!(f, "ok {} {} {}", t.phase, t.place, t.verdict),
+            Reply::Closed(n, t) => write!(f, "ok {n} {} {} {}", t.phase, t.place, t.verdict),
+            Reply::Absent => f.write_str("ok absent"),
+            Reply::Columns(c) => write!(f, "ok columns {} {}", c.column1, c.column2),
+            Reply::First(c) => write!(f, "ok first {} {}", c.column1, c.column2),
+            Reply::Again => f.write_str("ok again"),
+            Reply::Stays => f.write_str("ok stays"),
+            Reply::Forward => f.write_str("ok forward"),
+            Reply::Back => f.write_str("ok back"),
+            Reply::Shown(t) => shown(f, &t),
+        }
     }
 }
 
-// The reply of a close: how many writes it made, and where its transaction stands.
-pub fn report(writes: u32, phase: u32, place: u32, verdict: u32) -> Reply
-    ensures { result.count ≤ reply_numbers }
-{
-    let mut numbers = [0u32; REPLY_NUMBERS];
-    numbers[0] = writes;
-    numbers[1] = phase;
-    numbers[2] = place;
-    numbers[3] = verdict;
-    Reply {
-        form: Form::Made,
-        count: 4,
-        numbers,
+// Six numbers of a transaction's own, and those of its first entries. A forged count may be any number.
+fn shown<W: Write>(f: &mut Formatter<W>, t: &Transaction) -> fmt::Result {
+    write!(
+        f,
+        "ok {} {} {} {} {} {}",
+        t.number, t.serializable, t.phase, t.place, t.verdict, t.count
+    )?;
+    for e in t.entries.iter().take(t.count as usize) {
+        shown_entry(f, e)?;
     }
+    Ok(())
 }
 
-pub fn bad_line() -> Reply
-    ensures { result.count ≤ reply_numbers }
-{
-    answer(Form::BadLine, 0, 0, 0, 0)
-}
-
-pub fn refused(n: u32) -> Reply
-    ensures { result.count ≤ reply_numbers }
-{
-    answer(Form::Refused, 1, n, 0, 0)
-}
-
-// What an accepted call says, or its refusal.
-pub fn unless_refused(refusal: u32, accepted: Reply) -> Reply
-    requires { accepted.count ≤ reply_numbers }
-    ensures { result.count ≤ reply_numbers }
-{
-    if refusal == 0 {
-        return accepted;
-    }
-    refused(refusal)
+// The numbers of an entry, in the order of the line that sets one.
+fn shown_entry<W: Write>(f: &mut Formatter<W>, e: &Entry) -> fmt::Result {
+    let Key {
+        storage,
+        namespace,
+        table,
+        partition,
+        clustering,
+    } = e.key;
+    write!(
+        f,
+        " {storage} {namespace} {table} {partition} {clustering} {}",
+        e.absent
+    )?;
+    let Image {
+        version,
+        txid,
+        column1,
+        column2,
+    } = e.seen;
+    write!(f, " {version} {txid} {column1} {column2} {}", e.wrote)?;
+    write!(f, " {} {}", e.put.column1, e.put.column2)
 }

@@ -1,14 +1,11 @@
 // A line of a history, taken apart: the call that it names, and its numbers.
-ghost use Rattle.std.specs.Prelude.{◌≡◌, ◌+◌, ◌≤◌, length, drop};
-ghost use Rattle.script.specs.Lines.{close_kind, other_slot_kind, slot_kind, shift_kind, call_kind, kind_of, line_arity};
-ghost use Rattle.script.specs.Lines.{no_numbers, with_word, with_words, words_after, bad_command, called, said, up_to};
+ghost use Rattle.std.specs.Prelude.{◌≡◌, ◌+◌, ◌≤◌, length, drop, find, position, eqb};
+ghost use Rattle.script.specs.Lines.{kind_of, name, asks, named};
+ghost use Rattle.script.specs.Lines.{no_numbers, with_word, with_words, words_after, called, said, up_to};
 ghost use Rattle.script.specs.Lines as model;
 
-use crate::reply::ENTRY_NUMBERS;
-use decimal::Scan;
-
 // The calls of a history; Sheets asks for all sheets, and BadLine is a line of another form. Second is for two sheets only.
-#[derive(Clone, Copy)]
+#[derive(Clone, Copy, PartialEq, Eq)]
 pub enum Kind {
     Check,
     Begin,
@@ -30,6 +27,9 @@ pub enum Kind {
     BadLine,
 }
 
+// The numbers of an entry, from its key to what was put.
+const ENTRY_NUMBERS: usize = 13;
+
 // The longest line sets an entry: its slot, its place and its numbers.
 pub const LINE_NUMBERS: usize = 2 + ENTRY_NUMBERS;
 
@@ -40,240 +40,167 @@ pub struct Command {
     pub numbers: [u32; LINE_NUMBERS],
 }
 
-// The numbers read so far; not good once a word was no number or one too many.
+// The numbers read so far.
 #[derive(Clone, Copy)]
 struct Numbers {
-    good: bool,
     count: usize,
     values: [u32; LINE_NUMBERS],
 }
 
+// The first byte that is `mark`.
+fn mark_in(s: &[u8], mark: u8) -> Option<usize>
+    ensures { result ≡ position (λ b. eqb b mark) s.now }
+{
+    s.iter().position(|b| *b == mark)
+}
+
 // The first column from `at` on that has the byte `mark`, or the end.
-pub fn end_of(s: &[u8], at: usize, mark: u8) -> usize
+fn end_of(s: &[u8], at: usize, mark: u8) -> usize
     requires { at ≤ length s.now }
     ensures within { (at ≤ result) × (result ≤ length s.now) }
     ensures column { result ≡ at + length (up_to mark (drop at s.now)) }
 {
-    let n = s.len();
-    let mut i = at;
-    while i < n {
-        if s[i] == mark {
-            return i;
-        }
-        i += 1;
-    }
-    i
+    let rest = &s[at..];
+    at + mark_in(rest, mark).unwrap_or(rest.len())
 }
 
-// The last call on a slot.
-fn close_kind(word: &[u8]) -> Kind
-    ensures { result ≡ close_kind word.now }
+// All that a first word may ask for.
+const NAMED: [Kind; 17] = [
+    Kind::Sheets,
+    Kind::Second,
+    Kind::Check,
+    Kind::Visit,
+    Kind::Lookup,
+    Kind::Line,
+    Kind::Add,
+    Kind::Remove,
+    Kind::Begin,
+    Kind::Read,
+    Kind::Put,
+    Kind::Advance,
+    Kind::Abort,
+    Kind::Show,
+    Kind::Set,
+    Kind::Entry,
+    Kind::Close,
+];
+
+#[tactic(auto, unfolding(crate::specs::Lines::name, lists::specs::Bytes::bytes))]
+// The word that asks for it; none asks for a bad line.
+fn name(kind: Kind) -> &'static [u8]
+    ensures { result.now ≡ name kind }
 {
-    if decimal::same(word, b"close") {
-        return Kind::Close;
+    match kind {
+        Kind::Check => b"check",
+        Kind::Begin => b"begin",
+        Kind::Read => b"read",
+        Kind::Second => b"second",
+        Kind::Put => b"put",
+        Kind::Advance => b"advance",
+        Kind::Close => b"close",
+        Kind::Abort => b"abort",
+        Kind::Visit => b"visit",
+        Kind::Lookup => b"lookup",
+        Kind::Line => b"line",
+        Kind::Add => b"add",
+        Kind::Remove => b"remove",
+        Kind::Show => b"show",
+        Kind::Set => b"set",
+        Kind::Entry => b"entry",
+        Kind::Sheets => b"sheets",
+        Kind::BadLine => b"",
     }
-    Kind::BadLine
 }
 
-// Another call on a slot.
-fn other_slot_kind(word: &[u8]) -> Kind
-    ensures { result ≡ other_slot_kind word.now }
+// Whether the word asks for this; the second call of a read is there for two sheets only.
+fn asks(two: bool, word: &[u8], kind: Kind) -> bool
+    ensures { result ≡ asks two word.now kind }
 {
-    if decimal::same(word, b"abort") {
-        return Kind::Abort;
-    }
-    if decimal::same(word, b"show") {
-        return Kind::Show;
-    }
-    if decimal::same(word, b"set") {
-        return Kind::Set;
-    }
-    if decimal::same(word, b"entry") {
-        return Kind::Entry;
-    }
-    close_kind(word)
+    (two || kind != Kind::Second) && word == name(kind)
 }
 
-// A call on a slot.
-fn slot_kind(word: &[u8]) -> Kind
-    ensures { result ≡ slot_kind word.now }
-{
-    if decimal::same(word, b"begin") {
-        return Kind::Begin;
-    }
-    if decimal::same(word, b"read") {
-        return Kind::Read;
-    }
-    if decimal::same(word, b"put") {
-        return Kind::Put;
-    }
-    if decimal::same(word, b"advance") {
-        return Kind::Advance;
-    }
-    other_slot_kind(word)
-}
-
-// Adding and removing a line, or a call on a slot.
-fn shift_kind(word: &[u8]) -> Kind
-    ensures { result ≡ shift_kind word.now }
-{
-    if decimal::same(word, b"add") {
-        return Kind::Add;
-    }
-    if decimal::same(word, b"remove") {
-        return Kind::Remove;
-    }
-    slot_kind(word)
-}
-
-// The call that a word names.
-fn call_kind(word: &[u8]) -> Kind
-    ensures { result ≡ call_kind word.now }
-{
-    if decimal::same(word, b"check") {
-        return Kind::Check;
-    }
-    if decimal::same(word, b"visit") {
-        return Kind::Visit;
-    }
-    if decimal::same(word, b"lookup") {
-        return Kind::Lookup;
-    }
-    if decimal::same(word, b"line") {
-        return Kind::Line;
-    }
-    shift_kind(word)
-}
-
-// What a line with this first word asks for; the second call of a read is there for two sheets only.
+// What a line with this first word asks for.
+#[tactic(auto, using(crate::specs::Lines::kind_of_named))]
 fn kind_of(two: bool, word: &[u8]) -> Kind
     ensures { result ≡ kind_of two word.now }
 {
-    if decimal::same(word, b"sheets") {
-        return Kind::Sheets;
-    }
-    if two & decimal::same(word, b"second") {
-        return Kind::Second;
-    }
-    call_kind(word)
+    named(two, word).unwrap_or(Kind::BadLine)
 }
 
-// Where there are two sheets, a look-up says which one's line it asks for.
-fn line_arity(two: bool) -> usize
-    ensures { result ≡ line_arity two }
+// The first of all that the word asks for.
+fn named(two: bool, word: &[u8]) -> Option<Kind>
+    ensures { result ≡ find (asks two word.now) named }
 {
-    if two {
-        return 6;
-    }
-    5
+    NAMED.iter().copied().find(|kind| asks(two, word, *kind))
 }
 
-// How many numbers a call has.
+// How many numbers a call has. Where there are two sheets, a look-up says which one's line it asks for.
 fn arity(two: bool, kind: Kind) -> usize
     ensures { result ≡ model.arity two kind }
 {
     match kind {
-        Kind::Check => 0,
-        Kind::Begin => 2,
-        Kind::Read => 7,
-        Kind::Second => 9,
-        Kind::Put => 8,
-        Kind::Advance => 2,
+        Kind::Check | Kind::Sheets | Kind::BadLine => 0,
+        Kind::Abort | Kind::Show => 1,
+        Kind::Begin | Kind::Advance => 2,
         Kind::Close => 3,
-        Kind::Abort => 1,
+        Kind::Lookup | Kind::Add | Kind::Remove => 5,
+        Kind::Line if two => 6,
+        Kind::Line => 5,
         Kind::Visit => 6,
-        Kind::Lookup => 5,
-        Kind::Line => line_arity(two),
-        Kind::Add => 5,
-        Kind::Remove => 5,
-        Kind::Show => 1,
-        Kind::Set => 7,
+        Kind::Read | Kind::Set => 7,
+        Kind::Put => 8,
+        Kind::Second => 9,
         Kind::Entry => LINE_NUMBERS,
-        Kind::Sheets => 0,
-        Kind::BadLine => 0,
     }
 }
 
 // The numbers with a word more. A word holds no space, so that what is read is a number in figures alone.
-fn with_word(numbers: Numbers, word: &[u8]) -> Numbers
+#[tactic(auto, unfolding(crate::specs::Lines::with_word))]
+fn with_word(numbers: Numbers, word: &[u8]) -> Option<Numbers>
     ensures { result ≡ with_word numbers word.now }
 {
-    let good = numbers.good;
-    let count = numbers.count;
-    let mut values = numbers.values;
+    let Numbers { count, mut values } = numbers;
     if LINE_NUMBERS <= count {
-        return Numbers {
-            good: false,
-            count,
-            values,
-        };
+        return None;
     }
-    match decimal::read(word, 0, 4294967295) {
-        Scan::Blank => Numbers {
-            good: false,
-            count,
-            values,
-        },
-        Scan::Number(v) => {
-            values[count] = v;
-            Numbers {
-                good,
-                count: count + 1,
-                values,
-            }
-        }
-        Scan::Wrong => Numbers {
-            good: false,
-            count,
-            values,
-        },
-    }
+    values[count] = decimal::read(word, 0, u32::MAX)?;
+    Some(Numbers {
+        count: count + 1,
+        values,
+    })
 }
 
 // The numbers of the words after the one that ends at `from`, each after a single space.
-fn numbers_after(line: &[u8], from: usize) -> Numbers
+fn numbers_after(line: &[u8], from: usize) -> Option<Numbers>
     requires { from ≤ length line.now }
     ensures { result ≡ with_words no_numbers (words_after (drop from line.now)) }
 {
-    let n = line.len();
     let mut numbers = Numbers {
-        good: true,
         count: 0,
         values: [0; LINE_NUMBERS],
     };
     let mut at = from;
-    while at < n {
+    while at < line.len() {
         let start = at + 1;
-        let end = end_of(line, start, b' ');
-        numbers = with_word(numbers, &line[start..end]);
-        at = end;
+        at = end_of(line, start, b' ');
+        numbers = with_word(numbers, &line[start..at])?;
     }
-    numbers
-}
-
-fn bad_command() -> Command
-    ensures { result ≡ bad_command }
-{
-    Command {
-        kind: Kind::BadLine,
-        numbers: [0; LINE_NUMBERS],
-    }
+    Some(numbers)
 }
 
 // A call with its numbers, if it has so many.
-fn called(two: bool, kind: Kind, numbers: Numbers) -> Command
+fn called(two: bool, kind: Kind, numbers: Option<Numbers>) -> Command
     ensures { result ≡ called two kind numbers }
 {
-    let values = numbers.values;
-    if !numbers.good {
-        return bad_command();
-    }
-    if numbers.count != arity(two, kind) {
-        return bad_command();
-    }
-    Command {
-        kind,
-        numbers: values,
+    match numbers {
+        Some(n) if n.count == arity(two, kind) => {
+            let numbers = n.values;
+            Command { kind, numbers }
+        }
+        _ => Command {
+            kind: Kind::BadLine,
+            numbers: [0; LINE_NUMBERS],
+        },
     }
 }
 

@@ -1,23 +1,15 @@
-// The sixteen transactions of a history, by value, and what a line leaves of them. A line that asks for a call is performed on `taken`, and then `performed`;
+// The sixteen transactions of a history, and what a line leaves of them. A line that asks for a call is performed on `taken`, and then `performed`;
 // any other, but for a check and a look-up, is `replied`.
-ghost use Rattle.std.specs.Prelude.{◌≡◌, false, ◌≤◌, replicate};
+ghost use Rattle.std.specs.Prelude.{◌≡◌, false, replicate, IfErr};
 ghost use Rattle.model.specs.Calls.{new_transaction};
-ghost use Rattle.script.specs.Lines.{reply_numbers};
+ghost use Rattle.script.specs.declared.reply.Reply.TheVariants.{Refused};
 ghost use Rattle.script_calls.specs.Asking.{taken_by};
 
 use crate::{by_hand, calls};
 use answers::Performed;
-use script::reply;
 use script::reply::Reply;
 use script::scan::{Command, Kind};
-use types::Transaction;
-
-// What a line leaves: the transactions and its reply.
-#[derive(Clone, Copy)]
-pub struct Turn {
-    pub slots: [Transaction; 16],
-    pub reply: Reply,
-}
+use types::{Refusal, Transaction};
 
 // An unused slot is all zeros.
 pub fn empty() -> [Transaction; 16]
@@ -28,8 +20,8 @@ pub fn empty() -> [Transaction; 16]
 }
 
 // The transaction that a call is made on, that of the slot which its first number names. A visit names none: whichever it is handed comes back as it was.
-pub fn taken(c: Command, slots: [Transaction; 16]) -> Transaction
-    ensures { result ≡ taken_by c.numbers slots }
+pub fn taken(c: Command, slots: &[Transaction; 16]) -> Transaction
+    ensures { result ≡ taken_by c.numbers slots.now }
 {
     let n = c.numbers;
     let slot = n[0];
@@ -39,64 +31,42 @@ pub fn taken(c: Command, slots: [Transaction; 16]) -> Transaction
     slots[slot as usize]
 }
 
-// A call that was performed: its slot holds the transaction that came back.
-pub fn performed(c: Command, slots: [Transaction; 16], performed: Performed) -> Turn
-    ensures { result.reply.count ≤ reply_numbers }
+// A call that was performed: its slot holds the transaction that came back, and stays as it was where the call is refused.
+pub fn performed(
+    c: Command,
+    slots: &mut [Transaction; 16],
+    performed: Result<Performed, Refusal>,
+) -> Reply
+    ensures { IfErr performed (λ r. (result ≡ Refused r) × (slots.new ≡ slots.old)) }
 {
-    let kind = c.kind;
-    let slot = c.numbers[0];
-    let t = performed.transaction;
-    let reply = calls::answered(kind, performed);
-    let mut after = slots;
-    if slot < 16 {
-        after[slot as usize] = t;
-    }
-    Turn {
-        slots: after,
-        reply,
+    match performed {
+        Err(r) => Reply::Refused(r),
+        Ok(p) => {
+            let n = c.numbers;
+            let slot = n[0];
+            if slot < 16 {
+                slots[slot as usize] = p.transaction;
+            }
+            calls::answered(c.kind, p)
+        }
     }
 }
 
 // A line on a slot that makes no call.
-fn on_slot(c: Command, slots: [Transaction; 16]) -> Turn
-    ensures { result.reply.count ≤ reply_numbers }
-{
-    let kind = c.kind;
+fn on_slot(c: Command, slots: &mut [Transaction; 16]) -> Reply {
     let n = c.numbers;
     let slot = n[0];
-    let mut after = slots;
     if 16 <= slot {
-        let reply = reply::bad_line();
-        return Turn {
-            slots: after,
-            reply,
-        };
+        return Reply::BadLine;
     }
-    let i = slot as usize;
-    let done = by_hand::on_transaction(kind, n, after[i]);
-    let t = done.transaction;
-    let reply = done.reply;
-    after[i] = t;
-    Turn {
-        slots: after,
-        reply,
-    }
+    by_hand::on_transaction(c.kind, n, &mut slots[slot as usize])
 }
 
 // A line that makes no call. For `sheets` the sheets alone are printed, and for `line` what is looked up.
-pub fn replied(c: Command, slots: [Transaction; 16]) -> Turn
-    ensures { result.reply.count ≤ reply_numbers }
-{
-    let kind = c.kind;
-    match kind {
-        Kind::Line | Kind::Sheets => Turn {
-            slots,
-            reply: calls::ok(),
-        },
-        Kind::BadLine => Turn {
-            slots,
-            reply: reply::bad_line(),
-        },
+pub fn replied(c: Command, slots: &mut [Transaction; 16]) -> Reply {
+    match c.kind {
+        Kind::Line | Kind::Sheets => Reply::Made,
+        Kind::BadLine => Reply::BadLine,
         _ => on_slot(c, slots),
     }
 }

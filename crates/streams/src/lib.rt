@@ -5,14 +5,6 @@ ghost use Rattle.io.specs.Counts.{IsPrefixLen};
 
 use std::io::{Eprint, Input, Print, Read};
 
-// Tells of what failed. Where that can't be told either, nothing is left to do.
-fn tell(rt: &impl Eprint, text: &str) {
-    match rt.eprintln(text) {
-        Ok(()) => {}
-        Err(_) => {}
-    }
-}
-
 // Reads all of standard input that fits, and answers how many bytes it put at the start of `input`: none where a read failed, since a part of an input must
 // not be taken for the whole.
 pub fn read(rt: &(impl Input + Eprint), input: &mut [u8]) -> usize
@@ -22,10 +14,11 @@ pub fn read(rt: &(impl Input + Eprint), input: &mut [u8]) -> usize
     let mut done = 0;
     while done < input.len() {
         match reader.read(&mut input[done..]) {
-            Ok(0) => return done,
-            Ok(more) => done = done + more,
+            Ok(0) => break,
+            Ok(more) => done += more,
             Err(_) => {
-                tell(rt, "standard input could not be read");
+                // Where that can't be told either, nothing is left to do.
+                let _ = rt.eprintln("standard input could not be read");
                 return 0;
             }
         }
@@ -35,8 +28,7 @@ pub fn read(rt: &(impl Input + Eprint), input: &mut [u8]) -> usize
 
 // Writes all of the text to standard output.
 pub fn write(rt: &(impl Print + Eprint), text: &[u8]) {
-    match rt.write_all(text) {
-        Ok(()) => {}
-        Err(_) => tell(rt, "standard output could not be written"),
+    if rt.write_all(text).is_err() {
+        let _ = rt.eprintln("standard output could not be written");
     }
 }

@@ -1,24 +1,16 @@
--- The column stays between the first and the end of the slice, and what is before the mark from there on ends where all of it does.
-use Rattle.lists.specs.Basics.{refl, arith}
-use Rattle.script.specs.Lines.{mark_here, mark_later, mark_none}
+-- What is before the first mark ends where it stands, or where all of it does.
+use Rattle.std.specs.Prelude.{◌≡◌, ◌+◌, ◌-◌, eqb, position}
+use Rattle.std.proofs.Common.{◌∙◌}
+use Rattle.std.specs.Option.{unwrap_or}
+use Rattle.lists.specs.Basics.{ap, ap₂, ℕ, List, length, take, drop, length-drop, take_all, arith}
+use Rattle.script.specs.Lines.{unwrap_or-position}
 use Rattle.script.proofs.scan.end_of.Goals as goal
 
-pub loop-i-init : goal.loop-i-init
-loop-i-init c = ((omega arith, c.requires), refl)
-
-pub returns-then-s-i : goal.returns-then-s-i
-returns-then-s-i c =
+pub returns-clause-column : goal.returns-clause-column
+returns-clause-column c =
     let a = c.args in
-    let e = mark_here a.mark a.s.now c.loop-i.i c.loop-i-test.true c.if-s-i.true in
-    record { within = (omega arith, omega arith); column = omega arith }
-
-pub loop-i-preserved : goal.loop-i-preserved
-loop-i-preserved c =
-    let a = c.args in
-    let e = mark_later a.mark a.s.now c.loop-i.i c.loop-i-test.true c.if-s-i.false in ((omega arith, omega arith), omega arith)
-
-pub returns : goal.returns
-returns c =
-    let a = c.args in
-    let e = mark_none a.mark a.s.now c.loop-i.i c.loop-i-test.false in
-    record { within = (omega arith, omega arith); column = omega arith }
+    let s = drop a.at a.s.now in
+    let whole : take (length a.s.now - a.at) s ≡ s = take_all (length a.s.now - a.at) s (omega (arith, length-drop a.at a.s.now)) in
+    ap (λ (k : ℕ). a.at + k)
+    (c.unwrap_or.ensures
+    ∙ (ap₂ unwrap_or (c.mark_in.ensures ∙ ap (λ (t : List ℕ). position (λ b. eqb b a.mark) t) whole) (ap length whole) ∙ unwrap_or-position a.mark s))
