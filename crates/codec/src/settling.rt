@@ -3,7 +3,7 @@ ghost use Rattle.std.specs.Prelude.{◌≡◌, true, length};
 ghost use Rattle.model.specs.Layouts.{record_bytes};
 ghost use Rattle.model.specs.Records.{records_accepted};
 ghost use Rattle.model.specs.Images.{rolled_forward, rolled_back};
-ghost use Rattle.sheet_laws.specs.Changed.{nothing_text, state_over, image_over, settled_over, image_in};
+ghost use Rattle.sheet_laws.specs.Changed.{nothing_text, state_over, image_over, settled_over, image_in, settled_as};
 ghost use Rattle.sheet_laws.specs.ByIndex.{changed_at};
 
 use crate::records::line_at;
@@ -19,16 +19,6 @@ fn settle_line(line: &mut [u8], state: State)
     parts::put_nothing(line);
 }
 
-// Line i rolled forward: its image stays. Past the end nothing changes.
-pub fn roll_forward(records: &mut [u8], i: usize)
-    requires { records_accepted records.old ≡ true }
-    ensures { records.new ≡ changed_at rolled_forward i records.old }
-{
-    if let Some(line) = line_at(records, i) {
-        settle_line(&mut records[line], State::Committed);
-    }
-}
-
 // The line with its image before as its own, and the state that the before state gives back.
 fn restore_line(line: &mut [u8], state: State)
     requires { length line.old ≡ record_bytes }
@@ -39,13 +29,33 @@ fn restore_line(line: &mut [u8], state: State)
     settle_line(line, state);
 }
 
-// Line i rolled back: the image before is moved to its place. Past the end nothing changes.
+// Line i settled: another state word, one of its images and nothing behind that; past the end nothing changes.
+pub fn settle(records: &mut [u8], i: usize, state: State, before: bool)
+    requires { records_accepted records.old ≡ true }
+    ensures { records.new ≡ changed_at (settled_as state before) i records.old }
+{
+    if let Some(line) = line_at(records, i) {
+        if before {
+            restore_line(&mut records[line], state);
+        } else {
+            settle_line(&mut records[line], state);
+        }
+    }
+}
+
+// Line i rolled forward: its own image stays.
+pub fn roll_forward(records: &mut [u8], i: usize)
+    requires { records_accepted records.old ≡ true }
+    ensures { records.new ≡ changed_at rolled_forward i records.old }
+{
+    settle(records, i, State::Committed, false);
+}
+
+// Line i rolled back: the image before is moved to its place.
 pub fn roll_back(records: &mut [u8], i: usize)
     requires { records_accepted records.old ≡ true }
     ensures { records.new ≡ changed_at rolled_back i records.old }
 {
     let state = reading::before_state(records, i);
-    if let Some(line) = line_at(records, i) {
-        restore_line(&mut records[line], state);
-    }
+    settle(records, i, state, true);
 }

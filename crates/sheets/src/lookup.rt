@@ -1,5 +1,6 @@
 // The line that has a key.
 ghost use Rattle.std.specs.Prelude.{◌≡◌, true, false, ◌+◌, ◌<◌, ◌≤◌, length};
+ghost use Rattle.lists.specs.Bytes.{eq_list};
 ghost use Rattle.model.specs.Layouts.{record_bytes};
 ghost use Rattle.model.specs.Records.{records_accepted, key_in_range, ranked, placed, key_numbers};
 ghost use Rattle.model.specs.Records as model;
@@ -7,11 +8,24 @@ ghost use Rattle.sheet_laws.specs.Keys.{key_line};
 ghost use Rattle.model.specs.Lines.{lines_of};
 ghost use Rattle.model.specs.Told.{ranked_by};
 ghost use Rattle.model.specs.SheetCalls.{looked_up, rank_on, line_on, line_among};
-ghost use Rattle.sheets.specs.Search.{found_line};
+ghost use Rattle.sheets.specs.Search.{key_field, found_line};
 
 use codec::keys::key_in_range;
 use record_check::lines_end;
-use types::{Key, Layout, RECORD_BYTES, Rank, Refusal, STATE_AT};
+use types::{
+    CLUSTERING_AT, Key, Layout, NAMESPACE_AT, PARTITION_AT, RECORD_BYTES, Rank, Refusal, STATE_AT,
+    TABLE_AT,
+};
+
+// Where each key field begins, and the end of the last.
+const EDGES: [usize; 6] = [
+    0,
+    NAMESPACE_AT,
+    TABLE_AT,
+    PARTITION_AT,
+    CLUSTERING_AT,
+    STATE_AT,
+];
 
 // The numbers of a key.
 fn numbers_of(key: Key) -> [u32; 5]
@@ -36,20 +50,40 @@ fn key_line(key: Key) -> [u8; 21]
     text
 }
 
-// The index of the first line that begins as a key line does.
+// Key field f of the line at `at` is that of the key line.
+fn same_field(records: &[u8], at: usize, text: &[u8], f: usize) -> bool
+    requires { (f < 5) × ((at + record_bytes ≤ length records.now) × (21 ≤ length text.now)) }
+    ensures { result ≡ eq_list (key_field f at records.now) (key_field f 0 text.now) }
+{
+    let edges = EDGES;
+    let from = edges[f];
+    let to = edges[f + 1];
+    let a = at + from;
+    let e = at + to;
+    decimal::same(&records[a..e], &text[from..to])
+}
+
+// The index of the first line that begins as a key line does. Fields are compared from the last, in which neighbouring lines differ most often. It leaves by a label, a
+// form that the customer asked for (docs/SPECIFICATION.md, "Forms wanted at the bench"), and so counts its lines and fields itself.
 fn find_line(records: &[u8], text: &[u8]) -> Option<usize>
     requires { 21 ≤ length text.now }
     ensures { result ≡ found_line 0 text.now (lines_of record_bytes records.now) }
 {
     let n = records.len() / RECORD_BYTES;
-    for i in 0..n {
+    let mut i = 0;
+    'lines: while i < n {
         let at = i * RECORD_BYTES;
-        let end = at + STATE_AT;
-        if decimal::same(&records[at..end], &text[..STATE_AT]) {
-            return Some(i);
+        let mut f = 5;
+        while 0 < f {
+            f -= 1;
+            if !same_field(records, at, text, f) {
+                i += 1;
+                continue 'lines;
+            }
         }
+        break 'lines;
     }
-    None
+    if i < n { Some(i) } else { None }
 }
 
 // The line that has the key, among accepted lines: that part of `rank`'s answer by which operations go. None of them needs to know where a missing key would stand.
@@ -62,7 +96,8 @@ pub fn find(records: &[u8], key: Key) -> Option<usize>
     find_line(records, &text)
 }
 
-// How many of accepted lines have smaller keys. Keys rise, so that a line tells of all lines on one side of it.
+// How many of accepted lines have smaller keys. Keys rise, so that a line tells of all lines on one side of it. An interval of line numbers is halved by hand, since
+// the lines are no slice of keys.
 fn below(records: &[u8], key: Key) -> usize
     requires { records_accepted records.now ≡ true }
     ensures { result ≡ model.rank key (model.records records.now) }

@@ -7,6 +7,7 @@ use Rattle.std.proofs.lemmas.List.{set_split}
 use Rattle.std.proofs.Common.{zero-mul, ◌∙◌}
 use Rattle.lists.specs.Pieces.{over, over-same, over-part, over_next, length_over, length-pieces, pieces_add, take-drop-take}
 use Rattle.two_laws.specs.TwoLines.{length-join_line}
+use Rattle.decimal.specs.Word.{put_word, put_fits_lem}
 use Rattle.model.specs.Lines.{lines_of}
 use Rattle.model.specs.TwoSheets.{join_line, join_lines, joined_sheet, plain_bytes, bookkeeping_bytes}
 use Rattle.model.specs.Layouts.{record_bytes}
@@ -16,19 +17,81 @@ abbrev pub rest_bytes : ℕ
 rest_bytes = bookkeeping_bytes - 40
 
 -- a part lent and come back as n bytes of another list
-pub part-over : (s f u : List ℕ) (a b n : ℕ) → a + n ≤ length s → b + n ≤ length f → u ≡ take (b + n - b) (drop b f) → take a s ++ (u ++ drop (a + n - a) (drop a s)) ≡ over s a (take n (drop b f))
+pub part-over : (s f u : List ℕ) (a b n : ℕ) → a + n ≤ length s → b + n ≤ length f → u ≡ put_word (take (a + n - a) (drop a s)) (take (b + n - b) (drop b f)) → take a s ++ (u ++ drop (a + n - a) (drop a s)) ≡ over s a (take n (drop b f))
 part-over s f u a b n l m h =
     let i : a + n - a ≡ n = omega arith in
     let j : b + n - b ≡ n = omega arith in
     let t = take n (drop b f) in
     let w : length t ≡ n = simp (length-take, length-drop) (omega arith) in
-    let e : u ≡ t = h ∙ ap (λ (x : ℕ). take x (drop b f)) j in
-    ap (λ (x : List ℕ). take a s ++ (x ++ drop (a + n - a) (drop a s))) e ∙ over-part s t a (a + n) (w ∙ sym i)
+    let v : length (take n (drop a s)) ≡ n = simp (length-take, length-drop) (omega arith) in
+    let g : u ≡ put_word (take n (drop a s)) t = rw (i, j) at h in
+    let e : u ≡ t = g ∙ put_fits_lem (take n (drop a s)) t (v ∙ sym w) in
+    let k : length t ≡ a + n - a = w ∙ sym i in
+    ap (λ (x : List ℕ). take a s ++ (x ++ drop (a + n - a) (drop a s))) e ∙ over-part s t a (a + n) k
 
 -- one byte written
 pub set-over : (s : List ℕ) (k v : ℕ) → k < length s → set s k v ≡ over s k (v ∷ [])
 unfolding over
 set-over s k v l = let e : suc k ≡ k + length (v ∷ []) = omega arith in set_split s k v l ∙ ap (λ (n : ℕ). take k s ++ (v ∷ drop n s)) e
+
+-- Bytes of another list written one after another: so many of them, and the next ones.
+module _ (s f : List ℕ) (at start : ℕ) where
+  -- the first n bytes from `start` on, over those from `at` on
+  abbrev pub written : ℕ → List ℕ
+  written n = over s at (take n (drop start f))
+
+  pub written_none : at ≤ length s → written 0 ≡ s
+  written_none l = over-same s at 0 (omega arith)
+
+  pub length-written : (n : ℕ) → at + n ≤ length s → start + n ≤ length f → length (written n) ≡ length s
+  length-written n l m =
+      let w : length (take n (drop start f)) ≡ n = simp (length-take, length-drop) (omega arith) in
+      length_over s (take n (drop start f)) at (omega (arith, w))
+
+  pub written_more : (m n : ℕ) → at + (m + n) ≤ length s → start + (m + n) ≤ length f → over (written m) (at + m) (take n (drop (start + m) f)) ≡ written (m + n)
+  written_more m n l k =
+      let w : length (take m (drop start f)) ≡ m = simp (length-take, length-drop) (omega arith) in
+      over_next s (take m (drop start f)) (take n (drop (start + m) f)) at (at + m) (omega (arith, w)) (omega arith)
+      ∙ ap (over s at) (sym (take-add m n (drop start f) ∙ ap (λ (t : List ℕ). take m (drop start f) ++ take n t) (drop-drop m start f)))
+
+  pub written_one : (m : ℕ) → at + m < length s → start + m < length f → set (written m) (at + m) (get_or f (start + m) 0) ≡ written (m + 1)
+  written_one m l k =
+      let n = length-written m (omega arith) (omega arith) in
+      let d : take 1 (drop (start + m) f) ≡ get_or f (start + m) 0 ∷ [] = ap (take 1) (drop-cons f (start + m) 0 k) in
+      set-over (written m) (at + m) (get_or f (start + m) 0) (omega (arith, n))
+      ∙ (ap (over (written m) (at + m)) (sym d) ∙ written_more m 1 (omega arith) (omega arith))
+
+  -- eight bytes, one after another
+  pub eight_written : at + 8 ≤ length s → start + 8 ≤ length f
+      → set (set (set (set (set (set (set (set s at (get_or f start 0)) (at + 1) (get_or f (start + 1) 0)) (at + 2) (get_or f (start + 2) 0)) (at + 3) (get_or f (start + 3) 0)) (at + 4) (get_or f (start + 4) 0)) (at + 5) (get_or f (start + 5) 0)) (at + 6) (get_or f (start + 6) 0)) (at + 7) (get_or f (start + 7) 0) ≡ written 8
+  eight_written l k =
+      let w1 = first (omega arith) (omega arith) in
+      let w2 = next 1 _ w1 (omega arith) (omega arith) in
+      let w3 = next 2 _ w2 (omega arith) (omega arith) in
+      let w4 = next 3 _ w3 (omega arith) (omega arith) in
+      let w5 = next 4 _ w4 (omega arith) (omega arith) in
+      let w6 = next 5 _ w5 (omega arith) (omega arith) in
+      let w7 = next 6 _ w6 (omega arith) (omega arith) in
+      next 7 _ w7 (omega arith) (omega arith)
+    where
+      next : (m : ℕ) (u : List ℕ) → u ≡ written m → at + m < length s → start + m < length f → set u (at + m) (get_or f (start + m) 0) ≡ written (m + 1)
+      next m u e i j = ap (λ (t : List ℕ). set t (at + m) (get_or f (start + m) 0)) e ∙ written_one m i j
+
+      first : at < length s → start < length f → set s at (get_or f start 0) ≡ written 1
+      first i j =
+          let y : at ≡ at + 0 = omega arith in
+          let z : start ≡ start + 0 = omega arith in
+          ap₂ (λ (a b : ℕ). set s a (get_or f b 0)) y z ∙ next 0 s (sym (written_none (omega arith))) (omega arith) (omega arith)
+
+  -- eight more, and the rest up to n
+  pub written_eights : (k : ℕ) → at + (k * 8 + 8) ≤ length s → start + (k * 8 + 8) ≤ length f → over (written (k * 8)) (at + k * 8) (take 8 (drop (start + k * 8) f)) ≡ written ((k + 1) * 8)
+  written_eights k l m = let e : k * 8 + 8 ≡ (k + 1) * 8 = omega arith in written_more (k * 8) 8 l m ∙ ap written e
+
+  pub written-rest : (k n : ℕ) (t : List ℕ) → k ≡ n / 8 → t ≡ written (k * 8) → at + n ≤ length s → start + n ≤ length f → over t (at + n / 8 * 8) (take (n - n / 8 * 8) (drop (start + n / 8 * 8) f)) ≡ written n
+  written-rest k n t e h l m =
+      let q : n / 8 * 8 + (n - n / 8 * 8) ≡ n = omega arith in
+      ap (λ (u : List ℕ). over u (at + n / 8 * 8) (take (n - n / 8 * 8) (drop (start + n / 8 * 8) f))) (h ∙ ap (λ (j : ℕ). written (j * 8)) e)
+      ∙ (written_more (n / 8 * 8) (n - n / 8 * 8) (omega arith) (omega arith) ∙ ap written q)
 
 -- the parts of line i of either sheet, as bytes of the sheet
 pub join_bytes : (p b : List ℕ) (i : ℕ) → take 40 (drop (i * bookkeeping_bytes) b) ++ (take 18 (drop (i * plain_bytes + 20) p) ++ take rest_bytes (drop (i * bookkeeping_bytes + 40) b)) ≡ join_line (take plain_bytes (drop (i * plain_bytes) p)) (take bookkeeping_bytes (drop (i * bookkeeping_bytes) b))

@@ -1,30 +1,42 @@
--- No line before i begins so: line i does, or is passed.
-use Rattle.std.specs.Prelude.{◌/◌, ◌≤◌, ◌<◌}
+-- No line before i begins so; line i agrees from field f on. A field that differs passes the line, and five that agree are a match.
+use Rattle.std.specs.Prelude.{◌-◌, ◌/◌, ◌≤◌, ◌<◌}
 use Rattle.std.proofs.Common.{◌∙◌}
-use Rattle.lists.specs.Basics.{refl, sym, length, length-take, length-drop, arith}
+use Rattle.lists.specs.Basics.{refl, sym, length, arith}
+use Rattle.sheets.specs.Search.{agree-first, agree_next, pass-met, pass_next, pass_last}
 use Rattle.lists.specs.Walks.{left-first}
 use Rattle.model.specs.Layouts.{record_bytes}
-use Rattle.sheets.specs.Search.{pass-met, pass_next, pass_last}
 use Rattle.sheets.proofs.lookup.find_line.Goals as goal
+use Rattle.sheets.proofs.lookup.find_line.Goals.{else-lines-test, then-lines-test+else-loop-f-test}
 
-pub loop-i-init : goal.loop-i-init
-loop-i-init c = (refl, left-first _ _)
+pub lines-init : goal.lines-init
+lines-init c = (refl, left-first _ _)
 
-pub returns-then-same : goal.returns-then-same
-returns-then-same c =
-    let a = c.args in
-    let l = c.loop-i in
-    pass-met a.records.now a.text.now l.i (omega (arith, l.invariant.0, c.loop-i-test.true)) l.invariant.1 (sym c.same.ensures ∙ c.if-same.true)
+pub loop-f-init : goal.loop-f-init
+loop-f-init c = (refl, agree-first _ _ _)
 
-pub loop-i-preserved : goal.loop-i-preserved
-loop-i-preserved c =
-    let a = c.args in
-    let l = c.loop-i in
-    (l.invariant.0, pass_next a.records.now a.text.now l.i (omega (arith, l.invariant.0, c.loop-i-test.true)) l.invariant.1 (sym c.same.ensures ∙ c.if-same.false))
+pub same_field-requires : goal.same_field-requires
+same_field-requires c = (omega (arith, c.loop-f.invariant.1.reached), (omega arith, c.requires))
 
-pub returns : goal.returns
-returns c =
-    let a = c.args in
-    let l = c.loop-i in
-    let past : length a.records.now / record_bytes ≤ l.i = omega (arith, l.invariant.0, c.loop-i-test.false) in
-    pass_last a.records.now a.text.now l.i past l.invariant.1
+pub lines-preserved : goal.lines-preserved
+lines-preserved c = (c.lines.invariant.0, rw c.loop-f.invariant.0 (pass_next _ _ _ (omega arith) c.lines.invariant.1 (c.loop-f.f - 1) (omega (arith, c.loop-f.invariant.1.reached)) (sym c.same_field.ensures ∙ c.if-not-same_field.true)))
+
+pub loop-f-preserved : goal.loop-f-preserved
+loop-f-preserved c = (c.loop-f.invariant.0, agree_next _ _ _ c.loop-f.f (c.loop-f.f - 1) (omega (arith, c.loop-f-test.true)) (omega (arith, c.loop-f.invariant.1.reached)) (sym c.same_field.ensures ∙ c.if-not-same_field.false) c.loop-f.invariant.1)
+
+pub returns-then-i-n : goal.returns-then-i-n
+returns-then-i-n c =
+    elim c.lines-test.branch [
+      | else-lines-test w ↦ absurd (omega arith)
+      | then-lines-test+else-loop-f-test w ↦
+          let here : c.lines.i < length c.args.records.now / record_bytes = omega arith in
+          rw (w.i-is, w.loop-f.invariant.0) (pass-met _ _ _ here c.lines.invariant.1 _ w.loop-f-test.false w.loop-f.invariant.1)
+    ]
+
+pub returns-else-i-n : goal.returns-else-i-n
+returns-else-i-n c =
+    elim c.lines-test.branch [
+      | else-lines-test w ↦
+          let past : length c.args.records.now / record_bytes ≤ c.lines.i = omega arith in
+          pass_last _ c.args.text.now _ past c.lines.invariant.1
+      | then-lines-test+else-loop-f-test w ↦ absurd (omega arith)
+    ]
