@@ -1,7 +1,13 @@
 // A history of calls from its first line on, on whatever sheets it has: what each line asks is done, and every answer printed.
 #![tactic(auto)]
 
-ghost use Rattle.std.specs.Prelude.{◌≡◌, ℕ, List};
+ghost use Rattle.std.specs.Prelude.{◌≡◌, ℕ, List, Result};
+ghost use Rattle.types.specs.declared.Key.{Key};
+ghost use Rattle.types.specs.declared.Rank.{Rank};
+ghost use Rattle.types.specs.declared.Refusal.{Refusal};
+ghost use Rattle.types.specs.declared.Request.{Request};
+ghost use Rattle.types.specs.declared.Transaction.{Transaction};
+ghost use Rattle.answers.specs.declared.Performed.{Performed};
 ghost use Rattle.script_calls.specs.Parts.{part_asked};
 
 use answers::Performed;
@@ -18,15 +24,31 @@ pub trait Sheets {
     // The line that a look-up by these numbers hands back.
     ghost line: { Self → List ℕ → List ℕ };
 
-    fn check(&self) -> Result<(), Refusal>;
+    // What a check, the look-up's companion, adding, removing and a call answer on these sheets, and the sheets that they leave.
+    ghost checked: { Self → Result (Unit {0}) Refusal → Type 0 };
 
-    fn rank(&self, key: Key) -> Result<Rank, Refusal>;
+    ghost told: { Self → Key → Result Rank Refusal → Type 0 };
 
-    fn add(&mut self, key: Key) -> Result<(), Refusal>;
+    ghost added: { Self → Key → Result (Unit {0}) Refusal → Self → Type 0 };
 
-    fn remove(&mut self, key: Key) -> Result<(), Refusal>;
+    ghost removed: { Self → Key → Result (Unit {0}) Refusal → Self → Type 0 };
 
-    fn perform(&mut self, request: Request, t: Transaction) -> Result<Performed, Refusal>;
+    ghost performed: { Self → Request → Transaction → Result Performed Refusal → Self → Type 0 };
+
+    fn check(&self) -> Result<(), Refusal>
+        ensures { checked self.now result };
+
+    fn rank(&self, key: Key) -> Result<Rank, Refusal>
+        ensures { told self.now key result };
+
+    fn add(&mut self, key: Key) -> Result<(), Refusal>
+        ensures { added self.old key result self.new };
+
+    fn remove(&mut self, key: Key) -> Result<(), Refusal>
+        ensures { removed self.old key result self.new };
+
+    fn perform(&mut self, request: Request, t: Transaction) -> Result<Performed, Refusal>
+        ensures { performed self.old request t result self.new };
 
     fn line(&self, n: [u32; LINE_NUMBERS]) -> &[u8]
         ensures { result.now ≡ line self.now n };

@@ -13,10 +13,38 @@ pub struct Joined<'a> {
 }
 
 impl<'a> Sheets for Joined<'a> {
-    ghost use Rattle.model.specs.SheetCalls.{looked_up};
+    ghost use Rattle.std.specs.Prelude.{◌≡◌};
+    ghost use Rattle.model.specs.SheetCalls.{looked_up, check_conditions, rank_on};
+    ghost use Rattle.model.specs.Refusals.{refusal_of, refused_with};
+    ghost use Rattle.model.specs.Told.{ranked_by};
+    ghost use Rattle.model.specs.Results.{refusal_in, answer_of};
+    ghost use Rattle.model.specs.Results as calls_of;
+    ghost use Rattle.model.specs.ByteCalls.{result_on, sheet_after};
+    ghost use Rattle.model.specs.Operations.{response_on, sheet_left, coordinator_left};
+    ghost use Rattle.model.specs.Requests.{operation_of};
+    ghost use Rattle.answers.specs.Answers.{in_numbers, to_performed};
     ghost use Rattle.script_calls.specs.Parts.{key_from};
 
     ghost line = { λ s n. looked_up s.records.now (key_from n 0) };
+
+    ghost checked = { λ s r. refused_with r ≡ refusal_of (check_conditions s.records.now s.coordinator.now) };
+
+    ghost told = { λ s key r. ranked_by r ≡ rank_on s.records.now key };
+
+    ghost added = { λ s key r after.
+        (refused_with r ≡ refusal_in (answer_of (result_on (calls_of.add key) s.records.now s.coordinator.now)))
+        × (after.records.now ≡ sheet_after s.records.now s.coordinator.now (result_on (calls_of.add key) s.records.now s.coordinator.now))
+        × (after.coordinator.now ≡ s.coordinator.now) };
+
+    ghost removed = { λ s key r after.
+        (refused_with r ≡ refusal_in (answer_of (result_on (calls_of.remove key) s.records.now s.coordinator.now)))
+        × (after.records.now ≡ sheet_after s.records.now s.coordinator.now (result_on (calls_of.remove key) s.records.now s.coordinator.now))
+        × (after.coordinator.now ≡ s.coordinator.now) };
+
+    ghost performed = { λ s request t r after.
+        (in_numbers r ≡ to_performed t (response_on (operation_of request t) s.records.now s.coordinator.now))
+        × (after.records.now ≡ sheet_left s.records.now (response_on (operation_of request t) s.records.now s.coordinator.now))
+        × (after.coordinator.now ≡ coordinator_left s.coordinator.now (response_on (operation_of request t) s.records.now s.coordinator.now)) };
 
     fn check(&self) -> Result<(), Refusal> {
         sheets::check::check(self.records, self.coordinator)

@@ -14,11 +14,42 @@ pub struct Two<'a> {
 }
 
 impl<'a> Sheets for Two<'a> {
-    ghost use Rattle.std.specs.Prelude.{get_or};
-    ghost use Rattle.model.specs.TwoSpares.{looked_up_two};
+    ghost use Rattle.std.specs.Prelude.{◌≡◌, get_or};
+    ghost use Rattle.model.specs.TwoSpares.{looked_up_two, two_conditions, rank_two};
+    ghost use Rattle.model.specs.Refusals.{refusal_of, refused_with};
+    ghost use Rattle.model.specs.Told.{ranked_by};
+    ghost use Rattle.model.specs.Results.{refusal_in, answer_of};
+    ghost use Rattle.model.specs.Results as calls_of;
+    ghost use Rattle.model.specs.Operations.{once, coordinator_left};
+    ghost use Rattle.model.specs.Requests.{operation_of};
+    ghost use Rattle.model.specs.TwoCalls.{response_two, plain_left, bookkeeping_left};
+    ghost use Rattle.answers.specs.Answers.{in_numbers, to_performed};
+    ghost use Rattle.two_check.specs.Areas.{two};
     ghost use Rattle.script_calls.specs.Parts.{key_from};
 
     ghost line = { λ s n. looked_up_two s.plain.now s.book.now (get_or n 0 0) (key_from n 1) };
+
+    ghost checked = { λ s r. refused_with r ≡ refusal_of (two_conditions s.plain.now s.book.now s.coordinator.now) };
+
+    ghost told = { λ s key r. ranked_by r ≡ rank_two s.plain.now s.book.now key };
+
+    ghost added = { λ s key r after.
+        (refused_with r ≡ refusal_in (answer_of (response_two (once (calls_of.add key)) (two s.plain.now s.book.now s.coordinator.now))))
+        × (after.plain.now ≡ plain_left s.plain.now (response_two (once (calls_of.add key)) (two s.plain.now s.book.now s.coordinator.now)))
+        × (after.book.now ≡ bookkeeping_left s.book.now (response_two (once (calls_of.add key)) (two s.plain.now s.book.now s.coordinator.now)))
+        × (after.coordinator.now ≡ s.coordinator.now) };
+
+    ghost removed = { λ s key r after.
+        (refused_with r ≡ refusal_in (answer_of (response_two (once (calls_of.remove key)) (two s.plain.now s.book.now s.coordinator.now))))
+        × (after.plain.now ≡ plain_left s.plain.now (response_two (once (calls_of.remove key)) (two s.plain.now s.book.now s.coordinator.now)))
+        × (after.book.now ≡ bookkeeping_left s.book.now (response_two (once (calls_of.remove key)) (two s.plain.now s.book.now s.coordinator.now)))
+        × (after.coordinator.now ≡ s.coordinator.now) };
+
+    ghost performed = { λ s request t r after.
+        (in_numbers r ≡ to_performed t (response_two (operation_of request t) (two s.plain.now s.book.now s.coordinator.now)))
+        × (after.plain.now ≡ plain_left s.plain.now (response_two (operation_of request t) (two s.plain.now s.book.now s.coordinator.now)))
+        × (after.book.now ≡ bookkeeping_left s.book.now (response_two (operation_of request t) (two s.plain.now s.book.now s.coordinator.now)))
+        × (after.coordinator.now ≡ coordinator_left s.coordinator.now (response_two (operation_of request t) (two s.plain.now s.book.now s.coordinator.now))) };
 
     fn check(&self) -> Result<(), Refusal> {
         two_engine::check(self.plain, self.book, self.coordinator)

@@ -85,8 +85,8 @@ const NAMED: [Kind; 17] = [
     Kind::Close,
 ];
 
-#[tactic(auto, unfolding(crate::specs::Lines::name, lists::specs::Bytes::bytes))]
 // The word that asks for it; none asks for a bad line.
+#[tactic(auto, unfolding(crate::specs::Lines::name, lists::specs::Bytes::bytes))]
 fn name(kind: Kind) -> &'static [u8]
     ensures { result.now ≡ name kind }
 {

@@ -28,7 +28,7 @@ asked_for Visit n = Some (request.Visit (key_from n 0) (get_or n 5 0))
 asked_for k n = None
 
 -- what the logic reads past the last slot, which is never asked
-abbrev no_transaction : Transaction
+abbrev pub no_transaction : Transaction
 no_transaction = record { number = 0; serializable = 0; phase = 0; place = 0; verdict = 0; count = 0; entries = [] }
 
 -- the transaction of the slot that the first number names, and a new one where there is no such slot

@@ -1,11 +1,19 @@
 // Lines that show a transaction or set it by hand, without a call.
+ghost use Rattle.std.specs.Prelude.{◌≡◌};
+ghost use Rattle.script.specs.declared.reply.Reply.TheVariants.{Made};
+ghost use Rattle.script.specs.declared.scan.Kind.TheVariants as kinds;
+ghost use Rattle.script_calls.specs.Replied.{renumbered, by_hand, left};
+
 use crate::calls;
 use script::reply::Reply;
 use script::scan::{Kind, LINE_NUMBERS};
 use types::{Columns, Entry, Image, Transaction};
 
 // The transaction gets other numbers and keeps its entries.
-fn set(n: [u32; LINE_NUMBERS], t: &mut Transaction) -> Reply {
+fn set(n: [u32; LINE_NUMBERS], t: &mut Transaction) -> Reply
+    ensures reply { result ≡ Made }
+    ensures leaves { t.new ≡ renumbered n t.old }
+{
     t.number = n[1];
     t.serializable = n[2];
     t.phase = n[3];
@@ -16,7 +24,10 @@ fn set(n: [u32; LINE_NUMBERS], t: &mut Transaction) -> Reply {
 }
 
 // The transaction gets another entry at an index, of which there are eight.
-fn entry(n: [u32; LINE_NUMBERS], t: &mut Transaction) -> Reply {
+fn entry(n: [u32; LINE_NUMBERS], t: &mut Transaction) -> Reply
+    ensures reply { result ≡ by_hand kinds.Entry n t.old }
+    ensures leaves { t.new ≡ left kinds.Entry n t.old }
+{
     let index = n[1];
     if 7 < index {
         return Reply::BadLine;
@@ -37,7 +48,10 @@ fn entry(n: [u32; LINE_NUMBERS], t: &mut Transaction) -> Reply {
 }
 
 // A line on a slot's transaction that makes no call. A bad line leaves the transaction.
-pub fn on_transaction(kind: Kind, n: [u32; LINE_NUMBERS], t: &mut Transaction) -> Reply {
+pub fn on_transaction(kind: Kind, n: [u32; LINE_NUMBERS], t: &mut Transaction) -> Reply
+    ensures reply { result ≡ by_hand kind n t.old }
+    ensures leaves { t.new ≡ left kind n t.old }
+{
     match kind {
         Kind::Show => Reply::Shown(*t),
         Kind::Set => set(n, t),

@@ -4,6 +4,7 @@ ghost use Rattle.script.specs.Lines.{line_numbers};
 ghost use Rattle.script.specs.declared.reply.Reply.TheVariants.{Made, Refused, Ranked};
 ghost use Rattle.script_calls.specs.Parts.{key_from, columns_from, asks_line};
 ghost use Rattle.script_calls.specs.Asking.{begun, on_slot, asked_for};
+ghost use Rattle.script_calls.specs.Replied.{visited, reading, answered};
 
 use answers::Performed;
 use script::reply::Reply;
@@ -103,7 +104,9 @@ pub fn request(c: Command) -> Option<Request>
     }
 }
 
-fn visited(came_to: Recovery) -> Reply {
+fn visited(came_to: Recovery) -> Reply
+    ensures { result ≡ visited came_to }
+{
     match came_to {
         Recovery::Stays => Reply::Stays,
         Recovery::Forward => Reply::Forward,
@@ -112,7 +115,9 @@ fn visited(came_to: Recovery) -> Reply {
     }
 }
 
-fn reading(value: Reading) -> Reply {
+fn reading(value: Reading) -> Reply
+    ensures { result ≡ reading value }
+{
     match value {
         Reading::Absent => Reply::Absent,
         Reading::Value(columns) => Reply::Columns(columns),
@@ -122,7 +127,9 @@ fn reading(value: Reading) -> Reply {
 }
 
 // What is printed of a call that was performed.
-pub fn answered(kind: Kind, performed: Performed) -> Reply {
+pub fn answered(kind: Kind, performed: Performed) -> Reply
+    ensures { result ≡ answered kind performed }
+{
     let t = performed.transaction;
     match performed.reply {
         answers::Reply::Read(value) => reading(value),

@@ -1,9 +1,10 @@
 // The sixteen transactions of a history, and what a line leaves of them. A line that asks for a call is performed on `taken`, and then `performed`;
-// any other, but for a check and a look-up, is `replied`.
-ghost use Rattle.std.specs.Prelude.{◌≡◌, false, replicate, IfErr};
+// any other, but for a check, the look-up's companion, adding and removing, is `replied`.
+ghost use Rattle.std.specs.Prelude.{◌≡◌, false, replicate, get_or, IfOk, IfErr};
 ghost use Rattle.model.specs.Calls.{new_transaction};
 ghost use Rattle.script.specs.declared.reply.Reply.TheVariants.{Refused};
 ghost use Rattle.script_calls.specs.Asking.{taken_by};
+ghost use Rattle.script_calls.specs.Replied.{answered, on_slot, replied, in_slot, left_on_slot, left_by};
 
 use crate::{by_hand, calls};
 use answers::Performed;
@@ -37,7 +38,8 @@ pub fn performed(
     slots: &mut [Transaction; 16],
     performed: Result<Performed, Refusal>,
 ) -> Reply
-    ensures { IfErr performed (λ r. (result ≡ Refused r) × (slots.new ≡ slots.old)) }
+    ensures refused { IfErr performed (λ r. (result ≡ Refused r) × (slots.new ≡ slots.old)) }
+    ensures ok { IfOk performed (λ p. (result ≡ answered c.kind p) × (slots.new ≡ in_slot (get_or c.numbers 0 0) p.transaction slots.old)) }
 {
     match performed {
         Err(r) => Reply::Refused(r),
@@ -53,7 +55,10 @@ pub fn performed(
 }
 
 // A line on a slot that makes no call.
-fn on_slot(c: Command, slots: &mut [Transaction; 16]) -> Reply {
+fn on_slot(c: Command, slots: &mut [Transaction; 16]) -> Reply
+    ensures reply { result ≡ on_slot c.kind c.numbers slots.old }
+    ensures leaves { slots.new ≡ left_on_slot c.kind c.numbers slots.old }
+{
     let n = c.numbers;
     let slot = n[0];
     if 16 <= slot {
@@ -63,7 +68,10 @@ fn on_slot(c: Command, slots: &mut [Transaction; 16]) -> Reply {
 }
 
 // A line that makes no call. For `sheets` the sheets alone are printed, and for `line` what is looked up.
-pub fn replied(c: Command, slots: &mut [Transaction; 16]) -> Reply {
+pub fn replied(c: Command, slots: &mut [Transaction; 16]) -> Reply
+    ensures reply { result ≡ replied c.kind c.numbers slots.old }
+    ensures leaves { slots.new ≡ left_by c.kind c.numbers slots.old }
+{
     match c.kind {
         Kind::Line | Kind::Sheets => Reply::Made,
         Kind::BadLine => Reply::BadLine,
