@@ -32,7 +32,7 @@
  *   - one caller at a time for one pair of sheets, whoever has the list: there is no lock. Calls on different sheets and lists are independent,
  *     in any threads, since the library holds no data of its own;
  *   - a call finds RAPYHEO_STACK_BYTES of stack, and one on two sheets RAPYHEO_TWO_STACK_BYTES, since it joins them in an area of its own.
- *     `make stack` measures what each needs, its arguments among it: 12104 at most, and 111848 on two sheets, to which some 2000 come where
+ *     `make stack` measures what each needs, its arguments among it: 12032 at most, and 112296 on two sheets, to which some 2000 come where
  *     the loader binds memcpy or memset in the middle of the first call (not so with -Wl,-z,now). A call allocates nothing.
  *
  * Record sheet: 1 to 500 lines of 108 bytes, the last byte LF. Figures are decimal, right-justified, filled with spaces, without leading zeros.

@@ -1,7 +1,8 @@
 #!/usr/bin/env bash
 # The C side. The header alone in C and C++, and that an answer which nobody looks at is warned of; the client of examples/ in C, as C++, under the address and undefined
 # behaviour sanitizers, under valgrind, with the shared library, and from installed copies found by pkg-config; the clients in Python and Rust; each output held to
-# examples/client.out. The saddler's client on two sheets, held to examples/saddler.out. Then the edges that the clients don't meet, and the client that is killed.
+# examples/client.out. The saddler's client on two sheets, held to examples/saddler.out. Then the edges that the clients don't meet, the client that is killed, and what the archive
+# holds and asks for.
 set -euo pipefail
 cd "$(dirname "$0")/../.."
 
@@ -104,6 +105,10 @@ done
 
 "${c[@]}" -Iinclude -o "$work/killed" tests/c_client/killed.c $archive
 hold "$work/killed" "$work/sheets"
+
+# no data, and nothing asked of others but these two (README, "For the supplier who links it from C")
+hold test "$(nm -u $archive | awk '/ U / { print $2 }' | sort -u | paste -s -d ' ')" = "memcpy memset"
+hold test "$(size $archive | awk 'NR > 1 { bytes += $2 + $3 } END { print bytes }')" = 0
 
 "${c[@]}" -O2 -Iinclude -o "$work/stack" tests/c_client/stack.c $archive
 hold "$work/stack" > "$work/log"

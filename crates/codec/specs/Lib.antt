@@ -4,3 +4,4 @@ pub mod Rows
 pub mod Parts
 pub mod Casts
 pub mod Orders
+pub mod Words

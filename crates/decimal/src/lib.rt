@@ -89,11 +89,19 @@ pub fn write(s: &mut [u8], v: u32)
     }
 }
 
-// The two hold the same bytes.
+// The two hold the same bytes. Compared from the last, in which figures of one width differ most often.
 pub fn same(s: &[u8], t: &[u8]) -> bool
     ensures { result ≡ eq_list s.now t.now }
 {
-    s == t
+    if s.len() != t.len() {
+        return false;
+    }
+    for i in (0..s.len()).rev() {
+        if s[i] != t[i] {
+            return false;
+        }
+    }
+    true
 }
 
 // The word t over s, where it has the length of s.

@@ -37,6 +37,31 @@ decisions_pass_lem k ds = ap₂ ◌&&◌ (ranged ds) (ap (all is_undecided) (dro
     drop-map (suc k) [] = refl
     drop-map (suc k) (d ∷ ds) = drop-map k ds
 
+-- those below the issued count are in range, and behind them none is a decision
+pub decisions_split : (k : ℕ) (ds : List ℕ) → (all (λ (d : ℕ). leb d 2) (take k ds) && all (λ (d : ℕ). eqb d 0) (drop k ds)) ≡ decisions_pass k ds
+unfolding decisions_pass all
+decisions_split zero [] = refl
+decisions_split zero (d ∷ ds) = go (leb d 2) refl (eqb d 0) refl (decisions_split zero ds)
+  where
+    go : (b : Bool) → leb d 2 ≡ b → (e : Bool) → eqb d 0 ≡ e → all (λ (x : ℕ). eqb x 0) ds ≡ (all (λ (x : ℕ). leb x 2) ds && all (λ (x : ℕ). eqb x 0) ds)
+        → (eqb d 0 && all (λ (x : ℕ). eqb x 0) ds) ≡ ((leb d 2 && all (λ (x : ℕ). leb x 2) ds) && (eqb d 0 && all (λ (x : ℕ). eqb x 0) ds))
+    go b h false e i = rw e (sym (and-false (leb d 2 && all (λ (x : ℕ). leb x 2) ds)))
+    go b h true e i =
+        let z : d ≡ 0 = eqb-true d 0 e in
+        rw z i
+decisions_split (suc k) [] = refl
+decisions_split (suc k) (d ∷ ds) =
+    and_assoc (leb d 2) (all (λ (x : ℕ). leb x 2) (take k ds)) (all (λ (x : ℕ). eqb x 0) (drop k ds))
+    ∙ (ap (λ (b : Bool). leb d 2 && b) (decisions_split k ds)
+    ∙ sym (and_assoc (leb d 2) (all (λ (x : ℕ). leb x 2) ds) (all (λ (x : ℕ). eqb x 0) (drop k ds))))
+
+-- where one below the issued count is out of range
+pub decisions_out : (k : ℕ) (ds : List ℕ) → all (λ (d : ℕ). leb d 2) (take k ds) ≡ false → false ≡ decisions_pass k ds
+decisions_out k ds e = sym (ap (λ (b : Bool). b && all (λ (d : ℕ). eqb d 0) (drop k ds)) e) ∙ decisions_split k ds
+
+pub decisions_in : (k : ℕ) (ds : List ℕ) → all (λ (d : ℕ). leb d 2) (take k ds) ≡ true → all (λ (d : ℕ). eqb d 0) (drop k ds) ≡ decisions_pass k ds
+decisions_in k ds e = sym (ap (λ (b : Bool). b && all (λ (d : ℕ). eqb d 0) (drop k ds)) e) ∙ decisions_split k ds
+
 -- no number past that of the last capital says one
 pub capitals_is : (letters : List ℕ) → all (λ (n : ℕ). leb n 4) letters ≡ all_capitals (map letter_of letters)
 unfolding all all_capitals letter_of

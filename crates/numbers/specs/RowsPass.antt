@@ -1,10 +1,10 @@
 -- Records as numbers, judged row by row: each row by itself, and its key against the next row's. Where a row is in range,
 -- its record's numbers are the row again, so that the record's ranges need not be asked twice.
-use Rattle.std.specs.Prelude.{◌≡◌, ◌+◌, ◌*◌, ◌/◌, ◌≤◌, ◌<◌, ◌&&◌, ◌∷◌}
+use Rattle.std.specs.Prelude.{◌≡◌, ◌+◌, ◌-◌, ◌*◌, ◌/◌, ◌≤◌, ◌<◌, ◌&&◌, ◌∷◌}
 use Rattle.std.proofs.Common.{◌∙◌}
 use Rattle.lists.specs.Basics.{refl, sym, ap, ap₂, ℕ, zero, suc, eqb, Bool, true, false, List, [], map}
-use Rattle.lists.specs.Basics.{length, drop, get_or, length-map, length-take, length-drop, arith, eq-eqb, le-leb, all, and_fst, and_snd, and_both, same_test, and_assoc}
-use Rattle.lists.specs.All.{pieces_whole}
+use Rattle.lists.specs.Basics.{length, drop, get_or, length-map, length-take, length-drop, arith, eq-eqb, le-leb, all, and_fst, and_snd, and_both, same_test, and_assoc, and-true, get_or-drop}
+use Rattle.lists.specs.All.{pieces_whole, get_or_any}
 use Rattle.lists.specs.Pieces.{get_or-pieces}
 use Rattle.lists.specs.Chains.{all_is}
 use Rattle.lists.specs.Tests.{and_swap}
@@ -86,6 +86,43 @@ pair_whole v k p l e =
       ap length (r.1 ∙ get_or-pieces record_fields k (length v / record_fields) v (omega arith)) ∙ simp (length-take, length-drop) (omega arith),
       ap length (r.2 ∙ get_or-pieces record_fields (k + 1) (length v / record_fields) v n) ∙ simp (length-take, length-drop) (omega arith),
     )
+
+-- a row behind some others has sixteen numbers too
+pub last_whole : (v : List ℕ) (n k : ℕ) (r : List ℕ) → k < length (drop n (rows v)) → r ≡ get_or (drop n (rows v)) k r → length r ≡ record_fields
+unfolding rows
+last_whole v n k r l e =
+    let m : n + k < length (rows v) = omega (arith, length-drop n (rows v)) in
+    let j : n + k < length v / record_fields = omega (arith, m, length-rows v) in
+    ap length (e ∙ (get_or_any (drop n (rows v)) k r [] l ∙ (get_or-drop n (rows v) k [] ∙ get_or-pieces record_fields (n + k) (length v / record_fields) v j))) ∙ simp (length-take, length-drop) (omega arith)
+
+-- a pair's first row is good, and before the second
+abbrev pub pair_good : List ℕ × List ℕ → Bool
+pair_good p = row_ok p.0 && ordered p
+
+-- every row but the last is the first of a pair
+pairs_last : (k : ℕ) (vs : List (List ℕ)) → k + 1 ≡ length vs → (list_all pair_good (zip vs (drop 1 vs)) && list_all row_ok (drop k vs)) ≡ rows_pass vs
+unfolding rows_pass rising in_order all
+pairs_last k [] e = absurd (omega arith)
+pairs_last zero (v ∷ []) e = sym (and-true (row_ok v && true))
+pairs_last zero (v ∷ w ∷ vs) e = absurd (omega arith)
+pairs_last (suc k) (v ∷ []) e = absurd (omega arith)
+pairs_last (suc k) (v ∷ w ∷ vs) e =
+    let n : k + 1 ≡ length (w ∷ vs) = omega arith in
+    and_assoc (pair_good (v, w)) (list_all pair_good (zip (w ∷ vs) vs)) (list_all row_ok (drop k (w ∷ vs)))
+    ∙ (ap (λ (b : Bool). pair_good (v, w) && b) (pairs_last k (w ∷ vs) n)
+    ∙ and_swap (row_ok v) (ordered (v, w)) (all row_ok (w ∷ vs)) (rising (map record_of (w ∷ vs))))
+
+pub one_by_one : (vs : List (List ℕ)) (k : ℕ) → k ≡ length vs - 1 → (list_all pair_good (zip vs (drop 1 vs)) && list_all row_ok (drop k vs)) ≡ rows_pass vs
+unfolding rows_pass rising all
+one_by_one [] k e = let z : k ≡ 0 = omega arith in rw z refl
+one_by_one (v ∷ vs) k e = pairs_last k (v ∷ vs) (omega (arith, e))
+
+-- a bad pair settles it; with good pairs alone, the last row does
+pub pairs_out : (vs : List (List ℕ)) → list_all pair_good (zip vs (drop 1 vs)) ≡ false → false ≡ rows_pass vs
+pairs_out vs e = sym (ap (λ (b : Bool). b && list_all row_ok (drop (length vs - 1) vs)) e) ∙ one_by_one vs (length vs - 1) refl
+
+pub pairs_in : (vs : List (List ℕ)) (k : ℕ) → k ≡ length vs - 1 → list_all pair_good (zip vs (drop 1 vs)) ≡ true → list_all row_ok (drop k vs) ≡ rows_pass vs
+pairs_in vs k n e = sym (ap (λ (b : Bool). b && list_all row_ok (drop k vs)) e) ∙ one_by_one vs k n
 
 -- a bad row settles it; with good rows alone, the order does
 pub stopped : (vs : List (List ℕ)) → list_all row_ok vs ≡ false → false ≡ rows_pass vs

@@ -15,9 +15,8 @@ use types::{COORDINATOR_BYTES, HEAD_FIELDS, Layout, Refusal};
 fn decisions_pass(decisions: &[u32], issued: usize) -> bool
     ensures { result ≡ decisions_pass issued decisions.now }
 {
-    let ranged = decisions.iter().all(|decision| *decision <= 2);
-    let open = decisions.iter().skip(issued).all(|decision| *decision == 0);
-    ranged & open
+    decisions.iter().take(issued).all(|decision| *decision <= 2)
+        && decisions.iter().skip(issued).all(|decision| *decision == 0)
 }
 
 // Every letter is a capital, those being the first five: small letters are for two sheets only.
@@ -27,19 +26,31 @@ fn capitals(letters: &[u32]) -> bool
     letters.iter().all(|letter| *letter <= 4)
 }
 
-// The numbers are those of a coordinator of capitals that keeps the rules.
+// The numbers are those of a coordinator of capitals that keeps the rules. What the head or the count refuses is refused before any decision is looked at.
 pub fn numbers_ok(numbers: &[u32]) -> bool
     ensures { result ≡ numbers_accepted numbers.now }
 {
     if numbers.len() < HEAD_FIELDS {
         return false;
     }
-    let head = codec::lines::row_good(Layout::CoordinatorHead, &numbers[..HEAD_FIELDS]);
-    let letters = capitals(&numbers[1..HEAD_FIELDS]);
+    if !codec::lines::row_good(Layout::CoordinatorHead, &numbers[..HEAD_FIELDS]) {
+        return false;
+    }
+    if !capitals(&numbers[1..HEAD_FIELDS]) {
+        return false;
+    }
     let n = numbers.len() - HEAD_FIELDS;
+    if n < 1 {
+        return false;
+    }
+    if 999 < n {
+        return false;
+    }
     let issued = numbers[0] as usize;
-    let decisions = decisions_pass(&numbers[HEAD_FIELDS..], issued);
-    head & letters & (1 <= n) & (n <= 999) & (issued <= n) & decisions
+    if n < issued {
+        return false;
+    }
+    decisions_pass(&numbers[HEAD_FIELDS..], issued)
 }
 
 // The decision of every line over the target.

@@ -10,7 +10,8 @@ ghost use Rattle.numbers.specs.RowsPass.{row_ok, rows_pass};
 use crate::rules;
 use types::{Layout, RECORD_FIELDS};
 
-// The row is in range and keeps the rule of its state.
+// The row is in range and keeps the rule of its state. It is taken in at both places that ask it, where the columns are known.
+#[inline(always)]
 fn row_ok(row: &[u32]) -> bool
     requires { length row.now ≡ record_fields }
     ensures { result ≡ row_ok row.now }
@@ -28,14 +29,16 @@ fn rises(row: &[u32], next: &[u32]) -> bool
     codec::records::record_of(row).key < codec::records::record_of(next).key
 }
 
-// Every row is good by itself and before the next.
+// Every row is good by itself and before the next: one after another, so that the first which isn't ends it, and the last by itself.
 fn rows_pass(numbers: &[u32]) -> bool
     ensures { result ≡ rows_pass (rows numbers.now) }
 {
     let all = numbers.chunks_exact(RECORD_FIELDS);
     let next = numbers.chunks_exact(RECORD_FIELDS).skip(1);
-    numbers.chunks_exact(RECORD_FIELDS).all(row_ok)
-        && all.zip(next).all(|(row, next)| rises(row, next))
+    let last = (numbers.len() / RECORD_FIELDS).saturating_sub(1);
+    all.zip(next)
+        .all(|(row, next)| row_ok(row) && rises(row, next))
+        && numbers.chunks_exact(RECORD_FIELDS).skip(last).all(row_ok)
 }
 
 // Every number of the row is 0: it is a spare.

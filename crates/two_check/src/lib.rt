@@ -1,7 +1,7 @@
 // Whether two sheets are accepted, and both joined in a lent area.
 #![tactic(auto)]
 
-ghost use Rattle.std.specs.Prelude.{◌≡◌, ◌&&◌, true, length, replicate, ◌*◌, ◌/◌, ◌≤◌};
+ghost use Rattle.std.specs.Prelude.{◌≡◌, ◌&&◌, true, length, replicate, ◌*◌, ◌/◌, ◌≤◌, ◌<◌, ◌^◌};
 ghost use Rattle.lists.specs.Basics.{eqb};
 ghost use Rattle.model.specs.Layouts.{record_bytes};
 ghost use Rattle.model.specs.Records.{records_accepted};
@@ -39,6 +39,15 @@ fn within(lines: usize, plain: usize, book: usize) -> bool
     (plain <= lines * PLAIN_BYTES) & (book <= lines * BOOKKEEPING_BYTES)
 }
 
+// What is done in an area of N bytes of this call's own. A function for each size, so that the areas of several may share one place on the stack (`make stack`).
+fn in_bytes<const N: usize, R, F: FnMut(&mut [u8]) -> R>(act: &mut F) -> R
+    requires few { N < 2 ^ 63 }
+    requires callable { (area : _) → length area.now ≡ N → F.pre act.old area }
+    ensures { (old : _) × (new : _) × (length old.now ≡ N) × F.step act.old old result new act.new }
+{
+    act(&mut blank::<N>())
+}
+
 // What is done in an area of this call's own that has room for two sheets of so many bytes joined. It is the smallest of several, since to set the largest to zero takes
 // longer than a call on a few lines.
 pub fn in_area<R, F: FnMut(&mut [u8]) -> R>(plain: usize, book: usize, act: &mut F) -> R
@@ -46,16 +55,15 @@ pub fn in_area<R, F: FnMut(&mut [u8]) -> R>(plain: usize, book: usize, act: &mut
     ensures { (old : _) × (new : _) × RoomsFor plain book (length old.now) × F.step act.old old result new act.new }
 {
     if within(50, plain, book) {
-        return act(&mut blank::<BYTES_50>());
+        return in_bytes::<BYTES_50, R, F>(act);
     }
     if within(100, plain, book) {
-        return act(&mut blank::<BYTES_100>());
+        return in_bytes::<BYTES_100, R, F>(act);
     }
     if within(250, plain, book) {
-        return act(&mut blank::<BYTES_250>());
+        return in_bytes::<BYTES_250, R, F>(act);
     }
-    let mut area = blank::<BYTES_500>();
-    act(&mut area)
+    in_bytes::<BYTES_500, R, F>(act)
 }
 
 // Whether the plain sheet, filled with fixed text over the target, is a good record sheet.
