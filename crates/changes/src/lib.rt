@@ -69,6 +69,7 @@ fn fits(
     ensures records { OnOk result (records_before ≡ records) }
     ensures counted { OnOk result (records_before / record_bytes < 2 ^ 32) }
     ensures target { OnOk result (lines ≡ 2) }
+    ensures decisions { OnOk result (coordinator_before ≡ coordinator) }
 {
     if records_before != records {
         return Err(Refusal::BadRecords);

@@ -1,10 +1,10 @@
 -- When a step writes, phase by phase: a group that is put writes if it has an entry, and a group that is rolled if the line of one of its entries is prepared
 -- by the number. The model asks the latter of all lines; on a sheet in order the line of a key is the only one that has it.
-use Rattle.std.specs.Prelude.{◌≡◌, ◌≤◌, ◌<◌, ◌&&◌, ◌||◌, ◌∷◌}
+use Rattle.std.specs.Prelude.{◌≡◌, ◌<◌, ◌&&◌, ◌||◌, ◌∷◌}
 use Rattle.std.proofs.Common.{◌∙◌}
 use Rattle.lists.specs.Basics.{refl, sym, ap, ap₂, ℕ, eqb, Bool, true, false, not, cond, true≢false, and-true, and-false, or-false}
 use Rattle.lists.specs.Basics.{List, [], get_or, all, any, choose_by, and_snd}
-use Rattle.lists.specs.Chosen.{any-filter, any_weaken}
+use Rattle.lists.specs.Chosen.{Missed, any-filter, any_weaken}
 use Rattle.model.specs.Types.{Key, Record, Entry, Transaction}
 use Rattle.model.specs.Records.{no_record, records, rising, in_order, same_key, line_of}
 use Rattle.model.specs.Coordinator.{decision}
@@ -210,6 +210,6 @@ module _ (t : Transaction) (s : Sheets) where
   pub writes_at : (now : ℕ) (p : ℕ) (b : Bool) → t.phase ≡ p → Writes b (step_at now p) → Writes b (step t now s)
   writes_at now p b e h = h ∙ sym (ap (λ (x : Step). changes x.write s) (step_at_lem t s now p e))
 
-  pub none_writes : (now : ℕ) → 8 ≤ t.phase → Writes false (step t now s)
+  pub none_writes : (now : ℕ) → Missed 7 t.phase → Writes false (step t now s)
   unfolding changes
   none_writes now m = sym (ap (λ (x : Step). changes x.write s) (step-none t s now m))

@@ -8,7 +8,7 @@ use Rattle.lists.specs.Basics.{append-nil, drop_of_length-le, drop-cons, length-
 use Rattle.std.proofs.lemmas.List.{length-replicate}
 use Rattle.lists.specs.Basics.{add-one, eqb-true, eqb-false, ltb-true, ltb-false, eq-eqb, ne_eqb, lt-ltb, le-ltb, less, eq_list, and_both, same_test, tests}
 use Rattle.std.proofs.Common.{pow-suc, ◌∙◌}
-use Rattle.std.proofs.Math.Nat.{mul-le-mul_right}
+use Rattle.std.proofs.Math.Nat.{mul-le-mul_right, pow-le-pow_right}
 use Rattle.std.proofs.Math.Pow.{are_bytes}
 use Rattle.lists.specs.Order.{decided, regroup, less-append}
 
@@ -138,8 +138,15 @@ number_below v (b ∷ s) h =
     let m : suc (v * 256 + b) ≤ suc v * 256 = omega arith in
     rw (pow-suc 256 (length s)) (omega (arith, number_below (v * 256 + b) s p, mul-le-mul_right (256 ^ length s) m))
 
-pub number_room : (s : List ℕ) (n at : ℕ) → ((i : ℕ) → get_or s i 0 < 256) → at + n ≤ length s → number_of (bytes_at s n at) < 256 ^ n
-number_room s n at h g =
+-- i bytes are a number below 256 ^ i, and more bytes have room for it
+pub number_room : (v i b : ℕ) → v < 256 ^ i → b < 256 → v * 256 + b < 256 ^ (i + 1)
+number_room v i b h g = rw (add-one, pow-suc) (omega arith)
+
+pub number_fits : (v i k : ℕ) → v < 256 ^ i → i ≤ k → v < 256 ^ k
+number_fits v i k h g = omega (arith, pow-le-pow_right {n = 256} (omega arith) {i = i} {j = k} g)
+
+pub number_within : (s : List ℕ) (n at : ℕ) → ((i : ℕ) → get_or s i 0 < 256) → at + n ≤ length s → number_of (bytes_at s n at) < 256 ^ n
+number_within s n at h g =
     let l : length (bytes_at s n at) ≡ n = simp (length-take, length-drop) (omega arith) in
     let r = rw l at (number_below 0 (bytes_at s n at) (part_bytes s n at h)) in
     omega arith

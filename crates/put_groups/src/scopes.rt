@@ -5,8 +5,8 @@ ghost use Rattle.put_groups.specs.Scopes.{unit_of, scope_key, last_scope, before
 
 use types::{AtomicityUnit, Entry, Key};
 
-// The unit of a letter: the five cases of the published listing (source document 000), each by its capital and its small letter. S stands with what is no letter of
-// a sheet that keeps the rules.
+// The unit of a letter: the five cases of the published listing (source document 000), RECORD to STORAGE, each by its capital and its small letter. The rest is for
+// what is no letter of a sheet that keeps the rules.
 #[tactic(auto, unfolding(transactions::specs::Units::unit_in))]
 fn unit_of(letter: u8) -> AtomicityUnit
     ensures { result ≡ unit_in letter }
@@ -16,6 +16,7 @@ fn unit_of(letter: u8) -> AtomicityUnit
         b'P' | b'p' => AtomicityUnit::Partition,
         b'T' | b't' => AtomicityUnit::Table,
         b'N' | b'n' => AtomicityUnit::Namespace,
+        b'S' | b's' => AtomicityUnit::Storage,
         _ => AtomicityUnit::Storage,
     }
 }

@@ -1,5 +1,5 @@
 -- Clock readings modulo 2^32, and whether a number has expired, line by line.
-use Rattle.std.specs.Prelude.{◌≢◌, ◌≡◌, ◌+◌, ◌/◌, ◌≤◌, ◌<◌, ◌&&◌, ◌||◌}
+use Rattle.std.specs.Prelude.{◌≢◌, ◌≡◌, ◌+◌, ◌/◌, ◌%◌, ◌^◌, ◌≤◌, ◌<◌, ◌&&◌, ◌||◌}
 use Rattle.std.proofs.Common.{◌∙◌}
 use Rattle.lists.specs.Basics.{refl, sym, ap, ℕ, Bool, true, false, not, and-false, List, length, drop}
 use Rattle.lists.specs.Basics.{get_or, arith, eq-eqb, ne_eqb, all}
@@ -7,9 +7,14 @@ use Rattle.lists.specs.Walks.{LeftFrom, left-first, left_here, left_last}
 use Rattle.model.specs.Types.{Record}
 use Rattle.model.specs.Layouts.{record_bytes}
 use Rattle.model.specs.Records.{no_record, records}
-use Rattle.model.specs.Images.{is_prepared, prepared_by, line_expired}
+use Rattle.model.specs.Images.{is_prepared, prepared_by, elapsed, line_expired}
 use Rattle.model.specs.Visits.{number_expired}
 use Rattle.sheet_laws.specs.ByIndex.{length-records}
+
+-- what added to the earlier reading wraps to the later one is what has elapsed
+pub elapsed_is : (r now clock : ℕ) → r < 2 ^ 32 → clock < 2 ^ 32 → (r + clock) % 2 ^ 32 ≡ now → r ≡ elapsed now clock
+unfolding elapsed
+elapsed_is r now clock l m e = omega arith
 
 -- what is asked of each line for a number to count as expired
 abbrev pub line_allows : ℕ → ℕ → Record → Bool

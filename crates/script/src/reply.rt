@@ -3,6 +3,9 @@ use std::fmt;
 use std::fmt::{Display, Formatter, Write};
 use types::{Columns, Entry, Image, Key, Rank, Refusal, Transaction};
 
+// The numbers of an entry, from its key to what was put.
+pub const ENTRY_NUMBERS: usize = 13;
+
 // A call that is refused has the number of its refusal; what else a line is answered by says what it did or read.
 #[derive(Clone, Copy)]
 pub enum Reply {

@@ -4,6 +4,8 @@ ghost use Rattle.script.specs.Lines.{kind_of, name, asks, named};
 ghost use Rattle.script.specs.Lines.{no_numbers, with_word, with_words, words_after, called, said, up_to};
 ghost use Rattle.script.specs.Lines as model;
 
+use crate::reply::ENTRY_NUMBERS;
+
 // The calls of a history; Sheets asks for all sheets, and BadLine is a line of another form. Second is for two sheets only.
 #[derive(Clone, Copy, PartialEq, Eq)]
 pub enum Kind {
@@ -26,9 +28,6 @@ pub enum Kind {
     Sheets,
     BadLine,
 }
-
-// The numbers of an entry, from its key to what was put.
-const ENTRY_NUMBERS: usize = 13;
 
 // The longest line sets an entry: its slot, its place and its numbers.
 pub const LINE_NUMBERS: usize = 2 + ENTRY_NUMBERS;

@@ -1,12 +1,14 @@
 -- The step table by its cases: what each outcome of the tests comes to, so that every arm of the code is one of them.
-use Rattle.std.specs.Prelude.{◌≡◌, ◌≤◌}
+use Rattle.std.specs.Prelude.{◌≡◌}
 use Rattle.std.proofs.Common.{◌∙◌}
 use Rattle.lists.specs.Basics.{refl, sym, ap, subst, ℕ, eqb, true, false, List, get_or, all, choose_by}
 use Rattle.model.specs.Types.{Undecided, Committed, Aborted, Transaction}
 use denote.Enum.Declared.{tag_of}
 use Rattle.transactions.specs.declared.phases.Phase.{Phase}
 use Rattle.transactions.specs.contracts.phases.Phase.{the_type}
-use Rattle.transactions.specs.Numbers.{phase_number, unnamed}
+use Rattle.transactions.specs.Numbers.{phase_number}
+use Rattle.lists.specs.Chosen.{Missed}
+use Rattle.transactions.specs.Phases.{phase_past}
 use Rattle.model.specs.Coordinator.{decision}
 use Rattle.model.specs.Transactions.{by_phase, is_empty, puts, to_validate, no_entry, moved}
 use Rattle.model.specs.Writes.{Sheets, nothing, decide, commit, prepare}
@@ -101,8 +103,10 @@ module _ (t : Transaction) (s : Sheets) where
     step_at_lem p e =
         ap (λ (q : ℕ). by_phase q (open_step t s) (prepare_step t now s) (validate_step t s) (decide_step t s) (withdraw_step t s) (finish_step t s) (undo_step t s) (no_step t) (no_step t)) e
 
-    -- in no phase
-    pub step-none : 8 ≤ t.phase → step t now s ≡ no_step t
+    -- in done, or in no phase
+    pub step-none : Missed 7 t.phase → step t now s ≡ no_step t
     unfolding step
-    step-none l =
-        sym (unnamed t.phase (open_step t s) (prepare_step t now s) (validate_step t s) (decide_step t s) (withdraw_step t s) (finish_step t s) (undo_step t s) (no_step t) (no_step t) l)
+    step-none n =
+        phase_past t.phase (open_step t s) (prepare_step t now s) (validate_step t s) (decide_step t s) (withdraw_step t s) (finish_step t s) (undo_step t s)
+        (no_step t) (no_step t) n
+        ∙ choose_by (λ (y : Step). y ≡ no_step t) (eqb t.phase 7) (λ e. refl) (λ e. refl)

@@ -2,4 +2,5 @@
 pub mod Units
 pub mod Held
 pub mod Numbers
+pub mod Phases
 pub mod Chains

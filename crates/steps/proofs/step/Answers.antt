@@ -1,7 +1,8 @@
 -- By the phase; in done, or in no phase, nothing is done.
 use Rattle.transactions.specs.declared.phases.Phase.TheVariants.{Open, Prepare, Validate, Decide, Withdraw, Finish, Undo, Done}
 use Rattle.transactions.specs.Numbers.{numbered}
-use Rattle.lists.specs.Basics.{refl}
+use Rattle.transactions.specs.Phases.{missed_from}
+use Rattle.lists.specs.Basics.{refl, arith}
 use Rattle.steps.specs.Ready.{records_accepted_lem, coordinator_readable_lem, known}
 use Rattle.steps.specs.Stepped.{wrote_nothing}
 use Rattle.steps.specs.Cases.{stepped_as, step_at_lem, step-none}
@@ -65,5 +66,5 @@ returns-in-Done c =
 
 pub returns-in_default : goal.returns-in_default
 returns-in_default c =
-    stepped_as (step-none _ _ _ c.in_default.ensures.1)
+    stepped_as (step-none _ _ _ (missed_from 7 _ (omega (arith, c.in_default.ensures.1))))
     (wrote_nothing _ _ (records_accepted_lem _ _ _ _ c.requires) (coordinator_readable_lem _ _ _ _ c.requires) _ _ refl)

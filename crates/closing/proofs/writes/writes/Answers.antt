@@ -1,6 +1,7 @@
 -- By the phase; in done, or in no phase, nothing is written.
 use Rattle.std.proofs.Common.{◌∙◌, inl, inr}
-use Rattle.lists.specs.Basics.{refl}
+use Rattle.transactions.specs.Phases.{missed_from}
+use Rattle.lists.specs.Basics.{refl, arith}
 use Rattle.transactions.specs.declared.phases.Phase.TheVariants.{Open, Prepare, Validate, Decide, Withdraw, Finish, Undo, Done}
 use Rattle.transactions.specs.Numbers.{numbered}
 use Rattle.model.specs.Closing.{changes}
@@ -51,4 +52,4 @@ returns-in-Validate c = λ now.
     ]
 
 pub returns-in_default : goal.returns-in_default
-returns-in_default c = λ now. none_writes _ _ now c.in_default.ensures.1
+returns-in_default c = λ now. none_writes _ _ now (missed_from 7 _ (omega (arith, c.in_default.ensures.1)))
