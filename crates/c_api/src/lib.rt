@@ -109,6 +109,7 @@ pub extern "C" fn rapyheo_call_at(
             list[place] = performed.transaction;
             by_place::number(performed.reply)
         }
-        Err(refusal) => by_place::refused(refusal),
+        // the one at the place stays
+        Err(why) => by_place::refused(why),
     }
 }

@@ -144,6 +144,7 @@ pub extern "C" fn rapyheo_two_call_at(
             list[place] = performed.transaction;
             by_place::number_two(performed.reply)
         }
-        Err(refusal) => by_place::refused(refusal) as u64,
+        // the one at the place stays
+        Err(why) => by_place::refused(why) as u64,
     }
 }

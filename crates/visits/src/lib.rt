@@ -47,6 +47,8 @@ pub fn visit(
     if !codec::keys::key_in_range(key) {
         return Err(Refusal::BadKey);
     }
-    let i = sheets::lookup::find(records, key).ok_or(Refusal::NoSuchKey)?;
-    visit_line(i, clock, records, coordinator)
+    match sheets::lookup::find(records, key) {
+        None => Err(Refusal::NoSuchKey),
+        Some(i) => visit_line(i, clock, records, coordinator),
+    }
 }

@@ -1,13 +1,11 @@
 -- Case by case in the order of the refusals; a line that was found is visited there.
-use Rattle.std.proofs.Common.{◌∙◌, Err}
-use Rattle.lists.specs.Basics.{refl, sym, ap}
-use Rattle.types.specs.declared.Refusal.{Refusal}
+use Rattle.std.proofs.Common.{◌∙◌}
+use Rattle.lists.specs.Basics.{refl, sym}
 use Rattle.model.specs.ByteCalls.{sheets_of}
 use Rattle.sheets.specs.Answers.{is_found}
 use Rattle.call_laws.specs.Accepted.{outcome_refused}
 use Rattle.recover.specs.Recovering.{standing}
-use Rattle.answers.specs.Answers.{in_numbers, to_visited}
-use Rattle.answers.specs.Outcomes.{passed_up, some_of, none_of}
+use Rattle.answers.specs.Answers.{to_visited}
 use Rattle.visits.specs.Visiting.{visit_out, visit_none, visit_found}
 use Rattle.visits.proofs.visit.Goals as goal
 
@@ -21,24 +19,20 @@ pub find-requires : goal.find-requires
 find-requires c =
     record { records_value = c.requires.lines; key_value = sym c.key_in_range.ensures ∙ c.if-not-key_in_range.false }
 
-pub returns-in_err-i : goal.returns-in_err-i
-returns-in_err-i c =
+pub returns-in-None : goal.returns-in-None
+returns-in-None c =
     let a = c.args in
-    let n = none_of c.ok_or.ensures.ok_part c.ok_or.ensures.value c.in_err-i.was in
     outcome_refused to_visited a.records.now a.coordinator.now 6
     (visit_none a.key a.clock (sheets_of a.records.now a.coordinator.now)
     (sym c.key_in_range.ensures ∙ c.if-not-key_in_range.false)
-    (is_found _ _ c.requires.lines c.find.ensures ∙ n.0))
-    (ap in_numbers (passed_up c.from_residual.ensures.1 ∙ ap (λ (r : Refusal). Err r) n.1))
+    (is_found _ _ c.requires.lines c.find.ensures ∙ c.in-None.is)) refl
 
 pub visit_line-requires : goal.visit_line-requires
 visit_line-requires c =
     let a = c.args in
-    standing a.records.now a.coordinator.now a.key _ c.requires
-    (is_found _ _ c.requires.lines c.find.ensures ∙ some_of c.ok_or.ensures.ok_part c.in_ok-i.was)
+    standing a.records.now a.coordinator.now a.key _ c.requires (is_found _ _ c.requires.lines c.find.ensures ∙ c.in-Some.is)
 
-pub returns : goal.returns
-returns c =
+pub returns-in-Some : goal.returns-in-Some
+returns-in-Some c =
     let a = c.args in
-    visit_found a.key a.clock a.records.now a.coordinator.now _
-    (is_found _ _ c.requires.lines c.find.ensures ∙ some_of c.ok_or.ensures.ok_part c.in_ok-i.was) c.visit_line.ensures
+    visit_found a.key a.clock a.records.now a.coordinator.now _ (is_found _ _ c.requires.lines c.find.ensures ∙ c.in-Some.is) c.visit_line.ensures
