@@ -12,6 +12,7 @@ ghost use Rattle.by_place.specs.Numbers.{begin_number, visit_number, call_number
 ghost use Rattle.by_place.specs.Asked.{asks, called_at_on};
 
 pub mod conversions;
+mod listing;
 pub mod shifts;
 pub mod telling;
 pub mod two;
@@ -104,12 +105,10 @@ pub extern "C" fn rapyheo_call_at(
     let columns = Columns { column1, column2 };
     let request = by_place::request(call, key, columns, clock, limit);
     let t = list[place];
-    match engine::perform(request, t, records, coordinator) {
-        Ok(performed) => {
-            list[place] = performed.transaction;
-            by_place::number(performed.reply)
-        }
-        // the one at the place stays
-        Err(why) => by_place::refused(why),
+    let performed = engine::perform(request, t, records, coordinator);
+    listing::put_back(list, place, &performed);
+    match performed {
+        Ok(performed) => by_place::number(performed.reply),
+        Err(refusal) => by_place::refused(refusal),
     }
 }

@@ -12,6 +12,7 @@ ghost use Rattle.by_place.specs.TwoNumbers.{call_number_two};
 ghost use Rattle.by_place.specs.Asked.{asks, called_at_two};
 ghost use Rattle.by_place.specs.Ranks.{line_number, rank_number, rank_target};
 
+use crate::listing;
 use types::{Columns, Key, Transaction};
 
 // 0 where the sheets are accepted, else the refusal: 1, 2 or 13.
@@ -139,12 +140,10 @@ pub extern "C" fn rapyheo_two_call_at(
     let columns = Columns { column1, column2 };
     let request = by_place::request(call, key, columns, clock, limit);
     let t = list[place];
-    match two_engine::perform(request, t, plain, book, coordinator) {
-        Ok(performed) => {
-            list[place] = performed.transaction;
-            by_place::number_two(performed.reply)
-        }
-        // the one at the place stays
-        Err(why) => by_place::refused(why) as u64,
+    let performed = two_engine::perform(request, t, plain, book, coordinator);
+    listing::put_back(list, place, &performed);
+    match performed {
+        Ok(performed) => by_place::number_two(performed.reply),
+        Err(refusal) => by_place::refused(refusal) as u64,
     }
 }
