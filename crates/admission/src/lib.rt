@@ -33,6 +33,7 @@ pub fn judge(t: Transaction, coordinator: &[u8]) -> Result<Groups, Refusal>
 }
 
 // Where the lines of the entries of a transaction are, or refusal 3 of one that isn't well formed.
+#[tactic(auto, unfolding(model::specs::WellFormed::well_formed))]
 pub fn admit(t: Transaction, records: &[u8], coordinator: &[u8]) -> Result<Located, Refusal>
     requires { Accepted records.now coordinator.now }
     ensures { result ≡ admitted (sheets_of records.now coordinator.now) t }

@@ -49,6 +49,7 @@ fn all_zero(row: &[u32]) -> bool
 }
 
 // How many rows there are up to the last that is no spare. They are judged from the end: one where there is no spare.
+#[tactic(auto, using(crate::specs::Spares::none_left))]
 pub fn filled_rows(numbers: &[u32]) -> usize
     ensures { result ≡ filled_rows numbers.now }
 {

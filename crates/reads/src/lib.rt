@@ -119,12 +119,18 @@ fn fetch_new(
     ensures { Outcome (to_read t) (result_of (call_of handed t (line_at records.old i).key clock) (sheets_of records.old coordinator.old)) records.old coordinator.old (in_numbers result) records.new coordinator.new }
 {
     let storage = codec::records::record_at(records, i).key.storage;
-    if !transactions::is_lower(&coordinator[5..14], storage) {
-        return read_new(None, t, i, clock, records, coordinator);
-    }
+    let is_lower = transactions::is_lower(&coordinator[5..14], storage);
     match handed {
-        None => first(t, i, records),
+        None => {
+            if is_lower {
+                return first(t, i, records);
+            }
+            read_new(None, t, i, clock, records, coordinator)
+        }
         Some(columns) => {
+            if !is_lower {
+                return read_new(None, t, i, clock, records, coordinator);
+            }
             if !well_formed::columns_in_range(columns) {
                 return Err(Refusal::BadColumns);
             }

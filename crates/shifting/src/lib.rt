@@ -47,6 +47,7 @@ pub fn remove_line(s: &mut [u8], width: usize, at: usize)
 }
 
 // Whether the line at `at` is a spare, which is the end of the widest one.
+#[tactic(auto, using(crate::specs::Comparing::compared), unfolding(model::specs::Spares::spare_line))]
 fn is_spare(s: &[u8], at: usize, width: usize, line: &[u8]) -> bool
     requires width_in_bounds { at + width ≤ length s.now }
     requires least_width { 1 ≤ width }

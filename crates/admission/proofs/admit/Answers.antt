@@ -1,12 +1,11 @@
--- One that isn't well formed is refused; of any other the lines are found.
+-- One that isn't well formed is refused; of any other the lines are found, and that those and its groups are what is wanted is found alone.
 use Rattle.std.proofs.Common.{◌∙◌, Err}
 use Rattle.lists.specs.Basics.{ap}
 use Rattle.types.specs.declared.Refusal.{Refusal}
 use Rattle.model.specs.ByteCalls.{sheets_of}
-use Rattle.put_groups.specs.declared.Groups.{Groups}
 use Rattle.call_laws.specs.Transactions.{well_formed-parts}
 use Rattle.answers.specs.Outcomes.{passed_up}
-use Rattle.admission.specs.Admission.{unformed_by, formed_by, keys_ranged_lem, admitted-not, admitted-formed}
+use Rattle.admission.specs.Admission.{unformed_by, formed_by, keys_ranged_lem, admitted-not}
 use Rattle.admission.proofs.admit.Goals as goal
 
 pub returns-in_err-groups : goal.returns-in_err-groups
@@ -22,10 +21,3 @@ lines_of-indices-requires c =
     let s = sheets_of a.records.now a.coordinator.now in
     let f = (formed_by a.t a.coordinator.now c.judge.ensures a.records.now c.in_ok-groups.was).0 in
     (c.requires.lines, ((well_formed-parts s a.t f).0.few, keys_ranged_lem s a.t f))
-
-pub returns : goal.returns
-returns c =
-    let a = c.args in
-    let f = formed_by a.t a.coordinator.now c.judge.ensures a.records.now c.in_ok-groups.was in
-    admitted-formed (sheets_of a.records.now a.coordinator.now) a.t _
-    (λ i. record { indices = c.lines_of-indices.ensures i; groups = ap (λ (x : Groups). x.count) f.1 i; of = ap (λ (x : Groups). x.of) f.1 i }) f.0

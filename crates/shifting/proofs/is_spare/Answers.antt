@@ -3,7 +3,6 @@ use Rattle.std.proofs.Common.{◌∙◌, rules}
 use Rattle.lists.specs.Basics.{ap, length, arith}
 use Rattle.model.specs.Layouts.{record_bytes}
 use Rattle.sheet_laws.specs.Fronts.{length-spare}
-use Rattle.shifting.specs.Comparing.{compared}
 use Rattle.shifting.proofs.is_spare.Goals as goal
 
 pub slice_bounds-eq-count-2 : goal.slice_bounds-eq-count-2
@@ -11,8 +10,3 @@ slice_bounds-eq-count-2 c = omega (arith, ap length c.requires.widest ∙ length
 
 pub slice_bounds-eq-start-2 : goal.slice_bounds-eq-start-2
 slice_bounds-eq-start-2 c = let l = ap length c.requires.widest ∙ length-spare record_bytes (omega arith) in search rules
-
-pub returns : goal.returns
-returns c =
-    let a = c.args in
-    c.eq.ensures ∙ compared a.s.now a.line.now a.at a.width c.requires.least_width c.requires.width_le_record_bytes c.requires.widest

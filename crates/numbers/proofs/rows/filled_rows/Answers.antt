@@ -2,7 +2,7 @@
 use Rattle.std.specs.Prelude.{◌≡◌, ◌+◌, ◌-◌}
 use Rattle.std.proofs.Common.{◌∙◌}
 use Rattle.lists.specs.Basics.{sym, subst, arith}
-use Rattle.numbers.specs.Spares.{SparesFrom, spares-first, no_spare_lem, one-spare, none_left}
+use Rattle.numbers.specs.Spares.{SparesFrom, spares-first, no_spare_lem, one-spare}
 use Rattle.numbers.proofs.rows.filled_rows.Goals as goal
 
 pub loop-i-init : goal.loop-i-init
@@ -17,6 +17,3 @@ pub loop-i-preserved : goal.loop-i-preserved
 loop-i-preserved c =
     let here : c.loop-i.i ≡ c.loop-i.i - 1 + 1 = omega arith in
     one-spare c.args.numbers.now (c.loop-i.i - 1) (subst (SparesFrom c.args.numbers.now) here c.loop-i.invariant) (sym c.all_zero.ensures ∙ c.if-not-all_zero.false)
-
-pub returns : goal.returns
-returns c = none_left c.args.numbers.now c.loop-i.i (omega arith) c.loop-i.invariant
