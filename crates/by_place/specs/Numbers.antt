@@ -1,13 +1,17 @@
 -- What the exported calls answer, as one number: what an accepted call gives, or 1000 and the refusal.
-use Rattle.std.specs.Prelude.{◌≡◌, ◌+◌, Result as Either, Ok, Err}
+use Rattle.std.specs.Prelude.{◌≡◌, ◌+◌, ◌≤◌, Result as Either, Ok, Err}
 use Rattle.std.proofs.Common.{◌∙◌}
-use Rattle.lists.specs.Basics.{refl, ap, ℕ, eqb, Bool, true, false, cond, List}
-use Rattle.model.specs.Types.{Transaction}
+use Rattle.lists.specs.Basics.{refl, ap, ℕ, eqb, Bool, true, false, cond, List, arith, all}
+use Rattle.model.specs.Types.{Key, Transaction}
 use Rattle.model.specs.Writes.{Sheets}
-use Rattle.model.specs.Refusals.{refusal_of}
+use Rattle.model.specs.Refusals.{refusal_of, last_refusal}
 use Rattle.model.specs.SheetCalls.{check_conditions}
-use Rattle.model.specs.Results.{Answer, held_after, Response, Result, refused, made, unless}
+use Rattle.model.specs.Results.{begin, visit, Answer, answer_of, refusal_in, held_after, Response, Result, refused, made, unless}
 use Rattle.model.specs.Calls.{new_transaction}
+use Rattle.model.specs.ByteCalls.{result_on}
+use Rattle.model.specs.Operations.{Operation, response_on}
+use Rattle.call_laws.specs.Exactness.{small, Sound, sound_refused, sound_made, result_sound}
+use Rattle.call_laws.specs.Operations.{response_sound_on}
 use Rattle.answers.specs.declared.Performed.{Performed}
 use Rattle.answers.specs.Answers.{to_issued, to_visited, to_performed, recovery_in, reply_number, number_in, reply_in}
 
@@ -49,9 +53,24 @@ pub call_numbered : (t : Transaction) (r : Response Answer Sheets) → one_numbe
 call_numbered t (refused n) = refl
 call_numbered t (made a s) = refl
 
--- what the check comes to where nothing is named: 1003, or 1000 and its refusal
-pub check_numbered : (rs cs : List ℕ) (n : ℕ) → n ≡ refusal_of (check_conditions rs cs) → cond (eqb n 0) 1003 (1000 + n) ≡ unlisted_number rs cs
-check_numbered rs cs n e = ap (λ (m : ℕ). cond (eqb m 0) 1003 (1000 + m)) e ∙ go (eqb (refusal_of (check_conditions rs cs)) 0)
+-- and the refusal in such a number is at most the last
+pub small_in : {E : Type 0} (r : Response Answer E) → Sound r → refusal_in (answer_of r) ≤ last_refusal
+small_in r (sound_refused n l m) = m
+small_in r (sound_made a e z) = omega (arith, z)
+
+pub begin_small : (rs cs : List ℕ) → refusal_in (answer_of (result_on (begin false) rs cs)) ≤ last_refusal
+begin_small rs cs = small_in (result_on (begin false) rs cs) (result_sound (begin false) rs cs)
+
+pub visit_small : (k : Key) (clock : ℕ) (rs cs : List ℕ) → refusal_in (answer_of (result_on (visit k clock) rs cs)) ≤ last_refusal
+visit_small k clock rs cs = small_in (result_on (visit k clock) rs cs) (result_sound (visit k clock) rs cs)
+
+pub call_small : (o : Operation) (rs cs : List ℕ) → refusal_in (answer_of (response_on o rs cs)) ≤ last_refusal
+call_small o rs cs = small_in (response_on o rs cs) (response_sound_on o rs cs)
+
+-- what the check comes to where nothing is named: 1003, or 1000 and its refusal, which is at most the last
+pub check_numbered : (rs cs : List ℕ) (n : ℕ) → n ≡ refusal_of (check_conditions rs cs) → (n ≤ last_refusal) × (cond (eqb n 0) 1003 (1000 + n) ≡ unlisted_number rs cs)
+unfolding check_conditions all
+check_numbered rs cs n e = (omega (arith, e, small (check_conditions rs cs) refl), ap (λ (m : ℕ). cond (eqb m 0) 1003 (1000 + m)) e ∙ go (eqb (refusal_of (check_conditions rs cs)) 0))
   where
     go : (b : Bool) → cond b 1003 (1000 + refusal_of (check_conditions rs cs)) ≡ call_number (cond b (refused 3) (refused (refusal_of (check_conditions rs cs))))
     go true = refl

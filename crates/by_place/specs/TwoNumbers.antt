@@ -1,18 +1,22 @@
 -- What the calls on two sheets answer as one number: as the calls on a record sheet, but the first of a read's two calls answers its columns too.
-use Rattle.std.specs.Prelude.{◌≡◌, ◌+◌, ◌*◌}
+use Rattle.std.specs.Prelude.{◌≡◌, ◌+◌, ◌*◌, ◌≤◌}
 use Rattle.std.proofs.Common.{◌∙◌}
-use Rattle.lists.specs.Basics.{refl, ap, ℕ, eqb, Bool, true, false, cond}
+use Rattle.lists.specs.Basics.{refl, ap, ℕ, eqb, Bool, true, false, cond, arith, all}
 use Rattle.model.specs.Types.{Columns, Transaction, Reading}
 use Rattle.types.specs.declared.Reading.TheVariants.{Absent, Value, Again, First}
-use Rattle.model.specs.Refusals.{refusal_of}
+use Rattle.model.specs.Refusals.{refusal_of, last_refusal}
 use Rattle.model.specs.Writes.{Sheets}
-use Rattle.model.specs.Results.{Answer, turned_away, returned, answered, visited, reported, acknowledged, Response, refused, made, unless}
-use Rattle.model.specs.TwoCalls.{TwoBytes, conditions_of}
+use Rattle.model.specs.Results.{Answer, answer_of, refusal_in, turned_away, returned, answered, visited, reported, acknowledged, Response, refused, made, unless}
+use Rattle.model.specs.TwoSpares.{two_conditions, form_conditions}
+use Rattle.model.specs.Operations.{Operation, response}
+use Rattle.model.specs.TwoCalls.{TwoBytes, saying_two, conditions_of, response_two}
+use Rattle.call_laws.specs.Exactness.{small, sound_unless}
+use Rattle.call_laws.specs.Operations.{response_sound}
 use Rattle.answers.specs.declared.Performed.{Performed}
 use Rattle.answers.specs.declared.Reply.{Reply}
 use Rattle.answers.specs.declared.Reply.TheVariants.{Nothing, Read as WasRead, Visited, Writes}
 use Rattle.answers.specs.Answers.{to_performed, reply_number, reply_in}
-use Rattle.by_place.specs.Numbers.{as_number, one_number}
+use Rattle.by_place.specs.Numbers.{as_number, one_number, small_in}
 
 -- the columns that a first call answers, each up to 99999999; every other answer is under 10000
 abbrev pub first_number : Columns → ℕ
@@ -56,9 +60,15 @@ call_numbered_two t (made (visited v) s) = refl
 call_numbered_two t (made (reported n u) s) = refl
 call_numbered_two t (made acknowledged s) = refl
 
+-- the refusal of any call, a visit too, is at most the last
+pub call_small_two : (o : Operation) (b : TwoBytes) → refusal_in (answer_of (response_two o b)) ≤ last_refusal
+unfolding response_two two_conditions form_conditions all
+call_small_two o b = small_in (response_two o b) (sound_unless (conditions_of b) (response o (saying_two b)) refl (response_sound o (saying_two b)))
+
 -- and the check's refusal, where nothing is named
-pub check_numbered_two : (b : TwoBytes) (n : ℕ) → n ≡ refusal_of (conditions_of b) → cond (eqb n 0) 1003 (1000 + n) ≡ unlisted_number_two b
-check_numbered_two b n e = ap (λ (m : ℕ). cond (eqb m 0) 1003 (1000 + m)) e ∙ go (eqb (refusal_of (conditions_of b)) 0)
+pub check_numbered_two : (b : TwoBytes) (n : ℕ) → n ≡ refusal_of (conditions_of b) → (n ≤ last_refusal) × (cond (eqb n 0) 1003 (1000 + n) ≡ unlisted_number_two b)
+unfolding two_conditions form_conditions all
+check_numbered_two b n e = (omega (arith, e, small (conditions_of b) refl), ap (λ (m : ℕ). cond (eqb m 0) 1003 (1000 + m)) e ∙ go (eqb (refusal_of (conditions_of b)) 0))
   where
     go : (x : Bool) → cond x 1003 (1000 + refusal_of (conditions_of b)) ≡ call_number_two (cond x (refused 3) (refused (refusal_of (conditions_of b))))
     go true = refl

@@ -5,6 +5,7 @@ use Rattle.lists.specs.Basics.{refl, sym, ap, ℕ, eqb, Bool, true, false, cond,
 use Rattle.lists.specs.Basics.{set, arith, eq-eqb, ne_eqb, eq_list}
 use Rattle.model.specs.Refusals.{refusal_of}
 use Rattle.model.specs.Changes.{first_of, last_reach, first_differing, written_conditions, written_number, written_lines}
+use Rattle.changes.specs.Lengths.{fits}
 
 -- a target of two numbers, both stored
 pub stored : (t : List ℕ) (x y : ℕ) → length t ≡ 2 → set (set t 0 x) 1 y ≡ x ∷ y ∷ []
@@ -27,11 +28,12 @@ module _ (rs₀ rs cs₀ cs target : List ℕ) where
       let e : eqb refusals 0 ≡ false = ne_eqb refusals 0 (omega arith) in
       rw e (ap (λ (m : ℕ). 1000 + m) q, refl)
 
-  pub written-told : (reach first : ℕ) (stays : Bool) (r : ℕ) → 0 ≡ refusals → reach ≡ last_reach rs₀ rs → first ≡ first_of rs₀ rs 0 reach
-      → stays ≡ eq_list cs₀ cs → r ≡ cond stays 0 1 + cond (eqb reach 0) 0 2 → length target ≡ 2 → Written r (set (set target 0 first) 1 (reach - first))
+  pub written-told : (n reach first : ℕ) (stays : Bool) (r : ℕ) → n ≡ refusals → n ≡ 0 → reach ≡ last_reach rs₀ rs → first ≡ first_of rs₀ rs 0 reach
+      → stays ≡ eq_list cs₀ cs → r ≡ cond stays 0 1 + cond (eqb reach 0) 0 2 → Written r (set (set target 0 first) 1 (reach - first))
   unfolding written_number written_lines
-  written-told reach first stays r q e f s k l =
-      let x : eqb refusals 0 ≡ true = eq-eqb refusals 0 (sym q) in
+  written-told n reach first stays r q z e f s k =
+      let o : refusals ≡ 0 = sym q ∙ z in
+      let x : eqb refusals 0 ≡ true = eq-eqb refusals 0 o in
       let g : first ≡ first_differing rs₀ rs = f ∙ ap (first_of rs₀ rs 0) e in
-      let w = stored target first (reach - first) l in
+      let w = stored target first (reach - first) (fits _ _ _ _ _ o).pair in
       rw x (k ∙ rw (s, e), w ∙ rw (g, e))

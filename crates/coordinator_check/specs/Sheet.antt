@@ -288,16 +288,27 @@ passes_are issued s any none low high l e f p q =
     let z : issued - 0 ≡ issued = omega arith in
     rw (p, q, e, f, z, le-leb issued (count s) l)
 
+pub not-whole : (s : List ℕ) → whole_lines (length s) ≡ false → false ≡ sheet_made s
+unfolding sheet_made
+not-whole s h = rw h
+
+pub not_lettered : (s : List ℕ) → whole_lines (length s) ≡ true → letters_set (take coordinator_bytes s) ≡ false → false ≡ sheet_made s
+unfolding sheet_made
+not_lettered s h l = rw (h, l)
+
+pub by_count : (s : List ℕ) (r : Option ℕ) → whole_lines (length s) ≡ true → letters_set (take coordinator_bytes s) ≡ true → r ≡ figure 0 999 (take 4 s)
+    → of_number (λ (issued : ℕ). decisions_made issued s) r ≡ sheet_made s
+unfolding sheet_made
+by_count s r h l e = rw (h, l, e)
+
+-- which is whether the sheet is readable, where it is one of bytes
 module _ (s : List ℕ) (b : Bytes s) where
-  pub not-whole : whole_lines (length s) ≡ false → false ≡ coordinator_readable s
-  unfolding sheet_made
-  not-whole h = rw (readable_made s b, h)
+  pub unread-whole : whole_lines (length s) ≡ false → false ≡ coordinator_readable s
+  unread-whole h = not-whole s h ∙ sym (readable_made s b)
 
-  pub not_lettered : whole_lines (length s) ≡ true → letters_set (take coordinator_bytes s) ≡ false → false ≡ coordinator_readable s
-  unfolding sheet_made
-  not_lettered h l = rw (readable_made s b, h, l)
+  pub unread_letters : whole_lines (length s) ≡ true → letters_set (take coordinator_bytes s) ≡ false → false ≡ coordinator_readable s
+  unread_letters h l = not_lettered s h l ∙ sym (readable_made s b)
 
-  pub by_count : (r : Option ℕ) → whole_lines (length s) ≡ true → letters_set (take coordinator_bytes s) ≡ true → r ≡ figure 0 999 (take 4 s)
+  pub read_by_count : (r : Option ℕ) → whole_lines (length s) ≡ true → letters_set (take coordinator_bytes s) ≡ true → r ≡ figure 0 999 (take 4 s)
       → of_number (λ (issued : ℕ). decisions_made issued s) r ≡ coordinator_readable s
-  unfolding sheet_made
-  by_count r h l e = rw (readable_made s b, h, l, e)
+  read_by_count r h l e = by_count s r h l e ∙ sym (readable_made s b)

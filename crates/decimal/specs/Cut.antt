@@ -138,7 +138,7 @@ abbrev pub read_from : (low high : ℕ) → List ℕ → Option ℕ → Option �
 read_from low high s r = option_and_then (λ (i : ℕ). from_low low (digits_to high (drop i s))) r
 
 -- it is the field's
-figure-to : (low high : ℕ) (s : List ℕ) → read_from low high s (no_space s) ≡ figure low high s
+pub figure-to : (low high : ℕ) (s : List ℕ) → read_from low high s (no_space s) ≡ figure low high s
 unfolding figure within
 figure-to low high s = go (no_space s) refl
   where

@@ -22,11 +22,11 @@ pub issues_on : {rs cs : List ℕ} {r : Either ℕ ℕ} {rs' cs' : List ℕ} →
 issues_on o = record { answer = λ b. (o b).said; decisions = λ b. (o b).decisions }
 
 -- a result on bytes is a refusal, or what the call comes to
-on_result : (rs cs : List ℕ) (P : Result Answer → Type 0) (c : Call) → ((n : ℕ) → P (refused n)) → ((s : Sheets) → P (outcome c s)) → P (result_on c rs cs)
+on_result : (rs cs : List ℕ) (P : Result Answer → Type 0) (c : Call) → ((n : ℕ) → (n ≡ 0 → ⊥) → P (refused n)) → ((s : Sheets) → P (outcome c s)) → P (result_on c rs cs)
 unfolding result_on result_of
 on_result rs cs P c r o =
-    unless_of P (check_conditions rs cs) (λ z. r _)
-    (λ p. unless_of P (conditions c (sheets_said rs cs)) (λ z. r _) (λ q. o (sheets_said rs cs)))
+    unless_of P (check_conditions rs cs) (λ z. r _ z)
+    (λ p. unless_of P (conditions c (sheets_said rs cs)) (λ z. r _ z) (λ q. o (sheets_said rs cs)))
 
 -- a begin is its number, with a transaction of it
 abbrev pub begun_of : Bool → ℕ → Transaction
@@ -36,5 +36,5 @@ pub issued-begun : (b : Bool) (rs cs : List ℕ) → mapped (begun_of b) (to_iss
 unfolding outcome
 issued-begun b rs cs =
     on_result rs cs (λ (r : Result Answer). mapped (begun_of b) (to_issued r) ≡ to_begun r) (begin b)
-    (λ n. refl)
+    (λ n z. refl)
     (λ s. refl)

@@ -47,14 +47,14 @@ of_issued b n = of_returned (new_transaction n b)
 
 module _ (s : Sheets) where
   -- what holds of a refusal, and of what the call comes to, holds of its result
-  on_result : (P : Result Answer → Type 0) (c : Call) → ((n : ℕ) → P (refused n)) → P (outcome c s) → P (result_of c s)
+  on_result : (P : Result Answer → Type 0) (c : Call) → ((n : ℕ) → (n ≡ 0 → ⊥) → P (refused n)) → P (outcome c s) → P (result_of c s)
   unfolding result_of
-  on_result P c r o = unless_of P (conditions c s) (λ z. r _) (λ q. o)
+  on_result P c r o = unless_of P (conditions c s) (λ z. r _ z) (λ q. o)
 
   module _ (t : Transaction) where
     begin_performed : (b : Bool) → mapped (of_issued b) (to_issued (result_of (begin b) s)) ≡ to_performed t (result_of (begin b) s)
     unfolding outcome
-    begin_performed b = on_result (λ (r : Result Answer). mapped (of_issued b) (to_issued r) ≡ to_performed t r) (begin b) (λ n. refl) refl
+    begin_performed b = on_result (λ (r : Result Answer). mapped (of_issued b) (to_issued r) ≡ to_performed t r) (begin b) (λ n z. refl) refl
 
     abbrev Reading : Result Answer → Type 0
     Reading r = mapped of_read (to_read t r) ≡ to_performed t r
@@ -72,28 +72,28 @@ module _ (s : Sheets) where
     read_performed : (k : Key) (now : ℕ) → Reading (result_of (read t k now) s)
     unfolding outcome
     read_performed k now =
-        on_result Reading (read t k now) (λ n. refl)
+        on_result Reading (read t k now) (λ n z. refl)
         (choose_by Reading (takes_two (units_of s) k t) (λ a. refl) (λ a. whole_performed (λ (r : Record). r.image) k now))
 
     second_performed : (k : Key) (now : ℕ) (c : Columns) → Reading (result_of (second t k now c) s)
     unfolding outcome
-    second_performed k now c = on_result Reading (second t k now c) (λ n. refl) (whole_performed (seen_second (is_lower (units_of s) k) c) k now)
+    second_performed k now c = on_result Reading (second t k now c) (λ n z. refl) (whole_performed (seen_second (is_lower (units_of s) k) c) k now)
 
     put_performed : (k : Key) (c : Columns) → Returning (result_of (put t k c) s)
     unfolding outcome
-    put_performed k c = on_result Returning (put t k c) (λ n. refl) refl
+    put_performed k c = on_result Returning (put t k c) (λ n z. refl) refl
 
     advance_performed : (now : ℕ) → Returning (result_of (advance t now) s)
     unfolding outcome
-    advance_performed now = on_result Returning (advance t now) (λ n. refl) refl
+    advance_performed now = on_result Returning (advance t now) (λ n z. refl) refl
 
     abort_performed : Returning (result_of (abort t) s)
     unfolding outcome
-    abort_performed = on_result Returning (abort t) (λ n. refl) refl
+    abort_performed = on_result Returning (abort t) (λ n z. refl) refl
 
     visit_performed : (k : Key) (now : ℕ) → mapped (of_visited t) (to_visited (result_of (visit k now) s)) ≡ to_performed t (result_of (visit k now) s)
     unfolding outcome
-    visit_performed k now = on_result (λ (r : Result Answer). mapped (of_visited t) (to_visited r) ≡ to_performed t r) (visit k now) (λ n. refl) refl
+    visit_performed k now = on_result (λ (r : Result Answer). mapped (of_visited t) (to_visited r) ≡ to_performed t r) (visit k now) (λ n z. refl) refl
 
     close_performed : (now limit : ℕ) → mapped of_closed (to_closed t (response (close t now limit) s)) ≡ to_performed t (response (close t now limit) s)
     unfolding response
@@ -134,7 +134,7 @@ module _ (q : Request) (t : Transaction) (rs cs : List ℕ) (accepted : Accepted
   unfolding records_after coordinator_after apply result_of
   quiet c a e f o =
       let n = written_nothing rs cs accepted in
-      let l = on_result s (λ (r : Result Answer). (rs ≡ records_after rs cs r) × (cs ≡ coordinator_after rs cs r)) c (λ n. (refl, refl))
+      let l = on_result s (λ (r : Result Answer). (rs ≡ records_after rs cs r) × (cs ≡ coordinator_after rs cs r)) c (λ n z. (refl, refl))
       (subst (λ (r : Result Answer). (rs ≡ records_after rs cs r) × (cs ≡ coordinator_after rs cs r)) (sym e) (n.lines, n.decisions)) in
       made_of c f o l.0 l.1
 

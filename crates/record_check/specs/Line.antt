@@ -133,7 +133,7 @@ module _ (line : List ℕ) (of-bytes : (i : ℕ) → get_or line i 0 < 256) wher
       clock_low line (and_fst (line_set widest line) (row_good open_layout row) (and_fst held (all (keeps row) (kind_limits (kind_at k))) (sym (said k n) ∙ g))) l
 
   -- the law: a line is good where it stands in the parts of its kind, and the relations hold
-  line_is : line_good line
+  pub line_is : line_good line
       ≡ (parts_ok (kind_parts (kind_at (kind_of line))) line && (asked (kind_of line) line && clock_fits line))
   unfolding row held asked
   line_is =

@@ -44,7 +44,7 @@ module _ (w i n : ℕ) (s t : List ℕ) (whole : length s ≡ n * w) (within : i
       omega arith
 
   -- the line t put in at index i
-  inserted-bytes : joined (insert_at i t (pieces w n s)) ≡ take (i * w) s ++ (t ++ take (length s - (i * w + w)) (drop (i * w) s))
+  pub inserted-bytes : joined (insert_at i t (pieces w n s)) ≡ take (i * w) s ++ (t ++ take (length s - (i * w + w)) (drop (i * w) s))
   unfolding insert_at joined
   inserted-bytes =
       let ls = pieces w n s in
@@ -56,7 +56,7 @@ module _ (w i n : ℕ) (s t : List ℕ) (whole : length s ≡ n * w) (within : i
       joined-append (take i ls) (t ∷ take (length ls - 1 - i) (drop i ls)) ∙ ap₂ (λ (p q : List ℕ). p ++ (t ++ q)) x y
 
   -- the line at index i taken out, and t last
-  removed_bytes : joined (remove_at i t (pieces w n s)) ≡ take (i * w) s ++ (drop (i * w + w) s ++ t)
+  pub removed_bytes : joined (remove_at i t (pieces w n s)) ≡ take (i * w) s ++ (drop (i * w + w) s ++ t)
   unfolding remove_at joined
   removed_bytes =
       let ls = pieces w n s in
@@ -76,7 +76,7 @@ module _ (w i n : ℕ) (s t : List ℕ) (whole : length s ≡ n * w) (within : i
       ∙ ap₂ ◌++◌ x (joined-append (drop (i + 1) ls) (t ∷ []) ∙ ap₂ ◌++◌ y (append-nil t))
 
 -- a line stands within the sheet
-line_room : (w i n : ℕ) (s : List ℕ) → length s ≡ n * w → i < n → i * w + w ≤ length s
+pub line_room : (w i n : ℕ) (s : List ℕ) → length s ≡ n * w → i < n → i * w + w ≤ length s
 line_room w i n s whole within = let r : i * w + w ≤ n * w = fill_room w n i within in omega arith
 
 -- the k bytes from a on give way to the line t of as many bytes

@@ -1,8 +1,9 @@
 -- The numbers that a transaction keeps its phase by, and what a choice by that number comes to.
 use Rattle.std.specs.Prelude.{ℕ, ◌≡◌, ◌≤◌, Result, MatchResult}
 use Rattle.std.proofs.Common.{◌∙◌}
-use Rattle.lists.specs.Basics.{sym, ap, arith, ne_eqb}
+use Rattle.lists.specs.Basics.{sym, ap}
 use Rattle.model.specs.Transactions.{by_phase}
+use Rattle.transactions.specs.Phases.{phase_none, missed_from}
 use Rattle.transactions.specs.declared.phases.Phase.{Phase}
 use Rattle.transactions.specs.declared.phases.Phase.TheVariants.{Open, Prepare, Validate, Decide, Withdraw, Finish, Undo, Done}
 use Rattle.transactions.specs.declared.phases.NoPhase.{NoPhase}
@@ -27,6 +28,4 @@ numbered q e f = sym e ∙ ap phase_number f
 
 -- what a choice has for a number that is no phase
 pub unnamed {ℓ} : {A : Type ℓ} (p : ℕ) (o r v d w f u e x : A) → 8 ≤ p → x ≡ by_phase p o r v d w f u e x
-unnamed p o r v d w f u e x l =
-    rw (ne_eqb p 0 (λ z. omega arith), ne_eqb p 1 (λ z. omega arith), ne_eqb p 2 (λ z. omega arith), ne_eqb p 3 (λ z. omega arith))
-    (rw (ne_eqb p 4 (λ z. omega arith), ne_eqb p 5 (λ z. omega arith), ne_eqb p 6 (λ z. omega arith), ne_eqb p 7 (λ z. omega arith)))
+unnamed p o r v d w f u e x l = phase_none p o r v d w f u e x (missed_from 8 p l)

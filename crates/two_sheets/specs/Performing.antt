@@ -20,7 +20,7 @@ use Rattle.call_laws.specs.Operations.{response_sound, settled_lines, settled-de
 use Rattle.two_laws.specs.Encoding.{Joined, passing_joined, on_passing_full}
 use Rattle.two_join.specs.Agrees.{same_counts}
 use Rattle.answers.specs.declared.Performed.{Performed}
-use Rattle.answers.specs.Answers.{replied, said, to_performed, to_visited}
+use Rattle.answers.specs.Answers.{replied, said, recovery_in, to_performed, to_visited}
 use Rattle.answers.specs.Outcomes.{ok_not_err}
 use Rattle.two_check.specs.Areas.{two, joined_size, JoinedIn}
 
@@ -70,15 +70,26 @@ module _ (ps bs cs area : List ℕ) (a : OnJoined ps bs cs area) where
       let c = same_counts ps bs joins.lines.agree in
       omega arith
 
--- an answer is a refusal, or what is made so of an accepted one
-module _ {A : Type 0} (f : Answer → A) (o : Operation) (ps bs cs : List ℕ) where
-  abbrev to : Response Answer Sheets → Either A ℕ
-  to r = said f r
+-- a refusal is answered as such, and nothing else is
+pub record Telling {A : Type 0} (to : Response Answer Sheets → Either A ℕ) : Type 0 where
+  pub no : (n : ℕ) → to (refused n) ≡ Err n
+  pub yes : (a : Answer) (s : Sheets) {n : ℕ} → to (made a s) ≡ Err n → ⊥
 
+-- as where an accepted answer is what is made so of it
+pub said_tells : {A : Type 0} (f : Answer → A) → Telling (said f)
+said_tells f = record { no = λ n. refl; yes = λ a s e. ok_not_err refl e }
+
+pub performed_tells : (t : Transaction) → Telling (to_performed t)
+performed_tells t = said_tells (performing t)
+
+pub visited_tells : Telling to_visited
+visited_tells = said_tells recovery_in
+
+module _ {A : Type 0} (to : Response Answer Sheets → Either A ℕ) (o : Operation) (ps bs cs : List ℕ) where
   abbrev given : Response Answer Sheets
   given = response_full o (two ps bs cs)
 
-  pub sheets_refused : {r : Either A ℕ} (n : ℕ) → n ≡ refusal_of (full_conditions ps bs cs) → (n ≡ 0 → ⊥) → r ≡ Err n → GivesAs to o ps bs cs r ps bs cs
+  pub sheets_refused : {r : Either A ℕ} (n : ℕ) → n ≡ refusal_of (full_conditions ps bs cs) → (n ≡ 0 → ⊥) → r ≡ to (refused n) → GivesAs to o ps bs cs r ps bs cs
   unfolding response_full full_plain_left full_bookkeeping_left coordinator_left
   sheets_refused n e z h =
       let x : given ≡ refused n = unless-held (full_conditions ps bs cs) (response o (saying_full (two ps bs cs))) n (sym e) z in
@@ -90,7 +101,7 @@ module _ {A : Type 0} (f : Answer → A) (o : Operation) (ps bs cs : List ℕ) w
     same = on_passing_full (two ps bs cs) (response o) a.passes ∙ ap (λ (x : List ℕ). response o (sheets_of x cs)) (sym a.joined)
 
     -- what the call on the joined sheet left
-    module _ (r : Either A ℕ) (area' cs' : List ℕ) (said : r ≡ to (response o (sheets_of area cs)))
+    module _ (tells : Telling to) (r : Either A ℕ) (area' cs' : List ℕ) (said : r ≡ to (response o (sheets_of area cs)))
         (lines : area' ≡ records_left area (response o (sheets_of area cs))) (decisions : cs' ≡ coordinator_left cs (response o (sheets_of area cs))) where
       pub nothing_split : {n : ℕ} → r ≡ Err n → GivesAs to o ps bs cs r ps bs cs'
       nothing_split z = subst Told (sym same) (go (response o (sheets_of area cs)) said decisions)
@@ -100,7 +111,7 @@ module _ {A : Type 0} (f : Answer → A) (o : Operation) (ps bs cs : List ℕ) w
 
           go : (x : Response Answer Sheets) → r ≡ to x → cs' ≡ coordinator_left cs x → Told x
           go (refused n) e d = (e, (unfold full_plain_left in refl, (unfold full_bookkeeping_left in refl, d)))
-          go (made b s) e d = absurd (ok_not_err e z)
+          go (made b s) e d = absurd (tells.yes b s (sym e ∙ z))
 
       pub both_split : {x : A} → r ≡ Ok x → {ps' bs' : List ℕ} → ps' ≡ plain_part area' → bs' ≡ bookkeeping_part area' → GivesAs to o ps bs cs r ps' bs' cs'
       both_split z {ps'} {bs'} p b = subst Told (sym same) (go (response o (sheets_of area cs)) (response_sound o (sheets_of area cs)) said lines decisions)
@@ -109,7 +120,7 @@ module _ {A : Type 0} (f : Answer → A) (o : Operation) (ps bs cs : List ℕ) w
           Told x = (r ≡ to x) × ((ps' ≡ full_plain_left ps x) × ((bs' ≡ full_bookkeeping_left bs x) × (cs' ≡ coordinator_left cs x)))
 
           go : (x : Response Answer Sheets) → Sound x → r ≡ to x → area' ≡ records_left area x → cs' ≡ coordinator_left cs x → Told x
-          go (refused n) (sound_refused m l k) e f d = absurd (ok_not_err z e)
+          go (refused n) (sound_refused m l k) e f d = absurd (ok_not_err z (e ∙ tells.no n))
           go (made c s) k e f d =
               (e, (p ∙ unfold full_plain_left records_left in ap plain_part f, (b ∙ unfold full_bookkeeping_left records_left in ap bookkeeping_part f, d)))
 

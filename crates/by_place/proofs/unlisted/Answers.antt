@@ -8,9 +8,9 @@ use Rattle.by_place.proofs.unlisted.Goals as goal
 pub returns-in-Ok : goal.returns-in-Ok
 returns-in-Ok c =
     let a = c.args in
-    record { answer = told_free c.check.ensures c.in-Ok.is ∙ check_numbered a.records.now a.coordinator.now _ refl; lines = refl; decisions = refl }
+    record { answer = told_free c.check.ensures c.in-Ok.is ∙ (check_numbered a.records.now a.coordinator.now _ refl).1; lines = refl; decisions = refl }
 
 pub returns-in-Err : goal.returns-in-Err
 returns-in-Err c =
     let a = c.args in
-    record { answer = c.refused.ensures ∙ (told_refused c.check.ensures c.in-Err.is ∙ check_numbered a.records.now a.coordinator.now _ refl); lines = refl; decisions = refl }
+    record { answer = c.refused.ensures ∙ (told_refused c.check.ensures c.in-Err.is ∙ (check_numbered a.records.now a.coordinator.now _ refl).1); lines = refl; decisions = refl }

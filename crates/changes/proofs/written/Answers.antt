@@ -1,5 +1,6 @@
 -- Refused by a length, or both loops told.
 use Rattle.std.proofs.Common.{◌∙◌}
+use Rattle.lists.specs.Basics.{refl}
 use Rattle.changes.specs.Answers.{written_refused, written-told}
 use Rattle.changes.proofs.written.Goals as goal
 
@@ -11,8 +12,8 @@ returns-in-Err-clause-target c = (written_refused _ _ _ _ _ _ (c.number.ensures.
 
 pub returns-clause-answer : goal.returns-clause-answer
 returns-clause-answer c =
-    (written-told _ _ _ _ _ _ _ _ _ c.in_default.ensures.answer c.last_reach-reach.ensures.value c.first_differing-first.ensures.value c.eq.ensures c.told.ensures c.in_default.ensures.target).0
+    (written-told _ _ _ _ _ _ _ _ _ _ c.in_default.ensures.answer refl c.last_reach-reach.ensures.value c.first_differing-first.ensures.value c.eq.ensures c.told.ensures).0
 
 pub returns-clause-target : goal.returns-clause-target
 returns-clause-target c =
-    (written-told _ _ _ _ _ _ _ _ _ c.in_default.ensures.answer c.last_reach-reach.ensures.value c.first_differing-first.ensures.value c.eq.ensures c.told.ensures c.in_default.ensures.target).1
+    (written-told _ _ _ _ _ _ _ _ _ _ c.in_default.ensures.answer refl c.last_reach-reach.ensures.value c.first_differing-first.ensures.value c.eq.ensures c.told.ensures).1

@@ -9,12 +9,12 @@ loop-n-init c = spares-first c.args.width c.args.s.now
 pub returns-then-not-is_spare : goal.returns-then-not-is_spare
 returns-then-not-is_spare c =
     let l = c.loop-n in
-    no_spare_lem c.args.width c.args.s.now l.n c.loop-n-test.true l.auto.n l.invariant (sym c.if-not-is_spare.ensures)
+    no_spare_lem c.args.width c.args.s.now l.n c.loop-n-test.true l.invariant (sym c.if-not-is_spare.ensures)
 
 pub loop-n-preserved : goal.loop-n-preserved
 loop-n-preserved c =
     let l = c.loop-n in
-    one-spare c.args.width c.args.s.now l.n c.loop-n-test.true l.auto.n l.invariant (sym c.if-not-is_spare.ensures)
+    one-spare c.args.width c.args.s.now l.n c.loop-n-test.true l.invariant (sym c.if-not-is_spare.ensures)
 
 pub returns : goal.returns
 returns c = none_left c.args.width c.args.s.now c.loop-n.n (omega arith) c.loop-n.invariant

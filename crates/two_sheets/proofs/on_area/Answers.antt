@@ -2,13 +2,13 @@
 use Rattle.std.proofs.Common.{◌∙◌}
 use Rattle.lists.specs.Basics.{sym, ap}
 use Rattle.model.specs.Requests.{operation_of}
-use Rattle.answers.specs.Answers.{in_numbers}
+use Rattle.answers.specs.Answers.{in_numbers, to_performed}
 use Rattle.answers.specs.Outcomes.{passed_up, refused_by}
-use Rattle.two_sheets.specs.Performing.{sheets_refused, performing}
+use Rattle.two_sheets.specs.Performing.{sheets_refused}
 use Rattle.two_sheets.proofs.on_area.Goals as goal
 
 pub returns-in_err-join_checked : goal.returns-in_err-join_checked
 returns-in_err-join_checked c =
     let a = c.args in
     let no = refused_by c.join_checked.ensures.answer c.in_err-join_checked.was in
-    sheets_refused (performing a.t) (operation_of a.request a.t) a.plain.now a.book.now a.coordinator.now _ no.0 (λ z. no.1 (sym no.0 ∙ z)) (ap in_numbers (passed_up c.from_residual.ensures.1))
+    sheets_refused (to_performed a.t) (operation_of a.request a.t) a.plain.now a.book.now a.coordinator.now _ no.0 (λ z. no.1 (sym no.0 ∙ z)) (ap in_numbers (passed_up c.from_residual.ensures.1))

@@ -5,9 +5,9 @@ use Rattle.lists.specs.Basics.{refl, sym, ap, ℕ}
 use Rattle.model.specs.Layouts.{record_bytes}
 use Rattle.model.specs.Requests.{operation_of}
 use Rattle.model.specs.TwoSheets.{plain_bytes, bookkeeping_bytes}
-use Rattle.answers.specs.Answers.{in_numbers}
+use Rattle.answers.specs.Answers.{in_numbers, to_performed}
 use Rattle.answers.specs.Outcomes.{passed_up}
-use Rattle.two_sheets.specs.Performing.{accepted_area, plain_size, bookkeeping-size, nothing_split, both_split, performing}
+use Rattle.two_sheets.specs.Performing.{accepted_area, plain_size, bookkeeping-size, nothing_split, both_split, performed_tells}
 use Rattle.two_sheets.proofs.on_joined.Goals as goal
 
 pub perform-requires : goal.perform-requires
@@ -19,7 +19,7 @@ pub returns-in_err-performed : goal.returns-in_err-performed
 returns-in_err-performed c =
     let a = c.args in
     let up = ap in_numbers (passed_up c.from_residual.ensures.1) in
-    nothing_split (performing a.t) (operation_of a.request a.t) a.plain.now a.book.now a.coordinator.now a.area.now c.requires _ _ _ (up ∙ sym (ap in_numbers c.in_err-performed.was) ∙ c.perform.ensures.answer) c.perform.ensures.lines c.perform.ensures.decisions up
+    nothing_split (to_performed a.t) (operation_of a.request a.t) a.plain.now a.book.now a.coordinator.now a.area.now c.requires (performed_tells a.t) _ _ _ (up ∙ sym (ap in_numbers c.in_err-performed.was) ∙ c.perform.ensures.answer) c.perform.ensures.lines c.perform.ensures.decisions up
 
 pub split_plain-requires : goal.split_plain-requires
 split_plain-requires c =
@@ -35,4 +35,4 @@ pub returns : goal.returns
 returns c =
     let a = c.args in
     let said = ap in_numbers (sym c.in_ok-performed.was) in
-    both_split (performing a.t) (operation_of a.request a.t) a.plain.now a.book.now a.coordinator.now a.area.now c.requires _ _ _ (said ∙ c.perform.ensures.answer) c.perform.ensures.lines c.perform.ensures.decisions refl c.split_plain.ensures c.split_bookkeeping.ensures
+    both_split (to_performed a.t) (operation_of a.request a.t) a.plain.now a.book.now a.coordinator.now a.area.now c.requires (performed_tells a.t) _ _ _ (said ∙ c.perform.ensures.answer) c.perform.ensures.lines c.perform.ensures.decisions refl c.split_plain.ensures c.split_bookkeeping.ensures

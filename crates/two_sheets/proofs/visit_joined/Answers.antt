@@ -6,9 +6,9 @@ use Rattle.model.specs.Layouts.{record_bytes}
 use Rattle.model.specs.Results as model
 use Rattle.model.specs.Operations.{once}
 use Rattle.model.specs.TwoSheets.{plain_bytes, bookkeeping_bytes}
-use Rattle.answers.specs.Answers.{in_numbers, recovery_in}
+use Rattle.answers.specs.Answers.{in_numbers, to_visited}
 use Rattle.answers.specs.Outcomes.{passed_up}
-use Rattle.two_sheets.specs.Performing.{accepted_area, plain_size, bookkeeping-size, nothing_split, both_split, visit_said, visit_lines, visit_decisions}
+use Rattle.two_sheets.specs.Performing.{accepted_area, plain_size, bookkeeping-size, nothing_split, both_split, visited_tells, visit_said, visit_lines, visit_decisions}
 use Rattle.two_sheets.proofs.visit_joined.Goals as goal
 
 pub visit-requires : goal.visit-requires
@@ -21,7 +21,7 @@ returns-in_err-met c =
     let a = c.args in
     let h = c.visit.ensures in
     let up = ap in_numbers (passed_up c.from_residual.ensures.1) in
-    nothing_split recovery_in (once (model.visit a.key a.clock)) a.plain.now a.book.now a.coordinator.now a.area.now c.requires _ _ _ (up ∙ sym (ap in_numbers c.in_err-met.was) ∙ visit_said a.key a.clock a.area.now a.coordinator.now h) (visit_lines a.key a.clock a.area.now a.coordinator.now h) (visit_decisions a.key a.clock a.area.now a.coordinator.now h) up
+    nothing_split to_visited (once (model.visit a.key a.clock)) a.plain.now a.book.now a.coordinator.now a.area.now c.requires visited_tells _ _ _ (up ∙ sym (ap in_numbers c.in_err-met.was) ∙ visit_said a.key a.clock a.area.now a.coordinator.now h) (visit_lines a.key a.clock a.area.now a.coordinator.now h) (visit_decisions a.key a.clock a.area.now a.coordinator.now h) up
 
 pub split_plain-requires : goal.split_plain-requires
 split_plain-requires c =
@@ -37,4 +37,4 @@ pub returns : goal.returns
 returns c =
     let a = c.args in
     let h = c.visit.ensures in
-    both_split recovery_in (once (model.visit a.key a.clock)) a.plain.now a.book.now a.coordinator.now a.area.now c.requires _ _ _ (ap in_numbers (sym c.in_ok-met.was) ∙ visit_said a.key a.clock a.area.now a.coordinator.now h) (visit_lines a.key a.clock a.area.now a.coordinator.now h) (visit_decisions a.key a.clock a.area.now a.coordinator.now h) refl c.split_plain.ensures c.split_bookkeeping.ensures
+    both_split to_visited (once (model.visit a.key a.clock)) a.plain.now a.book.now a.coordinator.now a.area.now c.requires visited_tells _ _ _ (ap in_numbers (sym c.in_ok-met.was) ∙ visit_said a.key a.clock a.area.now a.coordinator.now h) (visit_lines a.key a.clock a.area.now a.coordinator.now h) (visit_decisions a.key a.clock a.area.now a.coordinator.now h) refl c.split_plain.ensures c.split_bookkeeping.ensures
